@@ -1,0 +1,2 @@
+//! Cones of rows, what lines and rays span, and the laws of the canonical system.
+#![tactic(auto)]

@@ -1,0 +1,4 @@
+pub mod Vectors
+pub mod Range
+pub mod Content
+pub mod Lists

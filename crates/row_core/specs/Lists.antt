@@ -1,0 +1,20 @@
+use Rattle.std.specs.Prelude.{◌≡◌, ℕ, List, [], length, ℤ, Bool, false, slice_index_or}
+use Rattle.row_core.specs.Range.{AllInRange}
+
+-- a row, and whether it is an equality
+abbrev pub Row : Type 0
+Row = List ℤ × Bool
+
+-- rows of one width, in order
+pub record Rows : Type 0 where
+  pub width : ℕ
+  pub rows : List Row
+
+-- the entries of row i
+abbrev pub row_at : List Row → ℕ → List ℤ
+row_at rows i = (slice_index_or rows i ([], false)).0
+
+-- the row has the width, and its numbers are of the range
+pub record IsRow (width : ℕ) (row : Row) : Type 0 where
+  pub wide : length row.0 ≡ width
+  pub in_range : AllInRange row.0
