@@ -1,2 +1,15 @@
 //! Rows of exact integers, and arithmetic that says where it leaves the range.
+//!
+//! - [`RowBuf`] and [`RowList`] keep rows whose numbers are of the range, from `-(2^127 - 1)` to
+//!   `2^127 - 1`.
+//! - [`Memory`], [`Overflow`], [`PairOver`] and [`ConvErr`] are the answers that a call may refuse by.
+//! - [`Steps`] counts combinations of two rows.
 #![tactic(auto)]
+
+mod buffers;
+mod counting;
+mod errors;
+
+pub use buffers::{RowBuf, RowList};
+pub use counting::Steps;
+pub use errors::{ConvErr, Memory, OverKind, Overflow, PairOver};
