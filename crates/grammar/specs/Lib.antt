@@ -1,0 +1,4 @@
+pub mod Form
+pub mod Grammar
+pub mod Cases
+pub mod Shape
