@@ -1,5 +1,5 @@
 -- Sums of multiplied lines and of rays with factors of at least 0, over vectors as functions of the column.
-use Rattle.std.proofs.Common.{◌≡◌, ◌⊎◌, inl, inr, ℕ, ℤ, pos, ◌+ℤ◌, ◌-ℤ◌, ◌*ℤ◌, neg_ℤ, ◌≤ℤ◌, ◌<ℤ◌, refl, sym, ap, ◌∙◌, arith}
+use Rattle.std.proofs.Common.{◌≡◌, ℕ, ℤ, pos, ◌+ℤ◌, ◌*ℤ◌, neg_ℤ, ◌≤ℤ◌, ◌<ℤ◌, refl, sym, ap, ◌∙◌, arith}
 use Rattle.std.proofs.lemmas.Int.{ints}
 use Rattle.cone_laws.proofs.Ring.{ring, mul_assoc, mul-at_least_zero, mul-positive}
 
@@ -17,6 +17,12 @@ Same u v = (j : ℕ) → u j ≡ v j
 
 -- no vector
 pub data Nothing : V → Type 0 where
+
+-- v is a vector of the numbered ones whose number is in K
+pub record Among (r : ℕ → V) (K : ℕ → Type 0) (v : V) : Type 0 where
+  pub index : ℕ
+  pub is : K index
+  pub same : Same v (r index)
 
 -- v is a sum of multiplied lines and of rays with factors of at least 0
 pub data Sums (L R : V → Type 0) : V → Type 0 where
