@@ -4,3 +4,4 @@ pub mod Primitive
 pub mod SortedLists
 pub mod Supports
 pub mod Face
+pub mod EchelonForm

@@ -60,8 +60,10 @@ common_more k m n d smaller w z h p a b e = record {
   where
     turned : (j : ℕ) → m * a j ≡ (m + d) * b j
     turned j = e j ∙ ap (λ x. x * b j) w
+
     greater : (j : ℕ) → b j ≤ a j
     greater j = greater_entry m d (a j) (b j) p (turned j)
+
     found : IsCommon (λ j. a j - b j) b
     found = smaller m d (omega arith) p z (λ j. a j - b j) b (λ j. rest_entry m d (a j) (b j) (greater j) (turned j))
 
@@ -115,9 +117,12 @@ primitive_same m n u v i p q w e pu pv h nu nv =
   where
     found : IsCommon (λ j. unsigned_abs (cell u j)) (λ j. unsigned_abs (cell v j))
     found = common (unsigned_abs m + unsigned_abs n) (unsigned_abs m) (unsigned_abs n) (omega arith) (abs_positive m p) (abs_positive n q) (λ j. unsigned_abs (cell u j)) (λ j. unsigned_abs (cell v j)) (λ j. abs_cell m (cell u j) (cell v j) n (e j))
+
     left_one : found.left ≡ 1
     left_one = no_divisor u i found.left h nu pu (All-from_get_or (λ z. found.left ∣ unsigned_abs z) u (pos 0) (λ j _. divides_part found.left (unsigned_abs (cell u j)) (found.part j) (found.left_is j)))
+
     right_one : found.right ≡ 1
     right_one = no_divisor v i found.right (omega (arith, w, h)) nv pv (All-from_get_or (λ z. found.right ∣ unsigned_abs z) v (pos 0) (λ j _. divides_part found.right (unsigned_abs (cell v j)) (found.part j) (found.right_is j)))
+
     abs_same : (j : ℕ) → unsigned_abs (cell u j) ≡ unsigned_abs (cell v j)
     abs_same j = found.left_is j ∙ ap (λ x. x * found.part j) (left_one ∙ sym right_one) ∙ sym (found.right_is j)

@@ -1,3 +1,4 @@
 pub mod Cones
 pub mod Canon
 pub mod Steps
+pub mod EchelonLaws

@@ -1,2 +1,4 @@
 //! Cones of rows, what lines and rays span, and the laws of the canonical system.
 #![tactic(auto)]
+
+pub mod echelon;
