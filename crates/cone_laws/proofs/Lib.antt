@@ -5,3 +5,5 @@ pub mod SortedLists
 pub mod Supports
 pub mod Face
 pub mod EchelonForm
+pub mod Columns
+pub mod Bridge
