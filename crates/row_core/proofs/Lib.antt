@@ -1,1 +1,4 @@
 pub mod RowListLemmas
+pub mod DotLemmas
+pub mod ColumnLemmas
+pub mod CellLemmas

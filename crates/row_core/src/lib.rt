@@ -9,7 +9,9 @@
 mod buffers;
 mod counting;
 mod errors;
+mod linear;
 
 pub use buffers::{RowBuf, RowList};
 pub use counting::Steps;
 pub use errors::{ConvErr, Memory, OverKind, Overflow, PairOver};
+pub use linear::{combine_into, dot};

@@ -1,0 +1,5 @@
+use Rattle.row_core.specs.Range.{CombineStays, AllStay}
+use Rattle.row_core.proofs.linear.check_combination.Given as goal
+
+abbrev pub invariant-loop-j : goal.invariant-loop-j
+invariant-loop-j l = AllStay (CombineStays l.u l.s l.v l.t) l.j

@@ -1,0 +1,139 @@
+//! Dot products and combinations of rows, exact or refused at the first column that leaves the range.
+ghost use Rattle.std.specs.Prelude.{◌≡◌, ℕ, ◌+◌, ◌^◌, ◌<◌, length, ◌+ℤ◌, ◌*ℤ◌, SomeIff, MatchResult, IfOk, OnOk};
+ghost use Rattle.row_core.specs.Vectors.{dot, scale, add};
+ghost use Rattle.row_core.specs.Range.{InRange, AllInRange, ColumnStays, DotStays, CombineStays, IsFirstToLeave, AllStay};
+
+use crate::counting::Steps;
+use std::sync::ledger::Ledger;
+
+/// The one `i128` outside the range.
+const OUTSIDE: i128 = i128::MIN;
+
+/// The product, if it is in the range.
+#[inline]
+fn product(a: i128, b: i128) -> Option<i128>
+    ensures { SomeIff result (InRange (a *ℤ b)) (a *ℤ b) }
+{
+    match a.checked_mul(b) {
+        Some(product) if product != OUTSIDE => Some(product),
+        _ => None,
+    }
+}
+
+/// The sum, if it is in the range.
+#[inline]
+fn sum(a: i128, b: i128) -> Option<i128>
+    ensures { SomeIff result (InRange (a +ℤ b)) (a +ℤ b) }
+{
+    match a.checked_add(b) {
+        Some(sum) if sum != OUTSIDE => Some(sum),
+        _ => None,
+    }
+}
+
+/// The total and a product added, if the product and the sum are in the range.
+#[inline]
+fn add_product(total: i128, a: i128, b: i128) -> Option<i128>
+    ensures { SomeIff result (InRange (a *ℤ b) × InRange (total +ℤ a *ℤ b)) (total +ℤ a *ℤ b) }
+{
+    sum(total, product(a, b)?)
+}
+
+/// `s * x + t * y`, if it and both products are in the range.
+#[inline]
+fn combination(s: i128, x: i128, t: i128, y: i128) -> Option<i128>
+    ensures { SomeIff result (ColumnStays s x t y) (s *ℤ x +ℤ t *ℤ y) }
+{
+    let left = product(s, x)?;
+    let right = product(t, y)?;
+    sum(left, right)
+}
+
+/// The sum of the products of equal columns of two rows of one width.
+///
+/// # Errors
+///
+/// The first column at which a product or a partial sum leaves the range.
+pub fn dot(u: &[i128], v: &[i128]) -> Result<i128, u32>
+    requires same_width { length u.now ≡ length v.now }
+    requires narrow { length u.now < 2 ^ 32 }
+    ensures exact { MatchResult result (λ d. (d ≡ dot u.now v.now) × AllStay (DotStays u.now v.now) (length u.now)) (IsFirstToLeave (DotStays u.now v.now) (length u.now)) }
+    ensures in_range { IfOk result InRange }
+{
+    let mut total = 0;
+    for j in 0..u.len() {
+        let Some(next) = add_product(total, u[j], v[j]) else {
+            return Err(j as u32);
+        };
+        total = next;
+    }
+    Ok(total)
+}
+
+/// Whether `s * u + t * v` and all products in it are in the range.
+///
+/// # Errors
+///
+/// The first column at which the range is left.
+fn check_combination(u: &[i128], s: i128, v: &[i128], t: i128) -> Result<(), u32>
+    requires same_width { length u.now ≡ length v.now }
+    requires narrow { length u.now < 2 ^ 32 }
+    ensures { MatchResult result (λ _. AllStay (CombineStays u.now s v.now t) (length u.now)) (IsFirstToLeave (CombineStays u.now s v.now t) (length u.now)) }
+{
+    for j in 0..u.len() {
+        let Some(_) = combination(s, u[j], t, v[j]) else {
+            return Err(j as u32);
+        };
+    }
+    Ok(())
+}
+
+/// `s * x + t * y`.
+#[inline]
+fn combined(s: i128, x: i128, t: i128, y: i128) -> i128
+    requires { ColumnStays s x t y }
+    ensures value { result ≡ s *ℤ x +ℤ t *ℤ y }
+    ensures in_range { InRange result }
+{
+    let left = s * x;
+    let right = t * y;
+    left + right
+}
+
+/// Writes `s * u + t * v` over `dst`.
+fn write_combination(dst: &mut [i128], u: &[i128], s: i128, v: &[i128], t: i128)
+    requires same_width { (length dst.old ≡ length u.now) × (length u.now ≡ length v.now) }
+    requires stays { AllStay (CombineStays u.now s v.now t) (length u.now) }
+    ensures combined { dst.new ≡ add (scale s u.now) (scale t v.now) }
+    ensures in_range { AllInRange dst.new }
+{
+    for j in 0..dst.len() {
+        dst[j] = combined(s, u[j], t, v[j]);
+    }
+}
+
+/// Writes `s * u + t * v` over `dst`, and counts one combination. All three rows have one width.
+///
+/// # Errors
+///
+/// The first column at which a product or the sum leaves the range. `dst` is then as before.
+pub fn combine_into<L: Ledger>(
+    dst: &mut [i128],
+    u: &[i128],
+    s: i128,
+    v: &[i128],
+    t: i128,
+    steps: &mut Steps<L>,
+) -> Result<(), u32>
+    requires same_width { (length dst.old ≡ length u.now) × (length u.now ≡ length v.now) }
+    requires narrow { length u.now < 2 ^ 32 }
+    ensures counted { steps.new ≡ steps.old + 1 }
+    ensures width { length dst.new ≡ length dst.old }
+    ensures combined { MatchResult result (λ _. (dst.new ≡ add (scale s u.now) (scale t v.now)) × AllStay (CombineStays u.now s v.now t) (length u.now)) (λ j. (dst.new ≡ dst.old) × IsFirstToLeave (CombineStays u.now s v.now t) (length u.now) j) }
+    ensures in_range { OnOk result (AllInRange dst.new) }
+{
+    steps.tick();
+    check_combination(u, s, v, t)?;
+    write_combination(dst, u, s, v, t);
+    Ok(())
+}
