@@ -7,3 +7,5 @@ pub mod Face
 pub mod EchelonForm
 pub mod Columns
 pub mod Bridge
+pub mod Systems
+pub mod Adjacent
