@@ -2,10 +2,12 @@
 use Rattle.std.proofs.Common.{◌≡◌, ◌≢◌, ◌⊎◌, inl, inr, ℕ, zero, suc, ◌<◌, ◌≤◌, ℤ, pos, ◌+ℤ◌, ◌-ℤ◌, ◌*ℤ◌, neg_ℤ, ◌≤ℤ◌, ◌<ℤ◌, refl, sym, ap, ◌∙◌, arith}
 use Rattle.std.proofs.lemmas.Int.{ints}
 use Rattle.cone_laws.proofs.Ring.{ring, mul_comm, mul-at_least_zero, mul-positive, neg-mul, mul-neg, mul-zero, zero-mul, zero_of_mul, by_sign}
-use Rattle.cone_laws.proofs.Sums.{V, IsMore, Same, Sums, none, line, ray, Nothing, SpansBy, IsLinear, same_value, sums_same, sums_zero, spans_sums, spans_same, spans_of_multiple, spans_add, spans_from_lines}
+use Rattle.cone_laws.proofs.Sums.{V, IsMore, Same, Among, Sums, none, line, ray, Nothing, SpansBy, IsLinear, same_value, sums_same, sums_zero, sums_one_ray, spans_sums, spans_of_multiple, spans_add, spans_from_lines}
 use Rattle.cone_laws.proofs.Supports.{support, IsZeroWith, support-le, support-lt, IsGreatest, HasGreatest, greatest_ratio}
-use Rattle.cone_laws.proofs.Face.{face, OnFace, zero_or_positive, same_without, same_beside, rest_zero, first_zero}
-use Rattle.cone_laws.proofs.Systems.{Among, Each, Others, Combines, pairing, System, combined_value, pairing_is_zero, sum_at_least_zero, IsFlat, ray_not_flat, within_sum, unspanned}
+use Rattle.cone_laws.proofs.Face.{face, OnFace, zero_or_positive, same_without, same_beside, first_zero}
+use Rattle.cone_laws.proofs.Systems.{Combines, pairing, System, pairing_is_zero, IsFlat, ray_not_flat, within_sum, unspanned}
+use Rattle.cone_laws.proofs.Columns.{value_both}
+use Rattle.cone_laws.proofs.Bridge.{Below}
 
 -- ---- the signs of a map on the rays of a sum
 
@@ -125,11 +127,26 @@ span_factor : (c d c0 d0 c1 d1 : ℤ) → (c0 *ℤ d1 -ℤ c1 *ℤ d0) *ℤ c �
 span_factor c d c0 d0 c1 d1 = simp ring (omega (arith, ints))
 
 -- where the factor is 0, the parts are
-no_factor : (c0 c1 f e x : ℤ) → pos 0 <ℤ c0 → pos 0 <ℤ c1 → pos 0 ≤ℤ f → pos 0 ≤ℤ e → c0 *ℤ f +ℤ c1 *ℤ e ≡ pos 0 → f ≡ pos 0
-no_factor c0 c1 f e x p q s t h =
+no_factor : (c0 c1 f e : ℤ) → pos 0 <ℤ c0 → pos 0 <ℤ c1 → pos 0 ≤ℤ f → pos 0 ≤ℤ e → c0 *ℤ f +ℤ c1 *ℤ e ≡ pos 0 → f ≡ pos 0
+no_factor c0 c1 f e p q s t h =
     let g : pos 0 ≤ℤ (c0 *ℤ f) = mul-at_least_zero c0 f (omega (arith, ints)) s in
     let i : pos 0 ≤ℤ (c1 *ℤ e) = mul-at_least_zero c1 e (omega (arith, ints)) t in
     zero_of_mul c0 f p (omega (arith, ints))
+
+factor_least : (c0 d0 c1 d1 : ℤ) → (d0 *ℤ c1) ≤ℤ (d1 *ℤ c0) → pos 0 ≤ℤ (c0 *ℤ d1 -ℤ c1 *ℤ d0)
+factor_least c0 d0 c1 d1 h = omega (arith, ints, mul_comm c0 d1, mul_comm c1 d0)
+
+by_values : (s t x y f e : ℤ) → x ≡ f → y ≡ e → s *ℤ f +ℤ t *ℤ e ≡ pos 0 → s *ℤ x +ℤ t *ℤ y ≡ pos 0
+by_values s t x y f e g h z = rw (g, h) z
+
+second_zero : (e s c t d : ℤ) → e ≡ s *ℤ c +ℤ t *ℤ d → e ≡ pos 0 → pos 0 ≤ℤ s → pos 0 <ℤ t → pos 0 ≤ℤ c → pos 0 ≤ℤ d → d ≡ pos 0
+second_zero e s c t d h z p q m n = first_zero e t d (s *ℤ c) (omega (arith, ints)) z q n (mul-at_least_zero s c p m)
+
+regroup_above : (s u ap an aq p n q : ℤ) → s *ℤ (ap *ℤ n +ℤ neg_ℤ an *ℤ p) +ℤ neg_ℤ u *ℤ (aq *ℤ n +ℤ neg_ℤ an *ℤ q) ≡ ((s *ℤ ap -ℤ u *ℤ aq) *ℤ n +ℤ (s *ℤ neg_ℤ an) *ℤ p) +ℤ neg_ℤ (u *ℤ neg_ℤ an) *ℤ q
+regroup_above s u ap an aq p n q = simp ring (omega (arith, ints))
+
+regroup_below : (s u ap an aq p n q : ℤ) → s *ℤ (ap *ℤ n +ℤ neg_ℤ an *ℤ p) +ℤ neg_ℤ u *ℤ (ap *ℤ q +ℤ neg_ℤ aq *ℤ p) ≡ ((s *ℤ neg_ℤ an -ℤ u *ℤ neg_ℤ aq) *ℤ p +ℤ (s *ℤ ap) *ℤ n) +ℤ neg_ℤ (u *ℤ ap) *ℤ q
+regroup_below s u ap an aq p n q = simp ring (omega (arith, ints))
 
 module _ (L : V → Type 0) (r : ℕ → V) (count : ℕ) (rows : ℕ → V → ℤ) (k : ℕ) (C : V → Type 0) (sys : System L r count rows k C) (a : V → ℤ) (lin : IsLinear a) (flat : (l : V) → L l → a l ≡ pos 0) (Adj : ℕ → ℕ → Type 0) (third : (p n : ℕ) → p < count → n < count → pos 0 <ℤ a (r p) → a (r n) <ℤ pos 0 → Adj p n ⊎ Third r count rows k p n) where
   -- the values of the first rows on a vector
@@ -153,12 +170,12 @@ module _ (L : V → Type 0) (r : ℕ → V) (count : ℕ) (rows : ℕ → V → 
   LessSpanned c = (f : V) → IsLess c f → Spanned f
 
   value : (e c d : V) (s t : ℤ) → Combines e s c t d → (i : ℕ) → rows i e ≡ s *ℤ rows i c +ℤ t *ℤ rows i d
-  value e c d s t h i = combined_value (rows i) (sys.linear i) e c d s t h
+  value e c d s t h i = value_both (rows i) (sys.linear i) e c d s t h
 
   lowered : (c d e : V) (s t : ℤ) → C c → C d → a c ≡ pos 0 → a d ≡ pos 0 → Combines e s c t d → ((i : ℕ) → i < k → pos 0 ≤ℤ (s *ℤ rows i c +ℤ t *ℤ rows i d)) → IsZeroWith k (values c) (values d) → (at : ℕ) → at < k → pos 0 <ℤ rows at c → s *ℤ rows at c +ℤ t *ℤ rows at d ≡ pos 0 → IsLess c e
   lowered c d e s t m n ac ad h least zeros at below above gone = record {
     within = sys.combine e c d s t m n h (λ i b. rw (value e c d s t h i) (least i b));
-    zero = combined_value a lin e c d s t h ∙ zero_sum s t (a c) (a d) ac ad;
+    zero = value_both a lin e c d s t h ∙ zero_sum s t (a c) (a d) ac ad;
     less = support-lt k (values c) (values e) (λ i b z. value e c d s t h i ∙ zero_sum s t (rows i c) (rows i d) z (zeros i b z)) at below (not_zero (rows at c) above) (value e c d s t h at ∙ gone);
   }
 
@@ -189,3 +206,181 @@ module _ (L : V → Type 0) (r : ℕ → V) (count : ℕ) (rows : ℕ → V → 
 
           is_less : IsLess v rest
           is_less = lowered v w rest d (neg_ℤ c) m n av aw (λ j. refl) (λ i b. taken_least (rows i v) c (rows i w) d (g.most i b)) zeros g.at g.below g.above (taken_zero c d)
+
+  -- where no difference of multiples of c and d is lineality, the greatest and the least ratio of d to c leave two vectors that span c
+  exchange : (c d : V) → C c → C d → a c ≡ pos 0 → a d ≡ pos 0 → IsZeroWith k (values c) (values d) → IsBent c → IsBent d → ((x y : ℤ) (e : V) → pos 0 <ℤ x → pos 0 <ℤ y → Combines e x c (neg_ℤ y) d → SpansBy L Nothing e → ⊥) → LessSpanned c → Spanned c
+  exchange c d m n ac ad zeros bent_c bent_d apart less = by_greatest (greatest_ratio (values c) (values d) k (λ i b. sys.side i b c m) zeros) (greatest_ratio (values c) (λ i. neg_ℤ (rows i d)) k (λ i b. sys.side i b c m) (λ i b z. omega (arith, ints, zeros i b z)))
+    where
+      by_ratios : IsGreatest k (values c) (values d) → IsGreatest k (values c) (λ i. neg_ℤ (rows i d)) → Spanned c
+      by_ratios g h = by_factor (zero_or_positive factor (factor_least c0 d0 c1 d1 (g.most h.at h.below)))
+        where
+          c1 : ℤ
+          c1 = rows g.at c
+
+          d1 : ℤ
+          d1 = rows g.at d
+
+          c0 : ℤ
+          c0 = rows h.at c
+
+          d0 : ℤ
+          d0 = rows h.at d
+
+          factor : ℤ
+          factor = c0 *ℤ d1 -ℤ c1 *ℤ d0
+
+          top : V
+          top j = d1 *ℤ c j +ℤ neg_ℤ c1 *ℤ d j
+
+          bottom : V
+          bottom j = neg_ℤ d0 *ℤ c j +ℤ c0 *ℤ d j
+
+          top_less : IsLess c top
+          top_less = lowered c d top d1 (neg_ℤ c1) m n ac ad (λ j. refl) (λ i b. taken_least (rows i c) c1 (rows i d) d1 (g.most i b)) zeros g.at g.below g.above (taken_zero c1 d1)
+
+          bottom_less : IsLess c bottom
+          bottom_less = lowered c d bottom (neg_ℤ d0) c0 m n ac ad (λ j. refl) (λ i b. left_least (rows i c) c0 (rows i d) d0 (h.most i b)) zeros h.at h.below h.above (left_zero c0 d0)
+
+          parts_zero : factor ≡ pos 0 → (i : ℕ) → c0 *ℤ rows i top +ℤ c1 *ℤ rows i bottom ≡ pos 0
+          parts_zero z i = by_values c0 c1 (rows i top) (rows i bottom) (d1 *ℤ rows i c +ℤ neg_ℤ c1 *ℤ rows i d) (neg_ℤ d0 *ℤ rows i c +ℤ c0 *ℤ rows i d) (value top c d d1 (neg_ℤ c1) (λ j. refl) i) (value bottom c d (neg_ℤ d0) c0 (λ j. refl) i) (sym (span_factor (rows i c) (rows i d) c0 d0 c1 d1) ∙ ap (λ (y : ℤ). y *ℤ rows i c) z ∙ zero-mul (rows i c))
+
+          by_factor : (factor ≡ pos 0) ⊎ (pos 0 <ℤ factor) → Spanned c
+          by_factor (inl z) = absurd (apart d1 c1 top (ratio_positive c d n bent_d g) g.above (λ j. refl) (sys.lineal top top_less.within (λ i b. no_factor c0 c1 (rows i top) (rows i bottom) h.above g.above (sys.side i b top top_less.within) (sys.side i b bottom bottom_less.within) (parts_zero z i))))
+          by_factor (inr p) = spans_of_multiple factor c (λ j. factor *ℤ c j) p (spans_add c0 c1 top bottom (λ j. factor *ℤ c j) (omega (arith, ints, h.above)) (omega (arith, ints, g.above)) (less top top_less) (less bottom bottom_less) (λ j. span_factor (c j) (d j) c0 d0 c1 d1)) (λ j. refl)
+
+      by_greatest : HasGreatest k (values c) (values d) → HasGreatest k (values c) (λ i. neg_ℤ (rows i d)) → Spanned c
+      by_greatest (inl z) h = absurd (bent_c z)
+      by_greatest (inr g) (inl z) = absurd (bent_c z)
+      by_greatest (inr g) (inr h) = by_ratios g h
+
+  -- rays on the two sides, by number
+  record IsCrossed (p n : ℕ) : Type 0 where
+    first : p < count
+    second : n < count
+    above : pos 0 <ℤ a (r p)
+    below : a (r n) <ℤ pos 0
+
+  crossing_within : (p n : ℕ) → IsCrossed p n → C (pairing a (r p) (r n))
+  crossing_within p n h = within_sum L r count rows k C sys (pairing a (r p) (r n)) (r n) (r p) (a (r p)) (neg_ℤ (a (r n))) (sys.rays n h.second) (sys.rays p h.first) (omega (arith, ints, h.above)) (omega (arith, ints, h.below)) (λ j. refl)
+
+  crossing_value : (p n i : ℕ) → rows i (pairing a (r p) (r n)) ≡ a (r p) *ℤ rows i (r n) +ℤ neg_ℤ (a (r n)) *ℤ rows i (r p)
+  crossing_value p n i = value (pairing a (r p) (r n)) (r n) (r p) (a (r p)) (neg_ℤ (a (r n))) (λ j. refl) i
+
+  crossing_first : (p n : ℕ) → IsCrossed p n → (i : ℕ) → i < k → rows i (pairing a (r p) (r n)) ≡ pos 0 → rows i (r p) ≡ pos 0
+  crossing_first p n h i b z = second_zero (rows i (pairing a (r p) (r n))) (a (r p)) (rows i (r n)) (neg_ℤ (a (r n))) (rows i (r p)) (crossing_value p n i) z (omega (arith, ints, h.above)) (omega (arith, ints, h.below)) (sys.side i b (r n) (sys.rays n h.second)) (sys.side i b (r p) (sys.rays p h.first))
+
+  crossing_second : (p n : ℕ) → IsCrossed p n → (i : ℕ) → i < k → rows i (pairing a (r p) (r n)) ≡ pos 0 → rows i (r n) ≡ pos 0
+  crossing_second p n h i b z = first_zero (rows i (pairing a (r p) (r n))) (a (r p)) (rows i (r n)) (neg_ℤ (a (r n)) *ℤ rows i (r p)) (crossing_value p n i) z h.above (sys.side i b (r n) (sys.rays n h.second)) (mul-at_least_zero (neg_ℤ (a (r n))) (rows i (r p)) (omega (arith, ints, h.below)) (sys.side i b (r p) (sys.rays p h.first)))
+
+  crossing_zero : (p n i : ℕ) → rows i (r p) ≡ pos 0 → rows i (r n) ≡ pos 0 → rows i (pairing a (r p) (r n)) ≡ pos 0
+  crossing_zero p n i y z = crossing_value p n i ∙ zero_sum (a (r p)) (neg_ℤ (a (r n))) (rows i (r n)) (rows i (r p)) z y
+
+  crossing_bent : (p n : ℕ) → IsCrossed p n → IsBent (pairing a (r p) (r n))
+  crossing_bent p n h z = ray_not_flat L r count rows k C sys p h.first (λ i b. crossing_first p n h i b (z i b))
+
+  sides_differ : (p n : ℕ) → IsCrossed p n → p ≢ n
+  sides_differ p n h e = omega (arith, ints, h.above, h.below, ap (λ (i : ℕ). a (r i)) e)
+
+  -- a third ray above 0 takes the place of the first, one below 0 that of the second
+  by_third_above : (p n : ℕ) → IsCrossed p n → (t : Third r count rows k p n) → pos 0 <ℤ a (r t.index) → LessSpanned (pairing a (r p) (r n)) → Spanned (pairing a (r p) (r n))
+  by_third_above p n h t x less = exchange (pairing a (r p) (r n)) (pairing a (r t.index) (r n)) (crossing_within p n h) (crossing_within t.index n crossed) (pairing_is_zero a lin (r p) (r n)) (pairing_is_zero a lin (r t.index) (r n)) (λ i b z. crossing_zero t.index n i (t.between i b (crossing_first p n h i b z) (crossing_second p n h i b z)) (crossing_second p n h i b z)) (crossing_bent p n h) (crossing_bent t.index n crossed) apart less
+    where
+      crossed : IsCrossed t.index n
+      crossed = record { first = t.below; second = h.second; above = x; below = h.below }
+
+      apart : (s u : ℤ) (e : V) → pos 0 <ℤ s → pos 0 <ℤ u → Combines e s (pairing a (r p) (r n)) (neg_ℤ u) (pairing a (r t.index) (r n)) → SpansBy L Nothing e → ⊥
+      apart s u e ps pu f lines = unspanned L r count rows k C sys p n t.index (s *ℤ a (r p) -ℤ u *ℤ a (r t.index)) (s *ℤ neg_ℤ (a (r n))) (u *ℤ neg_ℤ (a (r n))) e h.first h.second t.below (sides_differ p n h) t.not_first t.not_second (mul-positive s (neg_ℤ (a (r n))) ps (omega (arith, ints, h.below))) (mul-positive u (neg_ℤ (a (r n))) pu (omega (arith, ints, h.below))) lines (λ j. f j ∙ regroup_above s u (a (r p)) (a (r n)) (a (r t.index)) (r p j) (r n j) (r t.index j))
+
+  by_third_below : (p n : ℕ) → IsCrossed p n → (t : Third r count rows k p n) → a (r t.index) <ℤ pos 0 → LessSpanned (pairing a (r p) (r n)) → Spanned (pairing a (r p) (r n))
+  by_third_below p n h t x less = exchange (pairing a (r p) (r n)) (pairing a (r p) (r t.index)) (crossing_within p n h) (crossing_within p t.index crossed) (pairing_is_zero a lin (r p) (r n)) (pairing_is_zero a lin (r p) (r t.index)) (λ i b z. crossing_zero p t.index i (crossing_first p n h i b z) (t.between i b (crossing_first p n h i b z) (crossing_second p n h i b z))) (crossing_bent p n h) (crossing_bent p t.index crossed) apart less
+    where
+      crossed : IsCrossed p t.index
+      crossed = record { first = h.first; second = t.below; above = h.above; below = x }
+
+      apart : (s u : ℤ) (e : V) → pos 0 <ℤ s → pos 0 <ℤ u → Combines e s (pairing a (r p) (r n)) (neg_ℤ u) (pairing a (r p) (r t.index)) → SpansBy L Nothing e → ⊥
+      apart s u e ps pu f lines = unspanned L r count rows k C sys n p t.index (s *ℤ neg_ℤ (a (r n)) -ℤ u *ℤ neg_ℤ (a (r t.index))) (s *ℤ a (r p)) (u *ℤ a (r p)) e h.second h.first t.below (λ e. sides_differ p n h (sym e)) t.not_second t.not_first (mul-positive s (a (r p)) ps h.above) (mul-positive u (a (r p)) pu h.above) lines (λ j. f j ∙ regroup_below s u (a (r p)) (a (r n)) (a (r t.index)) (r p j) (r n j) (r t.index j))
+
+  crossing_spanned : (p n : ℕ) → IsCrossed p n → Adj p n → Spanned (pairing a (r p) (r n))
+  crossing_spanned p n h adjacent = spans_sums (pairing a (r p) (r n)) (sums_one_ray (pos 1) (pairing a (r p) (r n)) (pairing a (r p) (r n)) (omega (arith, ints)) (crossed p n (record { first = h.first; second = h.second; above = h.above; below = h.below; adjacent = adjacent }) (λ j. refl)) (λ j. omega (arith, ints)))
+
+  level_spanned : (j : ℕ) → j < count → a (r j) ≡ pos 0 → Spanned (r j)
+  level_spanned j b z = spans_sums (r j) (sums_one_ray (pos 1) (r j) (r j) (omega (arith, ints)) (level j b z (λ i. refl)) (λ i. omega (arith, ints)))
+
+  -- fewer rows of c aren't 0 than of v
+  less_more : (v c f : V) → IsZeroWith k (values v) (values c) → IsLess c f → IsLess v f
+  less_more v c f zeros h = record { within = h.within; zero = h.zero; less = omega (arith, support-le k (values v) (values c) zeros, h.less) }
+
+  -- a ray of the face of v on which the map is 0
+  by_level : (v : V) → C v → a v ≡ pos 0 → LessSpanned v → (j : ℕ) → j < count → a (r j) ≡ pos 0 → IsZeroWith k (values v) (values (r j)) → Spanned v
+  by_level v m av less j b z zeros = ratio_step v (r j) m (sys.rays j b) av z zeros (ray_not_flat L r count rows k C sys j b) (level_spanned j b z) less
+
+  -- rays of the face of v on the two sides
+  by_crossing : (v : V) → C v → a v ≡ pos 0 → LessSpanned v → (p n : ℕ) → IsCrossed p n → IsZeroWith k (values v) (values (r p)) → IsZeroWith k (values v) (values (r n)) → Spanned v
+  by_crossing v m av less p n h zeros_p zeros_n = by_adjacency (third p n h.first h.second h.above h.below)
+    where
+      zeros : IsZeroWith k (values v) (values (pairing a (r p) (r n)))
+      zeros i b z = crossing_zero p n i (zeros_p i b z) (zeros_n i b z)
+
+      less_c : LessSpanned (pairing a (r p) (r n))
+      less_c f g = less f (less_more v (pairing a (r p) (r n)) f zeros g)
+
+      take_off : Spanned (pairing a (r p) (r n)) → Spanned v
+      take_off spanned = ratio_step v (pairing a (r p) (r n)) m (crossing_within p n h) av (pairing_is_zero a lin (r p) (r n)) zeros (crossing_bent p n h) spanned less
+
+      by_third : (t : Third r count rows k p n) → (pos 0 <ℤ a (r t.index)) ⊎ ((a (r t.index) <ℤ pos 0) ⊎ (a (r t.index) ≡ pos 0)) → Spanned v
+      by_third t (inl x) = take_off (by_third_above p n h t x less_c)
+      by_third t (inr (inl x)) = take_off (by_third_below p n h t x less_c)
+      by_third t (inr (inr z)) = by_level v m av less t.index t.below z (λ i b e. t.between i b (zeros_p i b e) (zeros_n i b e))
+
+      by_adjacency : Adj p n ⊎ Third r count rows k p n → Spanned v
+      by_adjacency (inl adjacent) = take_off (crossing_spanned p n h adjacent)
+      by_adjacency (inr t) = by_third t (by_sign (a (r t.index)))
+
+  -- the numbers of the rows that are 0 on v
+  abbrev ZeroOn : V → ℕ → Type 0
+  ZeroOn v i = (i < k) × (rows i v ≡ pos 0)
+
+  abbrev FaceRay : V → V → Type 0
+  FaceRay v = OnFace (Among r (Below count)) rows (ZeroOn v)
+
+  among_value : (i : ℕ) (u : V) → (m : Among r (Below count) u) → rows i u ≡ rows i (r m.index)
+  among_value i u m = same_value (rows i) (sys.linear i) u (r m.index) m.same
+
+  a_value : (u : V) → (m : Among r (Below count) u) → a u ≡ a (r m.index)
+  a_value u m = same_value a lin u (r m.index) m.same
+
+  face_zeros : (v u : V) → (f : FaceRay v u) → IsZeroWith k (values v) (values (r f.0.index))
+  face_zeros v u f i b z = sym (among_value i u f.0) ∙ f.1 i (b, z)
+
+  crossed_by : (v p n : V) → (f : FaceRay v p) → (g : FaceRay v n) → pos 0 <ℤ a p → a n <ℤ pos 0 → IsCrossed f.0.index g.0.index
+  crossed_by v p n f g x y = record { first = f.0.is; second = g.0.is; above = rw (a_value p f.0) at x; below = rw (a_value n g.0) at y }
+
+  by_signs : (v : V) → C v → a v ≡ pos 0 → LessSpanned v → (t : ℤ) → pos 0 <ℤ t → a (λ j. t *ℤ v j) ≡ pos 0 → Signs L (FaceRay v) a (λ j. t *ℤ v j) → Spanned v
+  by_signs v m av less t pt z (no_ray s) = spans_from_lines v (record { times = t; positive = pt; sums = s })
+  by_signs v m av less t pt z (on_it u f e) = by_level v m av less f.0.index f.0.is (sym (a_value u f.0) ∙ e) (face_zeros v u f)
+  by_signs v m av less t pt z (all_above p f x y) = absurd (omega (arith, ints))
+  by_signs v m av less t pt z (all_below n f x y) = absurd (omega (arith, ints))
+  by_signs v m av less t pt z (two_sides p n f g x y) = by_crossing v m av less f.0.index g.0.index (crossed_by v p n f g x y) (face_zeros v p f) (face_zeros v n g)
+
+  multiple_zero : (b : V → ℤ) → IsLinear b → (t : ℤ) (v : V) → b v ≡ pos 0 → b (λ j. t *ℤ v j) ≡ pos 0
+  multiple_zero b blin t v z = blin.multiple (λ j. t *ℤ v j) v t (λ j. refl) ∙ ap (λ (y : ℤ). t *ℤ y) z ∙ mul-zero t
+
+  reduced_step : (v : V) → C v → a v ≡ pos 0 → LessSpanned v → Spanned v
+  reduced_step v m av less = by_signs v m av less s.times s.positive (multiple_zero a lin s.times v av) (signs L (FaceRay v) a lin flat (λ j. s.times *ℤ v j) on_face)
+    where
+      s : SpansBy L (Among r (Below count)) v
+      s = sys.spans v m
+
+      side_of : (i : ℕ) → ZeroOn v i → (u : V) → Among r (Below count) u → pos 0 ≤ℤ rows i u
+      side_of i z u n = rw (among_value i u n) (sys.side i z.0 (r n.index) (sys.rays n.index n.is))
+
+      on_face : Sums L (FaceRay v) (λ j. s.times *ℤ v j)
+      on_face = face L (Among r (Below count)) rows (ZeroOn v) sys.linear (λ i z l n. sys.flat i z.0 l n) side_of (λ j. s.times *ℤ v j) s.sums (λ i z. multiple_zero (rows i) (sys.linear i) s.times v z.1)
+
+  -- the rays on which the map is 0, and the combinations of adjacent rays, span with the lines each vector of the cone on which it is 0
+  reduced_upto : (m : ℕ) (v : V) → C v → a v ≡ pos 0 → support k (values v) ≤ m → Spanned v
+  reduced_upto zero v c z h = reduced_step v c z (λ f g. absurd (omega (arith, g.less)))
+  reduced_upto (suc m) v c z h = reduced_step v c z (λ f g. reduced_upto m f g.within g.zero (omega (arith, g.less)))
+
+  pub reduced : (v : V) → C v → a v ≡ pos 0 → SpansBy L (Reduced r count a Adj) v
+  reduced v c z = reduced_upto (support k (values v)) v c z (omega arith)

@@ -2,7 +2,7 @@
 use Rattle.std.proofs.Common.{◌≡◌, ◌⊎◌, inl, inr, ℕ, zero, suc, ℤ, pos, negsuc, ◌+ℤ◌, ◌*ℤ◌, ◌≤ℤ◌, ◌<ℤ◌, refl, sym, ap, ◌∙◌, arith}
 use Rattle.std.proofs.lemmas.Int.{ints}
 use Rattle.cone_laws.proofs.Ring.{mul-at_least_zero, zero_of_mul, zero-mul, mul-zero}
-use Rattle.cone_laws.proofs.Sums.{V, IsMore, Same, Sums, none, line, ray, IsLinear, sums_same, sums_at_least_zero}
+use Rattle.cone_laws.proofs.Sums.{V, IsMore, Sums, none, line, ray, IsLinear, sums_same, sums_at_least_zero}
 
 -- a sum of two that are at least 0 is 0
 pub rest_zero : (x k r u : ℤ) → x ≡ k *ℤ r +ℤ u → x ≡ pos 0 → pos 0 ≤ℤ k → pos 0 ≤ℤ r → pos 0 ≤ℤ u → u ≡ pos 0
@@ -26,20 +26,20 @@ same_without v k r u e z = let t = ap (λ (y : ℤ). y *ℤ r) z in omega (arith
 pub same_beside : (v k l u : ℤ) → v ≡ k *ℤ l +ℤ u → l ≡ pos 0 → v ≡ u
 same_beside v k l u e z = let t = ap (λ (y : ℤ). k *ℤ y) z in omega (arith, ints, t, mul-zero k)
 
-module _ (L R : V → Type 0) (rows : ℕ → V → ℤ) (On : ℕ → Type 0) (linear : (i : ℕ) → IsLinear (rows i)) (flat : (i : ℕ) → On i → (l : V) → L l → rows i l ≡ pos 0) (side : (i : ℕ) → On i → (r : V) → R r → pos 0 ≤ℤ rows i r) where
-  -- a ray on which the rows are 0
-  abbrev pub OnFace : V → Type 0
-  OnFace r = R r × ((i : ℕ) → On i → rows i r ≡ pos 0)
+-- a ray on which the rows are 0
+abbrev pub OnFace : (V → Type 0) → (ℕ → V → ℤ) → (ℕ → Type 0) → V → Type 0
+OnFace R rows On r = R r × ((i : ℕ) → On i → rows i r ≡ pos 0)
 
-  add_ray : (k : ℤ) (r u v : V) → R r → pos 0 ≤ℤ k → IsMore v k r u → ((i : ℕ) → On i → rows i v ≡ pos 0) → ((i : ℕ) → On i → pos 0 ≤ℤ rows i u) → Sums L OnFace u → Sums L OnFace v
+module _ (L R : V → Type 0) (rows : ℕ → V → ℤ) (On : ℕ → Type 0) (linear : (i : ℕ) → IsLinear (rows i)) (flat : (i : ℕ) → On i → (l : V) → L l → rows i l ≡ pos 0) (side : (i : ℕ) → On i → (r : V) → R r → pos 0 ≤ℤ rows i r) where
+  add_ray : (k : ℤ) (r u v : V) → R r → pos 0 ≤ℤ k → IsMore v k r u → ((i : ℕ) → On i → rows i v ≡ pos 0) → ((i : ℕ) → On i → pos 0 ≤ℤ rows i u) → Sums L (OnFace R rows On) u → Sums L (OnFace R rows On) v
   add_ray k r u v m p h z least s = by_factor (zero_or_positive k p)
     where
-      by_factor : (k ≡ pos 0) ⊎ (pos 0 <ℤ k) → Sums L OnFace v
+      by_factor : (k ≡ pos 0) ⊎ (pos 0 <ℤ k) → Sums L (OnFace R rows On) v
       by_factor (inl e) = sums_same u v s (λ j. same_without (v j) k (r j) (u j) (h j) e)
       by_factor (inr a) = ray k r u p (m, λ i o. first_zero (rows i v) k (rows i r) (rows i u) ((linear i).more v r u k h) (z i o) a (side i o r m) (least i o)) s h
 
   -- only rays on which the rows are 0 occur in a sum on which they are 0
-  pub face : (v : V) → Sums L R v → ((i : ℕ) → On i → rows i v ≡ pos 0) → Sums L OnFace v
+  pub face : (v : V) → Sums L R v → ((i : ℕ) → On i → rows i v ≡ pos 0) → Sums L (OnFace R rows On) v
   face v (none h) z = none h
   face v (line k l u m s h) z = line k l u m (face u s (λ i o. sym (same_beside (rows i v) k (rows i l) (rows i u) ((linear i).more v l u k h) (flat i o l m)) ∙ z i o)) h
   face v (ray k r u p m s h) z =

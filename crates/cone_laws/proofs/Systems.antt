@@ -1,18 +1,10 @@
 -- A system of lines and numbered rays of a cone, none of the rays to spare.
-use Rattle.std.proofs.Common.{◌≡◌, ◌≢◌, ◌⊎◌, inl, inr, ℕ, ◌<◌, ◌≤◌, ℤ, pos, ◌+ℤ◌, ◌*ℤ◌, neg_ℤ, ◌≤ℤ◌, ◌<ℤ◌, refl, sym, ap, ◌∙◌, arith}
+use Rattle.std.proofs.Common.{◌≡◌, ◌≢◌, ◌⊎◌, inl, inr, ℕ, ◌<◌, ℤ, pos, ◌+ℤ◌, ◌*ℤ◌, neg_ℤ, ◌≤ℤ◌, ◌<ℤ◌, refl, sym, ◌∙◌, arith}
 use Rattle.std.proofs.lemmas.Int.{ints}
 use Rattle.cone_laws.proofs.Ring.{ring, mul-at_least_zero, neg-mul, at_least_zero_or_not}
-use Rattle.cone_laws.proofs.Sums.{V, IsMore, Same, Sums, Nothing, SpansBy, IsLinear, same_value, sums_add, sums_one_ray, spans_sums, spans_of_multiple, spans_add, lines_spans_scale, spans_from_lines}
-
--- v is a vector of the numbered ones whose number is in K
-pub record Among (r : ℕ → V) (K : ℕ → Type 0) (v : V) : Type 0 where
-  pub index : ℕ
-  pub is : K index
-  pub same : Same v (r index)
-
--- the numbers below the count
-abbrev pub Each : ℕ → ℕ → Type 0
-Each count i = i < count
+use Rattle.cone_laws.proofs.Sums.{V, Among, Nothing, SpansBy, IsLinear, sums_add, sums_one_ray, spans_sums, spans_of_multiple, spans_add, lines_spans_scale, spans_from_lines}
+use Rattle.cone_laws.proofs.Columns.{value_both}
+use Rattle.cone_laws.proofs.Bridge.{Below}
 
 -- the numbers below the count, but for one
 abbrev pub Others : ℕ → ℕ → ℕ → Type 0
@@ -33,21 +25,15 @@ pub record System (L : V → Type 0) (r : ℕ → V) (count : ℕ) (rows : ℕ �
   pub rays : (j : ℕ) → j < count → C (r j)
   pub side : (i : ℕ) → i < k → (v : V) → C v → pos 0 ≤ℤ rows i v
   pub combine : (e c d : V) (s t : ℤ) → C c → C d → Combines e s c t d → ((i : ℕ) → i < k → pos 0 ≤ℤ rows i e) → C e
-  pub spans : (v : V) → C v → SpansBy L (Among r (Each count)) v
+  pub spans : (v : V) → C v → SpansBy L (Among r (Below count)) v
   pub lineal : (v : V) → C v → ((i : ℕ) → i < k → rows i v ≡ pos 0) → SpansBy L Nothing v
   pub irredundant : (j : ℕ) → j < count → ¬ (SpansBy L (Among r (Others count j)) (r j))
-
-pub combined_value : (a : V → ℤ) → IsLinear a → (e c d : V) (s t : ℤ) → Combines e s c t d → a e ≡ s *ℤ a c +ℤ t *ℤ a d
-combined_value a lin e c d s t h =
-    let f : a e ≡ s *ℤ a c +ℤ a (λ j. t *ℤ d j) = lin.more e c (λ j. t *ℤ d j) s h in
-    let g : a (λ j. t *ℤ d j) ≡ t *ℤ a d = lin.multiple (λ j. t *ℤ d j) d t (λ j. refl) in
-    omega (arith, ints)
 
 cross_is_zero : (x y : ℤ) → x *ℤ y +ℤ neg_ℤ y *ℤ x ≡ pos 0
 cross_is_zero x y = simp ring (omega (arith, ints))
 
 pub pairing_is_zero : (a : V → ℤ) → IsLinear a → (p n : V) → a (pairing a p n) ≡ pos 0
-pairing_is_zero a lin p n = combined_value a lin (pairing a p n) n p (a p) (neg_ℤ (a n)) (λ j. refl) ∙ cross_is_zero (a p) (a n)
+pairing_is_zero a lin p n = value_both a lin (pairing a p n) n p (a p) (neg_ℤ (a n)) (λ j. refl) ∙ cross_is_zero (a p) (a n)
 
 pub sum_at_least_zero : (s c t d e : ℤ) → e ≡ s *ℤ c +ℤ t *ℤ d → pos 0 ≤ℤ s → pos 0 ≤ℤ c → pos 0 ≤ℤ t → pos 0 ≤ℤ d → pos 0 ≤ℤ e
 sum_at_least_zero s c t d e h p q u w =
@@ -65,7 +51,7 @@ module _ (L : V → Type 0) (r : ℕ → V) (count : ℕ) (rows : ℕ → V → 
 
   -- sums of two with factors of at least 0 stay in the cone
   pub within_sum : (e c d : V) (s t : ℤ) → C c → C d → pos 0 ≤ℤ s → pos 0 ≤ℤ t → Combines e s c t d → C e
-  within_sum e c d s t m n p q h = sys.combine e c d s t m n h (λ i b. sum_at_least_zero s (rows i c) t (rows i d) (rows i e) (combined_value (rows i) (sys.linear i) e c d s t h) p (sys.side i b c m) q (sys.side i b d n))
+  within_sum e c d s t m n p q h = sys.combine e c d s t m n h (λ i b. sum_at_least_zero s (rows i c) t (rows i d) (rows i e) (value_both (rows i) (sys.linear i) e c d s t h) p (sys.side i b c m) q (sys.side i b d n))
 
   -- no ray is spanned by the lines and two others
   not_by_two : (i p n : ℕ) (c s t : ℤ) (v : V) → i < count → p < count → n < count → p ≢ i → n ≢ i → pos 0 <ℤ c → pos 0 ≤ℤ s → pos 0 ≤ℤ t → SpansBy L Nothing v → ((j : ℕ) → c *ℤ r i j ≡ (s *ℤ r p j +ℤ t *ℤ r n j) +ℤ v j) → ⊥
