@@ -2,3 +2,4 @@ pub mod RowListLemmas
 pub mod DotLemmas
 pub mod ColumnLemmas
 pub mod CellLemmas
+pub mod ContentLemmas

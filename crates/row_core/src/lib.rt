@@ -10,8 +10,10 @@ mod buffers;
 mod counting;
 mod errors;
 mod linear;
+mod primitive;
 
 pub use buffers::{RowBuf, RowList};
 pub use counting::Steps;
 pub use errors::{ConvErr, Memory, OverKind, Overflow, PairOver};
 pub use linear::{combine_into, dot};
+pub use primitive::{gcd, make_primitive};

@@ -1,0 +1,78 @@
+//! Greatest common divisors, and rows divided by that of their entries.
+ghost use Rattle.std.specs.Prelude.{◌≡◌, ℕ, ◌^◌, ◌<◌, length, pos, unsigned_abs, ◌<ℤ◌, ◌*ℤ◌};
+ghost use Rattle.std.specs.Int.{IsGcd};
+ghost use Prim.Native.Nat.{◌∣◌};
+ghost use Rattle.row_core.specs.Vectors.{scale};
+ghost use Rattle.row_core.specs.Range.{InRange, AllInRange};
+ghost use Rattle.row_core.specs.Content.{DividesAll, IsPrimitive, IsMultipleOf};
+
+/// The greatest common divisor, by Euclid's algorithm. That of 0 and 0 is 0.
+pub fn gcd(a: u128, b: u128) -> u128
+    ensures { IsGcd a b result }
+{
+    let mut x = a;
+    let mut y = b;
+    while y != 0 {
+        let rest = x % y;
+        x = y;
+        y = rest;
+    }
+    x
+}
+
+/// The greatest common divisor of the entries, and 0 where all are 0.
+fn content(row: &[i128]) -> u128
+    requires { AllInRange row.now }
+    ensures divides { DividesAll result row.now }
+    ensures greatest { (d : ℕ) → DividesAll d row.now → d ∣ result }
+    ensures below { result < 2 ^ 127 }
+{
+    let mut divisor = 0;
+    for j in 0..row.len() {
+        divisor = gcd(divisor, row[j].unsigned_abs());
+        if divisor == 1 {
+            return 1;
+        }
+    }
+    divisor
+}
+
+/// An exact quotient.
+#[inline]
+fn quotient(x: i128, divisor: i128) -> i128
+    requires in_range { InRange x }
+    requires positive { pos 0 <ℤ divisor }
+    requires divides { unsigned_abs divisor ∣ unsigned_abs x }
+    ensures value { x ≡ divisor *ℤ result }
+    ensures in_range { InRange result }
+{
+    x / divisor
+}
+
+/// Divides each entry.
+fn divide_all(row: &mut [i128], divisor: i128)
+    requires in_range { AllInRange row.old }
+    requires positive { pos 0 <ℤ divisor }
+    requires divides { DividesAll (unsigned_abs divisor) row.old }
+    ensures multiple { row.old ≡ scale divisor row.new }
+    ensures in_range { AllInRange row.new }
+{
+    for j in 0..row.len() {
+        row[j] = quotient(row[j], divisor);
+    }
+}
+
+/// Divides the row by the greatest common divisor of its entries. It keeps all signs, and leaves an
+/// all-zero row.
+pub fn make_primitive(row: &mut [i128])
+    requires { AllInRange row.old }
+    ensures in_range { AllInRange row.new }
+    ensures width { length row.new ≡ length row.old }
+    ensures multiple { IsMultipleOf row.old row.new }
+    ensures primitive { IsPrimitive row.new }
+{
+    let divisor = content(row);
+    if divisor > 1 {
+        divide_all(row, divisor as i128);
+    }
+}
