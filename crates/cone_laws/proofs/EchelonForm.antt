@@ -1,5 +1,5 @@
 -- Reduced echelon form: the unit vectors have it, and both kinds of step keep it.
-use Rattle.std.specs.Prelude.{◌≡◌, ◌≢◌, ℕ, ◌+◌, ◌<◌, ◌≤◌, List, [], ◌∷◌, ◌++◌, length, slice_index_or, remove, Bool, true, false, cond, if◌then◌else◌, ℤ, pos, negsuc, ◌-ℤ◌, ◌+ℤ◌, neg_ℤ, ◌<ℤ◌, ◌⊎◌, All, filter, unsigned_abs, refl}
+use Rattle.std.specs.Prelude.{◌≡◌, ◌≢◌, ℕ, ◌+◌, ◌<◌, ◌≤◌, List, [], ◌∷◌, length, slice_index_or, remove, Bool, true, false, cond, if◌then◌else◌, ℤ, pos, negsuc, ◌-ℤ◌, ◌<ℤ◌, ◌⊎◌, All, filter, unsigned_abs, refl}
 use Prim.Native.Nat.{suc, zero, ◌∣◌}
 use lib.Dec.{ltb}
 use Rattle.std.proofs.Math.IntN.{◌*ℤ◌}
@@ -10,10 +10,10 @@ use Rattle.std.proofs.lemmas.Bool.{cases_lt, cond-true, cond-false, lt-ltb, le-l
 use Rattle.std.proofs.lemmas.List.Edits.{length-remove, get_or-remove_below, get_or-remove_above}
 use Rattle.std.proofs.lemmas.List.Elements.{All-append, All-filter, All-from_get_or, All-nil, All-cons}
 use Rattle.row_core.specs.Vectors.{cell, dot, scale}
-use Rattle.row_core.specs.Content.{IsPrimitive, DividesAll}
+use Rattle.row_core.specs.Content.{IsPrimitive}
 use Rattle.row_core.specs.Lists.{Row}
 use Rattle.cone_laws.specs.Canon.{vector_at, IsPivot, IsEchelon}
-use Rattle.cone_laws.specs.Steps.{AreUnits, Pointwise, IsPair, IsMade, IsMadeOf, pair_at, IsRayStep, stays, sign, IsLoweredBy, IsLowered, upward, IsLastCrossing, IsLineStep}
+use Rattle.cone_laws.specs.Steps.{AreUnits, IsMade, pair_at, IsRayStep, stays, sign, IsLowered, upward, IsLineStep}
 use Rattle.cone_laws.proofs.Ring.{zero_of_mul, positive_of_mul, mul-positive}
 
 -- ---- the entries of a lowered vector

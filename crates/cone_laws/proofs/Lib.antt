@@ -9,3 +9,5 @@ pub mod Columns
 pub mod Bridge
 pub mod Systems
 pub mod Adjacent
+pub mod Lowering
+pub mod Crossings
