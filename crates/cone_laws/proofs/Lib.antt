@@ -11,3 +11,5 @@ pub mod Systems
 pub mod Adjacent
 pub mod Lowering
 pub mod Crossings
+pub mod UptoRows
+pub mod LineSteps
