@@ -13,3 +13,4 @@ pub mod Lowering
 pub mod Crossings
 pub mod UptoRows
 pub mod LineSteps
+pub mod RaySteps
