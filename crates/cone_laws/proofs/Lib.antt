@@ -14,3 +14,5 @@ pub mod Crossings
 pub mod UptoRows
 pub mod LineSteps
 pub mod RaySteps
+pub mod Spanning
+pub mod GeneratedSteps

@@ -1,19 +1,19 @@
 -- A step with a row that is 0 on all lines, over lists: the rays that stay and a ray for each pair on the two sides of the row generate the cone of one row more.
-use Rattle.std.proofs.Common.{◌≡◌, ◌≢◌, ◌⊎◌, inl, inr, length-append, ℕ, zero, suc, ◌+◌, ◌<◌, ◌≤◌, List, [], ◌∷◌, ◌++◌, length, slice_index_or, Bool, true, false, cond, filter, Contains, ℤ, pos, negsuc, ◌+ℤ◌, ◌-ℤ◌, ◌*ℤ◌, neg_ℤ, ◌≤ℤ◌, ◌<ℤ◌, All, refl, sym, ap, ◌∙◌, subst, arith}
+use Rattle.std.proofs.Common.{◌≡◌, inl, inr, length-append, ℕ, zero, suc, ◌+◌, ◌<◌, List, [], ◌∷◌, ◌++◌, length, slice_index_or, Bool, true, false, cond, filter, ℤ, pos, ◌+ℤ◌, ◌-ℤ◌, ◌*ℤ◌, neg_ℤ, ◌≤ℤ◌, ◌<ℤ◌, All, refl, sym, ap, ◌∙◌, subst, arith}
 use Rattle.std.proofs.lemmas.Int.{ints}
 use Rattle.std.proofs.lemmas.List.{get_or_default, get_or_append_left, get_or-append-add}
 use Rattle.std.proofs.lemmas.List.Elements.{All-from_get_or}
-use Rattle.row_core.specs.Vectors.{cell, dot, scale}
+use Rattle.row_core.specs.Vectors.{cell, dot}
 use Rattle.row_core.specs.Lists.{Row}
-use Rattle.cone_laws.specs.Cones.{Meets, Upto, Spans, Generates, HasLineality, negated}
+use Rattle.cone_laws.specs.Cones.{Upto, Generates, HasLineality, negated}
 use Rattle.cone_laws.specs.Canon.{vector_at}
-use Rattle.cone_laws.specs.Steps.{IsRowAt, Pointwise, IsPair, IsOpposite, stays}
+use Rattle.cone_laws.specs.Steps.{IsRowAt, IsPair, IsOpposite, stays}
 use Rattle.cone_laws.proofs.Ring.{ring, zero_of_mul}
-use Rattle.cone_laws.proofs.Sums.{V, Same, Nothing, SpansBy, IsLinear, sums_one_line, sums_one_ray, spans_sums, spans_spans, same_value}
-use Rattle.cone_laws.proofs.Columns.{value, value_linear, dot_is, dot-negated, length-scale}
+use Rattle.cone_laws.proofs.Sums.{V, Same, Nothing, SpansBy, sums_one_line, sums_one_ray, spans_sums, spans_spans, same_value}
+use Rattle.cone_laws.proofs.Columns.{value, value_linear, dot_is, dot-negated}
 use Rattle.cone_laws.proofs.Bridge.{In, in_at, columns, to_sums, from_sums}
-use Rattle.cone_laws.proofs.Crossings.{At, Above, Beneath, PairOf, Cut, Half, cut_spans, half_spans}
-use Rattle.cone_laws.proofs.UptoRows.{Asks, zero_asks, IsSumOf, dot_sum, IsZeroOn, both_zero, upto_sum, upto_less, upto_row, upto_more}
+use Rattle.cone_laws.proofs.Crossings.{Above, Beneath, PairOf, Cut, Half, cut_spans, half_spans}
+use Rattle.cone_laws.proofs.UptoRows.{Asks, zero_asks, IsSumOf, dot_sum, upto_sum, upto_less, upto_row, upto_more}
 
 -- ---- which rays stay
 pub asks_stays : (eq : Bool) (x : ℤ) → Asks eq x → stays eq x ≡ true
@@ -30,8 +30,10 @@ pair_as_sum x p u q v e = e ∙ simp ring
 
 abbrev as_sum_of : (a p n r : List ℤ) → IsPair a p n r → IsSumOf r (dot a p) n (neg_ℤ (dot a n)) p
 as_sum_of a p n r b = record {
-  times = b.times; positive = b.positive;
-  same = λ j. pair_as_sum (b.times *ℤ cell r j) (dot a p) (cell n j) (dot a n) (cell p j) (b.same j) }
+  times = b.times;
+  positive = b.positive;
+  same = λ j. pair_as_sum (b.times *ℤ cell r j) (dot a p) (cell n j) (dot a n) (cell p j) (b.same j);
+}
 
 pair_value : (t r p n : ℤ) → t *ℤ r ≡ p *ℤ n +ℤ neg_ℤ n *ℤ p → t *ℤ r ≡ pos 0
 pair_value t r p n e = let f : p *ℤ n +ℤ neg_ℤ n *ℤ p ≡ pos 0 = simp ring (omega (arith, ints)) in e ∙ f
@@ -42,8 +44,8 @@ pair_dot a p n r b = zero_of_mul b.times (dot a r) b.positive (pair_value b.time
 pub pair_within : (width : ℕ) (rows : List Row) (k : ℕ) (a : List ℤ) (eq : Bool) → IsRowAt rows k (a, eq) → (p n r : List ℤ) → pos 0 <ℤ dot a p → dot a n <ℤ pos 0 → IsPair a p n r → length r ≡ width → Upto width rows k p → Upto width rows k n → Upto width rows (k + 1) r
 pair_within width rows k a eq row p n r above below b w up un =
     upto_more width rows k (a, eq) r row
-      (upto_sum width rows k r (dot a p) n (neg_ℤ (dot a n)) p (as_sum_of a p n r b) w (omega (arith, ints)) (omega (arith, ints)) un up)
-      (zero_asks eq (dot a r) (pair_dot a p n r b))
+    (upto_sum width rows k r (dot a p) n (neg_ℤ (dot a n)) p (as_sum_of a p n r b) w (omega (arith, ints)) (omega (arith, ints)) un up)
+    (zero_asks eq (dot a r) (pair_dot a p n r b))
 
 -- ---- places in lists
 -- the vector stands in the list
@@ -72,13 +74,15 @@ pub stands_left : (xs ys : List (List ℤ)) (v : List ℤ) → Stands xs v → S
 stands_left xs ys v s = record {
   place = s.place;
   below = omega (arith, length-append xs ys, s.below);
-  same = s.same ∙ sym (get_or_append_left xs ys [] s.place s.below) }
+  same = s.same ∙ sym (get_or_append_left xs ys [] s.place s.below);
+}
 
 pub stands_right : (xs ys : List (List ℤ)) (v : List ℤ) → Stands ys v → Stands (xs ++ ys) v
 stands_right xs ys v s = record {
   place = length xs + s.place;
   below = omega (arith, length-append xs ys, s.below);
-  same = s.same ∙ sym (get_or-append-add xs ys s.place []) }
+  same = s.same ∙ sym (get_or-append-add xs ys s.place []);
+}
 
 -- ---- the step
 -- a new ray: an old one that meets the row, or the pair of two on its two sides
@@ -102,9 +106,10 @@ module _ (width : ℕ) (rows : List Row) (k : ℕ) (a : List ℤ) (lines rays : 
   pub lines_stay : (eq : Bool) → IsRowAt rows k (a, eq) → All (λ l. Upto width rows (k + 1) l × Upto width rows (k + 1) (negated l)) lines
   lines_stay eq row m d h =
       let l = slice_index_or lines m d in
-      let z : dot a l ≡ pos 0 = subst (λ (v : List ℤ). dot a v ≡ pos 0) (get_or_default lines m [] d h) (flat m h) in
-      (upto_more width rows k (a, eq) l row (gen.lines_within m d h).0 (zero_asks eq (dot a l) z),
-       upto_more width rows k (a, eq) (negated l) row (gen.lines_within m d h).1 (zero_asks eq (dot a (negated l)) (dot-negated a l ∙ ap neg_ℤ z)))
+      let z : dot a l ≡ pos 0 = subst (λ (v : List ℤ). dot a v ≡ pos 0) (get_or_default lines m [] d h) (flat m h) in (
+        upto_more width rows k (a, eq) l row (gen.lines_within m d h).0 (zero_asks eq (dot a l) z),
+        upto_more width rows k (a, eq) (negated l) row (gen.lines_within m d h).1 (zero_asks eq (dot a (negated l)) (dot-negated a l ∙ ap neg_ℤ z)),
+      )
 
   new_within : (eq : Bool) → IsRowAt rows k (a, eq) → (r : List ℤ) → IsNew width a eq rays r → Upto width rows (k + 1) r
   new_within eq row r (stayed s h) = upto_more width rows k (a, eq) r row (subst (Upto width rows k) (sym s.same) (gen.rays_within s.place [] s.below)) h
@@ -124,16 +129,18 @@ module _ (width : ℕ) (rows : List Row) (k : ℕ) (a : List ℤ) (lines rays : 
 
   is_opposite : (p n : V) (f : Above (In rays) map p) (g : Beneath (In rays) map n) → IsOpposite a rays f.is.index g.is.index
   is_opposite p n f g = record {
-    first = f.is.is; second = g.is.is;
+    first = f.is.is;
+    second = g.is.is;
     above = subst (λ (z : ℤ). pos 0 <ℤ z) (map_is f.is.index p f.is.same) f.positive;
-    below = subst (λ (z : ℤ). z <ℤ pos 0) (map_is g.is.index n g.is.same) g.negative }
+    below = subst (λ (z : ℤ). z <ℤ pos 0) (map_is g.is.index n g.is.same) g.negative;
+  }
 
   pair_spanned : (new : List (List ℤ)) → ((p n : ℕ) → IsOpposite a rays p n → HasPair a rays new p n) → (x : V) → PairOf (In rays) map x → SpansBy (In lines) (In new) x
   pair_spanned new pairs x m =
       let h = pairs m.above.is.index m.below.is.index (is_opposite m.first m.second m.above m.below) in
       spans_sums x (sums_one_ray h.pair.times (columns new h.place) x (omega (arith, ints, h.pair.positive)) (in_at new h.place h.below)
-        (λ j. pair_columns (x j) h.pair.times (columns new h.place j) (m.first j) (m.second j) (map m.first) (map m.second) (columns rays m.above.is.index j) (columns rays m.below.is.index j) (dot a (vector_at rays m.above.is.index)) (dot a (vector_at rays m.below.is.index))
-          (h.pair.same j) (m.above.is.same j) (m.below.is.same j) (map_is m.above.is.index m.first m.above.is.same) (map_is m.below.is.index m.second m.below.is.same) (m.same j)))
+      (λ j. pair_columns (x j) h.pair.times (columns new h.place j) (m.first j) (m.second j) (map m.first) (map m.second) (columns rays m.above.is.index j) (columns rays m.below.is.index j) (dot a (vector_at rays m.above.is.index)) (dot a (vector_at rays m.below.is.index))
+      (h.pair.same j) (m.above.is.same j) (m.below.is.same j) (map_is m.above.is.index m.first m.above.is.same) (map_is m.below.is.index m.second m.below.is.same) (m.same j)))
 
   cut_spanned : (new : List (List ℤ)) → ((i : ℕ) → i < length rays → dot a (vector_at rays i) ≡ pos 0 → Stands new (vector_at rays i)) → ((p n : ℕ) → IsOpposite a rays p n → HasPair a rays new p n) → (x : V) → Cut (In rays) map x → SpansBy (In lines) (In new) x
   cut_spanned new zeros pairs x (inl m) = same_ray new x m.is (zeros m.is.index m.is.is (sym (map_is m.is.index x m.is.same) ∙ m.zero))
@@ -158,16 +165,18 @@ module _ (width : ℕ) (rows : List Row) (k : ℕ) (a : List ℤ) (lines rays : 
     lines_within = lines_stay true row;
     rays_within = All-from_get_or (Upto width rows (k + 1)) new [] (λ i h. new_within true row (vector_at new i) (within i h));
     spans = λ v u.
-      from_sums lines new v
+        from_sums lines new v
         (spans_spans line_itself (cut_spanned new stay pairs) (cell v)
-          (cut_spans (In lines) (In rays) map (value_linear a) map_flat (cell v) (old_spans v (upto_less width rows k v u)) (sym (dot_is a v) ∙ upto_row width rows k (a, true) v row u))) }
+        (cut_spans (In lines) (In rays) map (value_linear a) map_flat (cell v) (old_spans v (upto_less width rows k v u)) (sym (dot_is a v) ∙ upto_row width rows k (a, true) v row u)));
+  }
   rays_generate false row new within stay pairs = record {
     lines_within = lines_stay false row;
     rays_within = All-from_get_or (Upto width rows (k + 1)) new [] (λ i h. new_within false row (vector_at new i) (within i h));
     spans = λ v u.
-      from_sums lines new v
+        from_sums lines new v
         (spans_spans line_itself (half_spanned new stay pairs) (cell v)
-          (half_spans (In lines) (In rays) map (value_linear a) map_flat (cell v) (old_spans v (upto_less width rows k v u)) (subst (λ (z : ℤ). pos 0 ≤ℤ z) (dot_is a v) (upto_row width rows k (a, false) v row u)))) }
+        (half_spans (In lines) (In rays) map (value_linear a) map_flat (cell v) (old_spans v (upto_less width rows k v u)) (subst (λ (z : ℤ). pos 0 ≤ℤ z) (dot_is a v) (upto_row width rows k (a, false) v row u))));
+  }
 
 -- the lines of the cone of one row less, if the row is 0 on them
 pub lineality_stays : (width : ℕ) (rows : List Row) (k : ℕ) (lines : List (List ℤ)) → HasLineality (Upto width rows k) lines → HasLineality (Upto width rows (k + 1)) lines

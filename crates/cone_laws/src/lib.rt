@@ -2,3 +2,4 @@
 #![tactic(auto)]
 
 pub mod echelon;
+pub mod steps;
