@@ -16,3 +16,4 @@ pub mod LineSteps
 pub mod RaySteps
 pub mod Spanning
 pub mod GeneratedSteps
+pub mod Ratios
