@@ -32,19 +32,17 @@ line_step_generates width rows k row lines rays new_lines new_rays at g s =
     }
 
 -- ---- the ray step with all pairs
-module _ (width : ℕ) (row : Row) (rays new : List (List ℤ)) (wide : All (λ r. length r ≡ width) rays) (s : IsFullRayStep row rays new) where
-  abbrev test : List ℤ → Bool
-  test r = stays row.1 (dot row.0 r)
+-- the rays that stay are new ones
+pub stay_new : (width : ℕ) (row : Row) (rays : List (List ℤ)) (i : ℕ) → i < length (filter (λ r. stays row.1 (dot row.0 r)) rays) → IsNew width row.0 row.1 rays (vector_at (filter (λ r. stays row.1 (dot row.0 r)) rays) i)
+stay_new width row rays i h =
+    let test : List ℤ → Bool = λ r. stays row.1 (dot row.0 r) in
+    let v : List ℤ = vector_at (filter test rays) i in
+    let c : Contains rays v = All-filter test (Contains rays) rays (All-contains_itself rays) i [] h in
+    stayed (record { place = c.0; below = c.1; same = sym c.2 ∙ get_or_default rays c.0 v [] c.1 }) (stays_asks row.1 (dot row.0 v) (filter_passes test rays i [] h))
 
+module _ (width : ℕ) (row : Row) (rays new : List (List ℤ)) (wide : All (λ r. length r ≡ width) rays) (s : IsFullRayStep row rays new) where
   abbrev stay : List (List ℤ)
   stay = filter (λ r. stays row.1 (dot row.0 r)) rays
-
-  stay_new : (i : ℕ) → i < length stay → IsNew width row.0 row.1 rays (vector_at stay i)
-  stay_new i h =
-      let c : Contains rays (vector_at stay i) = All-filter test (Contains rays) rays (All-contains_itself rays) i [] h in
-      stayed
-      (record { place = c.0; below = c.1; same = sym c.2 ∙ get_or_default rays c.0 (vector_at stay i) [] c.1 })
-      (stays_asks row.1 (dot row.0 (vector_at stay i)) (filter_passes test rays i [] h))
 
   made_new : (i : ℕ) → i < length s.made → IsNew width row.0 row.1 rays (vector_at s.made i)
   made_new i h =
@@ -56,11 +54,11 @@ module _ (width : ℕ) (row : Row) (rays new : List (List ℤ)) (wide : All (λ 
   all_new i h = by_place (cases_lt i (length stay))
     where
       by_place : (i < length stay) ⊎ (length stay ≤ i) → IsNew width row.0 row.1 rays (vector_at (stay ++ s.made) i)
-      by_place (inl l) = subst (IsNew width row.0 row.1 rays) (sym (get_or_append_left stay s.made [] i l)) (stay_new i l)
+      by_place (inl l) = subst (IsNew width row.0 row.1 rays) (sym (get_or_append_left stay s.made [] i l)) (stay_new width row rays i l)
       by_place (inr l) = subst (IsNew width row.0 row.1 rays) (sym (get_or-append_right stay s.made (length stay) i [] refl l)) (made_new (i - length stay) (omega (arith, length-append stay s.made)))
 
   stays_stand : (i : ℕ) → i < length rays → Asks row.1 (dot row.0 (vector_at rays i)) → Stands (stay ++ s.made) (vector_at rays i)
-  stays_stand i h q = stands_left stay s.made (vector_at rays i) (filter_stands test rays i h (asks_stays row.1 (dot row.0 (vector_at rays i)) q))
+  stays_stand i h q = stands_left stay s.made (vector_at rays i) (filter_stands (λ r. stays row.1 (dot row.0 r)) rays i h (asks_stays row.1 (dot row.0 (vector_at rays i)) q))
 
   has_pair : (p n : ℕ) → IsOpposite row.0 rays p n → HasPair row.0 rays (stay ++ s.made) p n
   has_pair p n o =

@@ -17,3 +17,5 @@ pub mod RaySteps
 pub mod Spanning
 pub mod GeneratedSteps
 pub mod Ratios
+pub mod Existence
+pub mod Bipolar

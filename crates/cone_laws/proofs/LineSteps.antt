@@ -84,7 +84,7 @@ lowered_dot a l w r b =
     zero_of_mul b.times (dot a r) b.positive
     (lowered_value b.times (dot a r) (dot a l) (dot a w) (pos (unsigned_abs (dot a l))) (dot_sum a r (pos (unsigned_abs (dot a l))) w (neg_ℤ (sign (dot a l) *ℤ dot a w)) l (as_sum_of a l w r b)) (sign-mul (dot a l)))
 
-not_negative : (n : ℕ) → pos 0 ≤ℤ pos n
+pub not_negative : (n : ℕ) → pos 0 ≤ℤ pos n
 not_negative n = omega (arith, ints)
 
 pub lowered_within : (width : ℕ) (rows : List Row) (k : ℕ) (a : List ℤ) (eq : Bool) → IsRowAt rows k (a, eq) → (l w r : List ℤ) → LowersTo a l w r → IsZeroOn rows k l → Upto width rows k w → Upto width rows (k + 1) r

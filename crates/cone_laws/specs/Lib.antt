@@ -3,3 +3,4 @@ pub mod Canon
 pub mod Steps
 pub mod EchelonLaws
 pub mod StepLaws
+pub mod Duality

@@ -1,5 +1,6 @@
 //! Cones of rows, what lines and rays span, and the laws of the canonical system.
 #![tactic(auto)]
 
+pub mod duality;
 pub mod echelon;
 pub mod steps;
