@@ -19,3 +19,4 @@ pub mod GeneratedSteps
 pub mod Ratios
 pub mod Existence
 pub mod Bipolar
+pub mod PointwiseLists
