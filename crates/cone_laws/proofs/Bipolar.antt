@@ -16,7 +16,7 @@ use Rattle.cone_laws.proofs.Bridge.{In, from_sums}
 use Rattle.cone_laws.proofs.Spanning.{at_least_zero_on_spanned}
 use Rattle.cone_laws.proofs.UptoRows.{Asks, zero_asks, asks_least, IsSumOf, dot_sum, IsZeroOn, both_zero, scale_zero, upto_zero, upto_more}
 use Rattle.cone_laws.proofs.LineSteps.{LowersTo, magnitude_positive, lowered_within, negated_lowered_within, upward_dot, not_negative}
-use Rattle.cone_laws.proofs.RaySteps.{Stands, pair_within, lines_stay}
+use Rattle.cone_laws.proofs.OppositeRays.{Stands, pair_within, lines_stay}
 use Rattle.cone_laws.proofs.Ratios.{shift}
 use Rattle.cone_laws.proofs.Existence.{both, cell-both, length-both, lowered_row, lowers_row, pair_row, pairs_row, Crosses, AllFlat, crossing_or_flat, has_system, row_is_at}
 

@@ -13,7 +13,7 @@ use Rattle.cone_laws.proofs.Ring.{ring, same_or_not, by_sign}
 use Rattle.cone_laws.proofs.Columns.{cell-add, cell-scale, length-add, length-scale}
 use Rattle.cone_laws.proofs.Spanning.{units_generate}
 use Rattle.cone_laws.proofs.LineSteps.{LowersTo, rest_in_whole, generates_more, lineality_more}
-use Rattle.cone_laws.proofs.RaySteps.{asks_stays, filter_stands, stands_left, IsNew, paired, HasPair, rays_generate, lineality_stays}
+use Rattle.cone_laws.proofs.OppositeRays.{asks_stays, filter_stands, stands_left, IsNew, paired, HasPair, rays_generate, lineality_stays}
 use Rattle.cone_laws.proofs.GeneratedSteps.{stay_new}
 
 -- ---- the unit vectors

@@ -10,7 +10,7 @@ use Rattle.cone_laws.specs.Canon.{vector_at}
 use Rattle.cone_laws.specs.Steps.{IsRowAt, Pointwise, IsPair, IsOpposite, stays, pair_at, IsFullRayStep, IsLowered, IsLineStep}
 use Rattle.cone_laws.specs.StepLaws.{GeneratesUpto}
 use Rattle.cone_laws.proofs.LineSteps.{LowersTo, generates_more, lineality_more}
-use Rattle.cone_laws.proofs.RaySteps.{stays_asks, asks_stays, Stands, filter_stands, stands_left, IsNew, stayed, paired, HasPair, rays_generate, lineality_stays}
+use Rattle.cone_laws.proofs.OppositeRays.{stays_asks, asks_stays, Stands, filter_stands, stands_left, IsNew, stayed, paired, HasPair, rays_generate, lineality_stays}
 use Rattle.cone_laws.proofs.UptoRows.{Asks}
 
 -- ---- the line step

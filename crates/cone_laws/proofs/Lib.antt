@@ -13,7 +13,7 @@ pub mod Lowering
 pub mod Crossings
 pub mod UptoRows
 pub mod LineSteps
-pub mod RaySteps
+pub mod OppositeRays
 pub mod Spanning
 pub mod GeneratedSteps
 pub mod Ratios
