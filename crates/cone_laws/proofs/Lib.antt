@@ -8,8 +8,10 @@ pub mod EchelonForm
 pub mod Columns
 pub mod Bridge
 pub mod Systems
+pub mod Crossing
 pub mod Adjacent
 pub mod Lowering
 pub mod Crossings
 pub mod UptoRows
 pub mod LineSteps
+pub mod Spare
