@@ -15,3 +15,7 @@ pub mod Crossings
 pub mod UptoRows
 pub mod LineSteps
 pub mod Spare
+pub mod Instance
+pub mod Filtered
+pub mod ThirdRay
+pub mod RaySteps

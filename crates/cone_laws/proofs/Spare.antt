@@ -6,6 +6,7 @@ use Rattle.cone_laws.proofs.Sums.{V, IsMore, Same, Among, Sums, none, line, ray,
 use Rattle.cone_laws.proofs.Face.{face, zero_or_positive, same_without, same_beside, first_zero, rest_zero}
 use Rattle.cone_laws.proofs.Systems.{Others, System, IsFlat, ray_not_flat}
 use Rattle.cone_laws.proofs.Crossing.{pairing, IsCrossed, pairing_is_zero, crossing_first, crossing_second, crossing_zero, crossing_bent, crossing_within}
+use Rattle.cone_laws.proofs.ThirdRay.{same_number}
 
 -- a ray that stays, of those in Keep, or the combination of two adjacent rays on the two sides, of those in Make
 pub data Stepped (r : ℕ → V) (count : ℕ) (a : V → ℤ) (Adj : ℕ → ℕ → Type 0) (Keep : ℕ → Type 0) (Make : ℕ → ℕ → Type 0) (v : V) : Type 0 where
@@ -19,14 +20,6 @@ BesideMade r count a Adj p n = Stepped r count a Adj (λ j. Unit {0}) (λ q m. �
 -- all new rays but ray j
 abbrev pub BesideKept : (r : ℕ → V) (count : ℕ) (a : V → ℤ) (Adj : ℕ → ℕ → Type 0) → ℕ → V → Type 0
 BesideKept r count a Adj j = Stepped r count a Adj (λ i. i ≢ j) (λ q m. Unit {0})
-
-same_number : (m n : ℕ) → (m ≡ n) ⊎ (m ≢ n)
-same_number m n = by_order (grind arith)
-  where
-    by_order : ((m < n) ⊎ (n < m)) ⊎ (m ≡ n) → (m ≡ n) ⊎ (m ≢ n)
-    by_order (inl (inl h)) = inr (λ e. omega arith)
-    by_order (inl (inr h)) = inr (λ e. omega arith)
-    by_order (inr e) = inl e
 
 -- the whole factor of ray j, less that of the others
 difference_is : (t m x u : ℤ) → t *ℤ x ≡ m *ℤ x +ℤ u → (t -ℤ m) *ℤ x ≡ u

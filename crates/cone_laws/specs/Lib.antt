@@ -2,3 +2,4 @@ pub mod Cones
 pub mod Canon
 pub mod Steps
 pub mod EchelonLaws
+pub mod AdjacencyLaws
