@@ -5,18 +5,21 @@ use Rattle.std.proofs.lemmas.Int.{ints}
 use Rattle.std.proofs.lemmas.Bool.{cases_lt}
 use Rattle.std.proofs.lemmas.Bool.Decides.{Decides-int_eq}
 use Rattle.std.proofs.lemmas.List.{get_or_append_left, get_or-append-add, get_or_default}
-use Rattle.std.proofs.lemmas.List.Elements.{filter_passes}
+use Rattle.std.proofs.lemmas.List.Elements.{filter_passes, All-from_get_or}
 use Rattle.row_core.specs.Vectors.{cell, dot}
 use Rattle.row_core.specs.Lists.{Row, row_at}
 use Rattle.cone_laws.specs.Cones.{Upto, Generates, HasLineality, negated}
 use Rattle.cone_laws.specs.Canon.{vector_at, IsIrredundant}
 use Rattle.cone_laws.specs.Steps.{IsRowAt, NoThird, IsOpposite, IsCrossing, IsPair, stays, pair_at, IsRayStep}
-use Rattle.cone_laws.proofs.Ring.{neg-mul, zero-mul}
+use Rattle.cone_laws.specs.AdjacencyLaws.{IsMinimal}
+use Rattle.cone_laws.proofs.Ring.{ring, neg-mul, zero-mul, zero_of_mul}
 use Rattle.cone_laws.proofs.Sums.{V, Same, Among, Nothing, SpansBy, same_value, sums_one_line, sums_one_ray, spans_sums, spans_same, spans_of_multiple, spans_add, spans_spans}
-use Rattle.cone_laws.proofs.Columns.{value, value_linear, dot_is}
-use Rattle.cone_laws.proofs.Bridge.{columns, In}
-use Rattle.cone_laws.proofs.UptoRows.{Asks, asks_least}
-use Rattle.cone_laws.proofs.Crossing.{pairing, IsCrossed}
+use Rattle.cone_laws.proofs.Columns.{value, value_linear, dot_is, dot-negated}
+use Rattle.cone_laws.proofs.Bridge.{columns, In, to_sums, from_sums}
+use Rattle.cone_laws.proofs.UptoRows.{Asks, zero_asks, asks_least, IsSumOf, dot_sum, upto_sum, upto_less, upto_row, upto_more}
+use Rattle.cone_laws.proofs.Crossing.{pairing, IsCrossed, crossing_within, pairing_is_zero}
+use Rattle.cone_laws.proofs.Crossings.{At, Above, PairOf, Half, half_spans}
+use Rattle.cone_laws.proofs.Face.{zero_or_positive}
 use Rattle.cone_laws.proofs.Systems.{System}
 use Rattle.cone_laws.proofs.Adjacent.{Third, Reduced, level, crossed, reduced}
 use Rattle.cone_laws.proofs.Spare.{Stepped, stayed, made, BesideKept, BesideMade, kept_needed, made_needed}
@@ -41,6 +44,17 @@ beside_zero x c v e = omega (arith, ints, zero-mul v)
 
 spans_scale : {L R : V → Type 0} (c : ℤ) (v x : V) → pos 0 ≤ℤ c → SpansBy L R v → ((j : ℕ) → x j ≡ c *ℤ v j) → SpansBy L R x
 spans_scale c v x p s e = spans_add c (pos 0) v v x p (omega (arith, ints)) s s (λ j. beside_zero (x j) c (v j) (e j))
+
+crossed_zero : (x y : ℤ) → x *ℤ y +ℤ neg_ℤ y *ℤ x ≡ pos 0
+crossed_zero x y = simp ring (omega (arith, ints))
+
+pair_column : (x n y p vx vn vy vp : ℤ) → x ≡ vx → n ≡ vn → y ≡ vy → p ≡ vp → x *ℤ n -ℤ y *ℤ p ≡ vx *ℤ vn +ℤ neg_ℤ vy *ℤ vp
+pair_column x n y p vx vn vy vp e f g h = rw (e, f, g, h) (omega (arith, ints, neg-mul vy vp))
+
+-- where one value above 0 meets the row, each does
+above_asks : (eq : Bool) (x y : ℤ) → Asks eq x → pos 0 <ℤ x → pos 0 <ℤ y → Asks eq y
+above_asks true x y h p q = absurd (omega (arith, ints))
+above_asks false x y h p q = omega (arith, ints)
 
 one_line : {L : V → Type 0} (l : V) → L l → SpansBy L Nothing l
 one_line l m = spans_sums l (sums_one_line (pos 1) l l m (λ j. omega (arith, ints)))
@@ -244,3 +258,90 @@ module _ (rows : List Row) (k : ℕ) (row : Row) (rays new : List (List ℤ)) (s
 
     pub new_irredundant : IsIrredundant lines new
     new_irredundant = subst (λ (r : List (List ℤ)). IsIrredundant lines r) (sym step.result) (needed_by_lists lines whole required)
+
+    -- ---- the cone of one row more
+    more_within : (v : List ℤ) → Upto width rows k v → Asks row.1 (dot row.0 v) → Upto width rows (k + 1) v
+    more_within v u h = upto_more width rows k row v at u h
+
+    line_within : (l : List ℤ) → dot row.0 l ≡ pos 0 → Upto width rows k l × Upto width rows k (negated l) → Upto width rows (k + 1) l × Upto width rows (k + 1) (negated l)
+    line_within l z u = (more_within l u.0 (zero_asks row.1 (dot row.0 l) z), more_within (negated l) u.1 (zero_asks row.1 (dot row.0 (negated l)) (dot-negated row.0 l ∙ ap neg_ℤ z)))
+
+    made_sum : (m : ℕ) (b : m < length step.made) → IsSumOf (vector_at step.made m) (dot row.0 (vector_at rays (pair_at step.pairs m).0)) (vector_at rays (pair_at step.pairs m).1) (neg_ℤ (dot row.0 (vector_at rays (pair_at step.pairs m).1))) (vector_at rays (pair_at step.pairs m).0)
+    made_sum m b = record { times = (is_pair m b).times; positive = (is_pair m b).positive; same = λ j. made_column (is_pair m b).times (cell (vector_at step.made m) j) (dot row.0 (vector_at rays (pair_at step.pairs m).0)) (columns rays (pair_at step.pairs m).1 j) (dot row.0 (vector_at rays (pair_at step.pairs m).1)) (columns rays (pair_at step.pairs m).0 j) (dot row.0 (vector_at rays (pair_at step.pairs m).0)) (dot row.0 (vector_at rays (pair_at step.pairs m).1)) ((is_pair m b).same j) refl refl }
+
+    made_within : (m : ℕ) → m < length step.made → Upto width rows (k + 1) (vector_at step.made m)
+    made_within m b = more_within (vector_at step.made m) (upto_sum width rows k (vector_at step.made m) (dot row.0 p) n (neg_ℤ (dot row.0 n)) p (made_sum m b) ((step.each_made.each m (0, 0) [] (pairs_below m b)).wide ∙ (gen.rays_within (pair_at step.pairs m).0 [] sides.first).wide) (omega (arith, ints, sides.above)) (omega (arith, ints, sides.below)) (gen.rays_within (pair_at step.pairs m).1 [] sides.second) (gen.rays_within (pair_at step.pairs m).0 [] sides.first)) (zero_asks row.1 (dot row.0 (vector_at step.made m)) zero_on_row)
+      where
+        p : List ℤ
+        p = vector_at rays (pair_at step.pairs m).0
+
+        n : List ℤ
+        n = vector_at rays (pair_at step.pairs m).1
+
+        sides : IsOpposite row.0 rays (pair_at step.pairs m).0 (pair_at step.pairs m).1
+        sides = (step.cross m (pairs_below m b)).opposite
+
+        zero_on_row : dot row.0 (vector_at step.made m) ≡ pos 0
+        zero_on_row = zero_of_mul (made_sum m b).times (dot row.0 (vector_at step.made m)) (made_sum m b).positive (dot_sum row.0 (vector_at step.made m) (dot row.0 p) n (neg_ℤ (dot row.0 n)) p (made_sum m b) ∙ crossed_zero (dot row.0 p) (dot row.0 n))
+
+    ray_within : (i : ℕ) → i < length whole → Upto width rows (k + 1) (vector_at whole i)
+    ray_within i b = by_place (new_at i b)
+      where
+        by_place : (i < length kept) ⊎ IsMadeAt i → Upto width rows (k + 1) (vector_at whole i)
+        by_place (inl c) = subst (λ (v : List ℤ). Upto width rows (k + 1) v) (sym (get_or_append_left kept step.made [] i c ∙ (place_is i c).same)) (more_within (vector_at rays (place i)) (gen.rays_within (place i) [] (place_is i c).below) (kept_asks i c))
+        by_place (inr c) = subst (λ (v : List ℤ). Upto width rows (k + 1) v) (sym (ap (λ (q : ℕ). vector_at whole q) c.at ∙ made_same c.number)) (made_within c.number c.below)
+
+    -- ---- all of it is spanned
+    reduced_new : (v : V) → Reduced (columns rays) (length rays) map Adj v → SpansBy (In lines) (In whole) v
+    reduced_new v (level j b z e) = spans_sums v (sums_one_ray (pos 1) v v (omega (arith, ints)) (stays_in j b (zero_asks row.1 (dot row.0 (vector_at rays j)) (sym (map_value (vector_at rays j)) ∙ z)) v e) (λ i. omega (arith, ints)))
+    reduced_new v (crossed p n c adjacent e) = crossed_spanned (In lines) p n (record { opposite = to_opposite p n c; adjacent = adjacent }) v e
+
+    on_row : (v : V) → InCone width rows k v → map v ≡ pos 0 → SpansBy (In lines) (In whole) v
+    on_row v m z = spans_spans one_line reduced_new v (reduced (In lines) (columns rays) (length rays) (map_at width rows k fits) k (InCone width rows k) sys map (value_linear row.0) lines_level Adj third v m z)
+
+    pair_new : (v : V) → PairOf (In rays) map v → SpansBy (In lines) (In whole) v
+    pair_new v m = spans_same (pairing map (columns rays p) (columns rays n)) v (on_row (pairing map (columns rays p) (columns rays n)) (crossing_within (In lines) (columns rays) (length rays) (map_at width rows k fits) k (InCone width rows k) sys map p n crossed_rays) (pairing_is_zero map (value_linear row.0) (columns rays p) (columns rays n))) (λ j. m.same j ∙ pair_column (map m.first) (m.second j) (map m.second) (m.first j) (map (columns rays p)) (columns rays n j) (map (columns rays n)) (columns rays p j) first_value (m.below.is.same j) second_value (m.above.is.same j))
+      where
+        p : ℕ
+        p = m.above.is.index
+
+        n : ℕ
+        n = m.below.is.index
+
+        first_value : map m.first ≡ map (columns rays p)
+        first_value = same_value map (value_linear row.0) m.first (columns rays p) m.above.is.same
+
+        second_value : map m.second ≡ map (columns rays n)
+        second_value = same_value map (value_linear row.0) m.second (columns rays n) m.below.is.same
+
+        crossed_rays : IsCrossed (columns rays) (length rays) map p n
+        crossed_rays = record { first = m.above.is.is; second = m.below.is.is; above = subst (λ (z : ℤ). pos 0 <ℤ z) first_value m.above.positive; below = subst (λ (z : ℤ). z <ℤ pos 0) second_value m.below.negative }
+
+    stays_new : (v : V) (m : In rays v) → Asks row.1 (map v) → SpansBy (In lines) (In whole) v
+    stays_new v m h = spans_sums v (sums_one_ray (pos 1) v v (omega (arith, ints)) (stays_in m.index m.is (subst (λ (z : ℤ). Asks row.1 z) (same_value map (value_linear row.0) v (columns rays m.index) m.same ∙ map_value (vector_at rays m.index)) h) v m.same) (λ i. omega (arith, ints)))
+
+    half_new : (x : ℤ) → Asks row.1 x → pos 0 <ℤ x → (v : V) → Half (In rays) map v → SpansBy (In lines) (In whole) v
+    half_new x h p v (inl (inl m)) = stays_new v m.is (zero_asks row.1 (map v) m.zero)
+    half_new x h p v (inl (inr m)) = pair_new v m
+    half_new x h p v (inr m) = stays_new v m.is (above_asks row.1 x (map v) h p m.positive)
+
+    new_spans : (v : List ℤ) → Upto width rows k v → Asks row.1 (dot row.0 v) → SpansBy (In lines) (In whole) (cell v)
+    new_spans v u h = by_value (zero_or_positive (dot row.0 v) (asks_least row.1 (dot row.0 v) h))
+      where
+        by_value : (dot row.0 v ≡ pos 0) ⊎ (pos 0 <ℤ dot row.0 v) → SpansBy (In lines) (In whole) (cell v)
+        by_value (inl z) = on_row (cell v) (record { vector = v; upto = u; same = λ j. refl }) (map_value v ∙ z)
+        by_value (inr p) = spans_spans one_line (half_new (dot row.0 v) h p) (cell v) (half_spans (In lines) (In rays) map (value_linear row.0) lines_level (cell v) (to_sums lines rays v (gen.spans v u)) (subst (λ (z : ℤ). pos 0 ≤ℤ z) (sym (map_value v)) (omega (arith, ints))))
+
+    whole_generates : Generates (Upto width rows (k + 1)) lines whole
+    whole_generates = record {
+      lines_within = λ i d b. line_within (slice_index_or lines i d) (lines_on i d b) (gen.lines_within i d b);
+      rays_within = All-from_get_or (Upto width rows (k + 1)) whole [] ray_within;
+      spans = λ v u. from_sums lines whole v (new_spans v (upto_less width rows k v u) (upto_row width rows k row v at u));
+    }
+
+    pub new_minimal : IsMinimal (Upto width rows (k + 1)) lines new
+    new_minimal = record {
+      generates = subst (λ (r : List (List ℤ)). Generates (Upto width rows (k + 1)) lines r) (sym step.result) whole_generates;
+      lineality = λ v u n. lineal v (upto_less width rows k v u) (upto_less width rows k (negated v) n);
+      irredundant = new_irredundant;
+    }
