@@ -6,7 +6,7 @@ use Rattle.cone_laws.proofs.Sums.{V, IsMore, Same, Among, Sums, none, line, ray,
 use Rattle.cone_laws.proofs.Supports.{support, IsZeroWith, support-le, support-lt, IsGreatest, HasGreatest, greatest_ratio}
 use Rattle.cone_laws.proofs.Face.{face, OnFace, zero_or_positive, same_without, same_beside}
 use Rattle.cone_laws.proofs.Systems.{Combines, System, IsFlat, ray_not_flat, unspanned}
-use Rattle.cone_laws.proofs.Crossing.{pairing, IsCrossed, zero_sum, pairing_is_zero, crossing_within, crossing_first, crossing_second, crossing_zero, crossing_bent, sides_differ}
+use Rattle.cone_laws.proofs.Sides.{pairing, IsCrossed, zero_sum, pairing_is_zero, crossing_within, crossing_first, crossing_second, crossing_zero, crossing_bent, sides_differ}
 use Rattle.cone_laws.proofs.Columns.{value_both}
 use Rattle.cone_laws.proofs.Bridge.{Below}
 

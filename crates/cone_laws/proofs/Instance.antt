@@ -1,16 +1,16 @@
 -- The cone of the first rows of a list is one of a system over columns, where its lines and rays generate it and no ray is to spare.
-use Rattle.std.proofs.Common.{◌≡◌, ◌≢◌, ◌⊎◌, inl, inr, ℕ, ◌+◌, ◌<◌, ◌≤◌, List, [], length, slice_index_or, Bool, true, false, ℤ, pos, ◌+ℤ◌, ◌*ℤ◌, neg_ℤ, ◌≤ℤ◌, remove, refl, sym, ap, ◌∙◌, subst, arith}
+use Rattle.std.proofs.Common.{◌≡◌, ◌⊎◌, inl, inr, ℕ, ◌<◌, ◌≤◌, List, [], length, slice_index_or, Bool, true, false, ℤ, pos, ◌+ℤ◌, ◌*ℤ◌, neg_ℤ, ◌≤ℤ◌, remove, refl, sym, ap, ◌∙◌, subst, arith}
 use Rattle.std.proofs.lemmas.Int.{ints}
 use Rattle.std.proofs.lemmas.List.{get_or_default}
 use Rattle.std.proofs.lemmas.List.Edits.{length-remove}
 use Rattle.row_core.specs.Vectors.{cell, dot, scale, add}
 use Rattle.row_core.specs.Lists.{Row, row_at}
-use Rattle.cone_laws.specs.Cones.{Spans, Upto, Generates, HasLineality, negated}
+use Rattle.cone_laws.specs.Cones.{Upto, Generates, HasLineality, negated}
 use Rattle.cone_laws.specs.Canon.{vector_at, IsIrredundant}
 use Rattle.cone_laws.proofs.Ring.{mul-zero}
 use Rattle.cone_laws.proofs.Sums.{V, Same, Nothing, Among, SpansBy, same_value, spans_same, spans_more}
-use Rattle.cone_laws.proofs.Columns.{value, value_linear, value_both, dot_is, cell-scale, cell-add, length-scale, length-add, dot-add, dot-scale}
-use Rattle.cone_laws.proofs.Bridge.{Below, columns, In, to_sums, to_lines, from_sums}
+use Rattle.cone_laws.proofs.Columns.{value, value_linear, dot_is, cell-scale, cell-add, length-scale, length-add, dot-add, dot-scale}
+use Rattle.cone_laws.proofs.Bridge.{columns, In, to_sums, to_lines, from_sums}
 use Rattle.cone_laws.proofs.EchelonForm.{old_place, old_place_is, old_place-other, remove-place}
 use Rattle.cone_laws.proofs.LineSteps.{InRest, whole_in_rest}
 use Rattle.cone_laws.proofs.UptoRows.{Asks, asks_least, IsZeroOn, upto_zero, both_zero, negated_zero}

@@ -8,7 +8,7 @@ pub mod EchelonForm
 pub mod Columns
 pub mod Bridge
 pub mod Systems
-pub mod Crossing
+pub mod Sides
 pub mod Adjacent
 pub mod Lowering
 pub mod Crossings
@@ -19,3 +19,5 @@ pub mod Instance
 pub mod Filtered
 pub mod ThirdRay
 pub mod RaySteps
+pub mod LineSpare
+pub mod FaceLists

@@ -1,5 +1,5 @@
 -- A step that combines adjacent rays, over lists: what stands where in the new list, and what the new rays span.
-use Rattle.std.proofs.Common.{◌≡◌, ◌≢◌, ◌⊎◌, inl, inr, ℕ, zero, suc, ◌+◌, ◌-◌, ◌<◌, ◌≤◌, List, [], ◌∷◌, ◌++◌, length, slice_index_or, Bool, true, false, ℤ, pos, negsuc, ◌+ℤ◌, ◌-ℤ◌, ◌*ℤ◌, neg_ℤ, ◌≤ℤ◌, ◌<ℤ◌, All, length-append, refl, sym, ap, ◌∙◌, subst, arith}
+use Rattle.std.proofs.Common.{◌≡◌, ◌≢◌, ◌⊎◌, inl, inr, ℕ, ◌+◌, ◌-◌, ◌<◌, ◌≤◌, List, [], ◌++◌, length, slice_index_or, Bool, true, false, ℤ, pos, ◌+ℤ◌, ◌-ℤ◌, ◌*ℤ◌, neg_ℤ, ◌≤ℤ◌, ◌<ℤ◌, All, length-append, refl, sym, ap, ◌∙◌, subst, arith}
 use Rattle.std.specs.List.{filter}
 use Rattle.std.proofs.lemmas.Int.{ints}
 use Rattle.std.proofs.lemmas.Bool.{cases_lt}
@@ -7,18 +7,18 @@ use Rattle.std.proofs.lemmas.Bool.Decides.{Decides-int_eq}
 use Rattle.std.proofs.lemmas.List.{get_or_append_left, get_or-append-add, get_or_default}
 use Rattle.std.proofs.lemmas.List.Elements.{filter_passes, All-from_get_or}
 use Rattle.row_core.specs.Vectors.{cell, dot}
-use Rattle.row_core.specs.Lists.{Row, row_at}
+use Rattle.row_core.specs.Lists.{Row}
 use Rattle.cone_laws.specs.Cones.{Upto, Generates, HasLineality, negated}
 use Rattle.cone_laws.specs.Canon.{vector_at, IsIrredundant}
 use Rattle.cone_laws.specs.Steps.{IsRowAt, NoThird, IsOpposite, IsCrossing, IsPair, stays, pair_at, IsRayStep}
 use Rattle.cone_laws.specs.AdjacencyLaws.{IsMinimal}
 use Rattle.cone_laws.proofs.Ring.{ring, neg-mul, zero-mul, zero_of_mul}
-use Rattle.cone_laws.proofs.Sums.{V, Same, Among, Nothing, SpansBy, same_value, sums_one_line, sums_one_ray, spans_sums, spans_same, spans_of_multiple, spans_add, spans_spans}
+use Rattle.cone_laws.proofs.Sums.{V, Same, Nothing, SpansBy, same_value, sums_one_line, sums_one_ray, spans_sums, spans_same, spans_of_multiple, spans_add, spans_spans}
 use Rattle.cone_laws.proofs.Columns.{value, value_linear, dot_is, dot-negated}
 use Rattle.cone_laws.proofs.Bridge.{columns, In, to_sums, from_sums}
 use Rattle.cone_laws.proofs.UptoRows.{Asks, zero_asks, asks_least, IsSumOf, dot_sum, upto_sum, upto_less, upto_row, upto_more}
-use Rattle.cone_laws.proofs.Crossing.{pairing, IsCrossed, crossing_within, pairing_is_zero}
-use Rattle.cone_laws.proofs.Crossings.{At, Above, PairOf, Half, half_spans}
+use Rattle.cone_laws.proofs.Sides.{pairing, IsCrossed, crossing_within, pairing_is_zero}
+use Rattle.cone_laws.proofs.Crossings.{PairOf, Half, half_spans}
 use Rattle.cone_laws.proofs.Face.{zero_or_positive}
 use Rattle.cone_laws.proofs.Systems.{System}
 use Rattle.cone_laws.proofs.Adjacent.{Third, Reduced, level, crossed, reduced}

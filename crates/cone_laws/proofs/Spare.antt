@@ -5,7 +5,7 @@ use Rattle.cone_laws.proofs.Ring.{ring, mul_comm, add-mul, mul-at_least_zero, mu
 use Rattle.cone_laws.proofs.Sums.{V, IsMore, Same, Among, Sums, none, line, ray, Nothing, SpansBy, IsLinear, same_value, sums_same, sums_more, sums_zero, sums_at_least_zero}
 use Rattle.cone_laws.proofs.Face.{face, zero_or_positive, same_without, same_beside, first_zero, rest_zero}
 use Rattle.cone_laws.proofs.Systems.{Others, System, IsFlat, ray_not_flat}
-use Rattle.cone_laws.proofs.Crossing.{pairing, IsCrossed, pairing_is_zero, crossing_first, crossing_second, crossing_zero, crossing_bent, crossing_within}
+use Rattle.cone_laws.proofs.Sides.{pairing, IsCrossed, pairing_is_zero, crossing_first, crossing_second, crossing_zero, crossing_bent, crossing_within}
 use Rattle.cone_laws.proofs.ThirdRay.{same_number}
 
 -- a ray that stays, of those in Keep, or the combination of two adjacent rays on the two sides, of those in Make

@@ -1,4 +1,5 @@
 //! Cones of rows, what lines and rays span, and the laws of the canonical system.
 #![tactic(auto)]
 
+pub mod adjacency;
 pub mod echelon;
