@@ -146,9 +146,6 @@ module _ (rows : List Row) (k : ℕ) (row : Row) (rays new : List (List ℤ)) (s
   }
 
   -- ---- what the new list spans
-  kept_in : (i : ℕ) → i < length kept → (v : V) → Same v (columns rays (place i)) → In whole v
-  kept_in i b v e = record { index = i; is = omega (arith, length-append kept step.made); same = λ j. e j ∙ sym (kept_same i b j) }
-
   made_in : (m : ℕ) → m < length step.made → In whole (columns whole (length kept + m))
   made_in m b = record { index = length kept + m; is = omega (arith, length-append kept step.made); same = λ j. refl }
 
