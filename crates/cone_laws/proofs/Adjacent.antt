@@ -4,8 +4,9 @@ use Rattle.std.proofs.lemmas.Int.{ints}
 use Rattle.cone_laws.proofs.Ring.{ring, mul_comm, mul-at_least_zero, mul-positive, neg-mul, mul-neg, mul-zero, zero-mul, zero_of_mul, by_sign}
 use Rattle.cone_laws.proofs.Sums.{V, IsMore, Same, Among, Sums, none, line, ray, Nothing, SpansBy, IsLinear, same_value, sums_same, sums_zero, sums_one_ray, spans_sums, spans_of_multiple, spans_add, spans_from_lines}
 use Rattle.cone_laws.proofs.Supports.{support, IsZeroWith, support-le, support-lt, IsGreatest, HasGreatest, greatest_ratio}
-use Rattle.cone_laws.proofs.Face.{face, OnFace, zero_or_positive, same_without, same_beside, first_zero}
-use Rattle.cone_laws.proofs.Systems.{Combines, pairing, System, pairing_is_zero, IsFlat, ray_not_flat, within_sum, unspanned}
+use Rattle.cone_laws.proofs.Face.{face, OnFace, zero_or_positive, same_without, same_beside}
+use Rattle.cone_laws.proofs.Systems.{Combines, System, IsFlat, ray_not_flat, unspanned}
+use Rattle.cone_laws.proofs.Sides.{pairing, IsCrossed, zero_sum, pairing_is_zero, crossing_within, crossing_first, crossing_second, crossing_zero, crossing_bent, sides_differ}
 use Rattle.cone_laws.proofs.Columns.{value_both}
 use Rattle.cone_laws.proofs.Bridge.{Below}
 
@@ -78,18 +79,10 @@ pub record Third (r : ℕ → V) (count : ℕ) (rows : ℕ → V → ℤ) (k : �
   pub not_second : index ≢ n
   pub between : (i : ℕ) → i < k → rows i (r p) ≡ pos 0 → rows i (r n) ≡ pos 0 → rows i (r index) ≡ pos 0
 
--- the map is above 0 on the first ray and below 0 on the second, and they are adjacent
-pub record IsPart (r : ℕ → V) (count : ℕ) (a : V → ℤ) (Adj : ℕ → ℕ → Type 0) (p n : ℕ) : Type 0 where
-  pub first : p < count
-  pub second : n < count
-  pub above : pos 0 <ℤ a (r p)
-  pub below : a (r n) <ℤ pos 0
-  pub adjacent : Adj p n
-
 -- a ray on which the map is 0, or the combination of two adjacent rays on which it is
 pub data Reduced (r : ℕ → V) (count : ℕ) (a : V → ℤ) (Adj : ℕ → ℕ → Type 0) (v : V) : Type 0 where
   level : (j : ℕ) → j < count → a (r j) ≡ pos 0 → Same v (r j) → Reduced r count a Adj v
-  crossed : (p n : ℕ) → IsPart r count a Adj p n → Same v (pairing a (r p) (r n)) → Reduced r count a Adj v
+  crossed : (p n : ℕ) → IsCrossed r count a p n → Adj p n → Same v (pairing a (r p) (r n)) → Reduced r count a Adj v
 
 ratio_above : (di ct dt ci : ℤ) → (di *ℤ ct) ≤ℤ (dt *ℤ ci) → dt ≡ pos 0 → pos 0 ≤ℤ di → pos 0 <ℤ ct → di ≡ pos 0
 ratio_above di ct dt ci h z p q =
@@ -119,9 +112,6 @@ left_zero c d = simp ring (omega (arith, ints))
 put_back : (v w c d : ℤ) → d *ℤ v ≡ pos 1 *ℤ (d *ℤ v +ℤ neg_ℤ c *ℤ w) +ℤ c *ℤ w
 put_back v w c d = omega (arith, ints, neg-mul c w)
 
-zero_sum : (s t c d : ℤ) → c ≡ pos 0 → d ≡ pos 0 → s *ℤ c +ℤ t *ℤ d ≡ pos 0
-zero_sum s t c d e f = rw (e, f) (omega (arith, ints, mul-zero s, mul-zero t))
-
 -- the two combinations of c and d, added so that d goes
 span_factor : (c d c0 d0 c1 d1 : ℤ) → (c0 *ℤ d1 -ℤ c1 *ℤ d0) *ℤ c ≡ c0 *ℤ (d1 *ℤ c +ℤ neg_ℤ c1 *ℤ d) +ℤ c1 *ℤ (neg_ℤ d0 *ℤ c +ℤ c0 *ℤ d)
 span_factor c d c0 d0 c1 d1 = simp ring (omega (arith, ints))
@@ -139,16 +129,13 @@ factor_least c0 d0 c1 d1 h = omega (arith, ints, mul_comm c0 d1, mul_comm c1 d0)
 by_values : (s t x y f e : ℤ) → x ≡ f → y ≡ e → s *ℤ f +ℤ t *ℤ e ≡ pos 0 → s *ℤ x +ℤ t *ℤ y ≡ pos 0
 by_values s t x y f e g h z = rw (g, h) z
 
-second_zero : (e s c t d : ℤ) → e ≡ s *ℤ c +ℤ t *ℤ d → e ≡ pos 0 → pos 0 ≤ℤ s → pos 0 <ℤ t → pos 0 ≤ℤ c → pos 0 ≤ℤ d → d ≡ pos 0
-second_zero e s c t d h z p q m n = first_zero e t d (s *ℤ c) (omega (arith, ints)) z q n (mul-at_least_zero s c p m)
-
 regroup_above : (s u ap an aq p n q : ℤ) → s *ℤ (ap *ℤ n +ℤ neg_ℤ an *ℤ p) +ℤ neg_ℤ u *ℤ (aq *ℤ n +ℤ neg_ℤ an *ℤ q) ≡ ((s *ℤ ap -ℤ u *ℤ aq) *ℤ n +ℤ (s *ℤ neg_ℤ an) *ℤ p) +ℤ neg_ℤ (u *ℤ neg_ℤ an) *ℤ q
 regroup_above s u ap an aq p n q = simp ring (omega (arith, ints))
 
 regroup_below : (s u ap an aq p n q : ℤ) → s *ℤ (ap *ℤ n +ℤ neg_ℤ an *ℤ p) +ℤ neg_ℤ u *ℤ (ap *ℤ q +ℤ neg_ℤ aq *ℤ p) ≡ ((s *ℤ neg_ℤ an -ℤ u *ℤ neg_ℤ aq) *ℤ p +ℤ (s *ℤ ap) *ℤ n) +ℤ neg_ℤ (u *ℤ ap) *ℤ q
 regroup_below s u ap an aq p n q = simp ring (omega (arith, ints))
 
-module _ (L : V → Type 0) (r : ℕ → V) (count : ℕ) (rows : ℕ → V → ℤ) (k : ℕ) (C : V → Type 0) (sys : System L r count rows k C) (a : V → ℤ) (lin : IsLinear a) (flat : (l : V) → L l → a l ≡ pos 0) (Adj : ℕ → ℕ → Type 0) (third : (p n : ℕ) → p < count → n < count → pos 0 <ℤ a (r p) → a (r n) <ℤ pos 0 → Adj p n ⊎ Third r count rows k p n) where
+module _ (L : V → Type 0) (r : ℕ → V) (count : ℕ) (rows : ℕ → V → ℤ) (k : ℕ) (C : V → Type 0) (sys : System L r count rows k C) (a : V → ℤ) (lin : IsLinear a) (flat : (l : V) → L l → a l ≡ pos 0) (Adj : ℕ → ℕ → Type 0) (third : (p n : ℕ) → IsCrossed r count a p n → Adj p n ⊎ Third r count rows k p n) where
   -- the values of the first rows on a vector
   abbrev values : V → ℕ → ℤ
   values v i = rows i v
@@ -157,7 +144,7 @@ module _ (L : V → Type 0) (r : ℕ → V) (count : ℕ) (rows : ℕ → V → 
   Spanned v = SpansBy L (Reduced r count a Adj) v
 
   abbrev IsBent : V → Type 0
-  IsBent v = ¬ (IsFlat L r count rows k C sys v)
+  IsBent v = ¬ (IsFlat rows k v)
 
   -- in the cone, with fewer rows that aren't 0
   record IsLess (c e : V) : Type 0 where
@@ -253,55 +240,27 @@ module _ (L : V → Type 0) (r : ℕ → V) (count : ℕ) (rows : ℕ → V → 
       by_greatest (inr g) (inl z) = absurd (bent_c z)
       by_greatest (inr g) (inr h) = by_ratios g h
 
-  -- rays on the two sides, by number
-  record IsCrossed (p n : ℕ) : Type 0 where
-    first : p < count
-    second : n < count
-    above : pos 0 <ℤ a (r p)
-    below : a (r n) <ℤ pos 0
-
-  crossing_within : (p n : ℕ) → IsCrossed p n → C (pairing a (r p) (r n))
-  crossing_within p n h = within_sum L r count rows k C sys (pairing a (r p) (r n)) (r n) (r p) (a (r p)) (neg_ℤ (a (r n))) (sys.rays n h.second) (sys.rays p h.first) (omega (arith, ints, h.above)) (omega (arith, ints, h.below)) (λ j. refl)
-
-  crossing_value : (p n i : ℕ) → rows i (pairing a (r p) (r n)) ≡ a (r p) *ℤ rows i (r n) +ℤ neg_ℤ (a (r n)) *ℤ rows i (r p)
-  crossing_value p n i = value (pairing a (r p) (r n)) (r n) (r p) (a (r p)) (neg_ℤ (a (r n))) (λ j. refl) i
-
-  crossing_first : (p n : ℕ) → IsCrossed p n → (i : ℕ) → i < k → rows i (pairing a (r p) (r n)) ≡ pos 0 → rows i (r p) ≡ pos 0
-  crossing_first p n h i b z = second_zero (rows i (pairing a (r p) (r n))) (a (r p)) (rows i (r n)) (neg_ℤ (a (r n))) (rows i (r p)) (crossing_value p n i) z (omega (arith, ints, h.above)) (omega (arith, ints, h.below)) (sys.side i b (r n) (sys.rays n h.second)) (sys.side i b (r p) (sys.rays p h.first))
-
-  crossing_second : (p n : ℕ) → IsCrossed p n → (i : ℕ) → i < k → rows i (pairing a (r p) (r n)) ≡ pos 0 → rows i (r n) ≡ pos 0
-  crossing_second p n h i b z = first_zero (rows i (pairing a (r p) (r n))) (a (r p)) (rows i (r n)) (neg_ℤ (a (r n)) *ℤ rows i (r p)) (crossing_value p n i) z h.above (sys.side i b (r n) (sys.rays n h.second)) (mul-at_least_zero (neg_ℤ (a (r n))) (rows i (r p)) (omega (arith, ints, h.below)) (sys.side i b (r p) (sys.rays p h.first)))
-
-  crossing_zero : (p n i : ℕ) → rows i (r p) ≡ pos 0 → rows i (r n) ≡ pos 0 → rows i (pairing a (r p) (r n)) ≡ pos 0
-  crossing_zero p n i y z = crossing_value p n i ∙ zero_sum (a (r p)) (neg_ℤ (a (r n))) (rows i (r n)) (rows i (r p)) z y
-
-  crossing_bent : (p n : ℕ) → IsCrossed p n → IsBent (pairing a (r p) (r n))
-  crossing_bent p n h z = ray_not_flat L r count rows k C sys p h.first (λ i b. crossing_first p n h i b (z i b))
-
-  sides_differ : (p n : ℕ) → IsCrossed p n → p ≢ n
-  sides_differ p n h e = omega (arith, ints, h.above, h.below, ap (λ (i : ℕ). a (r i)) e)
-
   -- a third ray above 0 takes the place of the first, one below 0 that of the second
-  by_third_above : (p n : ℕ) → IsCrossed p n → (t : Third r count rows k p n) → pos 0 <ℤ a (r t.index) → LessSpanned (pairing a (r p) (r n)) → Spanned (pairing a (r p) (r n))
-  by_third_above p n h t x less = exchange (pairing a (r p) (r n)) (pairing a (r t.index) (r n)) (crossing_within p n h) (crossing_within t.index n crossed) (pairing_is_zero a lin (r p) (r n)) (pairing_is_zero a lin (r t.index) (r n)) (λ i b z. crossing_zero t.index n i (t.between i b (crossing_first p n h i b z) (crossing_second p n h i b z)) (crossing_second p n h i b z)) (crossing_bent p n h) (crossing_bent t.index n crossed) apart less
+  by_third_above : (p n : ℕ) → IsCrossed r count a p n → (t : Third r count rows k p n) → pos 0 <ℤ a (r t.index) → LessSpanned (pairing a (r p) (r n)) → Spanned (pairing a (r p) (r n))
+  by_third_above p n h t x less = exchange (pairing a (r p) (r n)) (pairing a (r t.index) (r n)) (crossing_within L r count rows k C sys a p n h) (crossing_within L r count rows k C sys a t.index n crossed) (pairing_is_zero a lin (r p) (r n)) (pairing_is_zero a lin (r t.index) (r n)) (λ i b z. crossing_zero L r count rows k C sys a t.index n i (t.between i b (crossing_first L r count rows k C sys a p n h i b z) (crossing_second L r count rows k C sys a p n h i b z)) (crossing_second L r count rows k C sys a p n h i b z)) (crossing_bent L r count rows k C sys a p n h) (crossing_bent L r count rows k C sys a t.index n crossed) apart less
     where
-      crossed : IsCrossed t.index n
+      crossed : IsCrossed r count a t.index n
       crossed = record { first = t.below; second = h.second; above = x; below = h.below }
 
       apart : (s u : ℤ) (e : V) → pos 0 <ℤ s → pos 0 <ℤ u → Combines e s (pairing a (r p) (r n)) (neg_ℤ u) (pairing a (r t.index) (r n)) → SpansBy L Nothing e → ⊥
-      apart s u e ps pu f lines = unspanned L r count rows k C sys p n t.index (s *ℤ a (r p) -ℤ u *ℤ a (r t.index)) (s *ℤ neg_ℤ (a (r n))) (u *ℤ neg_ℤ (a (r n))) e h.first h.second t.below (sides_differ p n h) t.not_first t.not_second (mul-positive s (neg_ℤ (a (r n))) ps (omega (arith, ints, h.below))) (mul-positive u (neg_ℤ (a (r n))) pu (omega (arith, ints, h.below))) lines (λ j. f j ∙ regroup_above s u (a (r p)) (a (r n)) (a (r t.index)) (r p j) (r n j) (r t.index j))
+      apart s u e ps pu f lines = unspanned L r count rows k C sys p n t.index (s *ℤ a (r p) -ℤ u *ℤ a (r t.index)) (s *ℤ neg_ℤ (a (r n))) (u *ℤ neg_ℤ (a (r n))) e h.first h.second t.below (sides_differ L r count rows k C sys a p n h) t.not_first t.not_second (mul-positive s (neg_ℤ (a (r n))) ps (omega (arith, ints, h.below))) (mul-positive u (neg_ℤ (a (r n))) pu (omega (arith, ints, h.below))) lines (λ j. f j ∙ regroup_above s u (a (r p)) (a (r n)) (a (r t.index)) (r p j) (r n j) (r t.index j))
 
-  by_third_below : (p n : ℕ) → IsCrossed p n → (t : Third r count rows k p n) → a (r t.index) <ℤ pos 0 → LessSpanned (pairing a (r p) (r n)) → Spanned (pairing a (r p) (r n))
-  by_third_below p n h t x less = exchange (pairing a (r p) (r n)) (pairing a (r p) (r t.index)) (crossing_within p n h) (crossing_within p t.index crossed) (pairing_is_zero a lin (r p) (r n)) (pairing_is_zero a lin (r p) (r t.index)) (λ i b z. crossing_zero p t.index i (crossing_first p n h i b z) (t.between i b (crossing_first p n h i b z) (crossing_second p n h i b z))) (crossing_bent p n h) (crossing_bent p t.index crossed) apart less
+  by_third_below : (p n : ℕ) → IsCrossed r count a p n → (t : Third r count rows k p n) → a (r t.index) <ℤ pos 0 → LessSpanned (pairing a (r p) (r n)) → Spanned (pairing a (r p) (r n))
+  by_third_below p n h t x less = exchange (pairing a (r p) (r n)) (pairing a (r p) (r t.index)) (crossing_within L r count rows k C sys a p n h) (crossing_within L r count rows k C sys a p t.index crossed) (pairing_is_zero a lin (r p) (r n)) (pairing_is_zero a lin (r p) (r t.index)) (λ i b z. crossing_zero L r count rows k C sys a p t.index i (crossing_first L r count rows k C sys a p n h i b z) (t.between i b (crossing_first L r count rows k C sys a p n h i b z) (crossing_second L r count rows k C sys a p n h i b z))) (crossing_bent L r count rows k C sys a p n h) (crossing_bent L r count rows k C sys a p t.index crossed) apart less
     where
-      crossed : IsCrossed p t.index
+      crossed : IsCrossed r count a p t.index
       crossed = record { first = h.first; second = t.below; above = h.above; below = x }
 
       apart : (s u : ℤ) (e : V) → pos 0 <ℤ s → pos 0 <ℤ u → Combines e s (pairing a (r p) (r n)) (neg_ℤ u) (pairing a (r p) (r t.index)) → SpansBy L Nothing e → ⊥
-      apart s u e ps pu f lines = unspanned L r count rows k C sys n p t.index (s *ℤ neg_ℤ (a (r n)) -ℤ u *ℤ neg_ℤ (a (r t.index))) (s *ℤ a (r p)) (u *ℤ a (r p)) e h.second h.first t.below (λ e. sides_differ p n h (sym e)) t.not_second t.not_first (mul-positive s (a (r p)) ps h.above) (mul-positive u (a (r p)) pu h.above) lines (λ j. f j ∙ regroup_below s u (a (r p)) (a (r n)) (a (r t.index)) (r p j) (r n j) (r t.index j))
+      apart s u e ps pu f lines = unspanned L r count rows k C sys n p t.index (s *ℤ neg_ℤ (a (r n)) -ℤ u *ℤ neg_ℤ (a (r t.index))) (s *ℤ a (r p)) (u *ℤ a (r p)) e h.second h.first t.below (λ e. sides_differ L r count rows k C sys a p n h (sym e)) t.not_second t.not_first (mul-positive s (a (r p)) ps h.above) (mul-positive u (a (r p)) pu h.above) lines (λ j. f j ∙ regroup_below s u (a (r p)) (a (r n)) (a (r t.index)) (r p j) (r n j) (r t.index j))
 
-  crossing_spanned : (p n : ℕ) → IsCrossed p n → Adj p n → Spanned (pairing a (r p) (r n))
-  crossing_spanned p n h adjacent = spans_sums (pairing a (r p) (r n)) (sums_one_ray (pos 1) (pairing a (r p) (r n)) (pairing a (r p) (r n)) (omega (arith, ints)) (crossed p n (record { first = h.first; second = h.second; above = h.above; below = h.below; adjacent = adjacent }) (λ j. refl)) (λ j. omega (arith, ints)))
+  crossing_spanned : (p n : ℕ) → IsCrossed r count a p n → Adj p n → Spanned (pairing a (r p) (r n))
+  crossing_spanned p n h adjacent = spans_sums (pairing a (r p) (r n)) (sums_one_ray (pos 1) (pairing a (r p) (r n)) (pairing a (r p) (r n)) (omega (arith, ints)) (crossed p n h adjacent (λ j. refl)) (λ j. omega (arith, ints)))
 
   level_spanned : (j : ℕ) → j < count → a (r j) ≡ pos 0 → Spanned (r j)
   level_spanned j b z = spans_sums (r j) (sums_one_ray (pos 1) (r j) (r j) (omega (arith, ints)) (level j b z (λ i. refl)) (λ i. omega (arith, ints)))
@@ -315,17 +274,17 @@ module _ (L : V → Type 0) (r : ℕ → V) (count : ℕ) (rows : ℕ → V → 
   by_level v m av less j b z zeros = ratio_step v (r j) m (sys.rays j b) av z zeros (ray_not_flat L r count rows k C sys j b) (level_spanned j b z) less
 
   -- rays of the face of v on the two sides
-  by_crossing : (v : V) → C v → a v ≡ pos 0 → LessSpanned v → (p n : ℕ) → IsCrossed p n → IsZeroWith k (values v) (values (r p)) → IsZeroWith k (values v) (values (r n)) → Spanned v
-  by_crossing v m av less p n h zeros_p zeros_n = by_adjacency (third p n h.first h.second h.above h.below)
+  by_crossing : (v : V) → C v → a v ≡ pos 0 → LessSpanned v → (p n : ℕ) → IsCrossed r count a p n → IsZeroWith k (values v) (values (r p)) → IsZeroWith k (values v) (values (r n)) → Spanned v
+  by_crossing v m av less p n h zeros_p zeros_n = by_adjacency (third p n h)
     where
       zeros : IsZeroWith k (values v) (values (pairing a (r p) (r n)))
-      zeros i b z = crossing_zero p n i (zeros_p i b z) (zeros_n i b z)
+      zeros i b z = crossing_zero L r count rows k C sys a p n i (zeros_p i b z) (zeros_n i b z)
 
       less_c : LessSpanned (pairing a (r p) (r n))
       less_c f g = less f (less_more v (pairing a (r p) (r n)) f zeros g)
 
       take_off : Spanned (pairing a (r p) (r n)) → Spanned v
-      take_off spanned = ratio_step v (pairing a (r p) (r n)) m (crossing_within p n h) av (pairing_is_zero a lin (r p) (r n)) zeros (crossing_bent p n h) spanned less
+      take_off spanned = ratio_step v (pairing a (r p) (r n)) m (crossing_within L r count rows k C sys a p n h) av (pairing_is_zero a lin (r p) (r n)) zeros (crossing_bent L r count rows k C sys a p n h) spanned less
 
       by_third : (t : Third r count rows k p n) → (pos 0 <ℤ a (r t.index)) ⊎ ((a (r t.index) <ℤ pos 0) ⊎ (a (r t.index) ≡ pos 0)) → Spanned v
       by_third t (inl x) = take_off (by_third_above p n h t x less_c)
@@ -352,7 +311,7 @@ module _ (L : V → Type 0) (r : ℕ → V) (count : ℕ) (rows : ℕ → V → 
   face_zeros : (v u : V) → (f : FaceRay v u) → IsZeroWith k (values v) (values (r f.0.index))
   face_zeros v u f i b z = sym (among_value i u f.0) ∙ f.1 i (b, z)
 
-  crossed_by : (v p n : V) → (f : FaceRay v p) → (g : FaceRay v n) → pos 0 <ℤ a p → a n <ℤ pos 0 → IsCrossed f.0.index g.0.index
+  crossed_by : (v p n : V) → (f : FaceRay v p) → (g : FaceRay v n) → pos 0 <ℤ a p → a n <ℤ pos 0 → IsCrossed r count a f.0.index g.0.index
   crossed_by v p n f g x y = record { first = f.0.is; second = g.0.is; above = rw (a_value p f.0) at x; below = rw (a_value n g.0) at y }
 
   by_signs : (v : V) → C v → a v ≡ pos 0 → LessSpanned v → (t : ℤ) → pos 0 <ℤ t → a (λ j. t *ℤ v j) ≡ pos 0 → Signs L (FaceRay v) a (λ j. t *ℤ v j) → Spanned v

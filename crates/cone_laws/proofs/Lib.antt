@@ -8,6 +8,7 @@ pub mod EchelonForm
 pub mod Columns
 pub mod Bridge
 pub mod Systems
+pub mod Sides
 pub mod Adjacent
 pub mod Lowering
 pub mod Crossings
@@ -20,3 +21,10 @@ pub mod Ratios
 pub mod Existence
 pub mod Bipolar
 pub mod PointwiseLists
+pub mod Spare
+pub mod Instance
+pub mod Filtered
+pub mod ThirdRay
+pub mod RaySteps
+pub mod LineSpare
+pub mod FaceLists

@@ -1,7 +1,7 @@
 -- A system of lines and numbered rays of a cone, none of the rays to spare.
-use Rattle.std.proofs.Common.{◌≡◌, ◌≢◌, ◌⊎◌, inl, inr, ℕ, ◌<◌, ℤ, pos, ◌+ℤ◌, ◌*ℤ◌, neg_ℤ, ◌≤ℤ◌, ◌<ℤ◌, refl, sym, ◌∙◌, arith}
+use Rattle.std.proofs.Common.{◌≡◌, ◌≢◌, ◌⊎◌, inl, inr, ℕ, ◌<◌, ℤ, pos, ◌+ℤ◌, ◌*ℤ◌, neg_ℤ, ◌≤ℤ◌, ◌<ℤ◌, refl, sym, arith}
 use Rattle.std.proofs.lemmas.Int.{ints}
-use Rattle.cone_laws.proofs.Ring.{ring, mul-at_least_zero, neg-mul, at_least_zero_or_not}
+use Rattle.cone_laws.proofs.Ring.{mul-at_least_zero, neg-mul, at_least_zero_or_not}
 use Rattle.cone_laws.proofs.Sums.{V, Among, Nothing, SpansBy, IsLinear, sums_add, sums_one_ray, spans_sums, spans_of_multiple, spans_add, lines_spans_scale, spans_from_lines}
 use Rattle.cone_laws.proofs.Columns.{value_both}
 use Rattle.cone_laws.proofs.Bridge.{Below}
@@ -14,9 +14,9 @@ Others count j i = (i < count) × (i ≢ j)
 abbrev pub Combines : V → ℤ → V → ℤ → V → Type 0
 Combines e s c t d = (j : ℕ) → e j ≡ s *ℤ c j +ℤ t *ℤ d j
 
--- of two vectors the combination on which the map is 0
-abbrev pub pairing : (V → ℤ) → V → V → V
-pairing a p n j = a p *ℤ n j +ℤ neg_ℤ (a n) *ℤ p j
+-- the first k rows are 0 on the vector
+abbrev pub IsFlat : (ℕ → V → ℤ) → ℕ → V → Type 0
+IsFlat rows k v = (i : ℕ) → i < k → rows i v ≡ pos 0
 
 -- lines and rays that generate the cone on which the first k rows are at least 0, lineality by the lines alone, and no ray to spare
 pub record System (L : V → Type 0) (r : ℕ → V) (count : ℕ) (rows : ℕ → V → ℤ) (k : ℕ) (C : V → Type 0) : Type 0 where
@@ -26,14 +26,8 @@ pub record System (L : V → Type 0) (r : ℕ → V) (count : ℕ) (rows : ℕ �
   pub side : (i : ℕ) → i < k → (v : V) → C v → pos 0 ≤ℤ rows i v
   pub combine : (e c d : V) (s t : ℤ) → C c → C d → Combines e s c t d → ((i : ℕ) → i < k → pos 0 ≤ℤ rows i e) → C e
   pub spans : (v : V) → C v → SpansBy L (Among r (Below count)) v
-  pub lineal : (v : V) → C v → ((i : ℕ) → i < k → rows i v ≡ pos 0) → SpansBy L Nothing v
+  pub lineal : (v : V) → C v → IsFlat rows k v → SpansBy L Nothing v
   pub irredundant : (j : ℕ) → j < count → ¬ (SpansBy L (Among r (Others count j)) (r j))
-
-cross_is_zero : (x y : ℤ) → x *ℤ y +ℤ neg_ℤ y *ℤ x ≡ pos 0
-cross_is_zero x y = simp ring (omega (arith, ints))
-
-pub pairing_is_zero : (a : V → ℤ) → IsLinear a → (p n : V) → a (pairing a p n) ≡ pos 0
-pairing_is_zero a lin p n = value_both a lin (pairing a p n) n p (a p) (neg_ℤ (a n)) (λ j. refl) ∙ cross_is_zero (a p) (a n)
 
 pub sum_at_least_zero : (s c t d e : ℤ) → e ≡ s *ℤ c +ℤ t *ℤ d → pos 0 ≤ℤ s → pos 0 ≤ℤ c → pos 0 ≤ℤ t → pos 0 ≤ℤ d → pos 0 ≤ℤ e
 sum_at_least_zero s c t d e h p q u w =
@@ -42,11 +36,7 @@ sum_at_least_zero s c t d e h p q u w =
     omega (arith, ints)
 
 module _ (L : V → Type 0) (r : ℕ → V) (count : ℕ) (rows : ℕ → V → ℤ) (k : ℕ) (C : V → Type 0) (sys : System L r count rows k C) where
-  -- the first k rows are 0 on the vector
-  abbrev pub IsFlat : V → Type 0
-  IsFlat v = (i : ℕ) → i < k → rows i v ≡ pos 0
-
-  pub ray_not_flat : (j : ℕ) → j < count → ¬ (IsFlat (r j))
+  pub ray_not_flat : (j : ℕ) → j < count → ¬ (IsFlat rows k (r j))
   ray_not_flat j b z = sys.irredundant j b (spans_from_lines (r j) (sys.lineal (r j) (sys.rays j b) z))
 
   -- sums of two with factors of at least 0 stay in the cone

@@ -4,3 +4,4 @@ pub mod Steps
 pub mod EchelonLaws
 pub mod StepLaws
 pub mod Duality
+pub mod AdjacencyLaws

@@ -2,5 +2,6 @@
 #![tactic(auto)]
 
 pub mod duality;
+pub mod adjacency;
 pub mod echelon;
 pub mod steps;

@@ -1,0 +1,40 @@
+use Rattle.std.specs.Prelude.{◌≡◌, ℕ, ◌+◌, ◌<◌, ◌↔◌, List, [], ◌∷◌, length, ℤ, pos, All}
+use Rattle.row_core.specs.Vectors.{cell, dot}
+use Rattle.row_core.specs.Lists.{Row, row_at}
+use Rattle.cone_laws.specs.Cones.{Upto, Spans, Generates, HasLineality}
+use Rattle.cone_laws.specs.Canon.{vector_at, IsIrredundant}
+use Rattle.cone_laws.specs.Steps.{IsRowAt, NoThird, IsRayStep, IsLineStep}
+
+-- the vector is 0 on each of the first k rows on which both rays are 0
+abbrev pub IsOnFace : List Row → ℕ → List ℤ → List ℤ → List ℤ → Type 0
+IsOnFace rows k p n v = (m : ℕ) → m < k → dot (row_at rows m) p ≡ pos 0 → dot (row_at rows m) n ≡ pos 0 → dot (row_at rows m) v ≡ pos 0
+
+-- two rays are adjacent: the lines and these two span each vector of the cone that is 0 on each of the first k rows on which both are 0
+abbrev pub AreAdjacent : ℕ → List Row → ℕ → List (List ℤ) → List ℤ → List ℤ → Type 0
+AreAdjacent width rows k lines p n = (v : List ℤ) → Upto width rows k v → IsOnFace rows k p n v → Spans lines (p ∷ n ∷ []) v
+
+-- in a system without a ray to spare, two rays are adjacent exactly where no third ray is 0 on all rows on which both are
+abbrev pub FaceLaw : Type 0
+FaceLaw = (width : ℕ) (rows : List Row) (k : ℕ) (lines rays : List (List ℤ)) (p n : ℕ) → Generates (Upto width rows k) lines rays → IsIrredundant lines rays → p < length rays → n < length rays → AreAdjacent width rows k lines (vector_at rays p) (vector_at rays n) ↔ NoThird rows k rays p n
+
+-- the lines and rays generate the set, its lineality is spanned by the lines, and no ray is to spare
+pub record IsMinimal (C : List ℤ → Type 0) (lines rays : List (List ℤ)) : Type 0 where
+  pub generates : Generates C lines rays
+  pub lineality : HasLineality C lines
+  pub irredundant : IsIrredundant lines rays
+
+-- a step that combines adjacent rays alone makes a minimal system of the cone of one row more from one of the cone before
+abbrev pub RayStepIsMinimal : Type 0
+RayStepIsMinimal = (width : ℕ) (rows : List Row) (k : ℕ) (row : Row) (lines rays new : List (List ℤ)) → IsRowAt rows k row → IsMinimal (Upto width rows k) lines rays → All (λ l. dot row.0 l ≡ pos 0) lines → IsRayStep rows k row rays new → IsMinimal (Upto width rows (k + 1)) lines new
+
+-- a step with a line that crosses the row leaves no ray to spare where none was
+abbrev pub LineStepIsIrredundant : Type 0
+LineStepIsIrredundant = (row : Row) (lines rays new_lines new_rays : List (List ℤ)) → IsIrredundant lines rays → IsLineStep row lines rays new_lines new_rays → IsIrredundant new_lines new_rays
+
+-- where there is no ray, none is to spare
+abbrev pub NoRayIsIrredundant : Type 0
+NoRayIsIrredundant = (lines : List (List ℤ)) → IsIrredundant lines []
+
+-- where no ray is to spare, no ray is 0
+abbrev pub RaysAreNotZero : Type 0
+RaysAreNotZero = (lines rays : List (List ℤ)) (i : ℕ) → IsIrredundant lines rays → i < length rays → ¬ ((j : ℕ) → cell (vector_at rays i) j ≡ pos 0)
