@@ -3,3 +3,5 @@ pub mod Canon
 pub mod Steps
 pub mod EchelonLaws
 pub mod AdjacencyLaws
+pub mod ConeSets
+pub mod UniqueLaws
