@@ -5,3 +5,4 @@ pub mod EchelonLaws
 pub mod AdjacencyLaws
 pub mod ConeSets
 pub mod UniqueLaws
+pub mod Leaves
