@@ -9,11 +9,12 @@ use Rattle.std.proofs.lemmas.Int.{ints}
 use Rattle.std.proofs.lemmas.Bool.{cases_lt, cond-true, cond-false, lt-ltb, le-ltb}
 use Rattle.std.proofs.lemmas.List.Edits.{length-remove, get_or-remove_below, get_or-remove_above}
 use Rattle.std.proofs.lemmas.List.Elements.{All-append, All-filter, All-from_get_or, All-nil, All-cons}
-use Rattle.row_core.specs.Vectors.{cell, dot, scale}
+use Rattle.row_core.specs.Vectors.{cell, dot}
 use Rattle.row_core.specs.Content.{IsPrimitive}
 use Rattle.row_core.specs.Lists.{Row}
 use Rattle.cone_laws.specs.Canon.{vector_at, IsPivot, IsEchelon}
 use Rattle.cone_laws.specs.Steps.{AreUnits, IsMade, pair_at, IsRayStep, stays, sign, IsLowered, upward, IsLineStep}
+use Rattle.cone_laws.proofs.Columns.{cell-scale}
 use Rattle.cone_laws.proofs.Ring.{zero_of_mul, positive_of_mul, mul-positive}
 
 -- ---- the entries of a lowered vector
@@ -33,11 +34,6 @@ pub magnitude_positive : (a : ℤ) → a ≢ pos 0 → pos 0 <ℤ pos (unsigned_
 magnitude_positive (pos zero) h = absurd (h refl)
 magnitude_positive (pos (suc n)) h = omega (arith, ints)
 magnitude_positive (negsuc n) h = omega (arith, ints)
-
-pub cell-scale : (k : ℤ) (v : List ℤ) (j : ℕ) → cell (scale k v) j ≡ k *ℤ cell v j
-cell-scale k [] j = omega (arith, ints)
-cell-scale k (a ∷ v) zero = refl
-cell-scale k (a ∷ v) (suc j) = cell-scale k v j
 
 -- ---- the places of a list less its element q
 pub old_place : ℕ → ℕ → ℕ

@@ -28,3 +28,8 @@ pub mod ThirdRay
 pub mod RaySteps
 pub mod LineSpare
 pub mod FaceLists
+pub mod Factors
+pub mod UniqueLines
+pub mod UniqueRays
+pub mod UniqueSystems
+pub mod Rearranging

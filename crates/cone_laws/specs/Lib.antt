@@ -5,3 +5,6 @@ pub mod EchelonLaws
 pub mod StepLaws
 pub mod Duality
 pub mod AdjacencyLaws
+pub mod ConeSets
+pub mod UniqueLaws
+pub mod Leaves

@@ -5,3 +5,4 @@ pub mod duality;
 pub mod adjacency;
 pub mod echelon;
 pub mod steps;
+pub mod uniqueness;

@@ -1,0 +1,62 @@
+use Rattle.std.specs.Prelude.{◌≡◌, ◌≢◌, ℕ, ◌+◌, ◌*◌, ◌^◌, ◌<◌, ◌≤◌, Bool, true, false, ◌&&◌, List, [], ◌∷◌, length, map, take, drop, IsTrue, slice_index_or}
+use Rattle.std.specs.List.{range_with_len}
+
+-- rows of truth values with a place for each column, and how many rows can be appended without memory
+pub record Table : Type 0 where
+  pub columns : ℕ
+  pub rows : List (List Bool)
+  pub spare : ℕ
+
+-- the truth values of row i
+abbrev pub bits_of : List (List Bool) → ℕ → List Bool
+bits_of rows i = slice_index_or rows i []
+
+-- the truth value at row i and column j, and false outside of the rows
+abbrev pub bit_at : List (List Bool) → ℕ → ℕ → Bool
+bit_at rows i j = slice_index_or (bits_of rows i) j false
+
+-- n rows of w places each, one after another
+abbrev pub rows_of : ℕ → ℕ → List Bool → List (List Bool)
+rows_of w n bits = map (λ i. take w (drop (i * w) bits)) (range_with_len 0 n)
+
+-- the rows fill the places that are taken, and there is room for the rows that can be appended
+pub record IsLaidOut (columns count spare len capacity : ℕ) : Type 0 where
+  pub taken : len ≡ count * columns
+  pub room : (count + spare) * columns ≤ capacity
+  pub counted : count + spare < 2 ^ 64
+
+-- where both rows are true, place by place
+abbrev pub conjunction : List Bool → List Bool → List Bool
+conjunction [] ys = []
+conjunction (x ∷ xs) [] = []
+conjunction (x ∷ xs) (y ∷ ys) = (x && y) ∷ conjunction xs ys
+
+-- the elements that are marked, in order
+abbrev pub marked : {X : Type 0} → List Bool → List X → List X
+marked [] xs = []
+marked (keep ∷ marks) [] = []
+marked (true ∷ marks) (x ∷ xs) = x ∷ marked marks xs
+marked (false ∷ marks) (x ∷ xs) = marked marks xs
+
+-- the columns of a table as rows
+abbrev pub transposed : ℕ → List (List Bool) → List (List Bool)
+transposed columns rows = map (λ j. map (λ row. slice_index_or row j false) rows) (range_with_len 0 columns)
+
+-- the third list is true wherever the first and the second both are
+abbrev pub Covers : List Bool → List Bool → List Bool → Type 0
+Covers first second third = (c : ℕ) → c < length first → IsTrue (slice_index_or first c false) → IsTrue (slice_index_or second c false) → IsTrue (slice_index_or third c false)
+
+-- row k is another row than i and j, and is true at each column at which both are true
+pub record IsThird (table : Table) (i j k : ℕ) : Type 0 where
+  pub row : k < length table.rows
+  pub not_first : k ≢ i
+  pub not_second : k ≢ j
+  pub covers : Covers (bits_of table.rows i) (bits_of table.rows j) (bits_of table.rows k)
+
+-- some row other than i and j is true at each column at which both are true
+abbrev pub HasThird : Table → ℕ → ℕ → Type 0
+HasThird table i j = (k : ℕ) × IsThird table i j k
+
+-- each row has a place for each column
+abbrev pub IsRectangular : Table → Type 0
+IsRectangular table = (i : ℕ) → i < length table.rows → length (bits_of table.rows i) ≡ table.columns

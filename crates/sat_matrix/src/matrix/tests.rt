@@ -1,0 +1,53 @@
+use super::*;
+use std::test::Fail;
+
+#[test]
+fn conjunction(rt: HostRuntime) -> Result<(), Fail> {
+    let mut table = SatMatrix::new(rt.alloc(), 3);
+    table.reserve(3)?;
+    table.push_reserved(true);
+    table.push_reserved(true);
+    table.set(0, 0, false);
+    table.set(1, 2, false);
+    table.push_and(0, 1);
+    assert_eq!(rt; table.len(), 3);
+    assert_eq!(rt;
+        [table.get(2, 0), table.get(2, 1), table.get(2, 2)],
+        [false, true, false]
+    );
+    Ok(())
+}
+
+#[test]
+fn columns_as_rows(rt: HostRuntime) -> Result<(), Fail> {
+    let mut table = SatMatrix::new(rt.alloc(), 1);
+    table.reserve(2)?;
+    table.push_reserved(false);
+    table.push_reserved(true);
+    table.add_column()?;
+    table.set(0, 1, true);
+    let turned = table.transpose()?;
+    assert_eq!(rt; turned.columns(), 2);
+    assert_eq!(rt; turned.len(), 2);
+    assert_eq!(rt; [turned.get(0, 0), turned.get(0, 1)], [false, true]);
+    assert_eq!(rt; [turned.get(1, 0), turned.get(1, 1)], [true, false]);
+    Ok(())
+}
+
+#[test]
+fn third_row(rt: HostRuntime) -> Result<(), Fail> {
+    let mut table = SatMatrix::new(rt.alloc(), 2);
+    table.reserve(3)?;
+    table.push_reserved(true);
+    table.push_reserved(true);
+    table.set(0, 0, false);
+    table.push_reserved(false);
+    assert!(rt; !table.third_between(0, 1));
+    table.set(2, 1, true);
+    assert!(rt; table.third_between(0, 1));
+    table.keep_rows(&[true, false, true]);
+    assert_eq!(rt; table.len(), 2);
+    assert!(rt; table.get(1, 1));
+    assert!(rt; !table.third_between(0, 1));
+    Ok(())
+}
