@@ -1,0 +1,3 @@
+pub mod SystemLemmas
+pub mod MultipleLemmas
+pub mod SpanLemmas

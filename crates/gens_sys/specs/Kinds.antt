@@ -1,0 +1,24 @@
+use Rattle.std.specs.Prelude.{◌≡◌, List, ℤ, pos, ◌≤ℤ◌, ◌<ℤ◌, All, ⊤}
+use Rattle.gens_sys.specs.declared.kind.GenKind.{GenKind}
+use Rattle.gens_sys.specs.declared.kind.GenKind.TheVariants.{Line, Ray, Point, ClosurePoint}
+
+-- the last entry of a line or a ray is 0, and that of a point of either kind is at least 1; this one isn't so
+abbrev pub HasBadDivisor : GenKind → ℤ → Type 0
+HasBadDivisor Line divisor = ¬ (divisor ≡ pos 0)
+HasBadDivisor Ray divisor = ¬ (divisor ≡ pos 0)
+HasBadDivisor Point divisor = divisor <ℤ pos 1
+HasBadDivisor ClosurePoint divisor = divisor <ℤ pos 1
+
+-- a line or a ray that is zero in all columns
+abbrev pub IsZeroDirection : GenKind → List ℤ → Type 0
+IsZeroDirection Line v = All (λ z. z ≡ pos 0) v
+IsZeroDirection Ray v = All (λ z. z ≡ pos 0) v
+IsZeroDirection Point v = ⊥
+IsZeroDirection ClosurePoint v = ⊥
+
+-- what a kind asks of the factor of a generator: none is negative except on lines
+abbrev pub AllowsFactor : GenKind → ℤ → Type 0
+AllowsFactor Line factor = ⊤
+AllowsFactor Ray factor = pos 0 ≤ℤ factor
+AllowsFactor Point factor = pos 0 ≤ℤ factor
+AllowsFactor ClosurePoint factor = pos 0 ≤ℤ factor
