@@ -15,3 +15,8 @@ pub record IsMultipleOf (old new : List ℤ) : Type 0 where
   pub times : ℕ
   pub positive : 0 < times
   pub same : old ≡ scale (pos times) new
+
+-- the new vector is the primitive one of which the old is a positive multiple
+pub record IsPrimitiveOf (old new : List ℤ) : Type 0 where
+  pub multiple : IsMultipleOf old new
+  pub primitive : IsPrimitive new

@@ -1,4 +1,5 @@
 pub mod Vectors
 pub mod Range
 pub mod Content
+pub mod Points
 pub mod Lists

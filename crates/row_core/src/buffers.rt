@@ -1,9 +1,11 @@
 //! One row, and a list of rows of one width, on the heap.
 ghost use Rattle.std.specs.Prelude.{◌≡◌, ℕ, ◌^◌, ◌<◌, ◌==◌, List, [], ◌∷◌, ◌++◌, length, map, ℤ, All, MatchResult, IfOk, slice_index_or, false};
 ghost use Rattle.row_core.specs.Range.{AllInRange};
+ghost use Rattle.row_core.specs.Content.{IsPrimitiveOf};
 ghost use Rattle.row_core.specs.Lists.{Rows, FitWidth, row_at, is_eq_at};
 
 use crate::errors::Memory;
+use crate::primitive::make_primitive;
 use std::alloc::Global;
 use std::marker::Model;
 
@@ -29,6 +31,19 @@ impl RowBuf {
         ensures { IfOk result (λ row. row ≡ cells.now) }
     {
         let entries = Vec::from_slice(alloc, cells)?;
+        Ok(RowBuf { entries })
+    }
+
+    /// Returns a copy of the cells, made primitive.
+    pub fn primitive(alloc: Global, cells: &[i128]) -> Result<RowBuf, Memory>
+        requires in_range { AllInRange cells.now }
+        requires narrow { length cells.now < 2 ^ 32 }
+        ensures primitive { IfOk result (IsPrimitiveOf cells.now) }
+        ensures in_range { IfOk result AllInRange }
+        ensures width { IfOk result (λ row. length row ≡ length cells.now) }
+    {
+        let mut entries = Vec::from_slice(alloc, cells)?;
+        make_primitive(entries.as_mut_slice());
         Ok(RowBuf { entries })
     }
 

@@ -17,3 +17,6 @@ pub use counting::Steps;
 pub use errors::{ConvErr, Memory, OverKind, Overflow, PairOver};
 pub use linear::{combine_into, dot};
 pub use primitive::{gcd, make_primitive};
+
+#[cfg(test)]
+mod tests;

@@ -80,9 +80,9 @@ fn check_combination(u: &[i128], s: i128, v: &[i128], t: i128) -> Result<(), u32
     requires narrow { length u.now < 2 ^ 32 }
     ensures { MatchResult result (λ _. AllStay (CombineStays u.now s v.now t) (length u.now)) (IsFirstToLeave (CombineStays u.now s v.now t) (length u.now)) }
 {
-    for j in 0..u.len() {
-        let Some(_) = combination(s, u[j], t, v[j]) else {
-            return Err(j as u32);
+    for column in 0..u.len() {
+        let Some(_) = combination(s, u[column], t, v[column]) else {
+            return Err(column as u32);
         };
     }
     Ok(())

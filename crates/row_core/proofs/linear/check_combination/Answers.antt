@@ -6,24 +6,24 @@ use mir.Val.{SFits}
 use Rattle.row_core.specs.Range.{CombineStays}
 use Rattle.row_core.proofs.linear.check_combination.Goals as goal
 
-pub loop-j-preserved : goal.loop-j-preserved
-loop-j-preserved c =
+pub loop-column-preserved : goal.loop-column-preserved
+loop-column-preserved c =
     let s_fits : SFits w128 c.args.s = c.ranges.s in
     let t_fits : SFits w128 c.args.t = c.ranges.t in
-    let u_fits : SFits w128 (get_or c.args.u.now c.loop-j.j (pos 0)) = search rules in
-    let v_fits : SFits w128 (get_or c.args.v.now c.loop-j.j (pos 0)) = search rules in
-    let before = simp to_z-of_z at c.loop-j.invariant in
+    let u_fits : SFits w128 (get_or c.args.u.now c.loop-column.column (pos 0)) = search rules in
+    let v_fits : SFits w128 (get_or c.args.v.now c.loop-column.column (pos 0)) = search rules in
+    let before = simp to_z-of_z at c.loop-column.invariant in
     let given = simp to_z-of_z at c.in-Some.ensures in
-    simp to_z-of_z (below_more (CombineStays c.args.u.now c.args.s c.args.v.now c.args.t) c.loop-j.j before given.0)
+    simp to_z-of_z (below_more (CombineStays c.args.u.now c.args.s c.args.v.now c.args.t) c.loop-column.column before given.0)
 
 pub returns-in_default : goal.returns-in_default
 returns-in_default c =
     let s_fits : SFits w128 c.args.s = c.ranges.s in
     let t_fits : SFits w128 c.args.t = c.ranges.t in
-    let u_fits : SFits w128 (get_or c.args.u.now c.loop-j.j (pos 0)) = search rules in
-    let v_fits : SFits w128 (get_or c.args.v.now c.loop-j.j (pos 0)) = search rules in
+    let u_fits : SFits w128 (get_or c.args.u.now c.loop-column.column (pos 0)) = search rules in
+    let v_fits : SFits w128 (get_or c.args.v.now c.loop-column.column (pos 0)) = search rules in
     record {
-      column = c.loop-j-test.true;
+      column = c.loop-column-test.true;
       leaves = simp to_z-of_z at c.in_default.ensures;
-      before = simp to_z-of_z at c.loop-j.invariant;
+      before = simp to_z-of_z at c.loop-column.invariant;
     }

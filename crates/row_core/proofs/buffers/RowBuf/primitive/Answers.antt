@@ -1,0 +1,15 @@
+use Rattle.std.specs.Prelude.{◌≡◌, length, ℤ, List, drop}
+use Rattle.std.proofs.Common.{arith, ◌∙◌, subst}
+use Rattle.std.proofs.lemmas.List.{take_at}
+use Rattle.row_core.specs.Content.{IsMultipleOf}
+use Rattle.row_core.proofs.buffers.RowBuf.primitive.Goals as goal
+
+pub returns-clause-primitive : goal.returns-clause-primitive
+returns-clause-primitive c =
+    let full : length c.make_primitive.new.row ≡ c.in_ok-entries.entries.len = omega arith in
+    let copied : c.as_mut_slice.result.now ≡ c.args.cells.now = c.as_mut_slice.ensures.value ∙ c.in_ok-entries.ensures.items in
+    rw (take_at c.make_primitive.new.row (drop (length c.make_primitive.new.row) c.in_ok-entries.entries.items) c.in_ok-entries.entries.len full)
+    (record {
+      multiple = subst (λ (v : List ℤ). IsMultipleOf v c.make_primitive.new.row) copied c.make_primitive.ensures.multiple;
+      primitive = c.make_primitive.ensures.primitive;
+    })

@@ -1,0 +1,98 @@
+ghost use Rattle.std.specs.Prelude.{◌≡◌, ◌<◌};
+
+use super::*;
+use std::marker::Brand;
+use std::process::Abort;
+use std::sync::ledger::{Blank, Ledger};
+use std::test::Fail;
+
+const K: i128 = i128::MAX;
+
+#[test]
+fn dots(rt: HostRuntime) -> Result<(), Fail> {
+    assert_eq!(rt; dot(&[1, -2, 3], &[4, 5, 6]), Ok(12));
+    assert_eq!(rt; dot(&[], &[]), Ok(0));
+    assert_eq!(rt; dot(&[K, 1], &[-1, 1]), Ok(1 - K));
+    assert_eq!(rt;
+        dot(&[1, K, 1], &[1, 1, -1]),
+        Err(1),
+        "the sum of two columns is above the range"
+    );
+    assert_eq!(rt;
+        dot(&[0, K, 1], &[5, 2, 1]),
+        Err(1),
+        "the product is above the range"
+    );
+    assert_eq!(rt;
+        dot(&[-K, 1], &[1, -1]),
+        Err(1),
+        "the least i128 is below the range"
+    );
+    Ok(())
+}
+
+fn check_combinations<L: Ledger>(rt: &impl Abort, blank: Blank)
+    requires name { blank.name ≡ L.name }
+    requires parts { blank.parts ≡ L.parts }
+    requires shared { 0 < blank.parts }
+{
+    let mut steps = Steps::<L>::new(blank);
+    let mut row = [0, 0];
+    assert_eq!(rt;
+        combine_into(&mut row, &[1, 2], 3, &[5, -1], -2, &mut steps),
+        Ok(())
+    );
+    assert_eq!(rt; row, [-7, 8]);
+    assert_eq!(rt;
+        combine_into(&mut row, &[1, K], 1, &[1, 1], 1, &mut steps),
+        Err(1)
+    );
+    assert_eq!(rt;
+        combine_into(&mut row, &[K, 1], 2, &[K, 1], -2, &mut steps),
+        Err(0)
+    );
+    assert_eq!(rt; row, [-7, 8], "a refused combination writes nothing");
+}
+
+#[test]
+fn combinations(rt: HostRuntime) {
+    check_combinations::<Brand>(&rt, Blank::new(1));
+}
+
+#[test]
+fn divisors(rt: HostRuntime) -> Result<(), Fail> {
+    assert_eq!(rt; gcd(12, 18), 6);
+    assert_eq!(rt; gcd(0, 7), 7);
+    assert_eq!(rt; gcd(0, 0), 0);
+    assert_eq!(rt; gcd(1 << 127, 3 << 100), 1 << 100);
+    Ok(())
+}
+
+#[test]
+fn primitive_rows(rt: HostRuntime) -> Result<(), Fail> {
+    let mut row = [4, -6, 0];
+    make_primitive(&mut row);
+    assert_eq!(rt; row, [2, -3, 0]);
+    let mut zero = [0, 0];
+    make_primitive(&mut zero);
+    assert_eq!(rt; zero, [0, 0]);
+    let mut single = [-K];
+    make_primitive(&mut single);
+    assert_eq!(rt; single, [-1]);
+    Ok(())
+}
+
+#[test]
+fn kept_rows(rt: HostRuntime) -> Result<(), Fail> {
+    let buffer = RowBuf::new(rt.alloc(), &[3, -4])?;
+    assert_eq!(rt; buffer.cells(), [3, -4].as_slice());
+    let mut list = RowList::new(rt.alloc(), 2);
+    assert!(rt; list.is_empty());
+    list.push(&[1, 2], true)?;
+    list.push(&[-3, 4], false)?;
+    assert_eq!(rt; list.width(), 2);
+    assert_eq!(rt; list.len(), 2);
+    assert_eq!(rt; list.row(1), [-3, 4].as_slice());
+    assert!(rt; list.is_eq(0) && !list.is_eq(1));
+    Ok(())
+}
