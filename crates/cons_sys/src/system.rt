@@ -1,0 +1,158 @@
+//! A list of constraints over one dimension.
+ghost use Rattle.std.specs.Prelude.{◌≡◌, ℕ, ◌+◌, ◌-◌, ◌^◌, ◌<◌, ◌==◌, ◌↔◌, [], length, map, MatchResult, IfOk, IsTrue, Err};
+ghost use Rattle.row_core.specs.Range.{AllInRange};
+ghost use Rattle.row_core.specs.Content.{IsPrimitive};
+ghost use Rattle.row_core.specs.Points.{IsPoint};
+ghost use Rattle.row_core.specs.declared.PairOver.{PairOver};
+ghost use Rattle.cons_sys.specs.Constraints.{Constraints, FitDimension, Gains, In, row_at, kind_at};
+ghost use Rattle.cons_sys.specs.Testing.{Answers, AnswersAt, LeavesRange};
+
+use crate::kind::ConKind;
+use row_core::{Memory, OverKind, PairOver, RowBuf, dot};
+use std::alloc::Global;
+use std::marker::Model;
+
+#[derive(Debug, Drop)]
+struct Entry {
+    row: RowBuf,
+    kind: ConKind,
+}
+
+/// Constraints over one dimension. Each row is kept primitive.
+#[derive(Debug, Drop)]
+pub struct ConsSys {
+    alloc: Global,
+    dim: usize,
+    entries: Vec<Entry>,
+}
+
+impl Model for ConsSys {
+    ghost Value = { Constraints };
+
+    ghost view = { λ s. record { dim = s.dim; list = map (λ e. (e.row, e.kind)) s.entries.items } };
+
+    ghost invariant = { λ s. FitDimension (record { dim = s.dim; list = map (λ e. (e.row, e.kind)) s.entries.items }) };
+}
+
+impl ConsSys {
+    /// Returns the empty list of constraints over `dim` variables.
+    pub fn new(alloc: Global, dim: usize) -> ConsSys
+        requires { dim < 2 ^ 32 - 2 }
+        ensures dim { result.dim ≡ dim }
+        ensures empty { result.list ≡ [] }
+    {
+        ConsSys {
+            alloc,
+            dim,
+            entries: Vec::new(alloc),
+        }
+    }
+
+    /// Appends the constraint, its row made primitive. After want of memory the list is as before.
+    pub fn push(&mut self, row: &[i128], kind: ConKind) -> Result<(), Memory>
+        requires wide { length row.now ≡ self.old.dim + 1 }
+        requires in_range { AllInRange row.now }
+        ensures dim { self.new.dim ≡ self.old.dim }
+        ensures list { MatchResult result (λ _. Gains self.old.list self.new.list row.now kind) (λ _. self.new.list ≡ self.old.list) }
+    {
+        let row = RowBuf::primitive(self.alloc, row)?;
+        self.entries.push(Entry { row, kind })?;
+        Ok(())
+    }
+
+    /// The number of variables.
+    #[inline]
+    pub fn dim(&self) -> usize
+        ensures value { result ≡ self.now.dim }
+        ensures narrow { self.now.dim < 2 ^ 32 - 2 }
+        ensures rows { FitDimension self.now }
+    {
+        self.dim
+    }
+
+    /// The number of constraints.
+    #[inline]
+    pub fn len(&self) -> usize
+        ensures { result ≡ length self.now.list }
+    {
+        self.entries.len()
+    }
+
+    /// Whether there is no constraint.
+    #[inline]
+    pub fn is_empty(&self) -> bool
+        ensures { result ≡ (length self.now.list == 0) }
+    {
+        self.entries.is_empty()
+    }
+
+    /// Lends the row of constraint `i`.
+    #[inline]
+    pub fn row(&self, i: usize) -> &[i128]
+        requires { i < length self.now.list }
+        ensures value { result.now ≡ row_at self.now.list i }
+        ensures wide { length (row_at self.now.list i) ≡ self.now.dim + 1 }
+        ensures narrow { self.now.dim < 2 ^ 32 - 2 }
+        ensures in_range { AllInRange (row_at self.now.list i) }
+        ensures primitive { IsPrimitive (row_at self.now.list i) }
+    {
+        self.entries[i].row.cells()
+    }
+
+    /// The kind of constraint `i`.
+    #[inline]
+    pub fn kind(&self, i: usize) -> ConKind
+        requires { i < length self.now.list }
+        ensures { result ≡ kind_at self.now.list i }
+    {
+        self.entries[i].kind
+    }
+
+    /// Whether constraint `i` holds at a vector.
+    fn holds_one(&self, i: usize, v: &[i128]) -> Result<bool, PairOver>
+        requires index { i < length self.now.list }
+        requires wide { length v.now ≡ self.now.dim + 1 }
+        ensures { AnswersAt self.now.list v.now i result }
+    {
+        match dot(self.row(i), v) {
+            Ok(value) => Ok(self.kind(i).allows(value)),
+            Err(column) => Err(PairOver {
+                kind: OverKind::Dot,
+                left: i,
+                right: 0,
+                column,
+                turned: false,
+            }),
+        }
+    }
+
+    /// Tests the constraints in order, up to the first that fails or leaves the range.
+    fn test_in_order(&self, v: &[i128]) -> Result<bool, PairOver>
+        requires { length v.now ≡ self.now.dim + 1 }
+        ensures { Answers self.now.list v.now result }
+    {
+        for i in 0..self.entries.len() {
+            if !self.holds_one(i, v)? {
+                return Ok(false);
+            }
+        }
+        Ok(true)
+    }
+
+    /// Whether each constraint holds at a point. The constraints are tested in order, up to the first
+    /// that fails.
+    ///
+    /// # Errors
+    ///
+    /// A constraint that is reached and whose dot with the point leaves the range: `left` numbers it,
+    /// and `right` is 0 and stands for the point.
+    pub fn holds_at(&self, v: &[i128]) -> Result<bool, PairOver>
+        requires point { IsPoint self.now.dim v.now }
+        requires in_range { AllInRange v.now }
+        ensures answer { Answers self.now.list v.now result }
+        ensures holds { IfOk result (λ b. IsTrue b ↔ In self.now v.now) }
+        ensures over { (over : PairOver) → (result ≡ Err over) ↔ LeavesRange self.now.list v.now over }
+    {
+        self.test_in_order(v)
+    }
+}
