@@ -1,0 +1,4 @@
+pub mod Numbers
+pub mod Terms
+pub mod Reading
+pub mod Values
