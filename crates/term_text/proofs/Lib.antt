@@ -4,3 +4,5 @@ pub mod TermLaws
 pub mod SumLaws
 pub mod TextLaws
 pub mod RowSums
+pub mod ListLaws
+pub mod SaysLaws

@@ -1,5 +1,5 @@
 -- What one pass over a text knows after some of its bytes.
-use Rattle.std.specs.Prelude.{ℕ, ◌+◌, ◌-◌, ◌*◌, ◌^◌, ◌==◌, if◌then◌else◌, List, [], ◌∷◌, ◌++◌, Bool, true, false, not, ◌&&◌, ◌||◌, nat_le, Option, Some, None, option_to_list, min}
+use Rattle.std.specs.Prelude.{ℕ, ◌+◌, ◌-◌, ◌*◌, ◌^◌, ◌==◌, if◌then◌else◌, List, [], ◌∷◌, ◌++◌, Bool, true, false, not, ◌&&◌, ◌||◌, nat_le, Option, Some, None, option_to_list, min, map}
 use Rattle.term_text.specs.declared.terms.Term.{Term}
 use Rattle.term_text.specs.declared.terms.Relation.{Relation}
 use Rattle.term_text.specs.declared.terms.Relation.TheVariants.{Equal, AtLeast, AtMost, Above, Below}
@@ -8,7 +8,8 @@ use Rattle.term_text.specs.declared.scan.Part.TheVariants.{Nothing, Number, Lett
 use Rattle.term_text.specs.declared.scan.Place.{Place}
 use Rattle.term_text.specs.declared.scan.Place.TheVariants.{Left, Right, Divisor}
 use Rattle.term_text.specs.declared.scan.State.{State}
-use Rattle.term_text.specs.Values.{Comparison, Ratio}
+use Rattle.std.specs.List.{list_any, slice_split}
+use Rattle.term_text.specs.Values.{Comparison, Ratio, never}
 
 -- the number with one more digit, where the greatest stands for all greater ones too
 abbrev pub next_number : ℕ → ℕ → ℕ → ℕ
@@ -121,3 +122,10 @@ con_read w = record { terms = terms_read start w; relation = relation_at (final 
 -- a text read as an expression with its divisor
 abbrev pub ratio_read : List ℕ → Ratio
 ratio_read w = record { terms = terms_read start w; divisor = divisor_at (final start w).place (final start w).part }
+
+-- a text read as a list of constraints: of its forms only `true` has a t, and of the others only `false` has an f
+abbrev pub cons_read : List ℕ → List Comparison
+cons_read w =
+  if list_any (λ b. b == 116) w then []
+  else (if list_any (λ b. b == 102) w then never ∷ []
+  else map con_read (slice_split (λ b. b == 44) w))

@@ -4,5 +4,7 @@
 mod rows;
 mod scan;
 mod terms;
+mod texts;
 
 pub use terms::{Relation, Term, ValueErr};
+pub use texts::{expr_of, frac_of, point_of, Frac};

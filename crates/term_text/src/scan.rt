@@ -1,6 +1,6 @@
 //! One pass over the bytes of a text.
 ghost use Rattle.std.specs.Prelude.{◌≡◌, ◌+◌, ◌*◌, ◌^◌, ◌++◌, min, option_to_list, MatchResult};
-ghost use Rattle.term_text.specs.Reading.{next_number, with_digit, with_letter, with_equals, ends_term, after, part_term, term_of, begun, start, terms_read, final};
+ghost use Rattle.term_text.specs.Reading.{next_number, with_digit, with_letter, with_equals, ends_term, after, part_term, term_of, begun, start, terms_read, final, relation_at, divisor_at};
 
 use crate::terms::{Relation, Term, ValueErr};
 use smallvec::SmallVec;
@@ -132,6 +132,26 @@ impl State {
             Place::Left => self.part.term(self.negative),
             Place::Right(_) => self.part.term(!self.negative),
             Place::Divisor => None,
+        }
+    }
+
+    /// The relation that was read. A text with none has that of `=`.
+    pub fn relation(self) -> Relation
+        ensures { result ≡ relation_at self.place }
+    {
+        match self.place {
+            Place::Right(relation) => relation,
+            Place::Left | Place::Divisor => Relation::Equal,
+        }
+    }
+
+    /// The divisor that was read, and 1 without a division.
+    pub fn divisor(self) -> u128
+        ensures { result ≡ divisor_at self.place self.part }
+    {
+        match (self.place, self.part) {
+            (Place::Divisor, Part::Number(divisor)) => divisor,
+            _ => 1,
         }
     }
 
