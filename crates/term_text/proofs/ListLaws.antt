@@ -1,0 +1,140 @@
+-- Lists of constraints: what cutting at the commas gives is what the grammar's cases say.
+use Rattle.std.proofs.Common.{◌≡◌, ℕ, ◌≤◌, ◌<◌, Bool, true, false, not, eqb, List, [], ◌∷◌, ◌++◌, map, refl, sym, ◌∙◌, ap, if◌then◌else◌, zero, suc, inl, inr, ◌⊎◌, append_assoc, append-nil, arith}
+use Rattle.std.specs.Prelude.{◌&&◌, ◌||◌, nat_lt, All, codes}
+use Rattle.std.specs.List.{list_any, slice_split}
+use Rattle.std.proofs.lemmas.List.Folds.{list_any-append}
+use Rattle.std.proofs.lemmas.List.Elements.{All-nil, All-cons}
+use Rattle.std.proofs.lemmas.List.Splits.{slice_split_none, slice_split_at}
+use Rattle.grammar.specs.Form.{Form, word, byte, seq, alt, many, upto, Matches, Times}
+use Rattle.grammar.specs.Grammar.{◌·◌, ◌∣◌, ◌⋯◌, symbol, blanks, list_of, alone}
+use Rattle.grammar.specs.Cases.{con_cases, cons_cases}
+use Rattle.term_text.specs.Reading.{con_read, cons_read}
+use Rattle.term_text.specs.Values.{Comparison, never, con_by, further_cons_by, cons_by, alone_by}
+use Rattle.term_text.proofs.Passes.{symbol_is}
+use Rattle.term_text.proofs.TextLaws.{Same, same_alone, con_read-same, con_law}
+
+-- whether the byte stands in the text
+abbrev pub has : ℕ → List ℕ → Bool
+has c w = list_any (λ b. eqb b c) w
+
+-- whether no text of the form has the byte, by the form
+abbrev pub avoids : ℕ → Form → Bool
+avoids c (word cs) = not (has c cs)
+avoids c (byte low high) = nat_lt c low || nat_lt high c
+avoids c (seq f g) = avoids c f && avoids c g
+avoids c (alt f g) = avoids c f && avoids c g
+avoids c (many f) = avoids c f
+avoids c (upto k f) = avoids c f
+
+not-true : (a : Bool) → not a ≡ true → a ≡ false
+not-true true e = sym e
+not-true false e = refl
+
+and-left : (a b : Bool) → (a && b) ≡ true → a ≡ true
+and-left true b e = refl
+and-left false b e = e
+
+and-right : (a b : Bool) → (a && b) ≡ true → b ≡ true
+and-right true b e = e
+and-right false true e = refl
+and-right false false e = e
+
+has-append : (c : ℕ) (w u v : List ℕ) → w ≡ u ++ v → has c u ≡ false → has c v ≡ false → has c w ≡ false
+has-append c w u v e first second = rw e (list_any-append (λ b. eqb b c) u v ∙ ap (λ x. x || has c v) first ∙ second)
+
+byte_avoids : (c low high b : ℕ) → low ≤ b → b ≤ high → (nat_lt c low || nat_lt high c) ≡ true → has c (b ∷ []) ≡ false
+byte_avoids c low high b above below e = grind arith
+
+-- n texts, none of which has the byte
+times_avoid : (c : ℕ) (P : List ℕ → Type 0) → ((w : List ℕ) → P w → has c w ≡ false) → (n : ℕ) (w : List ℕ) → Times P n w → has c w ≡ false
+times_avoid c P each zero w e = rw e refl
+times_avoid c P each (suc n) w (u, v, e, is, others) = has-append c w u v e (each u is) (times_avoid c P each n v others)
+
+pub text_avoids : (c : ℕ) (f : Form) → avoids c f ≡ true → (w : List ℕ) → Matches f w → has c w ≡ false
+text_avoids c (word cs) a w e = rw e (not-true (has c cs) a)
+text_avoids c (byte low high) a w (b, above, below, e) = rw e (byte_avoids c low high b above below a)
+text_avoids c (seq f g) a w (u, v, e, is, more) = has-append c w u v e (text_avoids c f (and-left (avoids c f) (avoids c g) a) u is) (text_avoids c g (and-right (avoids c f) (avoids c g) a) v more)
+text_avoids c (alt f g) a w (inl is) = text_avoids c f (and-left (avoids c f) (avoids c g) a) w is
+text_avoids c (alt f g) a w (inr is) = text_avoids c g (and-right (avoids c f) (avoids c g) a) w is
+text_avoids c (many f) a w (n, times) = times_avoid c (Matches f) (text_avoids c f a) n w times
+text_avoids c (upto k f) a w (n, le, times) = times_avoid c (Matches f) (text_avoids c f a) n w times
+
+or-left : (a b : Bool) → (a || b) ≡ false → a ≡ false
+or-left true b e = e
+or-left false b e = refl
+
+or-right : (a b : Bool) → (a || b) ≡ false → b ≡ false
+or-right true true e = e
+or-right true false e = refl
+or-right false b e = e
+
+-- the same, element by element
+all_other : (c : ℕ) (w : List ℕ) → has c w ≡ false → All (λ b. eqb b c ≡ false) w
+all_other c [] e = All-nil (λ b. eqb b c ≡ false)
+all_other c (b ∷ w) e = All-cons (λ x. eqb x c ≡ false) b w (or-left (eqb b c) (has c w) e) (all_other c w (or-right (eqb b c) (has c w) e))
+
+-- the parts between commas
+abbrev parts : List ℕ → List (List ℕ)
+parts w = slice_split (λ b. eqb b 44) w
+
+parts-none : (w : List ℕ) → has 44 w ≡ false → parts w ≡ w ∷ []
+parts-none w e = slice_split_none (λ b. eqb b 44) w (all_other 44 w e)
+
+parts-comma : (u v : List ℕ) → has 44 u ≡ false → parts (u ++ 44 ∷ v) ≡ u ∷ parts v
+parts-comma u v e = slice_split_at (λ b. eqb b 44) u 44 v (all_other 44 u e) refl
+
+-- one constraint with blanks before it
+record IsOne (x : List ℕ) (c : Comparison) : Type 0 where
+  whole : has 44 x ≡ false
+  value : (b : List ℕ) → Matches blanks b → con_read (x ++ b) ≡ c
+
+one_con : (b con : List ℕ) → Matches blanks b → (m : Matches con_cases con) → IsOne (b ++ con) (con_by con m)
+one_con b con between m = record {
+  whole = has-append 44 (b ++ con) b con refl (text_avoids 44 blanks refl b between) (text_avoids 44 con_cases refl con m);
+  value = λ c behind. con_read-same ((b ++ con) ++ c) con (same_alone ((b ++ con) ++ c) b (con ++ c) c con (append_assoc b con c) refl between behind) ∙ con_law con m;
+}
+
+regroup : (x b c con v z : List ℕ) → x ++ (((b ++ (44 ∷ (c ++ con))) ++ v) ++ z) ≡ (x ++ b) ++ 44 ∷ ((c ++ con) ++ (v ++ z))
+regroup x b c con v z = simp append_assoc
+
+-- a constraint, then n times a comma and a constraint, then blanks
+further_law : (n : ℕ) (w : List ℕ) (m : Times (Matches (blanks · (symbol 44 ⋯ con_cases))) n w) (x : List ℕ) (c : Comparison) → IsOne x c → (z : List ℕ) → Matches blanks z → map con_read (parts (x ++ (w ++ z))) ≡ c ∷ further_cons_by n w m
+further_law zero w e x c one z behind =
+  let none : has 44 (x ++ z) ≡ false = has-append 44 (x ++ z) x z refl one.whole (text_avoids 44 blanks refl z behind) in
+  ap (λ v. map con_read (parts (x ++ (v ++ z)))) e ∙ ap (map con_read) (parts-none (x ++ z) none) ∙ ap (λ v. v ∷ []) (one.value z behind)
+further_law (suc n) w (u, v, e, (b, w1, e1, blanks1, (comma, w2, e2, is_comma, (d, con, e3, blanks2, is_con))), others) x c one z behind =
+  let item : u ≡ b ++ (44 ∷ (d ++ con)) = e1 ∙ ap (λ y. b ++ y) (e2 ∙ ap (λ y. y ++ w2) (symbol_is 44 comma is_comma) ∙ ap (λ y. 44 ∷ y) e3) in
+  let text : x ++ (w ++ z) ≡ (x ++ b) ++ 44 ∷ ((d ++ con) ++ (v ++ z)) = ap (λ y. x ++ (y ++ z)) (e ∙ ap (λ y. y ++ v) item) ∙ regroup x b d con v z in
+  let front : has 44 (x ++ b) ≡ false = has-append 44 (x ++ b) x b refl one.whole (text_avoids 44 blanks refl b blanks1) in
+  let next : IsOne (d ++ con) (con_by con is_con) = one_con d con blanks2 is_con in
+  ap (λ y. map con_read (parts y)) text ∙ ap (map con_read) (parts-comma (x ++ b) ((d ++ con) ++ (v ++ z)) front) ∙ ap (λ y. y ∷ map con_read (parts ((d ++ con) ++ (v ++ z)))) (one.value b blanks1) ∙ ap (λ ys. c ∷ ys) (further_law n v others (d ++ con) (con_by con is_con) next z behind)
+
+or-false : (a : Bool) → (a || false) ≡ a
+or-false true = refl
+or-false false = refl
+
+-- what stands between blanks
+has_between : (c : ℕ) (w b x v z : List ℕ) → w ≡ b ++ x → x ≡ v ++ z → has c b ≡ false → has c z ≡ false → has c w ≡ has c v
+has_between c w b x v z e f before behind = rw (e, f) (list_any-append (λ y. eqb y c) b (v ++ z) ∙ ap (λ y. y || has c (v ++ z)) before ∙ list_any-append (λ y. eqb y c) v z ∙ ap (λ y. has c v || y) behind ∙ or-false (has c v))
+
+chosen : (w : List ℕ) (t f : Bool) → has 116 w ≡ t → has 102 w ≡ f → cons_read w ≡ (if t then [] else (if f then never ∷ [] else map con_read (parts w)))
+chosen w t f first second = ap (λ x. if x then [] else (if has 102 w then never ∷ [] else map con_read (parts w))) first ∙ ap (λ x. if t then [] else (if x then never ∷ [] else map con_read (parts w))) second
+
+regroup_first : (b first rest z : List ℕ) → b ++ ((first ++ rest) ++ z) ≡ (b ++ first) ++ (rest ++ z)
+regroup_first b first rest z = simp append_assoc
+
+-- a list of constraints with blanks around it
+pub alone_cons_law : (w : List ℕ) (m : Matches (alone cons_cases) w) → cons_read w ≡ alone_by cons_cases cons_by w m
+alone_cons_law w (b, x, e, before, (v, z, f, inl always, behind)) =
+  let t : has 116 w ≡ true = has_between 116 w b x v z e f (text_avoids 116 blanks refl b before) (text_avoids 116 blanks refl z behind) ∙ ap (has 116) always in
+  chosen w true (has 102 w) t refl
+alone_cons_law w (b, x, e, before, (v, z, f, inr (inl empty), behind)) =
+  let t : has 116 w ≡ false = has_between 116 w b x v z e f (text_avoids 116 blanks refl b before) (text_avoids 116 blanks refl z behind) ∙ ap (has 116) empty in
+  let u : has 102 w ≡ true = has_between 102 w b x v z e f (text_avoids 102 blanks refl b before) (text_avoids 102 blanks refl z behind) ∙ ap (has 102) empty in
+  chosen w false true t u
+alone_cons_law w (b, x, e, before, (v, z, f, inr (inr (first, rest, g, is_first, (n, others))), behind)) =
+  let list : Matches (alone (list_of con_cases)) w = (b, x, e, before, (v, z, f, (first, rest, g, is_first, (n, others)), behind)) in
+  let t : has 116 w ≡ false = text_avoids 116 (alone (list_of con_cases)) refl w list in
+  let u : has 102 w ≡ false = text_avoids 102 (alone (list_of con_cases)) refl w list in
+  let text : w ≡ (b ++ first) ++ (rest ++ z) = e ∙ ap (λ y. b ++ y) (f ∙ ap (λ y. y ++ z) g) ∙ regroup_first b first rest z in
+  chosen w false false t u ∙ ap (λ y. map con_read (parts y)) text ∙ further_law n rest others (b ++ first) (con_by first is_first) (one_con b first before is_first) z behind

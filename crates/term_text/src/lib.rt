@@ -1,0 +1,10 @@
+//! The values of texts of expressions, constraints and points, for texts that are in the grammar.
+#![tactic(auto)]
+
+mod rows;
+mod scan;
+mod terms;
+mod texts;
+
+pub use terms::{Relation, Term, ValueErr};
+pub use texts::{expr_of, frac_of, point_of, Frac};

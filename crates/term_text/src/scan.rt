@@ -1,0 +1,188 @@
+//! One pass over the bytes of a text.
+ghost use Rattle.std.specs.Prelude.{◌≡◌, ◌+◌, ◌*◌, ◌^◌, ◌++◌, min, option_to_list, MatchResult};
+ghost use Rattle.term_text.specs.Reading.{next_number, with_digit, with_letter, with_equals, ends_term, after, part_term, term_of, begun, start, terms_read, final, relation_at, divisor_at};
+
+use crate::terms::{Relation, Term, ValueErr};
+use smallvec::SmallVec;
+use std::alloc::Global;
+
+/// Stands for all greater sizes.
+const MOST_SIZE: u128 = 1 << 127;
+
+/// Stands for all later variables.
+const MOST_INDEX: u64 = 1 << 32;
+
+/// What has been read of a term.
+#[derive(Clone, Copy, Debug, PartialEq, Eq)]
+pub enum Part {
+    Nothing,
+    /// A number.
+    Number(u128),
+    /// A variable: its factor, its letter's place in the alphabet, and the number behind the letter.
+    Letter(u128, u64, u64),
+}
+
+impl Part {
+    fn with_digit(self, digit: u8) -> Part
+        ensures { result ≡ with_digit self digit }
+    {
+        match self {
+            Part::Nothing => Part::Number(digit as u128),
+            Part::Number(size) => Part::Number(next_size(size, digit)),
+            Part::Letter(factor, place, number) => Part::Letter(factor, place, next_index(number, digit)),
+        }
+    }
+
+    fn with_letter(self, place: u8) -> Part
+        ensures { result ≡ with_letter self place }
+    {
+        match self {
+            Part::Number(factor) => Part::Letter(factor, place as u64, 0),
+            Part::Nothing | Part::Letter(_, _, _) => Part::Letter(1, place as u64, 0),
+        }
+    }
+
+    fn term(self, negative: bool) -> Option<Term>
+        ensures { result ≡ part_term negative self }
+    {
+        match self {
+            Part::Nothing => None,
+            Part::Number(size) => Some(Term { negative, size, variable: None }),
+            Part::Letter(size, place, number) => Some(Term { negative, size, variable: Some(index_of(place, number)) }),
+        }
+    }
+}
+
+fn next_size(size: u128, digit: u8) -> u128
+    ensures { result ≡ next_number (2 ^ 127) size digit }
+{
+    size.saturating_mul(10).saturating_add(digit as u128).min(MOST_SIZE)
+}
+
+fn next_index(number: u64, digit: u8) -> u64
+    ensures { result ≡ next_number (2 ^ 32) number digit }
+{
+    number.saturating_mul(10).saturating_add(digit as u64).min(MOST_INDEX)
+}
+
+fn index_of(place: u64, number: u64) -> u64
+    ensures { result ≡ min (26 * number + place) (2 ^ 32) }
+{
+    number.saturating_mul(26).saturating_add(place).min(MOST_INDEX)
+}
+
+/// Which part of the text is read.
+#[derive(Clone, Copy, Debug, PartialEq, Eq)]
+pub enum Place {
+    /// What stands before a relation or a division.
+    Left,
+    /// What stands behind the relation.
+    Right(Relation),
+    /// What stands behind the division.
+    Divisor,
+}
+
+impl Place {
+    fn with_equals(self) -> Place
+        ensures { result ≡ with_equals self }
+    {
+        match self {
+            Place::Right(Relation::Above) => Place::Right(Relation::AtLeast),
+            Place::Right(Relation::Below) => Place::Right(Relation::AtMost),
+            _ => Place::Right(Relation::Equal),
+        }
+    }
+}
+
+/// What is known after some bytes of a text, besides the terms that have ended.
+#[derive(Clone, Copy, Debug, PartialEq, Eq)]
+pub struct State {
+    pub negative: bool,
+    pub part: Part,
+    pub place: Place,
+}
+
+impl State {
+    fn begun(place: Place, negative: bool) -> State
+        ensures { result ≡ begun place negative }
+    {
+        State { negative, part: Part::Nothing, place }
+    }
+
+    fn after(self, byte: u8) -> State
+        ensures { result ≡ after self byte }
+    {
+        match byte {
+            b'0'..=b'9' => State { part: self.part.with_digit(byte - b'0'), ..self },
+            b'A'..=b'Z' => State { part: self.part.with_letter(byte - b'A'), ..self },
+            b'+' => State::begun(self.place, false),
+            b'-' => State::begun(self.place, true),
+            b'=' => State::begun(self.place.with_equals(), false),
+            b'>' => State::begun(Place::Right(Relation::Above), false),
+            b'<' => State::begun(Place::Right(Relation::Below), false),
+            b'/' => State::begun(Place::Divisor, false),
+            _ => self,
+        }
+    }
+
+    fn term(self) -> Option<Term>
+        ensures { result ≡ term_of self }
+    {
+        match self.place {
+            Place::Left => self.part.term(self.negative),
+            Place::Right(_) => self.part.term(!self.negative),
+            Place::Divisor => None,
+        }
+    }
+
+    /// The relation that was read. A text with none has that of `=`.
+    pub fn relation(self) -> Relation
+        ensures { result ≡ relation_at self.place }
+    {
+        match self.place {
+            Place::Right(relation) => relation,
+            Place::Left | Place::Divisor => Relation::Equal,
+        }
+    }
+
+    /// The divisor that was read, and 1 without a division.
+    pub fn divisor(self) -> u128
+        ensures { result ≡ divisor_at self.place self.part }
+    {
+        match (self.place, self.part) {
+            (Place::Divisor, Part::Number(divisor)) => divisor,
+            _ => 1,
+        }
+    }
+
+    fn end_term(self, terms: &mut SmallVec<Term, 8>) -> Result<(), ValueErr>
+        ensures { MatchResult result (λ _. terms.new.items ≡ terms.old.items ++ option_to_list (term_of self)) (λ e. e ≡ ValueErr.Memory) }
+    {
+        if let Some(term) = self.term() {
+            terms.push(term)?;
+        }
+        Ok(())
+    }
+}
+
+fn ends_term(byte: u8) -> bool
+    ensures { result ≡ ends_term byte }
+{
+    matches!(byte, b'+' | b'-' | b'=' | b'>' | b'<' | b'/')
+}
+
+/// Returns the terms of a text, and what stands behind its last byte.
+pub fn scan(alloc: Global, text: &[u8]) -> Result<(SmallVec<Term, 8>, State), ValueErr>
+    ensures { MatchResult result (λ r. (r.0.items ≡ terms_read start text.now) × (r.1 ≡ final start text.now)) (λ e. e ≡ ValueErr.Memory) }
+{
+    let mut terms = SmallVec::new(alloc);
+    let mut state = State::begun(Place::Left, false);
+    for byte in text {
+        if ends_term(*byte) {
+            state.end_term(&mut terms)?;
+        }
+        state = state.after(*byte);
+    }
+    state.end_term(&mut terms)?;
+    Ok((terms, state))
+}
