@@ -1,1 +1,6 @@
 pub mod CaseEquations
+mod Derivatives
+pub mod Columns
+mod Lives
+mod RowLists
+mod RowSteps

@@ -1,8 +1,16 @@
 //! Regular forms of text, the grammar of the calculator's texts as such forms, and one recognizer for all of them.
 #![tactic(auto)]
 
+mod bodies;
+mod column;
+mod derivative;
+mod forms;
 mod re;
+mod rest;
+mod rows;
 mod rule;
+mod span;
 
+pub use column::{column_of, matches};
 pub use re::Re;
 pub use rule::Rule;
