@@ -1,6 +1,7 @@
 pub mod CaseEquations
 pub mod Columns
 mod Derivatives
+pub mod LargestColumn
 mod Lives
 pub mod Nullable
 mod RowLists

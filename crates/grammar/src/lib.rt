@@ -2,6 +2,7 @@
 #![tactic(auto)]
 
 mod bodies;
+mod choice;
 mod column;
 mod derivative;
 mod forms;
@@ -11,6 +12,7 @@ mod rows;
 mod rule;
 mod span;
 
+pub use choice::{column_alone, column_by_rule, first_match, rule_of};
 pub use column::{column_of, matches};
 pub use re::Re;
 pub use rule::Rule;
