@@ -1,3 +1,4 @@
+pub mod AvoidedByte
 pub mod CaseEquations
 pub mod Columns
 mod Derivatives

@@ -62,3 +62,7 @@ pub record IsFirstMatch (fs : List Form) (w : List ℕ) (i : ℕ) : Type 0 where
   pub within : i < length fs
   pub matches : Matches (slice_index_or fs i (word [])) w
   pub before : (j : ℕ) → j < i → ¬ (Matches (slice_index_or fs j (word [])) w)
+
+-- each text has a form or hasn't
+abbrev pub DecidesMatches : Type 0
+DecidesMatches = (f : Form) (w : List ℕ) → Matches f w ⊎ ¬ (Matches f w)

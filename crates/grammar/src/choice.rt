@@ -3,12 +3,11 @@ ghost use Rattle.grammar.specs.Form.{Matches, IsColumn, IsColumnOfAny, IsFirstMa
 ghost use Rattle.grammar.specs.Grammar.{alone};
 ghost use Rattle.grammar.specs.Shape.{form_of, shape};
 
-use std::alloc::{AllocError, Global};
-
 use crate::column::column_of;
 use crate::forms::BLANKS;
 use crate::re::Re;
 use crate::rule::Rule;
+use std::alloc::{AllocError, Global};
 
 /// None where the text has the form of that name, and else the column of the fault, as [`column_of`] has it.
 pub fn column_by_rule(alloc: Global, name: Rule, text: &[u8]) -> Result<Option<usize>, AllocError>
@@ -28,7 +27,11 @@ pub fn column_alone(alloc: Global, name: Rule, text: &[u8]) -> Result<Option<usi
 
 /// The index of the first form that the text has, and else the column of the fault: the least number such that the
 /// first so many bytes begin no text of any of the forms, or the length plus 1 where the whole text begins one.
-pub fn first_match(alloc: Global, forms: &[Re], text: &[u8]) -> Result<Result<usize, usize>, AllocError>
+pub fn first_match(
+    alloc: Global,
+    forms: &[Re],
+    text: &[u8],
+) -> Result<Result<usize, usize>, AllocError>
     ensures { IfOk result (λ r. MatchResult r (IsFirstMatch (map shape forms.now) text.now) (IsColumnOfAny (map shape forms.now) text.now)) }
 {
     let mut column = 0;
@@ -42,7 +45,11 @@ pub fn first_match(alloc: Global, forms: &[Re], text: &[u8]) -> Result<Result<us
 }
 
 /// A name whose form the text has, and else the column of the fault over all the forms.
-pub fn rule_of(alloc: Global, rules: &[Rule], text: &[u8]) -> Result<Result<Rule, usize>, AllocError>
+pub fn rule_of(
+    alloc: Global,
+    rules: &[Rule],
+    text: &[u8],
+) -> Result<Result<Rule, usize>, AllocError>
     ensures { IfOk result (λ r. MatchResult r (λ rule. Contains rules.now rule × Matches (form_of rule) text.now) (IsColumnOfAny (map form_of rules.now) text.now)) }
 {
     let mut column = 0;

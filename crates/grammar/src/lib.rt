@@ -6,6 +6,7 @@ mod choice;
 mod column;
 mod derivative;
 mod forms;
+mod laws;
 mod re;
 mod rest;
 mod rows;
@@ -14,5 +15,6 @@ mod span;
 
 pub use choice::{column_alone, column_by_rule, first_match, rule_of};
 pub use column::{column_of, matches};
+pub use laws::{avoided_bytes, decided_matches};
 pub use re::Re;
 pub use rule::Rule;
