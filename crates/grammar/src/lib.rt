@@ -18,3 +18,6 @@ pub use column::{column_of, matches};
 pub use laws::{avoided_bytes, decided_matches};
 pub use re::Re;
 pub use rule::Rule;
+
+#[cfg(test)]
+mod tests;
