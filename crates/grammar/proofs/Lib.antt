@@ -1,1 +1,9 @@
+pub mod AvoidedByte
 pub mod CaseEquations
+pub mod Columns
+mod Derivatives
+pub mod LargestColumn
+mod Lives
+pub mod Nullable
+mod RowLists
+mod RowSteps

@@ -1,4 +1,9 @@
+pub mod Avoids
+pub mod Cases
+pub mod Derivative
 pub mod Form
 pub mod Grammar
-pub mod Cases
+pub mod Rest
+pub mod Rows
 pub mod Shape
+pub mod Span

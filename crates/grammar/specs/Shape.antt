@@ -1,4 +1,4 @@
-use Rattle.std.specs.Prelude.{min, max}
+use Rattle.std.specs.Prelude.{ℕ, ◌+◌, ◌*◌, Bool, true, false, cond, min, max}
 use Rattle.grammar.specs.Form.{Form, word, byte, seq, alt, many, upto}
 use Rattle.grammar.specs.Grammar.{nat, name, var, term, expr, frac, vterm, vexpr, vfrac, con, cons, point, gen, gens, vars, comment}
 use Rattle.grammar.specs.declared.rule.Rule.{Rule}
@@ -34,3 +34,21 @@ shape (Or' p f q g) = alt (shape f) (shape g)
 shape (Many' p f) = many (shape f)
 shape (UpTo' k p f) = upto k (shape f)
 shape (Named rule) = form_of rule
+
+-- the value stands for a form by its name
+abbrev pub is_named : Re → Bool
+is_named (Named rule) = true
+is_named _ = false
+
+-- how many parts a form has
+abbrev pub size : Form → ℕ
+size (word cs) = 1
+size (byte low high) = 1
+size (seq f g) = size f + size g + 1
+size (alt f g) = size f + size g + 1
+size (many f) = size f + 1
+size (upto k f) = size f + 1
+
+-- falls from a form to its parts, and from a name to what it stands for
+abbrev pub weight : Re → ℕ
+weight re = 2 * size (shape re) + cond (is_named re) 1 0

@@ -1,0 +1,75 @@
+ghost use Rattle.std.specs.Prelude.{◌≡◌, map, IfOk, OnOk, IsTrue, ◌↔◌, MatchOption};
+ghost use Rattle.grammar.specs.Form.{Matches, IsColumn};
+ghost use Rattle.grammar.specs.Shape.{shape};
+ghost use Rattle.grammar.specs.Derivative.{after_rows, row_ends as row_ends_form, some_ends as some_ends_form};
+ghost use Rattle.grammar.specs.Rows.{shapes_of};
+
+use crate::derivative::{is_nullable, push_after_rows};
+use crate::re::Re;
+use crate::rest::Rest;
+use crate::rows::Rows;
+use std::alloc::{AllocError, Global};
+use std::mem;
+
+/// None where the text has the form, and else the column of the fault: the least number such that the first so many
+/// bytes begin no text of the form, or the length plus 1 where the whole text begins one.
+///
+/// The form is followed by its partial derivatives (Antimirov, 1996), in a time that grows with the text's length.
+pub fn column_of(alloc: Global, form: &Re, text: &[u8]) -> Result<Option<usize>, AllocError>
+    ensures { IfOk result (λ r. MatchOption r (Matches (shape form.now) text.now) (IsColumn (shape form.now) text.now)) }
+{
+    let mut rows = Rows::new(alloc);
+    let mut spare = Rows::new(alloc);
+    rows.push(&Rest::Row(&[*form]))?;
+    for (index, byte) in text.iter().enumerate() {
+        advance(*byte, &mut rows, &mut spare)?;
+        if rows.is_empty() {
+            return Ok(Some(index + 1));
+        }
+    }
+    if some_ends(&rows) {
+        Ok(None)
+    } else {
+        Ok(Some(text.len() + 1))
+    }
+}
+
+/// Whether the text has the form.
+pub fn matches(alloc: Global, form: &Re, text: &[u8]) -> Result<bool, AllocError>
+    ensures { IfOk result (λ b. IsTrue b ↔ Matches (shape form.now) text.now) }
+{
+    let column = column_of(alloc, form, text)?;
+    Ok(column.is_none())
+}
+
+// Takes the rows over the byte. The other rows lend their memory.
+fn advance<'a>(byte: u8, rows: &mut Rows<'a>, spare: &mut Rows<'a>) -> Result<(), AllocError>
+    ensures { OnOk result (shapes_of rows.new ≡ after_rows byte (shapes_of rows.old)) }
+{
+    spare.clear();
+    push_after_rows(byte, rows, spare)?;
+    mem::swap(rows, spare);
+    Ok(())
+}
+
+// Whether the empty text has each form of one of the rows.
+fn some_ends(rows: &Rows) -> bool
+    ensures { result ≡ some_ends_form (shapes_of rows.now) }
+{
+    for index in 0..rows.len() {
+        if row_ends(rows.row(index)) {
+            return true;
+        }
+    }
+    false
+}
+
+// Whether the empty text has each form of the row.
+fn row_ends(row: &[Re]) -> bool
+    ensures { result ≡ row_ends_form (map shape row.now) }
+{
+    match row {
+        [] => true,
+        [first, rest @ ..] => is_nullable(first) && row_ends(rest),
+    }
+}
