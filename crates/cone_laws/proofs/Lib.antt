@@ -33,3 +33,5 @@ pub mod UniqueLines
 pub mod UniqueRays
 pub mod UniqueSystems
 pub mod Rearranging
+pub mod PrimitiveSteps
+pub mod NextSystems

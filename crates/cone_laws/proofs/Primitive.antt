@@ -1,13 +1,15 @@
-use Rattle.std.specs.Prelude.{◌≡◌, ℕ, ◌+◌, ◌-◌, ◌*◌, ◌<◌, ◌≤◌, List, length, ℤ, pos, negsuc, ◌<ℤ◌, unsigned_abs, refl}
+use Rattle.std.specs.Prelude.{◌≡◌, ℕ, ◌+◌, ◌-◌, ◌*◌, ◌<◌, ◌≤◌, ◌⊎◌, List, length, ℤ, pos, negsuc, ◌<ℤ◌, unsigned_abs, refl}
 use Prim.Native.Nat.{◌∣◌, suc, zero}
 use Rattle.std.proofs.Math.IntN.{◌*ℤ◌}
-use Rattle.std.proofs.Math.Nat.{le_of_mul-le-mul_left, dvd-mul_left, mul_comm}
+use Rattle.std.proofs.Math.Nat.{le_of_mul-le-mul_left, dvd-mul_left, mul_comm as nat_mul_comm}
 use Rattle.std.proofs.Common.{sym, ◌∙◌, ap, subst, inl, inr, arith}
 use Rattle.std.proofs.lemmas.Int.{ints, unsigned_abs-mul}
-use Rattle.std.proofs.lemmas.List.{ext_get_or}
+use Rattle.std.proofs.lemmas.Bool.{cases_lt}
+use Rattle.std.proofs.lemmas.List.{ext_get_or, get_or_past}
 use Rattle.std.proofs.lemmas.List.Elements.{All-from_get_or}
 use Rattle.row_core.specs.Vectors.{cell}
 use Rattle.row_core.specs.Content.{DividesAll, IsPrimitive}
+use Rattle.cone_laws.proofs.Ring.{mul_comm, mul-positive, positive_of_mul}
 
 -- two families of numbers are multiples of one family
 pub record IsCommon (a b : ℕ → ℕ) : Type 0 where
@@ -87,7 +89,7 @@ no_divisor v i d h ne (inl z) all = absurd (ne (z i (pos 0) h))
 no_divisor v i d h ne (inr p) all = p d all
 
 pub divides_part : (d x c : ℕ) → x ≡ d * c → d ∣ x
-divides_part d x c e = let P : ℕ → Type 0 = λ n. d ∣ n in subst P (mul_comm c d ∙ sym e) (dvd-mul_left d c)
+divides_part d x c e = let P : ℕ → Type 0 = λ n. d ∣ n in subst P (nat_mul_comm c d ∙ sym e) (dvd-mul_left d c)
 
 abs_cell : (m : ℤ) (x y n : ℤ) → m *ℤ x ≡ n *ℤ y → unsigned_abs m * unsigned_abs x ≡ unsigned_abs n * unsigned_abs y
 abs_cell m x y n e = sym (unsigned_abs-mul m x) ∙ ap unsigned_abs e ∙ unsigned_abs-mul n y
@@ -126,3 +128,19 @@ primitive_same m n u v i p q w e pu pv h nu nv =
 
     abs_same : (j : ℕ) → unsigned_abs (cell u j) ≡ unsigned_abs (cell v j)
     abs_same j = found.left_is j ∙ ap (λ x. x * found.part j) (left_one ∙ sym right_one) ∙ sym (found.right_is j)
+
+-- an entry other than 0 stands within the vector
+pub within_length : (v : List ℤ) (j : ℕ) → pos 0 <ℤ cell v j → j < length v
+within_length v j p = by_place (cases_lt j (length v))
+  where
+    by_place : (j < length v) ⊎ (length v ≤ j) → j < length v
+    by_place (inl h) = h
+    by_place (inr h) = absurd (omega (arith, ints, get_or_past v j (pos 0) h, p))
+
+factor_positive : (t v k l : ℤ) → t *ℤ v ≡ k *ℤ l → pos 0 <ℤ t → pos 0 <ℤ v → pos 0 <ℤ l → pos 0 <ℤ k
+factor_positive t v k l e p q r = positive_of_mul l k r (let h : pos 0 <ℤ (t *ℤ v) = mul-positive t v p q in omega (arith, ints, h, e, mul_comm l k))
+
+-- the same with the second factor of any sign, where both vectors are positive at one column
+pub primitive_same_at : (m n : ℤ) (u v : List ℤ) (i : ℕ) → pos 0 <ℤ m → length u ≡ length v → ((j : ℕ) → m *ℤ cell u j ≡ n *ℤ cell v j) → IsPrimitive u → IsPrimitive v → pos 0 <ℤ cell u i → pos 0 <ℤ cell v i → u ≡ v
+primitive_same_at m n u v i p w e pu pv a b =
+    primitive_same m n u v i p (factor_positive m (cell u i) n (cell v i) (e i) p a b) w e pu pv (within_length u i a) (λ z. omega (arith, ints, z, a)) (λ z. omega (arith, ints, z, b))

@@ -12,7 +12,7 @@ use Rattle.row_core.specs.Content.{IsPrimitive}
 use Rattle.cone_laws.specs.Cones.{Spans}
 use Rattle.cone_laws.specs.Canon.{vector_at, IsPivot, IsEchelon}
 use Rattle.cone_laws.proofs.Ring.{mul-positive, positive_of_mul, zero_of_mul, same_or_not, mul_comm}
-use Rattle.cone_laws.proofs.Primitive.{primitive_same}
+use Rattle.cone_laws.proofs.Primitive.{primitive_same_at}
 use Rattle.cone_laws.proofs.SortedLists.{IsDescending, IsWithin, descending_same}
 use Rattle.cone_laws.proofs.EchelonForm.{zero_left, zero_right}
 use Rattle.cone_laws.proofs.Factors.{combined-nil, combined-none, combined-one}
@@ -26,19 +26,8 @@ pivot_same v i k p q = by_order (cases_order i k)
     by_order (inr (inl h)) = absurd (omega (arith, ints, q.before i h, p.positive))
     by_order (inr (inr h)) = absurd (omega (arith, ints, p.before k h, q.positive))
 
--- an entry other than 0 stands within the vector
-pub within_length : (v : List ℤ) (j : ℕ) → pos 0 <ℤ cell v j → j < length v
-within_length v j p = by_place (cases_lt j (length v))
-  where
-    by_place : (j < length v) ⊎ (length v ≤ j) → j < length v
-    by_place (inl h) = h
-    by_place (inr h) = absurd (omega (arith, ints, get_or_past v j (pos 0) h, p))
-
 factor_zero : (t v k l : ℤ) → t *ℤ v ≡ k *ℤ l → v ≡ pos 0 → pos 0 <ℤ l → k ≡ pos 0
 factor_zero t v k l e f p = zero_of_mul l k p (mul_comm l k ∙ sym e ∙ zero_right t v f)
-
-factor_positive : (t v k l : ℤ) → t *ℤ v ≡ k *ℤ l → pos 0 <ℤ t → pos 0 <ℤ v → pos 0 <ℤ l → pos 0 <ℤ k
-factor_positive t v k l e p q r = positive_of_mul l k r (let h : pos 0 <ℤ (t *ℤ v) = mul-positive t v p q in omega (arith, ints, h, e, mul_comm l k))
 
 -- of the first n factors all are 0, or there is a first that isn't
 pub record IsFirstFactor (ks : List ℤ) (n : ℕ) : Type 0 where
@@ -198,11 +187,8 @@ module _ (lines rays other others : List (List ℤ)) (width : ℕ) (e : IsEchelo
       above_other : pos 0 <ℤ cell w p
       above_other = subst (λ (c : ℕ). pos 0 <ℤ cell w c) (match i h).same (f.pivots m mb).positive
 
-      factor_above : pos 0 <ℤ cell s.line_factors m
-      factor_above = factor_positive s.times (cell v p) (cell s.line_factors m) (cell w p) (multiple p) s.positive above above_other
-
       equal : v ≡ w
-      equal = primitive_same s.times (cell s.line_factors m) v w p s.positive factor_above (wide i h ∙ sym (wide_other m mb)) multiple (primitive i [] h) (primitive_other m [] mb) (within_length v p above) (λ z. omega (arith, ints, z, above)) (λ z. omega (arith, ints, z, above_other))
+      equal = primitive_same_at s.times (cell s.line_factors m) v w p s.positive (wide i h ∙ sym (wide_other m mb)) multiple (primitive i [] h) (primitive_other m [] mb) above above_other
 
   pub lines_within : IsWithin lines other
   lines_within x (k, l, g) = subst (λ (u : List ℤ). Contains other u) (get_or_default lines k [] x l ∙ g) (line_within k l)

@@ -8,3 +8,4 @@ pub mod AdjacencyLaws
 pub mod ConeSets
 pub mod UniqueLaws
 pub mod Leaves
+pub mod SystemLaws

@@ -5,4 +5,5 @@ pub mod duality;
 pub mod adjacency;
 pub mod echelon;
 pub mod steps;
+pub mod system_steps;
 pub mod uniqueness;
