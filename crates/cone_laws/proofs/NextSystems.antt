@@ -1,5 +1,5 @@
 -- Systems from one row to the next.
-use Rattle.std.specs.Prelude.{◌≡◌, ℕ, ◌+◌, ◌<◌, List, [], length, ℤ, pos, All}
+use Rattle.std.specs.Prelude.{◌≡◌, ℕ, ◌+◌, ◌<◌, List, [], length, ℤ, pos}
 use Rattle.std.proofs.Common.{arith}
 use Rattle.std.proofs.lemmas.List.Elements.{All-nil, All-from_get_or}
 use Rattle.row_core.specs.Vectors.{dot}

@@ -1,5 +1,5 @@
 -- Both kinds of step keep lines and rays primitive.
-use Rattle.std.specs.Prelude.{◌≡◌, ◌≢◌, ℕ, ◌<◌, List, [], ◌∷◌, ◌++◌, length, remove, Bool, true, false, if◌then◌else◌, ℤ, pos, negsuc, neg_ℤ, ◌⊎◌, All, filter, unsigned_abs, refl}
+use Rattle.std.specs.Prelude.{◌≡◌, ◌≢◌, ℕ, ◌<◌, List, [], ◌∷◌, length, Bool, true, false, if◌then◌else◌, ℤ, pos, negsuc, neg_ℤ, All, filter, unsigned_abs, refl}
 use Prim.Native.Nat.{suc, zero, ◌∣◌}
 use Rattle.std.proofs.Math.IntN.{◌*ℤ◌}
 use Rattle.std.proofs.Common.{sym, ◌∙◌, ap, subst, inl, inr, arith}

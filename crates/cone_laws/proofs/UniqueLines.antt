@@ -5,13 +5,13 @@ use Rattle.std.proofs.Math.IntN.{◌*ℤ◌}
 use Rattle.std.proofs.Common.{sym, ◌∙◌, ap, subst, inl, inr, arith}
 use Rattle.std.proofs.lemmas.Int.{ints}
 use Rattle.std.proofs.lemmas.Bool.{cases_lt, cases_order, cases_eq}
-use Rattle.std.proofs.lemmas.List.{get_or_past, get_or_default}
+use Rattle.std.proofs.lemmas.List.{get_or_default}
 use Rattle.std.proofs.lemmas.List.Elements.{Contains-get_or}
 use Rattle.row_core.specs.Vectors.{cell, combined}
 use Rattle.row_core.specs.Content.{IsPrimitive}
 use Rattle.cone_laws.specs.Cones.{Spans}
 use Rattle.cone_laws.specs.Canon.{vector_at, IsPivot, IsEchelon}
-use Rattle.cone_laws.proofs.Ring.{mul-positive, positive_of_mul, zero_of_mul, same_or_not, mul_comm}
+use Rattle.cone_laws.proofs.Ring.{mul-positive, zero_of_mul, same_or_not, mul_comm}
 use Rattle.cone_laws.proofs.Primitive.{primitive_same_at}
 use Rattle.cone_laws.proofs.SortedLists.{IsDescending, IsWithin, descending_same}
 use Rattle.cone_laws.proofs.EchelonForm.{zero_left, zero_right}
