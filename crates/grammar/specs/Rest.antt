@@ -6,4 +6,4 @@ use Rattle.grammar.specs.declared.rest.Rest.TheVariants.{Row, Then'}
 -- the forms to come, in their order
 abbrev pub listed : Rest → List Re
 listed (Row row) = row.now
-listed (Then' form p rest) = form ∷ listed rest
+listed (Then' form p rest) = form.now ∷ listed rest

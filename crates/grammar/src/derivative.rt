@@ -39,7 +39,7 @@ pub fn push_after<'a>(
         Re::Word(word) => push_after_word(byte, word, rest, out),
         Re::Byte(one, other) => push_after_byte(byte, one, other, rest, out),
         Re::Then(first, second) => {
-            push_after(byte, first, &Rest::Then(*second, &*rest), out)?;
+            push_after(byte, first, &Rest::Then(second, &*rest), out)?;
             if is_nullable(first) {
                 push_after(byte, second, rest, out)?;
             }
@@ -49,13 +49,13 @@ pub fn push_after<'a>(
             push_after(byte, first, rest, out)?;
             push_after(byte, second, rest, out)
         }
-        Re::Many(inner) => push_after(byte, inner, &Rest::Then(*form, &*rest), out),
+        Re::Many(inner) => push_after(byte, inner, &Rest::Then(&*form, &*rest), out),
         Re::UpTo(most, inner) => {
             if most > 0 {
                 push_after(
                     byte,
                     inner,
-                    &Rest::Then(Re::UpTo(most - 1, inner), &*rest),
+                    &Rest::Then(&Re::UpTo(most - 1, inner), &*rest),
                     out,
                 )?;
             }
@@ -75,7 +75,7 @@ fn push_after_word<'a>(
 {
     if let [first, tail @ ..] = text {
         if *first == byte {
-            out.push(&Rest::Then(Re::Word(tail), &*rest))?;
+            out.push(&Rest::Then(&Re::Word(tail), &*rest))?;
         }
     }
     Ok(())

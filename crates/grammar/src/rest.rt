@@ -8,7 +8,7 @@ use std::alloc::AllocError;
 #[derive(Clone, Copy)]
 pub enum Rest<'s, 'a> {
     Row(&'s [Re<'a>]),
-    Then(Re<'a>, &'s Rest<'s, 'a>),
+    Then(&'s Re<'a>, &'s Rest<'s, 'a>),
 }
 
 impl<'a> Rest<'_, 'a> {
@@ -20,7 +20,7 @@ impl<'a> Rest<'_, 'a> {
         match self {
             Rest::Row(row) => forms.extend_from_slice(row),
             Rest::Then(form, rest) => {
-                forms.push(*form)?;
+                forms.push(**form)?;
                 rest.append_to(forms)
             }
         }
