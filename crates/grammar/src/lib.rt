@@ -15,6 +15,7 @@ mod span;
 
 pub use choice::{column_alone, column_by_rule, first_match, rule_of};
 pub use column::{column_of, matches};
+pub use forms::{BLANKS, GAP};
 pub use laws::{avoided_bytes, decided_matches};
 pub use re::Re;
 pub use rule::Rule;
