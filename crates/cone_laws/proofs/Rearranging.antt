@@ -1,7 +1,12 @@
 -- Systems whose rays stand in another order, and lists with the same members and no member twice.
-use Rattle.std.specs.Prelude.{◌≡◌, ◌≢◌, ℕ, ◌+◌, ◌-◌, ◌<◌, ◌≤◌, List, [], ◌∷◌, length, slice_index_or, remove, ℤ, pos, ◌+ℤ◌, ◌-ℤ◌, ◌<ℤ◌, ◌≤ℤ◌, ◌⊎◌, All, Contains, IsPermutation, refl}
+use Rattle.std.specs.Prelude.{◌≡◌, ◌≢◌, ℕ, ◌+◌, ◌-◌, ◌<◌, ◌≤◌, List, [], ◌∷◌, length, slice_index_or, remove, ℤ, pos, ◌+ℤ◌, ◌<ℤ◌, ◌≤ℤ◌, ◌⊎◌, All, Contains, IsPermutation, refl}
 use Prim.Native.Nat.{suc, zero}
 use Rattle.std.specs.List.{swap}
+use Rattle.std.specs.Ordering.{MatchOrdering, int_cmp, ordering_then}
+use Rattle.std.specs.declared.cmp.Ordering.{Ordering}
+use Rattle.std.specs.declared.cmp.Ordering.TheVariants.{Less, Equal, Greater}
+use Rattle.std.specs.Cmp.Lexicographic.{slice_cmp}
+use Rattle.std.proofs.lemmas.Cmp.{int_ranked}
 use Rattle.std.proofs.Math.IntN.{◌*ℤ◌}
 use Rattle.std.proofs.Common.{sym, ◌∙◌, ap, subst, inl, inr, arith}
 use Rattle.std.proofs.lemmas.Int.{ints}
@@ -16,7 +21,6 @@ use Rattle.cone_laws.specs.Cones.{Spans}
 use Rattle.cone_laws.specs.Canon.{vector_at, IsEchelon, IsIrredundant, IsGreater, AreSorted, IsSystem, Canon}
 use Rattle.cone_laws.specs.ConeSets.{IsCone}
 use Rattle.cone_laws.specs.UniqueLaws.{AreInOrder}
-use Rattle.cone_laws.proofs.Ring.{by_sign}
 use Rattle.cone_laws.proofs.Columns.{cell-add}
 use Rattle.cone_laws.proofs.SortedLists.{IsWithin, Contains-cases, Contains-first, Contains-later, Contains-nil}
 use Rattle.cone_laws.proofs.EchelonForm.{old_place, old_place_is, old_place-other, old_place-same, old_place-below, remove-place}
@@ -241,22 +245,28 @@ greater_cons a u v g b e = record { column = suc g.column; before = before; grea
 greater_first : (a b : ℤ) (u v : List ℤ) → b <ℤ a → IsGreater (a ∷ u) (b ∷ v)
 greater_first a b u v h = record { column = zero; before = λ i l. absurd (omega (arith, l)); greater = h }
 
+by_comparison : (a b : ℤ) (u v : List ℤ) (first rest : Ordering) → MatchOrdering first (a <ℤ b) (a ≡ b) (b <ℤ a) → MatchOrdering rest (IsGreater v u) (u ≡ v) (IsGreater u v) → MatchOrdering (ordering_then first rest) (IsGreater (b ∷ v) (a ∷ u)) (a ∷ u ≡ b ∷ v) (IsGreater (a ∷ u) (b ∷ v))
+by_comparison a b u v Less rest h r = greater_first b a v u h
+by_comparison a b u v Greater rest h r = greater_first a b u v h
+by_comparison a b u v Equal Less e r = greater_cons b v u r a (sym e)
+by_comparison a b u v Equal Equal e r = cc
+by_comparison a b u v Equal Greater e r = greater_cons a u v r b e
+
+-- comparing entry by entry tells which of two vectors of one width is greater
+pub order_lexicographic : (u v : List ℤ) → length u ≡ length v → MatchOrdering (slice_cmp int_cmp u v) (IsGreater v u) (u ≡ v) (IsGreater u v)
+order_lexicographic [] [] e = refl
+order_lexicographic [] (b ∷ v) e = absurd (omega (arith, e))
+order_lexicographic (a ∷ u) [] e = absurd (omega (arith, e))
+order_lexicographic (a ∷ u) (b ∷ v) e = by_comparison a b u v (int_cmp a b) (slice_cmp int_cmp u v) (int_ranked a b (int_cmp a b) refl) (order_lexicographic u v (omega (arith, e)))
+
 -- of two vectors of one width one is greater, or they are equal
 pub compare_vectors : (u v : List ℤ) → length u ≡ length v → (u ≡ v) ⊎ (IsGreater u v ⊎ IsGreater v u)
-compare_vectors [] [] e = inl refl
-compare_vectors [] (b ∷ v) e = absurd (omega (arith, e))
-compare_vectors (a ∷ u) [] e = absurd (omega (arith, e))
-compare_vectors (a ∷ u) (b ∷ v) e = by_first (by_sign (a -ℤ b)) (compare_vectors u v (omega (arith, e)))
+compare_vectors u v e = by_answer (slice_cmp int_cmp u v) (order_lexicographic u v e)
   where
-    by_rest : a ≡ b → (u ≡ v) ⊎ (IsGreater u v ⊎ IsGreater v u) → ((a ∷ u) ≡ (b ∷ v)) ⊎ (IsGreater (a ∷ u) (b ∷ v) ⊎ IsGreater (b ∷ v) (a ∷ u))
-    by_rest f (inl g) = inl (cc)
-    by_rest f (inr (inl g)) = inr (inl (greater_cons a u v g b f))
-    by_rest f (inr (inr g)) = inr (inr (greater_cons b v u g a (sym f)))
-
-    by_first : (pos 0 <ℤ (a -ℤ b)) ⊎ (((a -ℤ b) <ℤ pos 0) ⊎ (a -ℤ b ≡ pos 0)) → (u ≡ v) ⊎ (IsGreater u v ⊎ IsGreater v u) → ((a ∷ u) ≡ (b ∷ v)) ⊎ (IsGreater (a ∷ u) (b ∷ v) ⊎ IsGreater (b ∷ v) (a ∷ u))
-    by_first (inl h) r = inr (inl (greater_first a b u v (omega (arith, ints, h))))
-    by_first (inr (inl h)) r = inr (inr (greater_first b a v u (omega (arith, ints, h))))
-    by_first (inr (inr h)) r = by_rest (omega (arith, ints, h)) r
+    by_answer : (o : Ordering) → MatchOrdering o (IsGreater v u) (u ≡ v) (IsGreater u v) → (u ≡ v) ⊎ (IsGreater u v ⊎ IsGreater v u)
+    by_answer Less g = inr (inr g)
+    by_answer Equal d = inl d
+    by_answer Greater g = inr (inl g)
 
 -- a list of vectors of one width, none twice and none less than the next, is sorted
 pub sorted_from_weak : (width : ℕ) (vs : List (List ℤ)) → All (λ v. length v ≡ width) vs → IsApart vs → AreInOrder vs → AreSorted vs

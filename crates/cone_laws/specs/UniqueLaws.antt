@@ -1,4 +1,6 @@
 use Rattle.std.specs.Prelude.{◌≡◌, ℕ, ◌+◌, ◌<◌, List, length, ℤ, IsPermutation}
+use Rattle.std.specs.Ordering.{MatchOrdering, int_cmp}
+use Rattle.std.specs.Cmp.Lexicographic.{slice_cmp}
 use Rattle.row_core.specs.Lists.{Row}
 use Rattle.cone_laws.specs.Cones.{Upto}
 use Rattle.cone_laws.specs.Canon.{vector_at, IsGreater, IsSystem, Canon}
@@ -27,3 +29,7 @@ OrderKeepsSystem = (width : ℕ) (rows : List Row) (k : ℕ) (lines rays others 
 -- a system with its rays in descending order is the canonical system
 abbrev pub SortedSystemIsCanon : Type 0
 SortedSystemIsCanon = (width : ℕ) (rows : List Row) (k : ℕ) (lines rays sorted : List (List ℤ)) → IsSystem (Upto width rows k) lines rays → IsPermutation rays sorted → AreInOrder sorted → Canon (Upto width rows k) lines sorted
+
+-- comparing two vectors of one width entry by entry from the first column tells which of them is greater
+abbrev pub OrderIsLexicographic : Type 0
+OrderIsLexicographic = (u v : List ℤ) → length u ≡ length v → MatchOrdering (slice_cmp int_cmp u v) (IsGreater v u) (u ≡ v) (IsGreater u v)

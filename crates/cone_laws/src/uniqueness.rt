@@ -1,6 +1,6 @@
 //! Laws of the canonical system: it is unique, and it doesn't depend on the order in which its rays are found.
 
-ghost use Rattle.cone_laws.specs.UniqueLaws.{SystemIsUnique, CanonIsUnique, OrderKeepsSystem, SortedSystemIsCanon};
+ghost use Rattle.cone_laws.specs.UniqueLaws.{SystemIsUnique, CanonIsUnique, OrderIsLexicographic, OrderKeepsSystem, SortedSystemIsCanon};
 
 /// Two systems of one cone have the same lines, and the same rays but for their order.
 pub fn system_is_unique()
@@ -20,4 +20,9 @@ pub fn order_keeps_system()
 /// A system with its rays in descending order is the canonical system.
 pub fn sorted_system_is_canon()
     ensures { SortedSystemIsCanon }
+{}
+
+/// Comparing two vectors of one width entry by entry tells which of them is greater.
+pub fn order_is_lexicographic()
+    ensures { OrderIsLexicographic }
 {}
