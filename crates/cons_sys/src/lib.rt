@@ -12,3 +12,6 @@ mod system;
 pub use kind::ConKind;
 pub use laws::{one_answer, same_points};
 pub use system::ConsSys;
+
+#[cfg(test)]
+mod tests;

@@ -12,3 +12,6 @@ mod system;
 pub use kind::{GenKind, GenPushErr};
 pub use laws::same_points;
 pub use system::GensSys;
+
+#[cfg(test)]
+mod tests;
