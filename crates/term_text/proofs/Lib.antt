@@ -6,3 +6,4 @@ pub mod TextLaws
 pub mod RowSums
 pub mod ListLaws
 pub mod SaysLaws
+pub mod Stored

@@ -3,3 +3,4 @@ pub mod Terms
 pub mod Values
 pub mod Reading
 pub mod Texts
+pub mod Systems

@@ -1,5 +1,5 @@
 -- What texts mean as rows.
-use Rattle.std.specs.Prelude.{◌≡◌, ℕ, ◌+◌, ◌^◌, ◌<◌, ◌≤◌, List, length, ℤ, pos}
+use Rattle.std.specs.Prelude.{Bool, true, false, if◌then◌else◌, ◌≡◌, ℕ, ◌+◌, ◌^◌, ◌<◌, ◌≤◌, List, length, ℤ, pos}
 use Rattle.std.proofs.Math.IntN.{neg_ℤ}
 use Rattle.row_core.specs.Vectors.{cell}
 use Rattle.grammar.specs.Form.{Form, Matches}
@@ -74,24 +74,21 @@ IsRatioFault dim r ZeroDivisor = AreWithin dim r.terms × RatioStays dim r × (r
 IsRatioFault dim r Memory = Unit {0}
 
 -- E <= F and E < F are read as F - E
+abbrev pub turns : Relation → Bool
+turns Equal = false
+turns AtLeast = false
+turns AtMost = true
+turns Above = false
+turns Below = true
+
+-- the number, with its sign changed for <= and <
 abbrev pub facing : Relation → ℤ → ℤ
-facing Equal z = z
-facing AtLeast z = z
-facing AtMost z = neg_ℤ z
-facing Above z = z
-facing Below z = neg_ℤ z
+facing relation z = if turns relation then neg_ℤ z else z
 
 -- in each column the sum of the constraint's terms, as its relation faces
 pub record IsConRow (dim : ℕ) (c : Comparison) (row : List ℤ) : Type 0 where
   pub wide : length row ≡ dim + 1
   pub cells : (j : ℕ) → j ≤ dim → cell row j ≡ facing c.relation (total dim c.terms j)
-
--- the row of the constraint, and its relation
-pub record IsConOf (dim : ℕ) (c : Comparison) (row : List ℤ) (relation : Relation) : Type 0 where
-  pub within : AreWithin dim c.terms
-  pub stay : Stay dim c.terms
-  pub sums : IsConRow dim c row
-  pub same : relation ≡ c.relation
 
 -- the text is an expression, and this is its row
 abbrev pub IsExpr : ℕ → List ℕ → List ℤ → Type 0

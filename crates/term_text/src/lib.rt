@@ -1,10 +1,12 @@
 //! The values of texts of expressions, constraints and points, for texts that are in the grammar.
 #![tactic(auto)]
 
+mod cons;
 mod rows;
 mod scan;
 mod terms;
 mod texts;
 
+pub use cons::{con_of, cons_of, OneCon};
 pub use terms::{Relation, Term, ValueErr};
 pub use texts::{expr_of, frac_of, point_of, Frac};

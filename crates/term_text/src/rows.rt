@@ -1,5 +1,5 @@
 //! Rows of terms, exactly.
-ghost use Rattle.std.specs.Prelude.{◌≡◌, ℕ, ◌+◌, ◌≤◌, ◌<◌, ◌^◌, ◌+ℤ◌, length, pos, All, MatchOption, MatchResult};
+ghost use Rattle.std.specs.Prelude.{◌≡◌, ℕ, ◌+◌, ◌-◌, ◌≤◌, ◌<◌, ◌^◌, ◌+ℤ◌, length, pos, All, MatchOption, MatchResult};
 ghost use Rattle.row_core.specs.Vectors.{cell};
 ghost use Rattle.row_core.specs.Range.{InRange, AllInRange};
 ghost use Rattle.term_text.specs.Terms.{IsWithin, AreWithin, column_of, value_of, part, total, Stay, IsSafeRow, IsRowFault, FitsBehind};
@@ -69,7 +69,7 @@ fn add_all(cells: &mut [i128], dim: usize, terms: &[Term]) -> Option<()>
 /// # Errors
 /// `TooLarge` exactly where a number, or a sum of the first terms in a column, leaves the range.
 pub fn row_of(alloc: Global, dim: usize, terms: &[Term]) -> Result<Vec<i128>, ValueErr>
-    requires narrow { dim + 2 < 2 ^ 32 }
+    requires narrow { dim < 2 ^ 32 - 2 }
     requires within { AreWithin dim terms.now }
     ensures { MatchResult result (λ row. IsSafeRow dim terms.now row.items) (IsRowFault dim terms.now) }
 {

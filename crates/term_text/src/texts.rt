@@ -1,5 +1,5 @@
 //! The values of texts that have their form.
-ghost use Rattle.std.specs.Prelude.{◌≡◌, ◌↔◌, ◌+◌, ◌^◌, ◌<◌, IsTrue, MatchResult};
+ghost use Rattle.std.specs.Prelude.{◌≡◌, ◌↔◌, ◌+◌, ◌-◌, ◌^◌, ◌<◌, IsTrue, MatchResult};
 ghost use Rattle.grammar.specs.Form.{Matches};
 ghost use Rattle.row_core.specs.Range.{AllInRange};
 ghost use Rattle.grammar.specs.Grammar.{alone};
@@ -35,14 +35,14 @@ impl Term {
     }
 }
 
-fn are_within(dim: usize, terms: &[Term]) -> bool
+pub fn are_within(dim: usize, terms: &[Term]) -> bool
     ensures { IsTrue result ↔ AreWithin dim terms.now }
 {
     terms.iter().all(|term| term.is_within(dim))
 }
 
-fn row_of_terms(alloc: Global, dim: usize, terms: &[Term]) -> Result<Vec<i128>, ValueErr>
-    requires { dim + 2 < 2 ^ 32 }
+pub fn row_of_terms(alloc: Global, dim: usize, terms: &[Term]) -> Result<Vec<i128>, ValueErr>
+    requires { dim < 2 ^ 32 - 2 }
     ensures { MatchResult result (λ row. IsRowOf dim terms.now row.items × AllInRange row.items) (IsRowOfFault dim terms.now) }
 {
     if !are_within(dim, terms) {
@@ -52,7 +52,7 @@ fn row_of_terms(alloc: Global, dim: usize, terms: &[Term]) -> Result<Vec<i128>, 
 }
 
 fn expr_row(alloc: Global, dim: usize, text: &[u8]) -> Result<RowBuf, ValueErr>
-    requires { dim + 2 < 2 ^ 32 }
+    requires { dim < 2 ^ 32 - 2 }
     ensures { MatchResult result (IsRowOf dim (terms_read start text.now)) (IsRowOfFault dim (terms_read start text.now)) }
 {
     let (terms, _state) = scan(alloc, text)?;
@@ -68,7 +68,7 @@ fn expr_row(alloc: Global, dim: usize, text: &[u8]) -> Result<RowBuf, ValueErr>
 /// a number, or a sum of the first terms of a column, leaves the range.
 #[tactic(auto, using(crate::proofs::SaysLaws::expr_says))]
 pub fn expr_of(alloc: Global, dim: usize, text: &[u8]) -> Result<RowBuf, ValueErr>
-    requires narrow { dim + 2 < 2 ^ 32 }
+    requires narrow { dim < 2 ^ 32 - 2 }
     requires form { Matches (alone expr_cases) text.now }
     ensures { MatchResult result (IsExpr dim text.now) (IsExprFault dim text.now) }
 {
@@ -88,7 +88,7 @@ fn divisor_of(state: State) -> Result<i128, ValueErr>
 }
 
 fn ratio_row(alloc: Global, dim: usize, text: &[u8]) -> Result<(Vec<i128>, i128), ValueErr>
-    requires { dim + 2 < 2 ^ 32 }
+    requires { dim < 2 ^ 32 - 2 }
     ensures { MatchResult result (λ r. IsFracOf dim (ratio_read text.now) r.0.items r.1 × AllInRange r.0.items) (IsRatioFault dim (ratio_read text.now)) }
 {
     let (terms, state) = scan(alloc, text)?;
@@ -98,7 +98,7 @@ fn ratio_row(alloc: Global, dim: usize, text: &[u8]) -> Result<(Vec<i128>, i128)
 }
 
 fn frac_row(alloc: Global, dim: usize, text: &[u8]) -> Result<Frac, ValueErr>
-    requires { dim + 2 < 2 ^ 32 }
+    requires { dim < 2 ^ 32 - 2 }
     ensures { MatchResult result (λ f. IsFracOf dim (ratio_read text.now) f.expr f.den) (IsRatioFault dim (ratio_read text.now)) }
 {
     let (cells, den) = ratio_row(alloc, dim, text)?;
@@ -107,7 +107,7 @@ fn frac_row(alloc: Global, dim: usize, text: &[u8]) -> Result<Frac, ValueErr>
 }
 
 fn point_row(alloc: Global, dim: usize, text: &[u8]) -> Result<RowBuf, ValueErr>
-    requires { dim + 2 < 2 ^ 32 }
+    requires { dim < 2 ^ 32 - 2 }
     ensures { MatchResult result (IsPointOf dim (ratio_read text.now)) (IsRatioFault dim (ratio_read text.now)) }
 {
     let (mut cells, divisor) = ratio_row(alloc, dim, text)?;
@@ -123,7 +123,7 @@ fn point_row(alloc: Global, dim: usize, text: &[u8]) -> Result<RowBuf, ValueErr>
 /// `ZeroDivisor` exactly where the divisor is 0.
 #[tactic(auto, using(crate::proofs::SaysLaws::frac_says))]
 pub fn frac_of(alloc: Global, dim: usize, text: &[u8]) -> Result<Frac, ValueErr>
-    requires narrow { dim + 2 < 2 ^ 32 }
+    requires narrow { dim < 2 ^ 32 - 2 }
     requires form { Matches (alone frac_cases) text.now }
     ensures { MatchResult result (λ f. IsFrac dim text.now f.expr f.den) (IsFracFault dim text.now) }
 {
@@ -139,7 +139,7 @@ pub fn frac_of(alloc: Global, dim: usize, text: &[u8]) -> Result<Frac, ValueErr>
 /// `ZeroDivisor` exactly where the divisor is 0.
 #[tactic(auto, using(crate::proofs::SaysLaws::point_says))]
 pub fn point_of(alloc: Global, dim: usize, text: &[u8]) -> Result<RowBuf, ValueErr>
-    requires narrow { dim + 2 < 2 ^ 32 }
+    requires narrow { dim < 2 ^ 32 - 2 }
     requires form { Matches (alone point_cases) text.now }
     ensures { MatchResult result (IsPoint dim text.now) (IsPointFault dim text.now) }
 {
