@@ -1,11 +1,14 @@
 -- Lists of constraints: what cutting at the commas gives is what the grammar's cases say.
-use Rattle.std.proofs.Common.{◌≡◌, ℕ, ◌≤◌, ◌<◌, Bool, true, false, not, eqb, List, [], ◌∷◌, ◌++◌, map, refl, sym, ◌∙◌, ap, if◌then◌else◌, zero, suc, inl, inr, ◌⊎◌, append_assoc, append-nil, arith}
-use Rattle.std.specs.Prelude.{◌&&◌, ◌||◌, nat_lt, All, codes}
+use Rattle.std.proofs.Common.{◌≡◌, ℕ, Bool, true, false, eqb, ⊎_elim, List, [], ◌∷◌, ◌++◌, map, refl, sym, ◌∙◌, ap, if◌then◌else◌, zero, suc, inl, inr, ◌⊎◌, append_assoc, append-nil, arith}
+use Rattle.std.specs.Prelude.{◌||◌, All, Contains, codes}
 use Rattle.std.specs.List.{list_any, slice_split}
 use Rattle.std.proofs.lemmas.List.Folds.{list_any-append}
-use Rattle.std.proofs.lemmas.List.Elements.{All-nil, All-cons}
+use Rattle.std.proofs.lemmas.List.Elements.{All-nil, All-cons, Contains-append_right}
+use Rattle.std.proofs.lemmas.Bool.Decides.{eqb_tells}
+use Rattle.grammar.specs.Avoids.{avoids}
+use Rattle.grammar.proofs.AvoidedByte.{avoids_sound}
 use Rattle.std.proofs.lemmas.List.Splits.{slice_split_none, slice_split_at}
-use Rattle.grammar.specs.Form.{Form, word, byte, seq, alt, many, upto, Matches, Times}
+use Rattle.grammar.specs.Form.{Form, Matches, Times}
 use Rattle.grammar.specs.Grammar.{◌·◌, ◌∣◌, ◌⋯◌, symbol, blanks, list_of, alone}
 use Rattle.grammar.specs.Cases.{con_cases, cons_cases}
 use Rattle.term_text.specs.Reading.{con_read, cons_read}
@@ -17,47 +20,16 @@ use Rattle.term_text.proofs.TextLaws.{Same, same_alone, con_read-same, con_law}
 abbrev pub has : ℕ → List ℕ → Bool
 has c w = list_any (λ b. eqb b c) w
 
--- whether no text of the form has the byte, by the form
-abbrev pub avoids : ℕ → Form → Bool
-avoids c (word cs) = not (has c cs)
-avoids c (byte low high) = nat_lt c low || nat_lt high c
-avoids c (seq f g) = avoids c f && avoids c g
-avoids c (alt f g) = avoids c f && avoids c g
-avoids c (many f) = avoids c f
-avoids c (upto k f) = avoids c f
-
-not-true : (a : Bool) → not a ≡ true → a ≡ false
-not-true true e = sym e
-not-true false e = refl
-
-and-left : (a b : Bool) → (a && b) ≡ true → a ≡ true
-and-left true b e = refl
-and-left false b e = e
-
-and-right : (a b : Bool) → (a && b) ≡ true → b ≡ true
-and-right true b e = e
-and-right false true e = refl
-and-right false false e = e
-
 has-append : (c : ℕ) (w u v : List ℕ) → w ≡ u ++ v → has c u ≡ false → has c v ≡ false → has c w ≡ false
 has-append c w u v e first second = rw e (list_any-append (λ b. eqb b c) u v ∙ ap (λ x. x || has c v) first ∙ second)
 
-byte_avoids : (c low high b : ℕ) → low ≤ b → b ≤ high → (nat_lt c low || nat_lt high c) ≡ true → has c (b ∷ []) ≡ false
-byte_avoids c low high b above below e = grind arith
+has_none : (c : ℕ) (w : List ℕ) → (Contains w c → ⊥) → has c w ≡ false
+has_none c [] none = refl
+has_none c (b ∷ w) none = ⊎_elim (λ same. absurd (none (0, omega arith, same.1))) (λ other. rw other.0 (has_none c w (λ h. none (Contains-append_right (b ∷ []) w c h)))) (eqb_tells b c)
 
--- n texts, none of which has the byte
-times_avoid : (c : ℕ) (P : List ℕ → Type 0) → ((w : List ℕ) → P w → has c w ≡ false) → (n : ℕ) (w : List ℕ) → Times P n w → has c w ≡ false
-times_avoid c P each zero w e = rw e refl
-times_avoid c P each (suc n) w (u, v, e, is, others) = has-append c w u v e (each u is) (times_avoid c P each n v others)
-
-pub text_avoids : (c : ℕ) (f : Form) → avoids c f ≡ true → (w : List ℕ) → Matches f w → has c w ≡ false
-text_avoids c (word cs) a w e = rw e (not-true (has c cs) a)
-text_avoids c (byte low high) a w (b, above, below, e) = rw e (byte_avoids c low high b above below a)
-text_avoids c (seq f g) a w (u, v, e, is, more) = has-append c w u v e (text_avoids c f (and-left (avoids c f) (avoids c g) a) u is) (text_avoids c g (and-right (avoids c f) (avoids c g) a) v more)
-text_avoids c (alt f g) a w (inl is) = text_avoids c f (and-left (avoids c f) (avoids c g) a) w is
-text_avoids c (alt f g) a w (inr is) = text_avoids c g (and-right (avoids c f) (avoids c g) a) w is
-text_avoids c (many f) a w (n, times) = times_avoid c (Matches f) (text_avoids c f a) n w times
-text_avoids c (upto k f) a w (n, le, times) = times_avoid c (Matches f) (text_avoids c f a) n w times
+-- a form that avoids the byte
+text_avoids : (c : ℕ) (f : Form) → avoids f c ≡ true → (w : List ℕ) → Matches f w → has c w ≡ false
+text_avoids c f a w m = has_none c w (avoids_sound f c w a m)
 
 or-left : (a b : Bool) → (a || b) ≡ false → a ≡ false
 or-left true b e = e
