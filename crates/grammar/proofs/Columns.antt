@@ -4,7 +4,9 @@ use Rattle.std.proofs.lemmas.List.{take-append-drop, take_more}
 use Rattle.std.proofs.lemmas.Bool.{leb-true, and_parts, and_from}
 use Rattle.grammar.specs.Form.{Form, word, byte, seq, alt, many, upto, Matches, Begins, IsColumn}
 use Rattle.grammar.specs.Derivative.{nullable, after, after_row, after_rows, states, some_ends, Spells, AnySpells, lives, row_lives, rows_live}
-use Rattle.grammar.proofs.Derivatives.{states_sound, states_complete, some_ends_sound, some_ends_complete}
+use Rattle.grammar.proofs.Derivatives.{rows_sound, rows_complete, states_sound, states_complete, some_ends_sound, some_ends_complete}
+use Rattle.grammar.specs.SameRows.{SameRows}
+use Rattle.grammar.proofs.SameRowSteps.{spells_within, live_within}
 
 -- a form that lives has a text
 abbrev HasText : Form → Type 0
@@ -85,14 +87,6 @@ after_rows_live b (row ∷ rows) e =
     let p = and_parts (row_lives row) (rows_live rows) e in
     live_append (after_row b row) (after_rows b rows) (after_row_lives b row p.0) (after_rows_live b rows p.1)
 
-states_live : (rows : List (List Form)) (w : List ℕ) → rows_live rows ≡ true → rows_live (states rows w) ≡ true
-states_live rows [] e = e
-states_live rows (b ∷ w) e = states_live (after_rows b rows) w (after_rows_live b rows e)
-
--- the states of a text that is to have the form
-abbrev pub states_of : Form → List ℕ → List (List Form)
-states_of f w = states ((f ∷ []) ∷ []) w
-
 spells_alone : (f : Form) (w : List ℕ) → Matches f w → AnySpells ((f ∷ []) ∷ []) w
 spells_alone f w m = inl (w, [], sym (append-nil w), m, refl)
 
@@ -104,36 +98,13 @@ alone_matches : (f : Form) (w : List ℕ) → AnySpells ((f ∷ []) ∷ []) w �
 alone_matches f w (inl (u, v, e, m, s)) = matches_front f u v w e s m
 alone_matches f w (inr a) = absurd a
 
--- a text has the form where one of its states may end
-pub matches_from_end : (f : Form) (w : List ℕ) → some_ends (states_of f w) ≡ true → Matches f w
-matches_from_end f w e =
-    subst (λ (x : List ℕ). Matches f x) (append-nil w)
-    (alone_matches f (w ++ []) (states_sound ((f ∷ []) ∷ []) w [] (some_ends_sound (states_of f w) e)))
-
-pub end_from_matches : (f : Form) (w : List ℕ) → Matches f w → some_ends (states_of f w) ≡ true
-end_from_matches f w m =
-    some_ends_complete (states_of f w)
-    (states_complete ((f ∷ []) ∷ []) w [] (spells_alone f (w ++ []) (subst (λ (x : List ℕ). Matches f x) (sym (append-nil w)) m)))
-
 front_of : (rows : List (List Form)) → rows_live rows ≡ true → (rows ≡ [] → ⊥) → (w : List ℕ) × AnySpells rows w
 front_of [] e h = absurd (h refl)
 front_of (row ∷ rows) e h = rows_have_text row rows e
 
-begins_by : (f : Form) (p : List ℕ) → (w : List ℕ) × AnySpells (states_of f p) w → Begins f p
-begins_by f p (w, a) = (w, alone_matches f (p ++ w) (states_sound ((f ∷ []) ∷ []) p w a))
-
--- a text begins a text of the form where it has a state
-pub begins_from_states : (f : Form) (p : List ℕ) → lives f ≡ true → (states_of f p ≡ [] → ⊥) → Begins f p
-begins_from_states f p e h =
-    begins_by f p (front_of (states_of f p) (states_live ((f ∷ []) ∷ []) p (live_one (f ∷ []) (and_from (lives f) true e refl))) h)
-
 none_spells : (rows : List (List Form)) (w : List ℕ) → rows ≡ [] → AnySpells rows w → ⊥
 none_spells [] w e a = a
 none_spells (row ∷ rows) w e a = cc
-
-pub no_begin : (f : Form) (p : List ℕ) → states_of f p ≡ [] → Begins f p → ⊥
-no_begin f p e (rest, m) =
-    none_spells (states_of f p) rest e (states_complete ((f ∷ []) ∷ []) p rest (spells_alone f (p ++ rest) m))
 
 take_front : (w : List ℕ) (i j : ℕ) → j ≤ i → take i w ≡ take j w ++ drop j (take i w)
 take_front w i j h = sym (take-append-drop j (take i w)) ∙ ap (λ (x : List ℕ). x ++ drop j (take i w)) (take-take j i w h)
@@ -149,38 +120,89 @@ begins_shorter f w i j h (rest, m) = begins_split f (take i w) (take j w) (drop 
 pub matches_begins : (f : Form) (w : List ℕ) (c : ℕ) → Matches f w → Begins f (take c w)
 matches_begins f w c m = (drop c w, subst (λ (x : List ℕ). Matches f x) (sym (take-append-drop c w)) m)
 
--- the column is behind the first byte that leaves no state
-pub column_within : (f : Form) (w : List ℕ) (i : ℕ) → lives f ≡ true → i < length w → (states_of f (take i w) ≡ [] → ⊥) → states_of f (take (i + 1) w) ≡ [] → IsColumn f w (i + 1)
-column_within f w i e l h n = record {
-  not = λ (m : Matches f w). no_begin f (take (i + 1) w) n (matches_begins f w (i + 1) m);
-  before = λ (j : ℕ) (k : j < i + 1). begins_shorter f w i j (omega arith) (begins_from_states f (take i w) e h);
-  here = inl (omega arith, λ (b : Begins f (take (i + 1) w)). no_begin f (take (i + 1) w) n b);
+-- the rows spell exactly what makes the text one of the form
+pub record Means (f : Form) (p : List ℕ) (rows : List (List Form)) : Type 0 where
+  pub sound : (w : List ℕ) → AnySpells rows w → Matches f (p ++ w)
+  pub complete : (w : List ℕ) → Matches f (p ++ w) → AnySpells rows w
+  pub live : rows_live rows ≡ true
+
+pub means_start : (f : Form) → lives f ≡ true → Means f [] ((f ∷ []) ∷ [])
+means_start f e = record {
+  sound = λ (w : List ℕ) (a : AnySpells ((f ∷ []) ∷ []) w). alone_matches f w a;
+  complete = λ (w : List ℕ) (m : Matches f w). spells_alone f w m;
+  live = live_one (f ∷ []) (and_from (lives f) true e refl);
 }
 
--- the column is behind the whole text where it has states, and none may end
-pub column_behind : (f : Form) (w : List ℕ) → lives f ≡ true → (states_of f w ≡ [] → ⊥) → some_ends (states_of f w) ≡ false → IsColumn f w (length w + 1)
-column_behind f w e h n =
-    let whole : take (length w) w ≡ w = take_all (length w) w (omega arith) in
-    let start : Begins f (take (length w) w) = subst (λ (x : List ℕ). Begins f x) (sym whole) (begins_from_states f w e h) in
-    record {
-      not = λ (m : Matches f w). (let y : some_ends (states_of f w) ≡ true = end_from_matches f w m in cc);
-      before = λ (j : ℕ) (k : j < length w + 1). begins_shorter f w (length w) j (omega arith) start;
-      here = inr refl;
-    }
+-- behind one more byte
+pub means_more : (f : Form) (p : List ℕ) (b : ℕ) (rows : List (List Form)) → Means f p rows → Means f (p ++ b ∷ []) (after_rows b rows)
+means_more f p b rows h = record {
+  sound = λ (w : List ℕ) (a : AnySpells (after_rows b rows) w).
+    subst (λ (x : List ℕ). Matches f x) (sym (append_assoc p (b ∷ []) w)) (h.sound (b ∷ w) (rows_sound b rows w a));
+  complete = λ (w : List ℕ) (m : Matches f ((p ++ b ∷ []) ++ w)).
+    rows_complete b rows w (h.complete (b ∷ w) (subst (λ (x : List ℕ). Matches f x) (append_assoc p (b ∷ []) w) m));
+  live = after_rows_live b rows h.live;
+}
 
--- the states behind one more byte
-states_push : (rows : List (List Form)) (w : List ℕ) (b : ℕ) → states rows (w ++ b ∷ []) ≡ after_rows b (states rows w)
-states_push rows [] b = refl
-states_push rows (c ∷ w) b = states_push (after_rows c rows) w b
+pub means_same : (f : Form) (p : List ℕ) (old new : List (List Form)) → SameRows old new → Means f p old → Means f p new
+means_same f p old new s h = record {
+  sound = λ (w : List ℕ) (a : AnySpells new w). h.sound w (spells_within new old w s.only a);
+  complete = λ (w : List ℕ) (m : Matches f (p ++ w)). spells_within old new w s.kept (h.complete w m);
+  live = live_within new old s.only h.live;
+}
 
-pub states_more : (f : Form) (w : List ℕ) (i : ℕ) → i < length w → states_of f (take (i + 1) w) ≡ after_rows (get_or w i 0) (states_of f (take i w))
-states_more f w i h =
-    ap (λ (x : List ℕ). states_of f x) (take_more w i 0 h) ∙ states_push ((f ∷ []) ∷ []) (take i w) (get_or w i 0)
+pub means_step : (f : Form) (w : List ℕ) (i : ℕ) (old new : List (List Form)) → i < length w → Means f (take i w) old → SameRows (after_rows (get_or w i 0) old) new → Means f (take (i + 1) w) new
+means_step f w i old new h m s =
+  subst (λ (x : List ℕ). Means f x new) (sym (take_more w i 0 h))
+    (means_same f (take i w ++ get_or w i 0 ∷ []) (after_rows (get_or w i 0) old) new s (means_more f (take i w) (get_or w i 0) old m))
 
-decided : (f : Form) (w : List ℕ) (t : Bool) → some_ends (states_of f w) ≡ t → Matches f w ⊎ (Matches f w → ⊥)
-decided f w true e = inl (matches_from_end f w e)
-decided f w false e = inr (λ (m : Matches f w). (let y : some_ends (states_of f w) ≡ true = end_from_matches f w m in cc))
+begins_by : (f : Form) (p : List ℕ) (rows : List (List Form)) → Means f p rows → (w : List ℕ) × AnySpells rows w → Begins f p
+begins_by f p rows h (w, a) = (w, h.sound w a)
 
--- whether a text has the form is decided
+-- a text begins one of the form where it has a row
+pub begins_from_rows : (f : Form) (p : List ℕ) (rows : List (List Form)) → Means f p rows → (rows ≡ [] → ⊥) → Begins f p
+begins_from_rows f p rows h some = begins_by f p rows h (front_of rows h.live some)
+
+pub no_begin : (f : Form) (p : List ℕ) (rows : List (List Form)) → Means f p rows → rows ≡ [] → Begins f p → ⊥
+no_begin f p rows h e (rest, m) = none_spells rows rest e (h.complete rest m)
+
+-- a text has the form where one of its rows may end
+pub matches_from_end : (f : Form) (w : List ℕ) (rows : List (List Form)) → Means f w rows → some_ends rows ≡ true → Matches f w
+matches_from_end f w rows h e =
+  subst (λ (x : List ℕ). Matches f x) (append-nil w) (h.sound [] (some_ends_sound rows e))
+
+pub end_from_matches : (f : Form) (w : List ℕ) (rows : List (List Form)) → Means f w rows → Matches f w → some_ends rows ≡ true
+end_from_matches f w rows h m =
+  some_ends_complete rows (h.complete [] (subst (λ (x : List ℕ). Matches f x) (sym (append-nil w)) m))
+
+-- the column is behind the first byte that leaves no row
+pub column_within : (f : Form) (w : List ℕ) (i : ℕ) (old new : List (List Form)) → i < length w → Means f (take i w) old → (old ≡ [] → ⊥) → Means f (take (i + 1) w) new → new ≡ [] → IsColumn f w (i + 1)
+column_within f w i old new l m some n none = record {
+  not = λ (h : Matches f w). no_begin f (take (i + 1) w) new n none (matches_begins f w (i + 1) h);
+  before = λ (j : ℕ) (k : j < i + 1). begins_shorter f w i j (omega arith) (begins_from_rows f (take i w) old m some);
+  here = inl (omega arith, λ (b : Begins f (take (i + 1) w)). no_begin f (take (i + 1) w) new n none b);
+}
+
+-- the column is behind the whole text where it has rows, and none may end
+pub column_behind : (f : Form) (w : List ℕ) (rows : List (List Form)) → Means f w rows → (rows ≡ [] → ⊥) → some_ends rows ≡ false → IsColumn f w (length w + 1)
+column_behind f w rows m some n =
+  let whole : take (length w) w ≡ w = take_all (length w) w (omega arith) in
+  let start : Begins f (take (length w) w) = subst (λ (x : List ℕ). Begins f x) (sym whole) (begins_from_rows f w rows m some) in
+  record {
+    not = λ (h : Matches f w). (let y : some_ends rows ≡ true = end_from_matches f w rows m h in cc);
+    before = λ (j : ℕ) (k : j < length w + 1). begins_shorter f w (length w) j (omega arith) start;
+    here = inr refl;
+  }
+
+-- whether a text has the form is decided by its states
+has_form : (f : Form) (w : List ℕ) → AnySpells (states ((f ∷ []) ∷ []) w) [] → Matches f w
+has_form f w a = alone_matches f w (subst (λ (x : List ℕ). AnySpells ((f ∷ []) ∷ []) x) (append-nil w) (states_sound ((f ∷ []) ∷ []) w [] a))
+
+of_form : (f : Form) (w : List ℕ) → Matches f w → AnySpells (states ((f ∷ []) ∷ []) w) []
+of_form f w m = states_complete ((f ∷ []) ∷ []) w [] (subst (λ (x : List ℕ). AnySpells ((f ∷ []) ∷ []) x) (sym (append-nil w)) (spells_alone f w m))
+
+decided : (f : Form) (w : List ℕ) (t : Bool) → some_ends (states ((f ∷ []) ∷ []) w) ≡ t → Matches f w ⊎ (Matches f w → ⊥)
+decided f w true e = inl (has_form f w (some_ends_sound (states ((f ∷ []) ∷ []) w) e))
+decided f w false e = inr (λ (m : Matches f w). (let y : some_ends (states ((f ∷ []) ∷ []) w) ≡ true = some_ends_complete (states ((f ∷ []) ∷ []) w) (of_form f w m) in cc))
+
 pub matches_or_not : (f : Form) (w : List ℕ) → Matches f w ⊎ (Matches f w → ⊥)
-matches_or_not f w = decided f w (some_ends (states_of f w)) refl
+matches_or_not f w = decided f w (some_ends (states ((f ∷ []) ∷ []) w)) refl

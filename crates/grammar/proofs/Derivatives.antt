@@ -246,7 +246,7 @@ row_sound b (f ∷ row) w a =
       | inr y ↦ (let p = any_when (nullable f) (after_row b row) w y in ([], b ∷ w, refl, nullable_sound f p.0, row_sound b row w p.1))
     ]
 
-rows_sound : (b : ℕ) (rows : List (List Form)) (w : List ℕ) → AnySpells (after_rows b rows) w → AnySpells rows (b ∷ w)
+pub rows_sound : (b : ℕ) (rows : List (List Form)) (w : List ℕ) → AnySpells (after_rows b rows) w → AnySpells rows (b ∷ w)
 rows_sound b [] w a = absurd a
 rows_sound b (row ∷ rows) w a =
     elim (any_cases (after_row b row) (after_rows b rows) w a) [
@@ -265,7 +265,7 @@ row_complete b (f ∷ row) w (c ∷ u, v, e, m, s) =
     any_left (after b f row) (cond (nullable f) (after_row b row) []) w
     (any_at (after b f row) (u ++ v) w tail (complete b f row u v (c ∷ u) (ap (λ (d : ℕ). d ∷ u) head) m s))
 
-rows_complete : (b : ℕ) (rows : List (List Form)) (w : List ℕ) → AnySpells rows (b ∷ w) → AnySpells (after_rows b rows) w
+pub rows_complete : (b : ℕ) (rows : List (List Form)) (w : List ℕ) → AnySpells rows (b ∷ w) → AnySpells (after_rows b rows) w
 rows_complete b [] w s = absurd s
 rows_complete b (row ∷ rows) w (inl s) = any_left (after_row b row) (after_rows b rows) w (row_complete b row w s)
 rows_complete b (row ∷ rows) w (inr s) = any_right (after_row b row) (after_rows b rows) w (rows_complete b rows w s)

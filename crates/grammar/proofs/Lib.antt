@@ -7,3 +7,4 @@ mod Lives
 pub mod Nullable
 mod RowLists
 mod RowSteps
+mod SameRowSteps

@@ -11,7 +11,7 @@ row_shape [] i = refl
 row_shape (row ∷ rows) zero = refl
 row_shape (row ∷ rows) (suc i) = row_shape rows i
 
-rows_more : (rows : List (List Re)) (i : ℕ) (row : List Re) → i < length rows → row ≡ get_or rows i [] → take (i + 1) (map (map shape) rows) ≡ take i (map (map shape) rows) ++ map shape row ∷ []
+pub rows_more : (rows : List (List Re)) (i : ℕ) (row : List Re) → i < length rows → row ≡ get_or rows i [] → take (i + 1) (map (map shape) rows) ≡ take i (map (map shape) rows) ++ map shape row ∷ []
 rows_more rows i row h e =
     let room : i < length (map (map shape) rows) = omega (arith, length-map rows (map shape)) in
     take_more (map (map shape) rows) i [] room

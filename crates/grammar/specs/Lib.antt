@@ -5,5 +5,6 @@ pub mod Form
 pub mod Grammar
 pub mod Rest
 pub mod Rows
+pub mod SameRows
 pub mod Shape
 pub mod Span

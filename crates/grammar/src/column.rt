@@ -3,18 +3,24 @@ ghost use Rattle.grammar.specs.Form.{Matches, IsColumn};
 ghost use Rattle.grammar.specs.Shape.{shape};
 ghost use Rattle.grammar.specs.Derivative.{after_rows, row_ends as row_ends_form, some_ends as some_ends_form};
 ghost use Rattle.grammar.specs.Rows.{shapes_of};
+ghost use Rattle.grammar.specs.SameRows.{SameRows};
 
 use crate::derivative::{is_nullable, push_after_rows};
+use crate::distinct::copy_distinct;
 use crate::re::Re;
 use crate::rest::Rest;
 use crate::rows::Rows;
 use std::alloc::{AllocError, Global};
 use std::mem;
 
+// So many rows are kept though some may be repeats.
+const FEW: usize = 16;
+
 /// None where the text has the form, and else the column of the fault: the least number such that the first so many
 /// bytes begin no text of the form, or the length plus 1 where the whole text begins one.
 ///
-/// The form is followed by its partial derivatives (Antimirov, 1996), in a time that grows with the text's length.
+/// The form is followed by its partial derivatives (Antimirov, 1996). Each byte costs a step for each way in which the
+/// form may go on; where there are many, those that are repeats are dropped.
 pub fn column_of(alloc: Global, form: &Re, text: &[u8]) -> Result<Option<usize>, AllocError>
     ensures { IfOk result (λ r. MatchOption r (Matches (shape form.now) text.now) (IsColumn (shape form.now) text.now)) }
 {
@@ -42,12 +48,15 @@ pub fn matches(alloc: Global, form: &Re, text: &[u8]) -> Result<bool, AllocError
     Ok(column.is_none())
 }
 
-// Takes the rows over the byte. The other rows lend their memory.
+// Takes the rows over the byte, and drops repeats where there are many. The other rows lend their memory.
 fn advance<'a>(byte: u8, rows: &mut Rows<'a>, spare: &mut Rows<'a>) -> Result<(), AllocError>
-    ensures { OnOk result (shapes_of rows.new ≡ after_rows byte (shapes_of rows.old)) }
+    ensures { OnOk result (SameRows (after_rows byte (shapes_of rows.old)) (shapes_of rows.new)) }
 {
     spare.clear();
     push_after_rows(byte, rows, spare)?;
+    if spare.len() > FEW {
+        return copy_distinct(spare, rows);
+    }
     mem::swap(rows, spare);
     Ok(())
 }

@@ -5,6 +5,7 @@ mod bodies;
 mod choice;
 mod column;
 mod derivative;
+mod distinct;
 mod forms;
 mod laws;
 mod re;

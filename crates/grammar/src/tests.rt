@@ -283,3 +283,24 @@ fn one_of_several(rt: HostRuntime) -> Result<(), Fail> {
     assert_eq!(rt; column_by_rule(rt.alloc(), Rule::Nat, b" 7")?, Some(1));
     Ok(())
 }
+
+// The pieces with so many blanks around each, all in one text.
+fn spread(alloc: Global, pieces: &[&[u8]], blanks: u32) -> Result<Vec<u8>, Fail> {
+    let mut text = Vec::new(alloc);
+    for piece in pieces {
+        text.extend_from_slice(piece)?;
+        for _ in 0..blanks {
+            text.push(b' ')?;
+        }
+    }
+    Ok(text)
+}
+
+#[test]
+fn long_runs_of_blanks(rt: HostRuntime) -> Result<(), Fail> {
+    let constraints = spread(rt.alloc(), &[b"", b"-", b"3", b"*", b"A", b"+", b"B", b">=", b"0", b",", b"C", b"=", b"1"], 500)?;
+    assert_eq!(rt; column_alone(rt.alloc(), Rule::Cons, &constraints)?, None);
+    let generators = spread(rt.alloc(), &[b"", b"p(", b"(", b"A", b"-", b"B", b")", b"/", b"2", b")", b",", b"r(", b"A", b")"], 500)?;
+    assert_eq!(rt; column_alone(rt.alloc(), Rule::Gens, &generators)?, None);
+    Ok(())
+}

@@ -1,11 +1,11 @@
 use Rattle.std.proofs.Common.{◌≡◌, [], take}
 use Rattle.grammar.specs.Shape.{shape}
 use Rattle.grammar.specs.Rows.{shapes_of}
-use Rattle.grammar.proofs.Columns.{states_of}
+use Rattle.grammar.proofs.Columns.{Means}
 use Rattle.grammar.proofs.column.column_of.Given as goal
 
 abbrev pub invariant-loop-index : goal.invariant-loop-index
 invariant-loop-index l = record {
-  is : shapes_of l.rows ≡ states_of (shape l.form) (take l.index l.text);
+  means : Means (shape l.form) (take l.index l.text) (shapes_of l.rows);
   some : shapes_of l.rows ≡ [] → ⊥;
 }
