@@ -3,3 +3,4 @@ pub mod DotLemmas
 pub mod ColumnLemmas
 pub mod CellLemmas
 pub mod ContentLemmas
+pub mod OnePrimitive

@@ -3,3 +3,4 @@ pub mod Range
 pub mod Content
 pub mod Points
 pub mod Lists
+pub mod Laws

@@ -4,17 +4,22 @@
 //!   `2^127 - 1`.
 //! - [`Memory`], [`Overflow`], [`PairOver`] and [`ConvErr`] are the answers that a call may refuse by.
 //! - [`Steps`] counts combinations of two rows.
+//! - [`dot`] and [`combine_into`] give the exact numbers, or the first column that leaves the range.
+//! - [`gcd`] and [`make_primitive`] divide a row by the greatest common divisor of its entries.
+//! - [`one_primitive`] is a law of primitive rows.
 #![tactic(auto)]
 
 mod buffers;
 mod counting;
 mod errors;
+mod laws;
 mod linear;
 mod primitive;
 
 pub use buffers::{RowBuf, RowList};
 pub use counting::Steps;
 pub use errors::{ConvErr, Memory, OverKind, Overflow, PairOver};
+pub use laws::one_primitive;
 pub use linear::{combine_into, dot};
 pub use primitive::{gcd, make_primitive};
 
