@@ -137,9 +137,9 @@ means_start f e = record {
 pub means_more : (f : Form) (p : List ℕ) (b : ℕ) (rows : List (List Form)) → Means f p rows → Means f (p ++ b ∷ []) (after_rows b rows)
 means_more f p b rows h = record {
   sound = λ (w : List ℕ) (a : AnySpells (after_rows b rows) w).
-    subst (λ (x : List ℕ). Matches f x) (sym (append_assoc p (b ∷ []) w)) (h.sound (b ∷ w) (rows_sound b rows w a));
+      subst (λ (x : List ℕ). Matches f x) (sym (append_assoc p (b ∷ []) w)) (h.sound (b ∷ w) (rows_sound b rows w a));
   complete = λ (w : List ℕ) (m : Matches f ((p ++ b ∷ []) ++ w)).
-    rows_complete b rows w (h.complete (b ∷ w) (subst (λ (x : List ℕ). Matches f x) (append_assoc p (b ∷ []) w) m));
+      rows_complete b rows w (h.complete (b ∷ w) (subst (λ (x : List ℕ). Matches f x) (append_assoc p (b ∷ []) w) m));
   live = after_rows_live b rows h.live;
 }
 
@@ -152,7 +152,7 @@ means_same f p old new s h = record {
 
 pub means_step : (f : Form) (w : List ℕ) (i : ℕ) (old new : List (List Form)) → i < length w → Means f (take i w) old → SameRows (after_rows (get_or w i 0) old) new → Means f (take (i + 1) w) new
 means_step f w i old new h m s =
-  subst (λ (x : List ℕ). Means f x new) (sym (take_more w i 0 h))
+    subst (λ (x : List ℕ). Means f x new) (sym (take_more w i 0 h))
     (means_same f (take i w ++ get_or w i 0 ∷ []) (after_rows (get_or w i 0) old) new s (means_more f (take i w) (get_or w i 0) old m))
 
 begins_by : (f : Form) (p : List ℕ) (rows : List (List Form)) → Means f p rows → (w : List ℕ) × AnySpells rows w → Begins f p
@@ -168,11 +168,11 @@ no_begin f p rows h e (rest, m) = none_spells rows rest e (h.complete rest m)
 -- a text has the form where one of its rows may end
 pub matches_from_end : (f : Form) (w : List ℕ) (rows : List (List Form)) → Means f w rows → some_ends rows ≡ true → Matches f w
 matches_from_end f w rows h e =
-  subst (λ (x : List ℕ). Matches f x) (append-nil w) (h.sound [] (some_ends_sound rows e))
+    subst (λ (x : List ℕ). Matches f x) (append-nil w) (h.sound [] (some_ends_sound rows e))
 
 pub end_from_matches : (f : Form) (w : List ℕ) (rows : List (List Form)) → Means f w rows → Matches f w → some_ends rows ≡ true
 end_from_matches f w rows h m =
-  some_ends_complete rows (h.complete [] (subst (λ (x : List ℕ). Matches f x) (sym (append-nil w)) m))
+    some_ends_complete rows (h.complete [] (subst (λ (x : List ℕ). Matches f x) (sym (append-nil w)) m))
 
 -- the column is behind the first byte that leaves no row
 pub column_within : (f : Form) (w : List ℕ) (i : ℕ) (old new : List (List Form)) → i < length w → Means f (take i w) old → (old ≡ [] → ⊥) → Means f (take (i + 1) w) new → new ≡ [] → IsColumn f w (i + 1)
@@ -185,13 +185,13 @@ column_within f w i old new l m some n none = record {
 -- the column is behind the whole text where it has rows, and none may end
 pub column_behind : (f : Form) (w : List ℕ) (rows : List (List Form)) → Means f w rows → (rows ≡ [] → ⊥) → some_ends rows ≡ false → IsColumn f w (length w + 1)
 column_behind f w rows m some n =
-  let whole : take (length w) w ≡ w = take_all (length w) w (omega arith) in
-  let start : Begins f (take (length w) w) = subst (λ (x : List ℕ). Begins f x) (sym whole) (begins_from_rows f w rows m some) in
-  record {
-    not = λ (h : Matches f w). (let y : some_ends rows ≡ true = end_from_matches f w rows m h in cc);
-    before = λ (j : ℕ) (k : j < length w + 1). begins_shorter f w (length w) j (omega arith) start;
-    here = inr refl;
-  }
+    let whole : take (length w) w ≡ w = take_all (length w) w (omega arith) in
+    let start : Begins f (take (length w) w) = subst (λ (x : List ℕ). Begins f x) (sym whole) (begins_from_rows f w rows m some) in
+    record {
+      not = λ (h : Matches f w). (let y : some_ends rows ≡ true = end_from_matches f w rows m h in cc);
+      before = λ (j : ℕ) (k : j < length w + 1). begins_shorter f w (length w) j (omega arith) start;
+      here = inr refl;
+    }
 
 -- whether a text has the form is decided by its states
 has_form : (f : Form) (w : List ℕ) → AnySpells (states ((f ∷ []) ∷ []) w) [] → Matches f w

@@ -40,7 +40,8 @@ fn is_same_row(one: &[Re], other: &[Re]) -> bool
 {
     match (one, other) {
         ([], []) => true,
-        ([first, rest @ ..], [other_first, other_rest @ ..]) => is_same(first, other_first) && is_same_row(rest, other_rest),
+        ([first, rest @ ..], [other_first, other_rest @ ..]) => is_same(first, other_first)
+            && is_same_row(rest, other_rest),
         _ => false,
     }
 }
@@ -51,11 +52,17 @@ fn is_same(one: &Re, other: &Re) -> bool
 {
     match (one, other) {
         (Re::Word(word), Re::Word(other_word)) => word == other_word,
-        (Re::Byte(low, high), Re::Byte(other_low, other_high)) => low == other_low && high == other_high,
-        (Re::Then(first, second), Re::Then(other_first, other_second)) => is_same(first, other_first) && is_same(second, other_second),
-        (Re::Or(first, second), Re::Or(other_first, other_second)) => is_same(first, other_first) && is_same(second, other_second),
+        (Re::Byte(low, high), Re::Byte(other_low, other_high)) => low == other_low
+            && high == other_high,
+        (Re::Then(first, second), Re::Then(other_first, other_second)) => is_same(
+            first,
+            other_first,
+        ) && is_same(second, other_second),
+        (Re::Or(first, second), Re::Or(other_first, other_second)) => is_same(first, other_first)
+            && is_same(second, other_second),
         (Re::Many(inner), Re::Many(other_inner)) => is_same(inner, other_inner),
-        (Re::UpTo(most, inner), Re::UpTo(other_most, other_inner)) => most == other_most && is_same(inner, other_inner),
+        (Re::UpTo(most, inner), Re::UpTo(other_most, other_inner)) => most == other_most
+            && is_same(inner, other_inner),
         (Re::Named(rule), Re::Named(other_rule)) => rule == other_rule,
         _ => false,
     }

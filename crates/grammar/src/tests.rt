@@ -298,9 +298,21 @@ fn spread(alloc: Global, pieces: &[&[u8]], blanks: u32) -> Result<Vec<u8>, Fail>
 
 #[test]
 fn long_runs_of_blanks(rt: HostRuntime) -> Result<(), Fail> {
-    let constraints = spread(rt.alloc(), &[b"", b"-", b"3", b"*", b"A", b"+", b"B", b">=", b"0", b",", b"C", b"=", b"1"], 500)?;
+    let constraints = spread(
+        rt.alloc(),
+        &[
+            b"", b"-", b"3", b"*", b"A", b"+", b"B", b">=", b"0", b",", b"C", b"=", b"1",
+        ],
+        500,
+    )?;
     assert_eq!(rt; column_alone(rt.alloc(), Rule::Cons, &constraints)?, None);
-    let generators = spread(rt.alloc(), &[b"", b"p(", b"(", b"A", b"-", b"B", b")", b"/", b"2", b")", b",", b"r(", b"A", b")"], 500)?;
+    let generators = spread(
+        rt.alloc(),
+        &[
+            b"", b"p(", b"(", b"A", b"-", b"B", b")", b"/", b"2", b")", b",", b"r(", b"A", b")",
+        ],
+        500,
+    )?;
     assert_eq!(rt; column_alone(rt.alloc(), Rule::Gens, &generators)?, None);
     Ok(())
 }
