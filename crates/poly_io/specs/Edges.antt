@@ -1,4 +1,4 @@
-use Rattle.std.specs.Prelude.{◌≡◌, ℕ, ◌<◌, ◌≤◌, List, length, take, Option}
+use Rattle.std.specs.Prelude.{ℕ, ◌<◌, ◌≤◌, List, length, take, Option}
 use Rattle.std.specs.Io.KnownBytes.{Keeps, Appends, Consumes, IsAtEnd}
 use Rattle.poly_io.specs.declared.reading.ReadAns.{ReadAns}
 use Rattle.poly_io.specs.declared.reading.ReadAns.TheVariants.{Got, End, Failed as ReadFailed}

@@ -1,4 +1,4 @@
-use Rattle.std.specs.Prelude.{ℕ, ◌==◌, ◌≡◌, List, length, min, if◌then◌else◌}
+use Rattle.std.specs.Prelude.{ℕ, ◌==◌, List, length, min, if◌then◌else◌}
 use Rattle.poly_io.specs.Timetable.{Faults}
 use Rattle.poly_io.specs.declared.reading.ReadAns.{ReadAns}
 use Rattle.poly_io.specs.declared.reading.ReadAns.TheVariants.{Got, End}

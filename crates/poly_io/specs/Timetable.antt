@@ -1,6 +1,4 @@
-use Rattle.std.specs.Prelude.{◌≡◌, ℕ, List, Contains, if◌then◌else◌}
-use Rattle.std.specs.List.{list_any}
-use Rattle.std.specs.Prelude.{nat_eq, Bool, true}
+use Rattle.std.specs.Prelude.{ℕ, List, Contains}
 use Rattle.poly_io.specs.Counts.{next_count}
 
 -- calls that fail: their numbers, counted from 1, how many calls there were, and how many of them failed

@@ -1,4 +1,4 @@
-use Rattle.std.proofs.Common.{arith, length, ◌++◌, take, List, ℕ, length-append}
+use Rattle.std.proofs.Common.{arith, ◌++◌, take}
 use Rattle.poly_io.proofs.Known.{prepend_known-then, length-with_front}
 use Rattle.std.proofs.lemmas.Result.{err_from_is_err_and}
 use Rattle.poly_io.proofs.whole.gather.Goals as goal

@@ -1,4 +1,4 @@
-use Rattle.std.proofs.Common.{◌≡◌, ◌-◌, ◌∙◌, arith, length, length-drop, take, drop, ap}
+use Rattle.std.proofs.Common.{◌≡◌, ◌-◌, ◌∙◌, arith, length, take, drop, ap}
 use Rattle.std.specs.Io.KnownBytes.{append_known}
 use Rattle.poly_io.proofs.Known.{append_known-take_more, take-rest}
 use Rattle.poly_io.proofs.whole.write_all.Goals as goal
