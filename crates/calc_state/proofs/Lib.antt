@@ -1,0 +1,7 @@
+pub mod WordLemmas
+pub mod LineLemmas
+pub mod NumberLemmas
+pub mod SpellLemmas
+pub mod FullForms
+pub mod TableLemmas
+pub mod AskLemmas

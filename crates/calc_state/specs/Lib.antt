@@ -1,0 +1,5 @@
+pub mod Line
+pub mod Words
+pub mod Shown
+pub mod Table
+pub mod Step

@@ -1,0 +1,12 @@
+//! The calculator's table of names, and the step of one line.
+#![tactic(auto)]
+
+mod calc;
+mod forms;
+mod line;
+mod names;
+mod refusal;
+mod words;
+
+pub use calc::Calc;
+pub use refusal::StepErr;
