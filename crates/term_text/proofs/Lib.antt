@@ -7,3 +7,5 @@ pub mod RowSums
 pub mod ListLaws
 pub mod SaysLaws
 pub mod Stored
+pub mod Unique
+pub mod NamedForms

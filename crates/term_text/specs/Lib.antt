@@ -4,3 +4,4 @@ pub mod Values
 pub mod Reading
 pub mod Texts
 pub mod Systems
+pub mod OneReading

@@ -3,8 +3,6 @@ use Rattle.std.proofs.Math.IntN.{neg_ℤ}
 use Rattle.row_core.specs.Vectors.{cell}
 use Rattle.row_core.specs.Range.{InRange, AllInRange}
 use Rattle.term_text.specs.declared.terms.Term.{Term}
-use Rattle.term_text.specs.declared.terms.ValueErr.{ValueErr}
-use Rattle.term_text.specs.declared.terms.ValueErr.TheVariants.{OutOfRange, TooLarge, ZeroDivisor, Memory}
 
 -- the variable is below the dimension
 abbrev pub IsWithin : ℕ → Term → Type 0
@@ -51,10 +49,3 @@ pub record IsSafeRow (dim : ℕ) (ts : List Term) (row : List ℤ) : Type 0 wher
 pub record FitsBehind (t : Term) (sum : ℤ) : Type 0 where
   pub number : t.size < 2 ^ 127
   pub next : InRange (sum +ℤ value_of t)
-
--- why terms have no row
-abbrev pub IsRowFault : ℕ → List Term → ValueErr → Type 0
-IsRowFault dim ts OutOfRange = ⊥
-IsRowFault dim ts TooLarge = ¬ (Stay dim ts)
-IsRowFault dim ts ZeroDivisor = ⊥
-IsRowFault dim ts Memory = Unit {0}

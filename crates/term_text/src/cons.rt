@@ -12,9 +12,9 @@ ghost use Rattle.term_text.specs.Reading.{con_read, cons_read};
 ghost use Rattle.term_text.specs.Texts.{turns, facing, IsConRow, IsRowOfFault};
 ghost use Rattle.term_text.specs.Systems.{kind_of, IsConOf, IsCon, IsConFault, IsConsOf, IsConsOfFault, IsCons, IsConsFault, Adds, StopsAt, HaveRead, StopAt};
 
+use crate::rows::row_of;
 use crate::scan::scan;
 use crate::terms::{Relation, Term, ValueErr};
-use crate::texts::row_of_terms;
 use cons_sys::{ConKind, ConsSys};
 use row_core::RowBuf;
 use std::alloc::Global;
@@ -56,12 +56,12 @@ fn negate(cells: &mut [i128])
     }
 }
 
-/// The row of the terms as the relation faces. It is `None` where a number leaves the range.
+/// The row of the terms, with its signs changed for `<=` and `<`.
 fn row_facing(alloc: Global, dim: usize, terms: &[Term], relation: Relation) -> Result<Vec<i128>, ValueErr>
     requires { dim < 2 ^ 32 - 2 }
     ensures { MatchResult result (λ row. IsConOf dim (record { terms = terms.now; relation = relation }) row.items (kind_of relation) × AllInRange row.items) (IsRowOfFault dim terms.now) }
 {
-    let mut cells = row_of_terms(alloc, dim, terms)?;
+    let mut cells = row_of(alloc, dim, terms)?;
     if relation.turns() {
         negate(&mut cells);
     }
@@ -94,7 +94,7 @@ pub fn con_of(alloc: Global, dim: usize, text: &[u8]) -> Result<OneCon, ValueErr
 }
 
 /// Stores the constraint of the terms. The answer is false where a number leaves the range.
-fn add_terms(system: &mut ConsSys, alloc: Global, terms: &[Term], relation: Relation) -> Result<bool, ValueErr>
+fn add_terms(alloc: Global, system: &mut ConsSys, terms: &[Term], relation: Relation) -> Result<bool, ValueErr>
     ensures dim { system.new.dim ≡ system.old.dim }
     ensures value { MatchResult result (Adds system.old.dim system.old.list system.new.list (record { terms = terms.now; relation = relation })) (StopsAt system.old.dim (record { terms = terms.now; relation = relation })) }
 {
@@ -108,30 +108,30 @@ fn add_terms(system: &mut ConsSys, alloc: Global, terms: &[Term], relation: Rela
     }
 }
 
-fn add_con(system: &mut ConsSys, alloc: Global, text: &[u8]) -> Result<bool, ValueErr>
+fn add_con(alloc: Global, system: &mut ConsSys, text: &[u8]) -> Result<bool, ValueErr>
     ensures dim { system.new.dim ≡ system.old.dim }
     ensures value { MatchResult result (Adds system.old.dim system.old.list system.new.list (con_read text.now)) (StopsAt system.old.dim (con_read text.now)) }
 {
     let (terms, state) = scan(alloc, text)?;
-    add_terms(system, alloc, terms.as_slice(), state.relation())
+    add_terms(alloc, system, terms.as_slice(), state.relation())
 }
 
 /// Stores the constraints between the commas. The answer is false where a number leaves the range.
-fn add_list(system: &mut ConsSys, alloc: Global, text: &[u8]) -> Result<bool, ValueErr>
+fn add_list(alloc: Global, system: &mut ConsSys, text: &[u8]) -> Result<bool, ValueErr>
     requires { system.old.list ≡ [] }
     ensures dim { system.new.dim ≡ system.old.dim }
     ensures value { MatchResult result (HaveRead system.old.dim (map con_read (slice_split (λ b. b == 44) text.now)) system.new.list) (StopAt system.old.dim (map con_read (slice_split (λ b. b == 44) text.now))) }
 {
     let mut fits = true;
     for part in text.split(|byte| *byte == b',') {
-        let added = add_con(system, alloc, part)?;
+        let added = add_con(alloc, system, part)?;
         fits &= added;
     }
     Ok(fits)
 }
 
 /// Stores the constraints of a text. The answer is false where a number leaves the range.
-fn add_cons(system: &mut ConsSys, alloc: Global, text: &[u8]) -> Result<bool, ValueErr>
+fn add_cons(alloc: Global, system: &mut ConsSys, text: &[u8]) -> Result<bool, ValueErr>
     requires { system.old.list ≡ [] }
     ensures dim { system.new.dim ≡ system.old.dim }
     ensures value { MatchResult result (HaveRead system.old.dim (cons_read text.now) system.new.list) (StopAt system.old.dim (cons_read text.now)) }
@@ -141,9 +141,9 @@ fn add_cons(system: &mut ConsSys, alloc: Global, text: &[u8]) -> Result<bool, Va
     }
     if text.contains(&b'f') {
         let minus_one = Term { negative: true, size: 1, variable: None };
-        return add_terms(system, alloc, &[minus_one], Relation::AtLeast);
+        return add_terms(alloc, system, &[minus_one], Relation::AtLeast);
     }
-    add_list(system, alloc, text)
+    add_list(alloc, system, text)
 }
 
 fn cons_system(alloc: Global, dim: usize, text: &[u8]) -> Result<ConsSys, ValueErr>
@@ -151,7 +151,7 @@ fn cons_system(alloc: Global, dim: usize, text: &[u8]) -> Result<ConsSys, ValueE
     ensures { MatchResult result (IsConsOf dim (cons_read text.now)) (IsConsOfFault dim (cons_read text.now)) }
 {
     let mut system = ConsSys::new(alloc, dim);
-    if add_cons(&mut system, alloc, text)? {
+    if add_cons(alloc, &mut system, text)? {
         Ok(system)
     } else {
         Err(ValueErr::TooLarge)

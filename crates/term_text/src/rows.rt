@@ -1,13 +1,23 @@
 //! Rows of terms, exactly.
-ghost use Rattle.std.specs.Prelude.{◌≡◌, ℕ, ◌+◌, ◌-◌, ◌≤◌, ◌<◌, ◌^◌, ◌+ℤ◌, length, pos, All, MatchOption, MatchResult};
+ghost use Rattle.std.specs.Prelude.{◌≡◌, ℕ, ◌+◌, ◌-◌, ◌≤◌, ◌<◌, ◌^◌, ◌+ℤ◌, length, pos, ◌↔◌, All, IsTrue, MatchOption, MatchResult};
 ghost use Rattle.row_core.specs.Vectors.{cell};
 ghost use Rattle.row_core.specs.Range.{InRange, AllInRange};
-ghost use Rattle.term_text.specs.Terms.{IsWithin, AreWithin, column_of, value_of, part, total, Stay, IsSafeRow, IsRowFault, FitsBehind};
+ghost use Rattle.term_text.specs.Terms.{IsWithin, AreWithin, column_of, value_of, part, Stay, IsSafeRow, FitsBehind};
+ghost use Rattle.term_text.specs.Texts.{IsRowOf, IsRowOfFault};
 
 use crate::terms::{Term, ValueErr};
 use std::alloc::Global;
 
 impl Term {
+    fn is_within(self, dim: usize) -> bool
+        ensures { IsTrue result ↔ IsWithin dim self }
+    {
+        match self.variable {
+            Some(index) => index < dim as u64,
+            None => true,
+        }
+    }
+
     /// The number with its sign, where it is of the range.
     fn value(self) -> Option<i128>
         ensures { MatchOption result (self.size < 2 ^ 127 → ⊥) (λ v. (self.size < 2 ^ 127) × (v ≡ value_of self) × InRange v) }
@@ -64,15 +74,24 @@ fn add_all(cells: &mut [i128], dim: usize, terms: &[Term]) -> Option<()>
     Some(())
 }
 
-/// Returns the row of terms: in each column the sum of its terms, in their order.
+fn are_within(dim: usize, terms: &[Term]) -> bool
+    ensures { IsTrue result ↔ AreWithin dim terms.now }
+{
+    terms.iter().all(|term| term.is_within(dim))
+}
+
+/// The row of terms over `dim` variables: in each column the sum of its terms, in their order.
 ///
 /// # Errors
-/// `TooLarge` exactly where a number, or a sum of the first terms in a column, leaves the range.
+/// `OutOfRange` exactly where a variable isn't below `dim`, and otherwise `TooLarge` exactly where
+/// a number, or a sum of the first terms of a column, leaves the range.
 pub fn row_of(alloc: Global, dim: usize, terms: &[Term]) -> Result<Vec<i128>, ValueErr>
-    requires narrow { dim < 2 ^ 32 - 2 }
-    requires within { AreWithin dim terms.now }
-    ensures { MatchResult result (λ row. IsSafeRow dim terms.now row.items) (IsRowFault dim terms.now) }
+    requires { dim < 2 ^ 32 - 2 }
+    ensures { MatchResult result (λ row. IsRowOf dim terms.now row.items × AllInRange row.items) (IsRowOfFault dim terms.now) }
 {
+    if !are_within(dim, terms) {
+        return Err(ValueErr::OutOfRange);
+    }
     let mut cells = vec![in alloc; 0i128; dim + 1]?;
     match add_all(&mut cells, dim, terms) {
         Some(()) => Ok(cells),

@@ -1,17 +1,15 @@
 //! The values of texts that have their form.
-ghost use Rattle.std.specs.Prelude.{◌≡◌, ◌↔◌, ◌+◌, ◌-◌, ◌^◌, ◌<◌, IsTrue, MatchResult};
+ghost use Rattle.std.specs.Prelude.{◌-◌, ◌^◌, ◌<◌, MatchResult};
 ghost use Rattle.grammar.specs.Form.{Matches};
 ghost use Rattle.row_core.specs.Range.{AllInRange};
 ghost use Rattle.grammar.specs.Grammar.{alone};
 ghost use Rattle.grammar.specs.Cases.{expr_cases, frac_cases, point_cases};
-ghost use Rattle.term_text.specs.Terms.{IsWithin, AreWithin};
-ghost use Rattle.term_text.specs.Values.{Ratio};
 ghost use Rattle.term_text.specs.Reading.{start, terms_read, ratio_read, divisor_at};
 ghost use Rattle.term_text.specs.Texts.{IsRowOf, IsRowOfFault, IsFracOf, IsPointOf, IsDivisor, IsDivisorFault, IsRatioFault, IsExpr, IsExprFault, IsFrac, IsFracFault, IsPoint, IsPointFault};
 
 use crate::rows::row_of;
 use crate::scan::{scan, State};
-use crate::terms::{Term, ValueErr};
+use crate::terms::ValueErr;
 use row_core::RowBuf;
 use std::alloc::Global;
 
@@ -24,39 +22,12 @@ pub struct Frac {
     pub den: i128,
 }
 
-impl Term {
-    fn is_within(self, dim: usize) -> bool
-        ensures { IsTrue result ↔ IsWithin dim self }
-    {
-        match self.variable {
-            Some(index) => index < dim as u64,
-            None => true,
-        }
-    }
-}
-
-pub fn are_within(dim: usize, terms: &[Term]) -> bool
-    ensures { IsTrue result ↔ AreWithin dim terms.now }
-{
-    terms.iter().all(|term| term.is_within(dim))
-}
-
-pub fn row_of_terms(alloc: Global, dim: usize, terms: &[Term]) -> Result<Vec<i128>, ValueErr>
-    requires { dim < 2 ^ 32 - 2 }
-    ensures { MatchResult result (λ row. IsRowOf dim terms.now row.items × AllInRange row.items) (IsRowOfFault dim terms.now) }
-{
-    if !are_within(dim, terms) {
-        return Err(ValueErr::OutOfRange);
-    }
-    row_of(alloc, dim, terms)
-}
-
 fn expr_row(alloc: Global, dim: usize, text: &[u8]) -> Result<RowBuf, ValueErr>
     requires { dim < 2 ^ 32 - 2 }
     ensures { MatchResult result (IsRowOf dim (terms_read start text.now)) (IsRowOfFault dim (terms_read start text.now)) }
 {
     let (terms, _state) = scan(alloc, text)?;
-    let cells = row_of_terms(alloc, dim, terms.as_slice())?;
+    let cells = row_of(alloc, dim, terms.as_slice())?;
     Ok(RowBuf::new(alloc, &cells)?)
 }
 
@@ -92,7 +63,7 @@ fn ratio_row(alloc: Global, dim: usize, text: &[u8]) -> Result<(Vec<i128>, i128)
     ensures { MatchResult result (λ r. IsFracOf dim (ratio_read text.now) r.0.items r.1 × AllInRange r.0.items) (IsRatioFault dim (ratio_read text.now)) }
 {
     let (terms, state) = scan(alloc, text)?;
-    let cells = row_of_terms(alloc, dim, terms.as_slice())?;
+    let cells = row_of(alloc, dim, terms.as_slice())?;
     let divisor = divisor_of(state)?;
     Ok((cells, divisor))
 }
