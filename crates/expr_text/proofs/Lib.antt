@@ -1,1 +1,2 @@
 mod PrintSums
+mod FormFaults

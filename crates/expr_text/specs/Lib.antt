@@ -1,1 +1,3 @@
 pub mod Printed
+pub mod Generators
+pub mod Refusals

@@ -10,3 +10,13 @@ mod print_sums;
 
 pub use print_constraints::print_cons;
 pub use print_generators::{print_gen, print_gens};
+//! - [`read_expr`], [`read_frac`], [`read_con`], [`read_cons`] and [`read_point`] give the value of a
+//!   text, or the fault for which it is refused.
+#![tactic(auto)]
+
+mod read_refusals;
+mod read_texts;
+
+pub use read_texts::{read_con, read_cons, read_expr, read_frac, read_point};
+pub use reply_text::{print_fault, print_overflow, Fault, ReadErr, Text};
+pub use term_text::{Frac, OneCon};
