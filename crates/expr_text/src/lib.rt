@@ -1,5 +1,7 @@
 //! Expressions, constraints and generators as text.
 //!
+//! - [`read_expr`], [`read_frac`], [`read_con`], [`read_cons`] and [`read_point`] give the value of a
+//!   text, or the fault for which it is refused.
 //! - [`print_cons`], [`print_gens`] and [`print_gen`] give the printed form of a system of constraints,
 //!   of a system of generators, and of one generator.
 #![tactic(auto)]
@@ -7,16 +9,11 @@
 mod print_constraints;
 mod print_generators;
 mod print_sums;
-
-pub use print_constraints::print_cons;
-pub use print_generators::{print_gen, print_gens};
-//! - [`read_expr`], [`read_frac`], [`read_con`], [`read_cons`] and [`read_point`] give the value of a
-//!   text, or the fault for which it is refused.
-#![tactic(auto)]
-
 mod read_refusals;
 mod read_texts;
 
+pub use print_constraints::print_cons;
+pub use print_generators::{print_gen, print_gens};
 pub use read_texts::{read_con, read_cons, read_expr, read_frac, read_point};
 pub use reply_text::{print_fault, print_overflow, Fault, ReadErr, Text};
 pub use term_text::{Frac, OneCon};
