@@ -5,3 +5,4 @@ pub mod SpellLemmas
 pub mod FullForms
 pub mod TableLemmas
 pub mod AskLemmas
+pub mod OneReply

@@ -3,3 +3,4 @@ pub mod Words
 pub mod Shown
 pub mod Table
 pub mod Step
+pub mod Laws

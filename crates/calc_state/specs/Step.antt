@@ -124,6 +124,13 @@ GivesBy P old (Err err.Memory) new = new ≡ old
 abbrev pub Gives : Table → List ℕ → Result (List ℕ) StepErr → Table → Type 0
 Gives old line result new = GivesBy (Step old line) old result new
 
+-- the reply is what was given, or memory ran out
+abbrev pub IsGiven : Result (List ℕ) StepErr → Reply → Type 0
+IsGiven (Ok lines) reply = reply ≡ Answered lines
+IsGiven (Err (err.Input fault)) reply = reply ≡ Refused fault
+IsGiven (Err (err.Overflow over)) reply = reply ≡ Overflows over
+IsGiven (Err err.Memory) reply = Unit {0}
+
 -- what came of the question about a name with this system, or with none
 abbrev pub AskedOf : Option Constraints → List ℕ → Result (List ℕ) StepErr → Type 0
 AskedOf entry text (Ok lines) = Replies entry text (Answered lines)

@@ -5,7 +5,7 @@ ghost use Rattle.grammar.specs.Grammar.{alone, list_of};
 ghost use Rattle.calc_state.specs.Line.{closed_con, proper_point};
 ghost use Rattle.cons_sys.specs.Constraints.{row_at};
 ghost use Rattle.calc_state.specs.Table.{Table, system_of};
-ghost use Rattle.calc_state.specs.Step.{Gives, GivesBy, Makes, Asked, AskedOf, PointUnread, answer_line};
+ghost use Rattle.calc_state.specs.Step.{Reply, Step, Gives, IsGiven, GivesBy, Makes, Asked, AskedOf, PointUnread, answer_line};
 ghost use Rattle.row_core.specs.Points.{IsPoint as IsPointRow};
 ghost use Rattle.term_text.specs.Texts.{IsPoint};
 
@@ -54,6 +54,15 @@ impl Calc {
     /// point comes to one whose value can't be computed within the range. After each the table is as
     /// before.
     pub fn step<L: Ledger>(&mut self, line: &[u8], _steps: &mut Steps<L>) -> Result<Text, StepErr>
+        ensures step { Gives self.old line.now result self.new }
+        // Whatever the calculator may reply is what was given, unless memory ran out.
+        ensures only { (reply : Reply) (table : Table) → Step self.old line.now reply table → IsGiven result reply }
+        ensures refused { OnErr result (self.new ≡ self.old) }
+    {
+        self.reply(line)
+    }
+
+    fn reply(&mut self, line: &[u8]) -> Result<Text, StepErr>
         ensures step { Gives self.old line.now result self.new }
         ensures refused { OnErr result (self.new ≡ self.old) }
     {

@@ -3,10 +3,12 @@
 
 mod calc;
 mod forms;
+mod laws;
 mod line;
 mod names;
 mod refusal;
 mod words;
 
 pub use calc::Calc;
+pub use laws::{one_command, one_reply};
 pub use refusal::StepErr;
