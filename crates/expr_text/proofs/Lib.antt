@@ -1,2 +1,7 @@
 mod PrintSums
+mod PrintDigits
+mod PrintTerms
+mod PrintRows
+mod PrintLists
+mod PrintCons
 mod FormFaults

@@ -1,3 +1,4 @@
 pub mod Printed
 pub mod Generators
 pub mod Refusals
+pub mod ReadBack

@@ -1,5 +1,5 @@
 -- The printed forms of expressions, constraints and generators.
-use Rattle.std.specs.Prelude.{ℕ, ◌+◌, ◌/◌, ◌%◌, ◌==◌, if◌then◌else◌, Bool, true, false, ◌&&◌, zero, suc, List, [], ◌∷◌, ◌++◌, length, map, take, codes, decimal, ℤ, pos, negsuc, unsigned_abs}
+use Rattle.std.specs.Prelude.{ℕ, ◌+◌, ◌/◌, ◌%◌, ◌==◌, if◌then◌else◌, Bool, true, false, ◌&&◌, zero, suc, List, [], ◌∷◌, ◌++◌, map, take, codes, decimal, ℤ, pos, negsuc, unsigned_abs}
 use Rattle.std.proofs.Math.IntN.{neg_ℤ}
 use Rattle.std.specs.Fmt.{signed_decimal}
 use Rattle.std.specs.List.{list_all}
@@ -92,14 +92,14 @@ abbrev pub never_holds : ℕ → Constraint → Bool
 never_holds dim c = is_at_least c.1 && (int_eq (cell c.0 dim) (negsuc 0) && is_zero (take dim c.0))
 
 -- a list of constraints: `true` where it is empty, and `false` for the constraint of the empty polyhedron alone
-abbrev pub list_text : ℕ → List Constraint → List ℕ
-list_text dim [] = codes "true"
-list_text dim (c ∷ []) = if never_holds dim c then codes "false" else constraint_text dim c
-list_text dim (c ∷ d ∷ cs) = listed (map (constraint_text dim) (c ∷ d ∷ cs))
+abbrev pub constraint_list_text : ℕ → List Constraint → List ℕ
+constraint_list_text dim [] = codes "true"
+constraint_list_text dim (c ∷ []) = if never_holds dim c then codes "false" else constraint_text dim c
+constraint_list_text dim (c ∷ d ∷ cs) = listed (map (constraint_text dim) (c ∷ d ∷ cs))
 
 -- a system of constraints
 abbrev pub constraints_text : Constraints → List ℕ
-constraints_text cs = list_text cs.dim cs.list
+constraints_text cs = constraint_list_text cs.dim cs.list
 
 -- an expression with its divisor, which is left out if it is 1
 abbrev pub quotient_text : List ℕ → ℤ → List ℕ
@@ -117,6 +117,11 @@ kind_text ClosurePoint expression divisor = codes "c(" ++ quotient_text expressi
 abbrev pub generator_text : ℕ → Generator → List ℕ
 generator_text dim g = kind_text g.1 (expression_text (take dim g.0)) (cell g.0 dim)
 
--- a system of generators, which is `none` where it is empty
+-- a list of generators, which is `none` where it is empty
+abbrev pub generator_list_text : ℕ → List Generator → List ℕ
+generator_list_text dim [] = codes "none"
+generator_list_text dim (g ∷ gs) = listed (map (generator_text dim) (g ∷ gs))
+
+-- a system of generators
 abbrev pub generators_text : Generators → List ℕ
-generators_text gs = if length gs.list == 0 then codes "none" else listed (map (generator_text gs.dim) gs.list)
+generators_text gs = generator_list_text gs.dim gs.list

@@ -4,7 +4,7 @@ ghost use Rattle.grammar.specs.Form.{Matches};
 ghost use Rattle.grammar.specs.Grammar.{alone};
 ghost use Rattle.expr_text.specs.Refusals.{spelled, refusal, IsRefused, NoFault};
 
-use grammar::{column_alone, Rule};
+use grammar::{Rule, column_alone};
 use reply_text::{Fault, ReadErr};
 use std::alloc::Global;
 use term_text::ValueErr;

@@ -11,7 +11,7 @@ use grammar::Rule;
 use reply_text::ReadErr;
 use row_core::RowBuf;
 use std::alloc::Global;
-use term_text::{con_of, cons_of, expr_of, frac_of, point_of, Frac, OneCon};
+use term_text::{Frac, OneCon, con_of, cons_of, expr_of, frac_of, point_of};
 
 /// The row of an expression with any blanks around it: in each column the sum of its variable's
 /// terms, and last the sum of the terms without a variable. It is not made primitive.

@@ -1,0 +1,7 @@
+//! Laws of printed forms.
+ghost use Rattle.expr_text.specs.ReadBack.{ConstraintsAreReadBack};
+
+/// What is printed of a system of constraints is read as that system and as no other.
+pub fn constraints_are_read_back()
+    ensures { ConstraintsAreReadBack }
+{}
