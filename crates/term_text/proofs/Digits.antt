@@ -1,16 +1,13 @@
 -- Digits, letters and numbers, byte by byte.
-use Rattle.std.proofs.Common.{◌≡◌, ℕ, ◌+◌, ◌-◌, ◌*◌, ◌^◌, ◌≤◌, Bool, true, false, List, [], ◌∷◌, ◌++◌, refl, sym, ◌∙◌, ap, zero, suc, inl, inr, ◌⊎◌, Some, arith, min, if◌then◌else◌}
-use Rattle.std.specs.Prelude.{◌&&◌, nat_le}
+use Rattle.std.proofs.Common.{◌≡◌, ℕ, ◌+◌, ◌-◌, ◌*◌, ◌^◌, ◌≤◌, Bool, true, false, List, [], ◌∷◌, ◌++◌, refl, ◌∙◌, ap, zero, suc, arith, min}
 use Rattle.grammar.specs.Form.{Matches, Times}
-use Rattle.grammar.specs.Grammar.{digit, nat, var}
-use Rattle.term_text.specs.declared.terms.Term.{Term}
+use Rattle.grammar.specs.Grammar.{digit, nat}
 use Rattle.term_text.specs.declared.scan.State.{State}
 use Rattle.term_text.specs.declared.scan.Part.{Part}
-use Rattle.term_text.specs.declared.scan.Part.TheVariants.{Nothing, Number, Letter}
+use Rattle.term_text.specs.declared.scan.Part.TheVariants.{Number, Letter}
 use Rattle.term_text.specs.declared.scan.Place.{Place}
-use Rattle.term_text.specs.Numbers.{number_after, size_of, index_of}
-use Rattle.term_text.specs.Reading.{next_number, with_digit, with_letter, is_digit, is_upper, after, ends_term, ended, emitted, final, begun, part_term}
-use Rattle.term_text.specs.Values.{variable_term}
+use Rattle.term_text.specs.Numbers.{number_after, size_of}
+use Rattle.term_text.specs.Reading.{next_number, with_digit, with_letter, is_digit, is_upper, after, ends_term, ended, begun}
 use Rattle.term_text.proofs.Passes.{Reads, reads_on}
 
 -- the cap after a digit is the same with or without a cap before it
@@ -77,14 +74,14 @@ upper_reads s b low high = record {
 pub digits_read : (n : ℕ) (w : List ℕ) → Times (Matches digit) n w → (s : State) → Reads s w [] (record s { part = with_digits s.part w })
 digits_read zero w e s = rw e (record { terms = refl; state = refl })
 digits_read (suc n) w (u, v, e, (b, low, high, is), others) s =
-  let one : u ++ v ≡ b ∷ v = ap (λ x. x ++ v) is in
-  rw (e ∙ one) (reads_on s (record s { part = with_digit s.part (b - 48) }) (record s { part = with_digits s.part (b ∷ v) }) (b ∷ v) (b ∷ []) v [] refl (digit_reads s b low high) (digits_read n v others (record s { part = with_digit s.part (b - 48) })))
+    let one : u ++ v ≡ b ∷ v = ap (λ x. x ++ v) is in
+    rw (e ∙ one) (reads_on s (record s { part = with_digit s.part (b - 48) }) (record s { part = with_digits s.part (b ∷ v) }) (b ∷ v) (b ∷ []) v [] refl (digit_reads s b low high) (digits_read n v others (record s { part = with_digit s.part (b - 48) })))
 
 -- NAT, where no byte of the term was read
 pub nat_reads : (w : List ℕ) → Matches nat w → (place : Place) (negative : Bool) → Reads (begun place negative) w [] (record { negative = negative; part = Number (size_of w); place = place })
 nat_reads w (u, v, e, (b, low, high, is), (n, others)) place negative =
-  let one : w ≡ (b ∷ []) ++ v = e ∙ ap (λ x. x ++ v) is in
-  let capped : b - 48 ≡ min (10 * 0 + (b - 48)) (2 ^ 127) = first-min b high in
-  let size : with_digits (Number (b - 48)) v ≡ Number (size_of (b ∷ v)) = ap (λ m. with_digits (Number m) v) capped ∙ number_with_digits (10 * 0 + (b - 48)) v in
-  let more : Reads (record { negative = negative; part = Number (b - 48); place = place }) v [] (record { negative = negative; part = Number (size_of (b ∷ v)); place = place }) = rw (← size) (digits_read n v others (record { negative = negative; part = Number (b - 48); place = place })) in
-  rw one (reads_on (begun place negative) (record { negative = negative; part = Number (b - 48); place = place }) (record { negative = negative; part = Number (size_of (b ∷ v)); place = place }) (b ∷ v) (b ∷ []) v [] refl (digit_reads (begun place negative) b low high) more)
+    let one : w ≡ (b ∷ []) ++ v = e ∙ ap (λ x. x ++ v) is in
+    let capped : b - 48 ≡ min (10 * 0 + (b - 48)) (2 ^ 127) = first-min b high in
+    let size : with_digits (Number (b - 48)) v ≡ Number (size_of (b ∷ v)) = ap (λ m. with_digits (Number m) v) capped ∙ number_with_digits (10 * 0 + (b - 48)) v in
+    let more : Reads (record { negative = negative; part = Number (b - 48); place = place }) v [] (record { negative = negative; part = Number (size_of (b ∷ v)); place = place }) = rw (← size) (digits_read n v others (record { negative = negative; part = Number (b - 48); place = place })) in
+    rw one (reads_on (begun place negative) (record { negative = negative; part = Number (b - 48); place = place }) (record { negative = negative; part = Number (size_of (b ∷ v)); place = place }) (b ∷ v) (b ∷ []) v [] refl (digit_reads (begun place negative) b low high) more)

@@ -1,6 +1,6 @@
 -- Lists of constraints: what cutting at the commas gives is what the grammar's cases say.
-use Rattle.std.proofs.Common.{◌≡◌, ℕ, Bool, true, false, eqb, ⊎_elim, List, [], ◌∷◌, ◌++◌, map, refl, sym, ◌∙◌, ap, if◌then◌else◌, zero, suc, inl, inr, ◌⊎◌, append_assoc, append-nil, arith}
-use Rattle.std.specs.Prelude.{◌||◌, All, Contains, codes}
+use Rattle.std.proofs.Common.{◌≡◌, ℕ, Bool, true, false, eqb, ⊎_elim, List, [], ◌∷◌, ◌++◌, map, refl, ◌∙◌, ap, if◌then◌else◌, zero, suc, inl, inr, append_assoc, arith}
+use Rattle.std.specs.Prelude.{◌||◌, All, Contains}
 use Rattle.std.specs.List.{list_any, slice_split}
 use Rattle.std.proofs.lemmas.List.Folds.{list_any-append}
 use Rattle.std.proofs.lemmas.List.Elements.{All-nil, All-cons, Contains-append_right}
@@ -9,12 +9,12 @@ use Rattle.grammar.specs.Avoids.{avoids}
 use Rattle.grammar.proofs.AvoidedByte.{avoids_sound}
 use Rattle.std.proofs.lemmas.List.Splits.{slice_split_none, slice_split_at}
 use Rattle.grammar.specs.Form.{Form, Matches, Times}
-use Rattle.grammar.specs.Grammar.{◌·◌, ◌∣◌, ◌⋯◌, symbol, blanks, list_of, alone}
+use Rattle.grammar.specs.Grammar.{◌·◌, ◌⋯◌, symbol, blanks, list_of, alone}
 use Rattle.grammar.specs.Cases.{con_cases, cons_cases}
 use Rattle.term_text.specs.Reading.{con_read, cons_read}
 use Rattle.term_text.specs.Values.{Comparison, never, con_by, further_cons_by, cons_by, alone_by}
 use Rattle.term_text.proofs.Passes.{symbol_is}
-use Rattle.term_text.proofs.TextLaws.{Same, same_alone, con_read-same, con_law}
+use Rattle.term_text.proofs.TextLaws.{same_alone, con_read-same, con_law}
 
 -- whether the byte stands in the text
 abbrev pub has : ℕ → List ℕ → Bool
@@ -72,14 +72,14 @@ regroup x b c con v z = simp append_assoc
 -- a constraint, then n times a comma and a constraint, then blanks
 further_law : (n : ℕ) (w : List ℕ) (m : Times (Matches (blanks · (symbol 44 ⋯ con_cases))) n w) (x : List ℕ) (c : Comparison) → IsOne x c → (z : List ℕ) → Matches blanks z → map con_read (parts (x ++ (w ++ z))) ≡ c ∷ further_cons_by n w m
 further_law zero w e x c one z behind =
-  let none : has 44 (x ++ z) ≡ false = has-append 44 (x ++ z) x z refl one.whole (text_avoids 44 blanks refl z behind) in
-  ap (λ v. map con_read (parts (x ++ (v ++ z)))) e ∙ ap (map con_read) (parts-none (x ++ z) none) ∙ ap (λ v. v ∷ []) (one.value z behind)
+    let none : has 44 (x ++ z) ≡ false = has-append 44 (x ++ z) x z refl one.whole (text_avoids 44 blanks refl z behind) in
+    ap (λ v. map con_read (parts (x ++ (v ++ z)))) e ∙ ap (map con_read) (parts-none (x ++ z) none) ∙ ap (λ v. v ∷ []) (one.value z behind)
 further_law (suc n) w (u, v, e, (b, w1, e1, blanks1, (comma, w2, e2, is_comma, (d, con, e3, blanks2, is_con))), others) x c one z behind =
-  let item : u ≡ b ++ (44 ∷ (d ++ con)) = e1 ∙ ap (λ y. b ++ y) (e2 ∙ ap (λ y. y ++ w2) (symbol_is 44 comma is_comma) ∙ ap (λ y. 44 ∷ y) e3) in
-  let text : x ++ (w ++ z) ≡ (x ++ b) ++ 44 ∷ ((d ++ con) ++ (v ++ z)) = ap (λ y. x ++ (y ++ z)) (e ∙ ap (λ y. y ++ v) item) ∙ regroup x b d con v z in
-  let front : has 44 (x ++ b) ≡ false = has-append 44 (x ++ b) x b refl one.whole (text_avoids 44 blanks refl b blanks1) in
-  let next : IsOne (d ++ con) (con_by con is_con) = one_con d con blanks2 is_con in
-  ap (λ y. map con_read (parts y)) text ∙ ap (map con_read) (parts-comma (x ++ b) ((d ++ con) ++ (v ++ z)) front) ∙ ap (λ y. y ∷ map con_read (parts ((d ++ con) ++ (v ++ z)))) (one.value b blanks1) ∙ ap (λ ys. c ∷ ys) (further_law n v others (d ++ con) (con_by con is_con) next z behind)
+    let item : u ≡ b ++ (44 ∷ (d ++ con)) = e1 ∙ ap (λ y. b ++ y) (e2 ∙ ap (λ y. y ++ w2) (symbol_is 44 comma is_comma) ∙ ap (λ y. 44 ∷ y) e3) in
+    let text : x ++ (w ++ z) ≡ (x ++ b) ++ 44 ∷ ((d ++ con) ++ (v ++ z)) = ap (λ y. x ++ (y ++ z)) (e ∙ ap (λ y. y ++ v) item) ∙ regroup x b d con v z in
+    let front : has 44 (x ++ b) ≡ false = has-append 44 (x ++ b) x b refl one.whole (text_avoids 44 blanks refl b blanks1) in
+    let next : IsOne (d ++ con) (con_by con is_con) = one_con d con blanks2 is_con in
+    ap (λ y. map con_read (parts y)) text ∙ ap (map con_read) (parts-comma (x ++ b) ((d ++ con) ++ (v ++ z)) front) ∙ ap (λ y. y ∷ map con_read (parts ((d ++ con) ++ (v ++ z)))) (one.value b blanks1) ∙ ap (λ ys. c ∷ ys) (further_law n v others (d ++ con) (con_by con is_con) next z behind)
 
 or-false : (a : Bool) → (a || false) ≡ a
 or-false true = refl
@@ -98,15 +98,15 @@ regroup_first b first rest z = simp append_assoc
 -- a list of constraints with blanks around it
 pub alone_cons_law : (w : List ℕ) (m : Matches (alone cons_cases) w) → cons_read w ≡ alone_by cons_cases cons_by w m
 alone_cons_law w (b, x, e, before, (v, z, f, inl always, behind)) =
-  let t : has 116 w ≡ true = has_between 116 w b x v z e f (text_avoids 116 blanks refl b before) (text_avoids 116 blanks refl z behind) ∙ ap (has 116) always in
-  chosen w true (has 102 w) t refl
+    let t : has 116 w ≡ true = has_between 116 w b x v z e f (text_avoids 116 blanks refl b before) (text_avoids 116 blanks refl z behind) ∙ ap (has 116) always in
+    chosen w true (has 102 w) t refl
 alone_cons_law w (b, x, e, before, (v, z, f, inr (inl empty), behind)) =
-  let t : has 116 w ≡ false = has_between 116 w b x v z e f (text_avoids 116 blanks refl b before) (text_avoids 116 blanks refl z behind) ∙ ap (has 116) empty in
-  let u : has 102 w ≡ true = has_between 102 w b x v z e f (text_avoids 102 blanks refl b before) (text_avoids 102 blanks refl z behind) ∙ ap (has 102) empty in
-  chosen w false true t u
+    let t : has 116 w ≡ false = has_between 116 w b x v z e f (text_avoids 116 blanks refl b before) (text_avoids 116 blanks refl z behind) ∙ ap (has 116) empty in
+    let u : has 102 w ≡ true = has_between 102 w b x v z e f (text_avoids 102 blanks refl b before) (text_avoids 102 blanks refl z behind) ∙ ap (has 102) empty in
+    chosen w false true t u
 alone_cons_law w (b, x, e, before, (v, z, f, inr (inr (first, rest, g, is_first, (n, others))), behind)) =
-  let list : Matches (alone (list_of con_cases)) w = (b, x, e, before, (v, z, f, (first, rest, g, is_first, (n, others)), behind)) in
-  let t : has 116 w ≡ false = text_avoids 116 (alone (list_of con_cases)) refl w list in
-  let u : has 102 w ≡ false = text_avoids 102 (alone (list_of con_cases)) refl w list in
-  let text : w ≡ (b ++ first) ++ (rest ++ z) = e ∙ ap (λ y. b ++ y) (f ∙ ap (λ y. y ++ z) g) ∙ regroup_first b first rest z in
-  chosen w false false t u ∙ ap (λ y. map con_read (parts y)) text ∙ further_law n rest others (b ++ first) (con_by first is_first) (one_con b first before is_first) z behind
+    let list : Matches (alone (list_of con_cases)) w = (b, x, e, before, (v, z, f, (first, rest, g, is_first, (n, others)), behind)) in
+    let t : has 116 w ≡ false = text_avoids 116 (alone (list_of con_cases)) refl w list in
+    let u : has 102 w ≡ false = text_avoids 102 (alone (list_of con_cases)) refl w list in
+    let text : w ≡ (b ++ first) ++ (rest ++ z) = e ∙ ap (λ y. b ++ y) (f ∙ ap (λ y. y ++ z) g) ∙ regroup_first b first rest z in
+    chosen w false false t u ∙ ap (λ y. map con_read (parts y)) text ∙ further_law n rest others (b ++ first) (con_by first is_first) (one_con b first before is_first) z behind

@@ -1,6 +1,6 @@
 -- A text with the form of a name has the form spelled out.
 use Rattle.std.proofs.Common.{ℕ, List, subst}
-use Rattle.grammar.specs.Form.{Form, Matches}
+use Rattle.grammar.specs.Form.{Matches}
 use Rattle.grammar.specs.Grammar.{alone, expr, frac, con, cons, point}
 use Rattle.grammar.specs.Cases.{expr_cases, frac_cases, con_cases, cons_cases, point_cases}
 use Rattle.grammar.proofs.CaseEquations.{alone_expr-cases, alone_frac-cases, alone_con-cases, alone_cons-cases, alone_point-cases}

@@ -1,14 +1,12 @@
 -- A pass over a text: what its parts give.
-use Rattle.std.proofs.Common.{◌≡◌, ℕ, List, [], ◌∷◌, ◌++◌, refl, sym, ◌∙◌, ap, append_assoc, zero, suc, inl, inr, false, true, ◌⊎◌, Option, None, ◌≤◌, Bool, arith}
-use Rattle.std.specs.Prelude.{option_to_list}
+use Rattle.std.proofs.Common.{◌≡◌, ℕ, List, [], ◌∷◌, ◌++◌, refl, sym, ◌∙◌, ap, append_assoc, zero, suc, inl, inr, None, Bool, arith}
 use Rattle.grammar.specs.Form.{Matches, Times}
 use Rattle.grammar.specs.Grammar.{symbol, blank, blanks}
 use Rattle.term_text.specs.declared.terms.Term.{Term}
 use Rattle.term_text.specs.declared.scan.State.{State}
 use Rattle.term_text.specs.declared.scan.Place.{Place}
 use Rattle.term_text.specs.declared.scan.Place.TheVariants.{Left, Right, Divisor}
-use Rattle.term_text.specs.declared.scan.Part.TheVariants.{Nothing}
-use Rattle.term_text.specs.Reading.{after, ended, emitted, final, term_at, begun, term_of}
+use Rattle.term_text.specs.Reading.{after, ended, emitted, final, begun, term_of}
 
 -- from state s the text ends these terms and leads to state t
 pub record Reads (s : State) (w : List ℕ) (ts : List Term) (t : State) : Type 0 where

@@ -1,5 +1,5 @@
 -- The row of the first terms, one term further.
-use Rattle.std.proofs.Common.{eq-eqb, zero, suc, lit<, ◌≡◌, ◌⊎◌, ℕ, ◌+◌, ◌*◌, ◌^◌, ◌<◌, ◌≤◌, List, [], ◌∷◌, ◌++◌, length, take, get_or, refl, sym, ◌∙◌, ap, subst, ⊎_elim, arith, length-append, inl, inr, eqb}
+use Rattle.std.proofs.Common.{eq-eqb, zero, suc, lit<, ◌≡◌, ◌⊎◌, ℕ, ◌+◌, ◌^◌, ◌<◌, ◌≤◌, List, [], ◌∷◌, ◌++◌, length, take, get_or, refl, sym, ◌∙◌, ap, arith, length-append, inl, inr}
 use Rattle.std.specs.Prelude.{MatchOption, Option, Some, None, unwrap_or, All, ℤ, pos, ◌+ℤ◌}
 use Rattle.std.proofs.lemmas.Int.{ints}
 use Rattle.std.proofs.lemmas.List.{take_more, take-append-le, take_all}
@@ -38,14 +38,14 @@ next_in_range dim ts t row next is in_range wide added j within = rw (← is.cel
 -- the row of i terms, with the next term added
 pub safe_row_more : (dim : ℕ) (terms : List Term) (i : ℕ) (t : Term) (row next : List ℤ) → i < length terms → t ≡ get_or terms i t → IsSafeRow dim (take i terms) row → FitsBehind t (cell row (column_of dim t)) → length next ≡ length row → AllInRange next → ((j : ℕ) → j ≤ dim → cell next j ≡ cell row j +ℤ part dim t j) → IsSafeRow dim (take (i + 1) terms) next
 safe_row_more dim terms i t row next h e safe fits same in_range added =
-  let ts : List Term = take i terms in
-  let wide : length next ≡ dim + 1 = same ∙ safe.sums.wide in
-  let pushed : take (i + 1) terms ≡ ts ++ t ∷ [] = take_more terms i t h ∙ ap (λ x. ts ++ x ∷ []) (sym e) in
-  rw pushed (record {
-    sums = record { wide = wide; cells = λ j within. added j within ∙ ap (λ z. z +ℤ part dim t j) (safe.sums.cells j within) ∙ sym (total-push dim ts t j) };
-    stay = stay_push dim ts t safe.stay fits.number (next_in_range dim ts t row next safe.sums in_range wide added);
-    in_range = in_range;
-  })
+    let ts : List Term = take i terms in
+    let wide : length next ≡ dim + 1 = same ∙ safe.sums.wide in
+    let pushed : take (i + 1) terms ≡ ts ++ t ∷ [] = take_more terms i t h ∙ ap (λ x. ts ++ x ∷ []) (sym e) in
+    rw pushed (record {
+      sums = record { wide = wide; cells = λ j within. added j within ∙ ap (λ z. z +ℤ part dim t j) (safe.sums.cells j within) ∙ sym (total-push dim ts t j) };
+      stay = stay_push dim ts t safe.stay fits.number (next_in_range dim ts t row next safe.sums in_range wide added);
+      in_range = in_range;
+    })
 
 part-own : (dim : ℕ) (t : Term) → part dim t (column_of dim t) ≡ value_of t
 part-own dim t = rw (eq-eqb (column_of dim t) (column_of dim t) refl) refl
@@ -57,15 +57,15 @@ column_within dim (Some j) within = omega arith
 -- where the next term can't be added, no row exists
 pub no_row : (dim : ℕ) (terms : List Term) (i : ℕ) (t : Term) (row : List ℤ) → i < length terms → t ≡ get_or terms i t → AreWithin dim terms → IsRow dim (take i terms) row → ¬ (FitsBehind t (cell row (column_of dim t))) → ¬ (Stay dim terms)
 no_row dim terms i t row h e all_within is fails stay =
-  let within : column_of dim t ≤ dim = column_within dim t.variable (rw e (All-get_or (IsWithin dim) terms i t h all_within)) in
-  let ts : List Term = take i terms in
-  let j : ℕ = column_of dim t in
-  let pushed : take (i + 1) terms ≡ ts ++ t ∷ [] = take_more terms i t h ∙ ap (λ x. ts ++ x ∷ []) (sym e) in
-  let sum : total dim (take (i + 1) terms) j ≡ cell row j +ℤ value_of t = ap (λ x. total dim x j) pushed ∙ total-push dim ts t j ∙ ap (λ z. z +ℤ part dim t j) (sym (is.cells j within)) ∙ ap (λ z. cell row j +ℤ z) (part-own dim t) in
-  fails (record {
-    number = rw e (All-get_or (λ (t : Term). t.size < 2 ^ 127) terms i t h stay.numbers);
-    next = rw (← sum) (stay.sums (i + 1) (omega arith) j within);
-  })
+    let within : column_of dim t ≤ dim = column_within dim t.variable (rw e (All-get_or (IsWithin dim) terms i t h all_within)) in
+    let ts : List Term = take i terms in
+    let j : ℕ = column_of dim t in
+    let pushed : take (i + 1) terms ≡ ts ++ t ∷ [] = take_more terms i t h ∙ ap (λ x. ts ++ x ∷ []) (sym e) in
+    let sum : total dim (take (i + 1) terms) j ≡ cell row j +ℤ value_of t = ap (λ x. total dim x j) pushed ∙ total-push dim ts t j ∙ ap (λ z. z +ℤ part dim t j) (sym (is.cells j within)) ∙ ap (λ z. cell row j +ℤ z) (part-own dim t) in
+    fails (record {
+      number = rw e (All-get_or (λ (t : Term). t.size < 2 ^ 127) terms i t h stay.numbers);
+      next = rw (← sum) (stay.sums (i + 1) (omega arith) j within);
+    })
 
 zero_in_range : InRange (pos 0)
 zero_in_range = record { size = lit< tt }

@@ -1,5 +1,5 @@
 -- What a text says is what the pass over it gives.
-use Rattle.std.proofs.Common.{◌≡◌, ℕ, List, subst, sym, Result, Ok, Err}
+use Rattle.std.proofs.Common.{◌≡◌, ℕ, List, subst, Result, Ok, Err}
 use Rattle.std.specs.Prelude.{ℤ, MatchResult}
 use Rattle.grammar.specs.Form.{Form, Matches}
 use Rattle.grammar.specs.Grammar.{alone}

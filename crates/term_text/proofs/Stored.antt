@@ -1,6 +1,6 @@
 -- Constraints stored one after another.
 use Rattle.std.proofs.Common.{◌≡◌, ℕ, ◌+◌, ◌<◌, List, [], ◌∷◌, ◌++◌, map, length, take, get_or, refl, sym, ◌∙◌, ap, subst, arith, Bool, true, false, length-append}
-use Rattle.std.specs.Prelude.{All, ◌==◌, ◌&&◌, Result, Ok, Err, MatchResult}
+use Rattle.std.specs.Prelude.{◌==◌, ◌&&◌, Result, Ok, Err, MatchResult}
 use Rattle.std.specs.List.{list_any}
 use Rattle.std.proofs.lemmas.List.{take_more, map-append, get_or_push, get_or-map, length-map, take_all}
 use Rattle.std.proofs.lemmas.List.Elements.{All-push, All-get_or, All-nil, All-take}
@@ -11,7 +11,7 @@ use Rattle.term_text.specs.declared.terms.ValueErr.TheVariants.{OutOfRange, TooL
 use Rattle.term_text.specs.Terms.{AreWithin, Stay}
 use Rattle.term_text.specs.Values.{Comparison, never}
 use Rattle.term_text.specs.Reading.{con_read, cons_read}
-use Rattle.term_text.specs.Systems.{IsStored, AreStored, AllWithin, AllStay, Adds, StopsAt, HaveRead, StopAt, IsConsOf, IsConsOfFault}
+use Rattle.term_text.specs.Systems.{IsStored, AreStored, AllStay, Adds, StopsAt, HaveRead, StopAt, IsConsOf, IsConsOfFault}
 
 -- the row of each constraint stays
 abbrev OneStays : ℕ → Comparison → Type 0
@@ -68,9 +68,9 @@ parts_more parts n part h e = ap (map con_read) (take_more parts n part h) ∙ m
 -- one part stops the reading of all
 pub stop_at : (dim : ℕ) (parts : List (List ℕ)) (n : ℕ) (part : List ℕ) (e : ValueErr) → n < length parts → part ≡ get_or parts n part → StopsAt dim (con_read part) e → StopAt dim (map con_read parts) e
 stop_at dim parts n part OutOfRange h e stops = λ all.
-  let one : OneIsWithin dim (get_or (map con_read parts) n (con_read part)) = All-get_or (OneIsWithin dim) (map con_read parts) n (con_read part) (omega (arith, length-map parts con_read)) all in
-  let same : get_or (map con_read parts) n (con_read part) ≡ con_read part = get_or-map con_read parts n part (con_read part) h ∙ ap con_read (sym e) in
-  stops (subst (OneIsWithin dim) same one)
+    let one : OneIsWithin dim (get_or (map con_read parts) n (con_read part)) = All-get_or (OneIsWithin dim) (map con_read parts) n (con_read part) (omega (arith, length-map parts con_read)) all in
+    let same : get_or (map con_read parts) n (con_read part) ≡ con_read part = get_or-map con_read parts n part (con_read part) h ∙ ap con_read (sym e) in
+    stops (subst (OneIsWithin dim) same one)
 stop_at dim parts n part TooLarge h e stops = stops
 stop_at dim parts n part ZeroDivisor h e stops = stops
 stop_at dim parts n part Memory h e stops = tt
@@ -78,9 +78,9 @@ stop_at dim parts n part Memory h e stops = tt
 -- one part more was read
 pub read_more : (dim d : ℕ) (parts : List (List ℕ)) (n m : ℕ) (part : List ℕ) (list new : List Constraint) (fits added : Bool) → m ≡ n + 1 → d ≡ dim → (n < length parts) × (part ≡ get_or parts n part) → HaveRead dim (map con_read (take n parts)) list fits → Adds d list new (con_read part) added → HaveRead dim (map con_read (take m parts)) new (fits && added)
 read_more dim d parts n m part list new fits added e same (h, is) so_far adds =
-  let one : Adds dim list new (con_read part) added = subst (λ x. Adds x list new (con_read part) added) same adds in
-  let more : HaveRead dim (map con_read (take (n + 1) parts)) new (fits && added) = rw (parts_more parts n part h is) (have_read_more dim (map con_read (take n parts)) list new (con_read part) fits added so_far one) in
-  subst (λ x. HaveRead dim (map con_read (take x parts)) new (fits && added)) (sym e) more
+    let one : Adds dim list new (con_read part) added = subst (λ x. Adds x list new (con_read part) added) same adds in
+    let more : HaveRead dim (map con_read (take (n + 1) parts)) new (fits && added) = rw (parts_more parts n part h is) (have_read_more dim (map con_read (take n parts)) list new (con_read part) fits added so_far one) in
+    subst (λ x. HaveRead dim (map con_read (take x parts)) new (fits && added)) (sym e) more
 
 -- one part stops the reading of all
 pub stop_all : (dim d : ℕ) (parts : List (List ℕ)) (n : ℕ) (part : List ℕ) (e : ValueErr) → d ≡ dim → (n < length parts) × (part ≡ get_or parts n part) → StopsAt d (con_read part) e → StopAt dim (map con_read parts) e
@@ -111,11 +111,11 @@ read_false dim w list new r e no_t an_f one = subst (λ cs. MatchResult r (HaveR
 -- the system of constraints that were read
 pub system_of : (dim d : ℕ) (cs : List Comparison) (system : Constraints) (fits : Bool) → system.dim ≡ d → d ≡ dim → fits ≡ true → HaveRead d cs system.list fits → IsConsOf dim cs system
 system_of dim d cs system fits over same all read =
-  let at_dim : HaveRead dim cs system.list fits = subst (λ x. HaveRead x cs system.list fits) same read in
-  record { within = at_dim.within; stay = (at_dim.stored all).0; over = over ∙ same; list = (at_dim.stored all).1 }
+    let at_dim : HaveRead dim cs system.list fits = subst (λ x. HaveRead x cs system.list fits) same read in
+    record { within = at_dim.within; stay = (at_dim.stored all).0; over = over ∙ same; list = (at_dim.stored all).1 }
 
 -- a number on the way left the range
 pub no_system : (dim d : ℕ) (cs : List Comparison) (list : List Constraint) (fits : Bool) → d ≡ dim → fits ≡ false → HaveRead d cs list fits → IsConsOfFault dim cs TooLarge
 no_system dim d cs list fits same not_all read =
-  let at_dim : HaveRead dim cs list fits = subst (λ x. HaveRead x cs list fits) same read in
-  (at_dim.within, at_dim.leaves not_all)
+    let at_dim : HaveRead dim cs list fits = subst (λ x. HaveRead x cs list fits) same read in
+    (at_dim.within, at_dim.leaves not_all)

@@ -1,5 +1,5 @@
 -- One term: what the pass over it gives is what the grammar's cases say.
-use Rattle.std.proofs.Common.{◌≡◌, ℕ, ◌+◌, ◌-◌, ◌*◌, ◌^◌, ◌≤◌, Bool, true, false, List, [], ◌∷◌, ◌++◌, refl, sym, ◌∙◌, ap, zero, suc, inl, inr, ◌⊎◌, Some, arith, min}
+use Rattle.std.proofs.Common.{◌≡◌, ℕ, ◌-◌, ◌^◌, ◌≤◌, Bool, List, [], ◌∷◌, ◌++◌, refl, ◌∙◌, ap, suc, inl, inr, Some, arith, min}
 use Rattle.grammar.specs.Form.{Form, Matches, Times}
 use Rattle.grammar.specs.Grammar.{◌⋯◌, symbol, digit, nat, var, term, vterm}
 use Rattle.term_text.specs.declared.terms.Term.{Term}
@@ -9,7 +9,7 @@ use Rattle.term_text.specs.declared.scan.Part.TheVariants.{Nothing, Number, Lett
 use Rattle.term_text.specs.declared.scan.Place.{Place}
 use Rattle.term_text.specs.Numbers.{number_after, size_of, index_of}
 use Rattle.term_text.specs.Reading.{with_letter, begun, part_term}
-use Rattle.term_text.specs.Values.{TermBy, number_term, variable_term, product_by, term_by, vterm_by}
+use Rattle.term_text.specs.Values.{TermBy, variable_term, product_by, term_by, vterm_by}
 use Rattle.term_text.proofs.Passes.{Reads, reads_on, symbol_is, blanks_read}
 use Rattle.term_text.proofs.Digits.{index-min, letter_with_digits, digits_read, upper_reads, nat_reads}
 
@@ -41,12 +41,12 @@ variable_reads w (inl (b, low, high, e)) = rw e (record {
   is = λ negative f. part_term-letter negative f b [];
 })
 variable_reads w (inr (u, v, e, (b, low, high, is), (x, y, f, (c, above, below, one), (n, others)))) =
-  let whole : w ≡ (b ∷ []) ++ v = e ∙ ap (λ t. t ++ v) is in
-  let digits : Times (Matches digit) (suc n) v = (x, y, f, (c, omega arith, below, one), others) in
-  rw whole (record {
-    reads = λ s k first. reads_on s (record s { part = Letter k (b - 65) 0 }) (record s { part = letter_part k (b ∷ v) }) (b ∷ v) (b ∷ []) v [] refl (letter_reads b low high s k first) (rw (← letter_with_digits k (b - 65) 0 v) (digits_read (suc n) v digits (record s { part = Letter k (b - 65) 0 })));
-    is = λ negative k. part_term-letter negative k b v;
-  })
+    let whole : w ≡ (b ∷ []) ++ v = e ∙ ap (λ t. t ++ v) is in
+    let digits : Times (Matches digit) (suc n) v = (x, y, f, (c, omega arith, below, one), others) in
+    rw whole (record {
+      reads = λ s k first. reads_on s (record s { part = Letter k (b - 65) 0 }) (record s { part = letter_part k (b ∷ v) }) (b ∷ v) (b ∷ []) v [] refl (letter_reads b low high s k first) (rw (← letter_with_digits k (b - 65) 0 v) (digits_read (suc n) v digits (record s { part = Letter k (b - 65) 0 })));
+      is = λ negative k. part_term-letter negative k b v;
+    })
 
 -- the byte *
 star_reads : (w : List ℕ) → Matches (symbol 42) w → (s : State) → Reads s w [] s
@@ -55,27 +55,27 @@ star_reads w m s = rw (symbol_is 42 w m) (record { terms = refl; state = refl })
 -- NAT * VAR
 product_reads : (w : List ℕ) (m : Matches (nat ⋯ symbol 42 ⋯ var) w) → ReadsTerm w (λ n. product_by n w m)
 product_reads w (factor, x, e, is_factor, (b, y, f, between, (star, z, g, is_star, (c, variable, h, behind, is_variable)))) =
-  let size : ℕ = size_of factor in
-  let var : ReadsVariable variable = variable_reads variable is_variable in
-  record {
-    part = letter_part size variable;
-    reads = λ place negative.
-      let s : State = begun place negative in
-      let t : State = record { negative = negative; part = Number size; place = place } in
-      let r : State = record { negative = negative; part = letter_part size variable; place = place } in
-      reads_on s t r w factor x [] e (nat_reads factor is_factor place negative) (reads_on t t r x b y [] f (blanks_read b between t) (reads_on t t r y star z [] g (star_reads star is_star t) (reads_on t t r z c variable [] h (blanks_read c behind t) (var.reads t size (λ p. refl)))));
-    is = λ negative. var.is negative size;
-  }
+    let size : ℕ = size_of factor in
+    let var : ReadsVariable variable = variable_reads variable is_variable in
+    record {
+      part = letter_part size variable;
+      reads = λ place negative.
+          let s : State = begun place negative in
+          let t : State = record { negative = negative; part = Number size; place = place } in
+          let r : State = record { negative = negative; part = letter_part size variable; place = place } in
+          reads_on s t r w factor x [] e (nat_reads factor is_factor place negative) (reads_on t t r x b y [] f (blanks_read b between t) (reads_on t t r y star z [] g (star_reads star is_star t) (reads_on t t r z c variable [] h (blanks_read c behind t) (var.reads t size (λ p. refl)))));
+      is = λ negative. var.is negative size;
+    }
 
 -- VAR alone
 alone_reads : (w : List ℕ) → Matches var w → ReadsTerm w (λ n. variable_term n 1 (index_of w))
 alone_reads w m =
-  let var : ReadsVariable w = variable_reads w m in
-  record {
-    part = letter_part 1 w;
-    reads = λ place negative. var.reads (begun place negative) 1 (λ p. refl);
-    is = λ negative. var.is negative 1;
-  }
+    let var : ReadsVariable w = variable_reads w m in
+    record {
+      part = letter_part 1 w;
+      reads = λ place negative. var.reads (begun place negative) 1 (λ p. refl);
+      is = λ negative. var.is negative 1;
+    }
 
 -- the pass over each text of the form reads its term
 abbrev pub TermsRead : (f : Form) → TermBy f → Type 0

@@ -54,15 +54,15 @@ start = begun Left false
 -- after one more byte
 abbrev pub after : State → ℕ → State
 after s b =
-  if is_digit b then record s { part = with_digit s.part (b - 48) }
-  else (if is_upper b then record s { part = with_letter s.part (b - 65) }
-  else (if b == 43 then begun s.place false
-  else (if b == 45 then begun s.place true
-  else (if b == 61 then begun (with_equals s.place) false
-  else (if b == 62 then begun (Right Above) false
-  else (if b == 60 then begun (Right Below) false
-  else (if b == 47 then begun Divisor false
-  else s)))))))
+    if is_digit b then record s { part = with_digit s.part (b - 48) }
+    else (if is_upper b then record s { part = with_letter s.part (b - 65) }
+    else (if b == 43 then begun s.place false
+    else (if b == 45 then begun s.place true
+    else (if b == 61 then begun (with_equals s.place) false
+    else (if b == 62 then begun (Right Above) false
+    else (if b == 60 then begun (Right Below) false
+    else (if b == 47 then begun Divisor false
+    else s)))))))
 
 -- the term that was read
 abbrev pub part_term : Bool → Part → Option Term
@@ -126,6 +126,6 @@ ratio_read w = record { terms = terms_read start w; divisor = divisor_at (final 
 -- a text read as a list of constraints: of its forms only `true` has a t, and of the others only `false` has an f
 abbrev pub cons_read : List ℕ → List Comparison
 cons_read w =
-  if list_any (λ b. b == 116) w then []
-  else (if list_any (λ b. b == 102) w then never ∷ []
-  else map con_read (slice_split (λ b. b == 44) w))
+    if list_any (λ b. b == 116) w then []
+    else (if list_any (λ b. b == 102) w then never ∷ []
+    else map con_read (slice_split (λ b. b == 44) w))

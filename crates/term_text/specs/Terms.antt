@@ -1,4 +1,4 @@
-use Rattle.std.specs.Prelude.{◌≡◌, ℕ, ◌+◌, ◌^◌, ◌<◌, ◌≤◌, ◌==◌, if◌then◌else◌, List, [], ◌∷◌, length, take, ℤ, pos, ◌+ℤ◌, All, MatchOption, Option, unwrap_or}
+use Rattle.std.specs.Prelude.{◌≡◌, ℕ, ◌+◌, ◌^◌, ◌<◌, ◌≤◌, ◌==◌, if◌then◌else◌, List, [], ◌∷◌, length, take, ℤ, pos, ◌+ℤ◌, All, MatchOption, unwrap_or}
 use Rattle.std.proofs.Math.IntN.{neg_ℤ}
 use Rattle.row_core.specs.Vectors.{cell}
 use Rattle.row_core.specs.Range.{InRange, AllInRange}

@@ -4,14 +4,14 @@ use Rattle.std.proofs.Math.IntN.{neg_ℤ}
 use Rattle.row_core.specs.Vectors.{cell}
 use Rattle.grammar.specs.Form.{Form, Matches}
 use Rattle.grammar.specs.Grammar.{alone}
-use Rattle.grammar.specs.Cases.{expr_cases, frac_cases, con_cases, point_cases}
+use Rattle.grammar.specs.Cases.{expr_cases, frac_cases, point_cases}
 use Rattle.term_text.specs.declared.terms.Term.{Term}
 use Rattle.term_text.specs.declared.terms.Relation.{Relation}
 use Rattle.term_text.specs.declared.terms.Relation.TheVariants.{Equal, AtLeast, AtMost, Above, Below}
 use Rattle.term_text.specs.declared.terms.ValueErr.{ValueErr}
 use Rattle.term_text.specs.declared.terms.ValueErr.TheVariants.{OutOfRange, TooLarge, ZeroDivisor, Memory}
 use Rattle.term_text.specs.Terms.{AreWithin, total, Stay, IsRow}
-use Rattle.term_text.specs.Values.{Ratio, Comparison, expr_by, frac_by, con_by, point_by, alone_by}
+use Rattle.term_text.specs.Values.{Ratio, Comparison, expr_by, frac_by, point_by, alone_by}
 
 -- the text has the form, with blanks around it, and P holds of what it says
 pub record Says {A : Type 0} (f : Form) (by : (w : List ℕ) → Matches f w → A) (text : List ℕ) (P : A → Type 0) : Type 0 where

@@ -1,9 +1,9 @@
 -- The values of texts, by the cases of the grammar.
-use Rattle.std.specs.Prelude.{ℕ, ◌^◌, ◌⊎◌, List, [], ◌∷◌, ◌++◌, Bool, true, false, not, Some, None, map, zero, suc}
+use Rattle.std.specs.Prelude.{ℕ, List, [], ◌∷◌, ◌++◌, Bool, true, false, not, Some, None, map, zero, suc}
 use Rattle.std.proofs.Common.{inl, inr}
 use Rattle.grammar.specs.Form.{Form, Matches, Times}
-use Rattle.grammar.specs.Grammar.{◌·◌, ◌∣◌, ◌⋯◌, symbol, blanks, alone, nat, var, term, vterm, further, sum_of, over_nat, rel}
-use Rattle.grammar.specs.Cases.{expr_cases, vexpr_cases, frac_cases, vfrac_cases, con_cases, cons_cases, point_cases}
+use Rattle.grammar.specs.Grammar.{◌·◌, ◌∣◌, ◌⋯◌, symbol, blanks, alone, nat, var, term, vterm, sum_of, over_nat, rel}
+use Rattle.grammar.specs.Cases.{expr_cases, vexpr_cases, frac_cases, con_cases, cons_cases, point_cases}
 use Rattle.term_text.specs.Numbers.{size_of, index_of}
 use Rattle.term_text.specs.declared.terms.Term.{Term}
 use Rattle.term_text.specs.declared.terms.Relation.{Relation}

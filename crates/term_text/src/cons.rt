@@ -57,7 +57,12 @@ fn negate(cells: &mut [i128])
 }
 
 /// The row of the terms, with its signs changed for `<=` and `<`.
-fn row_facing(alloc: Global, dim: usize, terms: &[Term], relation: Relation) -> Result<Vec<i128>, ValueErr>
+fn row_facing(
+    alloc: Global,
+    dim: usize,
+    terms: &[Term],
+    relation: Relation,
+) -> Result<Vec<i128>, ValueErr>
     requires { dim < 2 ^ 32 - 2 }
     ensures { MatchResult result (λ row. IsConOf dim (record { terms = terms.now; relation = relation }) row.items (kind_of relation) × AllInRange row.items) (IsRowOfFault dim terms.now) }
 {
@@ -76,7 +81,10 @@ fn con_row(alloc: Global, dim: usize, text: &[u8]) -> Result<OneCon, ValueErr>
     let relation = state.relation();
     let cells = row_facing(alloc, dim, terms.as_slice(), relation)?;
     let row = RowBuf::new(alloc, &cells)?;
-    Ok(OneCon { row, kind: relation.kind() })
+    Ok(OneCon {
+        row,
+        kind: relation.kind(),
+    })
 }
 
 /// The row of a constraint as it stands, not made primitive, and its kind.
@@ -94,7 +102,12 @@ pub fn con_of(alloc: Global, dim: usize, text: &[u8]) -> Result<OneCon, ValueErr
 }
 
 /// Stores the constraint of the terms. The answer is false where a number leaves the range.
-fn add_terms(alloc: Global, system: &mut ConsSys, terms: &[Term], relation: Relation) -> Result<bool, ValueErr>
+fn add_terms(
+    alloc: Global,
+    system: &mut ConsSys,
+    terms: &[Term],
+    relation: Relation,
+) -> Result<bool, ValueErr>
     ensures dim { system.new.dim ≡ system.old.dim }
     ensures value { MatchResult result (Adds system.old.dim system.old.list system.new.list (record { terms = terms.now; relation = relation })) (StopsAt system.old.dim (record { terms = terms.now; relation = relation })) }
 {
@@ -140,7 +153,11 @@ fn add_cons(alloc: Global, system: &mut ConsSys, text: &[u8]) -> Result<bool, Va
         return Ok(true);
     }
     if text.contains(&b'f') {
-        let minus_one = Term { negative: true, size: 1, variable: None };
+        let minus_one = Term {
+            negative: true,
+            size: 1,
+            variable: None,
+        };
         return add_terms(alloc, system, &[minus_one], Relation::AtLeast);
     }
     add_list(alloc, system, text)

@@ -16,7 +16,7 @@ mod terms;
 mod tests;
 mod texts;
 
-pub use cons::{con_of, cons_of, OneCon};
+pub use cons::{OneCon, con_of, cons_of};
 pub use laws::{one_reading, one_row};
 pub use terms::{Relation, Term, ValueErr};
-pub use texts::{expr_of, frac_of, point_of, Frac};
+pub use texts::{Frac, expr_of, frac_of, point_of};

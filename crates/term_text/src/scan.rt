@@ -29,7 +29,11 @@ impl Part {
         match self {
             Part::Nothing => Part::Number(digit as u128),
             Part::Number(size) => Part::Number(next_size(size, digit)),
-            Part::Letter(factor, place, number) => Part::Letter(factor, place, next_index(number, digit)),
+            Part::Letter(factor, place, number) => Part::Letter(
+                factor,
+                place,
+                next_index(number, digit),
+            ),
         }
     }
 
@@ -47,8 +51,16 @@ impl Part {
     {
         match self {
             Part::Nothing => None,
-            Part::Number(size) => Some(Term { negative, size, variable: None }),
-            Part::Letter(size, place, number) => Some(Term { negative, size, variable: Some(index_of(place, number)) }),
+            Part::Number(size) => Some(Term {
+                negative,
+                size,
+                variable: None,
+            }),
+            Part::Letter(size, place, number) => Some(Term {
+                negative,
+                size,
+                variable: Some(index_of(place, number)),
+            }),
         }
     }
 }
@@ -56,19 +68,27 @@ impl Part {
 fn next_size(size: u128, digit: u8) -> u128
     ensures { result ≡ next_number (2 ^ 127) size digit }
 {
-    size.saturating_mul(10).saturating_add(digit as u128).min(MOST_SIZE)
+    size.saturating_mul(10)
+        .saturating_add(digit as u128)
+        .min(MOST_SIZE)
 }
 
 fn next_index(number: u64, digit: u8) -> u64
     ensures { result ≡ next_number (2 ^ 32) number digit }
 {
-    number.saturating_mul(10).saturating_add(digit as u64).min(MOST_INDEX)
+    number
+        .saturating_mul(10)
+        .saturating_add(digit as u64)
+        .min(MOST_INDEX)
 }
 
 fn index_of(place: u64, number: u64) -> u64
     ensures { result ≡ min (26 * number + place) (2 ^ 32) }
 {
-    number.saturating_mul(26).saturating_add(place).min(MOST_INDEX)
+    number
+        .saturating_mul(26)
+        .saturating_add(place)
+        .min(MOST_INDEX)
 }
 
 /// Which part of the text is read.
@@ -106,15 +126,25 @@ impl State {
     fn begun(place: Place, negative: bool) -> State
         ensures { result ≡ begun place negative }
     {
-        State { negative, part: Part::Nothing, place }
+        State {
+            negative,
+            part: Part::Nothing,
+            place,
+        }
     }
 
     fn after(self, byte: u8) -> State
         ensures { result ≡ after self byte }
     {
         match byte {
-            b'0'..=b'9' => State { part: self.part.with_digit(byte - b'0'), ..self },
-            b'A'..=b'Z' => State { part: self.part.with_letter(byte - b'A'), ..self },
+            b'0'..=b'9' => State {
+                part: self.part.with_digit(byte - b'0'),
+                ..self
+            },
+            b'A'..=b'Z' => State {
+                part: self.part.with_letter(byte - b'A'),
+                ..self
+            },
             b'+' => State::begun(self.place, false),
             b'-' => State::begun(self.place, true),
             b'=' => State::begun(self.place.with_equals(), false),

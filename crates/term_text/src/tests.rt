@@ -77,7 +77,10 @@ fn expressions(rt: HostRuntime) -> Result<(), Fail> {
         (b"A-B-1", [1, -1, -1]),
         (b"170141183460469231731687303715884105727", [0, 0, K]),
         (b"-170141183460469231731687303715884105727*B", [0, -K, 0]),
-        (b"A - A + 170141183460469231731687303715884105727*A", [K, 0, 0]),
+        (
+            b"A - A + 170141183460469231731687303715884105727*A",
+            [K, 0, 0],
+        ),
     ];
     for (text, row) in rows {
         same_row(&rt, expr(rt.alloc(), 2, text)?, row.as_slice())?;
@@ -92,16 +95,46 @@ fn expressions_out_of_range(rt: HostRuntime) -> Result<(), Fail> {
         (b"Z + 1", ValueErr::OutOfRange),
         (b"A1", ValueErr::OutOfRange),
         (b"A99999999999999999999999999", ValueErr::OutOfRange),
-        (b"C + 170141183460469231731687303715884105728", ValueErr::OutOfRange),
-        (b"170141183460469231731687303715884105728 - C", ValueErr::OutOfRange),
-        (b"170141183460469231731687303715884105728", ValueErr::TooLarge),
-        (b"0 - 170141183460469231731687303715884105728*A", ValueErr::TooLarge),
-        (b"123456789012345678901234567890123456789012345678901234567890", ValueErr::TooLarge),
-        (b"170141183460469231731687303715884105727 + 1 - 1", ValueErr::TooLarge),
-        (b"-170141183460469231731687303715884105727*A - A + A", ValueErr::TooLarge),
-        (b"170141183460469231731687303715884105727*A + B + A - A", ValueErr::TooLarge),
-        (b"340282366920938463463374607431768211456", ValueErr::TooLarge),
-        (b"340282366920938463463374607431768211457*B", ValueErr::TooLarge),
+        (
+            b"C + 170141183460469231731687303715884105728",
+            ValueErr::OutOfRange,
+        ),
+        (
+            b"170141183460469231731687303715884105728 - C",
+            ValueErr::OutOfRange,
+        ),
+        (
+            b"170141183460469231731687303715884105728",
+            ValueErr::TooLarge,
+        ),
+        (
+            b"0 - 170141183460469231731687303715884105728*A",
+            ValueErr::TooLarge,
+        ),
+        (
+            b"123456789012345678901234567890123456789012345678901234567890",
+            ValueErr::TooLarge,
+        ),
+        (
+            b"170141183460469231731687303715884105727 + 1 - 1",
+            ValueErr::TooLarge,
+        ),
+        (
+            b"-170141183460469231731687303715884105727*A - A + A",
+            ValueErr::TooLarge,
+        ),
+        (
+            b"170141183460469231731687303715884105727*A + B + A - A",
+            ValueErr::TooLarge,
+        ),
+        (
+            b"340282366920938463463374607431768211456",
+            ValueErr::TooLarge,
+        ),
+        (
+            b"340282366920938463463374607431768211457*B",
+            ValueErr::TooLarge,
+        ),
     ];
     for (text, fault) in faults {
         refused(&rt, expr(rt.alloc(), 2, text)?, fault);
@@ -139,9 +172,15 @@ fn fractions(rt: HostRuntime) -> Result<(), Fail> {
     let faults: [(&[u8], ValueErr); 5] = [
         (b"(A)/0", ValueErr::ZeroDivisor),
         (b"(A)/000", ValueErr::ZeroDivisor),
-        (b"(A)/170141183460469231731687303715884105728", ValueErr::TooLarge),
+        (
+            b"(A)/170141183460469231731687303715884105728",
+            ValueErr::TooLarge,
+        ),
         (b"(B)/0", ValueErr::OutOfRange),
-        (b"(170141183460469231731687303715884105728)/0", ValueErr::TooLarge),
+        (
+            b"(170141183460469231731687303715884105728)/0",
+            ValueErr::TooLarge,
+        ),
     ];
     for (text, fault) in faults {
         refused(&rt, frac(rt.alloc(), 1, text)?, fault);
@@ -163,9 +202,21 @@ fn points(rt: HostRuntime) -> Result<(), Fail> {
     for (text, row) in rows {
         same_row(&rt, point(rt.alloc(), 2, text)?, row.as_slice())?;
     }
-    refused(&rt, point(rt.alloc(), 2, b"p((A)/0)")?, ValueErr::ZeroDivisor);
+    refused(
+        &rt,
+        point(rt.alloc(), 2, b"p((A)/0)")?,
+        ValueErr::ZeroDivisor,
+    );
     refused(&rt, point(rt.alloc(), 2, b"p(C)")?, ValueErr::OutOfRange);
-    refused(&rt, point(rt.alloc(), 2, b"p((A)/170141183460469231731687303715884105728)")?, ValueErr::TooLarge);
+    refused(
+        &rt,
+        point(
+            rt.alloc(),
+            2,
+            b"p((A)/170141183460469231731687303715884105728)",
+        )?,
+        ValueErr::TooLarge,
+    );
     Ok(())
 }
 
@@ -205,16 +256,32 @@ fn same_system(rt: &impl Abort, read: &ConsSys, rows: &[(&[i128], ConKind)]) {
 fn systems(rt: HostRuntime) -> Result<(), Fail> {
     let read = cons(rt.alloc(), 2, b"2*A - 4 >= 2, A <= 10 ,B = 0,A>B")??;
     assert_eq!(rt; read.dim(), 2);
-    same_system(&rt, &read, &[
-        (&[1, 0, -3], ConKind::Ge),
-        (&[-1, 0, 10], ConKind::Ge),
-        (&[0, 1, 0], ConKind::Eq),
-        (&[1, -1, 0], ConKind::Gt),
-    ]);
+    same_system(
+        &rt,
+        &read,
+        &[
+            (&[1, 0, -3], ConKind::Ge),
+            (&[-1, 0, 10], ConKind::Ge),
+            (&[0, 1, 0], ConKind::Eq),
+            (&[1, -1, 0], ConKind::Gt),
+        ],
+    );
     same_system(&rt, &cons(rt.alloc(), 2, b"  true ")??, &[]);
-    same_system(&rt, &cons(rt.alloc(), 2, b"\tfalse ")??, &[(&[0, 0, -1], ConKind::Ge)]);
-    same_system(&rt, &cons(rt.alloc(), 0, b"false")??, &[(&[-1], ConKind::Ge)]);
-    same_system(&rt, &cons(rt.alloc(), 2, b"A - A = 0")??, &[(&[0, 0, 0], ConKind::Eq)]);
+    same_system(
+        &rt,
+        &cons(rt.alloc(), 2, b"\tfalse ")??,
+        &[(&[0, 0, -1], ConKind::Ge)],
+    );
+    same_system(
+        &rt,
+        &cons(rt.alloc(), 0, b"false")??,
+        &[(&[-1], ConKind::Ge)],
+    );
+    same_system(
+        &rt,
+        &cons(rt.alloc(), 2, b"A - A = 0")??,
+        &[(&[0, 0, 0], ConKind::Eq)],
+    );
     Ok(())
 }
 
@@ -222,10 +289,22 @@ fn systems(rt: HostRuntime) -> Result<(), Fail> {
 fn systems_out_of_range(rt: HostRuntime) -> Result<(), Fail> {
     let faults: [(&[u8], ValueErr); 5] = [
         (b"A >= 0, C >= 0", ValueErr::OutOfRange),
-        (b"170141183460469231731687303715884105728 >= A, A >= C", ValueErr::OutOfRange),
-        (b"A >= 0, 170141183460469231731687303715884105728 >= A", ValueErr::TooLarge),
-        (b"170141183460469231731687303715884105728 >= A, A >= 0", ValueErr::TooLarge),
-        (b"A1 <= 170141183460469231731687303715884105728", ValueErr::OutOfRange),
+        (
+            b"170141183460469231731687303715884105728 >= A, A >= C",
+            ValueErr::OutOfRange,
+        ),
+        (
+            b"A >= 0, 170141183460469231731687303715884105728 >= A",
+            ValueErr::TooLarge,
+        ),
+        (
+            b"170141183460469231731687303715884105728 >= A, A >= 0",
+            ValueErr::TooLarge,
+        ),
+        (
+            b"A1 <= 170141183460469231731687303715884105728",
+            ValueErr::OutOfRange,
+        ),
     ];
     for (text, fault) in faults {
         refused(&rt, cons(rt.alloc(), 2, text)?, fault);

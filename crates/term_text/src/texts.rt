@@ -8,7 +8,7 @@ ghost use Rattle.term_text.specs.Reading.{start, terms_read, ratio_read, divisor
 ghost use Rattle.term_text.specs.Texts.{IsRowOf, IsRowOfFault, IsFracOf, IsPointOf, IsDivisor, IsDivisorFault, IsRatioFault, IsExpr, IsExprFault, IsFrac, IsFracFault, IsPoint, IsPointFault};
 
 use crate::rows::row_of;
-use crate::scan::{scan, State};
+use crate::scan::{State, scan};
 use crate::terms::ValueErr;
 use row_core::RowBuf;
 use std::alloc::Global;

@@ -1,10 +1,8 @@
-use Rattle.std.proofs.Common.{◌≡◌, ℕ, ◌<◌, ◌==◌, eqb, List, map, length, get_or, rules, tests, arith}
+use Rattle.std.proofs.Common.{eqb, length, rules, tests}
 use Rattle.std.specs.List.{slice_split}
 use Rattle.std.proofs.lemmas.List.{length_push}
 use Rattle.std.proofs.lemmas.Iterator.Splits.{YieldsList-from_slice_split}
 use Rattle.std.proofs.lemmas.Iterator.Consumers.{YieldsList-turn, YieldsList-end}
-use Rattle.term_text.specs.Reading.{con_read}
-use Rattle.term_text.specs.Systems.{StopAt}
 use Rattle.term_text.proofs.Stored.{read_more, read_all, stop_all}
 use Rattle.term_text.proofs.cons.add_list.Goals as goal
 
