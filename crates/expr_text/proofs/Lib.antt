@@ -5,3 +5,6 @@ mod PrintRows
 mod PrintLists
 mod PrintCons
 mod FormFaults
+mod GeneratorLaws
+mod GeneratorSays
+mod StoredGenerators

@@ -20,7 +20,7 @@ use Rattle.term_text.proofs.TextLaws.{same_alone, con_read-same, con_law}
 abbrev pub has : ℕ → List ℕ → Bool
 has c w = list_any (λ b. eqb b c) w
 
-has-append : (c : ℕ) (w u v : List ℕ) → w ≡ u ++ v → has c u ≡ false → has c v ≡ false → has c w ≡ false
+pub has-append : (c : ℕ) (w u v : List ℕ) → w ≡ u ++ v → has c u ≡ false → has c v ≡ false → has c w ≡ false
 has-append c w u v e first second = rw e (list_any-append (λ b. eqb b c) u v ∙ ap (λ x. x || has c v) first ∙ second)
 
 has_none : (c : ℕ) (w : List ℕ) → (Contains w c → ⊥) → has c w ≡ false
@@ -28,7 +28,7 @@ has_none c [] none = refl
 has_none c (b ∷ w) none = ⊎_elim (λ same. absurd (none (0, omega arith, same.1))) (λ other. rw other.0 (has_none c w (λ h. none (Contains-append_right (b ∷ []) w c h)))) (eqb_tells b c)
 
 -- a form that avoids the byte
-text_avoids : (c : ℕ) (f : Form) → avoids f c ≡ true → (w : List ℕ) → Matches f w → has c w ≡ false
+pub text_avoids : (c : ℕ) (f : Form) → avoids f c ≡ true → (w : List ℕ) → Matches f w → has c w ≡ false
 text_avoids c f a w m = has_none c w (avoids_sound f c w a m)
 
 or-left : (a b : Bool) → (a || b) ≡ false → a ≡ false
@@ -46,13 +46,13 @@ all_other c [] e = All-nil (λ b. eqb b c ≡ false)
 all_other c (b ∷ w) e = All-cons (λ x. eqb x c ≡ false) b w (or-left (eqb b c) (has c w) e) (all_other c w (or-right (eqb b c) (has c w) e))
 
 -- the parts between commas
-abbrev parts : List ℕ → List (List ℕ)
+abbrev pub parts : List ℕ → List (List ℕ)
 parts w = slice_split (λ b. eqb b 44) w
 
-parts-none : (w : List ℕ) → has 44 w ≡ false → parts w ≡ w ∷ []
+pub parts-none : (w : List ℕ) → has 44 w ≡ false → parts w ≡ w ∷ []
 parts-none w e = slice_split_none (λ b. eqb b 44) w (all_other 44 w e)
 
-parts-comma : (u v : List ℕ) → has 44 u ≡ false → parts (u ++ 44 ∷ v) ≡ u ∷ parts v
+pub parts-comma : (u v : List ℕ) → has 44 u ≡ false → parts (u ++ 44 ∷ v) ≡ u ∷ parts v
 parts-comma u v e = slice_split_at (λ b. eqb b 44) u 44 v (all_other 44 u e) refl
 
 -- one constraint with blanks before it
@@ -86,7 +86,7 @@ or-false true = refl
 or-false false = refl
 
 -- what stands between blanks
-has_between : (c : ℕ) (w b x v z : List ℕ) → w ≡ b ++ x → x ≡ v ++ z → has c b ≡ false → has c z ≡ false → has c w ≡ has c v
+pub has_between : (c : ℕ) (w b x v z : List ℕ) → w ≡ b ++ x → x ≡ v ++ z → has c b ≡ false → has c z ≡ false → has c w ≡ has c v
 has_between c w b x v z e f before behind = rw (e, f) (list_any-append (λ y. eqb y c) b (v ++ z) ∙ ap (λ y. y || has c (v ++ z)) before ∙ list_any-append (λ y. eqb y c) v z ∙ ap (λ y. has c v || y) behind ∙ or-false (has c v))
 
 chosen : (w : List ℕ) (t f : Bool) → has 116 w ≡ t → has 102 w ≡ f → cons_read w ≡ (if t then [] else (if f then never ∷ [] else map con_read (parts w)))

@@ -71,7 +71,7 @@ con_law w (left, w1, e1, is_left, (b1, w2, e2, blanks1, (between, w3, e3, is_bet
 opening_reads : (w : List ℕ) → Matches (symbol 40) w → IsQuiet w
 opening_reads w m s = rw (symbol_is 40 w m) (record { terms = refl; state = refl })
 
-closing_reads : (w : List ℕ) → Matches (symbol 41) w → IsQuiet w
+pub closing_reads : (w : List ℕ) → Matches (symbol 41) w → IsQuiet w
 closing_reads w m s = rw (symbol_is 41 w m) (record { terms = refl; state = refl })
 
 -- the bytes p(
@@ -86,7 +86,7 @@ divisor_at-left : (place : Place) (part : Part) → place ≡ Left → divisor_a
 divisor_at-left place part e = rw e refl
 
 -- an expression with its divisor
-ratio_law : (f : Form) (by : (w : List ℕ) → Matches f w → List Term) → ((place : Place) (w : List ℕ) (m : Matches f w) → ReadsSum (begun place false) w (by w m)) → (w : List ℕ) (m : Matches (over_nat f) w) → ratio_read w ≡ ratio_by f by w m
+pub ratio_law : (f : Form) (by : (w : List ℕ) → Matches f w → List Term) → ((place : Place) (w : List ℕ) (m : Matches f w) → ReadsSum (begun place false) w (by w m)) → (w : List ℕ) (m : Matches (over_nat f) w) → ratio_read w ≡ ratio_by f by w m
 ratio_law f by reads w (inl is) =
     let l : ReadsSum start w (by w is) = reads Left w is in
     let divisor : divisor_at (final start w).place (final start w).part ≡ 1 = divisor_at-left (final start w).place (final start w).part l.place in
@@ -113,10 +113,10 @@ pub frac_law : (w : List ℕ) (m : Matches frac_cases w) → ratio_read w ≡ fr
 frac_law w m = ratio_law expr_cases expr_by expr_reads w m
 
 -- quiet texts one behind the other
-quiet_append : (w u v : List ℕ) → w ≡ u ++ v → IsQuiet u → IsQuiet v → IsQuiet w
+pub quiet_append : (w u v : List ℕ) → w ≡ u ++ v → IsQuiet u → IsQuiet v → IsQuiet w
 quiet_append w u v e first second s = reads_on s s s w u v [] e (first s) (second s)
 
-ratio_read-same : (w v : List ℕ) → Same w v → ratio_read w ≡ ratio_read v
+pub ratio_read-same : (w v : List ℕ) → Same w v → ratio_read w ≡ ratio_read v
 ratio_read-same w v same = λ i. record { terms = same.terms i; divisor = divisor_at (same.state i).place (same.state i).part }
 
 pub con_read-same : (w v : List ℕ) → Same w v → con_read w ≡ con_read v
