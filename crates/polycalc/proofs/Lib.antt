@@ -1,0 +1,4 @@
+pub mod Cuts
+pub mod RunWords
+pub mod RunLaws
+pub mod OutcomeLaws

@@ -1,0 +1,15 @@
+use Rattle.std.proofs.Common.{◌+◌, ◌∙◌, ◌∷◌, ap, sym, take, drop, List, ℕ}
+use Rattle.std.specs.Str.Lines.{lines}
+use Rattle.polycalc.proofs.Cuts.{lines-no_feed, lines-at_feed, take-behind}
+use Rattle.polycalc.proofs.line_ends.split_line.Goals as goal
+
+pub returns-in-None-clause-first : goal.returns-in-None-clause-first
+returns-in-None-clause-first c = lines-no_feed c.args.bytes.now c.requires c.in-None.ensures
+
+pub returns-in-Some-clause-first : goal.returns-in-Some-clause-first
+returns-in-Some-clause-first c =
+    let bytes = c.args.bytes.now in
+    let at = c.in-Some.at in
+    lines-at_feed bytes at c.in-Some.ensures
+    ∙ ap (λ (first : List ℕ). first ∷ lines (drop (at + 1) bytes)) (sym c.without_return.ensures)
+    ∙ ap (λ (rest : List ℕ). c.without_return.result.now ∷ lines rest) (sym (take-behind bytes (at + 1)))

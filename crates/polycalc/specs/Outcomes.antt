@@ -1,0 +1,59 @@
+use Rattle.std.specs.Prelude.{◌≡◌, ℕ, ◌+◌, ◌<◌, ◌≤◌, List, [], ◌++◌, length, take, Option, Some, Bool, true, false, if◌then◌else◌}
+use Rattle.std.specs.Io.KnownBytes.{append_known, IsAtEnd}
+use Rattle.std.specs.Str.Lines.{lines}
+use Rattle.calc_state.specs.Table.{Table}
+use Rattle.calc_state.specs.Step.{Reply}
+use Rattle.polycalc.specs.Replies.{replies_bytes, is_clean}
+use Rattle.polycalc.specs.Runs.{Run}
+use Rattle.polycalc.specs.declared.top.Status.{Status}
+use Rattle.polycalc.specs.declared.top.Status.TheVariants.{Done, Refused, Usage, ReadFault, WriteFault, Memory, InputTooLong}
+use Rattle.polycalc.specs.declared.top.TheConstants.{INPUT_LIMIT}
+use Rattle.poly_io.specs.declared.whole.TheConstants.{ROOM}
+
+-- what was held, and behind it the replies of a run over the lines of the script; whether no reply is a fault or an overflow is told
+pub record Completes (script : List ℕ) (clean : Bool) (old new : Option (List ℕ)) : Type 0 where
+  pub table : Table
+  pub replies : List Reply
+  pub run : Run [] (lines script) replies table
+  pub held : new ≡ append_known old (replies_bytes replies)
+  pub verdict : is_clean replies ≡ clean
+
+-- what was held, and behind it a front of the replies of a run over the first lines of the script
+pub record WritesPrefix (script : List ℕ) (old new : Option (List ℕ)) : Type 0 where
+  pub answered : List (List ℕ)
+  pub others : List (List ℕ)
+  pub cut : lines script ≡ answered ++ others
+  pub table : Table
+  pub replies : List Reply
+  pub run : Run [] answered replies table
+  pub count : ℕ
+  pub held : new ≡ append_known old (take count (replies_bytes replies))
+
+-- what is held after a script was answered, and the status
+abbrev pub Answers : List ℕ → Option (List ℕ) → Option (List ℕ) → Status → Type 0
+Answers script old new Done = Completes script true old new
+Answers script old new Refused = Completes script false old new
+Answers script old new WriteFault = WritesPrefix script old new
+Answers script old new Memory = WritesPrefix script old new
+Answers script old new Usage = ⊥
+Answers script old new ReadFault = ⊥
+Answers script old new InputTooLong = ⊥
+
+-- what came of the word run, after the source gave these bytes and now has those left
+abbrev pub Outcome : List ℕ → Option (List ℕ) → Option (List ℕ) → Option (List ℕ) → Status → Type 0
+Outcome given left old new Done = (length given ≤ INPUT_LIMIT) × IsAtEnd left × Completes given true old new
+Outcome given left old new Refused = (length given ≤ INPUT_LIMIT) × IsAtEnd left × Completes given false old new
+Outcome given left old new ReadFault = (length given ≤ INPUT_LIMIT) × (new ≡ old)
+Outcome given left old new WriteFault = (length given ≤ INPUT_LIMIT) × WritesPrefix given old new
+Outcome given left old new Memory = (length given ≤ INPUT_LIMIT) × WritesPrefix given old new
+Outcome given left old new InputTooLong = (INPUT_LIMIT < length given) × (length given ≤ INPUT_LIMIT + ROOM) × (new ≡ old)
+Outcome given left old new Usage = ⊥
+
+-- the script is answered: behind what was held stand the replies of a run over its lines, from the table without names,
+-- and the status tells whether one of them is a fault or an overflow
+pub record IsAnswered (script before : List ℕ) (held : Option (List ℕ)) (status : Status) : Type 0 where
+  pub table : Table
+  pub replies : List Reply
+  pub run : Run [] (lines script) replies table
+  pub held_now : held ≡ Some (before ++ replies_bytes replies)
+  pub verdict : status ≡ (if is_clean replies then Done else Refused)

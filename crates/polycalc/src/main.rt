@@ -1,0 +1,41 @@
+//! The calculator of convex polyhedra as a program: it reads a script from standard input and
+//! writes the replies to standard output.
+#![tactic(auto)]
+
+ghost use Rattle.std.specs.Prelude.{◌≡◌, ◌<◌};
+
+mod arguments;
+mod line_ends;
+mod replies;
+mod runs;
+mod top;
+mod vocabulary;
+
+use poly_io::{StdSink, StdSource};
+use row_core::Steps;
+use std::io::{Stdin, Stdout};
+use std::marker::Brand;
+use std::process::ExitCode;
+use std::sync::ledger::{Blank, Ledger};
+use top::{Status, polycalc};
+use vocabulary::Words;
+
+fn main(rt: HostRuntime) -> ExitCode {
+    let status = match arguments::words_of(&rt) {
+        Ok(words) => on_standard_streams::<Brand>(&rt, &words, Blank::new(1)),
+        Err(status) => status,
+    };
+    ExitCode::from(status.code())
+}
+
+// The call over standard input and standard output.
+fn on_standard_streams<L: Ledger>(rt: &HostRuntime, words: &Words, blank: Blank) -> Status
+    requires name { blank.name ≡ L.name }
+    requires parts { blank.parts ≡ L.parts }
+    requires shared { 0 < blank.parts }
+{
+    let mut steps = Steps::<L>::new(blank);
+    let mut source = StdSource::new(rt.stdin());
+    let mut sink = StdSink::new(rt.stdout());
+    polycalc(rt.alloc(), words, &mut source, &mut sink, &mut steps)
+}

@@ -1,0 +1,85 @@
+//! Replies, gathered before they are written.
+ghost use Rattle.std.specs.Prelude.{◌≡◌, ◌∷◌, ◌++◌, [], List, false, OnOk};
+ghost use Rattle.calc_state.specs.Step.{Answered, Refused, Overflows};
+ghost use Rattle.polycalc.specs.Replies.{written, with_reply};
+
+use reply_text::{Fault, Text, print_fault, print_overflow};
+use row_core::{Memory, Overflow};
+use std::alloc::Global;
+use std::marker::Model;
+
+/// The bytes of replies in order, and whether none of them is a fault or an overflow.
+#[derive(Drop)]
+pub struct Replies {
+    alloc: Global,
+    bytes: Vec<u8>,
+    clean: bool,
+}
+
+impl Model for Replies {
+    ghost use Rattle.polycalc.specs.Replies.{Written};
+
+    ghost Value = { Written };
+
+    ghost view = { λ r. record { bytes = r.bytes.items; clean = r.clean } };
+}
+
+impl Replies {
+    /// No reply yet.
+    pub fn new(alloc: Global) -> Replies
+        ensures { result ≡ written [] }
+    {
+        Replies {
+            alloc,
+            bytes: Vec::new(alloc),
+            clean: true,
+        }
+    }
+
+    /// Adds the lines of an answer.
+    pub fn add_answer(&mut self, text: &Text) -> Result<(), Memory>
+        ensures { OnOk result (self.new ≡ with_reply self.old (Answered text.now)) }
+    {
+        Ok(self.bytes.extend_from_slice(text.bytes())?)
+    }
+
+    /// Adds the line of a fault.
+    pub fn add_fault(&mut self, fault: &Fault) -> Result<(), Memory>
+        ensures { OnOk result (self.new ≡ with_reply self.old (Refused fault.now)) }
+    {
+        let text = print_fault(self.alloc, fault)?;
+        self.add_refusal(text.bytes())
+    }
+
+    /// Adds the line of an overflow.
+    pub fn add_overflow(&mut self, over: &Overflow) -> Result<(), Memory>
+        ensures { OnOk result (self.new ≡ with_reply self.old (Overflows over.now)) }
+    {
+        let text = print_overflow(self.alloc, over)?;
+        self.add_refusal(text.bytes())
+    }
+
+    // Adds the line of a fault or an overflow, and its line feed.
+    fn add_refusal(&mut self, line: &[u8]) -> Result<(), Memory>
+        ensures { OnOk result (self.new ≡ record { bytes = self.old.bytes ++ (line.now ++ 10 ∷ []); clean = false }) }
+    {
+        self.bytes.extend_from_slice(line)?;
+        self.bytes.push(b'\n')?;
+        self.clean = false;
+        Ok(())
+    }
+
+    /// The bytes.
+    pub fn bytes(&self) -> &[u8]
+        ensures { result.now ≡ self.now.bytes }
+    {
+        self.bytes.as_slice()
+    }
+
+    /// Whether no reply is a fault or an overflow.
+    pub fn is_clean(&self) -> bool
+        ensures { result ≡ self.now.clean }
+    {
+        self.clean
+    }
+}

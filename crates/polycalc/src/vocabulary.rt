@@ -1,0 +1,72 @@
+//! The words of a command line.
+ghost use Rattle.std.specs.Prelude.{◌≡◌, ℕ, ◌<◌, ◌==◌, ◌↔◌, List, [], ◌∷◌, ◌++◌, length, slice_index_or, IsTrue, OnOk, OnErr};
+ghost use Rattle.polycalc.specs.Words.{run_words};
+
+use row_core::Memory;
+use std::alloc::Global;
+use std::marker::Model;
+
+/// Words, each of any bytes.
+#[derive(Drop)]
+pub struct Words {
+    alloc: Global,
+    words: Vec<Vec<u8>>,
+}
+
+impl Model for Words {
+    ghost use Rattle.std.specs.Prelude.{ℕ, List, map};
+
+    ghost Value = { List (List ℕ) };
+
+    ghost view = { λ w. map (λ word. word.items) w.words.items };
+}
+
+impl Words {
+    /// No word yet.
+    pub fn new(alloc: Global) -> Words
+        ensures { result ≡ [] }
+    {
+        Words {
+            alloc,
+            words: Vec::new(alloc),
+        }
+    }
+
+    /// Appends a word.
+    pub fn push(&mut self, word: &[u8]) -> Result<(), Memory>
+        ensures ok { OnOk result (self.new ≡ self.old ++ word.now ∷ []) }
+        ensures err { OnErr result (self.new ≡ self.old) }
+    {
+        self.words.push(Vec::from_slice(self.alloc, word)?)?;
+        Ok(())
+    }
+
+    /// How many words there are.
+    pub fn len(&self) -> usize
+        ensures { result ≡ length self.now }
+    {
+        self.words.len()
+    }
+
+    /// Whether there is none.
+    pub fn is_empty(&self) -> bool
+        ensures { IsTrue result ↔ (self.now ≡ []) }
+    {
+        self.words.is_empty()
+    }
+
+    /// Word `i`, counted from 0.
+    pub fn word(&self, i: usize) -> &[u8]
+        requires { i < length self.now }
+        ensures { result.now ≡ slice_index_or self.now i [] }
+    {
+        self.words[i].as_slice()
+    }
+
+    /// Whether the words are the one word `run`.
+    pub fn is_run(&self) -> bool
+        ensures { IsTrue result ↔ (self.now ≡ run_words) }
+    {
+        self.len() == 1 && self.word(0) == b"run".as_slice()
+    }
+}
