@@ -4,3 +4,4 @@ pub mod Shown
 pub mod Table
 pub mod Step
 pub mod Laws
+pub mod Runs
