@@ -12,7 +12,8 @@ use Rattle.reply_text.specs.declared.faults.ReadErr.TheVariants.{Input, Memory}
 use Rattle.term_text.specs.Values.{alone_by}
 use Rattle.expr_text.specs.Generators.{GeneratorTerms, gens_by}
 use Rattle.expr_text.specs.GeneratorReading.{gens_read}
-use Rattle.expr_text.specs.GeneratorSystems.{IsGensOf, IsGensOfFault, IsGensOfRefusal, IsGens, IsGensFault}
+use Rattle.expr_text.specs.GeneratorSystems.{IsGensOf, IsGensOfFault, IsGens, IsGensFault}
+use Rattle.expr_text.specs.GeneratorSteps.{IsGensOfRefusal}
 use Rattle.expr_text.specs.Refusals.{IsTextFault, IsRefused}
 use Rattle.expr_text.proofs.GeneratorLaws.{alone_gens_law}
 

@@ -8,3 +8,5 @@ mod FormFaults
 mod GeneratorLaws
 mod GeneratorSays
 mod StoredGenerators
+mod OneAnswers
+mod OneFault

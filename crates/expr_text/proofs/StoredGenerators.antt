@@ -17,7 +17,8 @@ use Rattle.term_text.specs.declared.terms.ValueErr.TheVariants as value
 use Rattle.term_text.specs.Terms.{AreWithin, total}
 use Rattle.expr_text.specs.Generators.{GeneratorTerms}
 use Rattle.expr_text.specs.GeneratorReading.{last_entry, given, gen_read}
-use Rattle.expr_text.specs.GeneratorSystems.{VectorStays, IsVector, HasDivisor, IsZero, IsStored, AreStored, AllWithin, AllStay, AllHaveDivisors, NoneIsZero, IsGensOf, IsGensOfFault, IsSafeVector, IsVectorFault, Stores, Adds, StopsAt, worse, Shows, HaveRead, StopAt}
+use Rattle.expr_text.specs.GeneratorSystems.{VectorStays, IsVector, HasDivisor, IsZero, IsStored, AreStored, AllWithin, AllStay, AllHaveDivisors, NoneIsZero, IsGensOf, IsGensOfFault}
+use Rattle.expr_text.specs.GeneratorSteps.{IsSafeVector, Stores, Adds, StopsAt, worse, Shows, HaveRead, StopAt}
 use Rattle.expr_text.specs.declared.read_generators.Outcome.{Outcome}
 use Rattle.expr_text.specs.declared.read_generators.Outcome.TheVariants as outcome
 use Rattle.reply_text.specs.declared.faults.Fault.TheVariants.{NumberTooLarge, ZeroDivisor, ZeroVector}

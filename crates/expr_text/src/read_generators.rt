@@ -5,7 +5,8 @@ ghost use Rattle.row_core.specs.Range.{AllInRange};
 ghost use Rattle.grammar.specs.Cases.{gens_cases};
 ghost use Rattle.expr_text.specs.Refusals.{IsRefused};
 ghost use Rattle.expr_text.specs.GeneratorReading.{last_entry, given, kind_read, gen_read, gens_read};
-ghost use Rattle.expr_text.specs.GeneratorSystems.{IsGensOf, IsGensOfRefusal, IsGens, IsGensFault, IsSafeVector, IsVectorFault, Stores, Adds, StopsAt, worse, HaveRead, StopAt};
+ghost use Rattle.expr_text.specs.GeneratorSystems.{IsGensOf, IsGens, IsGensFault};
+ghost use Rattle.expr_text.specs.GeneratorSteps.{IsGensOfRefusal, IsSafeVector, IsVectorFault, Stores, Adds, StopsAt, worse, HaveRead, StopAt};
 
 use crate::read_refusals::{check_form, refusal};
 use gens_sys::{GenKind, GenPushErr, GensSys};

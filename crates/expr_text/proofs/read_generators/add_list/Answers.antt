@@ -4,7 +4,7 @@ use Rattle.std.proofs.lemmas.List.{length_push}
 use Rattle.std.proofs.lemmas.Iterator.Splits.{YieldsList-from_slice_split}
 use Rattle.std.proofs.lemmas.Iterator.Consumers.{YieldsList-turn, YieldsList-end}
 use Rattle.expr_text.specs.GeneratorReading.{gen_read}
-use Rattle.expr_text.specs.GeneratorSystems.{StopAt}
+use Rattle.expr_text.specs.GeneratorSteps.{StopAt}
 use Rattle.expr_text.proofs.StoredGenerators.{read_more, read_all, stop_all}
 use Rattle.expr_text.proofs.read_generators.add_list.Goals as goal
 

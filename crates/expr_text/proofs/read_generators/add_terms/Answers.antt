@@ -1,6 +1,6 @@
 use Rattle.std.proofs.Common.{rules}
 use Rattle.expr_text.specs.GeneratorReading.{last_entry}
-use Rattle.expr_text.specs.GeneratorSystems.{IsSafeVector, Stores}
+use Rattle.expr_text.specs.GeneratorSteps.{IsSafeVector, Stores}
 use Rattle.expr_text.proofs.StoredGenerators.{adds}
 use Rattle.expr_text.proofs.read_generators.add_terms.Goals as goal
 
