@@ -39,3 +39,6 @@ fn on_standard_streams<L: Ledger>(rt: &HostRuntime, words: &Words, blank: Blank)
     let mut sink = StdSink::new(rt.stdout());
     polycalc(rt.alloc(), words, &mut source, &mut sink, &mut steps)
 }
+
+#[cfg(test)]
+mod tests;

@@ -1,0 +1,4 @@
+use Rattle.polycalc.proofs.tests.outcome_of.Given as goal
+
+abbrev pub ghosts-call : goal.ghosts-call
+ghosts-call a = record { name = a.blank.name; parts = a.blank.parts }
