@@ -4,6 +4,7 @@ mod PrintTerms
 mod PrintRows
 mod PrintLists
 mod PrintCons
+mod PrintGens
 mod FormFaults
 mod GeneratorLaws
 mod GeneratorSays

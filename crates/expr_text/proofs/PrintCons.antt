@@ -319,7 +319,7 @@ printed_says : (cs : Constraints) → FitDimension cs → IsCons cs.dim (constra
 printed_says cs fit = list_says cs.dim cs.list (all_fit cs.dim cs.list fit.narrow fit.each)
 
 -- rows of one width with equal cells
-same_row : (dim : ℕ) (u v : List ℤ) → length u ≡ dim + 1 → length v ≡ dim + 1 → ((j : ℕ) → j ≤ dim → cell u j ≡ cell v j) → u ≡ v
+pub same_row : (dim : ℕ) (u v : List ℤ) → length u ≡ dim + 1 → length v ≡ dim + 1 → ((j : ℕ) → j ≤ dim → cell u j ≡ cell v j) → u ≡ v
 same_row dim u v wide same each = ext_get_or (pos 0) u v (wide ∙ sym same) (λ j h. each j (omega arith))
 
 -- a constraint of a text is stored in one way

@@ -82,6 +82,7 @@ constraint_text dim c = expression_text (take dim c.0) ++ relation_text c.1 ++ s
 abbrev pub is_zero : List ℤ → Bool
 is_zero zs = list_all (λ z. int_eq z (pos 0)) zs
 
+-- the kind of a row whose value is at least 0
 abbrev pub is_at_least : ConKind → Bool
 is_at_least Eq = false
 is_at_least Ge = true

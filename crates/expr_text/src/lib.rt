@@ -4,7 +4,8 @@
 //!   value of a text, or the fault for which it is refused. [`one_answer`] is the law that no text has two.
 //! - [`print_cons`], [`print_gens`] and [`print_gen`] give the printed form of a system of constraints,
 //!   of a system of generators, and of one generator.
-//! - [`constraints_are_read_back`] is the law that a reader of this form gets back what was printed.
+//! - [`constraints_are_read_back`] and [`generators_are_read_back`] are the laws that what is printed is
+//!   read as the same system and as no other.
 #![tactic(auto)]
 
 mod print_constraints;
@@ -18,7 +19,7 @@ mod read_texts;
 
 pub use print_constraints::print_cons;
 pub use print_generators::{print_gen, print_gens};
-pub use print_laws::constraints_are_read_back;
+pub use print_laws::{constraints_are_read_back, generators_are_read_back};
 pub use read_generators::read_gens;
 pub use read_laws::one_answer;
 pub use read_texts::{read_con, read_cons, read_expr, read_frac, read_point};

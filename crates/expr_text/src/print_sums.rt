@@ -1,6 +1,5 @@
 //! The printed form of a sum of variables with coefficients.
 ghost use Rattle.std.specs.Prelude.{◌≡◌, ◌++◌, if◌then◌else◌, OnOk};
-ghost use Rattle.row_core.specs.Range.{InRange, AllInRange};
 ghost use Rattle.expr_text.specs.Printed.{variable_text, factor_text, product_text, leading_sign, joining_sign, expression_text};
 
 use itoa::Buffer;
