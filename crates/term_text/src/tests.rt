@@ -153,6 +153,8 @@ fn numbered_variables(rt: HostRuntime) -> Result<(), Fail> {
     assert_eq!(rt; cells[27], 4);
     assert_eq!(rt; cells[52], 5);
     assert_eq!(rt; cells[53], 6);
+    assert!(rt; column_alone(rt.alloc(), Rule::Expr, b"A0")?.is_some());
+    assert!(rt; column_alone(rt.alloc(), Rule::Expr, b"A01")?.is_some());
     Ok(())
 }
 
