@@ -1,0 +1,45 @@
+use Rattle.std.specs.Prelude.{◌≡◌, ◌≢◌, ℕ, ◌+◌, ◌<◌, ◌≤◌, ◌⊎◌, List, length, ℤ, pos, slice_index_or, Contains}
+use Rattle.std.proofs.Common.{refl, sym, ap, ◌∙◌, subst, arith, inl, inr}
+use Rattle.row_core.specs.Vectors.{dot}
+use Rattle.row_core.specs.Lists.{Row, row_at}
+use Rattle.cone_laws.specs.Canon.{vector_at}
+use Rattle.cone_laws.specs.Leaves.{CombinationLeaves}
+use Rattle.chernikova.specs.declared.fault.Fault.{Fault}
+use Rattle.chernikova.specs.declared.fault.Fault.TheVariants.{Memory, Dot, Combine}
+use Rattle.chernikova.specs.declared.fault.Part.{Part}
+use Rattle.chernikova.specs.declared.fault.Part.TheVariants.{Lines, Rays}
+use Rattle.chernikova.specs.declared.fault.Place.{Place}
+use Rattle.chernikova.specs.Faults.{IsLowerFault, IsOtherFault, IsLineFault, IsPlace, vector_of, value_of, part_of, part_values}
+
+-- a fault below the index
+pub other_from_below : (u : ℤ) (index : ℕ) (line values : List ℤ) (vs : List (List ℤ)) (fault : Fault) → index < length vs → IsLowerFault u index line Lines 0 index values vs fault → IsOtherFault u index line values vs fault
+other_from_below u index line values vs Memory inside h = h
+other_from_below u index line values vs (Dot vector column) inside h = h
+other_from_below u index line values vs (Combine left right column) inside h = (h.0, h.1, (λ e. omega (arith, h.3, e)), omega (arith, h.3), h.4)
+
+-- a fault above the index
+pub other_from_above : (u : ℤ) (index : ℕ) (line values : List ℤ) (vs : List (List ℤ)) (n : ℕ) (fault : Fault) → n ≡ length vs → IsLowerFault u index line Lines (index + 1) n values vs fault → IsOtherFault u index line values vs fault
+other_from_above u index line values vs n Memory end h = h
+other_from_above u index line values vs n (Dot vector column) end h = h
+other_from_above u index line values vs n (Combine left right column) end h = (h.0, h.1, (λ e. omega (arith, h.2, e)), omega (arith, h.3), h.4)
+
+different_part : ¬ (Rays ≡ Lines)
+different_part e = cc
+
+-- the fault of another line
+pub line_fault_from_other : (index : ℕ) (line_values ray_values : List ℤ) (lines rays : List (List ℤ)) (fault : Fault) → IsOtherFault (slice_index_or line_values index (pos 0)) index (vector_at lines index) line_values lines fault → IsLineFault index line_values ray_values lines rays fault
+line_fault_from_other index line_values ray_values lines rays Memory h = h
+line_fault_from_other index line_values ray_values lines rays (Dot vector column) h = h
+line_fault_from_other index line_values ray_values lines rays (Combine left right column) h =
+    let P : Part → Type 0 = λ p. right.index < length (part_of lines rays p) in
+    let Q : Part → Type 0 = λ p. CombinationLeaves (slice_index_or line_values index (pos 0)) (slice_index_or (part_values line_values ray_values p) right.index (pos 0)) (vector_at lines index) (vector_at (part_of lines rays p) right.index) column in
+    (h.0, subst P (sym h.1) h.3, (λ e. h.2 (ap (λ (p : Place). p.index) (e ∙ h.0))), subst Q (sym h.1) h.4)
+
+-- the fault of a ray
+pub line_fault_from_ray : (index : ℕ) (line_values ray_values : List ℤ) (lines rays : List (List ℤ)) (n : ℕ) (fault : Fault) → n ≡ length rays → IsLowerFault (slice_index_or line_values index (pos 0)) index (vector_at lines index) Rays 0 n ray_values rays fault → IsLineFault index line_values ray_values lines rays fault
+line_fault_from_ray index line_values ray_values lines rays n Memory end h = h
+line_fault_from_ray index line_values ray_values lines rays n (Dot vector column) end h = h
+line_fault_from_ray index line_values ray_values lines rays n (Combine left right column) end h =
+    let P : Part → Type 0 = λ p. right.index < length (part_of lines rays p) in
+    let Q : Part → Type 0 = λ p. CombinationLeaves (slice_index_or line_values index (pos 0)) (slice_index_or (part_values line_values ray_values p) right.index (pos 0)) (vector_at lines index) (vector_at (part_of lines rays p) right.index) column in
+    (h.0, subst P (sym h.1) (omega (arith, h.3)), (λ e. different_part (sym h.1 ∙ ap (λ (p : Place). p.part) (e ∙ h.0))), subst Q (sym h.1) h.4)

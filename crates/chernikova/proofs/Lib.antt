@@ -1,0 +1,9 @@
+pub mod FactorLemmas
+pub mod VectorLemmas
+pub mod ChangeLemmas
+pub mod FaultLemmas
+pub mod TableLemmas
+pub mod StateLemmas
+pub mod StepLemmas
+pub mod RayTables
+pub mod NextStates

@@ -1,0 +1,166 @@
+use Rattle.std.specs.Prelude.{◌≡◌, ℕ, ◌+◌, ◌^◌, ◌<◌, ◌≤◌, Bool, false, List, [], ◌∷◌, ◌++◌, length, map, ℤ, pos, ◌≤ℤ◌, slice_index_or}
+use Rattle.std.proofs.Common.{refl, sym, ap, ◌∙◌, subst, arith, inl, inr, get_or, set, replicate, lit<}
+use Rattle.std.proofs.lemmas.List.{get_or_default, length-map, length_push, get_or_append_left, get_or_push, get_or_past, length-set, length-replicate, get_or-replicate, get_or-set_same, get_or-set_other, set-set, set-get_or}
+use Rattle.std.proofs.lemmas.List.Elements.{All-set, All-replicate}
+use Rattle.std.proofs.lemmas.List.Sums.{sum_by_push}
+use Rattle.std.proofs.lemmas.Bool.{cases_lt}
+use Rattle.row_core.specs.Vectors.{cell, dot}
+use Rattle.row_core.specs.Range.{InRange, AllInRange}
+use Rattle.row_core.specs.declared.errors.Overflow.{Overflow}
+use Rattle.cone_laws.specs.Leaves.{Shows, Leaves}
+use Rattle.row_core.specs.Lists.{Row, Rows, row_at, is_eq_at}
+use Rattle.sat_matrix.specs.Tables.{Table}
+use Rattle.cone_laws.specs.Cones.{Upto}
+use Rattle.cone_laws.specs.Canon.{vector_at, IsSystem}
+use Rattle.cone_laws.specs.Steps.{IsRowAt, AreUnits, stays, IsRayStep}
+use Rattle.cone_laws.proofs.UptoRows.{asks_least, both_zero}
+use Rattle.cone_laws.proofs.NextSystems.{units_system, line_step_system, ray_step_system}
+use Rattle.chernikova.specs.declared.cone.Cone.{Cone}
+use Rattle.chernikova.specs.Systems.{vectors, values_on}
+use Rattle.chernikova.specs.Tables.{HasLineStep, HasRayStep}
+use Rattle.chernikova.specs.Changes.{AreLists, AreAllCrosses, IsRayChange}
+use Rattle.chernikova.specs.Conversion.{IsState, IsLineOutcome, IsRayOutcome, IsCountedUpto, IsAtMostSystem}
+use Rattle.chernikova.proofs.VectorLemmas.{length-vectors, vector_at-vectors, row_at-push_before, row_at-push_last}
+use Rattle.chernikova.proofs.StateLemmas.{length-values_on, zeros_after_line, ray_step_from}
+use Rattle.chernikova.proofs.RayTables.{zeros_after_ray}
+
+row_is_at : (rows : List Row) (k : ℕ) → k < length rows → IsRowAt rows k (row_at rows k, is_eq_at rows k)
+row_is_at rows k below = record { below = below; same = get_or_default rows k (row_at rows k, is_eq_at rows k) ([], false) below }
+
+-- the first rows are 0 on each line of their system
+lines_flat : (width : ℕ) (rows : List Row) (k : ℕ) (lines rays : List (List ℤ)) → IsSystem (Upto width rows k) lines rays → (i j : ℕ) → i < length lines → j < k → dot (row_at rows j) (vector_at lines i) ≡ pos 0
+lines_flat width rows k lines rays system i j inside below =
+    let both = system.generates.lines_within i [] inside in
+    both_zero width rows k (vector_at lines i) both.0 both.1 j ([], false) below
+
+-- they are at least 0 on each ray
+rays_least : (width : ℕ) (rows : List Row) (k : ℕ) (lines : List (List ℤ)) (rays : List Row) → IsSystem (Upto width rows k) lines (vectors rays) → (i j : ℕ) → i < length rays → j < k → pos 0 ≤ℤ dot (row_at rows j) (row_at rays i)
+rays_least width rows k lines rays system i j inside below =
+    let within = system.generates.rays_within i [] (omega (arith, inside, length-vectors rays)) in
+    subst (λ (v : List ℤ). pos 0 ≤ℤ dot (row_at rows j) v) (vector_at-vectors rays i)
+    (asks_least (is_eq_at rows j) (dot (row_at rows j) (vector_at (vectors rays) i)) (within.meets j ([], false) (omega arith) below))
+
+rays_wide : (width : ℕ) (rows : List Row) (k : ℕ) (lines : List (List ℤ)) (rays : List Row) → IsSystem (Upto width rows k) lines (vectors rays) → (i : ℕ) → i < length rays → length (row_at rays i) ≡ width
+rays_wide width rows k lines rays system i inside =
+    ap length (sym (vector_at-vectors rays i)) ∙ (system.generates.rays_within i [] (omega (arith, inside, length-vectors rays))).wide
+
+pub line_state : (width : ℕ) (rows : List Row) (k : ℕ) (cone : Cone) (lines rays : Rows) (sat : Table) → k < length rows → IsState width rows k cone → IsLineOutcome width (row_at rows k, is_eq_at rows k) cone lines rays → HasLineStep (is_eq_at rows k) cone.sat sat → IsState width rows (k + 1) (record { lines = lines; rays = rays; sat = sat })
+line_state width rows k cone lines rays sat below state outcome table = record {
+  narrow = state.narrow;
+  lists = outcome.lists;
+  system = line_step_system width rows k (row_at rows k, is_eq_at rows k) (vectors cone.lines.rows) (vectors cone.rays.rows) (vectors lines.rows) (vectors rays.rows) (row_is_at rows k below) state.system outcome.step;
+  zeros = zeros_after_line rows k (row_at rows k) (is_eq_at rows k) (vectors cone.lines.rows) (vectors cone.rays.rows) (vectors lines.rows) (vectors rays.rows) cone.sat sat refl (lines_flat width rows k (vectors cone.lines.rows) (vectors cone.rays.rows) state.system) state.zeros outcome.step table;
+}
+
+pub ray_state : (width : ℕ) (rows : List Row) (k : ℕ) (cone : Cone) (rays : Rows) (values : List ℤ) (marks : List Bool) (pairs : List (ℕ × ℕ)) (sat : Table) → k < length rows → IsState width rows k cone → IsRayOutcome width (row_at rows k, is_eq_at rows k) cone rays values marks pairs → HasRayStep values marks pairs cone.sat sat → IsState width rows (k + 1) (record { lines = cone.lines; rays = rays; sat = sat })
+ray_state width rows k cone rays values marks pairs sat below state outcome table =
+    let a : List ℤ = row_at rows k in
+    let eq : Bool = is_eq_at rows k in
+    let old : List Row = cone.rays.rows in
+    let is_marks : marks ≡ map (λ value. stays eq value) (values_on a (vectors old)) = outcome.is_marks ∙ ap (λ vs. map (λ value. stays eq value) vs) outcome.is_values in
+    let P : List ℤ → Type 0 = λ vs. AreAllCrosses vs cone.sat pairs in
+    let Q : List ℤ → Type 0 = λ vs. IsRayChange vs marks pairs old rays.rows in
+    let R : List Bool → Type 0 = λ ms. IsRayChange (values_on a (vectors old)) ms pairs old rays.rows in
+    let step : IsRayStep rows k (a, eq) (vectors old) (vectors rays.rows) =
+    ray_step_from width rows k a eq old rays.rows cone.sat pairs (rays_wide width rows k (vectors cone.lines.rows) old state.system) state.zeros (subst P outcome.is_values outcome.crosses) (subst R is_marks (subst Q outcome.is_values outcome.step)) in
+    let marked_size : length marks ≡ length old = ap length is_marks ∙ length-map (values_on a (vectors old)) (λ value. stays eq value) ∙ length-values_on a (vectors old) ∙ length-vectors old in
+    record {
+      narrow = state.narrow;
+      lists = outcome.lists;
+      system = ray_step_system width rows k (a, eq) (vectors cone.lines.rows) (vectors old) (vectors rays.rows) (row_is_at rows k below) outcome.flat state.system step;
+      zeros = zeros_after_ray rows k a old rays.rows values marks pairs cone.sat sat refl (rays_least width rows k (vectors cone.lines.rows) old state.system) state.zeros outcome.is_values outcome.crosses outcome.step table marked_size;
+    }
+
+-- an overflow at the step with row k
+pub leaves_from : (width : ℕ) (rows : List Row) (k : ℕ) (cone : Cone) (over : Overflow) → k < length rows → IsState width rows k cone → over.step ≡ k → Shows over.kind rows k (vectors cone.lines.rows) (vectors cone.rays.rows) over.left over.right over.column → Leaves width rows over
+leaves_from width rows k cone over below state at shown =
+    let P : ℕ → Type 0 = λ n. n < length rows in
+    let Q : ℕ → Type 0 = λ n. IsSystem (Upto width rows n) (vectors cone.lines.rows) (vectors cone.rays.rows) in
+    let R : ℕ → Type 0 = λ n. Shows over.kind rows n (vectors cone.lines.rows) (vectors cone.rays.rows) over.left over.right over.column in
+    record { step = subst P (sym at) below; lines = vectors cone.lines.rows; rays = vectors cone.rays.rows; system = subst Q (sym at) state.system; shown = subst R (sym at) shown }
+
+-- ---- the start
+abbrev pub unit : ℕ → ℕ → List ℤ
+unit width column = set (replicate width (pos 0)) column (pos 1)
+
+pub unit_in_range : (width column : ℕ) → AllInRange (unit width column)
+unit_in_range width column = All-set InRange (replicate width (pos 0)) column (pos 1) (record { size = lit< tt }) (All-replicate InRange width (pos 0) (record { size = lit< tt }))
+
+zero_cells : (width j : ℕ) → get_or (replicate width (pos 0)) j (pos 0) ≡ pos 0
+zero_cells width j = elim (cases_lt j width) [ inl less ↦ get_or-replicate width j (pos 0) (pos 0) less | inr more ↦ get_or_past (replicate width (pos 0)) j (pos 0) (omega (arith, length-replicate width (pos 0))) ]
+
+-- the rows of the first columns' unit vectors
+pub record AreUnitsUpto (width column : ℕ) (rows : List Row) : Type 0 where
+  pub as_many : length rows ≡ column
+  pub each : (i : ℕ) → i < column → row_at rows i ≡ unit width i
+
+pub units_none : (width : ℕ) → AreUnitsUpto width 0 []
+units_none width = record { as_many = refl; each = λ i h. absurd (omega (arith, h)) }
+
+pub units_more : (width column : ℕ) (rows : List Row) (v : List ℤ) (eq : Bool) → AreUnitsUpto width column rows → v ≡ unit width column → AreUnitsUpto width (column + 1) (rows ++ (v, eq) ∷ [])
+units_more width column rows v eq h is = record {
+  as_many = omega (arith, length_push rows (v, eq), h.as_many);
+  each = λ i below. elim (cases_lt i column) [
+    | inl less ↦ row_at-push_before rows (v, eq) i (omega (arith, h.as_many)) ∙ h.each i less
+    | inr more ↦
+        let here : i ≡ column = omega arith in
+        row_at-push_last rows (v, eq) i (omega (arith, h.as_many)) ∙ is ∙ ap (λ m. unit width m) (sym here)
+  ];
+}
+
+pub units_all : (width : ℕ) (rows : List Row) → AreUnitsUpto width width rows → AreUnits width (vectors rows)
+units_all width rows h =
+    let at : (i : ℕ) → i < width → vector_at (vectors rows) i ≡ unit width i = λ i below. vector_at-vectors rows i ∙ h.each i below in
+    let size : length (replicate width (pos 0)) ≡ width = length-replicate width (pos 0) in
+    record {
+      as_many = length-vectors rows ∙ h.as_many;
+      wide = λ i below. ap length (at i below) ∙ length-set (replicate width (pos 0)) i (pos 1) ∙ size;
+      one = λ i below. ap (λ v. cell v i) (at i below) ∙ get_or-set_same (replicate width (pos 0)) i (pos 1) (pos 0) (omega (arith, size));
+      zeros = λ i j below ne. ap (λ v. cell v j) (at i below) ∙ get_or-set_other (replicate width (pos 0)) i j (pos 1) (pos 0) (λ e. ne (sym e)) ∙ zero_cells width j;
+    }
+
+pub start_state : (width : ℕ) (rows : List Row) (lines rays : Rows) (sat : Table) → width < 2 ^ 32 → AreLists width lines rays → AreUnits width (vectors lines.rows) → rays.rows ≡ [] → sat.columns ≡ 0 → sat.rows ≡ [] → IsState width rows 0 (record { lines = lines; rays = rays; sat = sat })
+start_state width rows lines rays sat narrow lists units no_rays columns no_rows =
+    let P : List Row → Type 0 = λ rs. IsSystem (Upto width rows 0) (vectors lines.rows) (vectors rs) in
+    record {
+      narrow = narrow;
+      lists = lists;
+      system = subst P (sym no_rays) (units_system width rows (vectors lines.rows) units);
+      zeros = record {
+        columns = columns;
+        each = record {
+          as_many = ap length no_rows ∙ sym (ap (λ rs. length (vectors rs)) no_rays);
+          each = λ i d e below. absurd (omega (arith, below, ap (λ rs. length (vectors rs)) no_rays));
+        };
+      };
+    }
+
+-- ---- counts
+pub counted_none : (width : ℕ) (rows : List Row) (total : ℕ) → total ≡ 0 → IsCountedUpto width rows 0 total
+counted_none width rows total e = record { counts = []; as_many = refl; is_total = sym e; each = λ i h. absurd (omega (arith, h)) }
+
+pub counted_more : (width : ℕ) (rows : List Row) (k total count more : ℕ) (cone : Cone) → IsCountedUpto width rows k total → IsState width rows (k + 1) cone → count ≤ length cone.lines.rows + length cone.rays.rows → more ≡ total + count → IsCountedUpto width rows (k + 1) more
+counted_more width rows k total count more cone h state bound is = record {
+  counts = h.counts ++ count ∷ [];
+  as_many = omega (arith, length_push h.counts count, h.as_many);
+  is_total = sum_by_push (λ (n : ℕ). n) h.counts count ∙ ap (λ t. t + count) h.is_total ∙ sym is;
+  each = λ i below. elim (cases_lt i k) [
+    | inl less ↦
+        let P : ℕ → Type 0 = λ c. IsAtMostSystem width rows (i + 1) c in
+        subst P (sym (get_or_append_left h.counts (count ∷ []) 0 i (omega (arith, h.as_many)))) (h.each i less)
+    | inr at ↦
+        let here : i ≡ k = omega arith in
+        let P : ℕ → Type 0 = λ c. IsAtMostSystem width rows (i + 1) c in
+        let Q : ℕ → Type 0 = λ m. IsAtMostSystem width rows (m + 1) count in
+        subst P (sym (get_or_push h.counts count 0 i (omega (arith, h.as_many)))) (subst Q (sym here) (record {
+          lines = vectors cone.lines.rows;
+          rays = vectors cone.rays.rows;
+          system = state.system;
+          bound = omega (arith, bound, length-vectors cone.lines.rows, length-vectors cone.rays.rows);
+        }))
+  ];
+}
+
+pub zeros_back : (width i : ℕ) (items : List ℤ) → items ≡ replicate width (pos 0) → set (set items i (pos 1)) i (pos 0) ≡ replicate width (pos 0)
+zeros_back width i items e =
+    set-set items i (pos 1) (pos 0) ∙ ap (λ xs. set xs i (pos 0)) e ∙ ap (λ z. set (replicate width (pos 0)) i z) (sym (zero_cells width i)) ∙ set-get_or (replicate width (pos 0)) i (pos 0)

@@ -1,0 +1,10 @@
+use Rattle.std.proofs.Common.{◌≤◌, ◌-◌}
+use Rattle.chernikova.specs.Conversion.{IsState, IsCountedUpto}
+use Rattle.chernikova.proofs.conversion.convert.Given as goal
+
+abbrev pub invariant-loop-k : goal.invariant-loop-k
+invariant-loop-k g l = record {
+  state : IsState l.rows.width l.rows.rows l.k l.cone;
+  no_fewer : l.initial.steps ≤ l.steps;
+  counted : IsCountedUpto l.rows.width l.rows.rows l.k (l.steps - l.initial.steps);
+}

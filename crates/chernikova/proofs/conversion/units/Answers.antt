@@ -1,0 +1,27 @@
+use Rattle.std.specs.Prelude.{◌≡◌, ◌+◌, ◌++◌, ◌∷◌, [], ℕ, List, ℤ, pos, true}
+use Rattle.std.proofs.Common.{sym, ap, subst, ◌∙◌, arith, set}
+use Rattle.std.proofs.lemmas.List.Elements.{All-same}
+use Rattle.row_core.specs.Lists.{Row}
+use Rattle.chernikova.proofs.ChangeLemmas.{marked_push}
+use Rattle.chernikova.proofs.NextStates.{AreUnitsUpto, units_none, units_more, units_all, unit, zeros_back}
+use Rattle.chernikova.proofs.conversion.units.Goals as goal
+
+pub loop-column-preserved : goal.loop-column-preserved
+loop-column-preserved c =
+    let inv = c.loop-column.invariant in
+    let width = c.args.width in
+    let column = c.loop-column.column in
+    let rows : c.push.new.self.rows ≡ c.loop-column.units.rows ++ (c.deref.result.now, true) ∷ [] = c.in_ok-push.ensures.rows in
+    let P : List Row → Type 0 = λ rs. AreUnitsUpto c.args.width (c.loop-column.column + 1) rs in
+    let is : c.deref.result.now ≡ unit c.args.width c.loop-column.column = c.deref.ensures.value ∙ ap (λ xs. set xs c.loop-column.column (pos 1)) inv.zeros in
+    record {
+      width = c.in_ok-push.ensures.width ∙ inv.width;
+      zeros = zeros_back width column c.loop-column.unit.items inv.zeros;
+      units = subst P (sym rows) (units_more width column c.loop-column.units.rows c.deref.result.now true inv.units is);
+      marked = All-same (λ (row : Row). row.1 ≡ true) c.push.new.self.rows (c.loop-column.units.rows ++ (c.deref.result.now, true) ∷ []) rows (marked_push true c.loop-column.units.rows c.deref.result.now inv.marked);
+    }
+
+pub returns-clause-units : goal.returns-clause-units
+returns-clause-units c =
+    let P : ℕ → Type 0 = λ n. AreUnitsUpto c.args.width n c.loop-column.units.rows in
+    units_all c.args.width c.loop-column.units.rows (subst P (let e : c.loop-column.column ≡ c.args.width = omega arith in e) c.loop-column.invariant.units)

@@ -1,0 +1,55 @@
+use Rattle.std.specs.Prelude.{◌≡◌, ℕ, ◌<◌, List, [], ℤ, pos, All}
+use Rattle.std.specs.Int.{w128}
+use Rattle.std.proofs.Common.{◌∙◌, sym, ap, subst, refl, get_or, arith, length}
+use Rattle.std.proofs.lemmas.Int.{to_z-of_z}
+use Rattle.std.proofs.lemmas.List.Elements.{All-get_or, All-push, All-same}
+use mir.Val.{SFits}
+use Rattle.row_core.specs.Range.{InRange, AllInRange}
+use Rattle.row_core.specs.Content.{IsPrimitive}
+use Rattle.row_core.specs.Lists.{Row, row_at}
+use Rattle.cone_laws.specs.Leaves.{CombinationLeaves}
+use Rattle.chernikova.specs.Combinations.{IsCombined}
+use Rattle.chernikova.specs.Faults.{is_lines}
+use Rattle.chernikova.specs.Systems.{vectors}
+use Rattle.chernikova.specs.Changes.{value_at}
+use Rattle.chernikova.proofs.FactorLemmas.{fits}
+use Rattle.chernikova.proofs.VectorLemmas.{vector_at-vectors, length-vectors}
+use Rattle.chernikova.proofs.ChangeLemmas.{lowered_more}
+use Rattle.chernikova.proofs.line_step.lower_range.Goals as goal
+
+pub lower-lowered-requires-clause-vector : goal.lower-lowered-requires-clause-vector
+lower-lowered-requires-clause-vector g c =
+    let here : c.loop-index.index < length c.args.list.now.rows = omega (arith, c.requires.bounds.1) in (
+      subst AllInRange (sym c.row.ensures.value) c.row.ensures.in_range,
+      subst IsPrimitive (vector_at-vectors c.args.list.now.rows c.loop-index.index ∙ sym c.row.ensures.value)
+          (c.requires.primitive c.loop-index.index [] (omega (arith, length-vectors c.args.list.now.rows))),
+    )
+
+pub returns-in-Err-clause-lowered : goal.returns-in-Err-clause-lowered
+returns-in-Err-clause-lowered g c =
+    let value_fits : SFits w128 (get_or c.args.values.now c.loop-index.index (pos 0)) = fits (get_or c.args.values.now c.loop-index.index (pos 0)) (All-get_or InRange c.args.values.now c.loop-index.index (pos 0) (omega (arith, c.requires.bounds.1, c.requires.as_many)) c.requires.in_range.0) in
+    let line_fits : SFits w128 c.args.crossing.value = fits c.args.crossing.value c.requires.in_range.1 in
+    let P : List ℤ → Type 0 = λ w. CombinationLeaves c.args.crossing.value (value_at c.args.values.now c.loop-index.index) c.args.crossing.line.now w c.in-Err.column in (
+      refl,
+      refl,
+      c.loop-index.invariant.above,
+      c.loop-index-test.true,
+      subst P (c.row.ensures.value ∙ sym (vector_at-vectors c.args.list.now.rows c.loop-index.index)) (simp to_z-of_z at c.in-Err.ensures.combined),
+    )
+
+pub loop-index-preserved : goal.loop-index-preserved
+loop-index-preserved g c =
+    let value_fits : SFits w128 (get_or c.args.values.now c.loop-index.index (pos 0)) = fits (get_or c.args.values.now c.loop-index.index (pos 0)) (All-get_or InRange c.args.values.now c.loop-index.index (pos 0) (omega (arith, c.requires.bounds.1, c.requires.as_many)) c.requires.in_range.0) in
+    let line_fits : SFits w128 c.args.crossing.value = fits c.args.crossing.value c.requires.in_range.1 in
+    let P : List ℤ → Type 0 = λ w. IsCombined c.args.crossing.value (value_at c.args.values.now c.loop-index.index) c.args.crossing.line.now w c.lower-lowered.new.dst in
+    let one = subst P c.row.ensures.value (simp to_z-of_z at c.in_default.ensures.combined) in
+    let inv = c.loop-index.invariant in
+    record {
+      above = omega (arith, inv.above);
+      width = c.in_ok-push.ensures.width ∙ inv.width;
+      scratch = c.lower-lowered.ensures.width ∙ inv.scratch;
+      no_fewer = omega (arith, inv.no_fewer, c.lower-lowered.ensures.counted);
+      no_more = omega (arith, inv.no_more, c.lower-lowered.ensures.counted);
+      lowered = rw c.in_ok-push.ensures.rows (lowered_more c.args.crossing.value c.args.crossing.line.now c.args.values.now c.args.list.now.rows c.args.from c.loop-index.index c.args.into.now.rows c.loop-index.into.rows c.lower-lowered.new.dst c.is_equality.result inv.above inv.lowered one);
+      marked = λ m. All-same (λ (row : Row). row.1 ≡ is_lines c.args.part) c.push.new.self.rows _ c.in_ok-push.ensures.rows (All-push (λ (row : Row). row.1 ≡ is_lines c.args.part) c.loop-index.into.rows (c.lower-lowered.new.dst, c.is_equality.result) (inv.marked m) c.is_equality.ensures);
+    }

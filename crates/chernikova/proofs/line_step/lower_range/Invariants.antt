@@ -1,0 +1,16 @@
+use Rattle.std.proofs.Common.{◌≡◌, ◌≤◌, ◌+◌, length}
+use Rattle.chernikova.specs.Systems.{AreMarked}
+use Rattle.chernikova.specs.Faults.{is_lines}
+use Rattle.chernikova.specs.Changes.{AreLowered}
+use Rattle.chernikova.proofs.line_step.lower_range.Given as goal
+
+abbrev pub invariant-loop-index : goal.invariant-loop-index
+invariant-loop-index g l = record {
+  above : l.from ≤ l.index;
+  width : l.into.width ≡ l.initial.into.width;
+  scratch : length l.scratch ≡ length l.initial.scratch;
+  no_fewer : l.initial.steps ≤ l.steps;
+  no_more : l.steps + l.from ≤ l.initial.steps + l.index;
+  lowered : AreLowered l.crossing.value l.crossing.line.now l.values l.list.rows l.from l.index l.initial.into.rows l.into.rows;
+  marked : AreMarked (is_lines l.part) l.initial.into.rows → AreMarked (is_lines l.part) l.into.rows;
+}

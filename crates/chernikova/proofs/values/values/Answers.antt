@@ -1,0 +1,24 @@
+use Rattle.std.specs.Prelude.{◌≡◌, ◌∷◌, [], ◌++◌, List, ℤ}
+use Rattle.std.specs.Int.{w128}
+use Rattle.std.proofs.Common.{sym, ap, ◌∙◌, arith, subst, take}
+use Rattle.std.proofs.lemmas.Int.{to_z-of_z}
+use Rattle.std.proofs.lemmas.List.Elements.{All-push, All-same}
+use mir.Val.{SFits}
+use Rattle.row_core.specs.Vectors.{dot}
+use Rattle.row_core.specs.Range.{InRange}
+use Rattle.chernikova.specs.Systems.{vectors, values_on}
+use Rattle.chernikova.proofs.FactorLemmas.{fits}
+use Rattle.chernikova.proofs.VectorLemmas.{values_on_more}
+use Rattle.chernikova.proofs.values.values.Goals as goal
+
+pub loop-index-preserved : goal.loop-index-preserved
+loop-index-preserved c =
+    let value_fits : SFits w128 c.in-Ok.value = fits c.in-Ok.value c.in-Ok.ensures.in_range in
+    let items : c.push.new.self.items ≡ c.loop-index.values.items ++ c.in-Ok.value ∷ [] = simp to_z-of_z at c.in_ok-push-in-Ok.ensures.items in
+    let value : c.in-Ok.value ≡ dot c.args.row.now c.row.result.now = c.in-Ok.ensures.exact.0 in
+    record {
+      values = items ∙ ap (λ (xs : List ℤ). xs ++ c.in-Ok.value ∷ []) c.loop-index.invariant.values ∙
+          ap (λ (d : ℤ). values_on c.args.row.now (vectors (take c.loop-index.index c.args.list.now.rows)) ++ d ∷ []) (value ∙ ap (λ (v : List ℤ). dot c.args.row.now v) c.row.ensures.value) ∙
+          sym (values_on_more c.args.row.now c.args.list.now.rows c.loop-index.index (omega arith));
+      in_range = All-same InRange c.push.new.self.items _ items (All-push InRange c.loop-index.values.items c.in-Ok.value c.loop-index.invariant.in_range c.in-Ok.ensures.in_range);
+    }

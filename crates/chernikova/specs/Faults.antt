@@ -1,0 +1,86 @@
+use Rattle.std.specs.Prelude.{◌≡◌, ◌≢◌, ℕ, ◌<◌, ◌≤◌, Bool, true, false, Contains, ◌⊎◌, ⊤, List, length, ℤ, pos, slice_index_or}
+use Rattle.row_core.specs.Vectors.{dot}
+use Rattle.row_core.specs.Range.{DotStays, IsFirstToLeave}
+use Rattle.row_core.specs.Lists.{Row, row_at}
+use Rattle.cone_laws.specs.Canon.{vector_at}
+use Rattle.cone_laws.specs.Leaves.{IsLineCase, IsRayCase, CombinationLeaves}
+use Rattle.chernikova.specs.declared.fault.Fault.{Fault}
+use Rattle.chernikova.specs.declared.fault.Fault.TheVariants.{Memory, Dot, Combine}
+use Rattle.chernikova.specs.declared.fault.Part.{Part}
+use Rattle.chernikova.specs.declared.fault.Part.TheVariants.{Lines, Rays}
+use Rattle.chernikova.specs.declared.fault.Place.{Place}
+
+-- the list of a system
+abbrev pub part_of : List (List ℤ) → List (List ℤ) → Part → List (List ℤ)
+part_of lines rays Lines = lines
+part_of lines rays Rays = rays
+
+-- the values of a list of a system
+abbrev pub part_values : List ℤ → List ℤ → Part → List ℤ
+part_values line_values ray_values Lines = line_values
+part_values line_values ray_values Rays = ray_values
+
+-- the vector at the place
+abbrev pub vector_of : List (List ℤ) → List (List ℤ) → Place → List ℤ
+vector_of lines rays place = vector_at (part_of lines rays place.part) place.index
+
+-- the value of the vector at the place
+abbrev pub value_of : List ℤ → List ℤ → Place → ℤ
+value_of line_values ray_values place = slice_index_or (part_values line_values ray_values place.part) place.index (pos 0)
+
+-- the place is one of the system
+abbrev pub IsPlace : List (List ℤ) → List (List ℤ) → Place → Type 0
+IsPlace lines rays place = place.index < length (part_of lines rays place.part)
+
+-- the dot of the vector and the row leaves the range first at the column
+pub record IsDotFault (a : List ℤ) (lines rays : List (List ℤ)) (vector : Place) (column : ℕ) : Type 0 where
+  pub within : IsPlace lines rays vector
+  pub leaves : IsFirstToLeave (DotStays a (vector_of lines rays vector)) (length a) column
+
+-- the combination of the two vectors, which the step with row k must make, leaves the range first at the column
+pub record IsCombineFault (rows : List Row) (k : ℕ) (lines rays : List (List ℤ)) (left right : Place) (column : ℕ) : Type 0 where
+  pub left_within : IsPlace lines rays left
+  pub right_within : IsPlace lines rays right
+  pub needed : IsLineCase (row_at rows k) lines rays (vector_of lines rays left) (vector_of lines rays right) ⊎ IsRayCase rows k (row_at rows k) lines rays (vector_of lines rays left) (vector_of lines rays right)
+  pub leaves : CombinationLeaves (dot (row_at rows k) (vector_of lines rays left)) (dot (row_at rows k) (vector_of lines rays right)) (vector_of lines rays left) (vector_of lines rays right) column
+
+-- what a fault at the step with row k says of the system
+abbrev pub IsFaultAt : List Row → ℕ → List (List ℤ) → List (List ℤ) → Fault → Type 0
+IsFaultAt rows k lines rays Memory = ⊤
+IsFaultAt rows k lines rays (Dot vector column) = IsDotFault (row_at rows k) lines rays vector column
+IsFaultAt rows k lines rays (Combine left right column) = IsCombineFault rows k lines rays left right column
+
+-- the fault is want of memory, or the dot of a vector of the list and the row
+abbrev pub IsValuesFault : List ℤ → Part → List (List ℤ) → Fault → Type 0
+IsValuesFault a part vs Memory = ⊤
+IsValuesFault a part vs (Dot vector column) = (vector.part ≡ part) × (vector.index < length vs) × IsFirstToLeave (DotStays a (vector_at vs vector.index)) (length a) column
+IsValuesFault a part vs (Combine left right column) = ⊥
+
+-- the fault is want of memory, or the combination with a line with the value u of a vector of the list from one index up to another
+abbrev pub IsLowerFault : ℤ → ℕ → List ℤ → Part → ℕ → ℕ → List ℤ → List (List ℤ) → Fault → Type 0
+IsLowerFault u index line part from to values vs Memory = ⊤
+IsLowerFault u index line part from to values vs (Dot vector column) = ⊥
+IsLowerFault u index line part from to values vs (Combine left right column) = (left ≡ record { part = Lines; index = index }) × (right.part ≡ part) × (from ≤ right.index) × (right.index < to) × CombinationLeaves u (slice_index_or values right.index (pos 0)) line (vector_at vs right.index) column
+
+-- the same for all vectors but that at the index
+abbrev pub IsOtherFault : ℤ → ℕ → List ℤ → List ℤ → List (List ℤ) → Fault → Type 0
+IsOtherFault u index line values vs Memory = ⊤
+IsOtherFault u index line values vs (Dot vector column) = ⊥
+IsOtherFault u index line values vs (Combine left right column) = (left ≡ record { part = Lines; index = index }) × (right.part ≡ Lines) × (right.index ≢ index) × (right.index < length vs) × CombinationLeaves u (slice_index_or values right.index (pos 0)) line (vector_at vs right.index) column
+
+-- the fault of a line step: another line or a ray
+abbrev pub IsLineFault : ℕ → List ℤ → List ℤ → List (List ℤ) → List (List ℤ) → Fault → Type 0
+IsLineFault index line_values ray_values lines rays Memory = ⊤
+IsLineFault index line_values ray_values lines rays (Dot vector column) = ⊥
+IsLineFault index line_values ray_values lines rays (Combine left right column) = (left ≡ record { part = Lines; index = index }) × IsPlace lines rays right × (right ≢ left) × CombinationLeaves (slice_index_or line_values index (pos 0)) (value_of line_values ray_values right) (vector_at lines index) (vector_of lines rays right) column
+
+-- the fault of a ray step: one of the pairs
+abbrev pub IsPairFault : List ℤ → List (ℕ × ℕ) → List (List ℤ) → Fault → Type 0
+IsPairFault values pairs rays Memory = ⊤
+IsPairFault values pairs rays (Dot vector column) = ⊥
+IsPairFault values pairs rays (Combine left right column) = Contains pairs (left.index, right.index) × (left.part ≡ Rays) × (right.part ≡ Rays) × CombinationLeaves (slice_index_or values left.index (pos 0)) (slice_index_or values right.index (pos 0)) (vector_at rays left.index) (vector_at rays right.index) column
+
+-- whether the list has the lines
+abbrev pub is_lines : Part → Bool
+is_lines Lines = true
+is_lines Rays = false

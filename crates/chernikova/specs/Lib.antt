@@ -1,0 +1,6 @@
+pub mod Systems
+pub mod Combinations
+pub mod Faults
+pub mod Changes
+pub mod Tables
+pub mod Conversion

@@ -1,0 +1,34 @@
+use Rattle.std.specs.Prelude.{◌≡◌, ℕ, ◌+◌, ◌-◌, ◌<◌, Bool, true, false, List, [], ◌∷◌, ◌++◌, length, map, replicate, ℤ, pos, slice_index_or, slice_set}
+use Rattle.std.specs.Ordering.{int_eq}
+use Rattle.sat_matrix.specs.Tables.{Table, bits_of, marked, conjunction}
+use Rattle.cone_laws.specs.Steps.{pair_at}
+
+-- the rows have one column more, with these truth values
+pub record HasColumn (column : List Bool) (old new : Table) : Type 0 where
+  pub columns : new.columns ≡ old.columns + 1
+  pub as_many : length new.rows ≡ length old.rows
+  pub each : (i : ℕ) → i < length old.rows → bits_of new.rows i ≡ bits_of old.rows i ++ slice_index_or column i false ∷ []
+
+-- a row was appended for each pair: the conjunction of the two, and true at the last column
+pub record HasPairs (pairs : List (ℕ × ℕ)) (old new : Table) : Type 0 where
+  pub columns : new.columns ≡ old.columns
+  pub as_many : length new.rows ≡ length old.rows + length pairs
+  pub before : (i : ℕ) → i < length old.rows → bits_of new.rows i ≡ bits_of old.rows i
+  pub each : (i : ℕ) → i < length pairs → bits_of new.rows (length old.rows + i) ≡ slice_set (conjunction (bits_of old.rows (pair_at pairs i).0) (bits_of old.rows (pair_at pairs i).1)) (old.columns - 1) true
+
+-- the table after a line step: a column of true, and after an inequality a row that is true but for that column
+pub record HasLineStep (eq : Bool) (old new : Table) : Type 0 where
+  pub middle : Table
+  pub column : HasColumn (replicate (length old.rows) true) old middle
+  pub columns : new.columns ≡ middle.columns
+  pub equality : eq ≡ true → new.rows ≡ middle.rows
+  pub inequality : eq ≡ false → new.rows ≡ middle.rows ++ slice_set (replicate middle.columns true) (middle.columns - 1) false ∷ []
+
+-- the table after a ray step: a column for the values, a row for each pair, and then the marked rows with those of the pairs
+pub record HasRayStep (values : List ℤ) (marks : List Bool) (pairs : List (ℕ × ℕ)) (old new : Table) : Type 0 where
+  pub first : Table
+  pub second : Table
+  pub column : HasColumn (map (λ value. int_eq value (pos 0)) values) old first
+  pub has_pairs : HasPairs pairs first second
+  pub columns : new.columns ≡ second.columns
+  pub kept : new.rows ≡ marked (marks ++ replicate (length pairs) true) second.rows

@@ -1,0 +1,184 @@
+//! The step with a row that is 0 on all lines.
+ghost use Rattle.std.specs.Prelude.{◌≡◌, ◌≢◌, ℕ, ◌+◌, ◌^◌, ◌<◌, ◌≤◌, Bool, true, false, List, [], ◌∷◌, ◌++◌, length, All, pos, ◌<ℤ◌, ◌↔◌, IsTrue, MatchResult, IfOk, OnOk};
+ghost use Rattle.row_core.specs.Range.{InRange, AllInRange};
+ghost use Rattle.sat_matrix.specs.Tables.{marked};
+ghost use Rattle.chernikova.specs.Systems.{vectors, AreMarked};
+ghost use Rattle.chernikova.specs.Changes.{value_at, AreAllCrosses, IsCross, IsCrossesBelow, IsPairAt, ArePairs, IsPairCombined, AreMade, IsRayChange};
+ghost use Rattle.chernikova.specs.Faults.{IsPairFault};
+
+use crate::combination::combine;
+use crate::fault::{Fault, Part, Place};
+use row_core::{Memory, RowList, Steps};
+use sat_matrix::SatMatrix;
+use std::alloc::{AllocError, Global};
+use std::sync::ledger::Ledger;
+
+/// Whether a ray above 0 on the row and another one cross: the other is below 0, and they are adjacent.
+fn cross(values: &[i128], zeros: &SatMatrix, above: usize, below: usize) -> bool
+    requires as_many { length values.now ≡ length zeros.now.rows }
+    requires first { above < length values.now }
+    requires second { below < length values.now }
+    requires positive { pos 0 <ℤ value_at values.now above }
+    ensures { IsTrue result ↔ IsCross values.now zeros.now above below }
+{
+    values[below] < 0 && !zeros.third_between(above, below)
+}
+
+/// Appends the pairs of ray `above`, which is above 0 on the row, with each adjacent ray below 0.
+fn push_crossings(
+    pairs: &mut Vec<(usize, usize)>,
+    above: usize,
+    values: &[i128],
+    zeros: &SatMatrix,
+) -> Result<(), AllocError>
+    requires as_many { length values.now ≡ length zeros.now.rows }
+    requires first { above < length values.now }
+    requires positive { pos 0 <ℤ value_at values.now above }
+    requires before { IsCrossesBelow values.now zeros.now above pairs.old.items }
+    ensures { OnOk result (IsCrossesBelow values.now zeros.now (above + 1) pairs.new.items) }
+{
+    for below in 0..values.len() {
+        if cross(values, zeros, above, below) {
+            pairs.push((above, below))?;
+        }
+    }
+    Ok(())
+}
+
+/// The pairs of adjacent rays of which the first is above and the second below 0 on the row.
+pub(crate) fn crossings(
+    alloc: Global,
+    values: &[i128],
+    zeros: &SatMatrix,
+) -> Result<Vec<(usize, usize)>, AllocError>
+    requires as_many { length values.now ≡ length zeros.now.rows }
+    requires in_range { All InRange values.now }
+    ensures { IfOk result (λ v. AreAllCrosses values.now zeros.now v.items) }
+{
+    let mut pairs = Vec::new(alloc);
+    for above in 0..values.len() {
+        if values[above] > 0 {
+            push_crossings(&mut pairs, above, values, zeros)?;
+        }
+    }
+    Ok(pairs)
+}
+
+/// Writes over `dst` the ray of a pair that is 0 on the row.
+fn combine_pair<L: Ledger>(
+    dst: &mut [i128],
+    rays: &RowList,
+    values: &[i128],
+    pair: (usize, usize),
+    steps: &mut Steps<L>,
+) -> Result<(), Fault>
+    requires width { length dst.old ≡ rays.now.width }
+    requires narrow { rays.now.width < 2 ^ 32 }
+    requires as_many { length values.now ≡ length rays.now.rows }
+    requires in_range { All InRange values.now }
+    requires opposite { IsPairAt values.now pair.0 pair.1 }
+    ensures counted { (steps.old ≤ steps.new) × (steps.new ≤ steps.old + 1) }
+    ensures width { length dst.new ≡ length dst.old }
+    ensures combined { MatchResult result (λ _. IsPairCombined values.now rays.now.rows pair dst.new) (IsPairFault values.now (pair ∷ []) (vectors rays.now.rows)) }
+    ensures in_range { OnOk result (AllInRange dst.new) }
+{
+    let (above, below) = pair;
+    let combined = combine(
+        dst,
+        rays.row(above),
+        values[above],
+        rays.row(below),
+        values[below],
+        steps,
+    );
+    if let Err(column) = combined {
+        let left = Place {
+            part: Part::Rays,
+            index: above,
+        };
+        let right = Place {
+            part: Part::Rays,
+            index: below,
+        };
+        return Err(Fault::Combine {
+            left,
+            right,
+            column,
+        });
+    }
+    Ok(())
+}
+
+/// One ray for each pair, 0 on the row.
+fn made<L: Ledger>(
+    alloc: Global,
+    rays: &RowList,
+    values: &[i128],
+    pairs: &[(usize, usize)],
+    steps: &mut Steps<L>,
+) -> Result<RowList, Fault>
+    requires as_many { length values.now ≡ length rays.now.rows }
+    requires in_range { All InRange values.now }
+    requires opposite { ArePairs values.now pairs.now }
+    ensures counted { (steps.old ≤ steps.new) × (steps.new ≤ steps.old + length pairs.now) }
+    ensures made { MatchResult result (λ made. AreMade values.now rays.now.rows pairs.now made.rows) (IsPairFault values.now pairs.now (vectors rays.now.rows)) }
+    ensures list { IfOk result (λ made. (made.width ≡ rays.now.width) × AreMarked false made.rows) }
+{
+    let mut made = RowList::new(alloc, rays.width());
+    let mut scratch = vec![in alloc; 0; rays.width()]?;
+    for index in 0..pairs.len() {
+        combine_pair(&mut scratch, rays, values, pairs[index], steps)?;
+        made.push(&scratch, false)?;
+    }
+    Ok(made)
+}
+
+/// The marked rays, in order.
+fn kept(alloc: Global, rays: &RowList, marks: &[bool]) -> Result<RowList, Memory>
+    requires { length marks.now ≡ length rays.now.rows }
+    ensures rows { IfOk result (λ kept. vectors kept.rows ≡ marked marks.now (vectors rays.now.rows)) }
+    ensures list { IfOk result (λ kept. (kept.width ≡ rays.now.width) × AreMarked false kept.rows) }
+{
+    let mut kept = RowList::new(alloc, rays.width());
+    for index in 0..rays.len() {
+        if marks[index] {
+            kept.push(rays.row(index), false)?;
+        }
+    }
+    Ok(kept)
+}
+
+/// Appends all rows of a list, as inequalities.
+fn push_all(into: &mut RowList, from: &RowList) -> Result<(), Memory>
+    requires { from.now.width ≡ into.old.width }
+    ensures width { into.new.width ≡ into.old.width }
+    ensures rows { OnOk result (vectors into.new.rows ≡ vectors into.old.rows ++ vectors from.now.rows) }
+    ensures marked { OnOk result (AreMarked false into.old.rows → AreMarked false into.new.rows) }
+{
+    for index in 0..from.len() {
+        into.push(from.row(index), false)?;
+    }
+    Ok(())
+}
+
+/// The marked rays, and one ray for each pair.
+pub(crate) fn ray_step<L: Ledger>(
+    alloc: Global,
+    rays: &RowList,
+    values: &[i128],
+    marks: &[bool],
+    pairs: &[(usize, usize)],
+    steps: &mut Steps<L>,
+) -> Result<RowList, Fault>
+    requires as_many { (length values.now ≡ length rays.now.rows) × (length marks.now ≡ length rays.now.rows) }
+    requires in_range { All InRange values.now }
+    requires opposite { ArePairs values.now pairs.now }
+    ensures counted { (steps.old ≤ steps.new) × (steps.new ≤ steps.old + length pairs.now) }
+    ensures change { MatchResult result (λ new. IsRayChange values.now marks.now pairs.now rays.now.rows new.rows) (IsPairFault values.now pairs.now (vectors rays.now.rows)) }
+    ensures list { IfOk result (λ new. (new.width ≡ rays.now.width) × AreMarked false new.rows) }
+{
+    let made = made(alloc, rays, values, pairs, steps)?;
+    let mut new = kept(alloc, rays, marks)?;
+    push_all(&mut new, &made)?;
+    Ok(new)
+}

@@ -1,0 +1,105 @@
+//! The table of the rows on which each ray is 0, brought up to date with a row.
+ghost use Rattle.std.specs.Prelude.{◌≡◌, ℕ, ◌+◌, ◌-◌, ◌<◌, ◌≤◌, ◌==◌, Bool, true, false, List, [], ◌∷◌, ◌++◌, length, map, replicate, pos, IfOk, OnOk, slice_index_or, slice_set};
+ghost use Rattle.std.specs.Ordering.{int_eq};
+ghost use Rattle.sat_matrix.specs.Tables.{bits_of, marked, conjunction};
+ghost use Rattle.cone_laws.specs.Steps.{pair_at};
+ghost use Rattle.chernikova.specs.Tables.{HasColumn, HasPairs, HasLineStep, HasRayStep};
+
+use row_core::Memory;
+use sat_matrix::SatMatrix;
+use std::alloc::{AllocError, Global};
+
+/// Appends a column with these truth values.
+fn push_column(zeros: &mut SatMatrix, column: &[bool]) -> Result<(), Memory>
+    requires { length column.now ≡ length zeros.old.rows }
+    ensures { OnOk result (HasColumn column.now zeros.old zeros.new) }
+{
+    let last = zeros.columns();
+    zeros.add_column()?;
+    for row in 0..column.len() {
+        zeros.set(row, last, column[row]);
+    }
+    Ok(())
+}
+
+/// Appends a row that is true but for the last column.
+fn push_upward(zeros: &mut SatMatrix) -> Result<(), Memory>
+    requires { 0 < zeros.old.columns }
+    ensures columns { OnOk result (zeros.new.columns ≡ zeros.old.columns) }
+    ensures rows { OnOk result (zeros.new.rows ≡ zeros.old.rows ++ slice_set (replicate zeros.old.columns true) (zeros.old.columns - 1) false ∷ []) }
+{
+    let row = zeros.len();
+    let last = zeros.columns() - 1;
+    zeros.reserve(1)?;
+    zeros.push_reserved(true);
+    zeros.set(row, last, false);
+    Ok(())
+}
+
+/// Brings the table up to date with a line step.
+pub(crate) fn after_line_step(alloc: Global, zeros: &mut SatMatrix, eq: bool) -> Result<(), Memory>
+    ensures { OnOk result (HasLineStep eq zeros.old zeros.new) }
+{
+    push_column(zeros, &vec![in alloc; true; zeros.len()]?)?;
+    if !eq {
+        push_upward(zeros)?;
+    }
+    Ok(())
+}
+
+/// Appends a row for each pair, true where both rows of the pair are, and at the last column.
+fn push_pairs(zeros: &mut SatMatrix, pairs: &[(usize, usize)]) -> Result<(), Memory>
+    requires columns { 0 < zeros.old.columns }
+    requires pairs { (i : ℕ) → i < length pairs.now → ((pair_at pairs.now i).0 < length zeros.old.rows) × ((pair_at pairs.now i).1 < length zeros.old.rows) }
+    ensures { OnOk result (HasPairs pairs.now zeros.old zeros.new) }
+{
+    zeros.reserve(pairs.len())?;
+    let last = zeros.columns() - 1;
+    for &(above, below) in pairs {
+        let row = zeros.len();
+        zeros.push_and(above, below);
+        zeros.set(row, last, true);
+    }
+    Ok(())
+}
+
+// The marks, and true for each row that follows.
+fn extended(alloc: Global, marks: &[bool], more: usize) -> Result<Vec<bool>, AllocError>
+    ensures { IfOk result (λ v. v.items ≡ marks.now ++ replicate more true) }
+{
+    let mut extended = Vec::from_slice(alloc, marks)?;
+    for _row in 0..more {
+        extended.push(true)?;
+    }
+    Ok(extended)
+}
+
+// Which values are 0.
+fn are_zero(alloc: Global, values: &[i128]) -> Result<Vec<bool>, AllocError>
+    ensures { IfOk result (λ v. v.items ≡ map (λ value. int_eq value (pos 0)) values.now) }
+{
+    let mut zeros = Vec::new(alloc);
+    for value in values {
+        zeros.push(*value == 0)?;
+    }
+    Ok(zeros)
+}
+
+/// Brings the table up to date with a ray step.
+pub(crate) fn after_ray_step(
+    alloc: Global,
+    zeros: &mut SatMatrix,
+    values: &[i128],
+    marks: &[bool],
+    pairs: &[(usize, usize)],
+) -> Result<(), Memory>
+    requires as_many { (length values.now ≡ length zeros.old.rows) × (length marks.now ≡ length zeros.old.rows) }
+    requires pairs { (i : ℕ) → i < length pairs.now → ((pair_at pairs.now i).0 < length zeros.old.rows) × ((pair_at pairs.now i).1 < length zeros.old.rows) }
+    ensures { OnOk result (HasRayStep values.now marks.now pairs.now zeros.old zeros.new) }
+{
+    push_column(zeros, &are_zero(alloc, values)?)?;
+    push_pairs(zeros, pairs)?;
+    let keep = extended(alloc, marks, pairs.len())?;
+    zeros.keep_rows(&keep);
+    Ok(())
+}
