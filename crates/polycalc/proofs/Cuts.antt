@@ -1,6 +1,6 @@
 -- Cutting bytes into lines.
-use Rattle.std.proofs.Common.{◌≡◌, ℕ, ◌+◌, ◌-◌, ◌<◌, ◌≤◌, List, [], ◌∷◌, length, take, drop, refl, ap, ◌∙◌, sym, arith, subst, Bool, true, false, not, cond, length-drop}
-use Rattle.std.specs.Prelude.{Option, Some, None, position, eqb, nat_lt}
+use Rattle.std.proofs.Common.{◌≡◌, ℕ, ◌+◌, ◌-◌, ◌<◌, ◌≤◌, List, [], ◌∷◌, length, take, drop, refl, ap, ◌∙◌, sym, arith, Bool, true, false, not, cond, length-drop}
+use Rattle.std.specs.Prelude.{Some, None, position, eqb, nat_lt}
 use Rattle.std.specs.List.{slice_split, position_or_len, onto_first}
 use Rattle.std.specs.Str.Lines.{lines, lines_of_parts, strip_carriage_return}
 use Rattle.std.proofs.lemmas.List.Splits.{slice_split_first, length-slice_split}

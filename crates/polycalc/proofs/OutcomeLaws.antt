@@ -1,12 +1,12 @@
 -- What is held after a script.
-use Rattle.std.proofs.Common.{◌≡◌, ℕ, List, [], ◌∷◌, ◌++◌, take, refl, ap, sym, ◌∙◌, Bool}
+use Rattle.std.proofs.Common.{◌≡◌, ℕ, List, [], take, refl, ap, sym, ◌∙◌}
 use Rattle.std.specs.Prelude.{Option, Some, None}
 use Rattle.std.specs.Io.KnownBytes.{append_known, prepend_known}
 use Rattle.std.specs.Str.Lines.{lines}
 use Rattle.std.proofs.lemmas.List.{append-nil}
 use Rattle.calc_state.specs.Table.{Table}
-use Rattle.polycalc.specs.Replies.{Written, written, replies_bytes}
-use Rattle.polycalc.specs.Runs.{Run, RunsTo}
+use Rattle.polycalc.specs.Replies.{Written}
+use Rattle.polycalc.specs.Runs.{RunsTo}
 use Rattle.polycalc.specs.Outcomes.{WritesPrefix}
 
 pub append_known-nil : (known : Option (List ℕ)) → known ≡ append_known known []

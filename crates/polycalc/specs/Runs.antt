@@ -1,4 +1,4 @@
-use Rattle.std.specs.Prelude.{◌≡◌, ℕ, List, [], ◌∷◌, ◌++◌}
+use Rattle.std.specs.Prelude.{◌≡◌, ℕ, List, [], ◌∷◌}
 use Rattle.calc_state.specs.Table.{Table}
 use Rattle.calc_state.specs.Step.{Reply, Step}
 use Rattle.polycalc.specs.Replies.{Written, written}

@@ -1,4 +1,4 @@
-use Rattle.std.proofs.Common.{◌+◌, ◌∙◌, ◌∷◌, ap, sym, take, drop, List, ℕ}
+use Rattle.std.proofs.Common.{◌+◌, ◌∙◌, ◌∷◌, ap, sym, drop, List, ℕ}
 use Rattle.std.specs.Str.Lines.{lines}
 use Rattle.polycalc.proofs.Cuts.{lines-no_feed, lines-at_feed, take-behind}
 use Rattle.polycalc.proofs.line_ends.split_line.Goals as goal
