@@ -1,5 +1,5 @@
 -- Each text has one value or one fault.
-use Rattle.std.proofs.Common.{◌≡◌, ◌⊎◌, ℕ, ◌+◌, ◌<◌, ◌≤◌, List, [], ◌∷◌, length, get_or, refl, sym, ◌∙◌, ap, subst, arith, inl, inr}
+use Rattle.std.proofs.Common.{◌≡◌, ◌⊎◌, ℕ, ◌+◌, ◌<◌, ◌≤◌, List, [], ◌∷◌, length, refl, sym, ◌∙◌, ap, subst, arith, inl, inr}
 use Rattle.std.specs.Prelude.{ℤ, pos}
 use Rattle.std.proofs.lemmas.Bool.{cases_lt}
 use Rattle.std.proofs.lemmas.List.{ext_get_or}
@@ -8,8 +8,6 @@ use Rattle.row_core.specs.Vectors.{cell}
 use Rattle.row_core.proofs.OnePrimitive.{IsPrimitiveOf-once}
 use Rattle.cons_sys.specs.Constraints.{Constraint, Constraints}
 use Rattle.gens_sys.specs.Generators.{Generator, Generators}
-use Rattle.grammar.specs.Form.{Matches}
-use Rattle.grammar.specs.Grammar.{alone}
 use Rattle.grammar.specs.Cases.{expr_cases, frac_cases, con_cases, cons_cases, gens_cases, point_cases}
 use Rattle.reply_text.specs.declared.faults.Fault.{Fault}
 use Rattle.reply_text.specs.declared.faults.Fault.TheVariants.{OutOfRange, NumberTooLarge, ZeroDivisor, ZeroVector}
@@ -17,15 +15,14 @@ use Rattle.term_text.specs.declared.terms.Term.{Term}
 use Rattle.term_text.specs.declared.terms.ValueErr.{ValueErr}
 use Rattle.term_text.specs.declared.terms.ValueErr.TheVariants as value
 use Rattle.term_text.specs.Values.{Ratio, Comparison, expr_by, frac_by, con_by, cons_by, point_by, alone_by}
-use Rattle.term_text.specs.Texts.{Says, IsRowOf, IsRowOfFault, IsFracOf, IsPointOf, IsRatioFault, IsExpr, IsFrac, IsPoint}
+use Rattle.term_text.specs.Texts.{Says, IsRowOf, IsRowOfFault, IsFracOf, IsPointOf, IsRatioFault, IsFrac}
 use Rattle.term_text.specs.Systems.{IsConOf, IsCon, IsConsOf, IsConsOfFault}
 use Rattle.term_text.specs.Systems as cons
 use Rattle.term_text.specs.OneReading.{HasOneReading}
 use Rattle.term_text.proofs.Unique.{one_expr, one_frac, one_con, one_cons, one_point, one_expr_row, one_frac_row, one_con_row, one_point_row}
 use Rattle.expr_text.specs.Generators.{GeneratorTerms, gens_by}
 use Rattle.expr_text.specs.GeneratorSystems.{IsVector, IsStored, AreStored, IsGensOf, IsGensOfFault, IsGens, IsGensFault}
-use Rattle.expr_text.specs.OneAnswer.{HasOneAnswer, ExprHasOneAnswer, FracHasOneAnswer, ConHasOneAnswer, ConsHasOneAnswer, GensHasOneAnswer, PointHasOneAnswer}
-use Rattle.expr_text.specs.Refusals.{IsTextFault}
+use Rattle.expr_text.specs.OneAnswer.{ExprHasOneAnswer, FracHasOneAnswer, ConHasOneAnswer, ConsHasOneAnswer, GensHasOneAnswer, PointHasOneAnswer}
 use Rattle.expr_text.proofs.GeneratorLaws.{alone_gens_law}
 use Rattle.expr_text.proofs.OneFault.{AreApart, answers, says_same, one_text_fault, fault_of_value}
 

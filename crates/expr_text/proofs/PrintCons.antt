@@ -7,7 +7,7 @@ use Rattle.std.proofs.Math.IntN.{neg_ℤ, ◌*ℤ◌}
 use Rattle.std.proofs.lemmas.Int.{ints}
 use Rattle.std.proofs.lemmas.Bool.{cases_lt}
 use Rattle.std.proofs.lemmas.Bool.Decides.{Decides-int_eq}
-use Rattle.std.proofs.lemmas.List.{take_all, take-append-le, ext_get_or, get_or-take, length-take-le}
+use Rattle.std.proofs.lemmas.List.{take_all, take-append-le, get_or-take, length-take-le}
 use Rattle.std.proofs.lemmas.List.Elements.{All-nil, All-cons, All-head, All-tail, All-push, All-get_or, All-take, All-map, All-weaker}
 use Rattle.row_core.specs.Vectors.{cell, scale}
 use Rattle.row_core.specs.Range.{InRange, AllInRange}
@@ -22,15 +22,15 @@ use Rattle.term_text.specs.declared.terms.Term.{Term}
 use Rattle.term_text.specs.declared.terms.Relation.{Relation}
 use Rattle.term_text.specs.declared.terms.Relation.TheVariants.{Equal, AtLeast, Above}
 use Rattle.term_text.specs.Terms.{IsWithin, AreWithin, value_of, part, total, Stay}
-use Rattle.term_text.specs.Values.{Comparison, number_term, turned, expr_by, relation_by, con_by, never, further_cons_by, cons_by, alone_by}
+use Rattle.term_text.specs.Values.{Comparison, number_term, turned, expr_by, relation_by, con_by, never, further_cons_by, cons_by}
 use Rattle.term_text.specs.Texts.{facing, IsConRow}
 use Rattle.term_text.specs.Systems.{kind_of, IsStored, AreStored, IsConsOf, IsCons}
-use Rattle.row_core.proofs.OnePrimitive.{IsPrimitiveOf-once}
-use Rattle.term_text.proofs.Unique.{one_cons}
+use Rattle.term_text.proofs.RowSums.{total-push}
+use Rattle.expr_text.proofs.OneAnswers.{cons_answers}
 use Rattle.expr_text.specs.Printed.{monomials_from, expression_text, relation_text, constraint_text, is_zero, is_at_least, never_holds, listed, constraint_list_text, constraints_text}
 use Rattle.expr_text.specs.ReadBack.{ConstraintsAreReadBack}
 use Rattle.expr_text.proofs.PrintTerms.{ReadsAs, one_blank, signed_term, expression_reads, number_reads}
-use Rattle.expr_text.proofs.PrintRows.{row_terms, row_terms-total, row_terms-sums, row_terms-within, row_terms-stay, printable, plus_zero, zero_plus, zero_in_range, get_or-past}
+use Rattle.expr_text.proofs.PrintRows.{row_terms, row_terms-total, row_terms-sums, row_terms-within, row_terms-stay, printable, plus_zero, zero_plus, zero_in_range, get_or-past, other_column}
 use Rattle.expr_text.proofs.PrintLists.{further_by_commas, list_by, list_reads, says_read}
 
 -- what is read for each kind
@@ -114,20 +114,6 @@ constraint_reads dim c fits =
     relation_reads (expression_text (take dim c.0)) (signed_decimal (neg_ℤ (cell c.0 dim))) (row_terms (take dim c.0)) (signed_term (neg_ℤ (cell c.0 dim))) c.1
     (expression_reads (monomials_from 0 (take dim c.0)) (printable (take dim c.0) (front_narrow dim c.0 fits) (All-take InRange dim c.0 fits.in_range)))
     (number_reads (neg_ℤ (cell c.0 dim)) last)
-
--- one term more
-plus_regrouped : (x y z : ℤ) → x +ℤ (y +ℤ z) ≡ (x +ℤ y) +ℤ z
-plus_regrouped x y z = omega (arith, ints)
-
-plus_nothing : (z : ℤ) → z +ℤ pos 0 ≡ pos 0 +ℤ z
-plus_nothing z = omega (arith, ints)
-
-total-push : (dim : ℕ) (ts : List Term) (t : Term) (j : ℕ) → total dim (ts ++ t ∷ []) j ≡ total dim ts j +ℤ part dim t j
-total-push dim [] t j = plus_nothing (part dim t j)
-total-push dim (x ∷ ts) t j = ap (λ z. part dim x j +ℤ z) (total-push dim ts t j) ∙ plus_regrouped (part dim x j) (total dim ts j) (part dim t j)
-
-other_column : (i j : ℕ) → ¬ (i ≡ j) → (i == j) ≡ false
-other_column i j h = grind arith
 
 last-other : (dim : ℕ) (z : ℤ) (j : ℕ) → j < dim → part dim (last_term z) j ≡ pos 0
 last-other dim z j h = let e : (dim == j) ≡ false = other_column dim j (omega arith) in ap (λ (b : Bool). if b then value_of (last_term z) else pos 0) e
@@ -318,37 +304,8 @@ list_says dim (c ∷ d ∷ cs) all =
 printed_says : (cs : Constraints) → FitDimension cs → IsCons cs.dim (constraints_text cs) cs
 printed_says cs fit = list_says cs.dim cs.list (all_fit cs.dim cs.list fit.narrow fit.each)
 
--- rows of one width with equal cells
-pub same_row : (dim : ℕ) (u v : List ℤ) → length u ≡ dim + 1 → length v ≡ dim + 1 → ((j : ℕ) → j ≤ dim → cell u j ≡ cell v j) → u ≡ v
-same_row dim u v wide same each = ext_get_or (pos 0) u v (wide ∙ sym same) (λ j h. each j (omega arith))
-
--- a constraint of a text is stored in one way
-stored_once : (dim : ℕ) (c : Comparison) (r s : Constraint) → IsStored dim c r → IsStored dim c s → r ≡ s
-stored_once dim c r s a b =
-    let row : a.row ≡ b.row = same_row dim a.row b.row a.sums.wide b.sums.wide (λ j h. a.sums.cells j h ∙ sym (b.sums.cells j h)) in
-    let primitive : r.0 ≡ s.0 = IsPrimitiveOf-once b.row r.0 s.0 (subst (λ (u : List ℤ). IsPrimitiveOf u r.0) row a.primitive) b.primitive in
-    let kind : r.1 ≡ s.1 = a.kind ∙ sym b.kind in
-    λ i. (primitive i, kind i)
-
-all_stored_once : (dim : ℕ) (cs : List Comparison) (rs ss : List Constraint) → AreStored dim cs rs → AreStored dim cs ss → rs ≡ ss
-all_stored_once dim [] [] [] a b = refl
-all_stored_once dim [] [] (s ∷ ss) a b = absurd b
-all_stored_once dim [] (r ∷ rs) ss a b = absurd a
-all_stored_once dim (c ∷ cs) [] ss a b = absurd a
-all_stored_once dim (c ∷ cs) (r ∷ rs) [] a b = absurd b
-all_stored_once dim (c ∷ cs) (r ∷ rs) (s ∷ ss) a b =
-    ap (λ (x : Constraint). x ∷ rs) (stored_once dim c r s a.0 b.0) ∙ ap (λ (xs : List Constraint). s ∷ xs) (all_stored_once dim cs rs ss a.1 b.1)
-
--- a text has one system
-one_system : (dim : ℕ) (text : List ℕ) (r s : Constraints) → IsCons dim text r → IsCons dim text s → r ≡ s
-one_system dim text r s a b =
-    let first : IsConsOf dim (alone_by cons_cases cons_by text b.form) r = subst (λ cs. IsConsOf dim cs r) (one_cons.one text a.form b.form) a.holds in
-    let over : r.dim ≡ s.dim = first.over ∙ sym b.holds.over in
-    let list : r.list ≡ s.list = all_stored_once dim (alone_by cons_cases cons_by text b.form) r.list s.list first.list b.holds.list in
-    λ i. record { dim = over i; list = list i }
-
 pub constraints_read_back : ConstraintsAreReadBack
 constraints_read_back cs read fit = (
-  (λ is. one_system cs.dim (constraints_text cs) read cs is (printed_says cs fit)),
+  (λ is. (cons_answers cs.dim (constraints_text cs)).one_value read cs is (printed_says cs fit)),
   (λ e. subst (IsCons cs.dim (constraints_text cs)) (sym e) (printed_says cs fit)),
 )

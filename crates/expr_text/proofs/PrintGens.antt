@@ -6,29 +6,27 @@ use Rattle.std.proofs.lemmas.Int.{ints}
 use Rattle.std.proofs.lemmas.List.Elements.{All-head, All-tail, All-take, All-map, All-weaker, All-from_get_or}
 use Rattle.row_core.specs.Vectors.{cell}
 use Rattle.row_core.specs.Range.{InRange}
-use Rattle.row_core.specs.Content.{IsPrimitiveOf}
-use Rattle.row_core.proofs.OnePrimitive.{IsPrimitiveOf-once}
 use Rattle.gens_sys.specs.Kinds.{HasBadDivisor, IsZeroDirection}
 use Rattle.gens_sys.specs.Generators.{Generator, Generators, IsGenerator, FitDimension}
 use Rattle.gens_sys.specs.declared.kind.GenKind.{GenKind}
 use Rattle.gens_sys.specs.declared.kind.GenKind.TheVariants.{Line, Ray, Point, ClosurePoint}
 use Rattle.grammar.specs.Form.{Form, word, Matches, Times}
-use Rattle.grammar.specs.Grammar.{◌·◌, ◌⋯◌, symbol, blanks, list_of, alone}
+use Rattle.grammar.specs.Grammar.{◌·◌, ◌⋯◌, symbol, blanks, list_of}
 use Rattle.grammar.specs.Cases.{vexpr_cases, vfrac_cases, gen_cases, gens_cases}
 use Rattle.term_text.specs.declared.terms.Term.{Term}
 use Rattle.term_text.specs.Numbers.{size_of}
 use Rattle.term_text.specs.Terms.{AreWithin, total}
-use Rattle.term_text.specs.Values.{Ratio, vexpr_by, alone_by}
+use Rattle.term_text.specs.Values.{Ratio, vexpr_by}
 use Rattle.expr_text.specs.Printed.{monomials_from, expression_text, quotient_text, kind_text, generator_text, listed, generator_list_text, generators_text}
 use Rattle.expr_text.specs.Generators.{GeneratorTerms, point_terms, direction_terms, vfrac_by, gen_by, further_gens_by, gens_by}
-use Rattle.expr_text.specs.GeneratorSystems.{VectorStays, IsVector, HasDivisor, IsZero, IsStored, AreStored, IsGensOf, IsGens}
+use Rattle.expr_text.specs.GeneratorSystems.{VectorStays, HasDivisor, IsZero, IsStored, AreStored, IsGensOf, IsGens}
 use Rattle.expr_text.specs.ReadBack.{GeneratorsAreReadBack}
-use Rattle.expr_text.proofs.GeneratorLaws.{alone_gens_law}
+use Rattle.expr_text.proofs.OneAnswers.{gens_answers}
 use Rattle.expr_text.proofs.PrintDigits.{decimal_nat, size_of-decimal}
 use Rattle.expr_text.proofs.PrintTerms.{ReadsAs, no_blank, coordinates_read}
 use Rattle.expr_text.proofs.PrintRows.{row_terms, row_terms-stay, printable}
 use Rattle.expr_text.proofs.PrintLists.{further_by_commas, list_by, list_reads, says_read}
-use Rattle.expr_text.proofs.PrintCons.{IsFitting, front_narrow, front_within, front_total, last_in_range, itself, same_row}
+use Rattle.expr_text.proofs.PrintCons.{IsFitting, front_narrow, front_within, front_total, last_in_range, itself}
 
 ratio_is : (ts us : List Term) (n k : ℕ) → ts ≡ us → n ≡ k → ◌≡◌ {A = Ratio} (record { terms = ts; divisor = n }) (record { terms = us; divisor = k })
 ratio_is ts us n k e f = ap (λ (t : List Term). let r : Ratio = record { terms = t; divisor = n } in r) e ∙ ap (λ (d : ℕ). let r : Ratio = record { terms = us; divisor = d } in r) f
@@ -205,41 +203,8 @@ list_says dim (g ∷ gs) all =
 printed_says : (gs : Generators) → FitDimension gs → IsGens gs.dim (generators_text gs) gs
 printed_says gs fit = list_says gs.dim gs.list (all_fit gs.dim gs.list fit.narrow fit.each)
 
-vector_cell : (dim : ℕ) (ts : List Term) (last : ℕ) (u v : List ℤ) → IsVector dim ts last u → IsVector dim ts last v → (j : ℕ) → (j < dim) ⊎ (dim ≤ j) → j ≤ dim → cell u j ≡ cell v j
-vector_cell dim ts last u v a b j (inl h) within = a.coordinates j h ∙ sym (b.coordinates j h)
-vector_cell dim ts last u v a b j (inr h) within = let same : j ≡ dim = omega arith in ap (cell u) same ∙ a.last_cell ∙ sym b.last_cell ∙ ap (cell v) (sym same)
-
--- a generator of a text is stored in one way
-stored_once : (dim : ℕ) (t : GeneratorTerms) (r s : Generator) → IsStored dim t r → IsStored dim t s → r ≡ s
-stored_once dim t r s a b =
-    let row : a.row ≡ b.row = same_row dim a.row b.row a.sums.wide b.sums.wide (λ j h. vector_cell dim t.terms t.last a.row b.row a.sums b.sums j (cases_lt j dim) h) in
-    let primitive : r.0 ≡ s.0 = IsPrimitiveOf-once b.row r.0 s.0 (subst (λ (u : List ℤ). IsPrimitiveOf u r.0) row a.primitive) b.primitive in
-    let kind : r.1 ≡ s.1 = a.kind ∙ sym b.kind in
-    λ i. (primitive i, kind i)
-
-all_stored_once : (dim : ℕ) (ts : List GeneratorTerms) (rs ss : List Generator) → AreStored dim ts rs → AreStored dim ts ss → rs ≡ ss
-all_stored_once dim [] [] [] a b = refl
-all_stored_once dim [] [] (s ∷ ss) a b = absurd b
-all_stored_once dim [] (r ∷ rs) ss a b = absurd a
-all_stored_once dim (t ∷ ts) [] ss a b = absurd a
-all_stored_once dim (t ∷ ts) (r ∷ rs) [] a b = absurd b
-all_stored_once dim (t ∷ ts) (r ∷ rs) (s ∷ ss) a b =
-    ap (λ (x : Generator). x ∷ rs) (stored_once dim t r s a.0 b.0) ∙ ap (λ (xs : List Generator). s ∷ xs) (all_stored_once dim ts rs ss a.1 b.1)
-
--- however the grammar takes a text of generators apart, it says the same
-one_gens : (text : List ℕ) (m n : Matches (alone gens_cases) text) → alone_by gens_cases gens_by text m ≡ alone_by gens_cases gens_by text n
-one_gens text m n = sym (alone_gens_law text m) ∙ alone_gens_law text n
-
--- a text has one system
-one_system : (dim : ℕ) (text : List ℕ) (r s : Generators) → IsGens dim text r → IsGens dim text s → r ≡ s
-one_system dim text r s a b =
-    let first : IsGensOf dim (alone_by gens_cases gens_by text b.form) r = subst (λ gs. IsGensOf dim gs r) (one_gens text a.form b.form) a.holds in
-    let over : r.dim ≡ s.dim = first.over ∙ sym b.holds.over in
-    let list : r.list ≡ s.list = all_stored_once dim (alone_by gens_cases gens_by text b.form) r.list s.list first.stored b.holds.stored in
-    λ i. record { dim = over i; list = list i }
-
 pub generators_read_back : GeneratorsAreReadBack
 generators_read_back gs read fit = (
-  (λ is. one_system gs.dim (generators_text gs) read gs is (printed_says gs fit)),
+  (λ is. (gens_answers gs.dim (generators_text gs)).one_value read gs is (printed_says gs fit)),
   (λ e. subst (IsGens gs.dim (generators_text gs)) (sym e) (printed_says gs fit)),
 )
