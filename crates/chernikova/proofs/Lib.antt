@@ -7,3 +7,4 @@ pub mod StateLemmas
 pub mod StepLemmas
 pub mod RayTables
 pub mod NextStates
+pub mod Rankings

@@ -40,7 +40,7 @@ rays_least width rows k lines rays system i j inside below =
     subst (λ (v : List ℤ). pos 0 ≤ℤ dot (row_at rows j) v) (vector_at-vectors rays i)
     (asks_least (is_eq_at rows j) (dot (row_at rows j) (vector_at (vectors rays) i)) (within.meets j ([], false) (omega arith) below))
 
-rays_wide : (width : ℕ) (rows : List Row) (k : ℕ) (lines : List (List ℤ)) (rays : List Row) → IsSystem (Upto width rows k) lines (vectors rays) → (i : ℕ) → i < length rays → length (row_at rays i) ≡ width
+pub rays_wide : (width : ℕ) (rows : List Row) (k : ℕ) (lines : List (List ℤ)) (rays : List Row) → IsSystem (Upto width rows k) lines (vectors rays) → (i : ℕ) → i < length rays → length (row_at rays i) ≡ width
 rays_wide width rows k lines rays system i inside =
     ap length (sym (vector_at-vectors rays i)) ∙ (system.generates.rays_within i [] (omega (arith, inside, length-vectors rays))).wide
 

@@ -4,3 +4,4 @@ pub mod Faults
 pub mod Changes
 pub mod Tables
 pub mod Conversion
+pub mod Orders

@@ -2,7 +2,7 @@
 ghost use Rattle.std.specs.Prelude.{◌≡◌, ℕ, ◌+◌, ◌^◌, ◌-◌, ◌<◌, ◌≤◌, List, length, pos, true, IfOk, IfErr, MatchResult, OnErr};
 ghost use Rattle.row_core.specs.Lists.{row_at};
 ghost use Rattle.cone_laws.specs.Cones.{Upto};
-ghost use Rattle.cone_laws.specs.Canon.{IsSystem};
+ghost use Rattle.cone_laws.specs.Canon.{Canon};
 ghost use Rattle.cone_laws.specs.Steps.{AreUnits};
 ghost use Rattle.row_core.specs.Range.{AllInRange};
 ghost use Rattle.chernikova.specs.Systems.{vectors, AreMarked, IsZeroTable};
@@ -11,6 +11,7 @@ ghost use Rattle.chernikova.specs.Conversion.{IsState, IsCountedUpto, IsRealOver
 
 use crate::cone::Cone;
 use crate::fault::shown;
+use crate::order::sorted;
 use crate::step::{changed, next_system};
 use row_core::{ConvErr, Memory, RowList, Steps};
 use sat_matrix::SatMatrix;
@@ -79,7 +80,7 @@ pub fn convert<L: Ledger>(
 ) -> Result<Cone, ConvErr>
     requires width { rows.now.width ≡ width }
     requires narrow { width < 2 ^ 32 }
-    ensures system { IfOk result (λ cone. IsSystem (Upto width rows.now.rows (length rows.now.rows)) (vectors cone.lines.rows) (vectors cone.rays.rows)) }
+    ensures canon { IfOk result (λ cone. Canon (Upto width rows.now.rows (length rows.now.rows)) (vectors cone.lines.rows) (vectors cone.rays.rows)) }
     ensures lists { IfOk result (λ cone. AreLists width cone.lines cone.rays) }
     ensures sat { IfOk result (λ cone. IsZeroTable rows.now.rows (length rows.now.rows) (vectors cone.rays.rows) cone.sat) }
     ensures overflow { IfErr result (IsRealOverflow width rows.now.rows) }
@@ -90,7 +91,7 @@ pub fn convert<L: Ledger>(
     for k in 0..rows.len() {
         cone = take_row(alloc, cone, rows, k, steps)?;
     }
-    Ok(cone)
+    Ok(sorted(alloc, cone)?)
 }
 
 #[cfg(test)]

@@ -10,6 +10,7 @@ mod cone;
 mod conversion;
 mod fault;
 mod line_step;
+mod order;
 mod ray_step;
 mod step;
 mod values;

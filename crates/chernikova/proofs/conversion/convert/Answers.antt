@@ -1,7 +1,12 @@
 use Rattle.std.specs.Prelude.{◌≡◌, ◌-◌, ℕ, List, length}
 use Rattle.std.proofs.Common.{sym, subst, ◌∙◌, arith}
-use Rattle.chernikova.specs.Systems.{vectors, IsZeroTable}
-use Rattle.chernikova.proofs.NextStates.{counted_more}
+use Rattle.cone_laws.specs.Cones.{Upto}
+use Rattle.cone_laws.specs.Canon.{Canon}
+use Rattle.chernikova.specs.Conversion.{IsState}
+use Rattle.chernikova.specs.Systems.{vectors}
+use Rattle.chernikova.proofs.NextStates.{counted_more, rays_wide}
+use Rattle.chernikova.proofs.VectorLemmas.{length-vectors}
+use Rattle.chernikova.proofs.Rankings.{rearranged_canon, rearranged_lists, rearranged_zeros}
 use Rattle.chernikova.proofs.conversion.convert.Goals as goal
 
 pub loop-k-preserved : goal.loop-k-preserved
@@ -15,7 +20,26 @@ loop-k-preserved g c =
           (omega (arith, c.in_ok-cone-2.ensures.counted)) (omega (arith, inv.no_fewer, c.take_row.ensures.no_fewer));
     }
 
+pub sorted-requires-clause-wide : goal.sorted-requires-clause-wide
+sorted-requires-clause-wide g c =
+    let state = c.loop-k.invariant.state in
+    λ i below. rays_wide c.args.rows.now.width c.args.rows.now.rows c.loop-k.k (vectors c.loop-k.cone.lines.rows) c.loop-k.cone.rays.rows state.system i below ∙ sym state.lists.rays_wide
+
+pub sorted-requires-clause-as_many : goal.sorted-requires-clause-as_many
+sorted-requires-clause-as_many g c = c.loop-k.invariant.state.zeros.each.as_many ∙ length-vectors c.loop-k.cone.rays.rows
+
+pub returns-clause-canon : goal.returns-clause-canon
+returns-clause-canon g c =
+    let rows = c.args.rows.now.rows in
+    let width = c.args.rows.now.width in
+    let P : ℕ → Type 0 = λ k. IsState c.args.rows.now.width c.args.rows.now.rows k c.loop-k.cone in
+    let state = subst P (let e : c.loop-k.k ≡ length c.args.rows.now.rows = omega (arith, c.len-k-end.ensures) in e) c.loop-k.invariant.state in
+    let Q : ℕ → Type 0 = λ w. Canon (Upto w c.args.rows.now.rows (length c.args.rows.now.rows)) (vectors c.in_ok-sorted.field-0.lines.rows) (vectors c.in_ok-sorted.field-0.rays.rows) in
+    subst Q c.requires.width (rearranged_canon width rows (length rows) c.loop-k.cone c.in_ok-sorted.field-0 state c.in_ok-sorted.ensures)
+
 pub returns-clause-sat : goal.returns-clause-sat
 returns-clause-sat g c =
-    let P : ℕ → Type 0 = λ k. IsZeroTable c.args.rows.now.rows k (vectors c.loop-k.cone.rays.rows) c.loop-k.cone.sat in
-    subst P (let e : c.loop-k.k ≡ length c.args.rows.now.rows = omega (arith, c.len-k-end.ensures) in e) c.loop-k.invariant.state.zeros
+    let rows = c.args.rows.now.rows in
+    let P : ℕ → Type 0 = λ k. IsState c.args.rows.now.width c.args.rows.now.rows k c.loop-k.cone in
+    let state = subst P (let e : c.loop-k.k ≡ length c.args.rows.now.rows = omega (arith, c.len-k-end.ensures) in e) c.loop-k.invariant.state in
+    rearranged_zeros c.args.rows.now.width rows (length rows) c.loop-k.cone c.in_ok-sorted.field-0 state c.in_ok-sorted.ensures

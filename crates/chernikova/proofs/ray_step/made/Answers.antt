@@ -1,5 +1,5 @@
 use Rattle.std.specs.Prelude.{◌≡◌, ℕ, List, ℤ, false}
-use Rattle.std.proofs.Common.{sym, subst, ◌∙◌, ap, arith, refl}
+use Rattle.std.proofs.Common.{sym, subst, ◌∙◌, ap, arith, drop, length}
 use Rattle.std.proofs.lemmas.List.Elements.{All-same}
 use Rattle.std.proofs.lemmas.List.{take_at}
 use Rattle.cone_laws.specs.Steps.{pair_at}
@@ -13,7 +13,7 @@ loop-index-preserved g c =
     let inv = c.loop-index.invariant in
     let one = c.in_ok-combine_pair.ensures.combined in
     let rows = c.in_ok-push.ensures.rows in
-    let written : c.deref.result.now ≡ c.combine_pair.new.dst = c.deref.ensures.value ∙ take_at c.combine_pair.new.dst _ c.loop-index.scratch.len (omega (arith, c.combine_pair.ensures.width, c.deref_mut.ensures.len)) in
+    let written : c.deref.result.now ≡ c.combine_pair.new.dst = c.deref.ensures.value ∙ take_at c.combine_pair.new.dst (drop (length c.combine_pair.new.dst) c.loop-index.scratch.items) c.loop-index.scratch.len (omega (arith, c.combine_pair.ensures.width, c.deref_mut.ensures.len)) in
     let P : List ℤ → Type 0 = λ r. IsPairCombined c.args.values.now c.args.rays.now.rows (pair_at c.args.pairs.now c.loop-index.index) r in
     record {
       width = c.in_ok-push.ensures.width ∙ inv.width;
