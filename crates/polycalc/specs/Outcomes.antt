@@ -1,5 +1,5 @@
 use Rattle.std.specs.Prelude.{◌≡◌, ℕ, ◌+◌, ◌<◌, ◌≤◌, List, [], ◌++◌, length, take, Option, Some, Bool, true, false, if◌then◌else◌}
-use Rattle.std.specs.Io.KnownBytes.{append_known, IsAtEnd}
+use Rattle.std.specs.Io.KnownBytes.{append_known, prepend_known, IsAtEnd}
 use Rattle.std.specs.Str.Lines.{lines}
 use Rattle.calc_state.specs.Table.{Table}
 use Rattle.calc_state.specs.Step.{Reply}
@@ -17,6 +17,10 @@ pub record Completes (script : List ℕ) (clean : Bool) (old new : Option (List 
   pub run : Run [] (lines script) replies table
   pub held : new ≡ append_known old (replies_bytes replies)
   pub verdict : is_clean replies ≡ clean
+
+-- the source gave a script and has nothing left, and the script is completed
+abbrev pub Ends : Option (List ℕ) → Option (List ℕ) → Option (List ℕ) → Option (List ℕ) → Bool → Type 0
+Ends left left_now old new clean = (script : List ℕ) × (left ≡ prepend_known script left_now) × IsAtEnd left_now × Completes script clean old new
 
 -- what was held, and behind it a front of the replies of a run over the first lines of the script
 pub record WritesPrefix (script : List ℕ) (old new : Option (List ℕ)) : Type 0 where

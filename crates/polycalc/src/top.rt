@@ -1,11 +1,11 @@
 //! The top call.
-ghost use Rattle.std.specs.Prelude.{◌≡◌, ◌≢◌, ℕ, ◌+◌, ◌<◌, ◌≤◌, ◌↔◌, ◌⊎◌, List, length, Some};
+ghost use Rattle.std.specs.Prelude.{◌≡◌, ◌≢◌, ℕ, ◌+◌, ◌<◌, ◌≤◌, ◌↔◌, ◌⊎◌, List, length, Some, true, false};
 ghost use Rattle.std.specs.Io.KnownBytes.{prepend_known};
 ghost use Rattle.poly_io.specs.Counts.{HasRisen};
 ghost use Rattle.polycalc.specs.Words.{run_words};
 ghost use Rattle.polycalc.specs.Statuses.{code_of};
 ghost use Rattle.poly_io.specs.declared.whole.TheConstants.{ROOM};
-ghost use Rattle.polycalc.specs.Outcomes.{Outcome, Answers, IsAnswered, WritesPrefix};
+ghost use Rattle.polycalc.specs.Outcomes.{Outcome, Answers, Ends, IsAnswered, WritesPrefix};
 
 use crate::runs::replies_to;
 use crate::vocabulary::Words;
@@ -59,6 +59,10 @@ pub fn polycalc<S: Source, W: Sink, L: Ledger>(
     ensures answered { (script before : List ℕ) → words.now ≡ run_words → S.left source.old ≡ Some script → W.held sink.old ≡ Some before
         → length script ≤ INPUT_LIMIT → ¬ (HasRisen (S.faults source.old) (S.faults source.new)) → ¬ (HasRisen (W.faults sink.old) (W.faults sink.new))
         → result ≢ Status.Memory → IsAnswered script before (W.held sink.new) result }
+    // The input was read to its end and all replies were written; whether one of them is a fault or
+    // an overflow.
+    ensures done { result ≡ Status.Done → Ends (S.left source.old) (S.left source.new) (W.held sink.old) (W.held sink.new) true }
+    ensures refused { result ≡ Status.Refused → Ends (S.left source.old) (S.left source.new) (W.held sink.old) (W.held sink.new) false }
     ensures usage { (result ≡ Status.Usage) ↔ (words.now ≢ run_words) }
     ensures untouched { result ≡ Status.Usage → (source.new ≡ source.old) × (sink.new ≡ sink.old) }
     ensures read_fault { result ≡ Status.ReadFault → HasRisen (S.faults source.old) (S.faults source.new) }
