@@ -2,3 +2,4 @@ pub mod Cuts
 pub mod RunWords
 pub mod RunLaws
 pub mod OutcomeLaws
+pub mod TruthLaws

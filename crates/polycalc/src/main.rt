@@ -5,6 +5,7 @@
 ghost use Rattle.std.specs.Prelude.{◌≡◌, ◌<◌};
 
 mod arguments;
+mod laws;
 mod line_ends;
 mod replies;
 mod runs;
