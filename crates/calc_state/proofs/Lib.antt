@@ -6,4 +6,3 @@ pub mod FullForms
 pub mod TableLemmas
 pub mod AskLemmas
 pub mod OneReply
-pub mod RunLemmas

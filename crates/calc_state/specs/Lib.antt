@@ -4,4 +4,3 @@ pub mod Shown
 pub mod Table
 pub mod Step
 pub mod Laws
-pub mod Runs
