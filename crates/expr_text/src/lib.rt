@@ -28,3 +28,5 @@ pub use term_text::{Frac, OneCon};
 
 #[cfg(test)]
 mod print_tests;
+#[cfg(test)]
+mod read_tests;
