@@ -35,3 +35,6 @@ pub mod UniqueSystems
 pub mod Rearranging
 pub mod PrimitiveSteps
 pub mod NextSystems
+pub mod PrimitivePart
+pub mod CrossingPairs
+pub mod StepExistence
