@@ -3,3 +3,4 @@ pub mod RunWords
 pub mod RunLaws
 pub mod OutcomeLaws
 pub mod TruthLaws
+pub mod OneRun

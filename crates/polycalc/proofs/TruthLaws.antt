@@ -8,6 +8,7 @@ use Rattle.term_text.specs.Systems.{IsCons}
 use Rattle.calc_state.specs.Line.{Command, nothing, makes, asks, Spells}
 use Rattle.calc_state.specs.Table.{Table, system_of, put}
 use Rattle.calc_state.specs.Step.{Reply, Answered, Refused, Overflows, Step, Accepts, Unspelled, Performs, Replies}
+use Rattle.polycalc.specs.Replies.{is_answer}
 use Rattle.polycalc.specs.Runs.{Run}
 use Rattle.polycalc.specs.Truth.{Made, last_made, later, ReadAs, SaysTruthOf, IsTruthful, AreTruthful}
 
@@ -102,3 +103,15 @@ run_is_truthful old made (line ∷ lines) [] new a r = absurd r
 -- nothing was made before the first line
 pub runs_are_truthful : (lines : List (List ℕ)) (replies : List Reply) (table : Table) → Run [] lines replies table → AreTruthful [] lines replies
 runs_are_truthful lines replies table r = run_is_truthful [] [] lines replies table (λ name. tt) r
+
+performed_unchanged : (old new : Table) (c : Command) (reply : Reply) → Performs old c reply new → is_answer reply ≡ false → new ≡ old
+performed_unchanged old new nothing reply p f = p.1
+performed_unchanged old new (makes name dim text) (Answered lines) p f = let t : true ≡ false = f in cc
+performed_unchanged old new (makes name dim text) (Refused fault) p f = p.1
+performed_unchanged old new (makes name dim text) (Overflows over) p f = absurd p
+performed_unchanged old new (asks name text) reply p f = p.1
+
+-- a refused line leaves the table as it was
+pub refused_unchanged : (old : Table) (line : List ℕ) (reply : Reply) (new : Table) → Step old line reply new → is_answer reply ≡ false → new ≡ old
+refused_unchanged old line reply new step f =
+    elim step [ inl accepted ↦ performed_unchanged old new accepted.command reply accepted.performed f | inr unspelled ↦ unspelled.unchanged ]

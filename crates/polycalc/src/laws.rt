@@ -1,9 +1,12 @@
 //! Laws of runs.
-ghost use Rattle.std.specs.Prelude.{ℕ, List, []};
+ghost use Rattle.std.specs.Prelude.{◌≡◌, ℕ, List, [], false};
 ghost use Rattle.calc_state.specs.Table.{Table};
-ghost use Rattle.calc_state.specs.Step.{Reply};
+ghost use Rattle.calc_state.specs.Step.{Reply, Step};
+ghost use Rattle.polycalc.specs.Replies.{is_answer};
 ghost use Rattle.polycalc.specs.Runs.{Run};
 ghost use Rattle.polycalc.specs.Truth.{AreTruthful};
+
+use calc_state::one_reply;
 
 /// In each run every answered question says the truth of the points that satisfy the constraints of
 /// the last accepted line of its name, and a refused line leaves every name as it was.
@@ -11,3 +14,16 @@ ghost use Rattle.polycalc.specs.Truth.{AreTruthful};
 pub fn answers_are_true()
     ensures { (lines : List (List ℕ)) (replies : List Reply) (table : Table) → Run [] lines replies table → AreTruthful [] lines replies }
 {}
+
+/// A line whose reply is a fault or an overflow changes nothing.
+#[tactic(auto, using(crate::proofs::TruthLaws::refused_unchanged))]
+pub fn refusals_change_nothing()
+    ensures { (old : Table) (line : List ℕ) (reply : Reply) (new : Table) → Step old line reply new → is_answer reply ≡ false → new ≡ old }
+{}
+
+/// A script has one run: its lines determine the replies and the table.
+pub fn one_run()
+    ensures { (lines : List (List ℕ)) (r s : List Reply) (new other : Table) → Run [] lines r new → Run [] lines s other → (r ≡ s) × (new ≡ other) }
+{
+    one_reply();
+}
