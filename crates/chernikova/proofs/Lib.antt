@@ -7,4 +7,5 @@ pub mod StateLemmas
 pub mod StepLemmas
 pub mod RayTables
 pub mod NextStates
+pub mod Counts
 pub mod Rankings

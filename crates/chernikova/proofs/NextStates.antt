@@ -1,8 +1,7 @@
-use Rattle.std.specs.Prelude.{◌≡◌, ℕ, ◌+◌, ◌^◌, ◌<◌, ◌≤◌, Bool, false, List, [], ◌∷◌, ◌++◌, length, map, ℤ, pos, ◌≤ℤ◌, slice_index_or}
+use Rattle.std.specs.Prelude.{◌≡◌, ℕ, ◌+◌, ◌^◌, ◌<◌, Bool, false, List, [], ◌∷◌, ◌++◌, length, map, ℤ, pos, ◌≤ℤ◌}
 use Rattle.std.proofs.Common.{refl, sym, ap, ◌∙◌, subst, arith, inl, inr, get_or, set, replicate, lit<}
-use Rattle.std.proofs.lemmas.List.{get_or_default, length-map, length_push, get_or_append_left, get_or_push, get_or_past, length-set, length-replicate, get_or-replicate, get_or-set_same, get_or-set_other, set-set, set-get_or}
+use Rattle.std.proofs.lemmas.List.{get_or_default, length-map, length_push, get_or_past, length-set, length-replicate, get_or-replicate, get_or-set_same, get_or-set_other, set-set, set-get_or}
 use Rattle.std.proofs.lemmas.List.Elements.{All-set, All-replicate}
-use Rattle.std.proofs.lemmas.List.Sums.{sum_by_push}
 use Rattle.std.proofs.lemmas.Bool.{cases_lt}
 use Rattle.row_core.specs.Vectors.{cell, dot}
 use Rattle.row_core.specs.Range.{InRange, AllInRange}
@@ -19,12 +18,12 @@ use Rattle.chernikova.specs.declared.cone.Cone.{Cone}
 use Rattle.chernikova.specs.Systems.{vectors, values_on}
 use Rattle.chernikova.specs.Tables.{HasLineStep, HasRayStep}
 use Rattle.chernikova.specs.Changes.{AreLists, AreAllCrosses, IsRayChange}
-use Rattle.chernikova.specs.Conversion.{IsState, IsLineOutcome, IsRayOutcome, IsCountedUpto, IsAtMostSystem}
+use Rattle.chernikova.specs.Conversion.{IsState, IsLineOutcome, IsRayOutcome}
 use Rattle.chernikova.proofs.VectorLemmas.{length-vectors, vector_at-vectors, row_at-push_before, row_at-push_last}
 use Rattle.chernikova.proofs.StateLemmas.{length-values_on, zeros_after_line, ray_step_from}
 use Rattle.chernikova.proofs.RayTables.{zeros_after_ray}
 
-row_is_at : (rows : List Row) (k : ℕ) → k < length rows → IsRowAt rows k (row_at rows k, is_eq_at rows k)
+pub row_is_at : (rows : List Row) (k : ℕ) → k < length rows → IsRowAt rows k (row_at rows k, is_eq_at rows k)
 row_is_at rows k below = record { below = below; same = get_or_default rows k (row_at rows k, is_eq_at rows k) ([], false) below }
 
 -- the first rows are 0 on each line of their system
@@ -134,32 +133,6 @@ start_state width rows lines rays sat narrow lists units no_rays columns no_rows
         };
       };
     }
-
--- ---- counts
-pub counted_none : (width : ℕ) (rows : List Row) (total : ℕ) → total ≡ 0 → IsCountedUpto width rows 0 total
-counted_none width rows total e = record { counts = []; as_many = refl; is_total = sym e; each = λ i h. absurd (omega (arith, h)) }
-
-pub counted_more : (width : ℕ) (rows : List Row) (k total count more : ℕ) (cone : Cone) → IsCountedUpto width rows k total → IsState width rows (k + 1) cone → count ≤ length cone.lines.rows + length cone.rays.rows → more ≡ total + count → IsCountedUpto width rows (k + 1) more
-counted_more width rows k total count more cone h state bound is = record {
-  counts = h.counts ++ count ∷ [];
-  as_many = omega (arith, length_push h.counts count, h.as_many);
-  is_total = sum_by_push (λ (n : ℕ). n) h.counts count ∙ ap (λ t. t + count) h.is_total ∙ sym is;
-  each = λ i below. elim (cases_lt i k) [
-    | inl less ↦
-        let P : ℕ → Type 0 = λ c. IsAtMostSystem width rows (i + 1) c in
-        subst P (sym (get_or_append_left h.counts (count ∷ []) 0 i (omega (arith, h.as_many)))) (h.each i less)
-    | inr at ↦
-        let here : i ≡ k = omega arith in
-        let P : ℕ → Type 0 = λ c. IsAtMostSystem width rows (i + 1) c in
-        let Q : ℕ → Type 0 = λ m. IsAtMostSystem width rows (m + 1) count in
-        subst P (sym (get_or_push h.counts count 0 i (omega (arith, h.as_many)))) (subst Q (sym here) (record {
-          lines = vectors cone.lines.rows;
-          rays = vectors cone.rays.rows;
-          system = state.system;
-          bound = omega (arith, bound, length-vectors cone.lines.rows, length-vectors cone.rays.rows);
-        }))
-  ];
-}
 
 pub zeros_back : (width i : ℕ) (items : List ℤ) → items ≡ replicate width (pos 0) → set (set items i (pos 1)) i (pos 0) ≡ replicate width (pos 0)
 zeros_back width i items e =

@@ -1,21 +1,21 @@
-use Rattle.std.specs.Prelude.{◌≡◌, ◌≢◌, ℕ, suc, ◌+◌, ◌<◌, ◌≤◌, ◌⊎◌, Bool, true, false, List, [], length, map, ℤ, pos, slice_index_or, Contains}
-use Rattle.std.proofs.Common.{refl, sym, ap, ◌∙◌, subst, arith, inl, inr, get_or}
-use Rattle.std.proofs.lemmas.List.{get_or_default, length_push}
+use Rattle.std.specs.Prelude.{◌≡◌, ◌≢◌, ℕ, ◌<◌, List, [], length, ℤ, pos, slice_index_or}
+use Rattle.std.proofs.Common.{refl, sym, ap, ◌∙◌, subst, arith, inl, inr}
+use Rattle.std.proofs.lemmas.List.{get_or_default}
 use Rattle.std.proofs.lemmas.List.Elements.{Contains-get_or}
-use Rattle.row_core.specs.Vectors.{dot, scale}
+use Rattle.row_core.specs.Vectors.{dot}
 use Rattle.row_core.specs.Lists.{Row, row_at}
 use Rattle.sat_matrix.specs.Tables.{Table}
 use Rattle.cone_laws.specs.Canon.{vector_at}
-use Rattle.cone_laws.specs.Steps.{sign, pair_at, IsLastCrossing, IsCrossing}
+use Rattle.cone_laws.specs.Steps.{pair_at, IsLastCrossing, IsCrossing}
 use Rattle.cone_laws.specs.Leaves.{IsOther, IsLineCase, IsRayCase, CombinationLeaves}
 use Rattle.chernikova.specs.declared.fault.Fault.{Fault}
 use Rattle.chernikova.specs.declared.fault.Fault.TheVariants.{Memory, Dot, Combine}
 use Rattle.chernikova.specs.declared.fault.Part.{Part}
 use Rattle.chernikova.specs.declared.fault.Part.TheVariants.{Lines, Rays}
 use Rattle.chernikova.specs.declared.fault.Place.{Place}
-use Rattle.chernikova.specs.Systems.{vectors, values_on, IsZeroTable}
-use Rattle.chernikova.specs.Changes.{value_at, AreLowered, with_upward, IsLineChange, IsCross, AreAllCrosses}
-use Rattle.chernikova.specs.Faults.{part_of, part_values, vector_of, value_of, IsPlace, IsCombineFault, IsFaultAt, IsLineFault, IsPairFault}
+use Rattle.chernikova.specs.Systems.{values_on, IsZeroTable}
+use Rattle.chernikova.specs.Changes.{value_at, IsCross, AreAllCrosses}
+use Rattle.chernikova.specs.Faults.{part_of, part_values, vector_of, value_of, IsCombineFault, IsFaultAt, IsLineFault, IsPairFault}
 use Rattle.chernikova.proofs.StateLemmas.{length-values_on, value_at-values_on, crossing_from}
 
 -- what the values tell of the last line that crosses
@@ -91,12 +91,3 @@ pair_fault_at rows k a lines rays values pairs table (Combine left right column)
     let P : Part → Type 0 = λ part. let place : Place = record { part = part; index = left.index } in IsCombineFault rows k lines rays place second column in
     let Q : Part → Type 0 = λ part. let place : Place = record { part = part; index = right.index } in IsCombineFault rows k lines rays left place column in
     subst Q (sym h.2) (subst P (sym h.1) base)
-
--- as many vectors as there were, but for the line
-upward_count : (eq : Bool) (u : ℤ) (line : List ℤ) (kept new : List Row) → new ≡ with_upward eq u line kept → length kept ≤ length new
-upward_count true u line kept new e = omega (arith, ap length e)
-upward_count false u line kept new e = omega (arith, ap length e, length_push kept (scale (sign u) line, false))
-
-pub line_count : (index : ℕ) (line_values ray_values : List ℤ) (eq : Bool) (lines rays new_lines new_rays : List Row) → IsLineChange index line_values ray_values eq lines rays new_lines new_rays → length lines + length rays ≤ length new_lines + 1 + length new_rays
-line_count index line_values ray_values eq lines rays new_lines new_rays h =
-    omega (arith, h.lines_lowered.as_many, h.rays_lowered.as_many, upward_count eq (value_at line_values index) (row_at lines index) h.kept new_rays h.result)

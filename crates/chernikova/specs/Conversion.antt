@@ -1,11 +1,12 @@
-use Rattle.std.specs.Prelude.{◌≡◌, ℕ, ◌+◌, ◌^◌, ◌<◌, ◌≤◌, ⊤, Bool, List, length, map, sum, ℤ, pos, slice_index_or}
+use Rattle.std.specs.Prelude.{◌≡◌, ℕ, ◌+◌, ◌^◌, ◌<◌, ⊤, Bool, List, length, map, sum, ℤ, pos, slice_index_or}
 use Rattle.row_core.specs.Vectors.{dot}
-use Rattle.row_core.specs.Lists.{Row, Rows, row_at, is_eq_at}
+use Rattle.row_core.specs.Lists.{Row, Rows}
 use Rattle.row_core.specs.declared.errors.ConvErr.{ConvErr}
 use Rattle.row_core.specs.declared.errors.ConvErr.TheVariants.{Overflow, Memory}
 use Rattle.cone_laws.specs.Cones.{Upto}
-use Rattle.cone_laws.specs.Canon.{vector_at, IsSystem, Canon}
+use Rattle.cone_laws.specs.Canon.{vector_at, IsSystem}
 use Rattle.cone_laws.specs.Steps.{stays, IsLineStep}
+use Rattle.cone_laws.specs.SystemLaws.{HasSystemOf}
 use Rattle.cone_laws.specs.Leaves.{Leaves}
 use Rattle.chernikova.specs.declared.cone.Cone.{Cone}
 use Rattle.chernikova.specs.declared.step.Change.{Change}
@@ -39,24 +40,12 @@ abbrev pub IsOutcome : ℕ → Row → Cone → Change → Type 0
 IsOutcome width row cone (change.Line lines rays) = IsLineOutcome width row cone lines rays
 IsOutcome width row cone (change.Ray rays values marks pairs) = IsRayOutcome width row cone rays values.items marks.items pairs.items
 
--- how many lines and rays there are after the change
-abbrev pub count_after : Cone → Change → ℕ
-count_after cone (change.Line lines rays) = length lines.rows + length rays.rows
-count_after cone (change.Ray rays values marks pairs) = length cone.lines.rows + length rays.rows
-
--- the system of the first k rows has at least as many lines and rays as the number
-pub record IsAtMostSystem (width : ℕ) (rows : List Row) (k : ℕ) (number : ℕ) : Type 0 where
-  pub lines : List (List ℤ)
-  pub rays : List (List ℤ)
-  pub system : IsSystem (Upto width rows k) lines rays
-  pub bound : number ≤ length lines + length rays
-
 -- the total is a sum of one number for each of the first k rows, and that of each row is at most the number of lines and rays of the system up to that row
 pub record IsCountedUpto (width : ℕ) (rows : List Row) (k : ℕ) (total : ℕ) : Type 0 where
   pub counts : List ℕ
   pub as_many : length counts ≡ k
   pub is_total : sum counts ≡ total
-  pub each : (i : ℕ) → i < k → IsAtMostSystem width rows (i + 1) (slice_index_or counts i 0)
+  pub each : (i : ℕ) → i < k → HasSystemOf width rows (i + 1) (slice_index_or counts i 0)
 
 -- an overflow shows a number outside the range
 abbrev pub IsRealOverflow : ℕ → List Row → ConvErr → Type 0

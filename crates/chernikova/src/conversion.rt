@@ -4,6 +4,7 @@ ghost use Rattle.row_core.specs.Lists.{row_at};
 ghost use Rattle.cone_laws.specs.Cones.{Upto};
 ghost use Rattle.cone_laws.specs.Canon.{Canon};
 ghost use Rattle.cone_laws.specs.Steps.{AreUnits};
+ghost use Rattle.cone_laws.specs.SystemLaws.{HasSystemOf};
 ghost use Rattle.row_core.specs.Range.{AllInRange};
 ghost use Rattle.chernikova.specs.Systems.{vectors, AreMarked, IsZeroTable};
 ghost use Rattle.chernikova.specs.Changes.{AreLists};
@@ -57,7 +58,7 @@ fn take_row<L: Ledger>(
     requires state { IsState rows.now.width rows.now.rows k cone }
     ensures state { MatchResult result (IsState rows.now.width rows.now.rows (k + 1)) (IsRealOverflow rows.now.width rows.now.rows) }
     ensures no_fewer { steps.old ≤ steps.new }
-    ensures counted { IfOk result (λ next. steps.new ≤ steps.old + (length next.lines.rows + length next.rays.rows)) }
+    ensures counted { HasSystemOf rows.now.width rows.now.rows (k + 1) (steps.new - steps.old) }
 {
     match next_system(alloc, &cone, rows, k, steps) {
         Ok(change) => Ok(changed(alloc, cone, change, rows, k)?),
@@ -85,7 +86,7 @@ pub fn convert<L: Ledger>(
     ensures sat { IfOk result (λ cone. IsZeroTable rows.now.rows (length rows.now.rows) (vectors cone.rays.rows) cone.sat) }
     ensures overflow { IfErr result (IsRealOverflow width rows.now.rows) }
     ensures no_fewer { steps.old ≤ steps.new }
-    ensures counted { IfOk result (λ _. IsCountedUpto width rows.now.rows (length rows.now.rows) (steps.new - steps.old)) }
+    ensures counted { IsCountedUpto width rows.now.rows (length rows.now.rows) (steps.new - steps.old) }
 {
     let mut cone = start(alloc, width, rows)?;
     for k in 0..rows.len() {

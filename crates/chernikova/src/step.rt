@@ -1,9 +1,10 @@
 //! One step: a row is taken in.
-ghost use Rattle.std.specs.Prelude.{◌≡◌, ℕ, ◌+◌, ◌<◌, ◌≤◌, List, length, IfOk, MatchResult};
+ghost use Rattle.std.specs.Prelude.{◌≡◌, ℕ, ◌+◌, ◌-◌, ◌<◌, ◌≤◌, List, length, IfOk, MatchResult};
 ghost use Rattle.row_core.specs.Lists.{row_at, is_eq_at};
+ghost use Rattle.cone_laws.specs.SystemLaws.{HasSystemOf};
 ghost use Rattle.chernikova.specs.Systems.{vectors};
 ghost use Rattle.chernikova.specs.Faults.{IsFaultAt};
-ghost use Rattle.chernikova.specs.Conversion.{IsState, IsOutcome, count_after};
+ghost use Rattle.chernikova.specs.Conversion.{IsState, IsOutcome};
 
 use crate::cone::Cone;
 use crate::fault::{Fault, Part};
@@ -45,7 +46,7 @@ pub(crate) fn next_system<L: Ledger>(
     requires state { IsState rows.now.width rows.now.rows k cone.now }
     ensures outcome { MatchResult result (IsOutcome rows.now.width (row_at rows.now.rows k, is_eq_at rows.now.rows k) cone.now) (IsFaultAt rows.now.rows k (vectors cone.now.lines.rows) (vectors cone.now.rays.rows)) }
     ensures no_fewer { steps.old ≤ steps.new }
-    ensures counted { IfOk result (λ change. steps.new ≤ steps.old + count_after cone.now change) }
+    ensures counted { HasSystemOf rows.now.width rows.now.rows (k + 1) (steps.new - steps.old) }
 {
     let row = rows.row(k);
     let eq = rows.is_eq(k);
@@ -77,8 +78,7 @@ pub(crate) fn changed(
     requires row { k < length rows.now.rows }
     requires state { IsState rows.now.width rows.now.rows k cone }
     requires outcome { IsOutcome rows.now.width (row_at rows.now.rows k, is_eq_at rows.now.rows k) cone change }
-    ensures state { IfOk result (IsState rows.now.width rows.now.rows (k + 1)) }
-    ensures count { IfOk result (λ next. length next.lines.rows + length next.rays.rows ≡ count_after cone change) }
+    ensures { IfOk result (IsState rows.now.width rows.now.rows (k + 1)) }
 {
     let Cone {
         lines: old,

@@ -1,12 +1,13 @@
-use Rattle.std.specs.Prelude.{◌≡◌, ◌-◌, ℕ, List, length}
+use Rattle.std.specs.Prelude.{◌≡◌, ◌-◌, ℕ, length}
 use Rattle.std.proofs.Common.{sym, subst, ◌∙◌, arith}
 use Rattle.cone_laws.specs.Cones.{Upto}
 use Rattle.cone_laws.specs.Canon.{Canon}
-use Rattle.chernikova.specs.Conversion.{IsState}
+use Rattle.chernikova.specs.Conversion.{IsState, IsCountedUpto}
 use Rattle.chernikova.specs.Systems.{vectors}
-use Rattle.chernikova.proofs.NextStates.{counted_more, rays_wide}
+use Rattle.chernikova.proofs.NextStates.{rays_wide}
+use Rattle.chernikova.proofs.Counts.{counted_start, counted_more, counted_last}
 use Rattle.chernikova.proofs.VectorLemmas.{length-vectors}
-use Rattle.chernikova.proofs.Rankings.{rearranged_canon, rearranged_lists, rearranged_zeros}
+use Rattle.chernikova.proofs.Rankings.{rearranged_canon, rearranged_zeros}
 use Rattle.chernikova.proofs.conversion.convert.Goals as goal
 
 pub loop-k-preserved : goal.loop-k-preserved
@@ -16,8 +17,8 @@ loop-k-preserved g c =
     record {
       state = state;
       no_fewer = omega (arith, inv.no_fewer, c.take_row.ensures.no_fewer);
-      counted = counted_more c.args.rows.now.width c.args.rows.now.rows c.loop-k.k (c.loop-k.steps - c.args.steps.now) (c.take_row.new.steps - c.loop-k.steps) (c.take_row.new.steps - c.args.steps.now) c.in_ok-cone-2.cone inv.counted state
-          (omega (arith, c.in_ok-cone-2.ensures.counted)) (omega (arith, inv.no_fewer, c.take_row.ensures.no_fewer));
+      counted = counted_more c.args.rows.now.width c.args.rows.now.rows c.loop-k.k (c.loop-k.steps - c.args.steps.now) (c.take_row.new.steps - c.loop-k.steps) (c.take_row.new.steps - c.args.steps.now) inv.counted c.take_row.ensures.counted
+          (omega (arith, inv.no_fewer, c.take_row.ensures.no_fewer));
     }
 
 pub sorted-requires-clause-wide : goal.sorted-requires-clause-wide
@@ -43,3 +44,14 @@ returns-clause-sat g c =
     let P : ℕ → Type 0 = λ k. IsState c.args.rows.now.width c.args.rows.now.rows k c.loop-k.cone in
     let state = subst P (let e : c.loop-k.k ≡ length c.args.rows.now.rows = omega (arith, c.len-k-end.ensures) in e) c.loop-k.invariant.state in
     rearranged_zeros c.args.rows.now.width rows (length rows) c.loop-k.cone c.in_ok-sorted.field-0 state c.in_ok-sorted.ensures
+
+pub returns-in_err-cone-clause-counted : goal.returns-in_err-cone-clause-counted
+returns-in_err-cone-clause-counted g c = counted_start c.args.width c.args.rows.now.rows _ (omega arith)
+
+pub returns-in_err-cone-2-clause-counted : goal.returns-in_err-cone-2-clause-counted
+returns-in_err-cone-2-clause-counted g c =
+    let inv = c.loop-k.invariant in
+    let P : ℕ → Type 0 = λ w. IsCountedUpto w c.args.rows.now.rows (length c.args.rows.now.rows) (c.take_row.new.steps - c.args.steps.now) in
+    subst P c.requires.width
+    (counted_last c.args.rows.now.width c.args.rows.now.rows c.loop-k.k (c.loop-k.steps - c.args.steps.now) (c.take_row.new.steps - c.loop-k.steps) (c.take_row.new.steps - c.args.steps.now) (omega arith) inv.counted c.take_row.ensures.counted
+    (omega (arith, inv.no_fewer, c.take_row.ensures.no_fewer)))

@@ -1,14 +1,13 @@
-use Rattle.std.specs.Prelude.{◌≡◌, ◌+◌, ◌<◌, ◌≤◌, ℕ, ℤ, List, Bool, length, map, pos}
+use Rattle.std.specs.Prelude.{◌≡◌, ◌-◌, ℕ, ℤ, List, Bool, length, map}
 use Rattle.std.proofs.Common.{sym, ap, subst, ◌∙◌, arith}
 use Rattle.std.proofs.lemmas.Result.{err_from_is_err_and}
-use Rattle.row_core.specs.Vectors.{dot}
-use Rattle.row_core.specs.Lists.{Row, row_at, is_eq_at}
-use Rattle.cone_laws.specs.Canon.{vector_at}
-use Rattle.cone_laws.specs.Steps.{stays, IsLastCrossing, IsLineStep}
+use Rattle.row_core.specs.Lists.{row_at}
+use Rattle.cone_laws.specs.Steps.{stays, IsLineStep}
 use Rattle.chernikova.specs.Systems.{vectors, values_on}
 use Rattle.chernikova.specs.Changes.{AreLists, AreAllCrosses, IsLineChange, IsRayChange}
 use Rattle.chernikova.proofs.StateLemmas.{line_step_from}
-use Rattle.chernikova.proofs.StepLemmas.{last_from, flat_from, line_fault_at, pair_fault_at, line_count}
+use Rattle.chernikova.proofs.StepLemmas.{last_from, flat_from, line_fault_at, pair_fault_at}
+use Rattle.chernikova.proofs.Counts.{count_none, count_line, count_pairs}
 use Rattle.chernikova.proofs.step.next_system.Goals as goal
 
 pub returns-in_err-lines-clause-outcome : goal.returns-in_err-lines-clause-outcome
@@ -43,8 +42,45 @@ returns-in-Some-clause-outcome g c =
           (subst Q e_rays (subst P e_lines c.in_ok-lines.ensures.change))));
     }
 
+pub returns-in_err-line_values-clause-counted : goal.returns-in_err-line_values-clause-counted
+returns-in_err-line_values-clause-counted g c = count_none c.args.rows.now.width c.args.rows.now.rows c.args.k _ c.requires.row (omega arith)
+
+pub returns-in_err-ray_values-clause-counted : goal.returns-in_err-ray_values-clause-counted
+returns-in_err-ray_values-clause-counted g c = count_none c.args.rows.now.width c.args.rows.now.rows c.args.k _ c.requires.row (omega arith)
+
+pub returns-in_err-marks-clause-counted : goal.returns-in_err-marks-clause-counted
+returns-in_err-marks-clause-counted g c = count_none c.args.rows.now.width c.args.rows.now.rows c.args.k _ c.requires.row (omega arith)
+
+pub returns-in_err-pairs-clause-counted : goal.returns-in_err-pairs-clause-counted
+returns-in_err-pairs-clause-counted g c = count_none c.args.rows.now.width c.args.rows.now.rows c.args.k _ c.requires.row (omega arith)
+
+pub returns-in_err-lines-clause-counted : goal.returns-in_err-lines-clause-counted
+returns-in_err-lines-clause-counted g c =
+    count_line c.args.rows.now.width c.args.rows.now.rows c.args.k c.args.cone.now.lines.rows c.args.cone.now.rays.rows c.row-row.result.now c.in-Some.index (c.line_step.new.steps - c.args.steps.now) c.requires.row c.requires.state.system c.row-row.ensures.value
+    (last_from c.row-row.result.now (vectors c.args.cone.now.lines.rows) c.deref.result.now c.in-Some.index (c.deref.ensures.value ∙ c.in_ok-line_values.ensures.values) c.in-Some.ensures)
+    (omega (arith, c.line_step.ensures.counted))
+
 pub returns-in-Some-clause-counted : goal.returns-in-Some-clause-counted
-returns-in-Some-clause-counted g c = omega (arith, c.line_step.ensures.counted, line_count _ _ _ _ _ _ _ _ c.in_ok-lines.ensures.change)
+returns-in-Some-clause-counted g c =
+    count_line c.args.rows.now.width c.args.rows.now.rows c.args.k c.args.cone.now.lines.rows c.args.cone.now.rays.rows c.row-row.result.now c.in-Some.index (c.line_step.new.steps - c.args.steps.now) c.requires.row c.requires.state.system c.row-row.ensures.value
+    (last_from c.row-row.result.now (vectors c.args.cone.now.lines.rows) c.deref.result.now c.in-Some.index (c.deref.ensures.value ∙ c.in_ok-line_values.ensures.values) c.in-Some.ensures)
+    (omega (arith, c.line_step.ensures.counted))
+
+pub returns-in_err-rays-clause-counted : goal.returns-in_err-rays-clause-counted
+returns-in_err-rays-clause-counted g c =
+    count_pairs c.args.rows.now.width c.args.rows.now.rows c.args.k (vectors c.args.cone.now.lines.rows) (vectors c.args.cone.now.rays.rows) c.row-row.result.now c.deref-3.result.now c.args.cone.now.sat c.in_ok-pairs.pairs.items (c.ray_step.new.steps - c.args.steps.now) c.requires.row c.requires.state.system c.requires.state.zeros c.row-row.ensures.value
+    (c.deref-3.ensures.value ∙ c.in_ok-ray_values.ensures.values)
+    (flat_from c.row-row.result.now (vectors c.args.cone.now.lines.rows) c.deref.result.now (c.deref.ensures.value ∙ c.in_ok-line_values.ensures.values) c.in_default.ensures)
+    c.in_ok-pairs.ensures
+    (omega (arith, c.ray_step.ensures.counted, ap length c.deref-6.ensures.value))
+
+pub returns-clause-counted : goal.returns-clause-counted
+returns-clause-counted g c =
+    count_pairs c.args.rows.now.width c.args.rows.now.rows c.args.k (vectors c.args.cone.now.lines.rows) (vectors c.args.cone.now.rays.rows) c.row-row.result.now c.deref-3.result.now c.args.cone.now.sat c.in_ok-pairs.pairs.items (c.ray_step.new.steps - c.args.steps.now) c.requires.row c.requires.state.system c.requires.state.zeros c.row-row.ensures.value
+    (c.deref-3.ensures.value ∙ c.in_ok-ray_values.ensures.values)
+    (flat_from c.row-row.result.now (vectors c.args.cone.now.lines.rows) c.deref.result.now (c.deref.ensures.value ∙ c.in_ok-line_values.ensures.values) c.in_default.ensures)
+    c.in_ok-pairs.ensures
+    (omega (arith, c.ray_step.ensures.counted, ap length c.deref-6.ensures.value))
 
 pub returns-in_err-rays-clause-outcome : goal.returns-in_err-rays-clause-outcome
 returns-in_err-rays-clause-outcome g c =

@@ -1,0 +1,94 @@
+-- How many combinations a conversion counts: at each step at most as many as the next system has vectors, also where the step stops early.
+use Rattle.std.specs.Prelude.{◌≡◌, ◌≢◌, ◌-◌, ℕ, ◌+◌, ◌<◌, ◌≤◌, List, [], ◌∷◌, ◌++◌, length, ℤ, pos}
+use Prim.Native.Nat.{suc, zero}
+use Rattle.std.proofs.Common.{refl, sym, ap, ◌∙◌, subst, arith, inl, inr}
+use Rattle.std.proofs.lemmas.List.{length_push, get_or_append_left, get_or_push}
+use Rattle.std.proofs.lemmas.List.Sums.{sum_by_push}
+use Rattle.std.proofs.lemmas.Bool.{cases_lt}
+use Rattle.row_core.specs.Vectors.{dot}
+use Rattle.row_core.specs.Lists.{Row, row_at, is_eq_at}
+use Rattle.sat_matrix.specs.Tables.{Table}
+use Rattle.cone_laws.specs.Cones.{Upto}
+use Rattle.cone_laws.specs.Canon.{vector_at, IsSystem}
+use Rattle.cone_laws.specs.Steps.{IsLastCrossing, pair_at}
+use Rattle.cone_laws.specs.SystemLaws.{HasSystem, HasSystemOf, AreAllCrossings}
+use Rattle.cone_laws.proofs.StepExistence.{every_prefix, line_step_count, ray_step_count}
+use Rattle.chernikova.specs.Systems.{vectors, values_on, IsZeroTable}
+use Rattle.chernikova.specs.Changes.{AreAllCrosses}
+use Rattle.chernikova.specs.Conversion.{IsCountedUpto}
+use Rattle.chernikova.proofs.VectorLemmas.{length-vectors}
+use Rattle.chernikova.proofs.StateLemmas.{crossing_from, cross_from}
+use Rattle.chernikova.proofs.NextStates.{row_is_at}
+
+-- ---- one step
+-- nothing was counted
+pub count_none : (width : ℕ) (rows : List Row) (k number : ℕ) → k < length rows → number ≡ 0 → HasSystemOf width rows (k + 1) number
+count_none width rows k number below e = from_system (every_prefix width rows (k + 1) (omega arith))
+  where
+    from_system : HasSystem width rows (k + 1) → HasSystemOf width rows (k + 1) number
+    from_system h = record { lines = h.lines; rays = h.rays; system = h.system; bound = omega (arith, e) }
+
+-- a step with a line
+pub count_line : (width : ℕ) (rows : List Row) (k : ℕ) (lines rays : List Row) (a : List ℤ) (index number : ℕ) → k < length rows → IsSystem (Upto width rows k) (vectors lines) (vectors rays) → a ≡ row_at rows k → IsLastCrossing a (vectors lines) index → number + 1 ≤ length lines + length rays → HasSystemOf width rows (k + 1) number
+count_line width rows k lines rays a index number below s e crossing bound =
+    line_step_count width rows k (row_at rows k, is_eq_at rows k) (vectors lines) (vectors rays) index number (row_is_at rows k below) s crossing.below
+    (subst (λ (b : List ℤ). dot b (vector_at (vectors lines) index) ≢ pos 0) e crossing.crosses)
+    (omega (arith, bound, length-vectors lines, length-vectors rays))
+
+-- a step with pairs of rays
+pub count_pairs : (width : ℕ) (rows : List Row) (k : ℕ) (lines rays : List (List ℤ)) (a values : List ℤ) (table : Table) (pairs : List (ℕ × ℕ)) (number : ℕ) → k < length rows → IsSystem (Upto width rows k) lines rays → IsZeroTable rows k rays table → a ≡ row_at rows k → values ≡ values_on a rays → ((i : ℕ) → i < length lines → dot a (vector_at lines i) ≡ pos 0) → AreAllCrosses values table pairs → number ≤ length pairs → HasSystemOf width rows (k + 1) number
+count_pairs width rows k lines rays a values table pairs number below s zeros e ev flat crosses bound =
+    ray_step_count width rows k (row_at rows k, is_eq_at rows k) lines rays pairs number (row_is_at rows k below) s
+    (subst (λ (b : List ℤ). (i : ℕ) → i < length lines → dot b (vector_at lines i) ≡ pos 0) e flat)
+    (subst (λ (b : List ℤ). AreAllCrossings rows k b rays pairs) e all) bound
+  where
+    on_rays : AreAllCrosses (values_on a rays) table pairs
+    on_rays = subst (λ (vs : List ℤ). AreAllCrosses vs table pairs) ev crosses
+
+    all : AreAllCrossings rows k a rays pairs
+    all = record {
+      cross = λ i h. crossing_from rows k a rays table (pair_at pairs i).0 (pair_at pairs i).1 zeros (on_rays.each i h);
+      all = λ p n c. on_rays.all p n (cross_from rows k a rays table p n zeros c);
+      distinct = on_rays.distinct;
+    }
+
+-- ---- all steps
+pub counted_none : (width : ℕ) (rows : List Row) (total : ℕ) → total ≡ 0 → IsCountedUpto width rows 0 total
+counted_none width rows total e = record { counts = []; as_many = refl; is_total = sym e; each = λ i h. absurd (omega (arith, h)) }
+
+pub counted_more : (width : ℕ) (rows : List Row) (k total count more : ℕ) → IsCountedUpto width rows k total → HasSystemOf width rows (k + 1) count → more ≡ total + count → IsCountedUpto width rows (k + 1) more
+counted_more width rows k total count more h next is = record {
+  counts = h.counts ++ count ∷ [];
+  as_many = omega (arith, length_push h.counts count, h.as_many);
+  is_total = sum_by_push (λ (n : ℕ). n) h.counts count ∙ ap (λ t. t + count) h.is_total ∙ sym is;
+  each = λ i below. elim (cases_lt i k) [
+    | inl less ↦
+        let P : ℕ → Type 0 = λ c. HasSystemOf width rows (i + 1) c in
+        subst P (sym (get_or_append_left h.counts (count ∷ []) 0 i (omega (arith, h.as_many)))) (h.each i less)
+    | inr at ↦
+        let here : i ≡ k = omega arith in
+        let P : ℕ → Type 0 = λ c. HasSystemOf width rows (i + 1) c in
+        let Q : ℕ → Type 0 = λ m. HasSystemOf width rows (m + 1) count in
+        subst P (sym (get_or_push h.counts count 0 i (omega (arith, h.as_many)))) (subst Q (sym here) next)
+  ];
+}
+
+-- nothing was counted at the further rows
+counted_further : (width : ℕ) (rows : List Row) (k further total : ℕ) → k + further ≤ length rows → IsCountedUpto width rows k total → IsCountedUpto width rows (k + further) total
+counted_further width rows k zero total below h = subst (λ (n : ℕ). IsCountedUpto width rows n total) (let e : k ≡ k + zero = omega arith in e) h
+counted_further width rows k (suc further) total below h =
+    subst (λ (n : ℕ). IsCountedUpto width rows n total) (let e : (k + further) + 1 ≡ k + suc further = omega arith in e)
+    (counted_more width rows (k + further) total 0 total (counted_further width rows k further total (omega arith) h) (count_none width rows (k + further) 0 (omega arith) refl) (omega arith))
+
+pub counted_all : (width : ℕ) (rows : List Row) (k total : ℕ) → k ≤ length rows → IsCountedUpto width rows k total → IsCountedUpto width rows (length rows) total
+counted_all width rows k total below h =
+    subst (λ (n : ℕ). IsCountedUpto width rows n total) (let e : k + (length rows - k) ≡ length rows = omega arith in e)
+    (counted_further width rows k (length rows - k) total (omega arith) h)
+
+-- no row was taken in
+pub counted_start : (width : ℕ) (rows : List Row) (total : ℕ) → total ≡ 0 → IsCountedUpto width rows (length rows) total
+counted_start width rows total e = counted_all width rows 0 total (omega arith) (counted_none width rows total e)
+
+-- row k was the last to be taken in
+pub counted_last : (width : ℕ) (rows : List Row) (k total count more : ℕ) → k < length rows → IsCountedUpto width rows k total → HasSystemOf width rows (k + 1) count → more ≡ total + count → IsCountedUpto width rows (length rows) more
+counted_last width rows k total count more below h next is = counted_all width rows (k + 1) more (omega arith) (counted_more width rows k total count more h next is)
