@@ -1,7 +1,5 @@
-use Rattle.std.specs.Prelude.{◌≡◌, ◌≢◌, ℕ, ◌+◌, ◌<◌, ◌≤◌, ◌⊎◌, List, length, ℤ, pos, slice_index_or, Contains}
-use Rattle.std.proofs.Common.{refl, sym, ap, ◌∙◌, subst, arith, inl, inr}
-use Rattle.row_core.specs.Vectors.{dot}
-use Rattle.row_core.specs.Lists.{Row, row_at}
+use Rattle.std.specs.Prelude.{◌≡◌, ℕ, ◌+◌, ◌<◌, List, length, ℤ, pos, slice_index_or}
+use Rattle.std.proofs.Common.{sym, ap, ◌∙◌, subst, arith}
 use Rattle.cone_laws.specs.Canon.{vector_at}
 use Rattle.cone_laws.specs.Leaves.{CombinationLeaves}
 use Rattle.chernikova.specs.declared.fault.Fault.{Fault}
@@ -9,7 +7,7 @@ use Rattle.chernikova.specs.declared.fault.Fault.TheVariants.{Memory, Dot, Combi
 use Rattle.chernikova.specs.declared.fault.Part.{Part}
 use Rattle.chernikova.specs.declared.fault.Part.TheVariants.{Lines, Rays}
 use Rattle.chernikova.specs.declared.fault.Place.{Place}
-use Rattle.chernikova.specs.Faults.{IsLowerFault, IsOtherFault, IsLineFault, IsPlace, vector_of, value_of, part_of, part_values}
+use Rattle.chernikova.specs.Faults.{IsLowerFault, IsOtherFault, IsLineFault, part_of, part_values}
 
 -- a fault below the index
 pub other_from_below : (u : ℤ) (index : ℕ) (line values : List ℤ) (vs : List (List ℤ)) (fault : Fault) → index < length vs → IsLowerFault u index line Lines 0 index values vs fault → IsOtherFault u index line values vs fault

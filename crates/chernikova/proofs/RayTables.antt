@@ -1,21 +1,21 @@
-use Rattle.std.specs.Prelude.{◌≡◌, ◌≢◌, ℕ, zero, suc, ◌+◌, ◌-◌, ◌<◌, ◌≤◌, ◌↔◌, Bool, true, false, ◌&&◌, List, [], ◌∷◌, ◌++◌, length, map, replicate, IsTrue, ℤ, pos, negsuc, neg_ℤ, ◌+ℤ◌, ◌-ℤ◌, ◌*ℤ◌, ◌<ℤ◌, ◌≤ℤ◌}
+use Rattle.std.specs.Prelude.{◌≡◌, ◌≢◌, ℕ, zero, suc, ◌+◌, ◌-◌, ◌<◌, ◌↔◌, Bool, true, false, ◌&&◌, List, [], ◌∷◌, ◌++◌, length, map, replicate, IsTrue, ℤ, pos, neg_ℤ, ◌+ℤ◌, ◌-ℤ◌, ◌*ℤ◌, ◌<ℤ◌, ◌≤ℤ◌}
 use Rattle.std.specs.Ordering.{int_eq}
 use Rattle.std.proofs.Common.{refl, sym, ap, ◌∙◌, subst, arith, inl, inr, get_or, set, length-append}
-use Rattle.std.proofs.lemmas.Bool.{cases_lt, false≢true, eqb-true}
+use Rattle.std.proofs.lemmas.Bool.{cases_lt, false≢true}
 use Rattle.std.proofs.lemmas.Bool.Decides.{Decides-int_eq}
 use Rattle.std.proofs.lemmas.Int.{ints}
-use Rattle.std.proofs.lemmas.List.{get_or-map, length-map, get_or_append_left, get_or-append-add, length-set, length-replicate, get_or-set_same, get_or-set_other}
+use Rattle.std.proofs.lemmas.List.{get_or-map, get_or_append_left, get_or-append-add, length-set, get_or-set_same, get_or-set_other}
 use Rattle.row_core.specs.Vectors.{cell, dot}
 use Rattle.row_core.specs.Lists.{Row, row_at}
 use Rattle.sat_matrix.specs.Tables.{Table, bits_of, conjunction, marked}
 use Rattle.sat_matrix.proofs.Flat.{length-conjunction}
 use Rattle.cone_laws.specs.Canon.{vector_at}
 use Rattle.cone_laws.specs.Steps.{sign, pair_at, Pointwise, IsPair}
-use Rattle.cone_laws.proofs.Ring.{ring, mul-zero, neg-mul, zero_of_mul, mul-at_least_zero, mul-positive, by_sign}
+use Rattle.cone_laws.proofs.Ring.{ring, mul-zero, neg-mul, zero_of_mul, mul-at_least_zero, by_sign}
 use Rattle.cone_laws.proofs.UptoRows.{IsSumOf, dot_sum}
 use Rattle.chernikova.specs.Combinations.{IsCombined}
 use Rattle.chernikova.specs.Systems.{vectors, values_on, TellsZeros, IsZeroTable}
-use Rattle.chernikova.specs.Tables.{HasColumn, HasPairs, HasRayStep}
+use Rattle.chernikova.specs.Tables.{HasRayStep}
 use Rattle.chernikova.specs.Changes.{value_at, AreAllCrosses, IsRayChange}
 use Rattle.chernikova.proofs.FactorLemmas.{combined_along, sign_above, magnitude-positive}
 use Rattle.chernikova.proofs.VectorLemmas.{length-vectors, vector_at-vectors}

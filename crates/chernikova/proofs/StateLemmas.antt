@@ -1,4 +1,4 @@
-use Rattle.std.specs.Prelude.{◌≡◌, ◌≢◌, ℕ, zero, suc, ◌+◌, ◌-◌, ◌<◌, ◌≤◌, ◌↔◌, Bool, true, false, cond, List, [], ◌∷◌, ◌++◌, length, map, filter, remove, replicate, IsTrue, ℤ, pos, neg_ℤ, ◌+ℤ◌, ◌-ℤ◌, ◌*ℤ◌, ◌<ℤ◌, ◌≤ℤ◌, unsigned_abs, slice_index_or, Contains, if◌then◌else◌}
+use Rattle.std.specs.Prelude.{◌≡◌, ◌≢◌, ℕ, zero, suc, ◌+◌, ◌-◌, ◌<◌, ◌↔◌, Bool, true, false, cond, List, [], ◌∷◌, ◌++◌, length, map, filter, remove, replicate, IsTrue, ℤ, pos, neg_ℤ, ◌+ℤ◌, ◌-ℤ◌, ◌*ℤ◌, ◌<ℤ◌, unsigned_abs, if◌then◌else◌}
 use Rattle.std.proofs.Common.{refl, sym, ap, ◌∙◌, subst, arith, inl, inr, get_or, set}
 use Rattle.std.proofs.lemmas.Bool.{cases_lt, false≢true}
 use Rattle.std.proofs.lemmas.Int.{ints}
@@ -6,16 +6,16 @@ use Rattle.std.proofs.lemmas.List.{get_or-map, get_or_default, length-map, appen
 use Rattle.std.proofs.lemmas.List.Edits.{length-remove, get_or-remove_below, get_or-remove_above}
 use Rattle.row_core.specs.Vectors.{cell, dot, scale}
 use Rattle.row_core.specs.Lists.{Row, row_at}
-use Rattle.sat_matrix.specs.Tables.{Table, bits_of, bit_at, marked, HasThird, IsThird}
+use Rattle.sat_matrix.specs.Tables.{Table, bits_of, marked, HasThird}
 use Rattle.cone_laws.specs.Canon.{vector_at}
-use Rattle.cone_laws.specs.Steps.{sign, pair_at, stays, Pointwise, IsLowered, IsLastCrossing, IsLineStep, IsMade, IsMadeOf, IsBetween, NoThird, IsOpposite, IsCrossing, IsRayStep, upward}
-use Rattle.cone_laws.proofs.Ring.{ring, mul-positive, mul-zero, neg-mul, zero_of_mul}
+use Rattle.cone_laws.specs.Steps.{sign, pair_at, stays, Pointwise, IsLowered, IsLastCrossing, IsLineStep, IsMade, IsMadeOf, NoThird, IsCrossing, IsRayStep, upward}
+use Rattle.cone_laws.proofs.Ring.{ring, mul-zero, neg-mul, zero_of_mul}
 use Rattle.cone_laws.proofs.UptoRows.{IsSumOf, dot_sum}
 use Rattle.chernikova.specs.Combinations.{IsCombined}
 use Rattle.chernikova.specs.Systems.{vectors, values_on, TellsZeros, IsZeroTable}
 use Rattle.cone_laws.proofs.Columns.{dot-scale}
-use Rattle.chernikova.specs.Tables.{HasColumn, HasPairs, HasLineStep, HasRayStep}
-use Rattle.chernikova.specs.Changes.{value_at, AreLowered, AreOthersLowered, with_upward, IsLineChange, IsPairAt, IsCross, AreAllCrosses, IsPairCombined, AreMade, IsRayChange}
+use Rattle.chernikova.specs.Tables.{HasLineStep}
+use Rattle.chernikova.specs.Changes.{value_at, AreLowered, AreOthersLowered, with_upward, IsLineChange, IsCross, AreAllCrosses, IsRayChange}
 use Rattle.chernikova.proofs.FactorLemmas.{combined_along, sign_above, magnitude-positive, magnitude_above, sign_times}
 use Rattle.chernikova.proofs.VectorLemmas.{length-vectors, vector_at-vectors, vectors_push}
 

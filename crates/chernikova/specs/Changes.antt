@@ -2,7 +2,6 @@ use Rattle.std.specs.Prelude.{◌≡◌, ◌≢◌, ℕ, ◌+◌, ◌-◌, ◌<�
 use Rattle.row_core.specs.Vectors.{scale}
 use Rattle.row_core.specs.Lists.{Row, Rows, row_at}
 use Rattle.sat_matrix.specs.Tables.{Table, HasThird, marked}
-use Rattle.cone_laws.specs.Canon.{vector_at}
 use Rattle.cone_laws.specs.Steps.{sign, pair_at}
 use Rattle.chernikova.specs.Combinations.{IsCombined}
 use Rattle.chernikova.specs.Systems.{vectors, AreMarked}

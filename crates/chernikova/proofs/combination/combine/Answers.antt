@@ -1,6 +1,5 @@
-use Rattle.std.specs.Prelude.{◌≡◌, ℤ}
 use Rattle.std.specs.Int.{w128}
-use Rattle.std.proofs.Common.{sym, ap, ◌∙◌, to_z, of_z, arith}
+use Rattle.std.proofs.Common.{arith}
 use Rattle.std.proofs.lemmas.Result.{err_from_is_err_and}
 use Rattle.std.proofs.lemmas.Int.{to_z-of_z}
 use mir.Val.{SFits}

@@ -1,8 +1,7 @@
 use Rattle.std.specs.Prelude.{◌≡◌, ◌<◌, ◌^◌, ℕ, pos, ℤ, ◌<ℤ◌, unsigned_abs}
 use Rattle.std.specs.Int.{IsGcd, w128}
-use Rattle.std.proofs.Common.{arith, sym, ap, subst, ◌∙◌, to_z}
-use Rattle.std.proofs.lemmas.Int.{ints, to_z-of_z, fits_signed_from_abs}
-use mir.Val.{SFits}
+use Rattle.std.proofs.Common.{arith, sym, ap, subst, ◌∙◌}
+use Rattle.std.proofs.lemmas.Int.{ints, fits_signed_from_abs}
 use Rattle.row_core.specs.Range.{InRange}
 use Rattle.row_core.proofs.ContentLemmas.{gcd_below}
 use Rattle.chernikova.proofs.FactorLemmas.{gcd_positive, magnitude_above, back, back_pos}

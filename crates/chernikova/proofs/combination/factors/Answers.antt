@@ -1,9 +1,8 @@
-use Rattle.std.specs.Prelude.{◌≡◌, ℤ, pos, ◌<ℤ◌, ◌*ℤ◌, neg_ℤ, unsigned_abs}
+use Rattle.std.specs.Prelude.{neg_ℤ}
 use Rattle.std.specs.Int.{w128}
-use Rattle.std.proofs.Common.{sym, ap, ◌∙◌, to_z, of_z}
 use Rattle.std.proofs.lemmas.Int.{to_z-of_z}
 use mir.Val.{SFits}
-use Rattle.chernikova.proofs.FactorLemmas.{factors_above, factors_below, factors_again, back, fits, above_zero, below_zero}
+use Rattle.chernikova.proofs.FactorLemmas.{factors_above, factors_below, factors_again, fits, above_zero, below_zero}
 use Rattle.chernikova.proofs.combination.factors.Goals as goal
 
 pub quotient-left-requires-clause-divides : goal.quotient-left-requires-clause-divides

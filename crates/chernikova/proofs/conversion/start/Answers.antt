@@ -1,5 +1,4 @@
-use Rattle.std.specs.Prelude.{◌≡◌, false, List, []}
-use Rattle.std.proofs.Common.{sym}
+use Rattle.std.specs.Prelude.{◌≡◌, false, []}
 use Rattle.std.proofs.lemmas.List.Elements.{All-same}
 use Rattle.row_core.specs.Lists.{Row}
 use Rattle.chernikova.proofs.ChangeLemmas.{marked_none}

@@ -1,4 +1,4 @@
-use Rattle.std.specs.Prelude.{◌≡◌, ℤ, pos}
+use Rattle.std.specs.Prelude.{◌≡◌, pos}
 use Rattle.std.specs.Int.{w128}
 use Rattle.std.proofs.Common.{sym, ap, ◌∙◌, to_z}
 use Rattle.chernikova.proofs.FactorLemmas.{back}

@@ -1,16 +1,15 @@
-use Rattle.std.specs.Prelude.{◌≡◌, ℕ, ◌<◌, List, [], ℤ, pos, All}
+use Rattle.std.specs.Prelude.{◌≡◌, ◌<◌, List, [], ℤ, pos}
 use Rattle.std.specs.Int.{w128}
-use Rattle.std.proofs.Common.{◌∙◌, sym, ap, subst, refl, get_or, arith, length}
+use Rattle.std.proofs.Common.{◌∙◌, sym, subst, refl, get_or, arith, length}
 use Rattle.std.proofs.lemmas.Int.{to_z-of_z}
 use Rattle.std.proofs.lemmas.List.Elements.{All-get_or, All-push, All-same}
 use mir.Val.{SFits}
 use Rattle.row_core.specs.Range.{InRange, AllInRange}
 use Rattle.row_core.specs.Content.{IsPrimitive}
-use Rattle.row_core.specs.Lists.{Row, row_at}
+use Rattle.row_core.specs.Lists.{Row}
 use Rattle.cone_laws.specs.Leaves.{CombinationLeaves}
 use Rattle.chernikova.specs.Combinations.{IsCombined}
 use Rattle.chernikova.specs.Faults.{is_lines}
-use Rattle.chernikova.specs.Systems.{vectors}
 use Rattle.chernikova.specs.Changes.{value_at}
 use Rattle.chernikova.proofs.FactorLemmas.{fits}
 use Rattle.chernikova.proofs.VectorLemmas.{vector_at-vectors, length-vectors}

@@ -1,7 +1,6 @@
-use Rattle.std.specs.Prelude.{◌≡◌, ◌+◌, ℕ, ℤ, List, []}
+use Rattle.std.specs.Prelude.{◌+◌, ℕ, List}
 use Rattle.std.specs.Int.{w128}
-use Rattle.std.proofs.Common.{arith, sym, ap, subst, ◌∙◌}
-use Rattle.std.proofs.lemmas.Int.{to_z-of_z}
+use Rattle.std.proofs.Common.{arith, sym, subst, ◌∙◌}
 use Rattle.std.proofs.lemmas.Result.{err_from_is_err_and}
 use mir.Val.{SFits}
 use Rattle.row_core.specs.Lists.{Row}
@@ -9,7 +8,7 @@ use Rattle.chernikova.specs.Changes.{AreLowered}
 use Rattle.chernikova.proofs.FactorLemmas.{fits}
 use Rattle.chernikova.proofs.VectorLemmas.{length-vectors}
 use Rattle.chernikova.proofs.FaultLemmas.{other_from_below, other_from_above}
-use Rattle.chernikova.proofs.ChangeLemmas.{others_from_ranges, marked_none}
+use Rattle.chernikova.proofs.ChangeLemmas.{others_from_ranges}
 use Rattle.chernikova.proofs.line_step.lowered_lines.Goals as goal
 
 pub returns-in_err-lower_range-clause-lowered : goal.returns-in_err-lower_range-clause-lowered

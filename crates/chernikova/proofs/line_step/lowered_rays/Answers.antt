@@ -1,8 +1,7 @@
-use Rattle.std.specs.Prelude.{◌≡◌, ◌+◌, ℕ, ℤ, List, [], length}
-use Rattle.std.proofs.Common.{arith, sym, ap, subst, ◌∙◌}
+use Rattle.std.specs.Prelude.{ℕ, List, length}
+use Rattle.std.proofs.Common.{subst}
 use Rattle.std.proofs.lemmas.Result.{err_from_is_err_and}
 use Rattle.row_core.specs.Lists.{Row}
-use Rattle.chernikova.specs.declared.fault.Fault.{Fault}
 use Rattle.chernikova.specs.declared.fault.Part.TheVariants.{Rays}
 use Rattle.chernikova.specs.Systems.{vectors}
 use Rattle.chernikova.specs.Faults.{IsLowerFault}

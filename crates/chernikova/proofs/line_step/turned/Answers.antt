@@ -1,8 +1,8 @@
 use Rattle.std.specs.Int.{w128}
-use Rattle.std.proofs.Common.{sym, ap, ◌∙◌}
+use Rattle.std.proofs.Common.{◌∙◌}
 use Rattle.std.proofs.lemmas.Int.{to_z-of_z}
 use mir.Val.{SFits}
-use Rattle.chernikova.proofs.FactorLemmas.{fits, back, above_zero, below_zero, sign_above, sign_below}
+use Rattle.chernikova.proofs.FactorLemmas.{back, above_zero, below_zero, sign_above, sign_below}
 use Rattle.chernikova.proofs.line_step.turned.Goals as goal
 
 pub returns-then-value-gt0-clause-value : goal.returns-then-value-gt0-clause-value

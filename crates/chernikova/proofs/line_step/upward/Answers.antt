@@ -1,6 +1,6 @@
-use Rattle.std.specs.Prelude.{ℤ, pos}
+use Rattle.std.specs.Prelude.{pos}
 use Rattle.std.specs.Int.{w128}
-use Rattle.std.proofs.Common.{◌∙◌, get_or, arith}
+use Rattle.std.proofs.Common.{get_or, arith}
 use Rattle.std.proofs.lemmas.Int.{to_z-of_z}
 use Rattle.std.proofs.lemmas.List.Elements.{All-get_or, All-push, All-same}
 use mir.Val.{SFits}

@@ -1,6 +1,6 @@
-use Rattle.std.specs.Prelude.{◌≡◌, ◌<◌, ℤ, pos, List, length}
+use Rattle.std.specs.Prelude.{ℤ, pos, List}
 use Rattle.std.specs.Int.{w128}
-use Rattle.std.proofs.Common.{sym, subst, ◌∙◌, ap, arith, refl, get_or}
+use Rattle.std.proofs.Common.{sym, subst, ◌∙◌, arith, refl, get_or}
 use Rattle.std.proofs.lemmas.Int.{to_z-of_z}
 use Rattle.std.proofs.lemmas.List.Elements.{All-get_or}
 use mir.Val.{SFits}
@@ -8,7 +8,6 @@ use Rattle.row_core.specs.Range.{InRange}
 use Rattle.cone_laws.specs.Canon.{vector_at}
 use Rattle.cone_laws.specs.Leaves.{CombinationLeaves}
 use Rattle.chernikova.specs.Systems.{vectors}
-use Rattle.chernikova.specs.Changes.{value_at}
 use Rattle.chernikova.proofs.FactorLemmas.{fits}
 use Rattle.chernikova.proofs.VectorLemmas.{vector_at-vectors}
 use Rattle.chernikova.proofs.ray_step.combine_pair.Goals as goal

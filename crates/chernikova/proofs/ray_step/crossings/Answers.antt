@@ -1,12 +1,12 @@
-use Rattle.std.specs.Prelude.{◌≡◌, ◌+◌, ℕ, List, ℤ, pos, ◌<ℤ◌}
+use Rattle.std.specs.Prelude.{◌+◌, ℕ, List, pos}
 use Rattle.std.specs.Int.{w128}
-use Rattle.std.proofs.Common.{sym, subst, ◌∙◌, ap, arith, get_or}
+use Rattle.std.proofs.Common.{sym, subst, ap, arith, get_or}
 use Rattle.std.proofs.lemmas.Int.{to_z-of_z}
 use Rattle.std.proofs.lemmas.List.Elements.{All-get_or}
 use mir.Val.{SFits}
 use Rattle.row_core.specs.Range.{InRange}
 use Rattle.chernikova.proofs.FactorLemmas.{fits, not_above}
-use Rattle.chernikova.specs.Changes.{value_at, IsCrossesBelow}
+use Rattle.chernikova.specs.Changes.{IsCrossesBelow}
 use Rattle.chernikova.proofs.ChangeLemmas.{crosses_none, crosses_pass, crosses_all}
 use Rattle.chernikova.proofs.ray_step.crossings.Goals as goal
 use Rattle.chernikova.proofs.ray_step.crossings.Goals.{then-values-above-gt0+in_ok-push_crossings, else-values-above-gt0}

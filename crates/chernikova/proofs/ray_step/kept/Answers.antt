@@ -1,10 +1,8 @@
-use Rattle.std.specs.Prelude.{◌≡◌, ◌++◌, ◌∷◌, [], List, ℤ, false}
-use Rattle.std.proofs.Common.{sym, subst, ◌∙◌, ap, arith, refl, add-one}
+use Rattle.std.specs.Prelude.{◌≡◌, false}
+use Rattle.std.proofs.Common.{◌∙◌, ap, arith}
 use Rattle.std.proofs.lemmas.List.Elements.{All-same}
-use Rattle.row_core.specs.Lists.{Row, Rows, row_at}
-use Rattle.sat_matrix.proofs.Flat.{marked_skip, marked_take}
-use Rattle.chernikova.specs.Systems.{vectors, AreMarked}
-use Rattle.chernikova.proofs.VectorLemmas.{vectors_push, vector_at-vectors, length-vectors}
+use Rattle.row_core.specs.Lists.{Row, Rows}
+use Rattle.chernikova.specs.Systems.{vectors}
 use Rattle.chernikova.proofs.ChangeLemmas.{marked_push, kept_take, kept_skip}
 use Rattle.chernikova.proofs.ray_step.kept.Goals as goal
 use Rattle.chernikova.proofs.ray_step.kept.Goals.{then-marks-index+in_ok-push, else-marks-index}

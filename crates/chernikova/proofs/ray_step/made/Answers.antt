@@ -1,10 +1,10 @@
-use Rattle.std.specs.Prelude.{◌≡◌, ℕ, List, ℤ, false}
-use Rattle.std.proofs.Common.{sym, subst, ◌∙◌, ap, arith, drop, length}
+use Rattle.std.specs.Prelude.{◌≡◌, List, ℤ, false}
+use Rattle.std.proofs.Common.{sym, subst, ◌∙◌, arith, drop, length}
 use Rattle.std.proofs.lemmas.List.Elements.{All-same}
 use Rattle.std.proofs.lemmas.List.{take_at}
 use Rattle.cone_laws.specs.Steps.{pair_at}
 use Rattle.row_core.specs.Lists.{Row}
-use Rattle.chernikova.specs.Changes.{AreMade, IsPairCombined}
+use Rattle.chernikova.specs.Changes.{IsPairCombined}
 use Rattle.chernikova.proofs.ChangeLemmas.{made_more, marked_push}
 use Rattle.chernikova.proofs.ray_step.made.Goals as goal
 

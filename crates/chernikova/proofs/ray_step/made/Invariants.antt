@@ -1,4 +1,4 @@
-use Rattle.std.proofs.Common.{◌≡◌, ◌≤◌, ◌+◌, take, length, false, vec_len}
+use Rattle.std.proofs.Common.{◌≡◌, ◌≤◌, ◌+◌, take, false, vec_len}
 use Rattle.chernikova.specs.Systems.{AreMarked}
 use Rattle.chernikova.specs.Changes.{AreMade}
 use Rattle.chernikova.proofs.ray_step.made.Given as goal

@@ -1,5 +1,5 @@
 use Rattle.std.specs.Prelude.{◌≡◌, false}
-use Rattle.std.proofs.Common.{sym, subst, ◌∙◌, ap, arith}
+use Rattle.std.proofs.Common.{◌∙◌, ap, arith}
 use Rattle.std.proofs.lemmas.List.Elements.{All-same}
 use Rattle.row_core.specs.Lists.{Row}
 use Rattle.chernikova.specs.Systems.{vectors}

@@ -1,7 +1,7 @@
-use Rattle.std.specs.Prelude.{◌≡◌, ◌+◌, ℕ, List, IsTrue}
-use Rattle.std.proofs.Common.{sym, subst, ◌∙◌, ap, arith, false}
+use Rattle.std.specs.Prelude.{◌+◌, ℕ, List}
+use Rattle.std.proofs.Common.{sym, subst, ◌∙◌, ap, arith}
 use Rattle.std.proofs.lemmas.Bool.{false≢true}
-use Rattle.chernikova.specs.Changes.{IsCross, IsCrossesUpto}
+use Rattle.chernikova.specs.Changes.{IsCrossesUpto}
 use Rattle.chernikova.proofs.ChangeLemmas.{crosses_start, crosses_push, crosses_skip, crosses_end}
 use Rattle.chernikova.proofs.ray_step.push_crossings.Goals as goal
 use Rattle.chernikova.proofs.ray_step.push_crossings.Goals.{then-cross+in_ok-push, else-cross}

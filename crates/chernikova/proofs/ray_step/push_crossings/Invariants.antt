@@ -1,5 +1,3 @@
-use Rattle.std.proofs.Common.{◌≡◌, ◌<◌, ℕ}
-use Rattle.std.specs.Prelude.{Contains}
 use Rattle.chernikova.specs.Changes.{IsCrossesUpto}
 use Rattle.chernikova.proofs.ray_step.push_crossings.Given as goal
 

@@ -1,5 +1,5 @@
 use Rattle.std.proofs.Common.{◌≡◌, ◌<◌, ℕ, length, arith, subst}
-use Rattle.std.specs.Prelude.{◌≢◌, ℤ, pos, slice_index_or, MatchOption}
+use Rattle.std.specs.Prelude.{◌≢◌, pos, slice_index_or, MatchOption}
 use Rattle.chernikova.proofs.values.last_crossing.Goals as goal
 
 pub returns : goal.returns

@@ -1,6 +1,6 @@
 use Rattle.std.specs.Prelude.{◌≡◌, ◌∷◌, [], ◌++◌, List, ℤ}
 use Rattle.std.specs.Int.{w128}
-use Rattle.std.proofs.Common.{sym, ap, ◌∙◌, arith, subst, take}
+use Rattle.std.proofs.Common.{sym, ap, ◌∙◌, arith, take}
 use Rattle.std.proofs.lemmas.Int.{to_z-of_z}
 use Rattle.std.proofs.lemmas.List.Elements.{All-push, All-same}
 use mir.Val.{SFits}

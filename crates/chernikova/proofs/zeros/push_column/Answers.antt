@@ -1,5 +1,5 @@
-use Rattle.std.specs.Prelude.{◌≡◌, ℕ}
-use Rattle.std.proofs.Common.{sym, subst, ◌∙◌, arith}
+use Rattle.std.specs.Prelude.{ℕ}
+use Rattle.std.proofs.Common.{sym, subst, arith}
 use Rattle.chernikova.proofs.TableLemmas.{IsColumnUpto, column_start, column_more, column_end}
 use Rattle.chernikova.proofs.zeros.push_column.Goals as goal
 

@@ -3,7 +3,7 @@ use Rattle.std.proofs.Common.{refl, sym, ap, subst, ◌∙◌, set, take, arith}
 use Rattle.sat_matrix.specs.Tables.{Table, bits_of, conjunction}
 use Rattle.cone_laws.specs.Steps.{pair_at}
 use Rattle.chernikova.specs.Tables.{HasPairs}
-use Rattle.chernikova.proofs.TableLemmas.{pairs_start, pairs_more}
+use Rattle.chernikova.proofs.TableLemmas.{pairs_more}
 use Rattle.chernikova.proofs.zeros.push_pairs.Goals as goal
 
 pub loop-above-preserved : goal.loop-above-preserved

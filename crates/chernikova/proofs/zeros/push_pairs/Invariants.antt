@@ -1,4 +1,4 @@
-use Rattle.std.proofs.Common.{◌≡◌, ◌<◌, ◌≤◌, ◌+◌, ◌-◌, ℕ, length, true, take}
+use Rattle.std.proofs.Common.{◌≤◌, ◌+◌, length, take}
 use Rattle.chernikova.specs.Tables.{HasPairs}
 use Rattle.chernikova.proofs.zeros.push_pairs.Given as goal
 

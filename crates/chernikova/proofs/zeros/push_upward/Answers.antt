@@ -1,4 +1,4 @@
-use Rattle.std.specs.Prelude.{◌≡◌, ◌-◌, ◌++◌, ◌∷◌, [], ℕ, Bool, List, true, false, replicate, length}
+use Rattle.std.specs.Prelude.{◌≡◌, ◌-◌, ◌++◌, ◌∷◌, [], ℕ, Bool, List, true, false, replicate}
 use Rattle.std.proofs.Common.{sym, ap, ◌∙◌, set}
 use Rattle.sat_matrix.specs.Tables.{Table, bits_of}
 use Rattle.chernikova.proofs.TableLemmas.{last_written}
