@@ -161,3 +161,115 @@ fn a_script_has_a_limit(rt: HostRuntime) -> Result<(), Fail> {
     }
     Ok(())
 }
+
+// Lines behind one that gives `a` the triangle with the corners (0, 0), (4, 0) and (0, 4), and their replies.
+const LINES: [(&str, &str); 56] = [
+    ("has a:p(A+B)", "yes"),
+    ("\t has\ta\t:\tp(\tA\t+\tB\t)\t ", "yes"),
+    ("has a : p( ( 9 * A ) / 2 )", "no"),
+    ("hasa : p(0)", "fault 1 Syntax 1"),
+    ("has a p(0)", "fault 1 Syntax 1"),
+    ("has a : p (0)", "fault 1 Syntax 1"),
+    ("has a : p(0", "fault 1 Syntax 1"),
+    ("has a : p(0))", "fault 1 Syntax 1"),
+    ("has a : P(0)", "fault 1 Syntax 1"),
+    ("Has a : p(0)", "fault 1 Syntax 1"),
+    ("has a : p(0) # comment", "fault 1 Syntax 1"),
+    ("has a : p(00*A + 3*B)", "yes"),
+    ("has a : p(003*A)", "yes"),
+    ("has a : p(A*3)", "fault 1 Syntax 1"),
+    ("has a : p(A/2)", "fault 1 Syntax 1"),
+    ("has a : p((A)/0)", "fault 1 Syntax 1"),
+    ("has a : p((A)/000)", "fault 1 Syntax 1"),
+    ("has a : p((8*A)/02)", "yes"),
+    ("has a : p(-A)", "no"),
+    ("has a : p(A - A)", "yes"),
+    ("has a : p(- A + 2*A)", "yes"),
+    ("has a : p(0 + A)", "fault 1 Syntax 1"),
+    ("has a : p(A + 1)", "fault 1 Syntax 1"),
+    ("has a : p(A0)", "fault 1 Syntax 1"),
+    ("has a : p(A01)", "fault 1 Syntax 1"),
+    ("has a : p(a1)", "fault 1 Syntax 1"),
+    ("has a : p(Ä)", "fault 1 Syntax 1"),
+    ("has a : p(\0)", "fault 1 Syntax 1"),
+    ("has a : p(A1)", "fault 10 OutOfRange"),
+    (
+        "has a : p(C + 170141183460469231731687303715884105728*A)",
+        "fault 10 OutOfRange",
+    ),
+    ("has b : p(C)", "fault 2 UnknownName"),
+    (
+        "has a : p(170141183460469231731687303715884105727*A - A + A)",
+        "no",
+    ),
+    (
+        "has a : p(170141183460469231731687303715884105727*A + A - A)",
+        "fault 8 NumberTooLarge",
+    ),
+    (
+        "has a : p((A)/170141183460469231731687303715884105728)",
+        "fault 8 NumberTooLarge",
+    ),
+    (
+        "has a : p((A)/170141183460469231731687303715884105727)",
+        "overflow dot step 0 column 3 left -1 -1 4 right 1 0 170141183460469231731687303715884105727",
+    ),
+    (
+        "has aaaaaaaaaabbbbbbbbbbccccccccccdd : p(0)",
+        "fault 2 UnknownName",
+    ),
+    (
+        "has aaaaaaaaaabbbbbbbbbbccccccccccddd : p(0)",
+        "fault 1 Syntax 1",
+    ),
+    ("cons c closed 31 : E1 = 0", "ok"),
+    ("cons c closed 31 : F1 = 0", "fault 10 OutOfRange"),
+    ("cons c closed 32 : A = 0", "fault 1 Syntax 1"),
+    ("cons c closed 00031 : A = 0", "ok"),
+    ("cons c closed 1 : A = 1 , A>=0,A<=5", "ok"),
+    ("cons c closed 1 : A > 0", "fault 1 Syntax 1"),
+    ("cons c closed 1 : true", "fault 1 Syntax 1"),
+    ("cons c nnc 1 : A = 0", "fault 1 Syntax 1"),
+    ("cons c closed 1 :", "fault 1 Syntax 1"),
+    ("cons c closed 1 : A = 0,", "fault 1 Syntax 1"),
+    ("cons C closed 1 : A = 0", "fault 1 Syntax 1"),
+    ("cons c closed : A = 0", "fault 1 Syntax 1"),
+    (
+        "cons c closed 1 : 170141183460469231731687303715884105727*A = 0",
+        "ok",
+    ),
+    (
+        "cons c closed 1 : 170141183460469231731687303715884105728*A = 0",
+        "fault 8 NumberTooLarge",
+    ),
+    (
+        "cons c closed 1 : A - A + 170141183460469231731687303715884105727*A >= 0",
+        "ok",
+    ),
+    (
+        "cons a closed 1 : 2*A <= 6, 1 <= A\nhas a : p(3*A)\nhas a : p(4*A)\nhas a : p(0)",
+        "ok\nyes\nno\nno",
+    ),
+    (
+        "cons a closed 1 : A >=\nhas a : p(A + B)",
+        "fault 1 Syntax 1\nyes",
+    ),
+    (
+        "cons a closed 1 : B = 0\nhas a : p(A + B)",
+        "fault 10 OutOfRange\nyes",
+    ),
+    ("cons d closed 0 : 0 >= 1\nhas d : p(0)", "ok\nno"),
+];
+
+#[test]
+fn each_line_has_its_reply(rt: HostRuntime) -> Result<(), Fail> {
+    for (line, reply) in LINES {
+        let script = format!(in rt.alloc();
+            "cons a closed 2 : A >= 0, B >= 0, A + B <= 4\n{line}\n"
+        )?;
+        let (_status, held) = outcome_of(rt.alloc(), &trial_of(script.as_bytes(), 64))?;
+        let expected = format!(in rt.alloc(); "ok\n{reply}\n")?;
+        assert_eq!(rt; held.as_slice(), expected.as_bytes(), "{line}");
+    }
+    Ok(())
+}
