@@ -1,0 +1,5 @@
+use Rattle.nnc_laws.proofs.StrictRows as lemmas
+use Rattle.nnc_laws.proofs.kept_rows_hold.Goals as goal
+
+pub returns : goal.returns
+returns c = lemmas.kept_rows_hold

@@ -1,0 +1,5 @@
+use Rattle.nnc_laws.proofs.StrictRows as lemmas
+use Rattle.nnc_laws.proofs.strict_rows_are_needed.Goals as goal
+
+pub returns : goal.returns
+returns c = lemmas.strict_rows_are_needed
