@@ -24,7 +24,7 @@ use Rattle.nnc_laws.proofs.MarkedSums.{Marks}
 use Rattle.nnc_laws.proofs.SpanMarks.{is_line, LineOf, OtherOf, PointOf, marks_span}
 use Rattle.nnc_laws.proofs.EncodedRows.{remove_insert, length_insert, cell_insert}
 use Rattle.nnc_laws.proofs.PositiveParts.{Found, found}
-use Rattle.nnc_laws.proofs.StrictRows.{skip, cell-remove, sums_columns}
+use Rattle.nnc_laws.proofs.Relaxed.{skip, cell-remove, sums_columns}
 
 -- a property of the rows of all generators, from one of the generators
 from_each : (dim : ℕ) (P : Row → Type 0) (Q : Generator → Type 0) → ((g : Generator) → Q g → All P (encoded_generator dim g)) → (list : List Generator) → All Q list → All P (encoded_generators dim list)

@@ -18,7 +18,10 @@ use Rattle.nnc_laws.specs.DecodedVectors.{place_kind, vector_kind, kind_of, IsLi
 use Rattle.nnc_laws.proofs.MarkedSums.{Marks, marks_one, marks_trans, marks_through, marks_same}
 use Rattle.nnc_laws.proofs.KeptSums.{Both, IsKept, line_span, one_span}
 use Rattle.nnc_laws.proofs.Removals.{Stay}
-use Rattle.nnc_laws.proofs.StrictRows.{relaxed, relaxed_lines, Numbered, PointAt_of, remain_by, remain_all, coded_of_marks, marks_of_coded, point_needed}
+use Rattle.nnc_laws.proofs.Relaxed.{relaxed, relaxed_lines, Numbered, PointAt_of, remain_by}
+use Rattle.nnc_laws.proofs.LeftOutVectors.{remain_all}
+use Rattle.nnc_laws.proofs.CodedPoints.{coded_of_marks, marks_of_coded}
+use Rattle.nnc_laws.proofs.NeededPoints.{point_needed}
 use Rattle.nnc_laws.proofs.SpanMarks.{is_line, LineOf, OtherOf, PointOf, span_marks, marks_span}
 
 -- ---- kinds

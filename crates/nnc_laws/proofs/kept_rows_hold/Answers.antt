@@ -1,4 +1,4 @@
-use Rattle.nnc_laws.proofs.StrictRows as lemmas
+use Rattle.nnc_laws.proofs.LeftOutRows as lemmas
 use Rattle.nnc_laws.proofs.kept_rows_hold.Goals as goal
 
 pub returns : goal.returns

@@ -1,4 +1,4 @@
-use Rattle.nnc_laws.proofs.StrictRows as lemmas
+use Rattle.nnc_laws.proofs.LevelRows as lemmas
 use Rattle.nnc_laws.proofs.level_rows_are_needed.Goals as goal
 
 pub returns : goal.returns

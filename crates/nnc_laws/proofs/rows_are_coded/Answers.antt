@@ -1,4 +1,4 @@
-use Rattle.nnc_laws.proofs.StrictRows as lemmas
+use Rattle.nnc_laws.proofs.CodedRows as lemmas
 use Rattle.nnc_laws.proofs.rows_are_coded.Goals as goal
 
 pub returns : goal.returns

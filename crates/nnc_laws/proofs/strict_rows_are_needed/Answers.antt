@@ -1,4 +1,4 @@
-use Rattle.nnc_laws.proofs.StrictRows as lemmas
+use Rattle.nnc_laws.proofs.NeededRows as lemmas
 use Rattle.nnc_laws.proofs.strict_rows_are_needed.Goals as goal
 
 pub returns : goal.returns

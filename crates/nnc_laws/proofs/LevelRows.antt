@@ -1,0 +1,385 @@
+-- A row that is 0 in column e can't be left out.
+use Rattle.std.proofs.Common.{map, ◌≡◌, ◌≢◌, ◌⊎◌, inl, inr, ℕ, zero, suc, ◌+◌, ◌<◌, ◌≤◌, List, [], ◌∷◌, ◌++◌, length, slice_index_or, replicate, filter, not, Bool, true, false, ℤ, pos, negsuc, ◌+ℤ◌, ◌-ℤ◌, ◌*ℤ◌, neg_ℤ, ◌≤ℤ◌, ◌<ℤ◌, All, refl, sym, ap, ◌∙◌, subst, arith}
+use Rattle.std.specs.Prelude.{⊤, remove}
+use mathlib.Core.Bool.{true≢false}
+use Rattle.cone_laws.proofs.LineSteps.{InRest, whole_in_rest}
+use Rattle.std.proofs.lemmas.Int.{ints}
+use Rattle.std.proofs.lemmas.List.{get_or_default}
+use Rattle.std.proofs.Math.Nat.{eq-or-lt_of_le}
+use Rattle.row_core.specs.Vectors.{cell, dot}
+use Rattle.row_core.specs.Lists.{Row}
+use Rattle.row_core.specs.Points.{IsPoint}
+use Rattle.cone_laws.specs.Cones.{Meets, Upto, Spans, negated}
+use Rattle.cone_laws.specs.Canon.{vector_at, IsSystem}
+use Rattle.cone_laws.proofs.Ring.{ring, mul_comm, by_sign, at_least_zero_or_not, mul-zero, mul-at_least_zero, mul-positive, at_least_zero_of_mul, same_or_not}
+use Rattle.cone_laws.proofs.Sums.{V, IsMore, Same, Among, Sums, none, line, ray, SpansBy, sums_one_ray, spans_sums, spans_same, spans_spans, spans_of_multiple}
+use Rattle.cone_laws.proofs.Columns.{value, value_linear, dot_is, dot_comm}
+use Rattle.cone_laws.proofs.Bridge.{columns, In, in_at, to_sums}
+use Rattle.cone_laws.proofs.Instance.{Beside, needed_by_columns, rest_beside}
+use Rattle.cone_laws.proofs.UptoRows.{upto_zero, upto_sum, upto_beside, both_zero}
+use Rattle.cone_laws.proofs.Factors.{All-remove}
+use Rattle.cone_laws.proofs.Existence.{both, cell-both, length-both}
+use Rattle.cone_laws.proofs.Bipolar.{dot-both, admitted_is_spanned}
+use Rattle.nnc_laws.specs.Encoding.{lowered, height_row, bound_row, IsEncodedDual}
+use Rattle.cone_laws.specs.Duality.{lines_of, rays_of}
+use Rattle.std.proofs.lemmas.List.Elements.{All-map, All-filter, filter_passes, All-append, All-cons, All-nil, All-head, All-tail}
+use Rattle.nnc_laws.specs.StrongRows.{HoldsAt, HasVariable, HasNoVariable, LevelRowsAreNeeded}
+use Rattle.nnc_laws.proofs.KeptSums.{one_span, line_span, all_kept}
+use Rattle.nnc_laws.proofs.EncodedRows.{remove_insert, cell_insert, dot_zeros, dot_last, length_replicate}
+use Rattle.nnc_laws.proofs.ClosedRows.{lowered_wide, ray_in, sum_lowered}
+use Rattle.nnc_laws.proofs.InnerPoint.{inner_last, inner_line, inner_on, inner_strict, last_value, last_wide}
+use Rattle.nnc_laws.proofs.LeftOutRows.{times_last}
+use Rattle.nnc_laws.proofs.Relaxed.{Given, Strict, cell-remove, column_cases, last_row, no_factor, positive_least, relaxed, relaxed_lines, replicate_entry, same_height, skip, sum_entry, sum_is}
+use Rattle.nnc_laws.proofs.RowHeights.{height_at_most, height_entry, height_own, no_height_sum, row_line_height}
+
+module _ (dim : ℕ) (gens : List Row) (lines rays : List (List ℤ)) (wide : (j : ℕ) → j < length gens → length (slice_index_or gens j ([], false)).0 ≡ dim + 2) (system : IsSystem (Upto (dim + 2) gens (length gens)) lines rays) where
+  abbrev gen : ℕ → List ℤ
+  gen j = (slice_index_or gens j ([], false)).0
+
+  abbrev D : List ℤ → Type 0
+  D = Upto (dim + 2) gens (length gens)
+
+  module _ (enc : IsEncodedDual dim (Upto (dim + 2) gens (length gens))) where
+    -- ---- a row that is 0 in column e isn't implied by the others
+    -- the row d, and the other rows that are at most 0 in column e
+    abbrev Allowed : ℕ → ℕ → Type 0
+    Allowed i zero = ⊤
+    Allowed i (suc l) = (l < length rays) × (l ≢ i) × (cell (vector_at rays l) dim ≤ℤ pos 0)
+
+    -- a row of the set over a row without column e: below 0 in column e, or 0 there and spanned by the lines and the other rows
+    record IsLifted (i : ℕ) (u : V) : Type 0 where
+      vector : List ℤ
+      member : D vector
+      same : Same u (cell (lowered dim vector))
+      height : (cell vector dim <ℤ pos 0) ⊎ ((cell vector dim ≡ pos 0) × Sums (In lines) (Beside rays i) (cell vector))
+
+    lift_none : (i : ℕ) (u : V) → ((j : ℕ) → u j ≡ pos 0) → IsLifted i u
+    lift_none i u h = record {
+      vector = replicate (dim + 2) (pos 0);
+      member = upto_zero (dim + 2) gens (length gens) (replicate (dim + 2) (pos 0)) (length_replicate (dim + 2)) (λ m d l. dot_comm (slice_index_or gens m d).0 (replicate (dim + 2) (pos 0)) ∙ dot_zeros (dim + 2) (slice_index_or gens m d).0);
+      same = λ j. h j ∙ sym (cell-remove dim (replicate (dim + 2) (pos 0)) j ∙ replicate_entry (dim + 2) (skip dim j));
+      height = inr (replicate_entry (dim + 2) dim, none (replicate_entry (dim + 2)));
+    }
+
+    less_height : (x k y z : ℤ) → x ≡ k *ℤ y +ℤ z → pos 0 <ℤ k → y <ℤ pos 0 → z ≤ℤ pos 0 → x <ℤ pos 0
+    less_height x k y z e p q r =
+        let h : pos 0 <ℤ (k *ℤ neg_ℤ y) = mul-positive k (neg_ℤ y) p (omega (arith, ints, q)) in
+        let i : k *ℤ neg_ℤ y ≡ neg_ℤ (k *ℤ y) = simp ring in
+        omega (arith, ints, e, h, i, r)
+
+    at_most : (x : ℤ) → (x <ℤ pos 0) ⊎ (x ≡ pos 0) → x ≤ℤ pos 0
+    at_most x (inl h) = omega (arith, ints, h)
+    at_most x (inr h) = omega (arith, ints, h)
+
+    height_most : (i : ℕ) (u : V) (b : IsLifted i u) → cell b.vector dim ≤ℤ pos 0
+    height_most i u b = by_height b.height
+      where
+        by_height : (cell b.vector dim <ℤ pos 0) ⊎ ((cell b.vector dim ≡ pos 0) × Sums (In lines) (Beside rays i) (cell b.vector)) → cell b.vector dim ≤ℤ pos 0
+        by_height (inl h) = at_most (cell b.vector dim) (inl h)
+        by_height (inr h) = at_most (cell b.vector dim) (inr h.0)
+
+    lift_line : (i : ℕ) (v : V) (k : ℤ) (l u : V) → relaxed_lines dim lines l → IsLifted i u → IsMore v k l u → IsLifted i v
+    lift_line i v k l u m b h = record {
+      vector = both (pos 1) b.vector k (vector_at lines m.index);
+      member = upto_beside (dim + 2) gens (length gens) (both (pos 1) b.vector k (vector_at lines m.index)) (pos 1) b.vector k (vector_at lines m.index) (sum_is b.vector k (vector_at lines m.index)) (length-both (pos 1) b.vector k (vector_at lines m.index) (b.member.wide ∙ sym c.0.wide) ∙ c.0.wide) (omega (arith, ints)) b.member (both_zero (dim + 2) gens (length gens) (vector_at lines m.index) c.0 c.1);
+      same = sum_lowered dim gens lines rays wide system v k l u (vector_at lines m.index) b.vector h m.same b.same;
+      height = by_height b.height;
+    }
+      where
+        c : D (vector_at lines m.index) × D (negated (vector_at lines m.index))
+        c = system.generates.lines_within m.index [] m.is
+
+        entry : cell (both (pos 1) b.vector k (vector_at lines m.index)) dim ≡ cell b.vector dim
+        entry = same_height (cell (both (pos 1) b.vector k (vector_at lines m.index)) dim) k (cell (vector_at lines m.index) dim) (cell b.vector dim) (sum_entry b.vector k (vector_at lines m.index) dim) (row_line_height dim gens lines rays wide system enc m.index m.is)
+
+        by_height : (cell b.vector dim <ℤ pos 0) ⊎ ((cell b.vector dim ≡ pos 0) × Sums (In lines) (Beside rays i) (cell b.vector)) → (cell (both (pos 1) b.vector k (vector_at lines m.index)) dim <ℤ pos 0) ⊎ ((cell (both (pos 1) b.vector k (vector_at lines m.index)) dim ≡ pos 0) × Sums (In lines) (Beside rays i) (cell (both (pos 1) b.vector k (vector_at lines m.index))))
+        by_height (inl p) = inl (subst (λ (z : ℤ). z <ℤ pos 0) (sym entry) p)
+        by_height (inr (z, s)) = inr (entry ∙ z, line k (cell (vector_at lines m.index)) (cell b.vector) (in_at lines m.index m.is) s (sum_entry b.vector k (vector_at lines m.index)))
+
+    -- a row of the set with a positive factor more
+    lift_more : (i : ℕ) (v : V) (k : ℤ) (l u : V) (a : List ℤ) → pos 0 <ℤ k → D a → Same l (cell (lowered dim a)) → (b : IsLifted i u) → IsMore v k l u → (cell (both (pos 1) b.vector k a) dim <ℤ pos 0) ⊎ ((cell (both (pos 1) b.vector k a) dim ≡ pos 0) × Sums (In lines) (Beside rays i) (cell (both (pos 1) b.vector k a))) → IsLifted i v
+    lift_more i v k l u a p d e b h height = record {
+      vector = both (pos 1) b.vector k a;
+      member = upto_sum (dim + 2) gens (length gens) (both (pos 1) b.vector k a) (pos 1) b.vector k a (sum_is b.vector k a) (length-both (pos 1) b.vector k a (b.member.wide ∙ sym d.wide) ∙ d.wide) (omega (arith, ints)) (positive_least k p) b.member d;
+      same = sum_lowered dim gens lines rays wide system v k l u a b.vector h e b.same;
+      height = height;
+    }
+
+    lift_ray : (i : ℕ) (v : V) (k : ℤ) (l u : V) → pos 0 <ℤ k → (n : ℕ) → Allowed i n → Same l (relaxed dim rays n) → IsLifted i u → IsMore v k l u → IsLifted i v
+    lift_ray i v k l u p zero m e b h =
+        lift_more i v k l u (bound_row dim).0 p enc.bound
+        (λ j. e j ∙ sym (ap (λ (w : List ℤ). cell w j) (remove_insert dim (last_row dim) (negsuc 0) (omega (arith, last_wide dim gens lines rays wide system enc))))) b h
+        (inl (less_height (cell (both (pos 1) b.vector k (bound_row dim).0) dim) k (cell (bound_row dim).0 dim) (cell b.vector dim) (sum_entry b.vector k (bound_row dim).0 dim) p (below_zero (cell (bound_row dim).0 dim) (cell_insert dim (last_row dim) (negsuc 0) (omega (arith, last_wide dim gens lines rays wide system enc)))) (height_most i u b)))
+      where
+        below_zero : (x : ℤ) → x ≡ negsuc 0 → x <ℤ pos 0
+        below_zero x e = omega (arith, ints, e)
+    lift_ray i v k l u p (suc n) m e b h = by_sign_of (by_sign (cell (vector_at rays n) dim))
+      where
+        by_sign_of : (pos 0 <ℤ cell (vector_at rays n) dim) ⊎ ((cell (vector_at rays n) dim <ℤ pos 0) ⊎ (cell (vector_at rays n) dim ≡ pos 0)) → IsLifted i v
+        by_sign_of (inl q) = absurd (omega (arith, ints, q, m.2))
+        by_sign_of (inr (inl q)) =
+            lift_more i v k l u (vector_at rays n) p (ray_in dim gens lines rays wide system n m.0) e b h
+            (inl (less_height (cell (both (pos 1) b.vector k (vector_at rays n)) dim) k (cell (vector_at rays n) dim) (cell b.vector dim) (sum_entry b.vector k (vector_at rays n) dim) p q (height_most i u b)))
+        by_sign_of (inr (inr q)) = lift_more i v k l u (vector_at rays n) p (ray_in dim gens lines rays wide system n m.0) e b h (by_height b.height)
+          where
+            entry : cell (both (pos 1) b.vector k (vector_at rays n)) dim ≡ cell b.vector dim
+            entry = same_height (cell (both (pos 1) b.vector k (vector_at rays n)) dim) k (cell (vector_at rays n) dim) (cell b.vector dim) (sum_entry b.vector k (vector_at rays n) dim) q
+
+            by_height : (cell b.vector dim <ℤ pos 0) ⊎ ((cell b.vector dim ≡ pos 0) × Sums (In lines) (Beside rays i) (cell b.vector)) → (cell (both (pos 1) b.vector k (vector_at rays n)) dim <ℤ pos 0) ⊎ ((cell (both (pos 1) b.vector k (vector_at rays n)) dim ≡ pos 0) × Sums (In lines) (Beside rays i) (cell (both (pos 1) b.vector k (vector_at rays n))))
+            by_height (inl w) = inl (subst (λ (z : ℤ). z <ℤ pos 0) (sym entry) w)
+            by_height (inr (z, s)) = inr (entry ∙ z, ray k (cell (vector_at rays n)) (cell b.vector) (positive_least k p) (record { index = n; is = (m.0, m.1); same = λ j. refl }) s (sum_entry b.vector k (vector_at rays n)))
+
+    lift_factor : (i : ℕ) (v : V) (k : ℤ) (l u : V) → pos 0 ≤ℤ k → Among (relaxed dim rays) (Allowed i) l → IsLifted i u → IsMore v k l u → (pos 0 <ℤ k) ⊎ ((k <ℤ pos 0) ⊎ (k ≡ pos 0)) → IsLifted i v
+    lift_factor i v k l u q m b h (inl p) = lift_ray i v k l u p m.index m.is m.same b h
+    lift_factor i v k l u q m b h (inr (inl p)) = absurd (omega (arith, ints, p, q))
+    lift_factor i v k l u q m b h (inr (inr p)) = record { vector = b.vector; member = b.member; same = λ j. no_factor (v j) k (l j) (u j) (h j) p ∙ b.same j; height = b.height }
+
+    lift : (i : ℕ) (v : V) → Sums (relaxed_lines dim lines) (Among (relaxed dim rays) (Allowed i)) v → IsLifted i v
+    lift i v (none h) = lift_none i v h
+    lift i v (line k l u m s h) = lift_line i v k l u m (lift i u s) h
+    lift i v (ray k r u p m s h) = lift_factor i v k r u p m (lift i u s) h (by_sign k)
+
+    turned_column : (t x g y z : ℤ) → t *ℤ x ≡ z → y ≡ pos 0 → t *ℤ x ≡ g *ℤ y +ℤ z
+    turned_column t x g y z e f = let h = ap (λ (n : ℤ). g *ℤ n) f ∙ mul-zero g in omega (arith, ints, e, h)
+
+    level_column : (t x g y z : ℤ) → x ≡ pos 0 → y ≡ pos 1 → g ≡ neg_ℤ z → t *ℤ x ≡ g *ℤ y +ℤ z
+    level_column t x g y z e f h =
+        let i = ap (λ (n : ℤ). t *ℤ n) e ∙ mul-zero t in
+        let k = ap (λ (n : ℤ). g *ℤ n) f in
+        omega (arith, ints, i, k, h)
+
+    -- a row with a variable and 0 in column e isn't a sum of the lines, the row d and the other rows that are at most 0 there
+    pub level_row_needed : (i : ℕ) → i < length rays → HasVariable dim (vector_at rays i) → cell (vector_at rays i) dim ≡ pos 0 → ¬ (SpansBy (relaxed_lines dim lines) (Among (relaxed dim rays) (Allowed i)) (relaxed dim rays (suc i)))
+    level_row_needed i h v z s = by_height b.height
+      where
+        b : IsLifted i (λ j. s.times *ℤ relaxed dim rays (suc i) j)
+        b = lift i (λ j. s.times *ℤ relaxed dim rays (suc i) j) s.sums
+
+        at_skip : (k : ℕ) → s.times *ℤ cell (vector_at rays i) (skip dim k) ≡ cell b.vector (skip dim k)
+        at_skip k = ap (λ (n : ℤ). s.times *ℤ n) (sym (cell-remove dim (vector_at rays i) k)) ∙ b.same k ∙ cell-remove dim b.vector k
+
+        with_height : (j : ℕ) → s.times *ℤ cell (vector_at rays i) j ≡ neg_ℤ (cell b.vector dim) *ℤ cell (height_row dim).0 j +ℤ cell b.vector j
+        with_height j = by_column (column_cases dim j)
+          where
+            by_column : (j ≡ dim) ⊎ ((k : ℕ) × (skip dim k ≡ j)) → s.times *ℤ cell (vector_at rays i) j ≡ neg_ℤ (cell b.vector dim) *ℤ cell (height_row dim).0 j +ℤ cell b.vector j
+            by_column (inl e) = subst (λ (n : ℕ). s.times *ℤ cell (vector_at rays i) n ≡ neg_ℤ (cell b.vector dim) *ℤ cell (height_row dim).0 n +ℤ cell b.vector n) (sym e) (level_column s.times (cell (vector_at rays i) dim) (neg_ℤ (cell b.vector dim)) (cell (height_row dim).0 dim) (cell b.vector dim) z (height_own dim gens lines rays wide system enc) refl)
+            by_column (inr (k, e)) = subst (λ (n : ℕ). s.times *ℤ cell (vector_at rays i) n ≡ neg_ℤ (cell b.vector dim) *ℤ cell (height_row dim).0 n +ℤ cell b.vector n) e (turned_column s.times (cell (vector_at rays i) (skip dim k)) (neg_ℤ (cell b.vector dim)) (cell (height_row dim).0 (skip dim k)) (cell b.vector (skip dim k)) (at_skip k) (height_entry dim gens lines rays wide system enc k))
+
+        level_same : cell b.vector dim ≡ pos 0 → (j : ℕ) → s.times *ℤ cell (vector_at rays i) j ≡ cell b.vector j
+        level_same y j = by_column (column_cases dim j)
+          where
+            by_column : (j ≡ dim) ⊎ ((k : ℕ) × (skip dim k ≡ j)) → s.times *ℤ cell (vector_at rays i) j ≡ cell b.vector j
+            by_column (inl e) = subst (λ (n : ℕ). s.times *ℤ cell (vector_at rays i) n ≡ cell b.vector n) (sym e) (ap (λ (n : ℤ). s.times *ℤ n) z ∙ mul-zero s.times ∙ sym y)
+            by_column (inr (k, e)) = subst (λ (n : ℕ). s.times *ℤ cell (vector_at rays i) n ≡ cell b.vector n) e (at_skip k)
+
+        turned_height : (x : ℤ) → x <ℤ pos 0 → pos 0 <ℤ neg_ℤ x
+        turned_height x p = omega (arith, ints, p)
+
+        by_height : (cell b.vector dim <ℤ pos 0) ⊎ ((cell b.vector dim ≡ pos 0) × Sums (In lines) (Beside rays i) (cell b.vector)) → ⊥
+        by_height (inl p) = no_height_sum dim gens lines rays wide system enc i h v s.times (neg_ℤ (cell b.vector dim)) b.vector (turned_height (cell b.vector dim) p) b.member with_height
+        by_height (inr (y, t)) = needed_by_columns lines rays system.irredundant i h (spans_of_multiple s.times (columns rays i) (cell b.vector) s.positive (spans_sums (cell b.vector) t) (λ j. sym (level_same y j)))
+
+    -- ---- a row that is 0 in column e can't be left out
+    -- the first columns have a number other than 0, or not
+    variable_or_not : (a : List ℤ) (n : ℕ) → n ≤ dim → HasVariable dim a ⊎ ((j : ℕ) → j < n → cell a j ≡ pos 0)
+    variable_or_not a zero h = inr (λ j l. absurd (omega arith))
+    variable_or_not a (suc n) h = with_last (variable_or_not a n (omega arith)) (same_or_not (cell a n) (pos 0))
+      where
+        with_last : HasVariable dim a ⊎ ((j : ℕ) → j < n → cell a j ≡ pos 0) → (cell a n ≡ pos 0) ⊎ (cell a n ≢ pos 0) → HasVariable dim a ⊎ ((j : ℕ) → j < suc n → cell a j ≡ pos 0)
+        with_last (inl v) e = inl v
+        with_last (inr z) (inr ne) = inl (record { column = n; below = omega arith; other = ne })
+        with_last (inr z) (inl e) = inr (λ j l. by_place j (eq-or-lt_of_le l))
+          where
+            by_place : (j : ℕ) → (suc j ≡ suc n) ⊎ (suc j < suc n) → cell a j ≡ pos 0
+            by_place j (inl q) = subst (λ (m : ℕ). cell a m ≡ pos 0) (omega arith) e
+            by_place j (inr l) = z j (omega arith)
+
+    -- each other row is a sum of what is allowed
+    row_allowed : (i t : ℕ) → t < length rays → t ≢ i → SpansBy (relaxed_lines dim lines) (Among (relaxed dim rays) (Allowed i)) (relaxed dim rays (suc t))
+    row_allowed i t h ne = by_variable (variable_or_not (vector_at rays t) dim (omega arith))
+      where
+        zero_number : Among (relaxed dim rays) (Allowed i) (relaxed dim rays zero)
+        zero_number = record { index = zero; is = tt; same = λ j. refl }
+
+        entries : HasNoVariable dim (vector_at rays t) → (j : ℕ) → relaxed dim rays (suc t) j ≡ cell (lowered dim (vector_at rays t)) dim *ℤ relaxed dim rays zero j
+        entries n = times_last dim gens lines rays wide system enc (Given rays) (all_kept (relaxed_lines dim lines) (relaxed dim rays) (Given rays) (Strict dim rays)) (λ m g. g) t h n
+
+        factor_least : HasNoVariable dim (vector_at rays t) → pos 0 ≤ℤ cell (lowered dim (vector_at rays t)) dim
+        factor_least n =
+            at_least_zero_of_mul (value (lowered dim enc.vector) (relaxed dim rays zero)) (cell (lowered dim (vector_at rays t)) dim) (inner_last dim gens lines rays wide system enc)
+            (subst (λ (z : ℤ). pos 0 ≤ℤ z) ((value_linear (lowered dim enc.vector)).multiple (relaxed dim rays (suc t)) (relaxed dim rays zero) (cell (lowered dim (vector_at rays t)) dim) (entries n) ∙ mul_comm (cell (lowered dim (vector_at rays t)) dim) (value (lowered dim enc.vector) (relaxed dim rays zero))) (inner_on dim gens lines rays wide system enc (suc t) h))
+
+        by_variable : HasVariable dim (vector_at rays t) ⊎ HasNoVariable dim (vector_at rays t) → SpansBy (relaxed_lines dim lines) (Among (relaxed dim rays) (Allowed i)) (relaxed dim rays (suc t))
+        by_variable (inl v) = one_span (relaxed dim rays (suc t)) (record { index = suc t; is = (h, ne, height_at_most dim gens lines rays wide system enc t h v); same = λ j. refl })
+        by_variable (inr n) = spans_sums (relaxed dim rays (suc t)) (sums_one_ray (cell (lowered dim (vector_at rays t)) dim) (relaxed dim rays zero) (relaxed dim rays (suc t)) (factor_least n) zero_number (entries n))
+
+    -- the other rows without column e, as a list
+    abbrev other_rows : ℕ → List Row
+    other_rows i = map (λ l. (lowered dim l, true)) lines ++ (last_row dim, false) ∷ map (λ r. (lowered dim r, false)) (remove rays i)
+
+    module _ (i : ℕ) (hi : i < length rays) (vi : HasVariable dim (vector_at rays i)) (zi : cell (vector_at rays i) dim ≡ pos 0) where
+      abbrev Serves : Row → Type 0
+      Serves g = (g.1 ≡ true → relaxed_lines dim lines (cell g.0)) × (g.1 ≡ false → SpansBy (relaxed_lines dim lines) (Among (relaxed dim rays) (Allowed i)) (cell g.0))
+
+      line_serves : All (λ l. Serves (lowered dim l, true)) lines
+      line_serves m d h = (λ e. record { index = m; is = h; same = λ j. ap (λ (v : List ℤ). cell (lowered dim v) j) (sym (get_or_default lines m [] d h)) }, λ e. absurd (true≢false e))
+
+      rest_serves : All (λ r. Serves (lowered dim r, false)) (remove rays i)
+      rest_serves m d h = (λ e. absurd (true≢false (sym e)), λ e. by_beside (rest_beside rays i hi (columns (remove rays i) m) (in_at (remove rays i) m h)))
+        where
+          by_beside : Beside rays i (columns (remove rays i) m) → SpansBy (relaxed_lines dim lines) (Among (relaxed dim rays) (Allowed i)) (cell (lowered dim (slice_index_or (remove rays i) m d)))
+          by_beside b = spans_same (relaxed dim rays (suc b.index)) (cell (lowered dim (slice_index_or (remove rays i) m d))) (row_allowed i b.index b.is.0 b.is.1)
+              (λ j. cell-remove dim (slice_index_or (remove rays i) m d) j ∙ ap (λ (v : List ℤ). cell v (skip dim j)) (sym (get_or_default (remove rays i) m [] d h)) ∙ b.same (skip dim j) ∙ sym (cell-remove dim (vector_at rays b.index) j))
+
+      last_serves : Serves (last_row dim, false)
+      last_serves = (λ e. absurd (true≢false (sym e)), λ e. one_span (cell (last_row dim)) (record { index = zero; is = tt; same = λ j. refl }))
+
+      all_serve : All Serves (other_rows i)
+      all_serve =
+          All-append Serves (map (λ l. (lowered dim l, true)) lines) ((last_row dim, false) ∷ map (λ r. (lowered dim r, false)) (remove rays i))
+          (All-map Serves (λ l. (lowered dim l, true)) lines line_serves)
+          (All-cons Serves (last_row dim, false) (map (λ r. (lowered dim r, false)) (remove rays i)) last_serves (All-map Serves (λ r. (lowered dim r, false)) (remove rays i) rest_serves))
+
+      not_true : (b : Bool) → not b ≡ true → b ≡ false
+      not_true true e = absurd (true≢false (sym e))
+      not_true false e = refl
+
+      abbrev ServesLine : List ℤ → Type 0
+      ServesLine v = relaxed_lines dim lines (cell v)
+
+      abbrev ServesRay : List ℤ → Type 0
+      ServesRay v = SpansBy (relaxed_lines dim lines) (Among (relaxed dim rays) (Allowed i)) (cell v)
+
+      lines_served : All ServesLine (lines_of (other_rows i))
+      lines_served = All-map ServesLine (λ g. g.0) (filter (λ g. g.1) (other_rows i))
+          (λ m d h. (All-filter (λ g. g.1) Serves (other_rows i) all_serve m d h).0 (filter_passes (λ g. g.1) (other_rows i) m d h))
+
+      rays_served : All ServesRay (rays_of (other_rows i))
+      rays_served = All-map ServesRay (λ g. g.0) (filter (λ g. not g.1) (other_rows i))
+          (λ m d h. (All-filter (λ g. not g.1) Serves (other_rows i) all_serve m d h).1 (not_true (slice_index_or (filter (λ g. not g.1) (other_rows i)) m d).1 (filter_passes (λ g. not g.1) (other_rows i) m d h)))
+
+      line_same : (l v : V) → Same l v → relaxed_lines dim lines v → relaxed_lines dim lines l
+      line_same l v e m = record { index = m.index; is = m.is; same = λ j. e j ∙ m.same j }
+
+      served : Spans (lines_of (other_rows i)) (rays_of (other_rows i)) (lowered dim (vector_at rays i)) → SpansBy (relaxed_lines dim lines) (Among (relaxed dim rays) (Allowed i)) (relaxed dim rays (suc i))
+      served s =
+          spans_spans (λ l m. line_span l (line_same l (columns (lines_of (other_rows i)) m.index) m.same (lines_served m.index [] m.is)))
+          (λ r m. spans_same (columns (rays_of (other_rows i)) m.index) r (rays_served m.index [] m.is) m.same)
+          (relaxed dim rays (suc i)) (to_sums (lines_of (other_rows i)) (rays_of (other_rows i)) (lowered dim (vector_at rays i)) s)
+
+      -- ---- what the other rows admit
+      abbrev Wide : Row → Type 0
+      Wide g = length g.0 ≡ dim + 1
+
+      all_wide : All Wide (other_rows i)
+      all_wide =
+          All-append Wide (map (λ l. (lowered dim l, true)) lines) ((last_row dim, false) ∷ map (λ r. (lowered dim r, false)) (remove rays i))
+          (All-map Wide (λ l. (lowered dim l, true)) lines (λ m d h. lowered_wide dim gens lines rays wide system (slice_index_or lines m d) (system.generates.lines_within m d h).0.wide))
+          (All-cons Wide (last_row dim, false) (map (λ r. (lowered dim r, false)) (remove rays i)) (last_wide dim gens lines rays wide system enc)
+          (All-map Wide (λ r. (lowered dim r, false)) (remove rays i) (λ m d h. lowered_wide dim gens lines rays wide system (slice_index_or (remove rays i) m d) (All-remove D rays i system.generates.rays_within m d h).wide)))
+
+      module _ (q : List ℤ) (qw : length q ≡ dim + 1) (q_lines : (m : ℕ) → m < length lines → dot (lowered dim (vector_at lines m)) q ≡ pos 0) (q_last : pos 0 ≤ℤ cell q dim) (q_rest : (t : ℕ) → t < length rays → t ≢ i → pos 0 ≤ℤ dot (lowered dim (vector_at rays t)) q) (holds : (p : List ℤ) → IsPoint dim p → ((m : ℕ) → m < length lines → dot (lowered dim (vector_at lines m)) p ≡ pos 0) → ((t : ℕ) → t < length rays → t ≢ i → HoldsAt dim (vector_at rays t) p) → pos 0 ≤ℤ dot (lowered dim (vector_at rays i)) p) where
+        inner_value : (a : List ℤ) → value (lowered dim enc.vector) (cell a) ≡ dot a (lowered dim enc.vector)
+        inner_value a = sym (dot_is (lowered dim enc.vector) a) ∙ dot_comm (lowered dim enc.vector) a
+
+        -- so much of q that the row's value at the point doesn't matter
+        abbrev much : ℤ
+        much = dot (lowered dim (vector_at rays i)) (lowered dim enc.vector) +ℤ pos 1
+
+        abbrev moved_point : List ℤ
+        moved_point = both (dot (lowered dim (vector_at rays i)) (lowered dim enc.vector) +ℤ pos 1) q (pos 1) (lowered dim enc.vector)
+
+        value_least : pos 0 ≤ℤ dot (lowered dim (vector_at rays i)) (lowered dim enc.vector)
+        value_least = subst (λ (z : ℤ). pos 0 ≤ℤ z) (inner_value (lowered dim (vector_at rays i))) (inner_on dim gens lines rays wide system enc (suc i) hi)
+
+        much_least : (x : ℤ) → pos 0 ≤ℤ x → pos 0 ≤ℤ (x +ℤ pos 1)
+        much_least x h = omega (arith, ints, h)
+
+        at_moved : (a : List ℤ) → dot a moved_point ≡ much *ℤ dot a q +ℤ pos 1 *ℤ dot a (lowered dim enc.vector)
+        at_moved a = dot-both a much q (pos 1) (lowered dim enc.vector)
+
+        sum_least : (z m x y : ℤ) → z ≡ m *ℤ x +ℤ pos 1 *ℤ y → pos 0 ≤ℤ m → pos 0 ≤ℤ x → pos 0 ≤ℤ y → pos 0 ≤ℤ z
+        sum_least z m x y e p q r = let t = mul-at_least_zero m x p q in omega (arith, ints, e, t, r)
+
+        sum_positive : (z m x y : ℤ) → z ≡ m *ℤ x +ℤ pos 1 *ℤ y → pos 0 ≤ℤ m → pos 0 ≤ℤ x → pos 0 <ℤ y → pos 0 <ℤ z
+        sum_positive z m x y e p q r = let t = mul-at_least_zero m x p q in omega (arith, ints, e, t, r)
+
+        sum_zero : (z m x y : ℤ) → z ≡ m *ℤ x +ℤ pos 1 *ℤ y → x ≡ pos 0 → y ≡ pos 0 → z ≡ pos 0
+        sum_zero z m x y e p q = let t = ap (λ (n : ℤ). m *ℤ n) p ∙ mul-zero m in omega (arith, ints, e, t, q)
+
+        below_zero : (z x y : ℤ) → z ≡ (y +ℤ pos 1) *ℤ x +ℤ pos 1 *ℤ y → pos 0 ≤ℤ y → pos 0 ≤ℤ z → x <ℤ pos 0 → ⊥
+        below_zero z x y e p q r =
+            let t = mul-at_least_zero (y +ℤ pos 1) (neg_ℤ x -ℤ pos 1) (omega (arith, ints, p)) (omega (arith, ints, r)) in
+            let s : (y +ℤ pos 1) *ℤ (neg_ℤ x -ℤ pos 1) ≡ neg_ℤ ((y +ℤ pos 1) *ℤ x) -ℤ (y +ℤ pos 1) = simp ring (omega (arith, ints)) in
+            omega (arith, ints, e, p, q, t, s)
+
+        inner_wide : length (lowered dim enc.vector) ≡ dim + 1
+        inner_wide = lowered_wide dim gens lines rays wide system enc.vector enc.wide
+
+        moved_is_point : IsPoint dim moved_point
+        moved_is_point = record {
+          wide = length-both much q (pos 1) (lowered dim enc.vector) (qw ∙ sym inner_wide) ∙ inner_wide;
+          positive = sum_positive (cell moved_point dim) much (cell q dim) (cell (lowered dim enc.vector) dim) (cell-both much q (pos 1) (lowered dim enc.vector) dim) (much_least (dot (lowered dim (vector_at rays i)) (lowered dim enc.vector)) value_least) q_last
+              (subst (λ (z : ℤ). pos 0 <ℤ z) (sym (dot_is (lowered dim enc.vector) (last_row dim)) ∙ last_value dim gens lines rays wide system enc (lowered dim enc.vector)) (inner_last dim gens lines rays wide system enc));
+        }
+
+        moved_holds : (t : ℕ) → t < length rays → t ≢ i → HoldsAt dim (vector_at rays t) moved_point
+        moved_holds t h ne = record {
+          least = sum_least (dot (lowered dim (vector_at rays t)) moved_point) much (dot (lowered dim (vector_at rays t)) q) (dot (lowered dim (vector_at rays t)) (lowered dim enc.vector)) (at_moved (lowered dim (vector_at rays t))) (much_least (dot (lowered dim (vector_at rays i)) (lowered dim enc.vector)) value_least) (q_rest t h ne)
+              (subst (λ (z : ℤ). pos 0 ≤ℤ z) (inner_value (lowered dim (vector_at rays t))) (inner_on dim gens lines rays wide system enc (suc t) h));
+          strict = λ s. sum_positive (dot (lowered dim (vector_at rays t)) moved_point) much (dot (lowered dim (vector_at rays t)) q) (dot (lowered dim (vector_at rays t)) (lowered dim enc.vector)) (at_moved (lowered dim (vector_at rays t))) (much_least (dot (lowered dim (vector_at rays i)) (lowered dim enc.vector)) value_least) (q_rest t h ne)
+              (subst (λ (z : ℤ). pos 0 <ℤ z) (inner_value (lowered dim (vector_at rays t))) (inner_strict dim gens lines rays wide system enc t h s));
+        }
+
+        moved_lines : (m : ℕ) → m < length lines → dot (lowered dim (vector_at lines m)) moved_point ≡ pos 0
+        moved_lines m h = sum_zero (dot (lowered dim (vector_at lines m)) moved_point) much (dot (lowered dim (vector_at lines m)) q) (dot (lowered dim (vector_at lines m)) (lowered dim enc.vector)) (at_moved (lowered dim (vector_at lines m))) (q_lines m h) (sym (inner_value (lowered dim (vector_at lines m))) ∙ inner_line dim gens lines rays wide system enc m h)
+
+        row_admits : pos 0 ≤ℤ dot (lowered dim (vector_at rays i)) q
+        row_admits = by_value_sign (at_least_zero_or_not (dot (lowered dim (vector_at rays i)) q))
+          where
+            by_value_sign : (pos 0 ≤ℤ dot (lowered dim (vector_at rays i)) q) ⊎ (dot (lowered dim (vector_at rays i)) q <ℤ pos 0) → pos 0 ≤ℤ dot (lowered dim (vector_at rays i)) q
+            by_value_sign (inl h) = h
+            by_value_sign (inr h) = absurd (below_zero (dot (lowered dim (vector_at rays i)) moved_point) (dot (lowered dim (vector_at rays i)) q) (dot (lowered dim (vector_at rays i)) (lowered dim enc.vector)) (at_moved (lowered dim (vector_at rays i))) value_least (holds moved_point moved_is_point moved_lines moved_holds) h)
+
+      all_left : (P : Row → Type 0) (xs ys : List Row) → All P (xs ++ ys) → All P xs
+      all_left P [] ys a = All-nil P
+      all_left P (x ∷ xs) ys a = All-cons P x xs (All-head P x (xs ++ ys) a) (all_left P xs ys (All-tail P x (xs ++ ys) a))
+
+      all_right : (P : Row → Type 0) (xs ys : List Row) → All P (xs ++ ys) → All P ys
+      all_right P [] ys a = a
+      all_right P (x ∷ xs) ys a = all_right P xs ys (All-tail P x (xs ++ ys) a)
+
+      all_of_map : (P : Row → Type 0) (f : List ℤ → Row) (xs : List (List ℤ)) → All P (map f xs) → All (λ x. P (f x)) xs
+      all_of_map P f [] a = All-nil (λ x. P (f x))
+      all_of_map P f (x ∷ xs) a = All-cons (λ x. P (f x)) x xs (All-head P (f x) (map f xs) a) (all_of_map P f xs (All-tail P (f x) (map f xs) a))
+
+      level_needed : ¬ ((p : List ℤ) → IsPoint dim p → ((m : ℕ) → m < length lines → dot (lowered dim (vector_at lines m)) p ≡ pos 0) → ((t : ℕ) → t < length rays → t ≢ i → HoldsAt dim (vector_at rays t) p) → pos 0 ≤ℤ dot (lowered dim (vector_at rays i)) p)
+      level_needed holds =
+          level_row_needed i hi vi zi
+          (served (admitted_is_spanned (dim + 1) (other_rows i) (lowered dim (vector_at rays i)) all_wide (lowered_wide dim gens lines rays wide system (vector_at rays i) (ray_in dim gens lines rays wide system i hi).wide)
+          (λ q u. subst (λ (z : ℤ). pos 0 ≤ℤ z) (dot_comm (lowered dim (vector_at rays i)) q) (by_upto q u))))
+        where
+          by_upto : (q : List ℤ) → Upto (dim + 1) (other_rows i) (length (other_rows i)) q → pos 0 ≤ℤ dot (lowered dim (vector_at rays i)) q
+          by_upto q u = row_admits q u.wide on_lines (subst (λ (z : ℤ). pos 0 ≤ℤ z) (dot_last dim q) (All-head (Meets q) (last_row dim, false) (map (λ r. (lowered dim r, false)) (remove rays i)) later)) on_rest holds
+            where
+              whole : All (Meets q) (other_rows i)
+              whole m d h = u.meets m d (omega arith) h
+
+              later : All (Meets q) ((last_row dim, false) ∷ map (λ r. (lowered dim r, false)) (remove rays i))
+              later = all_right (Meets q) (map (λ l. (lowered dim l, true)) lines) ((last_row dim, false) ∷ map (λ r. (lowered dim r, false)) (remove rays i)) whole
+
+              on_lines : (m : ℕ) → m < length lines → dot (lowered dim (vector_at lines m)) q ≡ pos 0
+              on_lines m h = all_of_map (Meets q) (λ l. (lowered dim l, true)) lines (all_left (Meets q) (map (λ l. (lowered dim l, true)) lines) ((last_row dim, false) ∷ map (λ r. (lowered dim r, false)) (remove rays i)) whole) m [] h
+
+              rest_all : All (λ r. pos 0 ≤ℤ dot (lowered dim r) q) (remove rays i)
+              rest_all = all_of_map (Meets q) (λ r. (lowered dim r, false)) (remove rays i) (All-tail (Meets q) (last_row dim, false) (map (λ r. (lowered dim r, false)) (remove rays i)) later)
+
+              on_rest : (t : ℕ) → t < length rays → t ≢ i → pos 0 ≤ℤ dot (lowered dim (vector_at rays t)) q
+              on_rest t h ne = by_rest (whole_in_rest rays i t hi h)
+                where
+                  by_rest : InRest rays i t ⊎ (t ≡ i) → pos 0 ≤ℤ dot (lowered dim (vector_at rays t)) q
+                  by_rest (inl r) = subst (λ (v : List ℤ). pos 0 ≤ℤ dot (lowered dim v) q) (sym r.same) (rest_all r.place [] r.below)
+                  by_rest (inr e) = absurd (ne e)
+
+pub level_rows_are_needed : LevelRowsAreNeeded
+level_rows_are_needed dim gens lines rays i wide system enc hi vi zi = level_needed dim gens lines rays wide system enc i hi vi zi
