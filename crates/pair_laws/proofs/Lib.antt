@@ -1,0 +1,15 @@
+pub mod ListLemmas
+pub mod DivisorRow
+pub mod Limits
+pub mod ClosedCons
+pub mod ClosedGens
+pub mod StoredPair
+pub mod ValidRows
+pub mod Removed
+pub mod Extremes
+pub mod Pivots
+pub mod NothingToSpare
+pub mod FromCons
+pub mod FromGens
+pub mod Stored
+pub mod Touching

@@ -1,0 +1,5 @@
+pub mod WorkLists
+pub mod PointSets
+pub mod StoredForms
+pub mod StoredLaws
+pub mod FirstLists

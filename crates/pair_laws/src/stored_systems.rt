@@ -1,0 +1,32 @@
+//! Laws of the two systems that a closed polyhedron stores.
+ghost use Rattle.pair_laws.specs.StoredLaws.{StoredIsPair, StoredIsIrredundant, StoredIsCanonical, StoredAdmitsValidRows, StoredInequalitiesTouch, StoredIsUnique};
+
+/// Both systems hold the same points.
+pub fn stored_is_pair()
+    ensures { StoredIsPair }
+{}
+
+/// No constraint and no generator can be left out.
+pub fn stored_is_irredundant()
+    ensures { StoredIsIrredundant }
+{}
+
+/// The systems are the canonical ones of the set.
+pub fn stored_is_canonical()
+    ensures { StoredIsCanonical }
+{}
+
+/// The generators tell which rows are valid on the set.
+pub fn stored_admits_valid_rows()
+    ensures { StoredAdmitsValidRows }
+{}
+
+/// Each inequality is 0 at a stored point.
+pub fn stored_inequalities_touch()
+    ensures { StoredInequalitiesTouch }
+{}
+
+/// A set has one pair of stored systems.
+pub fn stored_is_unique()
+    ensures { StoredIsUnique }
+{}
