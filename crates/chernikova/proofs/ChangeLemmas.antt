@@ -5,14 +5,13 @@ use Rattle.std.proofs.lemmas.List.Elements.{All-push, All-same, Contains-append_
 use Rattle.std.proofs.lemmas.Int.{ints}
 use Rattle.std.proofs.lemmas.Bool.{cases_lt}
 use Rattle.row_core.specs.Vectors.{cell, scale}
-use Rattle.row_core.specs.Lists.{Row, row_at}
+use Rattle.row_core.specs.Lists.{Row, row_at, vectors, AreMarked}
 use Rattle.row_core.specs.Content.{IsPrimitive}
 use Rattle.sat_matrix.specs.Tables.{Table, marked}
 use Rattle.sat_matrix.proofs.Flat.{marked_skip, marked_take}
 use Rattle.cone_laws.specs.Steps.{sign, pair_at}
 use Rattle.cone_laws.proofs.Ring.{zero-mul, mul-zero}
 use Rattle.chernikova.specs.Combinations.{IsCombined}
-use Rattle.chernikova.specs.Systems.{vectors, AreMarked}
 use Rattle.chernikova.specs.Changes.{value_at, AreLowered, AreOthersLowered, with_upward, AreMade, IsPairCombined, IsCross, IsCrossesUpto, IsCrossesBelow, AreAllCrosses}
 use Rattle.chernikova.proofs.FactorLemmas.{magnitude_above, scale_more}
 use Rattle.chernikova.proofs.VectorLemmas.{row_at-push_before, row_at-push_last, vectors_push, vector_at-vectors, length-vectors}

@@ -6,14 +6,15 @@ use Rattle.std.proofs.lemmas.List.{length_push, get_or_append_left, get_or_push}
 use Rattle.std.proofs.lemmas.List.Sums.{sum_by_push}
 use Rattle.std.proofs.lemmas.Bool.{cases_lt}
 use Rattle.row_core.specs.Vectors.{dot}
-use Rattle.row_core.specs.Lists.{Row, row_at, is_eq_at}
+use Rattle.row_core.specs.Lists.{Row, row_at, is_eq_at, vectors}
 use Rattle.sat_matrix.specs.Tables.{Table}
 use Rattle.cone_laws.specs.Cones.{Upto}
 use Rattle.cone_laws.specs.Canon.{vector_at, IsSystem}
 use Rattle.cone_laws.specs.Steps.{IsLastCrossing, pair_at}
 use Rattle.cone_laws.specs.SystemLaws.{HasSystem, HasSystemOf, AreAllCrossings}
 use Rattle.cone_laws.proofs.StepExistence.{every_prefix, line_step_count, ray_step_count}
-use Rattle.chernikova.specs.Systems.{vectors, values_on, IsZeroTable}
+use Rattle.sat_matrix.specs.ZeroTables.{IsZeroTable}
+use Rattle.chernikova.specs.Systems.{values_on}
 use Rattle.chernikova.specs.Changes.{AreAllCrosses}
 use Rattle.chernikova.specs.Conversion.{IsCountedUpto}
 use Rattle.chernikova.proofs.VectorLemmas.{length-vectors}

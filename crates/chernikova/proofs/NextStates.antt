@@ -7,7 +7,7 @@ use Rattle.row_core.specs.Vectors.{cell, dot}
 use Rattle.row_core.specs.Range.{InRange, AllInRange}
 use Rattle.row_core.specs.declared.errors.Overflow.{Overflow}
 use Rattle.cone_laws.specs.Leaves.{Shows, Leaves}
-use Rattle.row_core.specs.Lists.{Row, Rows, row_at, is_eq_at}
+use Rattle.row_core.specs.Lists.{Row, Rows, row_at, is_eq_at, vectors}
 use Rattle.sat_matrix.specs.Tables.{Table}
 use Rattle.cone_laws.specs.Cones.{Upto}
 use Rattle.cone_laws.specs.Canon.{vector_at, IsSystem}
@@ -15,7 +15,7 @@ use Rattle.cone_laws.specs.Steps.{IsRowAt, AreUnits, stays, IsRayStep}
 use Rattle.cone_laws.proofs.UptoRows.{asks_least, both_zero}
 use Rattle.cone_laws.proofs.NextSystems.{units_system, line_step_system, ray_step_system}
 use Rattle.chernikova.specs.declared.cone.Cone.{Cone}
-use Rattle.chernikova.specs.Systems.{vectors, values_on}
+use Rattle.chernikova.specs.Systems.{values_on}
 use Rattle.chernikova.specs.Tables.{HasLineStep, HasRayStep}
 use Rattle.chernikova.specs.Changes.{AreLists, AreAllCrosses, IsRayChange}
 use Rattle.chernikova.specs.Conversion.{IsState, IsLineOutcome, IsRayOutcome}

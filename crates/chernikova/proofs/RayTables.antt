@@ -6,15 +6,16 @@ use Rattle.std.proofs.lemmas.Bool.Decides.{Decides-int_eq}
 use Rattle.std.proofs.lemmas.Int.{ints}
 use Rattle.std.proofs.lemmas.List.{get_or-map, get_or_append_left, get_or-append-add, length-set, get_or-set_same, get_or-set_other}
 use Rattle.row_core.specs.Vectors.{cell, dot}
-use Rattle.row_core.specs.Lists.{Row, row_at}
+use Rattle.row_core.specs.Lists.{Row, row_at, vectors, Pointwise}
 use Rattle.sat_matrix.specs.Tables.{Table, bits_of, conjunction, marked}
 use Rattle.sat_matrix.proofs.Flat.{length-conjunction}
 use Rattle.cone_laws.specs.Canon.{vector_at}
-use Rattle.cone_laws.specs.Steps.{sign, pair_at, Pointwise, IsPair}
+use Rattle.cone_laws.specs.Steps.{sign, pair_at, IsPair}
 use Rattle.cone_laws.proofs.Ring.{ring, mul-zero, neg-mul, zero_of_mul, mul-at_least_zero, by_sign}
 use Rattle.cone_laws.proofs.UptoRows.{IsSumOf, dot_sum}
 use Rattle.chernikova.specs.Combinations.{IsCombined}
-use Rattle.chernikova.specs.Systems.{vectors, values_on, TellsZeros, IsZeroTable}
+use Rattle.sat_matrix.specs.ZeroTables.{TellsZeros, IsZeroTable}
+use Rattle.chernikova.specs.Systems.{values_on}
 use Rattle.chernikova.specs.Tables.{HasRayStep}
 use Rattle.chernikova.specs.Changes.{value_at, AreAllCrosses, IsRayChange}
 use Rattle.chernikova.proofs.FactorLemmas.{combined_along, sign_above, magnitude-positive}

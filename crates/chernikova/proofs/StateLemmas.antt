@@ -5,14 +5,15 @@ use Rattle.std.proofs.lemmas.Int.{ints}
 use Rattle.std.proofs.lemmas.List.{get_or-map, get_or_default, length-map, append-nil, length_push, get_or_append_left, get_or_push, length-set, length-replicate, get_or-replicate, get_or-set_same, get_or-set_other}
 use Rattle.std.proofs.lemmas.List.Edits.{length-remove, get_or-remove_below, get_or-remove_above}
 use Rattle.row_core.specs.Vectors.{cell, dot, scale}
-use Rattle.row_core.specs.Lists.{Row, row_at}
+use Rattle.row_core.specs.Lists.{Row, row_at, vectors, Pointwise}
 use Rattle.sat_matrix.specs.Tables.{Table, bits_of, marked, HasThird}
 use Rattle.cone_laws.specs.Canon.{vector_at}
-use Rattle.cone_laws.specs.Steps.{sign, pair_at, stays, Pointwise, IsLowered, IsLastCrossing, IsLineStep, IsMade, IsMadeOf, NoThird, IsCrossing, IsRayStep, upward}
+use Rattle.cone_laws.specs.Steps.{sign, pair_at, stays, IsLowered, IsLastCrossing, IsLineStep, IsMade, IsMadeOf, NoThird, IsCrossing, IsRayStep, upward}
 use Rattle.cone_laws.proofs.Ring.{ring, mul-zero, neg-mul, zero_of_mul}
 use Rattle.cone_laws.proofs.UptoRows.{IsSumOf, dot_sum}
 use Rattle.chernikova.specs.Combinations.{IsCombined}
-use Rattle.chernikova.specs.Systems.{vectors, values_on, TellsZeros, IsZeroTable}
+use Rattle.sat_matrix.specs.ZeroTables.{TellsZeros, IsZeroTable}
+use Rattle.chernikova.specs.Systems.{values_on}
 use Rattle.cone_laws.proofs.Columns.{dot-scale}
 use Rattle.chernikova.specs.Tables.{HasLineStep}
 use Rattle.chernikova.specs.Changes.{value_at, AreLowered, AreOthersLowered, with_upward, IsLineChange, IsCross, AreAllCrosses, IsRayChange}

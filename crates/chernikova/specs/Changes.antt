@@ -1,10 +1,9 @@
 use Rattle.std.specs.Prelude.{◌≡◌, ◌≢◌, ℕ, ◌+◌, ◌-◌, ◌<◌, ◌≤◌, ◌⊎◌, Bool, true, false, ◌++◌, [], ◌∷◌, List, length, ℤ, pos, ◌<ℤ◌, slice_index_or, Contains}
 use Rattle.row_core.specs.Vectors.{scale}
-use Rattle.row_core.specs.Lists.{Row, Rows, row_at}
+use Rattle.row_core.specs.Lists.{Row, Rows, row_at, vectors, AreMarked}
 use Rattle.sat_matrix.specs.Tables.{Table, HasThird, marked}
 use Rattle.cone_laws.specs.Steps.{sign, pair_at}
 use Rattle.chernikova.specs.Combinations.{IsCombined}
-use Rattle.chernikova.specs.Systems.{vectors, AreMarked}
 
 -- value i
 abbrev pub value_at : List ℤ → ℕ → ℤ

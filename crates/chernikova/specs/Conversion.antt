@@ -1,6 +1,6 @@
 use Rattle.std.specs.Prelude.{◌≡◌, ℕ, ◌+◌, ◌^◌, ◌<◌, ⊤, Bool, List, length, map, sum, ℤ, pos, slice_index_or}
 use Rattle.row_core.specs.Vectors.{dot}
-use Rattle.row_core.specs.Lists.{Row, Rows}
+use Rattle.row_core.specs.Lists.{Row, Rows, vectors}
 use Rattle.row_core.specs.declared.errors.ConvErr.{ConvErr}
 use Rattle.row_core.specs.declared.errors.ConvErr.TheVariants.{Overflow, Memory}
 use Rattle.cone_laws.specs.Cones.{Upto}
@@ -11,7 +11,8 @@ use Rattle.cone_laws.specs.Leaves.{Leaves}
 use Rattle.chernikova.specs.declared.cone.Cone.{Cone}
 use Rattle.chernikova.specs.declared.step.Change.{Change}
 use Rattle.chernikova.specs.declared.step.Change.TheVariants as change
-use Rattle.chernikova.specs.Systems.{vectors, values_on, IsZeroTable}
+use Rattle.sat_matrix.specs.ZeroTables.{IsZeroTable}
+use Rattle.chernikova.specs.Systems.{values_on}
 use Rattle.chernikova.specs.Changes.{AreLists, AreAllCrosses, IsRayChange}
 
 -- the lines and rays are the system of the first k rows, and the table tells the rows on which each ray is 0

@@ -1,12 +1,12 @@
 //! The conversion.
 ghost use Rattle.std.specs.Prelude.{◌≡◌, ℕ, ◌+◌, ◌^◌, ◌-◌, ◌<◌, ◌≤◌, List, length, pos, true, IfOk, IfErr, MatchResult, OnErr};
-ghost use Rattle.row_core.specs.Lists.{row_at};
+ghost use Rattle.row_core.specs.Lists.{row_at, vectors, AreMarked};
 ghost use Rattle.cone_laws.specs.Cones.{Upto};
 ghost use Rattle.cone_laws.specs.Canon.{Canon};
 ghost use Rattle.cone_laws.specs.Steps.{AreUnits};
 ghost use Rattle.cone_laws.specs.SystemLaws.{HasSystemOf};
 ghost use Rattle.row_core.specs.Range.{AllInRange};
-ghost use Rattle.chernikova.specs.Systems.{vectors, AreMarked, IsZeroTable};
+ghost use Rattle.sat_matrix.specs.ZeroTables.{IsZeroTable};
 ghost use Rattle.chernikova.specs.Changes.{AreLists};
 ghost use Rattle.chernikova.specs.Conversion.{IsState, IsCountedUpto, IsRealOverflow};
 

@@ -1,7 +1,7 @@
 //! Why a step gives no system, and the overflow that is shown for it.
 ghost use Rattle.std.specs.Prelude.{◌≡◌, ℕ, ◌^◌, ◌<◌, length, IfOk};
 ghost use Rattle.row_core.specs.Range.{AllInRange};
-ghost use Rattle.chernikova.specs.Systems.{vectors};
+ghost use Rattle.row_core.specs.Lists.{vectors};
 ghost use Rattle.cone_laws.specs.Leaves.{Shows};
 ghost use Rattle.chernikova.specs.Faults.{is_lines, IsPlace, vector_of, IsFaultAt};
 ghost use Rattle.chernikova.specs.declared.fault.Fault.TheVariants as fault;

@@ -3,10 +3,9 @@ ghost use Rattle.std.specs.Prelude.{◌≡◌, ◌≢◌, ℕ, ◌+◌, ◌^◌,
 ghost use Rattle.row_core.specs.Vectors.{scale};
 ghost use Rattle.row_core.specs.Range.{InRange, AllInRange};
 ghost use Rattle.row_core.specs.Content.{IsPrimitive};
-ghost use Rattle.row_core.specs.Lists.{row_at};
+ghost use Rattle.row_core.specs.Lists.{row_at, vectors, AreMarked};
 ghost use Rattle.cone_laws.specs.Steps.{sign};
 ghost use Rattle.cone_laws.specs.Leaves.{CombinationLeaves};
-ghost use Rattle.chernikova.specs.Systems.{vectors, AreMarked};
 ghost use Rattle.chernikova.specs.Combinations.{IsCombined};
 ghost use Rattle.chernikova.specs.Changes.{value_at, AreLowered, AreOthersLowered, AreLists, with_upward, IsLineChange};
 ghost use Rattle.chernikova.specs.Faults.{IsLowerFault, IsOtherFault, IsLineFault, is_lines};

@@ -2,7 +2,7 @@
 ghost use Rattle.std.specs.Prelude.{◌≡◌, ◌≢◌, ℕ, ◌+◌, ◌^◌, ◌<◌, ◌≤◌, Bool, true, false, List, [], ◌∷◌, ◌++◌, length, All, pos, ◌<ℤ◌, ◌↔◌, IsTrue, MatchResult, IfOk, OnOk};
 ghost use Rattle.row_core.specs.Range.{InRange, AllInRange};
 ghost use Rattle.sat_matrix.specs.Tables.{marked};
-ghost use Rattle.chernikova.specs.Systems.{vectors, AreMarked};
+ghost use Rattle.row_core.specs.Lists.{vectors, AreMarked};
 ghost use Rattle.chernikova.specs.Changes.{value_at, AreAllCrosses, IsCross, IsCrossesBelow, IsPairAt, ArePairs, IsPairCombined, AreMade, IsRayChange};
 ghost use Rattle.chernikova.specs.Faults.{IsPairFault};
 

@@ -1,8 +1,7 @@
 //! One step: a row is taken in.
 ghost use Rattle.std.specs.Prelude.{◌≡◌, ℕ, ◌+◌, ◌-◌, ◌<◌, ◌≤◌, List, length, IfOk, MatchResult};
-ghost use Rattle.row_core.specs.Lists.{row_at, is_eq_at};
+ghost use Rattle.row_core.specs.Lists.{row_at, is_eq_at, vectors};
 ghost use Rattle.cone_laws.specs.SystemLaws.{HasSystemOf};
-ghost use Rattle.chernikova.specs.Systems.{vectors};
 ghost use Rattle.chernikova.specs.Faults.{IsFaultAt};
 ghost use Rattle.chernikova.specs.Conversion.{IsState, IsOutcome};
 

@@ -3,7 +3,8 @@ ghost use Rattle.std.specs.Prelude.{◌≡◌, ◌≢◌, ℕ, ◌^◌, ◌<◌,
 ghost use Rattle.row_core.specs.Vectors.{dot};
 ghost use Rattle.row_core.specs.Range.{InRange};
 ghost use Rattle.cone_laws.specs.Steps.{stays};
-ghost use Rattle.chernikova.specs.Systems.{vectors, values_on};
+ghost use Rattle.row_core.specs.Lists.{vectors};
+ghost use Rattle.chernikova.specs.Systems.{values_on};
 ghost use Rattle.chernikova.specs.Faults.{IsValuesFault};
 
 use crate::fault::{Fault, Part, Place};

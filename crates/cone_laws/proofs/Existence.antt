@@ -5,9 +5,9 @@ use Rattle.std.proofs.lemmas.Bool.{cases_lt}
 use Rattle.std.proofs.lemmas.List.{get_or_append_left, get_or-append_right, get_or-append-add, get_or_default, get_or-map, length-map}
 use Rattle.std.proofs.Math.Nat.{eq-or-lt_of_le}
 use Rattle.row_core.specs.Vectors.{cell, dot, scale, add}
-use Rattle.row_core.specs.Lists.{Row}
+use Rattle.row_core.specs.Lists.{Row, Pointwise}
 use Rattle.cone_laws.specs.Canon.{vector_at}
-use Rattle.cone_laws.specs.Steps.{IsRowAt, Pointwise, AreUnits, IsPair, IsOpposite, stays, sign, upward}
+use Rattle.cone_laws.specs.Steps.{IsRowAt, AreUnits, IsPair, IsOpposite, stays, sign, upward}
 use Rattle.cone_laws.specs.StepLaws.{GeneratesUpto}
 use Rattle.cone_laws.proofs.Ring.{ring, same_or_not, by_sign}
 use Rattle.cone_laws.proofs.Columns.{cell-add, cell-scale, length-add, length-scale}

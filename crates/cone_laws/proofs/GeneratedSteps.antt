@@ -4,10 +4,10 @@ use Rattle.std.proofs.lemmas.Bool.{cases_lt}
 use Rattle.std.proofs.lemmas.List.{get_or_default, get_or_append_left, get_or-append_right, get_or-append-add}
 use Rattle.std.proofs.lemmas.List.Elements.{All-filter, All-contains_itself, filter_passes}
 use Rattle.row_core.specs.Vectors.{dot}
-use Rattle.row_core.specs.Lists.{Row}
+use Rattle.row_core.specs.Lists.{Row, Pointwise}
 use Rattle.cone_laws.specs.Cones.{Upto, Generates}
 use Rattle.cone_laws.specs.Canon.{vector_at}
-use Rattle.cone_laws.specs.Steps.{IsRowAt, Pointwise, IsPair, IsOpposite, stays, pair_at, IsFullRayStep, IsLowered, IsLineStep}
+use Rattle.cone_laws.specs.Steps.{IsRowAt, IsPair, IsOpposite, stays, pair_at, IsFullRayStep, IsLowered, IsLineStep}
 use Rattle.cone_laws.specs.StepLaws.{GeneratesUpto}
 use Rattle.cone_laws.proofs.LineSteps.{LowersTo, generates_more, lineality_more}
 use Rattle.cone_laws.proofs.OppositeRays.{stays_asks, asks_stays, Stands, filter_stands, stands_left, IsNew, stayed, paired, HasPair, rays_generate, lineality_stays}

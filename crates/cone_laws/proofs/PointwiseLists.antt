@@ -2,7 +2,7 @@
 use Rattle.std.proofs.Common.{◌≡◌, ◌⊎◌, inl, inr, ℕ, suc, ◌+◌, ◌<◌, ◌≤◌, List, [], ◌∷◌, ◌++◌, length, take, slice_index_or, refl, sym, ap, ◌∙◌, subst, arith, length-append, length-take-le, get_or-take}
 use Rattle.std.proofs.lemmas.List.{get_or_append_left, get_or_default, get_or_push, take_all}
 use Rattle.std.proofs.Math.Nat.{eq-or-lt_of_le}
-use Rattle.cone_laws.specs.Steps.{Pointwise}
+use Rattle.row_core.specs.Lists.{Pointwise}
 
 pub Pointwise-nil : {A B : Type 0} (R : A → B → Type 0) → Pointwise R [] []
 Pointwise-nil R = record { as_many = refl; each = λ i d e h. absurd (omega arith) }

@@ -6,10 +6,10 @@ use Rattle.std.proofs.lemmas.Bool.{cases_lt}
 use Rattle.std.proofs.lemmas.List.{get_or_default, get_or_append_left, get_or_push, get_or_past, length-set, length-replicate, get_or-replicate, get_or-set_same, get_or-set_other}
 use Rattle.std.proofs.lemmas.List.Elements.{All-head, All-tail, All-from_get_or}
 use Rattle.row_core.specs.Vectors.{cell, dot}
-use Rattle.row_core.specs.Lists.{Row}
+use Rattle.row_core.specs.Lists.{Row, Pointwise}
 use Rattle.cone_laws.specs.Cones.{Upto}
 use Rattle.cone_laws.specs.Canon.{vector_at, IsSystem}
-use Rattle.cone_laws.specs.Steps.{IsRowAt, Pointwise, AreUnits, IsCrossing, IsMadeOf, pair_at, stays, sign, IsLowered, IsLastCrossing, upward}
+use Rattle.cone_laws.specs.Steps.{IsRowAt, AreUnits, IsCrossing, IsMadeOf, pair_at, stays, sign, IsLowered, IsLastCrossing, upward}
 use Rattle.cone_laws.specs.SystemLaws.{HasSystem, HasSystemOf, AreAllCrossings}
 use Rattle.cone_laws.proofs.Ring.{neg-mul, same_or_not}
 use Rattle.cone_laws.proofs.Factors.{All-remove}

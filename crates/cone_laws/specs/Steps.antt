@@ -3,18 +3,13 @@ use Rattle.std.specs.Ordering.{int_eq}
 use Rattle.std.proofs.Math.IntN.{◌*ℤ◌}
 use Rattle.row_core.specs.Vectors.{cell, dot, scale}
 use Rattle.row_core.specs.Content.{IsPrimitive}
-use Rattle.row_core.specs.Lists.{Row, row_at}
+use Rattle.row_core.specs.Lists.{Row, row_at, Pointwise}
 use Rattle.cone_laws.specs.Canon.{vector_at}
 
 -- the row is row k of the list
 pub record IsRowAt (rows : List Row) (k : ℕ) (row : Row) : Type 0 where
   pub below : k < length rows
   pub same : slice_index_or rows k row ≡ row
-
--- the lists are equally long, and elements at one index are related
-pub record Pointwise {A B : Type 0} (R : A → B → Type 0) (xs : List A) (ys : List B) : Type 0 where
-  pub as_many : length ys ≡ length xs
-  pub each : (i : ℕ) (d : A) (e : B) → i < length xs → R (slice_index_or xs i d) (slice_index_or ys i e)
 
 -- the vectors of the list are 1 at the column of their index, and 0 at each other column
 pub record AreUnits (width : ℕ) (vectors : List (List ℤ)) : Type 0 where

@@ -3,7 +3,7 @@ use Rattle.std.proofs.Common.{sym, subst, ◌∙◌, arith}
 use Rattle.cone_laws.specs.Cones.{Upto}
 use Rattle.cone_laws.specs.Canon.{Canon}
 use Rattle.chernikova.specs.Conversion.{IsState, IsCountedUpto}
-use Rattle.chernikova.specs.Systems.{vectors}
+use Rattle.row_core.specs.Lists.{vectors}
 use Rattle.chernikova.proofs.NextStates.{rays_wide}
 use Rattle.chernikova.proofs.Counts.{counted_start, counted_more, counted_last}
 use Rattle.chernikova.proofs.VectorLemmas.{length-vectors}

@@ -1,6 +1,6 @@
 use Rattle.std.proofs.Common.{◌≡◌, replicate, true}
 use Rattle.std.specs.Prelude.{pos}
-use Rattle.chernikova.specs.Systems.{AreMarked}
+use Rattle.row_core.specs.Lists.{AreMarked}
 use Rattle.chernikova.proofs.NextStates.{AreUnitsUpto}
 use Rattle.chernikova.proofs.conversion.units.Given as goal
 

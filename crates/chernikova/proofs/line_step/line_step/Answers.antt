@@ -8,7 +8,7 @@ use Rattle.row_core.specs.Range.{InRange}
 use Rattle.std.proofs.lemmas.Result.{err_from_is_err_and}
 use Rattle.cone_laws.specs.Canon.{vector_at}
 use Rattle.chernikova.specs.declared.fault.Part.TheVariants.{Rays}
-use Rattle.chernikova.specs.Systems.{vectors}
+use Rattle.row_core.specs.Lists.{vectors}
 use Rattle.chernikova.specs.Changes.{value_at}
 use Rattle.chernikova.specs.Faults.{IsLowerFault}
 use Rattle.chernikova.proofs.FactorLemmas.{fits}

@@ -1,5 +1,5 @@
 use Rattle.std.proofs.Common.{◌≡◌, ◌≤◌, ◌+◌, length}
-use Rattle.chernikova.specs.Systems.{AreMarked}
+use Rattle.row_core.specs.Lists.{AreMarked}
 use Rattle.chernikova.specs.Faults.{is_lines}
 use Rattle.chernikova.specs.Changes.{AreLowered}
 use Rattle.chernikova.proofs.line_step.lower_range.Given as goal

@@ -1,9 +1,8 @@
 use Rattle.std.specs.Prelude.{ℕ, List, length}
 use Rattle.std.proofs.Common.{subst}
 use Rattle.std.proofs.lemmas.Result.{err_from_is_err_and}
-use Rattle.row_core.specs.Lists.{Row}
+use Rattle.row_core.specs.Lists.{Row, vectors}
 use Rattle.chernikova.specs.declared.fault.Part.TheVariants.{Rays}
-use Rattle.chernikova.specs.Systems.{vectors}
 use Rattle.chernikova.specs.Faults.{IsLowerFault}
 use Rattle.chernikova.specs.Changes.{AreLowered}
 use Rattle.chernikova.proofs.line_step.lowered_rays.Goals as goal

@@ -1,8 +1,7 @@
 use Rattle.std.specs.Prelude.{◌≡◌, false}
 use Rattle.std.proofs.Common.{◌∙◌, ap, arith}
 use Rattle.std.proofs.lemmas.List.Elements.{All-same}
-use Rattle.row_core.specs.Lists.{Row, Rows}
-use Rattle.chernikova.specs.Systems.{vectors}
+use Rattle.row_core.specs.Lists.{Row, Rows, vectors}
 use Rattle.chernikova.proofs.ChangeLemmas.{marked_push, kept_take, kept_skip}
 use Rattle.chernikova.proofs.ray_step.kept.Goals as goal
 use Rattle.chernikova.proofs.ray_step.kept.Goals.{then-marks-index+in_ok-push, else-marks-index}

@@ -1,6 +1,6 @@
 use Rattle.std.proofs.Common.{◌≡◌, take, false}
 use Rattle.sat_matrix.specs.Tables.{marked}
-use Rattle.chernikova.specs.Systems.{vectors, AreMarked}
+use Rattle.row_core.specs.Lists.{vectors, AreMarked}
 use Rattle.chernikova.proofs.ray_step.kept.Given as goal
 
 abbrev pub invariant-loop-index : goal.invariant-loop-index

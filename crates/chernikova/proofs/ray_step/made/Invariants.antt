@@ -1,5 +1,5 @@
 use Rattle.std.proofs.Common.{◌≡◌, ◌≤◌, ◌+◌, take, false, vec_len}
-use Rattle.chernikova.specs.Systems.{AreMarked}
+use Rattle.row_core.specs.Lists.{AreMarked}
 use Rattle.chernikova.specs.Changes.{AreMade}
 use Rattle.chernikova.proofs.ray_step.made.Given as goal
 

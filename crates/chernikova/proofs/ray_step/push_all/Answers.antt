@@ -1,8 +1,7 @@
 use Rattle.std.specs.Prelude.{◌≡◌, false}
 use Rattle.std.proofs.Common.{◌∙◌, ap, arith}
 use Rattle.std.proofs.lemmas.List.Elements.{All-same}
-use Rattle.row_core.specs.Lists.{Row}
-use Rattle.chernikova.specs.Systems.{vectors}
+use Rattle.row_core.specs.Lists.{Row, vectors}
 use Rattle.chernikova.proofs.ChangeLemmas.{marked_push, all_more}
 use Rattle.chernikova.proofs.ray_step.push_all.Goals as goal
 

@@ -1,5 +1,5 @@
 use Rattle.std.proofs.Common.{◌≡◌, ◌++◌, take, false}
-use Rattle.chernikova.specs.Systems.{vectors, AreMarked}
+use Rattle.row_core.specs.Lists.{vectors, AreMarked}
 use Rattle.chernikova.proofs.ray_step.push_all.Given as goal
 
 abbrev pub invariant-loop-index : goal.invariant-loop-index

@@ -1,9 +1,9 @@
 use Rattle.std.specs.Prelude.{◌≡◌, ◌-◌, ℕ, ℤ, List, Bool, length, map}
 use Rattle.std.proofs.Common.{sym, ap, subst, ◌∙◌, arith}
 use Rattle.std.proofs.lemmas.Result.{err_from_is_err_and}
-use Rattle.row_core.specs.Lists.{row_at}
+use Rattle.row_core.specs.Lists.{row_at, vectors}
 use Rattle.cone_laws.specs.Steps.{stays, IsLineStep}
-use Rattle.chernikova.specs.Systems.{vectors, values_on}
+use Rattle.chernikova.specs.Systems.{values_on}
 use Rattle.chernikova.specs.Changes.{AreLists, AreAllCrosses, IsLineChange, IsRayChange}
 use Rattle.chernikova.proofs.StateLemmas.{line_step_from}
 use Rattle.chernikova.proofs.StepLemmas.{last_from, flat_from, line_fault_at, pair_fault_at}

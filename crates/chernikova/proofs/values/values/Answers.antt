@@ -6,7 +6,8 @@ use Rattle.std.proofs.lemmas.List.Elements.{All-push, All-same}
 use mir.Val.{SFits}
 use Rattle.row_core.specs.Vectors.{dot}
 use Rattle.row_core.specs.Range.{InRange}
-use Rattle.chernikova.specs.Systems.{vectors, values_on}
+use Rattle.row_core.specs.Lists.{vectors}
+use Rattle.chernikova.specs.Systems.{values_on}
 use Rattle.chernikova.proofs.FactorLemmas.{fits}
 use Rattle.chernikova.proofs.VectorLemmas.{values_on_more}
 use Rattle.chernikova.proofs.values.values.Goals as goal

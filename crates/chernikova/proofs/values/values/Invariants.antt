@@ -1,7 +1,8 @@
 use Rattle.std.proofs.Common.{◌≡◌, take}
 use Rattle.std.specs.Prelude.{All}
 use Rattle.row_core.specs.Range.{InRange}
-use Rattle.chernikova.specs.Systems.{vectors, values_on}
+use Rattle.row_core.specs.Lists.{vectors}
+use Rattle.chernikova.specs.Systems.{values_on}
 use Rattle.chernikova.proofs.values.values.Given as goal
 
 abbrev pub invariant-loop-index : goal.invariant-loop-index
