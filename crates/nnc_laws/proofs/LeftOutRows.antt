@@ -110,7 +110,7 @@ module _ (dim : ℕ) (gens : List Row) (lines rays : List (List ℤ)) (wide : (j
     -- ---- all that are left out
     module _ (keep : List Bool) (spare : (i : ℕ) → i < length rays → kept_at keep i ≡ false → IsSpare dim gens rays keep i) where
       -- the row d stays
-      abbrev stays : ℕ → Bool
+      abbrev pub stays : ℕ → Bool
       stays zero = true
       stays (suc i) = kept_at keep i
 
@@ -130,7 +130,7 @@ module _ (dim : ℕ) (gens : List Row) (lines rays : List (List ℤ)) (wide : (j
           by_cause (inr (s, inr c)) = covered_row K k g i c.index below c.below (f (suc c.index) (c.below, c.kept)) c.other s c.strict c.covers
 
       -- what stays spans and marks all
-      stay_all : IsKept (relaxed_lines dim lines) (relaxed dim rays) (Given rays) (Strict dim rays) (Stay (Given rays) stays)
+      pub stay_all : IsKept (relaxed_lines dim lines) (relaxed dim rays) (Given rays) (Strict dim rays) (Stay (Given rays) stays)
       stay_all = removed (relaxed_lines dim lines) (relaxed dim rays) (Given rays) (Strict dim rays) stays (suc (length rays)) leave_out within given
         where
           within : (i : ℕ) → Given rays i → (i < suc (length rays)) ⊎ (stays i ≡ true)
@@ -141,43 +141,45 @@ module _ (dim : ℕ) (gens : List Row) (lines rays : List (List ℤ)) (wide : (j
           given zero h e = tt
           given (suc m) h e = omega (arith, h)
 
-      module _ (p : List ℤ) (point : IsPoint dim p) (on_lines : (i : ℕ) → i < length lines → dot (lowered dim (vector_at lines i)) p ≡ pos 0) (on_kept : (i : ℕ) → i < length rays → kept_at keep i ≡ true → HoldsAt dim (vector_at rays i) p) where
-        at_point : (a : List ℤ) → value p (cell a) ≡ dot a p
-        at_point a = sym (dot_is p a) ∙ dot_comm p a
+    -- ---- where what is kept holds, all hold
+    module _ (K : ℕ → Type 0) (k : IsKept (relaxed_lines dim lines) (relaxed dim rays) (Given rays) (Strict dim rays) K) (p : List ℤ) (point : IsPoint dim p) (on_lines : (i : ℕ) → i < length lines → dot (lowered dim (vector_at lines i)) p ≡ pos 0) (on_kept : (i : ℕ) → K (suc i) → HoldsAt dim (vector_at rays i) p) where
+      at_point : (a : List ℤ) → value p (cell a) ≡ dot a p
+      at_point a = sym (dot_is p a) ∙ dot_comm p a
 
-        lines_flat : (l : V) → relaxed_lines dim lines l → value p l ≡ pos 0
-        lines_flat l m = same_value (value p) (value_linear p) l (cell (lowered dim (vector_at lines m.index))) m.same ∙ at_point (lowered dim (vector_at lines m.index)) ∙ on_lines m.index m.is
+      lines_flat : (l : V) → relaxed_lines dim lines l → value p l ≡ pos 0
+      lines_flat l m = same_value (value p) (value_linear p) l (cell (lowered dim (vector_at lines m.index))) m.same ∙ at_point (lowered dim (vector_at lines m.index)) ∙ on_lines m.index m.is
 
-        last_positive : pos 0 <ℤ value p (relaxed dim rays zero)
-        last_positive = subst (λ (z : ℤ). pos 0 <ℤ z) (sym (last_value dim gens lines rays wide system enc p) ∙ dot_is p (last_row dim)) point.positive
+      last_positive : pos 0 <ℤ value p (relaxed dim rays zero)
+      last_positive = subst (λ (z : ℤ). pos 0 <ℤ z) (sym (last_value dim gens lines rays wide system enc p) ∙ dot_is p (last_row dim)) point.positive
 
-        weaker : (x : ℤ) → pos 0 <ℤ x → pos 0 ≤ℤ x
-        weaker x h = omega (arith, ints, h)
+      weaker : (x : ℤ) → pos 0 <ℤ x → pos 0 ≤ℤ x
+      weaker x h = omega (arith, ints, h)
 
-        least_stay : (i : ℕ) → Stay (Given rays) stays i → pos 0 ≤ℤ value p (relaxed dim rays i)
-        least_stay zero s = weaker (value p (relaxed dim rays zero)) last_positive
-        least_stay (suc i) s = subst (λ (z : ℤ). pos 0 ≤ℤ z) (sym (at_point (lowered dim (vector_at rays i)))) (on_kept i s.0 s.1).least
+      least_kept : (i : ℕ) → K i → pos 0 ≤ℤ value p (relaxed dim rays i)
+      least_kept zero s = weaker (value p (relaxed dim rays zero)) last_positive
+      least_kept (suc i) s = subst (λ (z : ℤ). pos 0 ≤ℤ z) (sym (at_point (lowered dim (vector_at rays i)))) (on_kept i s).least
 
-        strict_stay : (i : ℕ) → Stay (Given rays) stays i → Strict dim rays i → pos 0 <ℤ value p (relaxed dim rays i)
-        strict_stay zero s m = last_positive
-        strict_stay (suc i) s m = subst (λ (z : ℤ). pos 0 <ℤ z) (sym (at_point (lowered dim (vector_at rays i)))) ((on_kept i s.0 s.1).strict m)
+      strict_kept : (i : ℕ) → K i → Strict dim rays i → pos 0 <ℤ value p (relaxed dim rays i)
+      strict_kept zero s m = last_positive
+      strict_kept (suc i) s m = subst (λ (z : ℤ). pos 0 <ℤ z) (sym (at_point (lowered dim (vector_at rays i)))) ((on_kept i s).strict m)
 
-        least_all : (i : ℕ) → i < length rays → pos 0 ≤ℤ value p (relaxed dim rays (suc i))
-        least_all i h =
-            least_of (stay_all.spanned (suc i) h)
-          where
-            least_of : SpansBy (relaxed_lines dim lines) (Among (relaxed dim rays) (Stay (Given rays) stays)) (relaxed dim rays (suc i)) → pos 0 ≤ℤ value p (relaxed dim rays (suc i))
-            least_of s =
-                at_least_zero_of_mul s.times (value p (relaxed dim rays (suc i))) s.positive
-                (subst (λ (z : ℤ). pos 0 ≤ℤ z) ((value_linear p).multiple (λ j. s.times *ℤ relaxed dim rays (suc i) j) (relaxed dim rays (suc i)) s.times (λ j. refl))
-                (sums_at_least_zero (value p) (value_linear p) lines_flat (λ v m. subst (λ (z : ℤ). pos 0 ≤ℤ z) (sym (same_value (value p) (value_linear p) v (relaxed dim rays m.index) m.same)) (least_stay m.index m.is)) (λ j. s.times *ℤ relaxed dim rays (suc i) j) s.sums))
+      least_all : (i : ℕ) → i < length rays → pos 0 ≤ℤ value p (relaxed dim rays (suc i))
+      least_all i h =
+          least_of (k.spanned (suc i) h)
+        where
+          least_of : SpansBy (relaxed_lines dim lines) (Among (relaxed dim rays) K) (relaxed dim rays (suc i)) → pos 0 ≤ℤ value p (relaxed dim rays (suc i))
+          least_of s =
+              at_least_zero_of_mul s.times (value p (relaxed dim rays (suc i))) s.positive
+              (subst (λ (z : ℤ). pos 0 ≤ℤ z) ((value_linear p).multiple (λ j. s.times *ℤ relaxed dim rays (suc i) j) (relaxed dim rays (suc i)) s.times (λ j. refl))
+              (sums_at_least_zero (value p) (value_linear p) lines_flat (λ v m. subst (λ (z : ℤ). pos 0 ≤ℤ z) (sym (same_value (value p) (value_linear p) v (relaxed dim rays m.index) m.same)) (least_kept m.index m.is)) (λ j. s.times *ℤ relaxed dim rays (suc i) j) s.sums))
 
-        pub all_hold : (i : ℕ) → i < length rays → HoldsAt dim (vector_at rays i) p
-        all_hold i h = record {
-          least = subst (λ (z : ℤ). pos 0 ≤ℤ z) (at_point (lowered dim (vector_at rays i))) (least_all i h);
-          strict = λ s. subst (λ (z : ℤ). pos 0 <ℤ z) (at_point (lowered dim (vector_at rays i)))
-              (positive_on_given (relaxed_lines dim lines) (relaxed dim rays) (Given rays) (Strict dim rays) (Stay (Given rays) stays) stay_all (value p) (value_linear p) lines_flat least_stay strict_stay (suc i) h s);
-        }
+      pub all_hold : (i : ℕ) → i < length rays → HoldsAt dim (vector_at rays i) p
+      all_hold i h = record {
+        least = subst (λ (z : ℤ). pos 0 ≤ℤ z) (at_point (lowered dim (vector_at rays i))) (least_all i h);
+        strict = λ s. subst (λ (z : ℤ). pos 0 <ℤ z) (at_point (lowered dim (vector_at rays i)))
+            (positive_on_given (relaxed_lines dim lines) (relaxed dim rays) (Given rays) (Strict dim rays) K k (value p) (value_linear p) lines_flat least_kept strict_kept (suc i) h s);
+      }
 
 pub kept_rows_hold : KeptRowsHold
-kept_rows_hold dim gens lines rays keep p wide system enc spare point on_lines on_kept = all_hold dim gens lines rays wide system enc keep spare p point on_lines on_kept
+kept_rows_hold dim gens lines rays keep p wide system enc spare point on_lines on_kept =
+    all_hold dim gens lines rays wide system enc (Stay (Given rays) (stays dim gens lines rays wide system enc keep spare)) (stay_all dim gens lines rays wide system enc keep spare) p point on_lines (λ i s. on_kept i s.0 s.1)

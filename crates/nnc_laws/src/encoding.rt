@@ -1,0 +1,17 @@
+//! Laws of the lists that encode constraints and generators.
+
+ghost use Rattle.nnc_laws.specs.EncodedGenerators.{CodedIsSpanned, GeneratorsEncode, SpannedIsCoded};
+ghost use Rattle.nnc_laws.specs.Encoding.{ConstraintsAreCoded, ConstraintsEncode};
+
+/// The list of a system of constraints codes exactly the points at which they hold.
+pub fn constraints_code()
+    ensures coded { ConstraintsAreCoded }
+    ensures encoded { ConstraintsEncode }
+{}
+
+/// The list of a system of generators with a point has an encoded dual, and codes what the generators span.
+pub fn generators_code()
+    ensures encoded { GeneratorsEncode }
+    ensures coded { SpannedIsCoded }
+    ensures spanned { CodedIsSpanned }
+{}
