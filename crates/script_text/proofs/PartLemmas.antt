@@ -1,0 +1,35 @@
+-- The parts of a command have their forms.
+use Rattle.std.proofs.Common.{ℕ, List, [], Option, Some, None, refl, sym, append-nil}
+use Rattle.grammar.specs.Form.{Form, Matches}
+use Rattle.grammar.specs.Grammar.{alone, expr, vexpr, frac, vfrac, con, cons, point, gen, gens}
+use Rattle.script_text.specs.Rows.{Shape, shape_of, tail_form, line_form, row_form}
+use Rattle.script_text.specs.Fields.{part_by, fields_by, fields_of_row}
+use Rattle.script_text.specs.Commands.{command_of}
+use Rattle.script_text.specs.Line.{PartsMatch}
+use Rattle.script_text.specs.declared.row.Row.{Row}
+use Rattle.script_text.specs.declared.row.Row.TheVariants.{Cons, Gens, Add, Addgen, Has}
+
+alone_from : (f : Form) (u : List ℕ) → Matches f u → Matches (alone f) u
+alone_from f u m = ([], u, refl, (0, refl), (u, [], sym (append-nil u), m, (0, refl)))
+
+-- the text has the form of the part
+abbrev PartIs : Option Form → List ℕ → Type 0
+PartIs None u = Unit {0}
+PartIs (Some f) u = Matches (alone f) u
+
+tail_part : (o : Option Form) (t : List ℕ) (m : Matches (tail_form o) t) → PartIs o (part_by o t m)
+tail_part None t m = tt
+tail_part (Some f) t (b, x, e, before, (colon, y, e2, is_colon, (c, z, e3, behind, (u, d, e4, is, end)))) = alone_from f u is
+
+line_part : (shape : Shape) (w : List ℕ) (m : Matches (line_form shape) w) → PartIs shape.part (fields_by shape w m).part
+line_part shape w (b, x, e, before, (named, rest, e2, is, (ws, y, e3, in_words, (t, c, e4, tail, commented)))) = tail_part shape.part t tail
+
+-- each part of the command of a line has its form
+pub parts_match : (row : Row) (w : List ℕ) (m : Matches (row_form row) w) → PartsMatch (command_of row (fields_of_row row w m))
+unfolding expr vexpr frac vfrac con cons point gen gens
+parts_match Cons w m = line_part (shape_of Cons) w m
+parts_match Gens w m = line_part (shape_of Gens) w m
+parts_match Add w m = line_part (shape_of Add) w m
+parts_match Addgen w m = line_part (shape_of Addgen) w m
+parts_match Has w m = line_part (shape_of Has) w m
+parts_match row w m = tt

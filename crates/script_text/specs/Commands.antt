@@ -1,0 +1,52 @@
+-- What a line's row and its fields say.
+use Rattle.std.specs.Prelude.{ℕ, ◌-◌, ◌^◌, ◌==◌, min, List, [], ◌∷◌, Bool, false, not, ◌&&◌, ◌||◌, codes}
+use Rattle.std.specs.Str.{bytes_eq}
+use Rattle.term_text.specs.Numbers.{number_after}
+use Rattle.script_text.specs.Fields.{Fields}
+use Rattle.script_text.specs.declared.row.Row.{Row}
+use Rattle.script_text.specs.declared.row.Row.TheVariants as row
+use Rattle.script_text.specs.declared.command.Command.{Command}
+use Rattle.script_text.specs.declared.command.Command.TheVariants as command
+use Rattle.script_text.specs.declared.command.Part.{Part}
+
+-- the number that digits spell; 2^64 - 1 stands for all greater ones too
+abbrev pub number_of : List ℕ → ℕ
+number_of digits = min (number_after 0 digits) (2 ^ 64 - 1)
+
+-- the word is this one
+abbrev pub is_word : List ℕ → List ℕ → Bool
+is_word w v = bytes_eq w v
+
+-- the text begins with this byte
+abbrev pub begins_with : ℕ → List ℕ → Bool
+begins_with b [] = false
+begins_with b (c ∷ text) = c == b
+
+-- the byte and the text behind it begin with > or < and no = behind it, or with c(
+abbrev pub begins_strict : ℕ → List ℕ → Bool
+begins_strict b text = (((b == 60) || (b == 62)) && not (begins_with 61 text)) || ((b == 99) && begins_with 40 text)
+
+-- > or < with no = behind it, or c(, stands in the text
+abbrev pub is_strict : List ℕ → Bool
+is_strict [] = false
+is_strict (b ∷ text) = begins_strict b text || is_strict text
+
+-- the part of this text
+abbrev pub part_from : List ℕ → Part
+part_from text = record { text = text; strict = is_strict text }
+
+-- the command of a line of the row with these fields
+abbrev pub command_of : Row → Fields → Command
+command_of row.Nothing f = command.Nothing
+command_of row.Cons f = command.Cons f.first (is_word f.second (codes "nnc")) (number_of f.third) (part_from f.part)
+command_of row.Gens f = command.Gens f.first (is_word f.second (codes "nnc")) (number_of f.third) (part_from f.part)
+command_of row.Universe f = command.Universe f.first (is_word f.second (codes "nnc")) (number_of f.third)
+command_of row.Empty f = command.Empty f.first (is_word f.second (codes "nnc")) (number_of f.third)
+command_of row.Copy f = command.Copy f.first f.second
+command_of row.Drop f = command.Drop f.first
+command_of row.Add f = command.Add f.first (part_from f.part)
+command_of row.Addgen f = command.Addgen f.first (part_from f.part)
+command_of row.Has f = command.Has f.first (part_from f.part)
+command_of row.Size f = command.Size f.first
+command_of row.Print f = command.Print (is_word f.first (codes "gens")) f.second
+command_of row.Names f = command.Names

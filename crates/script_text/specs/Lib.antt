@@ -1,0 +1,7 @@
+pub mod Commands
+pub mod Fields
+pub mod Laws
+pub mod Line
+pub mod Rows
+pub mod Shown
+pub mod Words

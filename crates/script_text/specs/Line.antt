@@ -1,0 +1,47 @@
+-- What a line spells.
+use Rattle.std.specs.Prelude.{◌≡◌, ℕ, ◌<◌, ◌≤◌, List, map, length}
+use Rattle.grammar.specs.Form.{Matches, IsColumnOfAny}
+use Rattle.grammar.specs.Grammar.{alone}
+use Rattle.grammar.specs.Cases.{cons_cases, gens_cases, point_cases}
+use Rattle.reply_text.specs.declared.faults.Fault.{Fault}
+use Rattle.reply_text.specs.declared.faults.Fault.TheVariants as fault
+use Rattle.reply_text.specs.declared.faults.ReadErr.{ReadErr}
+use Rattle.reply_text.specs.declared.faults.ReadErr.TheVariants.{Input, Memory}
+use Rattle.script_text.specs.Rows.{row_form, rows}
+use Rattle.script_text.specs.Fields.{fields_of_row}
+use Rattle.script_text.specs.Commands.{command_of}
+use Rattle.script_text.specs.declared.row.Row.{Row}
+use Rattle.script_text.specs.declared.command.Command.{Command}
+use Rattle.script_text.specs.declared.command.Command.TheVariants.{Cons, Gens, Add, Addgen, Has}
+
+-- the line is one of the row's, and this is the command of its fields
+pub record Spells (line : List ℕ) (c : Command) : Type 0 where
+  pub short : length line ≤ 65535
+  pub row : Row
+  pub form : Matches (row_form row) line
+  pub is : c ≡ command_of row (fields_of_row row line form)
+
+-- why the line gave no command: it is too long, or else no row has it, or memory ran out
+abbrev pub IsUnread : List ℕ → ReadErr → Type 0
+IsUnread line (Input fault.LineTooLong) = 65535 < length line
+IsUnread line (Input (fault.Syntax column)) = (length line ≤ 65535) × IsColumnOfAny (map row_form rows) line column
+IsUnread line (Input other) = ⊥
+IsUnread line Memory = Unit {0}
+
+-- each part of the command has its form, as the reader of its value asks for it
+abbrev pub PartsMatch : Command → Type 0
+PartsMatch (Cons out top n part) = Matches (alone cons_cases) part.text
+PartsMatch (Gens out top n part) = Matches (alone gens_cases) part.text
+PartsMatch (Add p part) = Matches (alone cons_cases) part.text
+PartsMatch (Addgen p part) = Matches (alone gens_cases) part.text
+PartsMatch (Has p part) = Matches (alone point_cases) part.text
+PartsMatch _ = Unit {0}
+
+-- a line spells one command at most
+abbrev pub SpellsOne : Type 0
+SpellsOne = (line : List ℕ) (c d : Command) → Spells line c → Spells line d → c ≡ d
+
+-- a line that spells a command isn't refused, and a refused line has one fault
+pub record ReadsOnce : Type 0 where
+  pub spelled : (line : List ℕ) (c : Command) (f : Fault) → Spells line c → ¬ (IsUnread line (Input f))
+  pub unread : (line : List ℕ) (f g : Fault) → IsUnread line (Input f) → IsUnread line (Input g) → f ≡ g

@@ -1,0 +1,75 @@
+-- The lines of the commands.
+use Rattle.std.specs.Prelude.{ℕ, List, [], ◌∷◌, Option, Some, None, codes}
+use Rattle.grammar.specs.Form.{Form, word}
+use Rattle.grammar.specs.Grammar.{◌·◌, ◌∣◌, symbol, blanks, gap, perhaps, alone, comment, name, nat, cons, point, gens}
+use Rattle.script_text.specs.declared.row.Row.{Row}
+use Rattle.script_text.specs.declared.row.Row.TheVariants.{Nothing, Cons, Gens, Universe, Empty, Copy, Drop, Add, Addgen, Has, Size, Print, Names}
+
+-- a line: its command word, what each word behind it may be, and the part behind a colon
+pub record Shape : Type 0 where
+  pub command : List ℕ
+  pub words : List Form
+  pub part : Option Form
+
+-- each word with a gap before it
+abbrev pub words_form : List Form → Form
+words_form [] = word []
+words_form (f ∷ fs) = gap · f · words_form fs
+
+-- a colon and the part with blanks around it, where there is a part
+abbrev pub tail_form : Option Form → Form
+tail_form None = blanks
+tail_form (Some f) = blanks · symbol 58 · alone f
+
+-- what stands behind the command word
+abbrev pub rest_form : Shape → Form
+rest_form shape = words_form shape.words · tail_form shape.part · perhaps comment
+
+-- the lines of the shape
+abbrev pub line_form : Shape → Form
+line_form shape = blanks · word shape.command · rest_form shape
+
+-- a blank line, or a comment alone
+abbrev pub nothing_form : Form
+nothing_form = blanks · perhaps comment
+
+-- a topology
+abbrev pub top : Form
+top = word (codes "closed")
+
+-- which of the two stored lists
+abbrev pub side : Form
+side = word (codes "cons") ∣ word (codes "gens")
+
+-- a command word and words behind it
+abbrev pub plain : List ℕ → List Form → Shape
+plain command words = record { command = command; words = words; part = None }
+
+-- a command word, words behind it, and a part behind a colon
+abbrev pub with_part : List ℕ → List Form → Form → Shape
+with_part command words part = record { command = command; words = words; part = Some part }
+
+-- the commands, a line each; a blank line has no shape of its own
+abbrev pub shape_of : Row → Shape
+shape_of Nothing = plain [] []
+shape_of Cons = with_part (codes "cons") (name ∷ top ∷ nat ∷ []) cons
+shape_of Gens = with_part (codes "gens") (name ∷ top ∷ nat ∷ []) gens
+shape_of Universe = plain (codes "universe") (name ∷ top ∷ nat ∷ [])
+shape_of Empty = plain (codes "empty") (name ∷ top ∷ nat ∷ [])
+shape_of Copy = plain (codes "copy") (name ∷ name ∷ [])
+shape_of Drop = plain (codes "drop") (name ∷ [])
+shape_of Add = with_part (codes "add") (name ∷ []) cons
+shape_of Addgen = with_part (codes "addgen") (name ∷ []) gens
+shape_of Has = with_part (codes "has") (name ∷ []) point
+shape_of Size = plain (codes "size") (name ∷ [])
+shape_of Print = plain (codes "print") (side ∷ name ∷ [])
+shape_of Names = plain (codes "names") []
+
+-- the lines of the row
+abbrev pub row_form : Row → Form
+row_form Nothing = nothing_form
+row_form row = line_form (shape_of row)
+
+-- all rows
+abbrev pub rows : List Row
+rows = Nothing ∷ Cons ∷ Gens ∷ Universe ∷ Empty ∷ Copy ∷ Drop ∷ Add ∷ Addgen ∷ Has ∷ Size ∷ Print ∷ Names ∷ []

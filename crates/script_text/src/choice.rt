@@ -1,0 +1,74 @@
+//! The row of a line.
+ghost use Rattle.std.specs.Prelude.{◌≡◌, IfOk, IfSome, MatchResult, Contains, map};
+ghost use Rattle.grammar.specs.Form.{Matches, IsColumnOfAny};
+ghost use Rattle.script_text.specs.Rows.{row_form, rows, shape_of};
+
+use crate::forms::form_of;
+use crate::row::Row;
+use crate::words::split_word;
+use grammar::{column_of, matches};
+use std::alloc::{AllocError, Global};
+
+const ROWS: [Row; 13] = [
+    Row::Nothing,
+    Row::Cons,
+    Row::Gens,
+    Row::Universe,
+    Row::Empty,
+    Row::Copy,
+    Row::Drop,
+    Row::Add,
+    Row::Addgen,
+    Row::Has,
+    Row::Size,
+    Row::Print,
+    Row::Names,
+];
+
+/// The row that the command word names.
+fn named(word: &[u8]) -> Option<Row>
+    ensures { IfSome result (λ row. (shape_of row).command ≡ word.now) }
+{
+    match word {
+        b"cons" => Some(Row::Cons),
+        b"gens" => Some(Row::Gens),
+        b"universe" => Some(Row::Universe),
+        b"empty" => Some(Row::Empty),
+        b"copy" => Some(Row::Copy),
+        b"drop" => Some(Row::Drop),
+        b"add" => Some(Row::Add),
+        b"addgen" => Some(Row::Addgen),
+        b"has" => Some(Row::Has),
+        b"size" => Some(Row::Size),
+        b"print" => Some(Row::Print),
+        b"names" => Some(Row::Names),
+        _ => None,
+    }
+}
+
+/// A row whose form the line has, and else the column of the fault over all rows.
+fn by_trying(alloc: Global, rows: &[Row], line: &[u8]) -> Result<Result<Row, usize>, AllocError>
+    ensures { IfOk result (λ r. MatchResult r (λ row. Matches (row_form row) line.now) (IsColumnOfAny (map row_form rows.now) line.now)) }
+{
+    let mut column = 0;
+    for row in rows {
+        match column_of(alloc, &form_of(*row), line)? {
+            None => return Ok(Ok(*row)),
+            Some(fault) => column = column.max(fault),
+        }
+    }
+    Ok(Err(column))
+}
+
+/// The row whose form the line has, and else the column of the fault over all rows.
+pub fn row_of(alloc: Global, line: &[u8]) -> Result<Result<Row, usize>, AllocError>
+    ensures { IfOk result (λ r. MatchResult r (λ row. Matches (row_form row) line.now) (IsColumnOfAny (map row_form rows) line.now)) }
+{
+    let (word, _) = split_word(line);
+    if let Some(row) = named(word)
+        && matches(alloc, &form_of(row), line)?
+    {
+        return Ok(Ok(row));
+    }
+    by_trying(alloc, &ROWS, line)
+}

@@ -1,0 +1,20 @@
+//! Laws of the definitions that the contracts cite.
+ghost use Rattle.script_text.specs.Laws.{FieldsAreWords};
+ghost use Rattle.script_text.specs.Line.{SpellsOne, ReadsOnce};
+
+/// The fields of a line, however it matches, are those of its words.
+#[tactic(auto, using(crate::proofs::RowLaws::row_law))]
+pub fn fields_are_words()
+    ensures { FieldsAreWords }
+{}
+
+/// A line spells one command at most.
+#[tactic(auto, using(crate::proofs::SpellLemmas::spells_one))]
+pub fn one_command()
+    ensures { SpellsOne }
+{}
+
+/// A line that spells a command isn't refused, and a refused line has one fault.
+pub fn reads_once()
+    ensures { ReadsOnce }
+{}

@@ -1,0 +1,121 @@
+//! The words of a line.
+ghost use Rattle.std.specs.Prelude.{◌≡◌, length, take_while, reverse};
+ghost use Rattle.script_text.specs.Words.{is_blank, is_in_word, is_before_colon, is_before_comment, past_blanks, before_blanks, word_of, behind_word, before_comment, behind_colon, part_of};
+ghost use Rattle.script_text.specs.Fields.{fields_in};
+ghost use Rattle.script_text.specs.Shown.{shown};
+
+/// How many blanks stand in front.
+fn blanks_in_front(text: &[u8]) -> usize
+    ensures { result ≡ length (take_while is_blank text.now) }
+{
+    text.iter()
+        .take_while(|b| **b == b' ' || **b == b'\t')
+        .count()
+}
+
+/// How many blanks stand at the end.
+fn blanks_at_end(text: &[u8]) -> usize
+    ensures { result ≡ length (take_while is_blank (reverse text.now)) }
+{
+    text.iter()
+        .rev()
+        .take_while(|b| **b == b' ' || **b == b'\t')
+        .count()
+}
+
+/// The length of the word in front. A word ends before a blank, a colon or a comment.
+fn word_len(text: &[u8]) -> usize
+    ensures { result ≡ length (take_while is_in_word text.now) }
+{
+    text.iter()
+        .take_while(|b| !(**b == b' ' || **b == b'\t' || **b == b':' || **b == b'#'))
+        .count()
+}
+
+/// The text without the blanks in front.
+fn past_blanks(text: &[u8]) -> &[u8]
+    ensures { result.now ≡ past_blanks text.now }
+{
+    &text[blanks_in_front(text)..]
+}
+
+/// The text without the blanks at its end.
+fn before_blanks(text: &[u8]) -> &[u8]
+    ensures { result.now ≡ before_blanks text.now }
+{
+    &text[..text.len() - blanks_at_end(text)]
+}
+
+/// The first word of a text, and what stands behind it.
+pub fn split_word(text: &[u8]) -> (&[u8], &[u8])
+    ensures word { result.0.now ≡ word_of text.now }
+    ensures behind { result.1.now ≡ behind_word text.now }
+{
+    let text = past_blanks(text);
+    text.split_at(word_len(text))
+}
+
+/// How many bytes stand before a comment.
+fn comment_start(text: &[u8]) -> usize
+    ensures { result ≡ length (take_while is_before_comment text.now) }
+{
+    text.iter().take_while(|b| **b != b'#').count()
+}
+
+/// The text before a comment.
+fn before_comment(text: &[u8]) -> &[u8]
+    ensures { result.now ≡ before_comment text.now }
+{
+    &text[..comment_start(text)]
+}
+
+/// How many bytes stand before the first colon.
+fn colon_place(text: &[u8]) -> usize
+    ensures { result ≡ length (take_while is_before_colon text.now) }
+{
+    text.iter().take_while(|b| **b != b':').count()
+}
+
+/// What stands behind the first colon.
+fn behind_colon(text: &[u8]) -> &[u8]
+    ensures { result.now ≡ behind_colon text.now }
+{
+    let rest = &text[colon_place(text)..];
+    if rest.is_empty() { rest } else { &rest[1..] }
+}
+
+/// What stands between the first colon and a comment, without the blanks around it.
+fn part_of(text: &[u8]) -> &[u8]
+    ensures { result.now ≡ part_of text.now }
+{
+    before_blanks(past_blanks(behind_colon(before_comment(text))))
+}
+
+/// The words behind the command word, and the part behind the colon; a field that the line hasn't is
+/// empty.
+#[derive(Clone, Copy)]
+pub struct Fields<'a> {
+    pub first: &'a [u8],
+    pub second: &'a [u8],
+    pub third: &'a [u8],
+    pub fourth: &'a [u8],
+    pub part: &'a [u8],
+}
+
+/// The fields of what stands behind the command word.
+pub fn fields_in(rest: &[u8]) -> Fields<'_>
+    ensures { shown result ≡ fields_in rest.now }
+{
+    let part = part_of(rest);
+    let (first, rest) = split_word(rest);
+    let (second, rest) = split_word(rest);
+    let (third, rest) = split_word(rest);
+    let (fourth, _) = split_word(rest);
+    Fields {
+        first,
+        second,
+        third,
+        fourth,
+        part,
+    }
+}
