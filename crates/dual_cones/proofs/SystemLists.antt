@@ -4,13 +4,12 @@ use Rattle.std.specs.Prelude.{All}
 use Rattle.std.proofs.lemmas.List.{get_or-map, length-map}
 use Rattle.std.proofs.lemmas.List.Elements.{All-append, All-map, All-from_get_or, All-weaker}
 use Rattle.row_core.specs.Vectors.{dot}
-use Rattle.row_core.specs.Lists.{Row}
+use Rattle.row_core.specs.Lists.{Row, system_rows}
 use Rattle.cone_laws.specs.Cones.{Meets, Generates, negated}
 use Rattle.cone_laws.specs.Canon.{vector_at}
 use Rattle.cone_laws.specs.Duality.{lines_of, rays_of}
 use Rattle.cone_laws.proofs.Columns.{dot_comm}
 use Rattle.dual_cones.specs.Members.{ConeOf}
-use Rattle.dual_cones.specs.DualSystems.{system_rows}
 use Rattle.dual_cones.proofs.MemberLemmas.{cone_from, rows_of_both}
 
 -- ---- its lines and rays

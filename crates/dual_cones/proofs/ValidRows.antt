@@ -2,14 +2,14 @@
 use Rattle.std.proofs.Common.{◌≡◌, ℕ, List, length, slice_index_or, ℤ, pos, ◌≤ℤ◌, subst}
 use Rattle.std.specs.Prelude.{◌↔◌, All}
 use Rattle.row_core.specs.Vectors.{dot}
-use Rattle.row_core.specs.Lists.{Row}
+use Rattle.row_core.specs.Lists.{Row, system_rows}
 use Rattle.cone_laws.specs.Cones.{Upto, Spans, Generates, negated}
 use Rattle.cone_laws.specs.Duality.{lines_of, rays_of}
 use Rattle.cone_laws.proofs.Columns.{dot_comm, dot-negated}
 use Rattle.cone_laws.proofs.Spanning.{at_least_zero_on_spanned}
 use Rattle.cone_laws.proofs.Bipolar.{admitted_is_spanned, spanned_is_admitted}
 use Rattle.dual_cones.specs.Members.{ConeOf}
-use Rattle.dual_cones.specs.DualSystems.{system_rows, IsDual, AreSystemsOf}
+use Rattle.dual_cones.specs.DualSystems.{IsDual, AreSystemsOf}
 use Rattle.dual_cones.proofs.MemberLemmas.{zero_of_signs, spanned_within, canon_same}
 use Rattle.dual_cones.proofs.SystemLists.{lines_of-system_rows, rays_of-system_rows, zero_on_lines, least_on_rays, cone_of_row, system_wide}
 

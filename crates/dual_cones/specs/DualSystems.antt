@@ -1,14 +1,11 @@
-use Rattle.std.specs.Prelude.{◌≡◌, ℕ, ◌↔◌, true, false, List, ◌++◌, length, map, ℤ, pos, ◌≤ℤ◌, All}
+use Rattle.std.specs.Prelude.{◌≡◌, ℕ, ◌↔◌, List, length, ℤ, pos, ◌≤ℤ◌, All}
 use Rattle.row_core.specs.Vectors.{dot}
 use Rattle.row_core.specs.Lists.{Row}
+pub use Rattle.row_core.specs.Lists.{system_rows}
 use Rattle.cone_laws.specs.Cones.{Upto, Spans, Generates}
 use Rattle.cone_laws.specs.Canon.{Canon}
 use Rattle.cone_laws.specs.Duality.{lines_of, rays_of}
 use Rattle.dual_cones.specs.Members.{ConeOf}
-
--- the lines as equalities, and then the rays as inequalities
-abbrev pub system_rows : List (List ℤ) → List (List ℤ) → List Row
-system_rows lines rays = map (λ l. (l, true)) lines ++ map (λ r. (r, false)) rays
 
 -- the list of a system has its lines and its rays
 abbrev pub ListOfSystem : Type 0
