@@ -1,29 +1,17 @@
 -- An encoded cone and the rows that are valid on it, each by the canonical system of the other.
-use Rattle.std.proofs.Common.{◌≡◌, ℕ, suc, ◌+◌, ◌<◌, List, [], ◌∷◌, ◌++◌, length, replicate, ℤ, pos, negsuc, ◌+ℤ◌, ◌*ℤ◌, neg_ℤ, ◌≤ℤ◌, ◌<ℤ◌, sym, ap, ◌∙◌, subst, arith}
+use Rattle.std.proofs.Common.{◌≡◌, ℕ, suc, ◌+◌, List, [], ◌∷◌, ◌++◌, length, replicate, ℤ, pos, negsuc, ◌+ℤ◌, ◌*ℤ◌, neg_ℤ, ◌≤ℤ◌, ◌<ℤ◌, sym, ap, ◌∙◌, subst, arith}
 use Rattle.std.proofs.lemmas.Int.{ints}
-use Rattle.std.proofs.lemmas.List.Elements.{All-from_get_or}
 use Rattle.row_core.specs.Vectors.{cell, dot}
-use Rattle.cone_laws.specs.Cones.{Spans, negated}
-use Rattle.cone_laws.specs.Canon.{vector_at, IsSystem}
+use Rattle.row_core.specs.Lists.{system_rows}
+use Rattle.cone_laws.specs.Canon.{IsSystem}
 use Rattle.cone_laws.proofs.Ring.{mul-zero}
-use Rattle.cone_laws.proofs.Columns.{dot_comm, dot-negated}
-use Rattle.cone_laws.proofs.Spanning.{at_least_zero_on_spanned}
+use Rattle.cone_laws.proofs.Columns.{dot_comm}
+use Rattle.cone_laws.specs.Cones.{Upto}
+use Rattle.dual_cones.specs.Members.{ConeOf}
+use Rattle.dual_cones.proofs.ValidRows.{least_on_spanned, row_of_valid}
+use Rattle.nnc_laws.specs.EncodedDuals.{EncodedHasDual, DualIsEncoded}
 use Rattle.nnc_laws.specs.Encoding.{raised, lowered, height_row, bound_row, IsEncoded, IsEncodedDual}
 use Rattle.nnc_laws.proofs.EncodedRows.{dot_by_height, insert_remove, remove_insert, length_remove, length_insert, cell_insert, cell_insert_after, height_row_value, bound_row_value, length_last, length_replicate}
-
--- the set of vectors of the width on which the lines are 0 and the rays at least 0
-pub record IsPolar (width : ℕ) (lines rays : List (List ℤ)) (v : List ℤ) : Type 0 where
-  pub wide : length v ≡ width
-  pub on_lines : (i : ℕ) → i < length lines → dot (vector_at lines i) v ≡ pos 0
-  pub on_rays : (i : ℕ) → i < length rays → pos 0 ≤ℤ dot (vector_at rays i) v
-
--- a polar vector is at least 0 on what the lines and rays span
-polar_least : (width : ℕ) (lines rays : List (List ℤ)) (a v : List ℤ) → IsPolar width lines rays a → Spans lines rays v → pos 0 ≤ℤ dot a v
-polar_least width lines rays a v u s =
-    at_least_zero_on_spanned a lines rays v
-    (All-from_get_or (λ l. dot a l ≡ pos 0) lines [] (λ i h. dot_comm a (vector_at lines i) ∙ u.on_lines i h))
-    (All-from_get_or (λ r. pos 0 ≤ℤ dot a r) rays [] (λ i h. subst (λ (z : ℤ). pos 0 ≤ℤ z) (dot_comm (vector_at rays i) a) (u.on_rays i h)))
-    s
 
 module _ (dim : ℕ) where
   pub lowered_width : (v : List ℤ) → length v ≡ dim + 2 → length (lowered dim v) ≡ dim + 1
@@ -72,54 +60,42 @@ module _ (dim : ℕ) where
   difference_least : (d e x : ℤ) → x ≡ d +ℤ neg_ℤ e → pos 0 ≤ℤ x → e ≤ℤ d
   difference_least d e x f h = omega (arith, ints, f, h)
 
-  both_least : (x y : ℤ) → pos 0 ≤ℤ x → pos 0 ≤ℤ y → y ≡ neg_ℤ x → x ≡ pos 0
-  both_least x y p q e = omega (arith, ints, p, q, e)
-
-  negated_value : (a v : List ℤ) → dot (negated a) v ≡ neg_ℤ (dot a v)
-  negated_value a v = dot_comm (negated a) v ∙ dot-negated v a ∙ ap neg_ℤ (dot_comm v a)
-
   -- ---- from an encoded cone to its rows
   module _ (K : List ℤ → Type 0) (wide : (v : List ℤ) → K v → length v ≡ dim + 2) (lines rays : List (List ℤ)) (system : IsSystem K lines rays) (enc : IsEncoded dim K) (point : List ℤ) (inside : K point) (above : pos 0 <ℤ cell point dim) where
-    -- a map of two signs that is at least 0 on the set is 0 on a line
-    line_value : (i : ℕ) → i < length lines → (b : List ℤ) → ((v : List ℤ) → K v → pos 0 ≤ℤ dot v b) → dot (vector_at lines i) b ≡ pos 0
-    line_value i h b f =
-        let m = system.generates.lines_within i [] h in
-        both_least (dot (vector_at lines i) b) (dot (negated (vector_at lines i)) b) (f (vector_at lines i) m.0) (f (negated (vector_at lines i)) m.1) (negated_value (vector_at lines i) b)
-
-    polar_of : (b : List ℤ) → length b ≡ dim + 2 → ((v : List ℤ) → K v → pos 0 ≤ℤ dot v b) → IsPolar (dim + 2) lines rays b
-    polar_of b w f = record { wide = w; on_lines = λ i h. line_value i h b f; on_rays = λ i h. f (vector_at rays i) (system.generates.rays_within i [] h) }
+    row_of : (b : List ℤ) → length b ≡ dim + 2 → ((v : List ℤ) → K v → pos 0 ≤ℤ dot v b) → ConeOf (dim + 2) (system_rows lines rays) b
+    row_of b w f = row_of_valid (dim + 2) K lines rays system.generates b w (λ v k. subst (λ (z : ℤ). pos 0 ≤ℤ z) (dot_comm v b) (f v k))
 
     -- the rows that are valid on an encoded cone with a point
-    pub dual_of_encoded : IsEncodedDual dim (IsPolar (dim + 2) lines rays)
+    pub dual_of_encoded : IsEncodedDual dim (ConeOf (dim + 2) (system_rows lines rays))
     dual_of_encoded = record {
-      flat = λ a u. polar_of (raised dim (lowered dim a) (pos 0)) (flat_width a u.wide)
-          (λ v k. subst (λ (z : ℤ). pos 0 ≤ℤ z) (flat_swap a v u.wide (wide v k)) (polar_least (dim + 2) lines rays a (raised dim (lowered dim v) (pos 0)) u (system.generates.spans (raised dim (lowered dim v) (pos 0)) (enc.flat v k))));
-      height = polar_of (height_row dim).0 height_width (λ v k. subst (λ (z : ℤ). pos 0 ≤ℤ z) (sym (height_at v (wide v k))) (enc.height v k));
-      bound = polar_of (bound_row dim).0 bound_width (λ v k. subst (λ (z : ℤ). pos 0 ≤ℤ z) (sym (bound_at v (wide v k))) (least_difference (cell v (dim + 1)) (cell v dim) (enc.bound v k)));
+      flat = λ a u. row_of (raised dim (lowered dim a) (pos 0)) (flat_width a u.wide)
+          (λ v k. subst (λ (z : ℤ). pos 0 ≤ℤ z) (flat_swap a v u.wide (wide v k)) (least_on_spanned (dim + 2) lines rays a (raised dim (lowered dim v) (pos 0)) u (system.generates.spans (raised dim (lowered dim v) (pos 0)) (enc.flat v k))));
+      height = row_of (height_row dim).0 height_width (λ v k. subst (λ (z : ℤ). pos 0 ≤ℤ z) (sym (height_at v (wide v k))) (enc.height v k));
+      bound = row_of (bound_row dim).0 bound_width (λ v k. subst (λ (z : ℤ). pos 0 ≤ℤ z) (sym (bound_at v (wide v k))) (least_difference (cell v (dim + 1)) (cell v dim) (enc.bound v k)));
       vector = point;
       wide = wide point inside;
       above = above;
-      least = λ a u. polar_least (dim + 2) lines rays a point u (system.generates.spans point inside);
+      least = λ a u. least_on_spanned (dim + 2) lines rays a point u (system.generates.spans point inside);
     }
 
   -- ---- from the rows to the encoded cone
   module _ (D : List ℤ → Type 0) (wide : (a : List ℤ) → D a → length a ≡ dim + 2) (lines rays : List (List ℤ)) (system : IsSystem D lines rays) (enc : IsEncodedDual dim D) where
-    polar_of_rows : (v : List ℤ) → length v ≡ dim + 2 → ((a : List ℤ) → D a → pos 0 ≤ℤ dot a v) → IsPolar (dim + 2) lines rays v
-    polar_of_rows v w f = record {
-      wide = w;
-      on_lines = λ i h.
-          let m = system.generates.lines_within i [] h in
-          both_least (dot (vector_at lines i) v) (dot (negated (vector_at lines i)) v) (f (vector_at lines i) m.0) (f (negated (vector_at lines i)) m.1) (negated_value (vector_at lines i) v);
-      on_rays = λ i h. f (vector_at rays i) (system.generates.rays_within i [] h);
-    }
+    vector_of : (v : List ℤ) → length v ≡ dim + 2 → ((a : List ℤ) → D a → pos 0 ≤ℤ dot a v) → ConeOf (dim + 2) (system_rows lines rays) v
+    vector_of v w f = row_of_valid (dim + 2) D lines rays system.generates v w (λ a k. subst (λ (z : ℤ). pos 0 ≤ℤ z) (dot_comm a v) (f a k))
 
-    pub encoded_of_dual : IsEncoded dim (IsPolar (dim + 2) lines rays)
+    pub encoded_of_dual : IsEncoded dim (ConeOf (dim + 2) (system_rows lines rays))
     encoded_of_dual = record {
-      height = λ v u. subst (λ (z : ℤ). pos 0 ≤ℤ z) (height_at v u.wide) (polar_least (dim + 2) lines rays v (height_row dim).0 u (system.generates.spans (height_row dim).0 enc.height));
-      bound = λ v u. difference_least (cell v (dim + 1)) (cell v dim) (dot v (bound_row dim).0) (bound_at v u.wide) (polar_least (dim + 2) lines rays v (bound_row dim).0 u (system.generates.spans (bound_row dim).0 enc.bound));
-      flat = λ v u. polar_of_rows (raised dim (lowered dim v) (pos 0)) (flat_width v u.wide)
-          (λ a k. subst (λ (z : ℤ). pos 0 ≤ℤ z) (flat_swap v a u.wide (wide a k)) (polar_least (dim + 2) lines rays v (raised dim (lowered dim a) (pos 0)) u (system.generates.spans (raised dim (lowered dim a) (pos 0)) (enc.flat a k))));
+      height = λ v u. subst (λ (z : ℤ). pos 0 ≤ℤ z) (height_at v u.wide) (least_on_spanned (dim + 2) lines rays v (height_row dim).0 u (system.generates.spans (height_row dim).0 enc.height));
+      bound = λ v u. difference_least (cell v (dim + 1)) (cell v dim) (dot v (bound_row dim).0) (bound_at v u.wide) (least_on_spanned (dim + 2) lines rays v (bound_row dim).0 u (system.generates.spans (bound_row dim).0 enc.bound));
+      flat = λ v u. vector_of (raised dim (lowered dim v) (pos 0)) (flat_width v u.wide)
+          (λ a k. subst (λ (z : ℤ). pos 0 ≤ℤ z) (flat_swap v a u.wide (wide a k)) (least_on_spanned (dim + 2) lines rays v (raised dim (lowered dim a) (pos 0)) u (system.generates.spans (raised dim (lowered dim a) (pos 0)) (enc.flat a k))));
     }
 
-    pub point_of_dual : IsPolar (dim + 2) lines rays enc.vector
-    point_of_dual = polar_of_rows enc.vector enc.wide enc.least
+    pub point_of_dual : ConeOf (dim + 2) (system_rows lines rays) enc.vector
+    point_of_dual = vector_of enc.vector enc.wide enc.least
+
+pub encoded_has_dual : EncodedHasDual
+encoded_has_dual dim rows lines rays point system enc inside above = dual_of_encoded dim (Upto (dim + 2) rows (length rows)) (λ v k. k.wide) lines rays system enc point inside above
+
+pub dual_is_encoded : DualIsEncoded
+dual_is_encoded dim gens lines rays system enc = (encoded_of_dual dim (Upto (dim + 2) gens (length gens)) (λ a k. k.wide) lines rays system enc, record { vector = enc.vector; member = point_of_dual dim (Upto (dim + 2) gens (length gens)) (λ a k. k.wide) lines rays system enc; above = enc.above })

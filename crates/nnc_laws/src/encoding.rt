@@ -1,5 +1,6 @@
 //! Laws of the lists that encode constraints and generators.
 
+ghost use Rattle.nnc_laws.specs.EncodedDuals.{DualIsEncoded, EncodedHasDual};
 ghost use Rattle.nnc_laws.specs.EncodedGenerators.{CodedIsSpanned, GeneratorsEncode, SpannedIsCoded};
 ghost use Rattle.nnc_laws.specs.Encoding.{ConstraintsAreCoded, ConstraintsEncode};
 
@@ -14,4 +15,10 @@ pub fn generators_code()
     ensures encoded { GeneratorsEncode }
     ensures coded { SpannedIsCoded }
     ensures spanned { CodedIsSpanned }
+{}
+
+/// The rows that are valid on an encoded cone with a point are an encoded dual, and what an encoded dual admits is an encoded cone with a point.
+pub fn duals_are_encoded()
+    ensures dual { EncodedHasDual }
+    ensures cone { DualIsEncoded }
 {}
