@@ -1,0 +1,16 @@
+pub mod PassLemmas
+pub mod EncodeLemmas
+pub mod MarkLemmas
+pub mod StrongLemmas
+pub mod DecodeLemmas
+pub mod NeededLemmas
+pub mod LineLemmas
+pub mod KindLemmas
+pub mod ConsLemmas
+pub mod GensLemmas
+pub mod SortLemmas
+pub mod OrderLemmas
+pub mod ResultLemmas
+pub mod FormLemmas
+pub mod SpareLemmas
+pub mod AlikeLemmas

@@ -1,0 +1,7 @@
+use Rattle.std.proofs.Common.{refl}
+use Rattle.nnc_laws.specs.StrongRows.{kept_at}
+use Rattle.nnc_enc.proofs.DecodeLemmas.{kept_step}
+use Rattle.nnc_enc.proofs.decoding.kept.Goals as goal
+
+pub loop-index-preserved : goal.loop-index-preserved
+loop-index-preserved c = kept_step c.args.keep.now c.loop-index.kept.items c.push_if.new.kept.items c.loop-index.index (kept_at c.args.keep.now c.loop-index.index) c.loop-index.invariant refl c.in_ok-push_if.ensures

@@ -1,0 +1,9 @@
+use Rattle.std.proofs.Common.{◌∙◌, arith}
+use Rattle.nnc_enc.proofs.PassLemmas.{passed_more}
+use Rattle.nnc_enc.proofs.passes.drop_covered.Goals as goal
+
+pub loop-i-preserved : goal.loop-i-preserved
+loop-i-preserved c = record {
+  length = c.drop_if_covered.ensures.length ∙ c.loop-i.invariant.length;
+  passed = passed_more c.args.level.now c.args.marks.now c.args.sat.now.rows c.args.keep.now c.loop-i.keep c.drop_if_covered.new.keep c.loop-i.i c.loop-i.invariant.length (omega arith) c.loop-i.invariant.passed c.drop_if_covered.ensures.step;
+}

@@ -1,0 +1,5 @@
+use Rattle.nnc_enc.proofs.ResultLemmas as lemmas
+use Rattle.nnc_enc.proofs.results.decoded_rows_code.Goals as goal
+
+pub returns : goal.returns
+returns c = lemmas.decoded_rows_code

@@ -1,0 +1,5 @@
+use Rattle.nnc_enc.specs.Strong.{AreFirstRows}
+use Rattle.nnc_enc.proofs.strong.first_rows.Given as goal
+
+abbrev pub invariant-loop-index : goal.invariant-loop-index
+invariant-loop-index l = AreFirstRows l.fn.dim l.rays.rows l.strict l.places l.sat.rows l.keep.items l.index

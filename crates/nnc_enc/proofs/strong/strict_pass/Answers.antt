@@ -1,0 +1,21 @@
+use Rattle.std.proofs.Common.{arith, ◌≡◌, ◌∙◌, ap, sym, subst, List, Bool, length, drop}
+use Rattle.nnc_enc.specs.Strong.{IsStrictPass, AreFirstRows}
+use Rattle.nnc_enc.specs.Passes.{IsPassed}
+use Rattle.nnc_enc.specs.Tables.{vectors}
+use Rattle.nnc_enc.proofs.MarkLemmas.{written_back}
+use Rattle.nnc_enc.proofs.StrongLemmas.{strict_pass_is}
+use Rattle.nnc_enc.proofs.strong.strict_pass.Goals as goal
+
+pub returns : goal.returns
+returns c =
+    let new = c.drop_covered.new.keep in
+    let firsts : AreFirstRows c.args.dim c.args.rays.now.rows c.in_ok-strict.strict.items c.in_ok-places.places.items c.args.sat.now.rows c.in_ok-keep.keep.items (length c.args.sat.now.rows) =
+    subst (λ (s : List Bool). AreFirstRows c.args.dim c.args.rays.now.rows s c.in_ok-places.places.items c.args.sat.now.rows c.in_ok-keep.keep.items (length c.args.sat.now.rows)) c.deref.ensures.value
+    (subst (λ (p : List Bool). AreFirstRows c.args.dim c.args.rays.now.rows c.deref.result.now p c.args.sat.now.rows c.in_ok-keep.keep.items (length c.args.sat.now.rows)) c.deref-2.ensures.value c.in_ok-keep.ensures) in
+    let passed : IsPassed c.in_ok-level.level.items c.in_ok-strict.strict.items c.args.sat.now.rows c.in_ok-keep.keep.items c.drop_covered.new.keep (length c.args.sat.now.rows) =
+    subst (λ (l : List Bool). IsPassed l c.in_ok-strict.strict.items c.args.sat.now.rows c.in_ok-keep.keep.items c.drop_covered.new.keep (length c.args.sat.now.rows)) c.deref-3.ensures.value
+    (subst (λ (s : List Bool). IsPassed c.deref-3.result.now s c.args.sat.now.rows c.in_ok-keep.keep.items c.drop_covered.new.keep (length c.args.sat.now.rows)) c.deref-4.ensures.value
+    (subst (λ (k : List Bool). IsPassed c.deref-3.result.now c.deref-4.result.now c.args.sat.now.rows k c.drop_covered.new.keep (length c.args.sat.now.rows)) c.deref_mut.ensures.value c.drop_covered.ensures.passed)) in
+    let same : length c.drop_covered.new.keep ≡ length c.in_ok-keep.keep.items = c.drop_covered.ensures.length ∙ ap length c.deref_mut.ensures.value in
+    let is : IsStrictPass c.args.dim c.args.gens.now.rows (vectors c.args.rays.now.rows) c.drop_covered.new.keep = strict_pass_is c.args.dim c.args.gens.now.rows c.args.rays.now.rows c.args.sat.now c.requires.table c.in_ok-level.level.items c.in_ok-level.ensures c.in_ok-places.places.items c.in_ok-strict.strict.items c.in_ok-keep.keep.items c.drop_covered.new.keep c.in_ok-places.ensures c.in_ok-strict.ensures firsts same passed in
+    subst (IsStrictPass c.args.dim c.args.gens.now.rows (vectors c.args.rays.now.rows)) (sym (written_back c.drop_covered.new.keep (drop (length c.drop_covered.new.keep) c.in_ok-keep.keep.items) c.in_ok-keep.keep.len (omega (arith, same, c.deref_mut.ensures.len, c.drop_covered.ensures.length)))) is

@@ -1,0 +1,151 @@
+//! The lists of systems with strict rows and closure points.
+ghost use Rattle.std.specs.Prelude.{◌≡◌, ℕ, ◌+◌, ◌-◌, ◌^◌, ◌<◌, ◌≤◌, ◌++◌, ◌∷◌, [], List, length, insert, replicate, IfOk, OnOk, pos, negsuc, ℤ};
+ghost use Rattle.row_core.specs.Vectors.{cell};
+ghost use Rattle.row_core.specs.Range.{InRange, AllInRange};
+ghost use Rattle.nnc_laws.specs.Encoding.{raised, height_of, is_equality, encoded_constraint, height_row, bound_row, encoded_constraints};
+ghost use Rattle.nnc_laws.specs.EncodedGenerators.{encoded_generator, encoded_generators};
+ghost use Rattle.cons_sys.specs.Constraints.{constraint_at};
+ghost use Rattle.gens_sys.specs.Generators.{generator_at};
+
+use cons_sys::{ConKind, ConsSys};
+use gens_sys::{GenKind, GensSys};
+use row_core::{Memory, RowList};
+use std::alloc::Global;
+
+/// A copy of the row with a number before its last entry.
+fn raised_row(alloc: Global, dim: usize, row: &[i128], height: i128) -> Result<Vec<i128>, Memory>
+    requires wide { length row.now ≡ dim + 1 }
+    requires in_range { AllInRange row.now }
+    requires height { InRange height }
+    ensures items { IfOk result (λ v. v.items ≡ raised dim row.now height) }
+    ensures wide { IfOk result (λ v. length v.items ≡ dim + 2) }
+    ensures in_range { IfOk result (λ v. AllInRange v.items) }
+{
+    let mut raised = Vec::from_slice(alloc, row)?;
+    raised.insert(dim, height)?;
+    Ok(raised)
+}
+
+/// Appends the row with a number before its last entry.
+fn push_raised(
+    alloc: Global,
+    list: &mut RowList,
+    dim: usize,
+    row: &[i128],
+    height: i128,
+    eq: bool,
+) -> Result<(), Memory>
+    requires list { list.old.width ≡ dim + 2 }
+    requires wide { length row.now ≡ dim + 1 }
+    requires in_range { AllInRange row.now }
+    requires height { InRange height }
+    ensures width { list.new.width ≡ list.old.width }
+    ensures rows { OnOk result (list.new.rows ≡ list.old.rows ++ (raised dim row.now height, eq) ∷ []) }
+{
+    let raised = raised_row(alloc, dim, row, height)?;
+    list.push(&raised, eq)?;
+    Ok(())
+}
+
+/// What a constraint of the kind has in column e.
+fn height_of(kind: ConKind) -> i128
+    ensures value { result ≡ height_of kind }
+    ensures in_range { InRange result }
+{
+    match kind {
+        ConKind::Eq | ConKind::Ge => 0,
+        ConKind::Gt => -1,
+    }
+}
+
+/// Whether a constraint of the kind is an equality.
+fn is_equality(kind: ConKind) -> bool
+    ensures { result ≡ is_equality kind }
+{
+    match kind {
+        ConKind::Eq => true,
+        ConKind::Ge | ConKind::Gt => false,
+    }
+}
+
+/// Appends the row that is 1 in column e alone.
+fn push_height_row(alloc: Global, list: &mut RowList, dim: usize) -> Result<(), Memory>
+    requires width { list.old.width ≡ dim + 2 }
+    requires narrow { dim < 2 ^ 32 - 2 }
+    ensures width { list.new.width ≡ list.old.width }
+    ensures rows { OnOk result (list.new.rows ≡ list.old.rows ++ height_row dim ∷ []) }
+{
+    let zeros = vec![in alloc; 0i128; dim + 1]?;
+    push_raised(alloc, list, dim, &zeros, 1, false)
+}
+
+/// Appends the row that is 1 in column d and -1 in column e.
+fn push_bound_row(alloc: Global, list: &mut RowList, dim: usize) -> Result<(), Memory>
+    requires { list.old.width ≡ dim + 2 }
+    ensures width { list.new.width ≡ list.old.width }
+    ensures rows { OnOk result (list.new.rows ≡ list.old.rows ++ bound_row dim ∷ []) }
+{
+    let mut row = vec![in alloc; 0i128; dim]?;
+    row.push(1)?;
+    push_raised(alloc, list, dim, &row, -1, false)
+}
+
+/// The list of a system of constraints.
+pub fn encode_cons(alloc: Global, cons: &ConsSys) -> Result<RowList, Memory>
+    ensures width { IfOk result (λ list. list.width ≡ cons.now.dim + 2) }
+    ensures rows { IfOk result (λ list. list.rows ≡ encoded_constraints cons.now) }
+{
+    let dim = cons.dim();
+    let mut list = RowList::new(alloc, dim + 2);
+    push_height_row(alloc, &mut list, dim)?;
+    push_bound_row(alloc, &mut list, dim)?;
+    for index in 0..cons.len() {
+        let kind = cons.kind(index);
+        push_raised(
+            alloc,
+            &mut list,
+            dim,
+            cons.row(index),
+            height_of(kind),
+            is_equality(kind),
+        )?;
+    }
+    Ok(list)
+}
+
+/// Appends the vectors of a generator.
+fn push_encoded(
+    alloc: Global,
+    list: &mut RowList,
+    dim: usize,
+    row: &[i128],
+    kind: GenKind,
+) -> Result<(), Memory>
+    requires list { list.old.width ≡ dim + 2 }
+    requires wide { length row.now ≡ dim + 1 }
+    requires in_range { AllInRange row.now }
+    ensures width { list.new.width ≡ list.old.width }
+    ensures rows { OnOk result (list.new.rows ≡ list.old.rows ++ encoded_generator dim (row.now, kind)) }
+{
+    match kind {
+        GenKind::Line => push_raised(alloc, list, dim, row, 0, true),
+        GenKind::Ray | GenKind::ClosurePoint => push_raised(alloc, list, dim, row, 0, false),
+        GenKind::Point => {
+            push_raised(alloc, list, dim, row, row[dim], false)?;
+            push_raised(alloc, list, dim, row, 0, false)
+        }
+    }
+}
+
+/// The list of a system of generators.
+pub fn encode_gens(alloc: Global, gens: &GensSys) -> Result<RowList, Memory>
+    ensures width { IfOk result (λ list. list.width ≡ gens.now.dim + 2) }
+    ensures rows { IfOk result (λ list. list.rows ≡ encoded_generators gens.now.dim gens.now.list) }
+{
+    let dim = gens.dim();
+    let mut list = RowList::new(alloc, dim + 2);
+    for index in 0..gens.len() {
+        push_encoded(alloc, &mut list, dim, gens.row(index), gens.kind(index))?;
+    }
+    Ok(list)
+}

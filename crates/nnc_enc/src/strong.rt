@@ -1,0 +1,237 @@
+//! Which rows and which vectors of a canonical system are kept.
+ghost use Rattle.std.specs.Prelude.{◌≡◌, ℕ, ◌+◌, ◌-◌, ◌^◌, ◌<◌, ◌≤◌, List, length, IfOk, IsTrue, ◌↔◌, ℤ};
+ghost use Rattle.sat_matrix.specs.Tables.{bits_of};
+ghost use Rattle.row_core.specs.Lists.{row_at};
+ghost use Rattle.cone_laws.specs.Cones.{Upto};
+ghost use Rattle.row_core.specs.Points.{IsPoint};
+ghost use Rattle.cons_sys.specs.Constraints.{In};
+ghost use Rattle.gens_sys.specs.Spans.{Span};
+ghost use Rattle.nnc_laws.specs.Encoding.{Codes};
+ghost use Rattle.nnc_enc.specs.Decoding.{FitKinds};
+ghost use Rattle.nnc_enc.specs.Kept.{IsNeededConstraint};
+ghost use Rattle.nnc_enc.specs.NeededGenerators.{IsNeededGenerator};
+ghost use Rattle.nnc_enc.specs.Results.{AreRowsOf, AreVectorsOf};
+ghost use Rattle.nnc_laws.specs.StrongRows.{HasVariable, IsAdmittedVector};
+ghost use Rattle.nnc_enc.specs.Tables.{vectors, IsZeroTable};
+ghost use Rattle.nnc_enc.specs.Marks.{flag};
+ghost use Rattle.nnc_enc.specs.Passes.{IsClear};
+ghost use Rattle.nnc_enc.specs.Sorting.{AreStrongRows, AreStrongVectors};
+ghost use Rattle.nnc_enc.specs.Strong.{StaysAtFirst, AreFirstRows, AreFirstVectors, IsStrictPass, IsPointPass};
+
+use crate::decoding::{constraints_of, generators_of, kept};
+use crate::marks::{Mark, has_variable, marks};
+use crate::passes::{drop_covered, is_clear};
+use crate::sorting::ordered;
+use cons_sys::ConsSys;
+use gens_sys::GensSys;
+use row_core::{Memory, RowList};
+use sat_matrix::SatMatrix;
+use std::alloc::{AllocError, Global};
+
+/// Whether the marked row is true at none of the marked columns.
+fn is_marked_clear(marked: &[bool], columns: &[bool], sat: &SatMatrix, i: usize) -> bool
+    requires wide { length columns.now ≡ sat.now.columns }
+    requires marks { length marked.now ≡ length sat.now.rows }
+    requires row { i < length sat.now.rows }
+    ensures { IsTrue result ↔ (IsTrue (flag marked.now i) × IsClear columns.now (bits_of sat.now.rows i) (length columns.now)) }
+{
+    marked[i] && is_clear(columns, sat, i)
+}
+
+/// Whether a row is kept at first.
+fn stays_at_first(
+    dim: usize,
+    rays: &RowList,
+    strict: &[bool],
+    places: &[bool],
+    sat: &SatMatrix,
+    i: usize,
+) -> bool
+    requires width { rays.now.width ≡ dim + 2 }
+    requires wide { length places.now ≡ sat.now.columns }
+    requires marks { length strict.now ≡ length sat.now.rows }
+    requires row { i < length sat.now.rows }
+    requires ray { i < length rays.now.rows }
+    ensures { IsTrue result ↔ StaysAtFirst dim rays.now.rows strict.now places.now sat.now.rows i }
+{
+    has_variable(dim, rays.row(i)) && !is_marked_clear(strict, places, sat, i)
+}
+
+/// The rows that are kept at first: those with a variable, but for the strict ones that exclude no
+/// place.
+fn first_rows(
+    alloc: Global,
+    dim: usize,
+    rays: &RowList,
+    strict: &[bool],
+    places: &[bool],
+    sat: &SatMatrix,
+) -> Result<Vec<bool>, AllocError>
+    requires width { rays.now.width ≡ dim + 2 }
+    requires wide { length places.now ≡ sat.now.columns }
+    requires marks { length strict.now ≡ length sat.now.rows }
+    requires as_many { length rays.now.rows ≡ length sat.now.rows }
+    ensures { IfOk result (λ v. AreFirstRows dim rays.now.rows strict.now places.now sat.now.rows v.items (length sat.now.rows)) }
+{
+    let mut keep = Vec::new(alloc);
+    for index in 0..sat.len() {
+        keep.push(stays_at_first(dim, rays, strict, places, sat, index))?;
+    }
+    Ok(keep)
+}
+
+/// The vectors that are kept at first: all but the closure points on which no strict row is 0.
+fn first_vectors(
+    alloc: Global,
+    places: &[bool],
+    strict: &[bool],
+    sat: &SatMatrix,
+) -> Result<Vec<bool>, AllocError>
+    requires wide { length strict.now ≡ sat.now.columns }
+    requires marks { length places.now ≡ length sat.now.rows }
+    ensures { IfOk result (λ v. AreFirstVectors places.now strict.now sat.now.rows v.items (length sat.now.rows)) }
+{
+    let mut keep = Vec::new(alloc);
+    for index in 0..sat.len() {
+        keep.push(!is_marked_clear(places, strict, sat, index))?;
+    }
+    Ok(keep)
+}
+
+/// The rows that a strong pass keeps.
+pub fn strict_pass(
+    alloc: Global,
+    dim: usize,
+    rays: &RowList,
+    gens: &RowList,
+    sat: &SatMatrix,
+) -> Result<Vec<bool>, Memory>
+    requires rays_width { rays.now.width ≡ dim + 2 }
+    requires gens_width { gens.now.width ≡ dim + 2 }
+    requires table { IsZeroTable gens.now.rows (length gens.now.rows) (vectors rays.now.rows) sat.now }
+    ensures { IfOk result (λ v. IsStrictPass dim gens.now.rows (vectors rays.now.rows) v.items) }
+{
+    let strict = marks(alloc, dim, rays, Mark::Strict)?;
+    let level = marks(alloc, dim, gens, Mark::Level)?;
+    let places = marks(alloc, dim, gens, Mark::Place)?;
+    let mut keep = first_rows(alloc, dim, rays, &strict, &places, sat)?;
+    drop_covered(&level, &strict, sat, &mut keep);
+    Ok(keep)
+}
+
+/// The vectors that a strong pass keeps.
+pub fn point_pass(
+    alloc: Global,
+    dim: usize,
+    rays: &RowList,
+    cons: &RowList,
+    sat: &SatMatrix,
+) -> Result<Vec<bool>, Memory>
+    requires rays_width { rays.now.width ≡ dim + 2 }
+    requires cons_width { cons.now.width ≡ dim + 2 }
+    requires table { IsZeroTable cons.now.rows (length cons.now.rows) (vectors rays.now.rows) sat.now }
+    ensures { IfOk result (λ v. IsPointPass dim cons.now.rows (vectors rays.now.rows) v.items) }
+{
+    let points = marks(alloc, dim, rays, Mark::Point)?;
+    let places = marks(alloc, dim, rays, Mark::Place)?;
+    let level = marks(alloc, dim, cons, Mark::Level)?;
+    let strict = marks(alloc, dim, cons, Mark::Strict)?;
+    let mut keep = first_vectors(alloc, &places, &strict, sat)?;
+    drop_covered(&level, &points, sat, &mut keep);
+    Ok(keep)
+}
+
+/// The constraints of what a strong pass keeps, in order.
+fn strong_rows(
+    alloc: Global,
+    dim: usize,
+    lines: &RowList,
+    rays: &RowList,
+    gens: &RowList,
+    sat: &SatMatrix,
+) -> Result<ConsSys, Memory>
+    requires narrow { dim < 2 ^ 32 - 2 }
+    requires lines_width { lines.now.width ≡ dim + 2 }
+    requires rays_width { rays.now.width ≡ dim + 2 }
+    requires gens_width { gens.now.width ≡ dim + 2 }
+    requires table { IsZeroTable gens.now.rows (length gens.now.rows) (vectors rays.now.rows) sat.now }
+    ensures dim { IfOk result (λ cons. cons.dim ≡ dim) }
+    ensures list { IfOk result (λ cons. AreStrongRows dim gens.now.rows lines.now.rows rays.now.rows cons.list) }
+{
+    let keep = strict_pass(alloc, dim, rays, gens, sat)?;
+    let kept = kept(alloc, &keep)?;
+    let order = ordered(alloc, dim, rays, &kept)?;
+    constraints_of(alloc, dim, lines, rays, &order)
+}
+
+/// Some of the constraints that a canonical system stands for, with the same points, of which none
+/// can be left out.
+pub fn strong_cons(
+    alloc: Global,
+    dim: usize,
+    lines: &RowList,
+    rays: &RowList,
+    gens: &RowList,
+    sat: &SatMatrix,
+) -> Result<ConsSys, Memory>
+    requires narrow { dim < 2 ^ 32 - 2 }
+    requires lines_width { lines.now.width ≡ dim + 2 }
+    requires rays_width { rays.now.width ≡ dim + 2 }
+    requires gens_width { gens.now.width ≡ dim + 2 }
+    requires rows { AreRowsOf dim gens.now.rows lines.now.rows rays.now.rows }
+    requires table { IsZeroTable gens.now.rows (length gens.now.rows) (vectors rays.now.rows) sat.now }
+    ensures dim { IfOk result (λ cons. cons.dim ≡ dim) }
+    ensures list { IfOk result (λ cons. AreStrongRows dim gens.now.rows lines.now.rows rays.now.rows cons.list) }
+    ensures points { IfOk result (λ cons. (p : List ℤ) → IsPoint dim p → In cons p ↔ Codes dim (IsAdmittedVector (dim + 2) gens.now.rows) p) }
+    ensures needed { IfOk result (λ cons. (i : ℕ) → i < length cons.list → IsNeededConstraint dim cons.list i) }
+{
+    strong_rows(alloc, dim, lines, rays, gens, sat)
+}
+
+/// The generators of what a strong pass keeps, in order.
+fn strong_vectors(
+    alloc: Global,
+    dim: usize,
+    lines: &RowList,
+    rays: &RowList,
+    cons: &RowList,
+    sat: &SatMatrix,
+) -> Result<GensSys, Memory>
+    requires narrow { dim < 2 ^ 32 - 2 }
+    requires lines_width { lines.now.width ≡ dim + 2 }
+    requires rays_width { rays.now.width ≡ dim + 2 }
+    requires cons_width { cons.now.width ≡ dim + 2 }
+    requires fit { FitKinds dim lines.now.rows rays.now.rows }
+    requires table { IsZeroTable cons.now.rows (length cons.now.rows) (vectors rays.now.rows) sat.now }
+    ensures dim { IfOk result (λ gens. gens.dim ≡ dim) }
+    ensures list { IfOk result (λ gens. AreStrongVectors dim cons.now.rows lines.now.rows rays.now.rows gens.list) }
+{
+    let keep = point_pass(alloc, dim, rays, cons, sat)?;
+    let kept = kept(alloc, &keep)?;
+    let order = ordered(alloc, dim, rays, &kept)?;
+    generators_of(alloc, dim, lines, rays, &order)
+}
+
+/// Some of the generators that a canonical system stands for, with the same points, of which none can
+/// be left out.
+pub fn strong_gens(
+    alloc: Global,
+    dim: usize,
+    lines: &RowList,
+    rays: &RowList,
+    cons: &RowList,
+    sat: &SatMatrix,
+) -> Result<GensSys, Memory>
+    requires narrow { dim < 2 ^ 32 - 2 }
+    requires lines_width { lines.now.width ≡ dim + 2 }
+    requires rays_width { rays.now.width ≡ dim + 2 }
+    requires cons_width { cons.now.width ≡ dim + 2 }
+    requires vectors { AreVectorsOf dim cons.now.rows lines.now.rows rays.now.rows }
+    requires table { IsZeroTable cons.now.rows (length cons.now.rows) (vectors rays.now.rows) sat.now }
+    ensures dim { IfOk result (λ gens. gens.dim ≡ dim) }
+    ensures list { IfOk result (λ gens. AreStrongVectors dim cons.now.rows lines.now.rows rays.now.rows gens.list) }
+    ensures points { IfOk result (λ gens. (v : List ℤ) → length v ≡ dim + 1 → Span gens v ↔ Codes dim (Upto (dim + 2) cons.now.rows (length cons.now.rows)) v) }
+    ensures needed { IfOk result (λ gens. (i : ℕ) → i < length gens.list → IsNeededGenerator dim gens i) }
+{
+    strong_vectors(alloc, dim, lines, rays, cons, sat)
+}
