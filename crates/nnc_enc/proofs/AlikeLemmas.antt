@@ -8,7 +8,7 @@ use Rattle.std.proofs.lemmas.Int.{ints}
 use Rattle.row_core.specs.Vectors.{cell, dot}
 use Rattle.row_core.specs.Content.{IsMultipleOf}
 use Rattle.row_core.proofs.OnePrimitive.{IsPrimitiveOf-once}
-use Rattle.row_core.specs.Lists.{Row, row_at}
+use Rattle.row_core.specs.Lists.{Row, row_at, vectors}
 use Rattle.cone_laws.specs.Cones.{Upto}
 use Rattle.cone_laws.specs.Canon.{vector_at, IsGreater}
 use Rattle.cone_laws.proofs.Ring.{ring, mul-zero, mul-positive, zero_of_mul, positive_of_mul, same_or_not}
@@ -23,7 +23,6 @@ use Rattle.nnc_laws.proofs.EncodedDuals.{lowered_width, last_at}
 use Rattle.nnc_laws.proofs.ClosedRows.{least_on}
 use Rattle.nnc_laws.proofs.LevelVectors.{level_vector_needed}
 use Rattle.nnc_laws.proofs.Relaxed.{relaxed}
-use Rattle.nnc_enc.specs.Tables.{vectors}
 use Rattle.nnc_enc.specs.Strong.{HasStrictRow}
 use Rattle.nnc_enc.specs.Decoding.{index_at, AreKept}
 use Rattle.nnc_enc.specs.Sorting.{AreStrongVectors}

@@ -6,7 +6,7 @@ use Rattle.std.proofs.lemmas.List.Elements.{All-get_or, All-from_get_or}
 use Rattle.std.proofs.lemmas.Bool.{cases_lt}
 use Rattle.row_core.specs.Vectors.{cell, dot, scale}
 use Rattle.row_core.specs.Content.{IsPrimitiveOf}
-use Rattle.row_core.specs.Lists.{Row, row_at}
+use Rattle.row_core.specs.Lists.{Row, row_at, vectors}
 use Rattle.row_core.specs.Points.{IsPoint}
 use Rattle.cone_laws.specs.Cones.{Upto}
 use Rattle.cone_laws.specs.Canon.{vector_at, IsSystem}
@@ -22,7 +22,6 @@ use Rattle.nnc_laws.proofs.LeftOutRows.{kept_rows_hold}
 use Rattle.nnc_laws.proofs.LevelRows.{level_rows_are_needed}
 use Rattle.nnc_laws.proofs.NeededRows.{strict_rows_are_needed}
 use Rattle.nnc_laws.proofs.RowHeights.{height_at_most}
-use Rattle.nnc_enc.specs.Tables.{vectors}
 use Rattle.nnc_enc.specs.Strong.{IsStrictPass}
 use Rattle.nnc_enc.specs.Decoding.{index_at, con_kind, Stands, AreConstraintsOf, AreKept}
 use Rattle.nnc_enc.specs.Needs.{IsBesideLine}

@@ -7,14 +7,13 @@ use Rattle.std.proofs.lemmas.List.Elements.{All-map, All-append, All-cons, All-n
 use Rattle.row_core.specs.Vectors.{cell, dot}
 use Rattle.row_core.specs.Content.{IsMultipleOf}
 use Rattle.row_core.proofs.OnePrimitive.{IsPrimitiveOf-once}
-use Rattle.row_core.specs.Lists.{Row, row_at}
+use Rattle.row_core.specs.Lists.{Row, row_at, vectors}
 use Rattle.cone_laws.specs.Cones.{Meets, Upto}
 use Rattle.cone_laws.specs.Canon.{vector_at, IsGreater}
 use Rattle.cone_laws.proofs.Ring.{zero_of_mul, positive_of_mul}
 use Rattle.cone_laws.proofs.Columns.{cell-scale}
 use Rattle.nnc_laws.specs.Encoding.{lowered}
 use Rattle.nnc_laws.proofs.Relaxed.{cell-remove, skip_before}
-use Rattle.nnc_enc.specs.Tables.{vectors}
 use Rattle.nnc_enc.specs.Decoding.{index_at}
 use Rattle.nnc_enc.specs.Forms.{second_list, IsWithinDual, SecondListIsDual, ListedForm}
 use Rattle.nnc_enc.proofs.MarkLemmas.{length-vectors, vector_at-vectors}

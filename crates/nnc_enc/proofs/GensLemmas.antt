@@ -8,7 +8,7 @@ use Rattle.std.proofs.lemmas.List.Elements.{All-map, All-filter, filter_passes, 
 use Rattle.std.proofs.lemmas.Bool.{cases_lt}
 use Rattle.row_core.specs.Vectors.{cell, dot}
 use Rattle.row_core.specs.Content.{IsMultipleOf}
-use Rattle.row_core.specs.Lists.{Row, row_at}
+use Rattle.row_core.specs.Lists.{Row, row_at, vectors}
 use Rattle.cone_laws.specs.Cones.{Meets, Upto, Spans}
 use Rattle.cone_laws.specs.Canon.{vector_at, IsSystem}
 use Rattle.cone_laws.specs.Duality.{lines_of, rays_of}
@@ -37,7 +37,6 @@ use Rattle.nnc_laws.proofs.LevelVectors.{level_vector_needed}
 use Rattle.nnc_laws.proofs.Relaxed.{Numbered, PointAt_of, cell-remove, relaxed, relaxed_lines, remain_by, skip}
 use Rattle.nnc_laws.proofs.SpanMarks.{span_marks, marks_span}
 use Rattle.nnc_laws.proofs.Decoded.{from_list, to_list}
-use Rattle.nnc_enc.specs.Tables.{vectors}
 use Rattle.nnc_enc.specs.Strong.{HasStrictRow}
 use Rattle.nnc_enc.specs.Decoding.{index_at, AreGeneratorsOf, AreKept, IsNamed}
 use Rattle.nnc_enc.specs.KeptVectors.{LevelVectorsAreNeeded, KeptGeneratorsCode, ListedDecodes}

@@ -5,7 +5,7 @@ use Rattle.std.proofs.lemmas.Int.{ints}
 use Rattle.std.proofs.lemmas.List.{get_or_past}
 use Rattle.std.proofs.lemmas.Bool.{cases_lt}
 use Rattle.row_core.specs.Vectors.{cell}
-use Rattle.row_core.specs.Lists.{Row}
+use Rattle.row_core.specs.Lists.{Row, vectors}
 use Rattle.cone_laws.specs.Cones.{Upto}
 use Rattle.cone_laws.specs.Canon.{vector_at}
 use Rattle.cone_laws.proofs.FaceLists.{rays_not_zero}
@@ -17,7 +17,6 @@ use Rattle.nnc_laws.specs.Encoding.{lowered}
 use Rattle.nnc_laws.specs.DecodedVectors.{place_kind, vector_kind, kind_of}
 use Rattle.nnc_laws.proofs.CodedPoints.{line_divisor}
 use Rattle.nnc_laws.proofs.Relaxed.{cell-remove, skip, skip_before}
-use Rattle.nnc_enc.specs.Tables.{vectors}
 use Rattle.nnc_enc.specs.Decoding.{FitsKind, FitKinds}
 use Rattle.nnc_enc.specs.Results.{AreVectorsOf}
 use Rattle.nnc_enc.proofs.MarkLemmas.{length-vectors, vector_at-vectors}

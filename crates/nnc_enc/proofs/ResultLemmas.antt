@@ -1,12 +1,11 @@
 -- What the decoding calls and the strong calls give.
 use Rattle.std.proofs.Common.{◌≡◌, ◌⊎◌, inl, inr, ℕ, ◌<◌, List, length, false, sym, ◌∙◌, subst, arith}
 use Rattle.std.proofs.lemmas.Bool.{false≢true}
-use Rattle.row_core.specs.Lists.{Row}
+use Rattle.row_core.specs.Lists.{Row, vectors}
 use Rattle.cons_sys.specs.Constraints.{Constraint}
 use Rattle.gens_sys.specs.Generators.{Generator}
 use Rattle.cone_laws.specs.Canon.{vector_at}
 use Rattle.nnc_laws.specs.StrongRows.{HasVariable, HasNoVariable, kept_at, IsSpare, IsSpareVector}
-use Rattle.nnc_enc.specs.Tables.{vectors}
 use Rattle.nnc_enc.specs.Decoding.{AreDecodedRows, AreDecodedVectors}
 use Rattle.nnc_enc.specs.Results.{DecodedRowsCode, StrongRowsCode, StrongRowsAreNeeded, DecodedVectorsCode, StrongVectorsCode}
 use Rattle.nnc_enc.proofs.MarkLemmas.{length-vectors, vector_at-vectors, variable_or_not}

@@ -8,7 +8,7 @@ use Rattle.std.proofs.lemmas.List.{get_or-set_same, get_or-set_other}
 use Rattle.std.proofs.lemmas.List.Edits.{length-remove, get_or-remove_below, get_or-remove_above}
 use Rattle.row_core.specs.Vectors.{cell, scale}
 use Rattle.row_core.specs.Content.{IsMultipleOf}
-use Rattle.row_core.specs.Lists.{Row, row_at}
+use Rattle.row_core.specs.Lists.{Row, row_at, vectors}
 use Rattle.gens_sys.specs.declared.kind.GenKind.TheVariants.{Line}
 use Rattle.nnc_laws.specs.DecodedVectors.{kind_of}
 use Rattle.cone_laws.specs.Cones.{Upto}
@@ -29,7 +29,6 @@ use Rattle.nnc_laws.proofs.EncodedDuals.{lowered_width}
 use Rattle.nnc_laws.proofs.CodedPoints.{coded_of_marks, marks_of_member}
 use Rattle.nnc_laws.proofs.Relaxed.{Numbered, PointAt_of, relaxed, relaxed_lines}
 use Rattle.nnc_laws.proofs.Decoded.{points_are_needed}
-use Rattle.nnc_enc.specs.Tables.{vectors}
 use Rattle.nnc_enc.specs.Strong.{HasStrictRow}
 use Rattle.nnc_enc.specs.Decoding.{index_at, Stands, AreListed, AreKept, IsNamed}
 use Rattle.nnc_enc.specs.Sorting.{AreStrongVectors}

@@ -3,14 +3,14 @@ use Rattle.std.specs.Prelude.{IsTrue, ◌↔◌}
 use Rattle.std.proofs.lemmas.Bool.{false≢true}
 use Rattle.cone_laws.proofs.Ring.{same_or_not}
 use Rattle.row_core.specs.Vectors.{cell, dot}
-use Rattle.row_core.specs.Lists.{Row, row_at}
+use Rattle.row_core.specs.Lists.{Row, row_at, vectors}
 use Rattle.sat_matrix.specs.Tables.{Table, bits_of}
 use Rattle.cone_laws.specs.Canon.{vector_at}
 use Rattle.nnc_laws.specs.StrongRows.{HasVariable, HasNoVariable, kept_at, IsSpare, IsSpareVector, IsCovered, IsCoveredPoint, IsBare, IsLoose, HasPlace, IsApart, Covers}
 use Rattle.sat_matrix.specs.Tables as tables
 use Rattle.nnc_enc.specs.declared.marks.Mark.TheVariants.{Level, Place, Strict, Point}
 use Rattle.nnc_enc.specs.Marks.{flag, AreTold}
-use Rattle.nnc_enc.specs.Tables.{vectors, IsZeroTable}
+use Rattle.sat_matrix.specs.ZeroTables.{IsZeroTable}
 use Rattle.nnc_enc.specs.Passes.{IsClear, IsCoveredRow, IsPassed}
 use Rattle.nnc_enc.specs.Strong.{StaysAtFirst, AreFirstRows, AreFirstVectors, IsStrictPass, IsPointPass, HasStrictRow}
 use Rattle.nnc_enc.proofs.MarkLemmas.{length-vectors, vector_at-vectors, bool_or_not, IsUnclear, clear_or_not, IsUncovered, covered_or_not, variable_or_not}

@@ -1,9 +1,8 @@
 use Rattle.std.specs.Prelude.{◌≡◌, ◌≢◌, ◌↔◌, ℕ, ◌+◌, ◌<◌, true, false, List, ◌++◌, length, map, slice_index_or, ℤ, pos, ◌≤ℤ◌}
 use Rattle.row_core.specs.Vectors.{cell, dot}
-use Rattle.row_core.specs.Lists.{Row}
+use Rattle.row_core.specs.Lists.{Row, vectors}
 use Rattle.cone_laws.specs.Cones.{Upto}
 use Rattle.cone_laws.specs.Canon.{vector_at, IsPivot, IsGreater, IsEchelon}
-use Rattle.nnc_enc.specs.Tables.{vectors}
 use Rattle.nnc_enc.specs.Decoding.{AreListed}
 use Rattle.nnc_enc.specs.Sorting.{IsOrdered, AreStrongRows}
 use Rattle.nnc_enc.specs.Results.{AreRowsOf}

@@ -1,6 +1,6 @@
 use Rattle.std.specs.Prelude.{◌≡◌, ◌⊎◌, ◌↔◌, ℕ, ◌+◌, ◌<◌, Bool, false, List, length, ℤ, pos, ◌<ℤ◌}
 use Rattle.row_core.specs.Vectors.{cell}
-use Rattle.row_core.specs.Lists.{Row, row_at}
+use Rattle.row_core.specs.Lists.{Row, row_at, vectors}
 use Rattle.cone_laws.specs.Cones.{Upto}
 use Rattle.cone_laws.specs.Canon.{vector_at, IsSystem}
 use Rattle.gens_sys.specs.Generators.{Generators}
@@ -8,7 +8,6 @@ use Rattle.gens_sys.specs.Spans.{Span}
 use Rattle.nnc_laws.specs.Encoding.{Codes, IsEncoded}
 use Rattle.nnc_laws.specs.StrongRows.{kept_at, IsSpareVector}
 use Rattle.nnc_laws.specs.DecodedVectors.{Decodes}
-use Rattle.nnc_enc.specs.Tables.{vectors}
 use Rattle.nnc_enc.specs.Strong.{HasStrictRow}
 use Rattle.nnc_enc.specs.Decoding.{AreGeneratorsOf, AreKept}
 

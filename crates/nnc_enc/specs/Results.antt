@@ -1,6 +1,6 @@
 use Rattle.std.specs.Prelude.{◌≡◌, ◌↔◌, ℕ, ◌+◌, ◌<◌, List, length, ℤ, pos, ◌<ℤ◌}
 use Rattle.row_core.specs.Vectors.{cell}
-use Rattle.row_core.specs.Lists.{Row, row_at}
+use Rattle.row_core.specs.Lists.{Row, row_at, vectors}
 use Rattle.row_core.specs.Points.{IsPoint}
 use Rattle.cone_laws.specs.Cones.{Upto}
 use Rattle.cone_laws.specs.Canon.{IsSystem}
@@ -9,7 +9,6 @@ use Rattle.gens_sys.specs.Generators.{Generators}
 use Rattle.gens_sys.specs.Spans.{Span}
 use Rattle.nnc_laws.specs.Encoding.{Codes, IsEncoded, IsEncodedDual}
 use Rattle.nnc_laws.specs.StrongRows.{IsAdmittedVector}
-use Rattle.nnc_enc.specs.Tables.{vectors}
 use Rattle.nnc_enc.specs.Decoding.{AreDecodedRows, AreDecodedVectors}
 use Rattle.nnc_enc.specs.Sorting.{AreStrongRows, AreStrongVectors}
 use Rattle.nnc_enc.specs.Kept.{IsNeededConstraint}

@@ -1,7 +1,7 @@
 //! Which rows and which vectors of a canonical system are kept.
 ghost use Rattle.std.specs.Prelude.{◌≡◌, ℕ, ◌+◌, ◌-◌, ◌^◌, ◌<◌, ◌≤◌, List, length, IfOk, IsTrue, ◌↔◌, ℤ};
 ghost use Rattle.sat_matrix.specs.Tables.{bits_of};
-ghost use Rattle.row_core.specs.Lists.{row_at};
+ghost use Rattle.row_core.specs.Lists.{row_at, vectors};
 ghost use Rattle.cone_laws.specs.Cones.{Upto};
 ghost use Rattle.row_core.specs.Points.{IsPoint};
 ghost use Rattle.cons_sys.specs.Constraints.{In};
@@ -12,7 +12,7 @@ ghost use Rattle.nnc_enc.specs.Kept.{IsNeededConstraint};
 ghost use Rattle.nnc_enc.specs.NeededGenerators.{IsNeededGenerator};
 ghost use Rattle.nnc_enc.specs.Results.{AreRowsOf, AreVectorsOf};
 ghost use Rattle.nnc_laws.specs.StrongRows.{HasVariable, IsAdmittedVector};
-ghost use Rattle.nnc_enc.specs.Tables.{vectors, IsZeroTable};
+ghost use Rattle.sat_matrix.specs.ZeroTables.{IsZeroTable};
 ghost use Rattle.nnc_enc.specs.Marks.{flag};
 ghost use Rattle.nnc_enc.specs.Passes.{IsClear};
 ghost use Rattle.nnc_enc.specs.Sorting.{AreStrongRows, AreStrongVectors};

@@ -1,7 +1,7 @@
 use Rattle.std.proofs.Common.{arith, ◌≡◌, ◌∙◌, ap, sym, subst, List, Bool, length, drop}
+use Rattle.row_core.specs.Lists.{vectors}
 use Rattle.nnc_enc.specs.Strong.{IsStrictPass, AreFirstRows}
 use Rattle.nnc_enc.specs.Passes.{IsPassed}
-use Rattle.nnc_enc.specs.Tables.{vectors}
 use Rattle.nnc_enc.proofs.MarkLemmas.{written_back}
 use Rattle.nnc_enc.proofs.StrongLemmas.{strict_pass_is}
 use Rattle.nnc_enc.proofs.strong.strict_pass.Goals as goal
