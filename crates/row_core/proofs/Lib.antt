@@ -4,3 +4,4 @@ pub mod ColumnLemmas
 pub mod CellLemmas
 pub mod ContentLemmas
 pub mod OnePrimitive
+pub mod SamenessLemmas

@@ -4,3 +4,4 @@ pub mod Content
 pub mod Points
 pub mod Lists
 pub mod Laws
+pub mod Sameness

@@ -1,12 +1,19 @@
 //! One row, and a list of rows of one width, on the heap.
-ghost use Rattle.std.specs.Prelude.{◌≡◌, ℕ, ◌^◌, ◌<◌, ◌==◌, List, [], ◌∷◌, ◌++◌, length, map, ℤ, All, MatchResult, IfOk, slice_index_or, false};
+ghost use Rattle.std.specs.Prelude.{◌≡◌, ℕ, ◌^◌, ◌<◌, ◌==◌, Bool, List, [], ◌∷◌, ◌++◌, length, map, ℤ, All, Decides, MatchResult, IfOk, slice_index_or, false};
+ghost use Rattle.std.specs.Cmp;
+ghost use Rattle.std.specs.Cmp.Lexicographic.{pointwise};
+ghost use Rattle.std.specs.Ordering.{int_eq};
+ghost use Rattle.std.proofs.lemmas.Cmp.{int_eq_equiv, lists_equiv};
+ghost use Rattle.std.specs.Iterator.{YieldsFirstBy, item_count};
+ghost use Rattle.std.specs.Borrow.{Bor};
 ghost use Rattle.row_core.specs.Range.{AllInRange};
 ghost use Rattle.row_core.specs.Content.{IsPrimitiveOf};
-ghost use Rattle.row_core.specs.Lists.{Rows, FitWidth, row_at, is_eq_at};
+ghost use Rattle.row_core.specs.Sameness.{is_same_list, same_list_equiv};
+ghost use Rattle.row_core.specs.Lists.{Row, Rows, FitWidth, row_at, is_eq_at};
 
 use crate::errors::Memory;
 use crate::primitive::make_primitive;
-use std::alloc::Global;
+use std::alloc::{AllocError, Global};
 use std::marker::Model;
 
 /// One row.
@@ -34,6 +41,16 @@ impl RowBuf {
         Ok(RowBuf { entries })
     }
 
+    /// Takes the cells over, without a copy.
+    #[inline]
+    pub fn from_vec(cells: Vec<i128>) -> RowBuf
+        requires in_range { AllInRange cells.items }
+        requires narrow { length cells.items < 2 ^ 32 }
+        ensures { result ≡ cells.items }
+    {
+        RowBuf { entries: cells }
+    }
+
     /// Returns a copy of the cells, made primitive.
     pub fn primitive(alloc: Global, cells: &[i128]) -> Result<RowBuf, Memory>
         requires in_range { AllInRange cells.now }
@@ -42,9 +59,18 @@ impl RowBuf {
         ensures in_range { IfOk result AllInRange }
         ensures width { IfOk result (λ row. length row ≡ length cells.now) }
     {
-        let mut entries = Vec::from_slice(alloc, cells)?;
+        Ok(RowBuf::new(alloc, cells)?.into_primitive())
+    }
+
+    /// Makes the row primitive in its place.
+    pub fn into_primitive(self) -> RowBuf
+        ensures primitive { IsPrimitiveOf self result }
+        ensures in_range { AllInRange result }
+        ensures width { length result ≡ length self }
+    {
+        let mut entries = self.entries;
         make_primitive(entries.as_mut_slice());
-        Ok(RowBuf { entries })
+        RowBuf { entries }
     }
 
     /// Lends the row.
@@ -56,11 +82,65 @@ impl RowBuf {
     {
         self.entries.as_slice()
     }
+
+    /// The number of columns.
+    #[inline]
+    pub fn len(&self) -> usize
+        ensures { result ≡ length self.now }
+    {
+        self.entries.len()
+    }
+
+    /// Whether there is no column.
+    #[inline]
+    pub fn is_empty(&self) -> bool
+        ensures { result ≡ (length self.now == 0) }
+    {
+        self.entries.is_empty()
+    }
+
+    /// Gives the cells up, without a copy.
+    #[inline]
+    pub fn into_vec(self) -> Vec<i128>
+        ensures value { result.items ≡ self }
+        ensures in_range { AllInRange self }
+        ensures narrow { length self < 2 ^ 32 }
+    {
+        self.entries
+    }
 }
 
-#[derive(Debug, Drop)]
+impl PartialEq for RowBuf {
+    ghost eq = { pointwise int_eq };
+
+    ghost laws = { Cmp.partial_equiv_from_equiv (lists_equiv int_eq_equiv) };
+
+    fn eq(&self, other: &RowBuf) -> bool
+        ensures value { result ≡ pointwise int_eq self.now other.now }
+        ensures same { Decides result (self.now ≡ other.now) }
+    {
+        self.entries == other.entries
+    }
+}
+
+impl Eq for RowBuf {
+    ghost laws = { lists_equiv int_eq_equiv };
+}
+
+impl Clone for RowBuf {
+    ghost is_clone = { λ row copy. copy ≡ row };
+
+    fn clone(&self) -> Result<RowBuf, AllocError> {
+        Ok(RowBuf {
+            entries: self.entries.clone()?,
+        })
+    }
+}
+
+/// A row of a list, and whether it is an equality.
+#[derive(Clone, Debug, Drop, PartialEq, Eq)]
 struct Marked {
-    cells: Vec<i128>,
+    row: RowBuf,
     eq: bool,
 }
 
@@ -75,9 +155,9 @@ pub struct RowList {
 impl Model for RowList {
     ghost Value = { Rows };
 
-    ghost view = { λ l. record { width = l.width; rows = map (λ m. (m.cells.items, m.eq)) l.marked.items } };
+    ghost view = { λ l. record { width = l.width; rows = map (λ m. (m.row, m.eq)) l.marked.items } };
 
-    ghost invariant = { λ l. FitWidth (record { width = l.width; rows = map (λ m. (m.cells.items, m.eq)) l.marked.items }) };
+    ghost invariant = { λ l. FitWidth (record { width = l.width; rows = map (λ m. (m.row, m.eq)) l.marked.items }) };
 }
 
 impl RowList {
@@ -94,15 +174,24 @@ impl RowList {
         }
     }
 
-    /// Appends a row. After want of memory the list is as before.
+    /// Appends a copy of a row. After want of memory the list is as before.
     pub fn push(&mut self, row: &[i128], eq: bool) -> Result<(), Memory>
         requires wide { length row.now ≡ self.old.width }
         requires in_range { AllInRange row.now }
         ensures width { self.new.width ≡ self.old.width }
         ensures rows { MatchResult result (λ _. self.new.rows ≡ self.old.rows ++ (row.now, eq) ∷ []) (λ _. self.new.rows ≡ self.old.rows) }
     {
-        let cells = Vec::from_slice(self.alloc, row)?;
-        self.marked.push(Marked { cells, eq })?;
+        let row = RowBuf::new(self.alloc, row)?;
+        self.push_row(row, eq)
+    }
+
+    /// Appends a row without a copy. After want of memory the list is as before, and the row is dropped.
+    pub fn push_row(&mut self, row: RowBuf, eq: bool) -> Result<(), Memory>
+        requires { length row ≡ self.old.width }
+        ensures width { self.new.width ≡ self.old.width }
+        ensures rows { MatchResult result (λ _. self.new.rows ≡ self.old.rows ++ (row, eq) ∷ []) (λ _. self.new.rows ≡ self.old.rows) }
+    {
+        self.marked.push(Marked { row, eq })?;
         Ok(())
     }
 
@@ -140,7 +229,7 @@ impl RowList {
         ensures wide { length (row_at self.now.rows i) ≡ self.now.width }
         ensures in_range { AllInRange (row_at self.now.rows i) }
     {
-        self.marked[i].cells.as_slice()
+        self.marked[i].row.cells()
     }
 
     /// Whether row `i` is an equality.
@@ -150,5 +239,83 @@ impl RowList {
         ensures { result ≡ is_eq_at self.now.rows i }
     {
         self.marked[i].eq
+    }
+
+    /// Lends the rows in order, each with its mark.
+    #[inline]
+    pub fn iter(&self) -> Iter<'_>
+        ensures { result ≡ self.now.rows }
+    {
+        Iter {
+            rest: self.marked.as_slice(),
+        }
+    }
+}
+
+impl Clone for RowList {
+    ghost is_clone = { λ list copy. copy ≡ list };
+
+    fn clone(&self) -> Result<RowList, AllocError> {
+        Ok(RowList {
+            alloc: self.alloc,
+            width: self.width,
+            marked: self.marked.clone()?,
+        })
+    }
+}
+
+impl PartialEq for RowList {
+    ghost eq = { is_same_list };
+
+    ghost laws = { Cmp.partial_equiv_from_equiv same_list_equiv };
+
+    fn eq(&self, other: &RowList) -> bool
+        ensures value { result ≡ is_same_list self.now other.now }
+        ensures same { Decides result (self.now ≡ other.now) }
+    {
+        self.width == other.width && self.marked == other.marked
+    }
+}
+
+impl Eq for RowList {
+    ghost laws = { same_list_equiv };
+}
+
+/// The rows of a list that are still to come, each with its mark.
+#[derive(Debug, Drop)]
+pub struct Iter<'a> {
+    rest: &'a [Marked],
+}
+
+impl<'a> Model for Iter<'a> {
+    ghost Value = { List Row };
+
+    ghost view = { λ a. map (λ m. (m.row, m.eq)) a.rest.now };
+}
+
+impl<'a> Iterator for Iter<'a> {
+    type Item = (&'a [i128], bool);
+
+    ghost next_gives = { YieldsFirstBy (λ (x : Bor (List ℤ) × Bool). (x.0.now, x.1)) (λ (rest : List Row). rest) };
+
+    ghost remaining = { item_count (λ (rest : List Row). rest) };
+
+    #[inline]
+    fn next(&mut self) -> Option<(&'a [i128], bool)> {
+        let (first, rest) = self.rest.split_first()?;
+        self.rest = rest;
+        Some((first.row.cells(), first.eq))
+    }
+}
+
+impl<'a> IntoIterator for &'a RowList {
+    type Item = (&'a [i128], bool);
+
+    type IntoIter = Iter<'a>;
+
+    ghost into_iter_gives = { λ list it. it ≡ list.now.rows };
+
+    fn into_iter(self) -> Iter<'a> {
+        self.iter()
     }
 }

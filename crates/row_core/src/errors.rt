@@ -41,7 +41,7 @@ pub enum OverKind {
 }
 
 /// Two rows from which a number outside the range was computed.
-#[derive(Debug, Drop, Error)]
+#[derive(Clone, Debug, Drop, PartialEq, Eq, Error)]
 #[error("a number left the range")]
 pub struct Overflow {
     pub kind: OverKind,
@@ -68,7 +68,7 @@ pub struct PairOver {
 }
 
 /// Why a conversion gives no answer.
-#[derive(Debug, Drop, Error)]
+#[derive(Clone, Debug, Drop, PartialEq, Eq, Error)]
 pub enum ConvErr {
     #[error("a number left the range")]
     Overflow(Overflow),

@@ -16,7 +16,7 @@ mod laws;
 mod linear;
 mod primitive;
 
-pub use buffers::{RowBuf, RowList};
+pub use buffers::{Iter, RowBuf, RowList};
 pub use counting::Steps;
 pub use errors::{ConvErr, Memory, OverKind, Overflow, PairOver};
 pub use laws::one_primitive;

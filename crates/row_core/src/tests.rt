@@ -84,15 +84,22 @@ fn primitive_rows(rt: HostRuntime) -> Result<(), Fail> {
 
 #[test]
 fn kept_rows(rt: HostRuntime) -> Result<(), Fail> {
-    let buffer = RowBuf::new(rt.alloc(), &[3, -4])?;
-    assert_eq!(rt; buffer.cells(), [3, -4].as_slice());
     let mut list = RowList::new(rt.alloc(), 2);
     assert!(rt; list.is_empty());
     list.push(&[1, 2], true)?;
-    list.push(&[-3, 4], false)?;
+    list.push_row(RowBuf::new(rt.alloc(), &[-3, 4])?, false)?;
     assert_eq!(rt; list.width(), 2);
     assert_eq!(rt; list.len(), 2);
     assert_eq!(rt; list.row(1), [-3, 4].as_slice());
     assert!(rt; list.is_eq(0) && !list.is_eq(1));
+    Ok(())
+}
+
+#[test]
+fn fresh_rows(rt: HostRuntime) -> Result<(), Fail> {
+    let row = RowBuf::from_vec(vec![in rt.alloc(); 4, -6]?).into_primitive();
+    let copy = row.clone()?;
+    assert!(rt; copy == row);
+    assert_eq!(rt; row.into_vec(), vec![in rt.alloc(); 2, -3]?);
     Ok(())
 }
