@@ -11,7 +11,7 @@ mod system;
 
 pub use kind::ConKind;
 pub use laws::{one_answer, same_points};
-pub use system::ConsSys;
+pub use system::{ConsSys, Iter};
 
 #[cfg(test)]
 mod tests;

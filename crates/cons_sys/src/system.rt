@@ -1,18 +1,21 @@
 //! A list of constraints over one dimension.
-ghost use Rattle.std.specs.Prelude.{◌≡◌, ℕ, ◌+◌, ◌-◌, ◌^◌, ◌<◌, ◌==◌, ◌↔◌, [], length, map, MatchResult, IfOk, IsTrue, Err};
+ghost use Rattle.std.specs.Prelude.{◌≡◌, ℕ, ◌+◌, ◌-◌, ◌^◌, ◌<◌, ◌==◌, ◌↔◌, List, ℤ, [], length, map, MatchResult, IfOk, IsTrue, Err};
+ghost use Rattle.std.specs.Borrow.{Bor};
+ghost use Rattle.std.specs.Iterator.{YieldsFirstBy, item_count};
 ghost use Rattle.row_core.specs.Range.{AllInRange};
 ghost use Rattle.row_core.specs.Content.{IsPrimitive};
 ghost use Rattle.row_core.specs.Points.{IsPoint};
 ghost use Rattle.row_core.specs.declared.PairOver.{PairOver};
-ghost use Rattle.cons_sys.specs.Constraints.{Constraints, FitDimension, Gains, In, row_at, kind_at};
+ghost use Rattle.cons_sys.specs.Constraints.{Constraint, Constraints, FitDimension, Gains, In, row_at, kind_at};
+ghost use Rattle.cons_sys.specs.declared.kind.ConKind.{ConKind};
 ghost use Rattle.cons_sys.specs.Testing.{Answers, AnswersAt, LeavesRange};
 
 use crate::kind::ConKind;
 use row_core::{Memory, OverKind, PairOver, RowBuf, dot};
-use std::alloc::Global;
+use std::alloc::{AllocError, Global};
 use std::marker::Model;
 
-#[derive(Debug, Drop)]
+#[derive(Clone, Debug, Drop)]
 struct Entry {
     row: RowBuf,
     kind: ConKind,
@@ -48,14 +51,26 @@ impl ConsSys {
         }
     }
 
-    /// Appends the constraint, its row made primitive. After want of memory the list is as before.
+    /// Appends a copy of the constraint, its row made primitive. After want of memory the list is as
+    /// before.
     pub fn push(&mut self, row: &[i128], kind: ConKind) -> Result<(), Memory>
         requires wide { length row.now ≡ self.old.dim + 1 }
         requires in_range { AllInRange row.now }
         ensures dim { self.new.dim ≡ self.old.dim }
         ensures list { MatchResult result (λ _. Gains self.old.list self.new.list row.now kind) (λ _. self.new.list ≡ self.old.list) }
     {
-        let row = RowBuf::primitive(self.alloc, row)?;
+        let row = RowBuf::new(self.alloc, row)?;
+        self.push_row(row, kind)
+    }
+
+    /// Appends the constraint without a copy, its row made primitive. After want of memory the list is
+    /// as before, and the row is dropped.
+    pub fn push_row(&mut self, row: RowBuf, kind: ConKind) -> Result<(), Memory>
+        requires { length row ≡ self.old.dim + 1 }
+        ensures dim { self.new.dim ≡ self.old.dim }
+        ensures list { MatchResult result (λ _. Gains self.old.list self.new.list row kind) (λ _. self.new.list ≡ self.old.list) }
+    {
+        let row = row.into_primitive();
         self.entries.push(Entry { row, kind })?;
         Ok(())
     }
@@ -108,6 +123,16 @@ impl ConsSys {
         self.entries[i].kind
     }
 
+    /// Lends the constraints in order, each row with its kind.
+    #[inline]
+    pub fn iter(&self) -> Iter<'_>
+        ensures { result ≡ self.now.list }
+    {
+        Iter {
+            rest: self.entries.as_slice(),
+        }
+    }
+
     /// Whether constraint `i` holds at a vector.
     fn holds_one(&self, i: usize, v: &[i128]) -> Result<bool, PairOver>
         requires index { i < length self.now.list }
@@ -154,5 +179,56 @@ impl ConsSys {
         ensures over { (over : PairOver) → (result ≡ Err over) ↔ LeavesRange self.now.list v.now over }
     {
         self.test_in_order(v)
+    }
+}
+
+impl Clone for ConsSys {
+    ghost is_clone = { λ system copy. copy ≡ system };
+
+    fn clone(&self) -> Result<ConsSys, AllocError> {
+        Ok(ConsSys {
+            alloc: self.alloc,
+            dim: self.dim,
+            entries: self.entries.clone()?,
+        })
+    }
+}
+
+/// The constraints of a system that are still to come, each row with its kind.
+#[derive(Debug, Drop)]
+pub struct Iter<'a> {
+    rest: &'a [Entry],
+}
+
+impl<'a> Model for Iter<'a> {
+    ghost Value = { List Constraint };
+
+    ghost view = { λ a. map (λ e. (e.row, e.kind)) a.rest.now };
+}
+
+impl<'a> Iterator for Iter<'a> {
+    type Item = (&'a [i128], ConKind);
+
+    ghost next_gives = { YieldsFirstBy (λ (x : Bor (List ℤ) × ConKind). (x.0.now, x.1)) (λ (rest : List Constraint). rest) };
+
+    ghost remaining = { item_count (λ (rest : List Constraint). rest) };
+
+    #[inline]
+    fn next(&mut self) -> Option<(&'a [i128], ConKind)> {
+        let (first, rest) = self.rest.split_first()?;
+        self.rest = rest;
+        Some((first.row.cells(), first.kind))
+    }
+}
+
+impl<'a> IntoIterator for &'a ConsSys {
+    type Item = (&'a [i128], ConKind);
+
+    type IntoIter = Iter<'a>;
+
+    ghost into_iter_gives = { λ system it. it ≡ system.now.list };
+
+    fn into_iter(self) -> Iter<'a> {
+        self.iter()
     }
 }
