@@ -9,61 +9,84 @@ use thiserror::Error;
 
 /// Why a line or a file is refused, in the order of the numbers that are printed.
 #[derive(Clone, Copy, Debug, PartialEq, Eq, Error)]
-#[error("the input is refused")]
 pub enum Fault {
     /// Not in the grammar; the column, counted from 1, at which no line of the grammar goes on.
+    #[error("not in the grammar from column {0}")]
     Syntax(u64),
     /// A name isn't there, or is of the other kind.
+    #[error("a name that is not there, or is of the other kind")]
     UnknownName,
     /// Two operands have different topologies.
+    #[error("operands of different topologies")]
     TopologyMismatch,
     /// Two operands have different dimensions.
+    #[error("operands of different dimensions")]
     DimMismatch,
     /// A dimension above the limit.
+    #[error("a dimension above the limit")]
     TooManyDims,
     /// A list of generators that isn't empty holds no point.
+    #[error("generators without a point")]
     NoPoint,
     /// The number after `/` is 0.
+    #[error("a divisor of 0")]
     ZeroDivisor,
     /// A number, or a partial sum of a column, is out of the range.
+    #[error("a number out of the range")]
     NumberTooLarge,
     /// A strict constraint or a closure point, for a closed polyhedron.
+    #[error("a strict constraint or a closure point, for a closed polyhedron")]
     StrictInClosed,
     /// A variable, a location or a delay is above its limit.
+    #[error("a variable, a location or a delay above its limit")]
     OutOfRange,
     /// A point of the first operand isn't in the second.
+    #[error("a point of the first operand that is not in the second")]
     NotNested,
     /// An operand isn't closed.
+    #[error("an operand that is not closed")]
     NotClosed,
     /// More names than the limit.
+    #[error("more names than the limit")]
     TooManyNames,
     /// A line has more bytes than the limit.
+    #[error("a line with more bytes than the limit")]
     LineTooLong,
     /// A line or a ray is zero in all columns.
+    #[error("a line or a ray that is zero in all columns")]
     ZeroVector,
     /// A file that isn't in the grammar; the line, counted from 1.
+    #[error("not in the grammar of files from line {0}")]
     CddSyntax(u64),
     /// The file names the other kind.
+    #[error("a file of the other kind")]
     WrongKind,
     /// The file's number type isn't `integer`.
+    #[error("a number type other than `integer`")]
     NumberType,
     /// A point has a divisor other than 1.
+    #[error("a point with a divisor other than 1")]
     NotIntegral,
     /// An index of the linearity line is out of bounds.
+    #[error("an index of the linearity line that is out of bounds")]
     LinearityIndex,
     /// A linearity index names a vertex.
+    #[error("a linearity index that names a vertex")]
     LinearityOnVertex,
     /// The word `linearity` stands after the end of the list.
+    #[error("the word `linearity` after the end of the list")]
     LinearityAfterEnd,
     /// A first entry is negative.
+    #[error("a negative first entry")]
     NegativeFirst,
     /// The input ended inside a file.
+    #[error("the input ended inside a file")]
     Truncated,
 }
 
 impl Fault {
     /// The number that is printed.
-    pub fn number(&self) -> u64
+    pub fn number(&self) -> u8
         ensures { result ≡ fault_number self.now }
     {
         match self {
@@ -95,34 +118,34 @@ impl Fault {
     }
 
     /// The name that is printed.
-    pub fn name(&self) -> &'static [u8]
+    pub fn name(&self) -> &'static str
         ensures { result.now ≡ fault_name self.now }
     {
         match self {
-            Fault::Syntax(_) => b"Syntax",
-            Fault::UnknownName => b"UnknownName",
-            Fault::TopologyMismatch => b"TopologyMismatch",
-            Fault::DimMismatch => b"DimMismatch",
-            Fault::TooManyDims => b"TooManyDims",
-            Fault::NoPoint => b"NoPoint",
-            Fault::ZeroDivisor => b"ZeroDivisor",
-            Fault::NumberTooLarge => b"NumberTooLarge",
-            Fault::StrictInClosed => b"StrictInClosed",
-            Fault::OutOfRange => b"OutOfRange",
-            Fault::NotNested => b"NotNested",
-            Fault::NotClosed => b"NotClosed",
-            Fault::TooManyNames => b"TooManyNames",
-            Fault::LineTooLong => b"LineTooLong",
-            Fault::ZeroVector => b"ZeroVector",
-            Fault::CddSyntax(_) => b"CddSyntax",
-            Fault::WrongKind => b"WrongKind",
-            Fault::NumberType => b"NumberType",
-            Fault::NotIntegral => b"NotIntegral",
-            Fault::LinearityIndex => b"LinearityIndex",
-            Fault::LinearityOnVertex => b"LinearityOnVertex",
-            Fault::LinearityAfterEnd => b"LinearityAfterEnd",
-            Fault::NegativeFirst => b"NegativeFirst",
-            Fault::Truncated => b"Truncated",
+            Fault::Syntax(_) => "Syntax",
+            Fault::UnknownName => "UnknownName",
+            Fault::TopologyMismatch => "TopologyMismatch",
+            Fault::DimMismatch => "DimMismatch",
+            Fault::TooManyDims => "TooManyDims",
+            Fault::NoPoint => "NoPoint",
+            Fault::ZeroDivisor => "ZeroDivisor",
+            Fault::NumberTooLarge => "NumberTooLarge",
+            Fault::StrictInClosed => "StrictInClosed",
+            Fault::OutOfRange => "OutOfRange",
+            Fault::NotNested => "NotNested",
+            Fault::NotClosed => "NotClosed",
+            Fault::TooManyNames => "TooManyNames",
+            Fault::LineTooLong => "LineTooLong",
+            Fault::ZeroVector => "ZeroVector",
+            Fault::CddSyntax(_) => "CddSyntax",
+            Fault::WrongKind => "WrongKind",
+            Fault::NumberType => "NumberType",
+            Fault::NotIntegral => "NotIntegral",
+            Fault::LinearityIndex => "LinearityIndex",
+            Fault::LinearityOnVertex => "LinearityOnVertex",
+            Fault::LinearityAfterEnd => "LinearityAfterEnd",
+            Fault::NegativeFirst => "NegativeFirst",
+            Fault::Truncated => "Truncated",
         }
     }
 
@@ -141,7 +164,7 @@ impl Fault {
 /// Why nothing was read.
 #[derive(Clone, Copy, Debug, PartialEq, Eq, Error)]
 pub enum ReadErr {
-    #[error("the input is refused")]
+    #[error(transparent)]
     Input(Fault),
     #[error("out of memory")]
     Memory,

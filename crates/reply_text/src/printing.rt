@@ -15,9 +15,9 @@ pub fn print_fault(alloc: Global, fault: &Fault) -> Result<Text, Memory>
 {
     let mut text = Text::new(alloc);
     text.push(b"fault ")?;
-    text.push_unsigned(fault.number())?;
+    text.push_unsigned(u64::from(fault.number()))?;
     text.push(b" ")?;
-    text.push(fault.name())?;
+    text.push(fault.name().as_bytes())?;
     if let Some(place) = fault.place() {
         text.push(b" ")?;
         text.push_unsigned(place)?;
