@@ -1,3 +1,4 @@
 pub mod Kinds
 pub mod Generators
 pub mod Spans
+pub mod Refusals

@@ -1,17 +1,21 @@
 //! A list of generators over one dimension.
-ghost use Rattle.std.specs.Prelude.{◌≡◌, ℕ, ◌+◌, ◌-◌, ◌^◌, ◌<◌, ◌==◌, ◌↔◌, [], length, map, MatchResult, Err};
+ghost use Rattle.std.specs.Prelude.{◌≡◌, ℕ, ◌+◌, ◌-◌, ◌^◌, ◌<◌, ◌==◌, ◌↔◌, List, ℤ, [], length, map, MatchResult, Err};
+ghost use Rattle.std.specs.Borrow.{Bor};
+ghost use Rattle.std.specs.Iterator.{YieldsFirstBy, item_count};
 ghost use Rattle.row_core.specs.Vectors.{cell};
 ghost use Rattle.row_core.specs.Range.{AllInRange};
 ghost use Rattle.row_core.specs.Content.{IsPrimitive};
 ghost use Rattle.gens_sys.specs.Kinds.{HasBadDivisor, IsZeroDirection};
-ghost use Rattle.gens_sys.specs.Generators.{Generators, IsGenerator, FitDimension, Gains, generator_at, row_at, kind_at};
+ghost use Rattle.gens_sys.specs.Generators.{Generator, Generators, IsGenerator, FitDimension, Gains, generator_at, row_at, kind_at};
+ghost use Rattle.gens_sys.specs.declared.kind.GenKind.{GenKind};
+ghost use Rattle.gens_sys.specs.Refusals.{Refusal};
 
 use crate::kind::{GenKind, GenPushErr};
 use row_core::{Memory, RowBuf};
-use std::alloc::Global;
+use std::alloc::{AllocError, Global};
 use std::marker::Model;
 
-#[derive(Debug, Drop)]
+#[derive(Clone, Debug, Drop)]
 struct Entry {
     row: RowBuf,
     kind: GenKind,
@@ -47,7 +51,7 @@ impl GensSys {
         }
     }
 
-    /// Appends the vector, made primitive.
+    /// Appends a copy of the vector, made primitive.
     ///
     /// # Errors
     ///
@@ -62,13 +66,52 @@ impl GensSys {
         ensures zero_vector { (result ≡ Err GenPushErr.ZeroVector) ↔ IsZeroDirection kind row.now }
         ensures list { MatchResult result (λ _. Gains self.old.list self.new.list row.now kind) (λ _. self.new.list ≡ self.old.list) }
     {
+        self.check(row, kind)?;
+        let row = RowBuf::new(self.alloc, row)?;
+        self.store(row, kind)?;
+        Ok(())
+    }
+
+    /// Appends the vector without a copy, made primitive.
+    ///
+    /// # Errors
+    ///
+    /// Those of `push`. After each the row is dropped.
+    pub fn push_row(&mut self, row: RowBuf, kind: GenKind) -> Result<(), GenPushErr>
+        requires { length row ≡ self.old.dim + 1 }
+        ensures dim { self.new.dim ≡ self.old.dim }
+        ensures bad_divisor { (result ≡ Err GenPushErr.BadDivisor) ↔ HasBadDivisor kind (cell row self.old.dim) }
+        ensures zero_vector { (result ≡ Err GenPushErr.ZeroVector) ↔ IsZeroDirection kind row }
+        ensures list { MatchResult result (λ _. Gains self.old.list self.new.list row kind) (λ _. self.new.list ≡ self.old.list) }
+    {
+        self.check(row.cells(), kind)?;
+        self.store(row, kind)?;
+        Ok(())
+    }
+
+    /// Whether the vector may be kept.
+    fn check(&self, row: &[i128], kind: GenKind) -> Result<(), GenPushErr>
+        requires { length row.now ≡ self.now.dim + 1 }
+        ensures { Refusal self.now.dim row.now kind result }
+    {
         if kind.has_bad_divisor(row[self.dim]) {
             return Err(GenPushErr::BadDivisor);
         }
         if kind.is_zero_direction(row) {
             return Err(GenPushErr::ZeroVector);
         }
-        let row = RowBuf::primitive(self.alloc, row)?;
+        Ok(())
+    }
+
+    /// Appends a vector that may be kept.
+    fn store(&mut self, row: RowBuf, kind: GenKind) -> Result<(), Memory>
+        requires wide { length row ≡ self.old.dim + 1 }
+        requires divisor { ¬ (HasBadDivisor kind (cell row self.old.dim)) }
+        requires nonzero { ¬ (IsZeroDirection kind row) }
+        ensures dim { self.new.dim ≡ self.old.dim }
+        ensures list { MatchResult result (λ _. Gains self.old.list self.new.list row kind) (λ _. self.new.list ≡ self.old.list) }
+    {
+        let row = row.into_primitive();
         self.entries.push(Entry { row, kind })?;
         Ok(())
     }
@@ -119,5 +162,66 @@ impl GensSys {
         ensures { result ≡ kind_at self.now.list i }
     {
         self.entries[i].kind
+    }
+
+    /// Lends the generators in order, each vector with its kind.
+    #[inline]
+    pub fn iter(&self) -> Iter<'_>
+        ensures { result ≡ self.now.list }
+    {
+        Iter {
+            rest: self.entries.as_slice(),
+        }
+    }
+}
+
+impl Clone for GensSys {
+    ghost is_clone = { λ system copy. copy ≡ system };
+
+    fn clone(&self) -> Result<GensSys, AllocError> {
+        Ok(GensSys {
+            alloc: self.alloc,
+            dim: self.dim,
+            entries: self.entries.clone()?,
+        })
+    }
+}
+
+/// The generators of a system that are still to come, each vector with its kind.
+#[derive(Debug, Drop)]
+pub struct Iter<'a> {
+    rest: &'a [Entry],
+}
+
+impl<'a> Model for Iter<'a> {
+    ghost Value = { List Generator };
+
+    ghost view = { λ a. map (λ e. (e.row, e.kind)) a.rest.now };
+}
+
+impl<'a> Iterator for Iter<'a> {
+    type Item = (&'a [i128], GenKind);
+
+    ghost next_gives = { YieldsFirstBy (λ (x : Bor (List ℤ) × GenKind). (x.0.now, x.1)) (λ (rest : List Generator). rest) };
+
+    ghost remaining = { item_count (λ (rest : List Generator). rest) };
+
+    #[inline]
+    fn next(&mut self) -> Option<(&'a [i128], GenKind)> {
+        let (first, rest) = self.rest.split_first()?;
+        self.rest = rest;
+        Some((first.row.cells(), first.kind))
+    }
+}
+
+impl<'a> IntoIterator for &'a GensSys {
+    type Item = (&'a [i128], GenKind);
+
+    type IntoIter = Iter<'a>;
+
+    ghost into_iter_gives = { λ system it. it ≡ system.now.list };
+
+    fn into_iter(self) -> Iter<'a> {
+        self.iter()
     }
 }
