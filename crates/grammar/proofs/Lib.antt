@@ -8,3 +8,11 @@ pub mod Nullable
 mod RowLists
 mod RowSteps
 mod SameRowSteps
+mod SameForms
+pub mod TableLaws
+mod ExprTable
+mod ConTable
+mod ConsTable
+mod FracTable
+mod PointTable
+mod GensTable

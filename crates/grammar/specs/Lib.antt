@@ -3,6 +3,7 @@ pub mod Cases
 pub mod Derivative
 pub mod Form
 pub mod Grammar
+pub mod Machine
 pub mod Rest
 pub mod Rows
 pub mod SameRows

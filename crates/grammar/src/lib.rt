@@ -4,20 +4,25 @@
 mod bodies;
 mod choice;
 mod column;
+mod decided;
 mod derivative;
 mod distinct;
 mod forms;
 mod laws;
+mod machine;
 mod re;
 mod rest;
 mod rows;
 mod rule;
 mod span;
+mod tables;
 
 pub use choice::{column_alone, column_by_rule, first_match, rule_of};
 pub use column::{column_of, matches};
+pub use decided::{con_column, cons_column, expr_column, frac_column, gens_column, point_column};
 pub use forms::{BLANKS, GAP};
 pub use laws::{avoided_bytes, decided_matches};
+pub use machine::Machine;
 pub use re::Re;
 pub use rule::Rule;
 

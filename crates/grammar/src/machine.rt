@@ -1,0 +1,67 @@
+//! Machines that decide a form of text by a table, without memory.
+
+/// How many classes of bytes a state has room for.
+const WIDTH: usize = 32;
+
+/// The state from which no text of the form is reached.
+const DEAD: u8 = 255;
+
+/// A deterministic machine as a table. It begins in state 0.
+#[derive(Clone, Copy)]
+pub struct Machine<'a> {
+    /// The class of each byte, less than 32.
+    pub classes: &'a [u8; 256],
+    /// The state behind each state and each of 32 classes; 255 where no text of the form is reached.
+    pub steps: &'a [u8],
+    /// Whether a text may end in each state.
+    pub ends: &'a [bool],
+}
+
+impl Machine<'_> {
+    ghost use Rattle.std.specs.Prelude.{◌≡◌, MatchOption, slice_index_or, false};
+    ghost use Rattle.grammar.specs.Form.{Form, Matches, IsColumn};
+    ghost use Rattle.grammar.specs.Machine.{next, Decides};
+
+    /// None where the text has the form that the machine decides, and else the column of the fault, as
+    /// [`crate::column_of`] has it. Linear in the length, and without memory.
+    pub fn column(&self, text: &[u8]) -> Option<usize>
+        ensures { (form : Form) → Decides self.now.classes.now self.now.steps.now self.now.ends.now form → MatchOption result (Matches form text.now) (IsColumn form text.now) }
+    {
+        let mut state = 0;
+        for (index, byte) in text.iter().enumerate() {
+            state = self.state_after(state, *byte);
+            if state == DEAD {
+                return Some(index + 1);
+            }
+        }
+        if self.may_end(state) {
+            None
+        } else {
+            Some(text.len() + 1)
+        }
+    }
+
+    // The state behind the byte.
+    fn state_after(&self, state: u8, byte: u8) -> u8
+        ensures { result ≡ next self.now.classes.now self.now.steps.now state byte }
+    {
+        let class = self.classes[usize::from(byte)];
+        match self
+            .steps
+            .get(usize::from(state) * WIDTH + usize::from(class))
+        {
+            Some(after) => *after,
+            None => DEAD,
+        }
+    }
+
+    // Whether a text may end in the state.
+    fn may_end(&self, state: u8) -> bool
+        ensures { result ≡ slice_index_or self.now.ends.now state false }
+    {
+        match self.ends.get(usize::from(state)) {
+            Some(end) => *end,
+            None => false,
+        }
+    }
+}
