@@ -7,9 +7,10 @@ A FORM is an expression over the definitions of crates/grammar/specs/Grammar.ant
 `alone cons` or `gap · name · blanks · perhaps comment`. A definition may have several clauses, over [] and x ∷ xs,
 None and Some x. The forms of one run share one table of the classes of bytes.
 
-Written are the constants for a file of src/, and behind them the lists of texts and the lemmas for files of proofs/.
+Written are the constants for a file of src/, and behind them, for files of proofs/, the lists of texts and the lemmas.
+A form whose name isn't an abbreviation needs `unfolding NAME` under its lemma's signature, for each such name in it.
 The states of a machine are the sets of rows that come behind a text, found breadth first, texts in the order of bytes.
-Nothing here need be trusted: the lemmas compare each entry with the forms.
+Nothing here need be trusted: each lemma compares each entry of its tables with the forms.
 """
 import argparse
 import os
@@ -199,7 +200,7 @@ def classes_of(machines):
     return classes
 
 
-def constant(name, kind, entries, what):
+def constant(name, kind, entries):
     lines, line = [], '   '
     for entry in entries:
         if len(line) + len(entry) + 2 > 100:
@@ -207,7 +208,7 @@ def constant(name, kind, entries, what):
             line = '   '
         line += f' {entry},'
     body = '\n'.join(lines + [line])
-    return f'/// {what}\npub const {name}: [{kind}; {len(entries)}] = [\n{body}\n];\n'
+    return f'const {name}: [{kind}; {len(entries)}] = [\n{body}\n];\n'
 
 
 def steps_of(machine, classes):
@@ -235,19 +236,20 @@ def main():
     forms = dict(form.split('=', 1) for form in given.forms)
     machines = {name: Machine(known.value(Parser(text).expression(), {})) for name, text in forms.items()}
     classes = classes_of(machines.values())
-    print(constant(given.classes, 'u8', [str(c) for c in classes], 'The class of each byte.'))
+    print('// The class of each byte.\n' + constant(given.classes, 'u8', [str(c) for c in classes]))
     for name, machine in machines.items():
-        steps = [str(s) for s in steps_of(machine, classes)]
-        print(constant(f'{name}_STEPS', 'u8', steps, f'The state behind each state and class, for `{forms[name]}`.'))
-        ends = [str(end).lower() for end in machine.ends]
-        print(constant(f'{name}_ENDS', 'bool', ends, f'Whether a text may end in each state, for `{forms[name]}`.'))
+        print(constant(f'{name}_STEPS', 'u8', [str(s) for s in steps_of(machine, classes)]))
+        print(constant(f'{name}_ENDS', 'bool', [str(end).lower() for end in machine.ends]))
+        print(f'/// The machine of `{forms[name]}`.')
+        print(f"pub const {name}: Machine<'static> = Machine {{")
+        print(f'    classes: &{given.classes},\n    steps: &{name}_STEPS,\n    ends: &{name}_ENDS,\n}};\n')
     for name, machine in machines.items():
         low = name.lower()
-        texts = ' ∷ '.join('[]' if not text else f'({codes(text)})' for text in machine.texts)
+        tables = f'{given.classes} {name}_STEPS {name}_ENDS ({forms[name]})'
+        texts = ''.join(f'({codes(text)}) ∷ ' for text in machine.texts[1:])
         print(f'-- {len(machine.texts)} states, texts of at most {max(map(len, machine.texts))} bytes')
-        print(f'abbrev pub {low}_texts : List (List ℕ)\n{low}_texts =\n    {texts} ∷ []\n')
-        print(f'pub {low}_decides : Decides {given.classes} {name}_STEPS {name}_ENDS ({forms[name]})')
-        print(f'{low}_decides = decides_by {given.classes} {name}_STEPS {name}_ENDS ({forms[name]}) {low}_texts {"refl " * 7}\n')
+        print(f'abbrev pub {low}_texts : List (List ℕ)\n{low}_texts =\n    {texts}[]\n')
+        print(f'pub {low}_decides : Decides {tables}\n{low}_decides = decides_by {tables} {low}_texts refl\n')
 
 
 if __name__ == '__main__':

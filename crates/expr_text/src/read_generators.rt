@@ -10,7 +10,7 @@ ghost use Rattle.expr_text.specs.GeneratorSteps.{IsGensOfRefusal, IsSafeVector, 
 
 use crate::read_refusals::{check_form, refusal};
 use gens_sys::{GenKind, GenPushErr, GensSys};
-use grammar::Rule;
+use grammar::gens_column;
 use reply_text::{Fault, ReadErr};
 use row_core::Memory;
 use std::alloc::Global;
@@ -179,6 +179,6 @@ pub fn read_gens(alloc: Global, dim: usize, bytes: &[u8]) -> Result<GensSys, Rea
     requires { dim < 2 ^ 32 - 2 }
     ensures { MatchResult result (IsGens dim bytes.now) (IsRefused gens_cases bytes.now (IsGensFault dim bytes.now)) }
 {
-    check_form(alloc, Rule::Gens, bytes)?;
+    check_form(gens_column(bytes))?;
     gens_system(alloc, dim, bytes)
 }

@@ -7,8 +7,8 @@ use Rattle.grammar.proofs.TableLaws.{decides_by}
 
 abbrev pub expr_texts : List (List ℕ)
 expr_texts =
-    [] ∷ (9 ∷ []) ∷ (45 ∷ []) ∷ (48 ∷ []) ∷ (65 ∷ []) ∷ (45 ∷ 9 ∷ []) ∷ (48 ∷ 9 ∷ []) ∷ (48 ∷ 42 ∷ []) ∷ (65 ∷ 9 ∷ []) ∷ (65 ∷ 49 ∷ []) ∷ (48 ∷ 42 ∷ 9 ∷ []) ∷ []
+    (9 ∷ []) ∷ (45 ∷ []) ∷ (48 ∷ []) ∷ (65 ∷ []) ∷ (45 ∷ 9 ∷ []) ∷ (48 ∷ 9 ∷ []) ∷ (48 ∷ 42 ∷ []) ∷ (65 ∷ 9 ∷ []) ∷ (65 ∷ 49 ∷ []) ∷ (48 ∷ 42 ∷ 9 ∷ []) ∷ []
 
 pub expr_decides : Decides CLASSES EXPR_STEPS EXPR_ENDS (alone expr)
 unfolding expr
-expr_decides = decides_by CLASSES EXPR_STEPS EXPR_ENDS (alone expr) expr_texts refl refl refl refl refl refl refl
+expr_decides = decides_by CLASSES EXPR_STEPS EXPR_ENDS (alone expr) expr_texts refl

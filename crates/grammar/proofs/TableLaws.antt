@@ -1,36 +1,63 @@
 -- Tables of machines, compared with the forms by computation.
-use Rattle.std.proofs.Common.{◌≡◌, ℕ, zero, suc, ◌<◌, ◌⊎◌, Bool, true, false, cond, not, ◌&&◌, ◌||◌, eqb, ltb, List, [], ◌∷◌, length, get_or, refl, ap, sym, subst, ◌∙◌, inl, inr, arith}
+use Rattle.std.proofs.Common.{◌≡◌, ℕ, ◌+◌, ◌*◌, ◌<◌, ◌≤◌, ◌⊎◌, zero, suc, Bool, true, false, not, ◌&&◌, eqb, ltb, List, [], ◌∷◌, length, map, take, drop, get_or, refl, ap, sym, subst, ◌∙◌, inl, inr, arith}
 use Rattle.std.proofs.lemmas.Bool.{eqb-true, ltb-true, and_parts, cases_lt}
+use Rattle.std.proofs.lemmas.List.{get_or-drop, get_or-take, get_or_past, drop-drop}
 use Rattle.grammar.specs.Form.{Form}
 use Rattle.grammar.specs.Derivative.{after_rows, states, some_ends, lives}
+use Rattle.grammar.specs.SameRows.{SameRows}
 use Rattle.grammar.specs.Machine.{next, Steps, Decides}
 use Rattle.grammar.proofs.SameForms.{within, same_rows_by}
 
-abbrev pub every : (ℕ → Bool) → ℕ → Bool
-every p zero = true
-every p (suc n) = p n && every p n
+-- the rows of each state: the form alone at first, and then what may come behind each text
+abbrev pub rows_of_states : Form → List (List ℕ) → List (List (List Form))
+rows_of_states f texts = ((f ∷ []) ∷ []) ∷ map (states ((f ∷ []) ∷ [])) texts
 
-last_or_before : (n i : ℕ) → i < suc n → (i ≡ n) ⊎ (i < n)
-last_or_before n i h = elim (cases_lt i n) [ inl x ↦ inr x | inr y ↦ inl (omega arith) ]
+abbrev pub is_some : List (List Form) → Bool
+is_some [] = false
+is_some (row ∷ rows) = true
 
-every_at : (p : ℕ → Bool) (n i : ℕ) → every p n ≡ true → i < n → p i ≡ true
-every_at p zero i e h = absurd (omega arith)
-every_at p (suc n) i e h =
-    let q = and_parts (p n) (every p n) e in
-    elim (last_or_before n i h) [ inl x ↦ subst (λ (k : ℕ). p k ≡ true) (sym x) q.0 | inr y ↦ every_at p n i q.1 y ]
+abbrev pub is_same_rows : List (List Form) → List (List Form) → Bool
+is_same_rows old new = is_some new && (within old new && within new old)
 
--- the rows that may come behind a text
-abbrev pub rows_by : Form → List (List ℕ) → ℕ → List (List Form)
-rows_by f texts state = cond (ltb state (length texts)) (states ((f ∷ []) ∷ []) (get_or texts state [])) []
+-- the state has these rows; the state 255, of which the first argument tells, has none
+abbrev pub has_rows : Bool → List (List (List Form)) → ℕ → List (List Form) → Bool
+has_rows true all state rows = not (is_some rows)
+has_rows false all state rows = is_same_rows rows (get_or all state [])
 
-abbrev pub is_step : List ℕ → List ℕ → Form → List (List ℕ) → ℕ → ℕ → Bool
-is_step classes steps f texts state b =
-    (within (after_rows b (rows_by f texts state)) (rows_by f texts (next classes steps state b)) && within (rows_by f texts (next classes steps state b)) (after_rows b (rows_by f texts state)))
-    && (eqb (next classes steps state b) 255 || ltb (next classes steps state b) (length texts))
+abbrev pub leads_to : List (List (List Form)) → ℕ → List (List Form) → Bool
+leads_to all state rows = has_rows (eqb state 255) all state rows
+
+-- the table's row for a state, at the byte b and those behind it, of these classes
+abbrev pub is_row : List (List (List Form)) → List (List Form) → List ℕ → ℕ → List ℕ → Bool
+is_row all old row b [] = true
+is_row all old row b (class ∷ classes) = (ltb class 32 && leads_to all (get_or row class 255) (after_rows b old)) && is_row all old row (suc b) classes
 
 abbrev pub same_bool : Bool → Bool → Bool
 same_bool true y = y
 same_bool false y = not y
+
+abbrev pub is_state : List ℕ → List (List (List Form)) → List (List Form) → Bool → List ℕ → Bool
+is_state classes all old end row = (is_some old && same_bool end (some_ends old)) && is_row all old row 0 classes
+
+-- the table for these states
+abbrev pub is_table : List ℕ → List (List (List Form)) → List (List (List Form)) → List Bool → List ℕ → Bool
+is_table classes all [] ends steps = true
+is_table classes all (old ∷ olds) ends steps = is_state classes all old (get_or ends 0 false) (take 32 steps) && is_table classes all olds (drop 1 ends) (drop 32 steps)
+
+abbrev pub fits : List ℕ → List ℕ → List Bool → List (List (List Form)) → Bool
+fits classes steps ends all = (eqb (length classes) 256 && ltb (length all) 256) && is_table classes all all ends steps
+
+-- each entry of the tables is what the forms say, where each state but the first is named by a text that leads to it
+abbrev pub is_decided : List ℕ → List ℕ → List Bool → Form → List (List ℕ) → Bool
+is_decided classes steps ends f texts = lives f && fits classes steps ends (rows_of_states f texts)
+
+some_rows : (rows : List (List Form)) → is_some rows ≡ true → rows ≡ [] → ⊥
+some_rows [] e h = cc
+some_rows (row ∷ rows) e h = cc
+
+no_rows : (rows : List (List Form)) → not (is_some rows) ≡ true → rows ≡ []
+no_rows [] e = refl
+no_rows (row ∷ rows) e = cc
 
 bools_equal : (x y : Bool) → same_bool x y ≡ true → x ≡ y
 bools_equal true true e = refl
@@ -38,53 +65,86 @@ bools_equal true false e = cc
 bools_equal false true e = cc
 bools_equal false false e = refl
 
-abbrev pub is_some : List (List Form) → Bool
-is_some [] = false
-is_some (row ∷ rows) = true
+row_step : (all : List (List (List Form))) (old : List (List Form)) (row : List ℕ) (b : ℕ) (classes : List ℕ) (k : ℕ) → is_row all old row b classes ≡ true → k < length classes →
+    (ltb (get_or classes k 0) 32 && leads_to all (get_or row (get_or classes k 0) 255) (after_rows (b + k) old)) ≡ true
+row_step all old row b [] k e h = absurd (omega arith)
+row_step all old row b (class ∷ classes) zero e h =
+    let same : b ≡ b + 0 = omega arith in
+    subst (λ (x : ℕ). (ltb class 32 && leads_to all (get_or row class 255) (after_rows x old)) ≡ true) same
+    (and_parts (ltb class 32 && leads_to all (get_or row class 255) (after_rows b old)) (is_row all old row (suc b) classes) e).0
+row_step all old row b (class ∷ classes) (suc k) e h =
+    let same : suc b + k ≡ b + suc k = omega arith in
+    subst (λ (x : ℕ). (ltb (get_or classes k 0) 32 && leads_to all (get_or row (get_or classes k 0) 255) (after_rows x old)) ≡ true) same
+    (row_step all old row (suc b) classes k (and_parts (ltb class 32 && leads_to all (get_or row class 255) (after_rows b old)) (is_row all old row (suc b) classes) e).1 (omega arith))
 
-some_rows : (rows : List (List Form)) → is_some rows ≡ true → rows ≡ [] → ⊥
-some_rows [] e h = cc
-some_rows (row ∷ rows) e h = cc
+table_state : (classes : List ℕ) (all olds : List (List (List Form))) (ends : List Bool) (steps : List ℕ) (i : ℕ) → is_table classes all olds ends steps ≡ true → i < length olds →
+    is_state classes all (get_or olds i []) (get_or ends i false) (take 32 (drop (i * 32) steps)) ≡ true
+table_state classes all [] ends steps i e h = absurd (omega arith)
+table_state classes all (old ∷ olds) ends steps zero e h =
+    (and_parts (is_state classes all old (get_or ends 0 false) (take 32 steps)) (is_table classes all olds (drop 1 ends) (drop 32 steps)) e).0
+table_state classes all (old ∷ olds) ends steps (suc i) e h =
+    let later = table_state classes all olds (drop 1 ends) (drop 32 steps) i
+    (and_parts (is_state classes all old (get_or ends 0 false) (take 32 steps)) (is_table classes all olds (drop 1 ends) (drop 32 steps)) e).1 (omega arith) in
+    let at : 32 + i * 32 ≡ suc i * 32 = omega arith in
+    let end : get_or (drop 1 ends) i false ≡ get_or ends (suc i) false = get_or-drop 1 ends i false ∙ ap (λ (k : ℕ). get_or ends k false) (let one : 1 + i ≡ suc i = omega arith in one) in
+    let row : drop (i * 32) (drop 32 steps) ≡ drop (suc i * 32) steps = drop-drop (i * 32) 32 steps ∙ ap (λ (k : ℕ). drop k steps) at in
+    subst (λ (x : Bool). is_state classes all (get_or olds i []) x (take 32 (drop (suc i * 32) steps)) ≡ true) end
+    (subst (λ (x : List ℕ). is_state classes all (get_or olds i []) (get_or (drop 1 ends) i false) (take 32 x) ≡ true) row later)
 
-abbrev pub is_end : List Bool → Form → List (List ℕ) → ℕ → Bool
-is_end ends f texts state = same_bool (get_or ends state false) (some_ends (rows_by f texts state))
+-- an entry of a state's row is that of the whole table
+entry_at : (steps : List ℕ) (state class : ℕ) → class < 32 → get_or (take 32 (drop (state * 32) steps)) class 255 ≡ get_or steps (state * 32 + class) 255
+entry_at steps state class h = get_or-take 32 (drop (state * 32) steps) class 255 h ∙ get_or-drop (state * 32) steps class 255
 
-or_parts : (x y : Bool) → (x || y) ≡ true → (x ≡ true) ⊎ (y ≡ true)
-or_parts true y e = inl refl
-or_parts false y e = inr e
+known_state : (all : List (List (List Form))) (state : ℕ) → is_some (get_or all state []) ≡ true → state < length all
+known_state all state e = elim (cases_lt state (length all)) [ inl x ↦ x | inr y ↦ absurd (some_rows (get_or all state []) e (get_or_past all state [] (omega (arith, y)))) ]
 
-step_by : (classes steps : List ℕ) (f : Form) (texts : List (List ℕ)) (state b : ℕ) → is_step classes steps f texts state b ≡ true → Steps (length texts) (rows_by f texts) b state (next classes steps state b)
-step_by classes steps f texts state b e =
-    let old = after_rows b (rows_by f texts state) in
-    let new = rows_by f texts (next classes steps state b) in
-    let to = next classes steps state b in
-    let p = and_parts (within old new && within new old) (eqb to 255 || ltb to (length texts)) e in
+step_by : (all : List (List (List Form))) (b state after : ℕ) (new : List (List Form)) (dead : Bool) → get_or all 255 [] ≡ [] → new ≡ after_rows b (get_or all state []) → eqb after 255 ≡ dead →
+    has_rows dead all after new ≡ true → Steps (length all) (λ (s : ℕ). get_or all s []) b state after
+step_by all b state after new true none is d e =
+    let gone : after ≡ 255 = eqb-true after 255 d in
+    let empty : get_or all after [] ≡ [] = ap (λ (k : ℕ). get_or all k []) gone ∙ none in
+    let old : after_rows b (get_or all state []) ≡ [] = sym is ∙ no_rows new e in
+    record { same = subst (λ (x : List (List Form)). SameRows (after_rows b (get_or all state [])) x) (old ∙ sym empty) (record { kept = λ row h. h; only = λ row h. h }); known = inl gone }
+step_by all b state after new false none is d e =
+    let p = and_parts (is_some (get_or all after [])) (within new (get_or all after []) && within (get_or all after []) new) e in
     record {
-      same = same_rows_by old new p.0;
-      known = elim (or_parts (eqb to 255) (ltb to (length texts)) p.1) [ inl x ↦ inl (eqb-true to 255 x) | inr y ↦ inr (ltb-true to (length texts) y) ];
+      same = subst (λ (x : List (List Form)). SameRows x (get_or all after [])) is (same_rows_by new (get_or all after []) p.1);
+      known = inr (known_state all after p.0);
     }
 
-taken : (t : Bool) (a b : List (List Form)) → t ≡ true → cond t a b ≡ a
-taken true a b e = refl
-taken false a b e = cc
+goes_by : (classes steps : List ℕ) (ends : List Bool) (all : List (List (List Form))) → length classes ≡ 256 → get_or all 255 [] ≡ [] → is_table classes all all ends steps ≡ true →
+    (state b : ℕ) → state < length all → b < 256 → Steps (length all) (λ (s : ℕ). get_or all s []) b state (next classes steps state b)
+goes_by classes steps ends all whole none e state b h k =
+    let old = get_or all state [] in
+    let row = take 32 (drop (state * 32) steps) in
+    let class = get_or classes b 0 in
+    let s = and_parts (is_some old && same_bool (get_or ends state false) (some_ends old)) (is_row all old row 0 classes) (table_state classes all all ends steps state e h) in
+    let p = and_parts (ltb class 32) (leads_to all (get_or row class 255) (after_rows (0 + b) old)) (row_step all old row 0 classes b s.1 (omega (arith, whole))) in
+    let at : 0 + b ≡ b = omega arith in
+    let entry : get_or row class 255 ≡ next classes steps state b = entry_at steps state class (ltb-true class 32 p.0) in
+    subst (λ (x : ℕ). Steps (length all) (λ (s : ℕ). get_or all s []) b state x) entry
+    (step_by all b state (get_or row class 255) (after_rows (0 + b) old) (eqb (get_or row class 255) 255) none (ap (λ (x : ℕ). after_rows x old) at) refl p.1)
 
-first_rows : (f : Form) (texts : List (List ℕ)) → ltb 0 (length texts) ≡ true → get_or texts 0 [] ≡ [] → rows_by f texts 0 ≡ (f ∷ []) ∷ []
-first_rows f texts h e = taken (ltb 0 (length texts)) (states ((f ∷ []) ∷ []) (get_or texts 0 [])) [] h ∙ ap (states ((f ∷ []) ∷ [])) e
-
--- the tables are right where each of their steps and ends is computed from the forms
-pub decides_by : (classes steps : List ℕ) (ends : List Bool) (f : Form) (texts : List (List ℕ)) → lives f ≡ true → ltb 0 (length texts) ≡ true → get_or texts 0 [] ≡ [] → ltb 255 (length texts) ≡ false →
-    every (λ state. is_some (rows_by f texts state)) (length texts) ≡ true →
-    every (λ state. is_end ends f texts state) (length texts) ≡ true →
-    every (λ state. every (is_step classes steps f texts state) 256) (length texts) ≡ true → Decides classes steps ends f
-decides_by classes steps ends f texts alive first empty few some end step = record {
-  states = length texts;
-  rows = rows_by f texts;
-  alive = alive;
-  first = ltb-true 0 (length texts) first;
-  start = first_rows f texts first empty;
-  none = ap (λ (t : Bool). cond t (states ((f ∷ []) ∷ []) (get_or texts 255 [])) []) few;
-  some = λ (state : ℕ) (h : state < length texts). some_rows (rows_by f texts state) (every_at (λ s. is_some (rows_by f texts s)) (length texts) state some h);
-  goes = λ (state b : ℕ) (h : state < length texts) (k : b < 256).
-      step_by classes steps f texts state b (every_at (is_step classes steps f texts state) 256 b (every_at (λ s. every (is_step classes steps f texts s) 256) (length texts) state step h) k);
-  end = λ (state : ℕ) (h : state < length texts). bools_equal (get_or ends state false) (some_ends (rows_by f texts state)) (every_at (λ s. is_end ends f texts s) (length texts) state end h);
-}
+-- the tables decide the form where each of their entries is computed from it
+pub decides_by : (classes steps : List ℕ) (ends : List Bool) (f : Form) (texts : List (List ℕ)) → is_decided classes steps ends f texts ≡ true → Decides classes steps ends f
+decides_by classes steps ends f texts e =
+    let all = rows_of_states f texts in
+    let p = and_parts (lives f) (fits classes steps ends all) e in
+    let q = and_parts (eqb (length classes) 256 && ltb (length all) 256) (is_table classes all all ends steps) p.1 in
+    let sizes = and_parts (eqb (length classes) 256) (ltb (length all) 256) q.0 in
+    let few : length all < 256 = ltb-true (length all) 256 sizes.1 in
+    let none : get_or all 255 [] ≡ [] = get_or_past all 255 [] (omega (arith, few)) in
+    let tests : (state : ℕ) → state < length all → (is_some (get_or all state []) ≡ true) × (same_bool (get_or ends state false) (some_ends (get_or all state [])) ≡ true) =
+    λ (state : ℕ) (h : state < length all). and_parts (is_some (get_or all state [])) (same_bool (get_or ends state false) (some_ends (get_or all state [])))
+    (and_parts (is_some (get_or all state []) && same_bool (get_or ends state false) (some_ends (get_or all state []))) (is_row all (get_or all state []) (take 32 (drop (state * 32) steps)) 0 classes) (table_state classes all all ends steps state q.1 h)).0 in
+    record {
+      states = length all;
+      rows = λ (state : ℕ). get_or all state [];
+      alive = p.0;
+      first = omega arith;
+      start = refl;
+      none = none;
+      some = λ (state : ℕ) (h : state < length all). some_rows (get_or all state []) (tests state h).0;
+      goes = goes_by classes steps ends all (eqb-true (length classes) 256 sizes.0) none q.1;
+      end = λ (state : ℕ) (h : state < length all). bools_equal (get_or ends state false) (some_ends (get_or all state [])) (tests state h).1;
+    }

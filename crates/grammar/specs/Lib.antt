@@ -9,3 +9,4 @@ pub mod Rows
 pub mod SameRows
 pub mod Shape
 pub mod Span
+pub mod Verdict

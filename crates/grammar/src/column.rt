@@ -1,28 +1,29 @@
-ghost use Rattle.std.specs.Prelude.{◌≡◌, map, IfOk, OnOk, IsTrue, ◌↔◌, MatchOption};
-ghost use Rattle.grammar.specs.Form.{Matches, IsColumn};
+ghost use Rattle.std.specs.Prelude.{◌≡◌, map, IfOk, OnOk, IsTrue, ◌↔◌};
+ghost use Rattle.grammar.specs.Form.{Matches};
 ghost use Rattle.grammar.specs.Shape.{shape};
 ghost use Rattle.grammar.specs.Derivative.{after_rows, row_ends as row_ends_form, some_ends as some_ends_form};
 ghost use Rattle.grammar.specs.Rows.{shapes_of};
 ghost use Rattle.grammar.specs.SameRows.{SameRows};
+ghost use Rattle.grammar.specs.Verdict.{IsVerdict};
 
 use crate::derivative::{is_nullable, push_after_rows};
 use crate::distinct::copy_distinct;
 use crate::re::Re;
 use crate::rest::Rest;
 use crate::rows::Rows;
+use crate::verdict::Verdict;
 use std::alloc::{AllocError, Global};
 use std::mem;
 
 // So many rows are kept though some may be repeats.
 const FEW: usize = 16;
 
-/// None where the text has the form, and else the column of the fault: the least number such that the first so many
-/// bytes begin no text of the form, or the length plus 1 where the whole text begins one.
+/// Whether the text has the form.
 ///
 /// The form is followed by its partial derivatives (Antimirov, 1996). Each byte costs a step for each way in which the
 /// form may go on; where there are many, those that are repeats are dropped.
-pub fn column_of(alloc: Global, form: &Re, text: &[u8]) -> Result<Option<usize>, AllocError>
-    ensures { IfOk result (λ r. MatchOption r (Matches (shape form.now) text.now) (IsColumn (shape form.now) text.now)) }
+pub fn column_of(alloc: Global, form: &Re, text: &[u8]) -> Result<Verdict, AllocError>
+    ensures { IfOk result (IsVerdict (shape form.now) text.now) }
 {
     let mut rows = Rows::new(alloc);
     let mut spare = Rows::new(alloc);
@@ -30,13 +31,13 @@ pub fn column_of(alloc: Global, form: &Re, text: &[u8]) -> Result<Option<usize>,
     for (index, byte) in text.iter().enumerate() {
         advance(*byte, &mut rows, &mut spare)?;
         if rows.is_empty() {
-            return Ok(Some(index + 1));
+            return Ok(Verdict::RefusedAt(index + 1));
         }
     }
     if some_ends(&rows) {
-        Ok(None)
+        Ok(Verdict::Accepted)
     } else {
-        Ok(Some(text.len() + 1))
+        Ok(Verdict::RefusedAt(text.len() + 1))
     }
 }
 
@@ -44,8 +45,8 @@ pub fn column_of(alloc: Global, form: &Re, text: &[u8]) -> Result<Option<usize>,
 pub fn matches(alloc: Global, form: &Re, text: &[u8]) -> Result<bool, AllocError>
     ensures { IfOk result (λ b. IsTrue b ↔ Matches (shape form.now) text.now) }
 {
-    let column = column_of(alloc, form, text)?;
-    Ok(column.is_none())
+    let verdict = column_of(alloc, form, text)?;
+    Ok(matches!(verdict, Verdict::Accepted))
 }
 
 // Takes the rows over the byte, and drops repeats where there are many. The other rows lend their memory.

@@ -1,48 +1,48 @@
 //! The forms that are decided by a machine.
-ghost use Rattle.std.specs.Prelude.{MatchOption};
-ghost use Rattle.grammar.specs.Form.{Matches, IsColumn};
 ghost use Rattle.grammar.specs.Grammar.{alone, expr, con, cons, frac, point, gens};
+ghost use Rattle.grammar.specs.Verdict.{IsVerdict};
 
 use crate::tables::{CON, CONS, EXPR, FRAC, GENS, POINT};
+use crate::verdict::Verdict;
 
-/// None where the text is an expression with any blanks around it, and else the column of the fault.
-pub fn expr_column(text: &[u8]) -> Option<usize>
-    ensures { MatchOption result (Matches (alone expr) text.now) (IsColumn (alone expr) text.now) }
+/// Whether the text is an expression with any blanks around it.
+pub fn expr_column(text: &[u8]) -> Verdict
+    ensures { IsVerdict (alone expr) text.now result }
 {
     EXPR.column(text)
 }
 
-/// None where the text is an expression with or without a divisor with any blanks around it, and else the column of the fault.
-pub fn frac_column(text: &[u8]) -> Option<usize>
-    ensures { MatchOption result (Matches (alone frac) text.now) (IsColumn (alone frac) text.now) }
+/// Whether the text is an expression with or without a divisor with any blanks around it.
+pub fn frac_column(text: &[u8]) -> Verdict
+    ensures { IsVerdict (alone frac) text.now result }
 {
     FRAC.column(text)
 }
 
-/// None where the text is a constraint with any blanks around it, and else the column of the fault.
-pub fn con_column(text: &[u8]) -> Option<usize>
-    ensures { MatchOption result (Matches (alone con) text.now) (IsColumn (alone con) text.now) }
+/// Whether the text is a constraint with any blanks around it.
+pub fn con_column(text: &[u8]) -> Verdict
+    ensures { IsVerdict (alone con) text.now result }
 {
     CON.column(text)
 }
 
-/// None where the text is a list of constraints with any blanks around it, and else the column of the fault.
-pub fn cons_column(text: &[u8]) -> Option<usize>
-    ensures { MatchOption result (Matches (alone cons) text.now) (IsColumn (alone cons) text.now) }
+/// Whether the text is a list of constraints with any blanks around it.
+pub fn cons_column(text: &[u8]) -> Verdict
+    ensures { IsVerdict (alone cons) text.now result }
 {
     CONS.column(text)
 }
 
-/// None where the text is a point with any blanks around it, and else the column of the fault.
-pub fn point_column(text: &[u8]) -> Option<usize>
-    ensures { MatchOption result (Matches (alone point) text.now) (IsColumn (alone point) text.now) }
+/// Whether the text is a point with any blanks around it.
+pub fn point_column(text: &[u8]) -> Verdict
+    ensures { IsVerdict (alone point) text.now result }
 {
     POINT.column(text)
 }
 
-/// None where the text is a list of generators with any blanks around it, and else the column of the fault.
-pub fn gens_column(text: &[u8]) -> Option<usize>
-    ensures { MatchOption result (Matches (alone gens) text.now) (IsColumn (alone gens) text.now) }
+/// Whether the text is a list of generators with any blanks around it.
+pub fn gens_column(text: &[u8]) -> Verdict
+    ensures { IsVerdict (alone gens) text.now result }
 {
     GENS.column(text)
 }

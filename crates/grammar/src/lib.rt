@@ -16,8 +16,9 @@ mod rows;
 mod rule;
 mod span;
 mod tables;
+mod verdict;
 
-pub use choice::{column_alone, column_by_rule, first_match, rule_of};
+pub use choice::{column_alone, first_match};
 pub use column::{column_of, matches};
 pub use decided::{con_column, cons_column, expr_column, frac_column, gens_column, point_column};
 pub use forms::{BLANKS, GAP};
@@ -25,6 +26,7 @@ pub use laws::{avoided_bytes, decided_matches};
 pub use machine::Machine;
 pub use re::Re;
 pub use rule::Rule;
+pub use verdict::{Choice, Verdict};
 
 #[cfg(test)]
 mod tests;

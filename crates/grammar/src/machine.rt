@@ -1,5 +1,7 @@
 //! Machines that decide a form of text by a table, without memory.
 
+use crate::verdict::Verdict;
+
 /// How many classes of bytes a state has room for.
 const WIDTH: usize = 32;
 
@@ -18,26 +20,26 @@ pub struct Machine<'a> {
 }
 
 impl Machine<'_> {
-    ghost use Rattle.std.specs.Prelude.{◌≡◌, MatchOption, slice_index_or, false};
-    ghost use Rattle.grammar.specs.Form.{Form, Matches, IsColumn};
+    ghost use Rattle.std.specs.Prelude.{◌≡◌, slice_index_or, false};
+    ghost use Rattle.grammar.specs.Form.{Form};
     ghost use Rattle.grammar.specs.Machine.{next, Decides};
+    ghost use Rattle.grammar.specs.Verdict.{IsVerdict};
 
-    /// None where the text has the form that the machine decides, and else the column of the fault, as
-    /// [`crate::column_of`] has it. Linear in the length, and without memory.
-    pub fn column(&self, text: &[u8]) -> Option<usize>
-        ensures { (form : Form) → Decides self.now.classes.now self.now.steps.now self.now.ends.now form → MatchOption result (Matches form text.now) (IsColumn form text.now) }
+    /// Whether the text has the form that the machine decides. Linear in the length, and without memory.
+    pub fn column(&self, text: &[u8]) -> Verdict
+        ensures { (form : Form) → Decides self.now.classes.now self.now.steps.now self.now.ends.now form → IsVerdict form text.now result }
     {
         let mut state = 0;
         for (index, byte) in text.iter().enumerate() {
             state = self.state_after(state, *byte);
             if state == DEAD {
-                return Some(index + 1);
+                return Verdict::RefusedAt(index + 1);
             }
         }
         if self.may_end(state) {
-            None
+            Verdict::Accepted
         } else {
-            Some(text.len() + 1)
+            Verdict::RefusedAt(text.len() + 1)
         }
     }
 

@@ -1,6 +1,6 @@
 use super::*;
 use cons_sys::{ConKind, ConsSys};
-use grammar::{Rule, column_alone};
+use grammar::{Verdict, con_column, cons_column, expr_column, frac_column, point_column};
 use row_core::RowBuf;
 use std::alloc::Global;
 use std::process::Abort;
@@ -11,7 +11,7 @@ const K: i128 = i128::MAX;
 // Each of the texts has the form of its name.
 #[tactic(auto, using(crate::proofs::NamedForms::expr_spelled))]
 fn expr(alloc: Global, dim: u8, text: &[u8]) -> Result<Result<RowBuf, ValueErr>, Fail> {
-    if column_alone(alloc, Rule::Expr, text)?.is_some() {
+    if expr_column(text) != Verdict::Accepted {
         return Err(Fail::new("no expression"));
     }
     Ok(expr_of(alloc, dim as usize, text))
@@ -19,7 +19,7 @@ fn expr(alloc: Global, dim: u8, text: &[u8]) -> Result<Result<RowBuf, ValueErr>,
 
 #[tactic(auto, using(crate::proofs::NamedForms::frac_spelled))]
 fn frac(alloc: Global, dim: u8, text: &[u8]) -> Result<Result<Frac, ValueErr>, Fail> {
-    if column_alone(alloc, Rule::Frac, text)?.is_some() {
+    if frac_column(text) != Verdict::Accepted {
         return Err(Fail::new("no fraction"));
     }
     Ok(frac_of(alloc, dim as usize, text))
@@ -27,7 +27,7 @@ fn frac(alloc: Global, dim: u8, text: &[u8]) -> Result<Result<Frac, ValueErr>, F
 
 #[tactic(auto, using(crate::proofs::NamedForms::con_spelled))]
 fn con(alloc: Global, dim: u8, text: &[u8]) -> Result<Result<OneCon, ValueErr>, Fail> {
-    if column_alone(alloc, Rule::Con, text)?.is_some() {
+    if con_column(text) != Verdict::Accepted {
         return Err(Fail::new("no constraint"));
     }
     Ok(con_of(alloc, dim as usize, text))
@@ -35,7 +35,7 @@ fn con(alloc: Global, dim: u8, text: &[u8]) -> Result<Result<OneCon, ValueErr>, 
 
 #[tactic(auto, using(crate::proofs::NamedForms::cons_spelled))]
 fn cons(alloc: Global, dim: u8, text: &[u8]) -> Result<Result<ConsSys, ValueErr>, Fail> {
-    if column_alone(alloc, Rule::Cons, text)?.is_some() {
+    if cons_column(text) != Verdict::Accepted {
         return Err(Fail::new("no constraints"));
     }
     Ok(cons_of(alloc, dim as usize, text))
@@ -43,7 +43,7 @@ fn cons(alloc: Global, dim: u8, text: &[u8]) -> Result<Result<ConsSys, ValueErr>
 
 #[tactic(auto, using(crate::proofs::NamedForms::point_spelled))]
 fn point(alloc: Global, dim: u8, text: &[u8]) -> Result<Result<RowBuf, ValueErr>, Fail> {
-    if column_alone(alloc, Rule::Point, text)?.is_some() {
+    if point_column(text) != Verdict::Accepted {
         return Err(Fail::new("no point"));
     }
     Ok(point_of(alloc, dim as usize, text))
@@ -153,8 +153,8 @@ fn numbered_variables(rt: HostRuntime) -> Result<(), Fail> {
     assert_eq!(rt; cells[27], 4);
     assert_eq!(rt; cells[52], 5);
     assert_eq!(rt; cells[53], 6);
-    assert!(rt; column_alone(rt.alloc(), Rule::Expr, b"A0")?.is_some());
-    assert!(rt; column_alone(rt.alloc(), Rule::Expr, b"A01")?.is_some());
+    assert_eq!(rt; expr_column(b"A0"), Verdict::RefusedAt(2));
+    assert_eq!(rt; expr_column(b"A01"), Verdict::RefusedAt(2));
     Ok(())
 }
 
