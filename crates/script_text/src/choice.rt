@@ -6,7 +6,7 @@ ghost use Rattle.script_text.specs.Rows.{row_form, rows, shape_of};
 use crate::forms::form_of;
 use crate::row::Row;
 use crate::words::split_word;
-use grammar::{column_of, matches};
+use grammar::{Verdict, column_of, matches};
 use std::alloc::{AllocError, Global};
 
 const ROWS: [Row; 13] = [
@@ -53,8 +53,8 @@ fn by_trying(alloc: Global, rows: &[Row], line: &[u8]) -> Result<Result<Row, usi
     let mut column = 0;
     for row in rows {
         match column_of(alloc, &form_of(*row), line)? {
-            None => return Ok(Ok(*row)),
-            Some(fault) => column = column.max(fault),
+            Verdict::Accepted => return Ok(Ok(*row)),
+            Verdict::RefusedAt(fault) => column = column.max(fault),
         }
     }
     Ok(Err(column))

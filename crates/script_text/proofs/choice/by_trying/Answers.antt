@@ -9,7 +9,7 @@ use Rattle.script_text.proofs.choice.by_trying.Goals as goal
 pub loop-row-preserved : goal.loop-row-preserved
 loop-row-preserved c =
     let within : c.loop-row.row-index < length c.args.rows.now = omega arith in
-    let largest : c.max-column.result ≡ max c.loop-row.column c.in-Some.fault = grind (arith, nat_tests, c.max-column.ensures) in
+    let largest : c.max-column.result ≡ max c.loop-row.column c.in-RefusedAt.fault = grind (arith, nat_tests, c.max-column.ensures) in
     larger_more row_form c.args.rows.now c.loop-row.row-index (get_or c.args.rows.now c.loop-row.row-index Nothing) Nothing c.args.line.now
-    c.loop-row.column c.in-Some.fault c.max-column.result within refl c.loop-row.invariant
-    (subst (λ (f : Form). IsColumn f c.args.line.now c.in-Some.fault) c.form_of.ensures (rw c.in-Some.is at c.in_ok-column_of.ensures)) largest
+    c.loop-row.column c.in-RefusedAt.fault c.max-column.result within refl c.loop-row.invariant
+    (subst (λ (f : Form). IsColumn f c.args.line.now c.in-RefusedAt.fault) c.form_of.ensures (rw c.in-RefusedAt.is at c.in_ok-column_of.ensures)) largest
