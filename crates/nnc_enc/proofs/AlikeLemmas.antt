@@ -27,7 +27,6 @@ use Rattle.nnc_enc.specs.Strong.{HasStrictRow}
 use Rattle.nnc_enc.specs.Decoding.{index_at, AreKept}
 use Rattle.nnc_enc.specs.Sorting.{AreStrongVectors}
 use Rattle.nnc_enc.specs.Results.{AreVectorsOf}
-use Rattle.nnc_enc.specs.NeededGenerators.{StrongVectorsAreSorted}
 use Rattle.nnc_enc.proofs.MarkLemmas.{length-vectors, vector_at-vectors}
 use Rattle.nnc_enc.proofs.OrderLemmas.{kept_permutation}
 
@@ -172,7 +171,8 @@ by_ranking u v Less g n d = absurd (n g)
 by_ranking u v Equal e n d = absurd (d e)
 by_ranking u v Greater g n d = g
 
-pub strong_vectors_are_sorted : StrongVectorsAreSorted
+-- each strong generator behind the lines is greater than the next
+pub strong_vectors_are_sorted : (dim : ℕ) (rows lines rays : List Row) (gs : Generators) → AreVectorsOf dim rows lines rays → AreStrongVectors dim rows lines rays gs.list → (k : ℕ) → length lines + (k + 1) < length gs.list → IsGreater (generator_at gs.list (length lines + k)).0 (generator_at gs.list (length lines + (k + 1))).0
 strong_vectors_are_sorted dim rows lines rays gs r s k h =
     by_ranking (generator_at gs.list (length lines + k)).0 (generator_at gs.list (length lines + (k + 1))).0 (slice_cmp int_cmp (generator_at gs.list (length lines + k)).0 (generator_at gs.list (length lines + (k + 1))).0)
     (order_lexicographic (generator_at gs.list (length lines + k)).0 (generator_at gs.list (length lines + (k + 1))).0 (wide k (omega (arith, below)) ∙ sym (wide (k + 1) below)))

@@ -1,69 +1,33 @@
--- The second list, and the form of a stored list.
-use Rattle.std.proofs.Common.{map, ◌≡◌, ◌≢◌, ◌⊎◌, inl, inr, ℕ, ◌+◌, ◌-◌, ◌<◌, ◌≤◌, List, [], ◌∷◌, ◌++◌, length, slice_index_or, true, false, ℤ, pos, negsuc, ◌*ℤ◌, ◌≤ℤ◌, ◌<ℤ◌, sym, ap, ◌∙◌, subst, arith}
-use Rattle.std.specs.Prelude.{All}
+-- The form of a stored list.
+use Rattle.std.proofs.Common.{◌≡◌, ◌≢◌, ◌⊎◌, inl, inr, ℕ, ◌+◌, ◌-◌, ◌<◌, ◌≤◌, List, [], length, slice_index_or, ℤ, pos, negsuc, ◌*ℤ◌, ◌≤ℤ◌, ◌<ℤ◌, sym, ap, ◌∙◌, subst, arith}
 use Rattle.std.proofs.lemmas.Int.{ints}
 use Rattle.std.proofs.lemmas.Bool.{cases_lt}
-use Rattle.std.proofs.lemmas.List.Elements.{All-map, All-append, All-cons, All-nil, All-head, All-tail, All-from_get_or}
 use Rattle.row_core.specs.Vectors.{cell, dot}
 use Rattle.row_core.specs.Content.{IsMultipleOf}
 use Rattle.row_core.proofs.OnePrimitive.{IsPrimitiveOf-once}
 use Rattle.row_core.specs.Lists.{Row, row_at, vectors}
-use Rattle.cone_laws.specs.Cones.{Meets, Upto}
-use Rattle.cone_laws.specs.Canon.{vector_at, IsGreater}
+use Rattle.cone_laws.specs.Canon.{vector_at, IsGreater, IsPivot, IsEchelon}
 use Rattle.cone_laws.proofs.Ring.{zero_of_mul, positive_of_mul}
 use Rattle.cone_laws.proofs.Columns.{cell-scale}
 use Rattle.nnc_laws.specs.Encoding.{lowered}
 use Rattle.nnc_laws.proofs.Relaxed.{cell-remove, skip_before}
-use Rattle.nnc_enc.specs.Decoding.{index_at}
-use Rattle.nnc_enc.specs.Forms.{second_list, IsWithinDual, SecondListIsDual, ListedForm}
+use Rattle.nnc_enc.specs.Decoding.{index_at, AreListed}
+use Rattle.nnc_enc.specs.Sorting.{IsOrdered, AreStrongRows}
+use Rattle.nnc_enc.specs.Results.{AreRowsOf}
 use Rattle.nnc_enc.proofs.MarkLemmas.{length-vectors, vector_at-vectors}
-use Rattle.nnc_enc.specs.Forms.{StrongRowsAreSorted}
 use Rattle.nnc_enc.specs.Kept.{IsNeededConstraint}
 use Rattle.nnc_enc.specs.Decoding.{con_kind}
 use Rattle.nnc_enc.proofs.ResultLemmas.{strong_rows_are_needed}
 use Rattle.nnc_enc.proofs.OrderLemmas.{within_permutation}
 use Rattle.nnc_laws.proofs.EncodedDuals.{lowered_width}
 use Rattle.cons_sys.specs.Kinds.{Allows}
-use Rattle.cons_sys.specs.Constraints.{constraint_at}
+use Rattle.cons_sys.specs.Constraints.{Constraint, constraint_at}
 use Rattle.std.specs.Ordering.{MatchOrdering, int_cmp}
 use Rattle.std.specs.Cmp.Lexicographic.{slice_cmp}
 use Rattle.std.specs.declared.cmp.Ordering.{Ordering}
 use Rattle.std.specs.declared.cmp.Ordering.TheVariants.{Less, Equal, Greater}
 use Rattle.cone_laws.proofs.Rearranging.{order_lexicographic}
 use Rattle.cone_laws.proofs.Columns.{length-scale}
-
-all_left : (P : Row → Type 0) (xs ys : List Row) → All P (xs ++ ys) → All P xs
-all_left P [] ys a = All-nil P
-all_left P (x ∷ xs) ys a = All-cons P x xs (All-head P x (xs ++ ys) a) (all_left P xs ys (All-tail P x (xs ++ ys) a))
-
-all_right : (P : Row → Type 0) (xs ys : List Row) → All P (xs ++ ys) → All P ys
-all_right P [] ys a = a
-all_right P (x ∷ xs) ys a = all_right P xs ys (All-tail P x (xs ++ ys) a)
-
-all_of_map : (P : Row → Type 0) (f : List ℤ → Row) (xs : List (List ℤ)) → All P (map f xs) → All (λ x. P (f x)) xs
-all_of_map P f [] a = All-nil (λ x. P (f x))
-all_of_map P f (x ∷ xs) a = All-cons (λ x. P (f x)) x xs (All-head P (f x) (map f xs) a) (all_of_map P f xs (All-tail P (f x) (map f xs) a))
-
-pub second_list_is_dual : SecondListIsDual
-second_list_is_dual width lines rays v = (to, from)
-  where
-    to : Upto width (second_list lines rays) (length (second_list lines rays)) v → IsWithinDual width lines rays v
-    to u = record {
-      wide = u.wide;
-      on_lines = λ i h. all_of_map (Meets v) (λ l. (l, true)) lines (all_left (Meets v) (map (λ l. (l, true)) lines) (map (λ r. (r, false)) rays) whole) i [] h;
-      on_rays = λ i h. all_of_map (Meets v) (λ r. (r, false)) rays (all_right (Meets v) (map (λ l. (l, true)) lines) (map (λ r. (r, false)) rays) whole) i [] h;
-    }
-      where
-        whole : All (Meets v) (second_list lines rays)
-        whole m d h = u.meets m d (omega arith) h
-
-    from : IsWithinDual width lines rays v → Upto width (second_list lines rays) (length (second_list lines rays)) v
-    from u = record { wide = u.wide; meets = λ m d low h. whole m d h }
-      where
-        whole : All (Meets v) (second_list lines rays)
-        whole = All-append (Meets v) (map (λ l. (l, true)) lines) (map (λ r. (r, false)) rays)
-            (All-map (Meets v) (λ l. (l, true)) lines (All-from_get_or (λ l. dot l v ≡ pos 0) lines [] u.on_lines))
-            (All-map (Meets v) (λ r. (r, false)) rays (All-from_get_or (λ r. pos 0 ≤ℤ dot r v) rays [] u.on_rays))
 
 -- ---- the stored form
 positive_times : (n : ℕ) → 0 < n → pos 0 <ℤ pos n
@@ -78,7 +42,15 @@ multiple_zero old new j m z = zero_of_mul (pos m.times) (cell new j) (positive_t
 multiple_above : (old new : List ℤ) (j : ℕ) → IsMultipleOf old new → pos 0 <ℤ cell old j → pos 0 <ℤ cell new j
 multiple_above old new j m z = positive_of_mul (pos m.times) (cell new j) (positive_times m.times m.positive) (subst (λ (x : ℤ). pos 0 <ℤ x) (entry_is old new m j) z)
 
-pub listed_form : (K : Type 0) → ListedForm K
+-- the same of a list by its entries: the first n are ordered by their pivots, and each other entry is 0 at the pivot of one of them; no entry after them is less than the next
+pub record HasFormByEntry {K : Type 0} (d : List ℤ × K) (n : ℕ) (list : List (List ℤ × K)) : Type 0 where
+  pub pivot : ℕ → ℕ
+  pub pivots : (i : ℕ) → i < n → IsPivot (slice_index_or list i d).0 (pivot i)
+  pub ordered : (i k : ℕ) → i < k → k < n → pivot i < pivot k
+  pub zero : (i k : ℕ) → i < n → k < length list → i ≢ k → cell (slice_index_or list k d).0 (pivot i) ≡ pos 0
+  pub in_order : (k : ℕ) → n + (k + 1) < length list → ¬ (IsGreater (slice_index_or list (n + (k + 1)) d).0 (slice_index_or list (n + k) d).0)
+
+pub listed_form : (K : Type 0) (d : List ℤ × K) (line_kind : K) (ray_kind : List ℤ → K) (dim : ℕ) (lines rays : List Row) (kept order : List ℕ) (list : List (List ℤ × K)) (echelon : IsEchelon (vectors lines) (vectors rays)) → ((i : ℕ) → i < length (vectors lines) → echelon.pivot i < dim) → ((i : ℕ) → i < length order → slice_index_or order i 0 < length rays) → IsOrdered dim rays kept order → AreListed d line_kind ray_kind dim lines rays order list → HasFormByEntry d (length lines) list
 listed_form K d line_kind ray_kind dim lines rays kept order list echelon below within ordered listed = record {
   pivot = echelon.pivot;
   pivots = λ i h. record {
@@ -135,7 +107,8 @@ by_ranking u v Less g n d = absurd (n g)
 by_ranking u v Equal e n d = absurd (d e)
 by_ranking u v Greater g n d = g
 
-pub strong_rows_are_sorted : StrongRowsAreSorted
+-- each strong constraint behind the equalities is greater than the next
+pub strong_rows_are_sorted : (dim : ℕ) (gens lines rays : List Row) (list : List Constraint) → AreRowsOf dim gens lines rays → AreStrongRows dim gens lines rays list → (k : ℕ) → length lines + (k + 1) < length list → IsGreater (constraint_at list (length lines + k)).0 (constraint_at list (length lines + (k + 1))).0
 strong_rows_are_sorted dim gens lines rays list r s k h =
     by_ranking (constraint_at list (length lines + k)).0 (constraint_at list (length lines + (k + 1))).0 (slice_cmp int_cmp (constraint_at list (length lines + k)).0 (constraint_at list (length lines + (k + 1))).0)
     (order_lexicographic (constraint_at list (length lines + k)).0 (constraint_at list (length lines + (k + 1))).0 (wide k (omega (arith, below)) ∙ sym (wide (k + 1) below)))

@@ -14,3 +14,6 @@ pub mod ResultLemmas
 pub mod FormLemmas
 pub mod SpareLemmas
 pub mod AlikeLemmas
+pub mod StoredLemmas
+pub mod PartLemmas
+pub mod CodedLemmas

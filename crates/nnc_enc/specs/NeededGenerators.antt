@@ -1,7 +1,6 @@
 use Rattle.std.specs.Prelude.{◌≡◌, ℕ, ◌+◌, ◌<◌, List, length, remove, ℤ}
 use Rattle.row_core.specs.Lists.{Row}
-use Rattle.cone_laws.specs.Canon.{IsGreater}
-use Rattle.gens_sys.specs.Generators.{Generators, generator_at}
+use Rattle.gens_sys.specs.Generators.{Generators}
 use Rattle.gens_sys.specs.Spans.{Span}
 use Rattle.nnc_enc.specs.Sorting.{AreStrongVectors}
 use Rattle.nnc_enc.specs.Results.{AreVectorsOf}
@@ -13,7 +12,3 @@ IsNeededGenerator dim gs i = ¬ ((v : List ℤ) → length v ≡ dim + 1 → Spa
 -- no strong generator can be left out
 abbrev pub StrongVectorsAreNeeded : Type 0
 StrongVectorsAreNeeded = (dim : ℕ) (rows lines rays : List Row) (gs : Generators) → AreVectorsOf dim rows lines rays → AreStrongVectors dim rows lines rays gs.list → (i : ℕ) → i < length gs.list → IsNeededGenerator dim gs i
-
--- each strong generator behind the lines is greater than the next
-abbrev pub StrongVectorsAreSorted : Type 0
-StrongVectorsAreSorted = (dim : ℕ) (rows lines rays : List Row) (gs : Generators) → AreVectorsOf dim rows lines rays → AreStrongVectors dim rows lines rays gs.list → (k : ℕ) → length lines + (k + 1) < length gs.list → IsGreater (generator_at gs.list (length lines + k)).0 (generator_at gs.list (length lines + (k + 1))).0

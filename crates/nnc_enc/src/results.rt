@@ -1,5 +1,6 @@
 //! What the decoding calls and the strong calls give.
-ghost use Rattle.nnc_enc.specs.NeededGenerators.{StrongVectorsAreNeeded, StrongVectorsAreSorted};
+ghost use Rattle.nnc_enc.specs.Coded.{RayIsCoded, SecondListAdmits};
+ghost use Rattle.nnc_enc.specs.NeededGenerators.{StrongVectorsAreNeeded};
 ghost use Rattle.nnc_enc.specs.Results.{DecodedRowsCode, DecodedVectorsCode, StrongRowsAreNeeded, StrongRowsCode, StrongVectorsCode};
 
 /// Decoded constraints hold exactly at the points that the cone codes.
@@ -32,7 +33,12 @@ pub fn strong_vectors_are_needed()
     ensures { StrongVectorsAreNeeded }
 {}
 
-/// Strong generators behind the lines are sorted downwards.
-pub fn strong_vectors_are_sorted()
-    ensures { StrongVectorsAreSorted }
+/// A ray that is positive in column e codes a point: the vector without column e.
+pub fn ray_is_coded()
+    ensures { RayIsCoded }
+{}
+
+/// The list of a system admits the cone that the system generates: what the second conversion of a pair stands on.
+pub fn second_list_admits()
+    ensures { SecondListAdmits }
 {}

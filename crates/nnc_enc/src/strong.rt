@@ -1,13 +1,16 @@
 //! Which rows and which vectors of a canonical system are kept.
-ghost use Rattle.std.specs.Prelude.{◌≡◌, ℕ, ◌+◌, ◌-◌, ◌^◌, ◌<◌, ◌≤◌, List, length, IfOk, IsTrue, ◌↔◌, ℤ};
+ghost use Rattle.std.specs.Prelude.{◌≡◌, ℕ, ◌+◌, ◌-◌, ◌^◌, ◌<◌, ◌≤◌, List, length, All, IfOk, IsTrue, ◌↔◌, ℤ};
+ghost use Rattle.std.specs.List.{Contains};
 ghost use Rattle.sat_matrix.specs.Tables.{bits_of};
 ghost use Rattle.row_core.specs.Lists.{row_at, vectors};
 ghost use Rattle.cone_laws.specs.Cones.{Upto};
 ghost use Rattle.row_core.specs.Points.{IsPoint};
-ghost use Rattle.cons_sys.specs.Constraints.{In};
+ghost use Rattle.cons_sys.specs.Constraints.{Constraint, In};
+ghost use Rattle.gens_sys.specs.Generators.{Generator};
 ghost use Rattle.gens_sys.specs.Spans.{Span};
 ghost use Rattle.nnc_laws.specs.Encoding.{Codes};
-ghost use Rattle.nnc_enc.specs.Decoding.{FitKinds};
+ghost use Rattle.nnc_enc.specs.Decoding.{AreDecodedRows, AreDecodedVectors, FitKinds};
+ghost use Rattle.nnc_enc.specs.Forms.{AreStoredConstraints, AreStoredGenerators};
 ghost use Rattle.nnc_enc.specs.Kept.{IsNeededConstraint};
 ghost use Rattle.nnc_enc.specs.NeededGenerators.{IsNeededGenerator};
 ghost use Rattle.nnc_enc.specs.Results.{AreRowsOf, AreVectorsOf};
@@ -184,6 +187,8 @@ pub fn strong_cons(
     ensures list { IfOk result (λ cons. AreStrongRows dim gens.now.rows lines.now.rows rays.now.rows cons.list) }
     ensures points { IfOk result (λ cons. (p : List ℤ) → IsPoint dim p → In cons p ↔ Codes dim (IsAdmittedVector (dim + 2) gens.now.rows) p) }
     ensures needed { IfOk result (λ cons. (i : ℕ) → i < length cons.list → IsNeededConstraint dim cons.list i) }
+    ensures part { IfOk result (λ cons. (decoded : List Constraint) → AreDecodedRows dim lines.now.rows rays.now.rows decoded → All (Contains decoded) cons.list) }
+    ensures stored { IfOk result (λ cons. AreStoredConstraints (length lines.now.rows) cons.list) }
 {
     strong_rows(alloc, dim, lines, rays, gens, sat)
 }
@@ -232,6 +237,8 @@ pub fn strong_gens(
     ensures list { IfOk result (λ gens. AreStrongVectors dim cons.now.rows lines.now.rows rays.now.rows gens.list) }
     ensures points { IfOk result (λ gens. (v : List ℤ) → length v ≡ dim + 1 → Span gens v ↔ Codes dim (Upto (dim + 2) cons.now.rows (length cons.now.rows)) v) }
     ensures needed { IfOk result (λ gens. (i : ℕ) → i < length gens.list → IsNeededGenerator dim gens i) }
+    ensures part { IfOk result (λ gens. (decoded : List Generator) → AreDecodedVectors dim lines.now.rows rays.now.rows decoded → All (Contains decoded) gens.list) }
+    ensures stored { IfOk result (λ gens. AreStoredGenerators (length lines.now.rows) gens.list) }
 {
     strong_vectors(alloc, dim, lines, rays, cons, sat)
 }
