@@ -16,7 +16,9 @@ use Rattle.cone_laws.proofs.StepExistence.{every_prefix, line_step_count, ray_st
 use Rattle.sat_matrix.specs.ZeroTables.{IsZeroTable}
 use Rattle.chernikova.specs.Systems.{values_on}
 use Rattle.chernikova.specs.Changes.{AreAllCrosses}
-use Rattle.chernikova.specs.Conversion.{IsCountedUpto}
+use Rattle.row_core.specs.declared.errors.ConvErr.{ConvErr}
+use Rattle.row_core.specs.declared.errors.ConvErr.TheVariants.{Overflow, Memory}
+use Rattle.chernikova.specs.Conversion.{IsCountedUpto, IsAtStep, IsCountedBefore}
 use Rattle.chernikova.proofs.VectorLemmas.{length-vectors}
 use Rattle.chernikova.proofs.StateLemmas.{crossing_from, cross_from}
 use Rattle.chernikova.proofs.NextStates.{row_is_at}
@@ -93,3 +95,8 @@ counted_start width rows total e = counted_all width rows 0 total (omega arith) 
 -- row k was the last to be taken in
 pub counted_last : (width : ℕ) (rows : List Row) (k total count more : ℕ) → k < length rows → IsCountedUpto width rows k total → HasSystemOf width rows (k + 1) count → more ≡ total + count → IsCountedUpto width rows (length rows) more
 counted_last width rows k total count more below h next is = counted_all width rows (k + 1) more (omega arith) (counted_more width rows k total count more h next is)
+
+-- what was counted up to an overflow at the step with row k
+pub counted_before : (width : ℕ) (rows : List Row) (k total : ℕ) (error : ConvErr) → IsAtStep k error → IsCountedUpto width rows (k + 1) total → IsCountedBefore width rows total error
+counted_before width rows k total (Overflow over) e h = subst (λ (n : ℕ). IsCountedUpto width rows (n + 1) total) (sym e) h
+counted_before width rows k total Memory e h = tt

@@ -9,3 +9,4 @@ pub mod RayTables
 pub mod NextStates
 pub mod Counts
 pub mod Rankings
+pub mod CountLemmas

@@ -26,7 +26,7 @@ use Rattle.chernikova.proofs.StateLemmas.{length-values_on, value_at-values_on, 
 pub zero_test : (x : ℤ) → IsTrue (int_eq x (pos 0)) ↔ (x ≡ pos 0)
 zero_test x = Decides-int_eq x (pos 0)
 
-both_true : (x y : Bool) → IsTrue (x && y) ↔ (IsTrue x × IsTrue y)
+pub both_true : (x y : Bool) → IsTrue (x && y) ↔ (IsTrue x × IsTrue y)
 both_true true true = ((λ t. (refl, refl)), (λ h. refl))
 both_true true false = ((λ t. absurd (false≢true t)), (λ h. h.1))
 both_true false y = ((λ t. absurd (false≢true t)), (λ h. h.0))

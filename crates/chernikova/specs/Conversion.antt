@@ -52,3 +52,13 @@ pub record IsCountedUpto (width : ℕ) (rows : List Row) (k : ℕ) (total : ℕ)
 abbrev pub IsRealOverflow : ℕ → List Row → ConvErr → Type 0
 IsRealOverflow width rows (Overflow over) = Leaves width rows over
 IsRealOverflow width rows Memory = ⊤
+
+-- the overflow is one of the step with row k
+abbrev pub IsAtStep : ℕ → ConvErr → Type 0
+IsAtStep k (Overflow over) = over.step ≡ k
+IsAtStep k Memory = ⊤
+
+-- at an overflow the total is bounded by the systems of the rows up to that of its step
+abbrev pub IsCountedBefore : ℕ → List Row → ℕ → ConvErr → Type 0
+IsCountedBefore width rows total (Overflow over) = IsCountedUpto width rows (over.step + 1) total
+IsCountedBefore width rows total Memory = ⊤

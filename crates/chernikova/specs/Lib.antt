@@ -5,3 +5,4 @@ pub mod Changes
 pub mod Tables
 pub mod Conversion
 pub mod Orders
+pub mod CountTests

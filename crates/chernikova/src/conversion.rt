@@ -8,7 +8,7 @@ ghost use Rattle.cone_laws.specs.SystemLaws.{HasSystemOf};
 ghost use Rattle.row_core.specs.Range.{AllInRange};
 ghost use Rattle.sat_matrix.specs.ZeroTables.{IsZeroTable};
 ghost use Rattle.chernikova.specs.Changes.{AreLists};
-ghost use Rattle.chernikova.specs.Conversion.{IsState, IsCountedUpto, IsRealOverflow};
+ghost use Rattle.chernikova.specs.Conversion.{IsState, IsAtStep, IsCountedUpto, IsCountedBefore, IsRealOverflow};
 
 use crate::cone::Cone;
 use crate::fault::shown;
@@ -57,6 +57,7 @@ fn take_row<L: Ledger>(
     requires row { k < length rows.now.rows }
     requires state { IsState rows.now.width rows.now.rows k cone }
     ensures state { MatchResult result (IsState rows.now.width rows.now.rows (k + 1)) (IsRealOverflow rows.now.width rows.now.rows) }
+    ensures step { IfErr result (IsAtStep k) }
     ensures no_fewer { steps.old ≤ steps.new }
     ensures counted { HasSystemOf rows.now.width rows.now.rows (k + 1) (steps.new - steps.old) }
 {
@@ -72,7 +73,8 @@ fn take_row<L: Ledger>(
 /// # Errors
 ///
 /// An overflow shows a vector of the system of the rows before one of them, and that row or another
-/// vector of the system, whose dot product or needed combination leaves the range.
+/// vector of the system, whose dot product or needed combination leaves the range. What was counted up
+/// to it is bounded by the systems of the rows up to that row.
 pub fn convert<L: Ledger>(
     alloc: Global,
     width: usize,
@@ -87,6 +89,7 @@ pub fn convert<L: Ledger>(
     ensures overflow { IfErr result (IsRealOverflow width rows.now.rows) }
     ensures no_fewer { steps.old ≤ steps.new }
     ensures counted { IsCountedUpto width rows.now.rows (length rows.now.rows) (steps.new - steps.old) }
+    ensures counted_before { IfErr result (IsCountedBefore width rows.now.rows (steps.new - steps.old)) }
 {
     let mut cone = start(alloc, width, rows)?;
     for k in 0..rows.len() {

@@ -1,10 +1,11 @@
 //! The step with a row that is 0 on all lines.
-ghost use Rattle.std.specs.Prelude.{◌≡◌, ◌≢◌, ℕ, ◌+◌, ◌^◌, ◌<◌, ◌≤◌, Bool, true, false, List, [], ◌∷◌, ◌++◌, length, All, pos, ◌<ℤ◌, ◌↔◌, IsTrue, MatchResult, IfOk, OnOk};
+ghost use Rattle.std.specs.Prelude.{◌≡◌, ◌≢◌, ℕ, ◌+◌, ◌-◌, ◌^◌, ◌<◌, ◌≤◌, Bool, true, false, List, [], ◌∷◌, ◌++◌, length, All, pos, ◌<ℤ◌, ◌↔◌, IsTrue, MatchResult, IfOk, OnOk};
 ghost use Rattle.row_core.specs.Range.{InRange, AllInRange};
-ghost use Rattle.sat_matrix.specs.Tables.{marked};
+ghost use Rattle.sat_matrix.specs.Tables.{HasThird, marked};
 ghost use Rattle.row_core.specs.Lists.{vectors, AreMarked};
 ghost use Rattle.chernikova.specs.Changes.{value_at, AreAllCrosses, IsCross, IsCrossesBelow, IsPairAt, ArePairs, IsPairCombined, AreMade, IsRayChange};
 ghost use Rattle.chernikova.specs.Faults.{IsPairFault};
+ghost use Rattle.chernikova.specs.CountTests.{CountsDecide};
 
 use crate::combination::combine;
 use crate::fault::{Fault, Part, Place};
@@ -13,15 +14,49 @@ use sat_matrix::SatMatrix;
 use std::alloc::{AllocError, Global};
 use std::sync::ledger::Ledger;
 
+/// The least number of rows of the system that two adjacent rays are both 0 on: with fewer, the vectors
+/// that are 0 on them have more dimensions than the lines and two rays span (H. Le Verge, 1992).
+pub(crate) fn least_shared(width: usize, lines: usize) -> usize
+    ensures { result ≡ width - (lines + 2) }
+{
+    width.saturating_sub(lines).saturating_sub(2)
+}
+
+/// Whether a ray has one zero more than it shares with another.
+fn has_one_more(zeros: usize, shared: usize) -> bool
+    ensures { IsTrue result ↔ (zeros ≡ shared + 1) }
+{
+    zeros > shared && zeros - shared == 1
+}
+
+/// Whether two rays are adjacent: no third ray is 0 wherever both are. The numbers of their zeros
+/// decide most pairs: too few in common and there is a third ray, one more in either and there is none.
+fn adjacent(zeros: &SatMatrix, least: usize, first: usize, second: usize) -> bool
+    requires first { first < length zeros.now.rows }
+    requires second { second < length zeros.now.rows }
+    requires counts { CountsDecide least zeros.now }
+    ensures { IsTrue result ↔ ¬ (HasThird zeros.now first second) }
+{
+    let shared = zeros.shared(first, second);
+    if shared < least {
+        return false;
+    }
+    if has_one_more(zeros.ones(first), shared) || has_one_more(zeros.ones(second), shared) {
+        return true;
+    }
+    !zeros.third_between(first, second)
+}
+
 /// Whether a ray above 0 on the row and another one cross: the other is below 0, and they are adjacent.
-fn cross(values: &[i128], zeros: &SatMatrix, above: usize, below: usize) -> bool
+fn cross(values: &[i128], zeros: &SatMatrix, least: usize, above: usize, below: usize) -> bool
+    requires counts { CountsDecide least zeros.now }
     requires as_many { length values.now ≡ length zeros.now.rows }
     requires first { above < length values.now }
     requires second { below < length values.now }
     requires positive { pos 0 <ℤ value_at values.now above }
     ensures { IsTrue result ↔ IsCross values.now zeros.now above below }
 {
-    values[below] < 0 && !zeros.third_between(above, below)
+    values[below] < 0 && adjacent(zeros, least, above, below)
 }
 
 /// Appends the pairs of ray `above`, which is above 0 on the row, with each adjacent ray below 0.
@@ -30,7 +65,9 @@ fn push_crossings(
     above: usize,
     values: &[i128],
     zeros: &SatMatrix,
+    least: usize,
 ) -> Result<(), AllocError>
+    requires counts { CountsDecide least zeros.now }
     requires as_many { length values.now ≡ length zeros.now.rows }
     requires first { above < length values.now }
     requires positive { pos 0 <ℤ value_at values.now above }
@@ -38,7 +75,7 @@ fn push_crossings(
     ensures { OnOk result (IsCrossesBelow values.now zeros.now (above + 1) pairs.new.items) }
 {
     for below in 0..values.len() {
-        if cross(values, zeros, above, below) {
+        if cross(values, zeros, least, above, below) {
             pairs.push((above, below))?;
         }
     }
@@ -50,7 +87,9 @@ pub(crate) fn crossings(
     alloc: Global,
     values: &[i128],
     zeros: &SatMatrix,
+    least: usize,
 ) -> Result<Vec<(usize, usize)>, AllocError>
+    requires counts { CountsDecide least zeros.now }
     requires as_many { length values.now ≡ length zeros.now.rows }
     requires in_range { All InRange values.now }
     ensures { IfOk result (λ v. AreAllCrosses values.now zeros.now v.items) }
@@ -58,7 +97,7 @@ pub(crate) fn crossings(
     let mut pairs = Vec::new(alloc);
     for above in 0..values.len() {
         if values[above] > 0 {
-            push_crossings(&mut pairs, above, values, zeros)?;
+            push_crossings(&mut pairs, above, values, zeros, least)?;
         }
     }
     Ok(pairs)

@@ -8,7 +8,7 @@ ghost use Rattle.chernikova.specs.Conversion.{IsState, IsOutcome};
 use crate::cone::Cone;
 use crate::fault::{Fault, Part};
 use crate::line_step::line_step;
-use crate::ray_step::{crossings, ray_step};
+use crate::ray_step::{crossings, least_shared, ray_step};
 use crate::values::{last_crossing, marks, values};
 use crate::zeros::{after_line_step, after_ray_step};
 use row_core::{Memory, RowList, Steps};
@@ -56,7 +56,8 @@ pub(crate) fn next_system<L: Ledger>(
         return Ok(Change::Line { lines, rays });
     }
     let marks = marks(alloc, eq, &ray_values)?;
-    let pairs = crossings(alloc, &ray_values, &cone.sat)?;
+    let least = least_shared(rows.width(), cone.lines.len());
+    let pairs = crossings(alloc, &ray_values, &cone.sat, least)?;
     let rays = ray_step(alloc, &cone.rays, &ray_values, &marks, &pairs, steps)?;
     Ok(Change::Ray {
         rays,

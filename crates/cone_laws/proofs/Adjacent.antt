@@ -84,32 +84,32 @@ pub data Reduced (r : ℕ → V) (count : ℕ) (a : V → ℤ) (Adj : ℕ → �
   level : (j : ℕ) → j < count → a (r j) ≡ pos 0 → Same v (r j) → Reduced r count a Adj v
   crossed : (p n : ℕ) → IsCrossed r count a p n → Adj p n → Same v (pairing a (r p) (r n)) → Reduced r count a Adj v
 
-ratio_above : (di ct dt ci : ℤ) → (di *ℤ ct) ≤ℤ (dt *ℤ ci) → dt ≡ pos 0 → pos 0 ≤ℤ di → pos 0 <ℤ ct → di ≡ pos 0
+pub ratio_above : (di ct dt ci : ℤ) → (di *ℤ ct) ≤ℤ (dt *ℤ ci) → dt ≡ pos 0 → pos 0 ≤ℤ di → pos 0 <ℤ ct → di ≡ pos 0
 ratio_above di ct dt ci h z p q =
     let e : dt *ℤ ci ≡ pos 0 = ap (λ (y : ℤ). y *ℤ ci) z ∙ zero-mul ci in
     let f : pos 0 ≤ℤ (di *ℤ ct) = mul-at_least_zero di ct p (omega (arith, ints)) in
     let g : di *ℤ ct ≡ pos 0 = omega (arith, ints) in
     zero_of_mul ct di q (mul_comm ct di ∙ g)
 
-not_zero : (x : ℤ) → pos 0 <ℤ x → x ≢ pos 0
+pub not_zero : (x : ℤ) → pos 0 <ℤ x → x ≢ pos 0
 not_zero x h e = omega (arith, ints)
 
 -- d times c, less c times d
-taken_least : (ci ct di dt : ℤ) → (di *ℤ ct) ≤ℤ (dt *ℤ ci) → pos 0 ≤ℤ (dt *ℤ ci +ℤ neg_ℤ ct *ℤ di)
+pub taken_least : (ci ct di dt : ℤ) → (di *ℤ ct) ≤ℤ (dt *ℤ ci) → pos 0 ≤ℤ (dt *ℤ ci +ℤ neg_ℤ ct *ℤ di)
 taken_least ci ct di dt h = omega (arith, ints, neg-mul ct di, mul_comm ct di)
 
-taken_zero : (c d : ℤ) → d *ℤ c +ℤ neg_ℤ c *ℤ d ≡ pos 0
+pub taken_zero : (c d : ℤ) → d *ℤ c +ℤ neg_ℤ c *ℤ d ≡ pos 0
 taken_zero c d = simp ring (omega (arith, ints))
 
 -- the same at the least ratio
-left_least : (ci ct di dt : ℤ) → (neg_ℤ di *ℤ ct) ≤ℤ (neg_ℤ dt *ℤ ci) → pos 0 ≤ℤ (neg_ℤ dt *ℤ ci +ℤ ct *ℤ di)
+pub left_least : (ci ct di dt : ℤ) → (neg_ℤ di *ℤ ct) ≤ℤ (neg_ℤ dt *ℤ ci) → pos 0 ≤ℤ (neg_ℤ dt *ℤ ci +ℤ ct *ℤ di)
 left_least ci ct di dt h = omega (arith, ints, neg-mul di ct, mul_comm ct di)
 
 left_zero : (c d : ℤ) → neg_ℤ d *ℤ c +ℤ c *ℤ d ≡ pos 0
 left_zero c d = simp ring (omega (arith, ints))
 
 -- what was taken, put back
-put_back : (v w c d : ℤ) → d *ℤ v ≡ pos 1 *ℤ (d *ℤ v +ℤ neg_ℤ c *ℤ w) +ℤ c *ℤ w
+pub put_back : (v w c d : ℤ) → d *ℤ v ≡ pos 1 *ℤ (d *ℤ v +ℤ neg_ℤ c *ℤ w) +ℤ c *ℤ w
 put_back v w c d = omega (arith, ints, neg-mul c w)
 
 -- the two combinations of c and d, added so that d goes

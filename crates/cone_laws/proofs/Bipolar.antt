@@ -18,7 +18,8 @@ use Rattle.cone_laws.proofs.UptoRows.{Asks, zero_asks, asks_least, IsSumOf, dot_
 use Rattle.cone_laws.proofs.LineSteps.{LowersTo, magnitude_positive, lowered_within, negated_lowered_within, upward_dot, not_negative}
 use Rattle.cone_laws.proofs.OppositeRays.{Stands, pair_within, lines_stay}
 use Rattle.cone_laws.proofs.Ratios.{shift}
-use Rattle.cone_laws.proofs.Existence.{both, cell-both, length-both, lowered_row, lowers_row, pair_row, pairs_row, Crosses, AllFlat, crossing_or_flat, has_system, row_is_at}
+use Rattle.cone_laws.proofs.Existence.{both, cell-both, length-both, lowered_row, lowers_row, pair_row, pairs_row, Crosses, AllFlat, crossing_or_flat, row_is_at}
+use Rattle.cone_laws.proofs.StepExistence.{every_prefix}
 
 -- ---- a vector whose product with itself is at most 0
 square_least : (a : ℤ) → pos 0 ≤ℤ (a *ℤ a)
@@ -36,7 +37,7 @@ dot_least : (v : List ℤ) → pos 0 ≤ℤ dot v v
 dot_least [] = omega (arith, ints)
 dot_least (a ∷ v) = omega (arith, ints, square_least a, dot_least v)
 
-dot_zero : (v : List ℤ) → dot v v ≤ℤ pos 0 → (j : ℕ) → cell v j ≡ pos 0
+pub dot_zero : (v : List ℤ) → dot v v ≤ℤ pos 0 → (j : ℕ) → cell v j ≡ pos 0
 dot_zero [] h j = refl
 dot_zero (a ∷ v) h zero = square_zero a (omega (arith, ints, square_least a, dot_least v, h))
 dot_zero (a ∷ v) h (suc j) = dot_zero v (omega (arith, ints, square_least a, dot_least v, h)) j
@@ -234,12 +235,12 @@ spanned_by_first width vectors wide zero h v w admits =
 spanned_by_first width vectors wide (suc k) h v w admits =
     let row = slice_index_or vectors k ([], false) in
     let b : k < length vectors = omega arith in
-    let sys = has_system width vectors k (omega arith) in
+    let sys = every_prefix width vectors k (omega arith) in
     let admits_more : AdmitsAll width vectors (k + 1) v = subst (λ (n : ℕ). AdmitsAll width vectors n v) (omega arith) admits in
-    let s = shifted width vectors k row.0 row.1 (row_is_at vectors k b) v admits_more sys.lines sys.rays sys.system in
+    let s = shifted width vectors k row.0 row.1 (row_is_at vectors k b) v admits_more sys.lines sys.rays (record { generates = sys.system.generates; lineality = sys.system.lineality }) in
     let x : List ℤ = both s.times v (neg_ℤ s.part) row.0 in
     let x_wide : length x ≡ width = length-both s.times v (neg_ℤ s.part) row.0 (w ∙ sym (wide k b)) ∙ wide k b in
-    let t = spanned_by_first width vectors wide k (omega arith) x x_wide (admits_rest width vectors k row.0 v row.1 sys.lines sys.rays sys.system s) in
+    let t = spanned_by_first width vectors wide k (omega arith) x x_wide (admits_rest width vectors k row.0 v row.1 sys.lines sys.rays (record { generates = sys.system.generates; lineality = sys.system.lineality }) s) in
     spans_of_multiple s.times (cell v) (λ j. s.times *ℤ cell v j) s.positive
     (spans_add (pos 1) (pos 1) (cell x) (λ j. s.part *ℤ entries_at vectors k j) (λ j. s.times *ℤ cell v j) (omega (arith, ints)) (omega (arith, ints))
     (spans_more (lines_more vectors k) (rays_more vectors k) (cell x) t)

@@ -38,3 +38,5 @@ pub mod NextSystems
 pub mod PrimitivePart
 pub mod CrossingPairs
 pub mod StepExistence
+pub mod OneMore
+pub mod TooFew

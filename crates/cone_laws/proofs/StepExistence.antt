@@ -210,8 +210,11 @@ zero_cell width j = by_place (cases_lt j width)
     by_place (inl h) = get_or-replicate width j (pos 0) (pos 0) h
     by_place (inr h) = get_or_past (replicate width (pos 0)) j (pos 0) (omega (arith, length-replicate width (pos 0)))
 
-units_exist : (width : ℕ) → AreUnits width (units_upto width width)
-units_exist width = record {
+abbrev pub units : ℕ → List (List ℤ)
+units width = units_upto width width
+
+pub are_units : (width : ℕ) → AreUnits width (units width)
+are_units width = record {
   as_many = length-units_upto width width;
   wide = λ i h. ap (λ (v : List ℤ). length v) (unit_at width width i h) ∙ length-set (replicate width (pos 0)) i (pos 1) ∙ length-replicate width (pos 0);
   one = λ i h. ap (λ (v : List ℤ). cell v i) (unit_at width width i h) ∙ get_or-set_same (replicate width (pos 0)) i (pos 1) (pos 0) (omega (arith, length-replicate width (pos 0)));
@@ -219,7 +222,7 @@ units_exist width = record {
 }
 
 pub every_prefix : (width : ℕ) (rows : List Row) (k : ℕ) → k ≤ length rows → HasSystem width rows k
-every_prefix width rows zero h = record { lines = units_upto width width; rays = []; system = units_system width rows (units_upto width width) (units_exist width) }
+every_prefix width rows zero h = record { lines = units width; rays = []; system = units_system width rows (units width) (are_units width) }
 every_prefix width rows (suc k) h = from_before (every_prefix width rows k (omega arith))
   where
     row : Row

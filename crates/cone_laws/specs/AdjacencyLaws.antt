@@ -1,4 +1,4 @@
-use Rattle.std.specs.Prelude.{◌≡◌, ℕ, ◌+◌, ◌<◌, ◌↔◌, List, [], ◌∷◌, length, ℤ, pos, All}
+use Rattle.std.specs.Prelude.{◌≡◌, ◌≢◌, ℕ, ◌+◌, ◌<◌, ◌≤◌, ◌↔◌, List, [], ◌∷◌, length, ℤ, pos, All, Contains}
 use Rattle.row_core.specs.Vectors.{cell, dot}
 use Rattle.row_core.specs.Lists.{Row, row_at}
 use Rattle.cone_laws.specs.Cones.{Upto, Spans, Generates, HasLineality}
@@ -38,3 +38,18 @@ NoRayIsIrredundant = (lines : List (List ℤ)) → IsIrredundant lines []
 -- where no ray is to spare, no ray is 0
 abbrev pub RaysAreNotZero : Type 0
 RaysAreNotZero = (lines rays : List (List ℤ)) (i : ℕ) → IsIrredundant lines rays → i < length rays → ¬ ((j : ℕ) → cell (vector_at rays i) j ≡ pos 0)
+
+-- row m is 0 on the first vector and not on the second, and each other of the first k rows that is 0 on the first is 0 on the second
+pub record IsOneMore (rows : List Row) (k : ℕ) (p n : List ℤ) (m : ℕ) : Type 0 where
+  pub below : m < k
+  pub is_zero : dot (row_at rows m) p ≡ pos 0
+  pub not_zero : dot (row_at rows m) n ≢ pos 0
+  pub others : (i : ℕ) → i < k → i ≢ m → dot (row_at rows i) p ≡ pos 0 → dot (row_at rows i) n ≡ pos 0
+
+-- where one of two rays is 0 on just one row more than on those on which both are, no third ray stands between them
+abbrev pub OneMoreLaw : Type 0
+OneMoreLaw = (width : ℕ) (rows : List Row) (k : ℕ) (lines rays : List (List ℤ)) (p n m : ℕ) → k ≤ length rows → IsMinimal (Upto width rows k) lines rays → p < length rays → n < length rays → IsOneMore rows k (vector_at rays p) (vector_at rays n) m → NoThird rows k rays p n
+
+-- where a list holds each of the first k rows on which two rays both are 0, and the list, the lines and the two are fewer than the columns, a third ray stands between the two
+abbrev pub TooFewLaw : Type 0
+TooFewLaw = (width : ℕ) (rows : List Row) (k : ℕ) (lines rays : List (List ℤ)) (p n : ℕ) (common : List (List ℤ)) → k ≤ length rows → IsMinimal (Upto width rows k) lines rays → p < length rays → n < length rays → ((m : ℕ) → m < k → dot (row_at rows m) (vector_at rays p) ≡ pos 0 → dot (row_at rows m) (vector_at rays n) ≡ pos 0 → Contains common (row_at rows m)) → length common + length lines + 2 < width → ¬ (NoThird rows k rays p n)

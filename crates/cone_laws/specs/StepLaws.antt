@@ -1,10 +1,9 @@
-use Rattle.std.specs.Prelude.{◌≡◌, ℕ, ◌+◌, ◌<◌, List, [], length, ℤ, pos, ◌+ℤ◌, ◌≤ℤ◌, All}
+use Rattle.std.specs.Prelude.{◌≡◌, ℕ, ◌+◌, List, [], ℤ, pos, ◌+ℤ◌, ◌≤ℤ◌, All}
 use Rattle.std.proofs.Math.IntN.{◌*ℤ◌}
 use Rattle.row_core.specs.Vectors.{dot, scale, add}
 use Rattle.row_core.specs.Lists.{Row}
 use Rattle.cone_laws.specs.Cones.{Upto, Spans, Generates, HasLineality}
-use Rattle.cone_laws.specs.Canon.{vector_at}
-use Rattle.cone_laws.specs.Steps.{IsRowAt, AreUnits, IsLineStep, IsFullRayStep}
+use Rattle.cone_laws.specs.Steps.{IsRowAt, AreUnits, IsLineStep}
 
 -- ---- sums
 -- the value of a row on a sum of two vectors
@@ -44,7 +43,3 @@ UnitsGenerate = (width : ℕ) (rows : List Row) (lines : List (List ℤ)) → Ar
 -- what the step with a line that isn't 0 on the row makes generates the cone of one row more
 abbrev pub LineStepGenerates : Type 0
 LineStepGenerates = (width : ℕ) (rows : List Row) (k : ℕ) (row : Row) (lines rays new_lines new_rays : List (List ℤ)) → IsRowAt rows k row → GeneratesUpto width rows k lines rays → IsLineStep row lines rays new_lines new_rays → GeneratesUpto width rows (k + 1) new_lines new_rays
-
--- where the row is 0 on all lines, what the step with all pairs of rays makes generates the cone of one row more
-abbrev pub FullRayStepGenerates : Type 0
-FullRayStepGenerates = (width : ℕ) (rows : List Row) (k : ℕ) (row : Row) (lines rays new : List (List ℤ)) → IsRowAt rows k row → GeneratesUpto width rows k lines rays → ((i : ℕ) → i < length lines → dot row.0 (vector_at lines i) ≡ pos 0) → IsFullRayStep row rays new → GeneratesUpto width rows (k + 1) lines new

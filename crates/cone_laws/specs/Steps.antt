@@ -75,15 +75,6 @@ pub record IsRayStep (rows : List Row) (k : ℕ) (row : Row) (rays new : List (L
   pub distinct : (i j : ℕ) → i < length pairs → j < length pairs → i ≢ j → pair_at pairs i ≢ pair_at pairs j
   pub each_made : Pointwise (IsMadeOf row.0 rays) pairs made
 
--- the same step with a ray for each pair on the two sides of the row, adjacent or not
-pub record IsFullRayStep (row : Row) (rays new : List (List ℤ)) : Type 0 where
-  pub pairs : List (ℕ × ℕ)
-  pub made : List (List ℤ)
-  pub result : new ≡ filter (λ r. stays row.1 (dot row.0 r)) rays ++ made
-  pub opposite : (i : ℕ) → i < length pairs → IsOpposite row.0 rays (pair_at pairs i).0 (pair_at pairs i).1
-  pub all : (p n : ℕ) → IsOpposite row.0 rays p n → Contains pairs (p, n)
-  pub each_made : Pointwise (IsMadeOf row.0 rays) pairs made
-
 -- ---- a line that crosses a row
 
 -- 1, 0 or -1

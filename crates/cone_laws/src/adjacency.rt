@@ -1,6 +1,6 @@
 //! Laws of adjacent rays, and of systems without a ray to spare.
 
-ghost use Rattle.cone_laws.specs.AdjacencyLaws.{FaceLaw, RayStepIsMinimal, LineStepIsIrredundant, NoRayIsIrredundant, RaysAreNotZero};
+ghost use Rattle.cone_laws.specs.AdjacencyLaws.{FaceLaw, RayStepIsMinimal, LineStepIsIrredundant, NoRayIsIrredundant, RaysAreNotZero, OneMoreLaw, TooFewLaw};
 
 /// Two rays of a system without a ray to spare are adjacent exactly where no third ray is 0 on
 /// each row on which both are (Fukuda and Prodon, 1996).
@@ -26,4 +26,15 @@ pub fn no_ray_is_irredundant()
 /// Where no ray is to spare, no ray is 0.
 pub fn rays_are_not_zero()
     ensures { RaysAreNotZero }
+{}
+
+/// Where one of two rays is 0 on just one row more than on those on which both are, no third ray
+/// stands between them.
+pub fn one_more_law()
+    ensures { OneMoreLaw }
+{}
+
+/// Where too few rows are 0 on both of two rays, a third ray stands between them.
+pub fn too_few_law()
+    ensures { TooFewLaw }
 {}

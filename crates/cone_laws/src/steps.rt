@@ -1,6 +1,6 @@
 //! Laws of what lines and rays span, and of the steps of the double description method (Motzkin, Raiffa, Thompson and Thrall, 1953; Chernikova, 1964).
 
-ghost use Rattle.cone_laws.specs.StepLaws.{AtLeastZeroOnSpanned, DotOfMultiple, DotOfSum, FullRayStepGenerates, LineStepGenerates, MultipleIsSpanned, SpansOfSpanned, SumIsSpanned, UnitsGenerate};
+ghost use Rattle.cone_laws.specs.StepLaws.{AtLeastZeroOnSpanned, DotOfMultiple, DotOfSum, LineStepGenerates, MultipleIsSpanned, SpansOfSpanned, SumIsSpanned, UnitsGenerate};
 
 /// The value of a row is additive, and a multiple's value is the multiple.
 pub fn dot_is_linear()
@@ -24,9 +24,4 @@ pub fn units_generate()
 /// A step with a line that crosses the row generates the cone of one row more.
 pub fn line_step_generates()
     ensures { LineStepGenerates }
-{}
-
-/// A step that combines all pairs of rays from the two sides of the row generates the cone of one row more.
-pub fn full_ray_step_generates()
-    ensures { FullRayStepGenerates }
 {}

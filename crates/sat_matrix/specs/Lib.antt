@@ -1,2 +1,3 @@
 pub mod Tables
+pub mod Counts
 pub mod ZeroTables

@@ -1,6 +1,7 @@
 //! The table.
 ghost use Rattle.std.specs.Prelude.{◌≡◌, ℕ, ◌+◌, ◌*◌, ◌<◌, ◌≤◌, ◌↔◌, Bool, false, List, [], ◌∷◌, ◌++◌, length, map, max, replicate, take, drop, vec_len, vec_capacity, slice_set, slice_index_or, IsTrue, OnOk, OnErr, IfOk};
 ghost use Rattle.sat_matrix.specs.Tables.{Table, bits_of, bit_at, rows_of, IsLaidOut, conjunction, marked, transposed, Covers, HasThird, IsRectangular};
+ghost use Rattle.sat_matrix.specs.Counts.{ones, one_if};
 
 use row_core::Memory;
 use std::alloc::Global;
@@ -233,6 +234,23 @@ impl SatMatrix {
         self.spare -= 1;
     }
 
+    /// How many places of a row are true.
+    pub fn ones(&self, i: usize) -> usize
+        requires { i < length self.now.rows }
+        ensures { result ≡ ones (bits_of self.now.rows i) }
+    {
+        count(self.row(i))
+    }
+
+    /// How many places are true in both of two rows.
+    pub fn shared(&self, i: usize, j: usize) -> usize
+        requires first { i < length self.now.rows }
+        requires second { j < length self.now.rows }
+        ensures { result ≡ ones (conjunction (bits_of self.now.rows i) (bits_of self.now.rows j)) }
+    {
+        count_both(self.row(i), self.row(j))
+    }
+
     /// Whether some row other than `i` and `j` is true at each column at which rows `i` and `j` both
     /// are.
     pub fn third_between(&self, i: usize, j: usize) -> bool
@@ -247,6 +265,40 @@ impl SatMatrix {
         }
         false
     }
+}
+
+// 1 for true, and 0 for false.
+#[inline]
+fn number_of(bit: bool) -> usize
+    ensures value { result ≡ one_if bit }
+    ensures bound { result ≤ 1 }
+{
+    if bit { 1 } else { 0 }
+}
+
+// How many of the truth values are true.
+#[inline]
+fn count(bits: &[bool]) -> usize
+    ensures { result ≡ ones bits.now }
+{
+    let mut found = 0;
+    for place in 0..bits.len() {
+        found += number_of(bits[place]);
+    }
+    found
+}
+
+// At how many places both lists are true.
+#[inline]
+fn count_both(first: &[bool], second: &[bool]) -> usize
+    requires { length second.now ≡ length first.now }
+    ensures { result ≡ ones (conjunction first.now second.now) }
+{
+    let mut found = 0;
+    for place in 0..first.len() {
+        found += number_of(first[place] & second[place]);
+    }
+    found
 }
 
 // Whether the third list is true wherever the first and the second both are.

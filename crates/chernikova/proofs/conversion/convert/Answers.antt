@@ -1,11 +1,11 @@
-use Rattle.std.specs.Prelude.{◌≡◌, ◌-◌, ℕ, length}
-use Rattle.std.proofs.Common.{sym, subst, ◌∙◌, arith}
+use Rattle.std.specs.Prelude.{◌≡◌, ◌-◌, ℕ, length, true}
+use Rattle.std.proofs.Common.{sym, ap, subst, ◌∙◌, arith, rules}
 use Rattle.cone_laws.specs.Cones.{Upto}
 use Rattle.cone_laws.specs.Canon.{Canon}
-use Rattle.chernikova.specs.Conversion.{IsState, IsCountedUpto}
-use Rattle.row_core.specs.Lists.{vectors}
+use Rattle.row_core.specs.Lists.{Rows, vectors, AreMarked}
+use Rattle.chernikova.specs.Conversion.{IsState, IsCountedUpto, IsCountedBefore}
 use Rattle.chernikova.proofs.NextStates.{rays_wide}
-use Rattle.chernikova.proofs.Counts.{counted_start, counted_more, counted_last}
+use Rattle.chernikova.proofs.Counts.{counted_start, counted_more, counted_last, counted_before}
 use Rattle.chernikova.proofs.VectorLemmas.{length-vectors}
 use Rattle.chernikova.proofs.Rankings.{rearranged_canon, rearranged_zeros}
 use Rattle.chernikova.proofs.conversion.convert.Goals as goal
@@ -55,3 +55,27 @@ returns-in_err-cone-2-clause-counted g c =
     subst P c.requires.width
     (counted_last c.args.rows.now.width c.args.rows.now.rows c.loop-k.k (c.loop-k.steps - c.args.steps.now) (c.take_row.new.steps - c.loop-k.steps) (c.take_row.new.steps - c.args.steps.now) (omega arith) inv.counted c.take_row.ensures.counted
     (omega (arith, inv.no_fewer, c.take_row.ensures.no_fewer)))
+
+pub returns-in_err-cone-2-clause-counted_before : goal.returns-in_err-cone-2-clause-counted_before
+returns-in_err-cone-2-clause-counted_before g c =
+    let inv = c.loop-k.invariant in
+    let P : ℕ → Type 0 = λ w. IsCountedBefore w c.args.rows.now.rows (c.take_row.new.steps - c.args.steps.now) c.in_err-cone-2.field-0.0 in
+    let h : IsCountedBefore c.args.width c.args.rows.now.rows (c.take_row.new.steps - c.args.steps.now) c.in_err-cone-2.field-0.0 =
+    subst P c.requires.width
+    (counted_before c.args.rows.now.width c.args.rows.now.rows c.loop-k.k (c.take_row.new.steps - c.args.steps.now) c.in_err-cone-2.field-0.0 c.in_err-cone-2.ensures.step
+    (counted_more c.args.rows.now.width c.args.rows.now.rows c.loop-k.k (c.loop-k.steps - c.args.steps.now) (c.take_row.new.steps - c.loop-k.steps) (c.take_row.new.steps - c.args.steps.now) inv.counted c.in_err-cone-2.ensures.counted
+    (omega (arith, inv.no_fewer, c.in_err-cone-2.ensures.no_fewer)))) in
+    search rules
+
+pub returns-clause-lists : goal.returns-clause-lists
+returns-clause-lists g c =
+    let lists = c.loop-k.invariant.state.lists in
+    let r = c.in_ok-sorted.ensures in
+    let W : Rows → ℕ = λ l. l.width in
+    let M : Rows → Type 0 = λ l. AreMarked true l.rows in
+    record {
+      lines_wide = ap W r.lines ∙ lists.lines_wide ∙ c.requires.width;
+      rays_wide = r.width ∙ lists.rays_wide ∙ c.requires.width;
+      lines_marked = subst M (sym r.lines) lists.lines_marked;
+      rays_marked = r.marked;
+    }

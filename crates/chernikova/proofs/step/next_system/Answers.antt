@@ -8,6 +8,7 @@ use Rattle.chernikova.specs.Changes.{AreLists, AreAllCrosses, IsLineChange, IsRa
 use Rattle.chernikova.proofs.StateLemmas.{line_step_from}
 use Rattle.chernikova.proofs.StepLemmas.{last_from, flat_from, line_fault_at, pair_fault_at}
 use Rattle.chernikova.proofs.Counts.{count_none, count_line, count_pairs}
+use Rattle.chernikova.proofs.CountLemmas.{counts_decide}
 use Rattle.chernikova.proofs.step.next_system.Goals as goal
 
 pub returns-in_err-lines-clause-outcome : goal.returns-in_err-lines-clause-outcome
@@ -125,3 +126,6 @@ returns-clause-outcome g c =
       crosses = subst P c.deref-3.ensures.value c.in_ok-pairs.ensures;
       step = subst T c.deref-6.ensures.value (subst S c.deref-5.ensures.value (subst R c.deref-4.ensures.value c.in_ok-rays.ensures.change));
     }
+
+pub crossings-requires-clause-counts : goal.crossings-requires-clause-counts
+crossings-requires-clause-counts g c = counts_decide c.args.rows.now.width c.args.rows.now.rows c.args.cone.now.lines.rows c.args.k (vectors c.args.cone.now.rays.rows) c.args.cone.now.sat c.least_shared-least.result (omega (arith, c.requires.row)) c.requires.state.system c.requires.state.zeros (omega (arith, c.least_shared-least.ensures, c.width.ensures.value, c.len.ensures))
