@@ -1,24 +1,26 @@
 -- The points that an encoded cone codes, as sums of its vectors.
-use Rattle.std.proofs.Common.{◌≡◌, ◌⊎◌, inl, inr, ℕ, zero, suc, ◌+◌, ◌<◌, List, [], length, slice_index_or, replicate, false, ℤ, pos, ◌+ℤ◌, ◌*ℤ◌, neg_ℤ, ◌≤ℤ◌, ◌<ℤ◌, sym, ap, ◌∙◌, subst, arith}
+use Rattle.std.proofs.Common.{◌≡◌, ◌⊎◌, inl, inr, ℕ, zero, suc, ◌+◌, ◌<◌, List, [], length, slice_index_or, false, ℤ, pos, ◌+ℤ◌, ◌*ℤ◌, neg_ℤ, ◌≤ℤ◌, ◌<ℤ◌, refl, sym, ap, ◌∙◌, subst, arith}
+use Rattle.std.specs.Prelude.{⊤}
 use Rattle.std.proofs.lemmas.Int.{ints}
 use Rattle.row_core.specs.Vectors.{cell, scale}
 use Rattle.row_core.specs.Lists.{Row}
 use Rattle.cone_laws.specs.Cones.{Upto, negated}
 use Rattle.cone_laws.specs.Canon.{vector_at, IsSystem}
 use Rattle.cone_laws.proofs.Ring.{mul_assoc, mul-positive}
-use Rattle.cone_laws.proofs.Sums.{V, IsMore, Same, Among, Sums, none, line, ray, SpansBy}
-use Rattle.cone_laws.proofs.Columns.{dot_comm, cell-scale, length-scale, cell-negated}
+use Rattle.cone_laws.proofs.Sums.{V, Same, Among, Sums, SpansBy}
+use Rattle.cone_laws.proofs.Columns.{cell-scale, length-scale, cell-negated}
 use Rattle.cone_laws.proofs.Bridge.{In, to_sums}
-use Rattle.cone_laws.proofs.UptoRows.{upto_zero, upto_sum, upto_beside, both_zero}
-use Rattle.cone_laws.proofs.Existence.{both, length-both}
+use Rattle.cone_laws.proofs.UptoRows.{upto_sum}
+use Rattle.cone_laws.proofs.Existence.{both}
 use Rattle.nnc_laws.specs.Encoding.{raised, lowered, Codes, IsEncoded}
 use Rattle.nnc_laws.proofs.PositiveParts.{Found, found}
 use Rattle.nnc_laws.proofs.MarkedSums.{Marks}
 use Rattle.nnc_laws.proofs.KeptSums.{Both}
-use Rattle.nnc_laws.proofs.EncodedRows.{remove_insert, length_insert, cell_insert, dot_zeros, length_replicate}
+use Rattle.nnc_laws.proofs.EncodedRows.{remove_insert, length_insert, cell_insert}
 use Rattle.nnc_laws.proofs.ClosedRows.{ray_in, sum_lowered}
 use Rattle.nnc_laws.proofs.CoveredPoints.{column_linear}
-use Rattle.nnc_laws.proofs.Relaxed.{Numbered, both_least, cell-remove, column_cases, relaxed, relaxed_lines, replicate_entry, skip, skip_self, sum_entry, sum_is, sums_columns}
+use Rattle.nnc_laws.proofs.Lifted.{IsLift, IsOver, over_member, over_of}
+use Rattle.nnc_laws.proofs.Relaxed.{Numbered, both_least, cell-remove, column_cases, relaxed, relaxed_lines, skip, skip_self, sum_entry, sums_columns}
 use Rattle.nnc_laws.proofs.Relaxed.{PointAt_of}
 
 module _ (dim : ℕ) (gens : List Row) (lines rays : List (List ℤ)) (wide : (j : ℕ) → j < length gens → length (slice_index_or gens j ([], false)).0 ≡ dim + 2) (system : IsSystem (Upto (dim + 2) gens (length gens)) lines rays) where
@@ -115,47 +117,15 @@ module _ (dim : ℕ) (gens : List Row) (lines rays : List (List ℤ)) (wide : (j
         by_span s = by_found s.times s.positive (found (λ v. v dim) (column_linear dim gens lines rays wide system enc point point_in point_above dim) line_zero ray_zero (λ j. s.times *ℤ cell w j) s.sums (mul-positive s.times (cell w dim) s.positive p))
 
     -- ---- a vector of the set over a sum
-    record IsOver (u : V) : Type 0 where
-      over : List ℤ
-      over_in : D over
-      over_same : Same u (cell (lowered dim over))
+    lift_vector : (n : ℕ) → Numbered rays n → IsLift dim gens lines rays wide system n
+    lift_vector zero m = elim m [ ]
+    lift_vector (suc n) m = record { vector = vector_at rays n; member = ray_in dim gens lines rays wide system n m; same = λ j. refl }
 
-    over_none : (u : V) → ((j : ℕ) → u j ≡ pos 0) → IsOver u
-    over_none u h = record {
-      over = replicate (dim + 2) (pos 0);
-      over_in = upto_zero (dim + 2) gens (length gens) (replicate (dim + 2) (pos 0)) (length_replicate (dim + 2)) (λ m d l. dot_comm (slice_index_or gens m d).0 (replicate (dim + 2) (pos 0)) ∙ dot_zeros (dim + 2) (slice_index_or gens m d).0);
-      over_same = λ j. h j ∙ sym (cell-remove dim (replicate (dim + 2) (pos 0)) j ∙ replicate_entry (dim + 2) (skip dim j));
-    }
+    abbrev Any : List ℤ → Type 0
+    Any v = ⊤
 
-    over_line : (v : V) (k : ℤ) (l u : V) → relaxed_lines dim lines l → IsOver u → IsMore v k l u → IsOver v
-    over_line v k l u m b h = record {
-      over = both (pos 1) b.over k (vector_at lines m.index);
-      over_in = upto_beside (dim + 2) gens (length gens) (both (pos 1) b.over k (vector_at lines m.index)) (pos 1) b.over k (vector_at lines m.index) (sum_is b.over k (vector_at lines m.index))
-          (length-both (pos 1) b.over k (vector_at lines m.index) (b.over_in.wide ∙ sym c.0.wide) ∙ c.0.wide) (omega (arith, ints)) b.over_in (both_zero (dim + 2) gens (length gens) (vector_at lines m.index) c.0 c.1);
-      over_same = sum_lowered dim gens lines rays wide system v k l u (vector_at lines m.index) b.over h m.same b.over_same;
-    }
-      where
-        c : D (vector_at lines m.index) × D (negated (vector_at lines m.index))
-        c = system.generates.lines_within m.index [] m.is
-
-    pub over_member : (k : ℤ) (a b : List ℤ) → pos 0 ≤ℤ k → D a → D b → D (both (pos 1) b k a)
-    over_member k a b p d e = upto_sum (dim + 2) gens (length gens) (both (pos 1) b k a) (pos 1) b k a (sum_is b k a) (length-both (pos 1) b k a (e.wide ∙ sym d.wide) ∙ d.wide) (omega (arith, ints)) p e d
-
-    over_vector : (v : V) (k : ℤ) (l u : V) (a : List ℤ) → pos 0 ≤ℤ k → D a → Same l (cell (lowered dim a)) → IsOver u → IsMore v k l u → IsOver v
-    over_vector v k l u a p d e b h = record {
-      over = both (pos 1) b.over k a;
-      over_in = over_member k a b.over p d b.over_in;
-      over_same = sum_lowered dim gens lines rays wide system v k l u a b.over h e b.over_same;
-    }
-
-    over_ray : (v : V) (k : ℤ) (l u : V) → pos 0 ≤ℤ k → (n : ℕ) → Numbered rays n → Same l (relaxed dim rays n) → IsOver u → IsMore v k l u → IsOver v
-    over_ray v k l u p zero m e b h = elim m [ ]
-    over_ray v k l u p (suc n) m e b h = over_vector v k l u (vector_at rays n) p (ray_in dim gens lines rays wide system n m) e b h
-
-    over_of : (v : V) → Sums (relaxed_lines dim lines) (Among (relaxed dim rays) (Numbered rays)) v → IsOver v
-    over_of v (none h) = over_none v h
-    over_of v (line k l u m s h) = over_line v k l u m (over_of u s) h
-    over_of v (ray k r u p m s h) = over_ray v k r u p m.index m.is m.same (over_of u s) h
+    over_sum : (v : V) → Sums (relaxed_lines dim lines) (Among (relaxed dim rays) (Numbered rays)) v → IsOver dim gens lines rays wide system Any v
+    over_sum = over_of dim gens lines rays wide system (Numbered rays) Any tt (λ i h k b p. tt) lift_vector (λ n m k b p q. tt)
 
     upto_same : (x y : List ℤ) → D x → length y ≡ dim + 2 → ((j : ℕ) → cell y j ≡ cell x j) → D y
     upto_same x y u w e = upto_sum (dim + 2) gens (length gens) y (pos 1) x (pos 0) x (record { times = pos 1; positive = omega (arith, ints); same = λ j. omega (arith, ints, e j) }) w (omega (arith, ints)) (omega (arith, ints)) u u
@@ -165,15 +135,15 @@ module _ (dim : ℕ) (gens : List Row) (lines rays : List (List ℤ)) (wide : (j
 
     -- a sum with a point is coded
     module _ (p : List ℤ) (pw : length p ≡ dim + 1) where
-      over_point : (t k : ℤ) (l u : V) → pos 0 <ℤ t → pos 0 <ℤ k → ((j : ℕ) → t *ℤ cell p j ≡ k *ℤ l j +ℤ u j) → (n : ℕ) → Numbered rays n → PointAt n → Same l (relaxed dim rays n) → IsOver u → Codes dim D p
+      over_point : (t k : ℤ) (l u : V) → pos 0 <ℤ t → pos 0 <ℤ k → ((j : ℕ) → t *ℤ cell p j ≡ k *ℤ l j +ℤ u j) → (n : ℕ) → Numbered rays n → PointAt n → Same l (relaxed dim rays n) → IsOver dim gens lines rays wide system Any u → Codes dim D p
       over_point t k l u pt pk h zero m q e b = elim m [ ]
       over_point t k l u pt pk h (suc n) m q e b = record {
         times = t;
         positive = pt;
-        height = cell (both (pos 1) b.over k (vector_at rays n)) dim;
-        above = height_more (cell (both (pos 1) b.over k (vector_at rays n)) dim) k (cell (vector_at rays n) dim) (cell b.over dim) (sum_entry b.over k (vector_at rays n) dim) pk q (enc.height b.over b.over_in);
-        member = upto_same (both (pos 1) b.over k (vector_at rays n)) (raised dim (scale t p) (cell (both (pos 1) b.over k (vector_at rays n)) dim)) (over_member k (vector_at rays n) b.over (least k pk) (ray_in dim gens lines rays wide system n m) b.over_in)
-            (length_insert dim (scale t p) (cell (both (pos 1) b.over k (vector_at rays n)) dim) (omega (arith, w)) ∙ ap suc w ∙ omega arith) same_entry;
+        height = cell (both (pos 1) b.vector k (vector_at rays n)) dim;
+        above = height_more (cell (both (pos 1) b.vector k (vector_at rays n)) dim) k (cell (vector_at rays n) dim) (cell b.vector dim) (sum_entry b.vector k (vector_at rays n) dim) pk q (enc.height b.vector b.member);
+        member = upto_same (both (pos 1) b.vector k (vector_at rays n)) (raised dim (scale t p) (cell (both (pos 1) b.vector k (vector_at rays n)) dim)) (over_member dim gens lines rays wide system k (vector_at rays n) b.vector (least k pk) (ray_in dim gens lines rays wide system n m) b.member)
+            (length_insert dim (scale t p) (cell (both (pos 1) b.vector k (vector_at rays n)) dim) (omega (arith, w)) ∙ ap suc w ∙ omega arith) same_entry;
       }
         where
           least : (x : ℤ) → pos 0 <ℤ x → pos 0 ≤ℤ x
@@ -182,20 +152,20 @@ module _ (dim : ℕ) (gens : List Row) (lines rays : List (List ℤ)) (wide : (j
           w : length (scale t p) ≡ dim + 1
           w = length-scale t p ∙ pw
 
-          same_entry : (j : ℕ) → cell (raised dim (scale t p) (cell (both (pos 1) b.over k (vector_at rays n)) dim)) j ≡ cell (both (pos 1) b.over k (vector_at rays n)) j
+          same_entry : (j : ℕ) → cell (raised dim (scale t p) (cell (both (pos 1) b.vector k (vector_at rays n)) dim)) j ≡ cell (both (pos 1) b.vector k (vector_at rays n)) j
           same_entry j = by_column (column_cases dim j)
             where
-              by_column : (j ≡ dim) ⊎ ((i : ℕ) × (skip dim i ≡ j)) → cell (raised dim (scale t p) (cell (both (pos 1) b.over k (vector_at rays n)) dim)) j ≡ cell (both (pos 1) b.over k (vector_at rays n)) j
-              by_column (inl g) = ap (cell (raised dim (scale t p) (cell (both (pos 1) b.over k (vector_at rays n)) dim))) g ∙ cell_insert dim (scale t p) (cell (both (pos 1) b.over k (vector_at rays n)) dim) (omega (arith, w)) ∙ ap (cell (both (pos 1) b.over k (vector_at rays n))) (sym g)
+              by_column : (j ≡ dim) ⊎ ((i : ℕ) × (skip dim i ≡ j)) → cell (raised dim (scale t p) (cell (both (pos 1) b.vector k (vector_at rays n)) dim)) j ≡ cell (both (pos 1) b.vector k (vector_at rays n)) j
+              by_column (inl g) = ap (cell (raised dim (scale t p) (cell (both (pos 1) b.vector k (vector_at rays n)) dim))) g ∙ cell_insert dim (scale t p) (cell (both (pos 1) b.vector k (vector_at rays n)) dim) (omega (arith, w)) ∙ ap (cell (both (pos 1) b.vector k (vector_at rays n))) (sym g)
               by_column (inr (i, g)) =
-                  ap (cell (raised dim (scale t p) (cell (both (pos 1) b.over k (vector_at rays n)) dim))) (sym g)
-                  ∙ sym (cell-remove dim (raised dim (scale t p) (cell (both (pos 1) b.over k (vector_at rays n)) dim)) i)
-                  ∙ ap (λ (v : List ℤ). cell v i) (remove_insert dim (scale t p) (cell (both (pos 1) b.over k (vector_at rays n)) dim) (omega (arith, w)))
-                  ∙ cell-scale t p i ∙ sum_lowered dim gens lines rays wide system (λ j. t *ℤ cell p j) k l u (vector_at rays n) b.over h e b.over_same i
-                  ∙ cell-remove dim (both (pos 1) b.over k (vector_at rays n)) i ∙ ap (cell (both (pos 1) b.over k (vector_at rays n))) g
+                  ap (cell (raised dim (scale t p) (cell (both (pos 1) b.vector k (vector_at rays n)) dim))) (sym g)
+                  ∙ sym (cell-remove dim (raised dim (scale t p) (cell (both (pos 1) b.vector k (vector_at rays n)) dim)) i)
+                  ∙ ap (λ (v : List ℤ). cell v i) (remove_insert dim (scale t p) (cell (both (pos 1) b.vector k (vector_at rays n)) dim) (omega (arith, w)))
+                  ∙ cell-scale t p i ∙ sum_lowered dim gens lines rays wide system (λ j. t *ℤ cell p j) k l u (vector_at rays n) b.vector h e b.same i
+                  ∙ cell-remove dim (both (pos 1) b.vector k (vector_at rays n)) i ∙ ap (cell (both (pos 1) b.vector k (vector_at rays n))) g
 
       pub coded_of_marks : Marks (relaxed_lines dim lines) (Among (relaxed dim rays) (Numbered rays)) (Among (relaxed dim rays) (Both (Numbered rays) PointAt)) (cell p) → Codes dim D p
-      coded_of_marks s = over_point s.times s.factor s.vector s.rest s.positive s.above s.same s.marked.index s.marked.is.0 s.marked.is.1 s.marked.same (over_of s.rest s.others)
+      coded_of_marks s = over_point s.times s.factor s.vector s.rest s.positive s.above s.same s.marked.index s.marked.is.0 s.marked.is.1 s.marked.same (over_sum s.rest s.others)
 
       pub marks_of_coded : Codes dim D p → Marks (relaxed_lines dim lines) (Among (relaxed dim rays) (Numbered rays)) (Among (relaxed dim rays) (Both (Numbered rays) PointAt)) (cell p)
       marks_of_coded k = of_multiple (marks_of_member (raised dim (scale k.times p) k.height) k.member (subst (λ (x : ℤ). pos 0 <ℤ x) (sym (cell_insert dim (scale k.times p) k.height (omega (arith, w)))) k.above))

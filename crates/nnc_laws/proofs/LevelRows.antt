@@ -1,5 +1,5 @@
 -- A row that is 0 in column e can't be left out.
-use Rattle.std.proofs.Common.{map, ◌≡◌, ◌≢◌, ◌⊎◌, inl, inr, ℕ, zero, suc, ◌+◌, ◌<◌, ◌≤◌, List, [], ◌∷◌, ◌++◌, length, slice_index_or, replicate, filter, not, Bool, true, false, ℤ, pos, negsuc, ◌+ℤ◌, ◌-ℤ◌, ◌*ℤ◌, neg_ℤ, ◌≤ℤ◌, ◌<ℤ◌, All, refl, sym, ap, ◌∙◌, subst, arith}
+use Rattle.std.proofs.Common.{map, ◌≡◌, ◌≢◌, ◌⊎◌, inl, inr, ℕ, zero, suc, ◌+◌, ◌<◌, ◌≤◌, List, [], ◌∷◌, ◌++◌, length, slice_index_or, filter, not, Bool, true, false, ℤ, pos, negsuc, ◌+ℤ◌, ◌-ℤ◌, ◌*ℤ◌, neg_ℤ, ◌≤ℤ◌, ◌<ℤ◌, All, refl, sym, ap, ◌∙◌, subst, arith}
 use Rattle.std.specs.Prelude.{⊤, remove}
 use mathlib.Core.Bool.{true≢false}
 use Rattle.cone_laws.proofs.LineSteps.{InRest, whole_in_rest}
@@ -9,14 +9,13 @@ use Rattle.std.proofs.Math.Nat.{eq-or-lt_of_le}
 use Rattle.row_core.specs.Vectors.{cell, dot}
 use Rattle.row_core.specs.Lists.{Row}
 use Rattle.row_core.specs.Points.{IsPoint}
-use Rattle.cone_laws.specs.Cones.{Meets, Upto, Spans, negated}
+use Rattle.cone_laws.specs.Cones.{Meets, Upto, Spans}
 use Rattle.cone_laws.specs.Canon.{vector_at, IsSystem}
-use Rattle.cone_laws.proofs.Ring.{ring, mul_comm, by_sign, at_least_zero_or_not, mul-zero, mul-at_least_zero, mul-positive, at_least_zero_of_mul, same_or_not}
-use Rattle.cone_laws.proofs.Sums.{V, IsMore, Same, Among, Sums, none, line, ray, SpansBy, sums_one_ray, spans_sums, spans_same, spans_spans, spans_of_multiple}
+use Rattle.cone_laws.proofs.Ring.{ring, mul_comm, by_sign, at_least_zero_or_not, mul-zero, mul-at_least_zero, at_least_zero_of_mul, same_or_not}
+use Rattle.cone_laws.proofs.Sums.{V, Same, Among, SpansBy, sums_one_ray, spans_sums, spans_same, spans_spans}
 use Rattle.cone_laws.proofs.Columns.{value, value_linear, dot_is, dot_comm}
-use Rattle.cone_laws.proofs.Bridge.{columns, In, in_at, to_sums}
-use Rattle.cone_laws.proofs.Instance.{Beside, needed_by_columns, rest_beside}
-use Rattle.cone_laws.proofs.UptoRows.{upto_zero, upto_sum, upto_beside, both_zero}
+use Rattle.cone_laws.proofs.Bridge.{columns, in_at, to_sums}
+use Rattle.cone_laws.proofs.Instance.{Beside, rest_beside}
 use Rattle.cone_laws.proofs.Factors.{All-remove}
 use Rattle.cone_laws.proofs.Existence.{both, cell-both, length-both}
 use Rattle.cone_laws.proofs.Bipolar.{dot-both, admitted_is_spanned}
@@ -25,11 +24,12 @@ use Rattle.cone_laws.specs.Duality.{lines_of, rays_of}
 use Rattle.std.proofs.lemmas.List.Elements.{All-map, All-filter, filter_passes, All-append, All-cons, All-nil, All-head, All-tail}
 use Rattle.nnc_laws.specs.StrongRows.{HoldsAt, HasVariable, HasNoVariable, LevelRowsAreNeeded}
 use Rattle.nnc_laws.proofs.KeptSums.{one_span, line_span, all_kept}
-use Rattle.nnc_laws.proofs.EncodedRows.{remove_insert, cell_insert, dot_zeros, dot_last, length_replicate}
-use Rattle.nnc_laws.proofs.ClosedRows.{lowered_wide, ray_in, sum_lowered}
+use Rattle.nnc_laws.proofs.EncodedRows.{remove_insert, cell_insert, dot_last}
+use Rattle.nnc_laws.proofs.ClosedRows.{lowered_wide, ray_in}
 use Rattle.nnc_laws.proofs.InnerPoint.{inner_last, inner_line, inner_on, inner_strict, last_value, last_wide}
 use Rattle.nnc_laws.proofs.LeftOutRows.{times_last}
-use Rattle.nnc_laws.proofs.Relaxed.{Given, Strict, cell-remove, column_cases, last_row, no_factor, positive_least, relaxed, relaxed_lines, replicate_entry, same_height, skip, sum_entry, sum_is}
+use Rattle.nnc_laws.proofs.Lifted.{IsLift, beside_needed}
+use Rattle.nnc_laws.proofs.Relaxed.{Given, Strict, cell-remove, column_cases, last_row, relaxed, relaxed_lines, skip}
 use Rattle.nnc_laws.proofs.RowHeights.{height_at_most, height_entry, height_own, no_height_sum, row_line_height}
 
 module _ (dim : ℕ) (gens : List Row) (lines rays : List (List ℤ)) (wide : (j : ℕ) → j < length gens → length (slice_index_or gens j ([], false)).0 ≡ dim + 2) (system : IsSystem (Upto (dim + 2) gens (length gens)) lines rays) where
@@ -46,98 +46,32 @@ module _ (dim : ℕ) (gens : List Row) (lines rays : List (List ℤ)) (wide : (j
     Allowed i zero = ⊤
     Allowed i (suc l) = (l < length rays) × (l ≢ i) × (cell (vector_at rays l) dim ≤ℤ pos 0)
 
-    -- a row of the set over a row without column e: below 0 in column e, or 0 there and spanned by the lines and the other rows
-    record IsLifted (i : ℕ) (u : V) : Type 0 where
-      vector : List ℤ
-      member : D vector
-      same : Same u (cell (lowered dim vector))
-      height : (cell vector dim <ℤ pos 0) ⊎ ((cell vector dim ≡ pos 0) × Sums (In lines) (Beside rays i) (cell vector))
+    lift_row : (i n : ℕ) → Allowed i n → IsLift dim gens lines rays wide system n
+    lift_row i zero m = record { vector = (bound_row dim).0; member = enc.bound; same = λ j. sym (ap (λ (w : List ℤ). cell w j) (remove_insert dim (last_row dim) (negsuc 0) (omega (arith, last_wide dim gens lines rays wide system enc)))) }
+    lift_row i (suc n) m = record { vector = vector_at rays n; member = ray_in dim gens lines rays wide system n m.0; same = λ j. refl }
 
-    lift_none : (i : ℕ) (u : V) → ((j : ℕ) → u j ≡ pos 0) → IsLifted i u
-    lift_none i u h = record {
-      vector = replicate (dim + 2) (pos 0);
-      member = upto_zero (dim + 2) gens (length gens) (replicate (dim + 2) (pos 0)) (length_replicate (dim + 2)) (λ m d l. dot_comm (slice_index_or gens m d).0 (replicate (dim + 2) (pos 0)) ∙ dot_zeros (dim + 2) (slice_index_or gens m d).0);
-      same = λ j. h j ∙ sym (cell-remove dim (replicate (dim + 2) (pos 0)) j ∙ replicate_entry (dim + 2) (skip dim j));
-      height = inr (replicate_entry (dim + 2) dim, none (replicate_entry (dim + 2)));
-    }
+    turned_below : (x : ℤ) → x <ℤ pos 0 → pos 0 <ℤ (negsuc 0 *ℤ x)
+    turned_below x p = omega (arith, ints, p)
 
-    less_height : (x k y z : ℤ) → x ≡ k *ℤ y +ℤ z → pos 0 <ℤ k → y <ℤ pos 0 → z ≤ℤ pos 0 → x <ℤ pos 0
-    less_height x k y z e p q r =
-        let h : pos 0 <ℤ (k *ℤ neg_ℤ y) = mul-positive k (neg_ℤ y) p (omega (arith, ints, q)) in
-        let i : k *ℤ neg_ℤ y ≡ neg_ℤ (k *ℤ y) = simp ring in
-        omega (arith, ints, e, h, i, r)
+    turned_above : (x : ℤ) → pos 0 <ℤ (negsuc 0 *ℤ x) → pos 0 <ℤ neg_ℤ x
+    turned_above x p = omega (arith, ints, p)
 
-    at_most : (x : ℤ) → (x <ℤ pos 0) ⊎ (x ≡ pos 0) → x ≤ℤ pos 0
-    at_most x (inl h) = omega (arith, ints, h)
-    at_most x (inr h) = omega (arith, ints, h)
-
-    height_most : (i : ℕ) (u : V) (b : IsLifted i u) → cell b.vector dim ≤ℤ pos 0
-    height_most i u b = by_height b.height
+    -- the sign of column e is turned
+    row_side : (i n : ℕ) (m : Allowed i n) → (pos 0 <ℤ (negsuc 0 *ℤ cell (lift_row i n m).vector dim)) ⊎ ((cell (lift_row i n m).vector dim ≡ pos 0) × Beside rays i (cell (lift_row i n m).vector))
+    unfolding lift_row
+    row_side i zero m = inl (of_one (cell (bound_row dim).0 dim) (cell_insert dim (last_row dim) (negsuc 0) (omega (arith, last_wide dim gens lines rays wide system enc))))
       where
-        by_height : (cell b.vector dim <ℤ pos 0) ⊎ ((cell b.vector dim ≡ pos 0) × Sums (In lines) (Beside rays i) (cell b.vector)) → cell b.vector dim ≤ℤ pos 0
-        by_height (inl h) = at_most (cell b.vector dim) (inl h)
-        by_height (inr h) = at_most (cell b.vector dim) (inr h.0)
-
-    lift_line : (i : ℕ) (v : V) (k : ℤ) (l u : V) → relaxed_lines dim lines l → IsLifted i u → IsMore v k l u → IsLifted i v
-    lift_line i v k l u m b h = record {
-      vector = both (pos 1) b.vector k (vector_at lines m.index);
-      member = upto_beside (dim + 2) gens (length gens) (both (pos 1) b.vector k (vector_at lines m.index)) (pos 1) b.vector k (vector_at lines m.index) (sum_is b.vector k (vector_at lines m.index)) (length-both (pos 1) b.vector k (vector_at lines m.index) (b.member.wide ∙ sym c.0.wide) ∙ c.0.wide) (omega (arith, ints)) b.member (both_zero (dim + 2) gens (length gens) (vector_at lines m.index) c.0 c.1);
-      same = sum_lowered dim gens lines rays wide system v k l u (vector_at lines m.index) b.vector h m.same b.same;
-      height = by_height b.height;
-    }
+        of_one : (x : ℤ) → x ≡ negsuc 0 → pos 0 <ℤ (negsuc 0 *ℤ x)
+        of_one x e = omega (arith, ints, e)
+    row_side i (suc n) m = by_height (by_sign (cell (vector_at rays n) dim))
       where
-        c : D (vector_at lines m.index) × D (negated (vector_at lines m.index))
-        c = system.generates.lines_within m.index [] m.is
+        above : (x : ℤ) → x ≤ℤ pos 0 → pos 0 <ℤ x → ⊥
+        above x p q = omega (arith, ints, p, q)
 
-        entry : cell (both (pos 1) b.vector k (vector_at lines m.index)) dim ≡ cell b.vector dim
-        entry = same_height (cell (both (pos 1) b.vector k (vector_at lines m.index)) dim) k (cell (vector_at lines m.index) dim) (cell b.vector dim) (sum_entry b.vector k (vector_at lines m.index) dim) (row_line_height dim gens lines rays wide system enc m.index m.is)
-
-        by_height : (cell b.vector dim <ℤ pos 0) ⊎ ((cell b.vector dim ≡ pos 0) × Sums (In lines) (Beside rays i) (cell b.vector)) → (cell (both (pos 1) b.vector k (vector_at lines m.index)) dim <ℤ pos 0) ⊎ ((cell (both (pos 1) b.vector k (vector_at lines m.index)) dim ≡ pos 0) × Sums (In lines) (Beside rays i) (cell (both (pos 1) b.vector k (vector_at lines m.index))))
-        by_height (inl p) = inl (subst (λ (z : ℤ). z <ℤ pos 0) (sym entry) p)
-        by_height (inr (z, s)) = inr (entry ∙ z, line k (cell (vector_at lines m.index)) (cell b.vector) (in_at lines m.index m.is) s (sum_entry b.vector k (vector_at lines m.index)))
-
-    -- a row of the set with a positive factor more
-    lift_more : (i : ℕ) (v : V) (k : ℤ) (l u : V) (a : List ℤ) → pos 0 <ℤ k → D a → Same l (cell (lowered dim a)) → (b : IsLifted i u) → IsMore v k l u → (cell (both (pos 1) b.vector k a) dim <ℤ pos 0) ⊎ ((cell (both (pos 1) b.vector k a) dim ≡ pos 0) × Sums (In lines) (Beside rays i) (cell (both (pos 1) b.vector k a))) → IsLifted i v
-    lift_more i v k l u a p d e b h height = record {
-      vector = both (pos 1) b.vector k a;
-      member = upto_sum (dim + 2) gens (length gens) (both (pos 1) b.vector k a) (pos 1) b.vector k a (sum_is b.vector k a) (length-both (pos 1) b.vector k a (b.member.wide ∙ sym d.wide) ∙ d.wide) (omega (arith, ints)) (positive_least k p) b.member d;
-      same = sum_lowered dim gens lines rays wide system v k l u a b.vector h e b.same;
-      height = height;
-    }
-
-    lift_ray : (i : ℕ) (v : V) (k : ℤ) (l u : V) → pos 0 <ℤ k → (n : ℕ) → Allowed i n → Same l (relaxed dim rays n) → IsLifted i u → IsMore v k l u → IsLifted i v
-    lift_ray i v k l u p zero m e b h =
-        lift_more i v k l u (bound_row dim).0 p enc.bound
-        (λ j. e j ∙ sym (ap (λ (w : List ℤ). cell w j) (remove_insert dim (last_row dim) (negsuc 0) (omega (arith, last_wide dim gens lines rays wide system enc))))) b h
-        (inl (less_height (cell (both (pos 1) b.vector k (bound_row dim).0) dim) k (cell (bound_row dim).0 dim) (cell b.vector dim) (sum_entry b.vector k (bound_row dim).0 dim) p (below_zero (cell (bound_row dim).0 dim) (cell_insert dim (last_row dim) (negsuc 0) (omega (arith, last_wide dim gens lines rays wide system enc)))) (height_most i u b)))
-      where
-        below_zero : (x : ℤ) → x ≡ negsuc 0 → x <ℤ pos 0
-        below_zero x e = omega (arith, ints, e)
-    lift_ray i v k l u p (suc n) m e b h = by_sign_of (by_sign (cell (vector_at rays n) dim))
-      where
-        by_sign_of : (pos 0 <ℤ cell (vector_at rays n) dim) ⊎ ((cell (vector_at rays n) dim <ℤ pos 0) ⊎ (cell (vector_at rays n) dim ≡ pos 0)) → IsLifted i v
-        by_sign_of (inl q) = absurd (omega (arith, ints, q, m.2))
-        by_sign_of (inr (inl q)) =
-            lift_more i v k l u (vector_at rays n) p (ray_in dim gens lines rays wide system n m.0) e b h
-            (inl (less_height (cell (both (pos 1) b.vector k (vector_at rays n)) dim) k (cell (vector_at rays n) dim) (cell b.vector dim) (sum_entry b.vector k (vector_at rays n) dim) p q (height_most i u b)))
-        by_sign_of (inr (inr q)) = lift_more i v k l u (vector_at rays n) p (ray_in dim gens lines rays wide system n m.0) e b h (by_height b.height)
-          where
-            entry : cell (both (pos 1) b.vector k (vector_at rays n)) dim ≡ cell b.vector dim
-            entry = same_height (cell (both (pos 1) b.vector k (vector_at rays n)) dim) k (cell (vector_at rays n) dim) (cell b.vector dim) (sum_entry b.vector k (vector_at rays n) dim) q
-
-            by_height : (cell b.vector dim <ℤ pos 0) ⊎ ((cell b.vector dim ≡ pos 0) × Sums (In lines) (Beside rays i) (cell b.vector)) → (cell (both (pos 1) b.vector k (vector_at rays n)) dim <ℤ pos 0) ⊎ ((cell (both (pos 1) b.vector k (vector_at rays n)) dim ≡ pos 0) × Sums (In lines) (Beside rays i) (cell (both (pos 1) b.vector k (vector_at rays n))))
-            by_height (inl w) = inl (subst (λ (z : ℤ). z <ℤ pos 0) (sym entry) w)
-            by_height (inr (z, s)) = inr (entry ∙ z, ray k (cell (vector_at rays n)) (cell b.vector) (positive_least k p) (record { index = n; is = (m.0, m.1); same = λ j. refl }) s (sum_entry b.vector k (vector_at rays n)))
-
-    lift_factor : (i : ℕ) (v : V) (k : ℤ) (l u : V) → pos 0 ≤ℤ k → Among (relaxed dim rays) (Allowed i) l → IsLifted i u → IsMore v k l u → (pos 0 <ℤ k) ⊎ ((k <ℤ pos 0) ⊎ (k ≡ pos 0)) → IsLifted i v
-    lift_factor i v k l u q m b h (inl p) = lift_ray i v k l u p m.index m.is m.same b h
-    lift_factor i v k l u q m b h (inr (inl p)) = absurd (omega (arith, ints, p, q))
-    lift_factor i v k l u q m b h (inr (inr p)) = record { vector = b.vector; member = b.member; same = λ j. no_factor (v j) k (l j) (u j) (h j) p ∙ b.same j; height = b.height }
-
-    lift : (i : ℕ) (v : V) → Sums (relaxed_lines dim lines) (Among (relaxed dim rays) (Allowed i)) v → IsLifted i v
-    lift i v (none h) = lift_none i v h
-    lift i v (line k l u m s h) = lift_line i v k l u m (lift i u s) h
-    lift i v (ray k r u p m s h) = lift_factor i v k r u p m (lift i u s) h (by_sign k)
+        by_height : (pos 0 <ℤ cell (vector_at rays n) dim) ⊎ ((cell (vector_at rays n) dim <ℤ pos 0) ⊎ (cell (vector_at rays n) dim ≡ pos 0)) → (pos 0 <ℤ (negsuc 0 *ℤ cell (vector_at rays n) dim)) ⊎ ((cell (vector_at rays n) dim ≡ pos 0) × Beside rays i (cell (vector_at rays n)))
+        by_height (inl p) = absurd (above (cell (vector_at rays n) dim) m.2 p)
+        by_height (inr (inl p)) = inl (turned_below (cell (vector_at rays n) dim) p)
+        by_height (inr (inr z)) = inr (z, record { index = n; is = (m.0, m.1); same = λ j. refl })
 
     turned_column : (t x g y z : ℤ) → t *ℤ x ≡ z → y ≡ pos 0 → t *ℤ x ≡ g *ℤ y +ℤ z
     turned_column t x g y z e f = let h = ap (λ (n : ℤ). g *ℤ n) f ∙ mul-zero g in omega (arith, ints, e, h)
@@ -150,34 +84,16 @@ module _ (dim : ℕ) (gens : List Row) (lines rays : List (List ℤ)) (wide : (j
 
     -- a row with a variable and 0 in column e isn't a sum of the lines, the row d and the other rows that are at most 0 there
     pub level_row_needed : (i : ℕ) → i < length rays → HasVariable dim (vector_at rays i) → cell (vector_at rays i) dim ≡ pos 0 → ¬ (SpansBy (relaxed_lines dim lines) (Among (relaxed dim rays) (Allowed i)) (relaxed dim rays (suc i)))
-    level_row_needed i h v z s = by_height b.height
+    level_row_needed i h v z =
+        beside_needed dim gens lines rays wide system (negsuc 0) i (row_line_height dim gens lines rays wide system enc) (Allowed i) (lift_row i) (row_side i) h z
+        (λ t w u p at_skip. no_height_sum dim gens lines rays wide system enc i h v t (neg_ℤ (cell w dim)) w (turned_above (cell w dim) p) u (with_height t w at_skip))
       where
-        b : IsLifted i (λ j. s.times *ℤ relaxed dim rays (suc i) j)
-        b = lift i (λ j. s.times *ℤ relaxed dim rays (suc i) j) s.sums
-
-        at_skip : (k : ℕ) → s.times *ℤ cell (vector_at rays i) (skip dim k) ≡ cell b.vector (skip dim k)
-        at_skip k = ap (λ (n : ℤ). s.times *ℤ n) (sym (cell-remove dim (vector_at rays i) k)) ∙ b.same k ∙ cell-remove dim b.vector k
-
-        with_height : (j : ℕ) → s.times *ℤ cell (vector_at rays i) j ≡ neg_ℤ (cell b.vector dim) *ℤ cell (height_row dim).0 j +ℤ cell b.vector j
-        with_height j = by_column (column_cases dim j)
+        with_height : (t : ℤ) (w : List ℤ) → ((k : ℕ) → t *ℤ cell (vector_at rays i) (skip dim k) ≡ cell w (skip dim k)) → (j : ℕ) → t *ℤ cell (vector_at rays i) j ≡ neg_ℤ (cell w dim) *ℤ cell (height_row dim).0 j +ℤ cell w j
+        with_height t w at_skip j = by_column (column_cases dim j)
           where
-            by_column : (j ≡ dim) ⊎ ((k : ℕ) × (skip dim k ≡ j)) → s.times *ℤ cell (vector_at rays i) j ≡ neg_ℤ (cell b.vector dim) *ℤ cell (height_row dim).0 j +ℤ cell b.vector j
-            by_column (inl e) = subst (λ (n : ℕ). s.times *ℤ cell (vector_at rays i) n ≡ neg_ℤ (cell b.vector dim) *ℤ cell (height_row dim).0 n +ℤ cell b.vector n) (sym e) (level_column s.times (cell (vector_at rays i) dim) (neg_ℤ (cell b.vector dim)) (cell (height_row dim).0 dim) (cell b.vector dim) z (height_own dim gens lines rays wide system enc) refl)
-            by_column (inr (k, e)) = subst (λ (n : ℕ). s.times *ℤ cell (vector_at rays i) n ≡ neg_ℤ (cell b.vector dim) *ℤ cell (height_row dim).0 n +ℤ cell b.vector n) e (turned_column s.times (cell (vector_at rays i) (skip dim k)) (neg_ℤ (cell b.vector dim)) (cell (height_row dim).0 (skip dim k)) (cell b.vector (skip dim k)) (at_skip k) (height_entry dim gens lines rays wide system enc k))
-
-        level_same : cell b.vector dim ≡ pos 0 → (j : ℕ) → s.times *ℤ cell (vector_at rays i) j ≡ cell b.vector j
-        level_same y j = by_column (column_cases dim j)
-          where
-            by_column : (j ≡ dim) ⊎ ((k : ℕ) × (skip dim k ≡ j)) → s.times *ℤ cell (vector_at rays i) j ≡ cell b.vector j
-            by_column (inl e) = subst (λ (n : ℕ). s.times *ℤ cell (vector_at rays i) n ≡ cell b.vector n) (sym e) (ap (λ (n : ℤ). s.times *ℤ n) z ∙ mul-zero s.times ∙ sym y)
-            by_column (inr (k, e)) = subst (λ (n : ℕ). s.times *ℤ cell (vector_at rays i) n ≡ cell b.vector n) e (at_skip k)
-
-        turned_height : (x : ℤ) → x <ℤ pos 0 → pos 0 <ℤ neg_ℤ x
-        turned_height x p = omega (arith, ints, p)
-
-        by_height : (cell b.vector dim <ℤ pos 0) ⊎ ((cell b.vector dim ≡ pos 0) × Sums (In lines) (Beside rays i) (cell b.vector)) → ⊥
-        by_height (inl p) = no_height_sum dim gens lines rays wide system enc i h v s.times (neg_ℤ (cell b.vector dim)) b.vector (turned_height (cell b.vector dim) p) b.member with_height
-        by_height (inr (y, t)) = needed_by_columns lines rays system.irredundant i h (spans_of_multiple s.times (columns rays i) (cell b.vector) s.positive (spans_sums (cell b.vector) t) (λ j. sym (level_same y j)))
+            by_column : (j ≡ dim) ⊎ ((k : ℕ) × (skip dim k ≡ j)) → t *ℤ cell (vector_at rays i) j ≡ neg_ℤ (cell w dim) *ℤ cell (height_row dim).0 j +ℤ cell w j
+            by_column (inl e) = subst (λ (n : ℕ). t *ℤ cell (vector_at rays i) n ≡ neg_ℤ (cell w dim) *ℤ cell (height_row dim).0 n +ℤ cell w n) (sym e) (level_column t (cell (vector_at rays i) dim) (neg_ℤ (cell w dim)) (cell (height_row dim).0 dim) (cell w dim) z (height_own dim gens lines rays wide system enc) refl)
+            by_column (inr (k, e)) = subst (λ (n : ℕ). t *ℤ cell (vector_at rays i) n ≡ neg_ℤ (cell w dim) *ℤ cell (height_row dim).0 n +ℤ cell w n) e (turned_column t (cell (vector_at rays i) (skip dim k)) (neg_ℤ (cell w dim)) (cell (height_row dim).0 (skip dim k)) (cell w (skip dim k)) (at_skip k) (height_entry dim gens lines rays wide system enc k))
 
     -- ---- a row that is 0 in column e can't be left out
     -- the first columns have a number other than 0, or not

@@ -7,7 +7,7 @@ pub use Rattle.nnc_laws.proofs.LevelRows.{level_row_needed, level_rows_are_neede
 pub use Rattle.nnc_laws.proofs.NeededRows.{left_over, strict_rows_are_needed}
 pub use Rattle.nnc_laws.proofs.CodedRows.{rows_coded, rows_are_coded}
 pub use Rattle.nnc_laws.proofs.CoveredPoints.{IsListed, IsRowOf, column_linear, eq_height, eq_zero, value_on, vector_closed, zero_on_covered}
-pub use Rattle.nnc_laws.proofs.CodedPoints.{coded_of_marks, divisor_flat, divisor_least, divisor_positive, line_divisor, line_height, marks_of_coded, marks_of_member, over_member}
+pub use Rattle.nnc_laws.proofs.CodedPoints.{coded_of_marks, divisor_flat, divisor_least, divisor_positive, line_divisor, line_height, marks_of_coded, marks_of_member}
 pub use Rattle.nnc_laws.proofs.LevelVectors.{level_vector_needed}
 pub use Rattle.nnc_laws.proofs.LeftOutVectors.{covered_vector, loose_vector, remain_all}
 pub use Rattle.nnc_laws.proofs.NeededPoints.{point_needed}
