@@ -5,10 +5,11 @@ use Rattle.std.proofs.lemmas.List.{get_or-map, length-map}
 use Rattle.std.proofs.lemmas.List.Elements.{All-append, All-map, All-from_get_or, All-weaker}
 use Rattle.row_core.specs.Vectors.{dot}
 use Rattle.row_core.specs.Lists.{Row, system_rows}
-use Rattle.cone_laws.specs.Cones.{Meets, Generates, negated}
+use Rattle.cone_laws.specs.Cones.{Meets, Spans, Generates, negated}
 use Rattle.cone_laws.specs.Canon.{vector_at}
-use Rattle.cone_laws.specs.Duality.{lines_of, rays_of}
+use Rattle.cone_laws.specs.Duality.{lines_of, rays_of, IsAdmitted}
 use Rattle.cone_laws.proofs.Columns.{dot_comm}
+use Rattle.cone_laws.proofs.Bipolar.{admitted_is_spanned}
 use Rattle.dual_cones.specs.Members.{ConeOf}
 use Rattle.dual_cones.proofs.MemberLemmas.{cone_from, rows_of_both}
 
@@ -63,8 +64,16 @@ cone_of_row width lines rays a w f g =
     (All-weaker (λ r. pos 0 ≤ℤ dot a r) (λ r. pos 0 ≤ℤ dot r a) (λ r e. subst (λ (z : ℤ). pos 0 ≤ℤ z) (dot_comm a r) e) rays g)
 
 -- ---- its widths
-pub system_wide : (width : ℕ) (C : List ℤ → Type 0) (lines rays : List (List ℤ)) → ((v : List ℤ) → C v → length v ≡ width) → Generates C lines rays → All (λ g. length g.0 ≡ width) (system_rows lines rays)
-system_wide width C lines rays wide g =
+pub lists_wide : (width : ℕ) (lines rays : List (List ℤ)) → All (λ v. length v ≡ width) lines → All (λ v. length v ≡ width) rays → All (λ g. length g.0 ≡ width) (system_rows lines rays)
+lists_wide width lines rays f g =
     All-append (λ (g : Row). length g.0 ≡ width) (map (λ l. (l, true)) lines) (map (λ r. (r, false)) rays)
-    (All-map (λ (g : Row). length g.0 ≡ width) (λ (l : List ℤ). (l, true)) lines (All-weaker (λ l. C l × C (negated l)) (λ l. length l ≡ width) (λ l m. wide l m.0) lines g.lines_within))
-    (All-map (λ (g : Row). length g.0 ≡ width) (λ (r : List ℤ). (r, false)) rays (All-weaker C (λ r. length r ≡ width) wide rays g.rays_within))
+    (All-map (λ (g : Row). length g.0 ≡ width) (λ (l : List ℤ). (l, true)) lines f) (All-map (λ (g : Row). length g.0 ≡ width) (λ (r : List ℤ). (r, false)) rays g)
+
+pub system_wide : (width : ℕ) (C : List ℤ → Type 0) (lines rays : List (List ℤ)) → ((v : List ℤ) → C v → length v ≡ width) → Generates C lines rays → All (λ g. length g.0 ≡ width) (system_rows lines rays)
+system_wide width C lines rays wide g = lists_wide width lines rays (All-weaker (λ l. C l × C (negated l)) (λ l. length l ≡ width) (λ l m. wide l m.0) lines g.lines_within) (All-weaker C (λ r. length r ≡ width) wide rays g.rays_within)
+
+-- ---- the bipolar law for a system
+pub spanned_of_admitted : (width : ℕ) (lines rays : List (List ℤ)) (v : List ℤ) → All (λ g. length g.0 ≡ width) (system_rows lines rays) → length v ≡ width → IsAdmitted width (system_rows lines rays) v → Spans lines rays v
+spanned_of_admitted width lines rays v wide w f =
+    subst (λ (ls : List (List ℤ)). Spans ls rays v) (lines_of-system_rows lines rays)
+    (subst (λ (rs : List (List ℤ)). Spans (lines_of (system_rows lines rays)) rs v) (rays_of-system_rows lines rays) (admitted_is_spanned width (system_rows lines rays) v wide w f))

@@ -11,7 +11,7 @@ use Rattle.cone_laws.proofs.Bipolar.{admitted_is_spanned, spanned_is_admitted}
 use Rattle.dual_cones.specs.Members.{ConeOf}
 use Rattle.dual_cones.specs.DualSystems.{IsDual, AreSystemsOf}
 use Rattle.dual_cones.proofs.MemberLemmas.{zero_of_signs, spanned_within, canon_same}
-use Rattle.dual_cones.proofs.SystemLists.{lines_of-system_rows, rays_of-system_rows, zero_on_lines, least_on_rays, cone_of_row, system_wide}
+use Rattle.dual_cones.proofs.SystemLists.{spanned_of_admitted, zero_on_lines, least_on_rays, cone_of_row, system_wide}
 
 -- a row that the list of a system admits is at least 0 on what the system spans
 pub least_on_spanned : (width : ℕ) (lines rays : List (List ℤ)) (a v : List ℤ) → ConeOf width (system_rows lines rays) a → Spans lines rays v → pos 0 ≤ℤ dot a v
@@ -44,9 +44,8 @@ spanned_by_the_list width vectors equalities inequalities v wide g w = (
 module _ (width : ℕ) (list : List Row) (lines rays equalities inequalities : List (List ℤ)) (first : Generates (ConeOf width list) lines rays) (second : Generates (ConeOf width (system_rows lines rays)) equalities inequalities) where
   pub second_spans : (v : List ℤ) → ConeOf width (system_rows equalities inequalities) v → Spans lines rays v
   second_spans v u =
-      subst (λ (ls : List (List ℤ)). Spans ls rays v) (lines_of-system_rows lines rays)
-      (subst (λ (rs : List (List ℤ)). Spans (lines_of (system_rows lines rays)) rs v) (rays_of-system_rows lines rays)
-      ((spanned_by_the_list width (system_rows lines rays) equalities inequalities v (system_wide width (ConeOf width list) lines rays (λ x c. c.wide) first) second u.wide).1 u))
+      spanned_of_admitted width lines rays v (system_wide width (ConeOf width list) lines rays (λ x c. c.wide) first) u.wide
+      (λ a c. subst (λ (z : ℤ). pos 0 ≤ℤ z) (dot_comm v a) (valid_of_row width (ConeOf width (system_rows lines rays)) equalities inequalities second v u a c))
 
   pub second_admits : (v : List ℤ) → ConeOf width (system_rows equalities inequalities) v → ConeOf width list v
   second_admits v u = spanned_within width list (length list) lines rays v first u.wide (second_spans v u)

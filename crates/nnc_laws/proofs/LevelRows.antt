@@ -14,7 +14,7 @@ use Rattle.cone_laws.specs.Canon.{vector_at, IsSystem}
 use Rattle.cone_laws.proofs.Ring.{ring, mul_comm, by_sign, at_least_zero_or_not, mul-zero, mul-at_least_zero, at_least_zero_of_mul, same_or_not}
 use Rattle.cone_laws.proofs.Sums.{V, Same, Among, SpansBy, sums_one_ray, spans_sums, spans_same, spans_spans}
 use Rattle.cone_laws.proofs.Columns.{value, value_linear, dot_is, dot_comm}
-use Rattle.cone_laws.proofs.Bridge.{columns, in_at, to_sums}
+use Rattle.cone_laws.proofs.Bridge.{In, columns, in_at, to_sums}
 use Rattle.cone_laws.proofs.Instance.{Beside, rest_beside}
 use Rattle.cone_laws.proofs.Factors.{All-remove}
 use Rattle.cone_laws.proofs.Existence.{both, cell-both, length-both}
@@ -22,6 +22,10 @@ use Rattle.cone_laws.proofs.Bipolar.{dot-both, admitted_is_spanned}
 use Rattle.nnc_laws.specs.Encoding.{lowered, height_row, bound_row, IsEncodedDual}
 use Rattle.cone_laws.specs.Duality.{lines_of, rays_of}
 use Rattle.std.proofs.lemmas.List.Elements.{All-map, All-filter, filter_passes, All-append, All-cons, All-nil, All-head, All-tail}
+use Rattle.std.proofs.lemmas.List.{get_or-map, length-map}
+use Rattle.row_core.specs.Lists.{system_rows}
+use Rattle.dual_cones.specs.Members.{ConeOf}
+use Rattle.dual_cones.proofs.SystemLists.{lists_wide, met_line, met_ray, spanned_of_admitted}
 use Rattle.nnc_laws.specs.StrongRows.{HoldsAt, HasVariable, HasNoVariable, LevelRowsAreNeeded}
 use Rattle.nnc_laws.proofs.KeptSums.{one_span, line_span, all_kept}
 use Rattle.nnc_laws.proofs.EncodedRows.{remove_insert, cell_insert, dot_last}
@@ -129,70 +133,41 @@ module _ (dim : ℕ) (gens : List Row) (lines rays : List (List ℤ)) (wide : (j
         by_variable (inl v) = one_span (relaxed dim rays (suc t)) (record { index = suc t; is = (h, ne, height_at_most dim gens lines rays wide system enc t h v); same = λ j. refl })
         by_variable (inr n) = spans_sums (relaxed dim rays (suc t)) (sums_one_ray (cell (lowered dim (vector_at rays t)) dim) (relaxed dim rays zero) (relaxed dim rays (suc t)) (factor_least n) zero_number (entries n))
 
-    -- the other rows without column e, as a list
-    abbrev other_rows : ℕ → List Row
-    other_rows i = map (λ l. (lowered dim l, true)) lines ++ (last_row dim, false) ∷ map (λ r. (lowered dim r, false)) (remove rays i)
+    -- the lines and the other rows without column e, and the row d
+    abbrev other_lines : List (List ℤ)
+    other_lines = map (lowered dim) lines
+
+    abbrev other_rays : ℕ → List (List ℤ)
+    other_rays i = last_row dim ∷ map (lowered dim) (remove rays i)
 
     module _ (i : ℕ) (hi : i < length rays) (vi : HasVariable dim (vector_at rays i)) (zi : cell (vector_at rays i) dim ≡ pos 0) where
-      abbrev Serves : Row → Type 0
-      Serves g = (g.1 ≡ true → relaxed_lines dim lines (cell g.0)) × (g.1 ≡ false → SpansBy (relaxed_lines dim lines) (Among (relaxed dim rays) (Allowed i)) (cell g.0))
-
-      line_serves : All (λ l. Serves (lowered dim l, true)) lines
-      line_serves m d h = (λ e. record { index = m; is = h; same = λ j. ap (λ (v : List ℤ). cell (lowered dim v) j) (sym (get_or_default lines m [] d h)) }, λ e. absurd (true≢false e))
-
-      rest_serves : All (λ r. Serves (lowered dim r, false)) (remove rays i)
-      rest_serves m d h = (λ e. absurd (true≢false (sym e)), λ e. by_beside (rest_beside rays i hi (columns (remove rays i) m) (in_at (remove rays i) m h)))
+      line_at : (l : V) → In other_lines l → relaxed_lines dim lines l
+      line_at l m = record { index = m.index; is = below; same = λ j. m.same j ∙ ap (λ (v : List ℤ). cell v j) (get_or-map (lowered dim) lines m.index [] [] below) }
         where
-          by_beside : Beside rays i (columns (remove rays i) m) → SpansBy (relaxed_lines dim lines) (Among (relaxed dim rays) (Allowed i)) (cell (lowered dim (slice_index_or (remove rays i) m d)))
-          by_beside b = spans_same (relaxed dim rays (suc b.index)) (cell (lowered dim (slice_index_or (remove rays i) m d))) (row_allowed i b.index b.is.0 b.is.1)
-              (λ j. cell-remove dim (slice_index_or (remove rays i) m d) j ∙ ap (λ (v : List ℤ). cell v (skip dim j)) (sym (get_or_default (remove rays i) m [] d h)) ∙ b.same (skip dim j) ∙ sym (cell-remove dim (vector_at rays b.index) j))
+          below : m.index < length lines
+          below = omega (arith, m.is, length-map {B = List ℤ} lines (lowered dim))
 
-      last_serves : Serves (last_row dim, false)
-      last_serves = (λ e. absurd (true≢false (sym e)), λ e. one_span (cell (last_row dim)) (record { index = zero; is = tt; same = λ j. refl }))
+      ray_at : (r : V) (n : ℕ) → n < length (other_rays i) → Same r (cell (vector_at (other_rays i) n)) → SpansBy (relaxed_lines dim lines) (Among (relaxed dim rays) (Allowed i)) r
+      ray_at r zero h e = one_span r (record { index = zero; is = tt; same = e })
+      ray_at r (suc n) h e = by_beside (rest_beside rays i hi (columns (remove rays i) n) (in_at (remove rays i) n below))
+        where
+          below : n < length (remove rays i)
+          below = omega (arith, h, length-map {B = List ℤ} (remove rays i) (lowered dim))
 
-      all_serve : All Serves (other_rows i)
-      all_serve =
-          All-append Serves (map (λ l. (lowered dim l, true)) lines) ((last_row dim, false) ∷ map (λ r. (lowered dim r, false)) (remove rays i))
-          (All-map Serves (λ l. (lowered dim l, true)) lines line_serves)
-          (All-cons Serves (last_row dim, false) (map (λ r. (lowered dim r, false)) (remove rays i)) last_serves (All-map Serves (λ r. (lowered dim r, false)) (remove rays i) rest_serves))
+          by_beside : Beside rays i (columns (remove rays i) n) → SpansBy (relaxed_lines dim lines) (Among (relaxed dim rays) (Allowed i)) r
+          by_beside b = spans_same (relaxed dim rays (suc b.index)) r (row_allowed i b.index b.is.0 b.is.1)
+              (λ j. e j ∙ ap (λ (v : List ℤ). cell v j) (get_or-map (lowered dim) (remove rays i) n [] [] below) ∙ cell-remove dim (vector_at (remove rays i) n) j ∙ b.same (skip dim j) ∙ sym (cell-remove dim (vector_at rays b.index) j))
 
-      not_true : (b : Bool) → not b ≡ true → b ≡ false
-      not_true true e = absurd (true≢false (sym e))
-      not_true false e = refl
-
-      abbrev ServesLine : List ℤ → Type 0
-      ServesLine v = relaxed_lines dim lines (cell v)
-
-      abbrev ServesRay : List ℤ → Type 0
-      ServesRay v = SpansBy (relaxed_lines dim lines) (Among (relaxed dim rays) (Allowed i)) (cell v)
-
-      lines_served : All ServesLine (lines_of (other_rows i))
-      lines_served = All-map ServesLine (λ g. g.0) (filter (λ g. g.1) (other_rows i))
-          (λ m d h. (All-filter (λ g. g.1) Serves (other_rows i) all_serve m d h).0 (filter_passes (λ g. g.1) (other_rows i) m d h))
-
-      rays_served : All ServesRay (rays_of (other_rows i))
-      rays_served = All-map ServesRay (λ g. g.0) (filter (λ g. not g.1) (other_rows i))
-          (λ m d h. (All-filter (λ g. not g.1) Serves (other_rows i) all_serve m d h).1 (not_true (slice_index_or (filter (λ g. not g.1) (other_rows i)) m d).1 (filter_passes (λ g. not g.1) (other_rows i) m d h)))
-
-      line_same : (l v : V) → Same l v → relaxed_lines dim lines v → relaxed_lines dim lines l
-      line_same l v e m = record { index = m.index; is = m.is; same = λ j. e j ∙ m.same j }
-
-      served : Spans (lines_of (other_rows i)) (rays_of (other_rows i)) (lowered dim (vector_at rays i)) → SpansBy (relaxed_lines dim lines) (Among (relaxed dim rays) (Allowed i)) (relaxed dim rays (suc i))
-      served s =
-          spans_spans (λ l m. line_span l (line_same l (columns (lines_of (other_rows i)) m.index) m.same (lines_served m.index [] m.is)))
-          (λ r m. spans_same (columns (rays_of (other_rows i)) m.index) r (rays_served m.index [] m.is) m.same)
-          (relaxed dim rays (suc i)) (to_sums (lines_of (other_rows i)) (rays_of (other_rows i)) (lowered dim (vector_at rays i)) s)
+      served : Spans other_lines (other_rays i) (lowered dim (vector_at rays i)) → SpansBy (relaxed_lines dim lines) (Among (relaxed dim rays) (Allowed i)) (relaxed dim rays (suc i))
+      served s = spans_spans (λ l m. line_span l (line_at l m)) (λ r m. ray_at r m.index m.is m.same) (relaxed dim rays (suc i)) (to_sums other_lines (other_rays i) (lowered dim (vector_at rays i)) s)
 
       -- ---- what the other rows admit
-      abbrev Wide : Row → Type 0
-      Wide g = length g.0 ≡ dim + 1
-
-      all_wide : All Wide (other_rows i)
+      all_wide : All (λ g. length g.0 ≡ dim + 1) (system_rows other_lines (other_rays i))
       all_wide =
-          All-append Wide (map (λ l. (lowered dim l, true)) lines) ((last_row dim, false) ∷ map (λ r. (lowered dim r, false)) (remove rays i))
-          (All-map Wide (λ l. (lowered dim l, true)) lines (λ m d h. lowered_wide dim gens lines rays wide system (slice_index_or lines m d) (system.generates.lines_within m d h).0.wide))
-          (All-cons Wide (last_row dim, false) (map (λ r. (lowered dim r, false)) (remove rays i)) (last_wide dim gens lines rays wide system enc)
-          (All-map Wide (λ r. (lowered dim r, false)) (remove rays i) (λ m d h. lowered_wide dim gens lines rays wide system (slice_index_or (remove rays i) m d) (All-remove D rays i system.generates.rays_within m d h).wide)))
+          lists_wide (dim + 1) other_lines (other_rays i)
+          (All-map (λ v. length v ≡ dim + 1) (lowered dim) lines (λ m d h. lowered_wide dim gens lines rays wide system (slice_index_or lines m d) (system.generates.lines_within m d h).0.wide))
+          (All-cons (λ v. length v ≡ dim + 1) (last_row dim) (map (lowered dim) (remove rays i)) (last_wide dim gens lines rays wide system enc)
+          (All-map (λ v. length v ≡ dim + 1) (lowered dim) (remove rays i) (λ m d h. lowered_wide dim gens lines rays wide system (slice_index_or (remove rays i) m d) (All-remove D rays i system.generates.rays_within m d h).wide)))
 
       module _ (q : List ℤ) (qw : length q ≡ dim + 1) (q_lines : (m : ℕ) → m < length lines → dot (lowered dim (vector_at lines m)) q ≡ pos 0) (q_last : pos 0 ≤ℤ cell q dim) (q_rest : (t : ℕ) → t < length rays → t ≢ i → pos 0 ≤ℤ dot (lowered dim (vector_at rays t)) q) (holds : (p : List ℤ) → IsPoint dim p → ((m : ℕ) → m < length lines → dot (lowered dim (vector_at lines m)) p ≡ pos 0) → ((t : ℕ) → t < length rays → t ≢ i → HoldsAt dim (vector_at rays t) p) → pos 0 ≤ℤ dot (lowered dim (vector_at rays i)) p) where
         inner_value : (a : List ℤ) → value (lowered dim enc.vector) (cell a) ≡ dot a (lowered dim enc.vector)
@@ -257,44 +232,25 @@ module _ (dim : ℕ) (gens : List Row) (lines rays : List (List ℤ)) (wide : (j
             by_value_sign (inl h) = h
             by_value_sign (inr h) = absurd (below_zero (dot (lowered dim (vector_at rays i)) moved_point) (dot (lowered dim (vector_at rays i)) q) (dot (lowered dim (vector_at rays i)) (lowered dim enc.vector)) (at_moved (lowered dim (vector_at rays i))) value_least (holds moved_point moved_is_point moved_lines moved_holds) h)
 
-      all_left : (P : Row → Type 0) (xs ys : List Row) → All P (xs ++ ys) → All P xs
-      all_left P [] ys a = All-nil P
-      all_left P (x ∷ xs) ys a = All-cons P x xs (All-head P x (xs ++ ys) a) (all_left P xs ys (All-tail P x (xs ++ ys) a))
-
-      all_right : (P : Row → Type 0) (xs ys : List Row) → All P (xs ++ ys) → All P ys
-      all_right P [] ys a = a
-      all_right P (x ∷ xs) ys a = all_right P xs ys (All-tail P x (xs ++ ys) a)
-
-      all_of_map : (P : Row → Type 0) (f : List ℤ → Row) (xs : List (List ℤ)) → All P (map f xs) → All (λ x. P (f x)) xs
-      all_of_map P f [] a = All-nil (λ x. P (f x))
-      all_of_map P f (x ∷ xs) a = All-cons (λ x. P (f x)) x xs (All-head P (f x) (map f xs) a) (all_of_map P f xs (All-tail P (f x) (map f xs) a))
-
       level_needed : ¬ ((p : List ℤ) → IsPoint dim p → ((m : ℕ) → m < length lines → dot (lowered dim (vector_at lines m)) p ≡ pos 0) → ((t : ℕ) → t < length rays → t ≢ i → HoldsAt dim (vector_at rays t) p) → pos 0 ≤ℤ dot (lowered dim (vector_at rays i)) p)
       level_needed holds =
           level_row_needed i hi vi zi
-          (served (admitted_is_spanned (dim + 1) (other_rows i) (lowered dim (vector_at rays i)) all_wide (lowered_wide dim gens lines rays wide system (vector_at rays i) (ray_in dim gens lines rays wide system i hi).wide)
-          (λ q u. subst (λ (z : ℤ). pos 0 ≤ℤ z) (dot_comm (lowered dim (vector_at rays i)) q) (by_upto q u))))
+          (served (spanned_of_admitted (dim + 1) other_lines (other_rays i) (lowered dim (vector_at rays i)) all_wide (lowered_wide dim gens lines rays wide system (vector_at rays i) (ray_in dim gens lines rays wide system i hi).wide)
+          (λ q u. subst (λ (z : ℤ). pos 0 ≤ℤ z) (dot_comm (lowered dim (vector_at rays i)) q) (by_cone q u))))
         where
-          by_upto : (q : List ℤ) → Upto (dim + 1) (other_rows i) (length (other_rows i)) q → pos 0 ≤ℤ dot (lowered dim (vector_at rays i)) q
-          by_upto q u = row_admits q u.wide on_lines (subst (λ (z : ℤ). pos 0 ≤ℤ z) (dot_last dim q) (All-head (Meets q) (last_row dim, false) (map (λ r. (lowered dim r, false)) (remove rays i)) later)) on_rest holds
+          by_cone : (q : List ℤ) → ConeOf (dim + 1) (system_rows other_lines (other_rays i)) q → pos 0 ≤ℤ dot (lowered dim (vector_at rays i)) q
+          by_cone q u = row_admits q u.wide on_lines (subst (λ (z : ℤ). pos 0 ≤ℤ z) (dot_last dim q) (met_ray (dim + 1) other_lines (other_rays i) q u zero (omega arith))) on_rest holds
             where
-              whole : All (Meets q) (other_rows i)
-              whole m d h = u.meets m d (omega arith) h
-
-              later : All (Meets q) ((last_row dim, false) ∷ map (λ r. (lowered dim r, false)) (remove rays i))
-              later = all_right (Meets q) (map (λ l. (lowered dim l, true)) lines) ((last_row dim, false) ∷ map (λ r. (lowered dim r, false)) (remove rays i)) whole
-
               on_lines : (m : ℕ) → m < length lines → dot (lowered dim (vector_at lines m)) q ≡ pos 0
-              on_lines m h = all_of_map (Meets q) (λ l. (lowered dim l, true)) lines (all_left (Meets q) (map (λ l. (lowered dim l, true)) lines) ((last_row dim, false) ∷ map (λ r. (lowered dim r, false)) (remove rays i)) whole) m [] h
-
-              rest_all : All (λ r. pos 0 ≤ℤ dot (lowered dim r) q) (remove rays i)
-              rest_all = all_of_map (Meets q) (λ r. (lowered dim r, false)) (remove rays i) (All-tail (Meets q) (last_row dim, false) (map (λ r. (lowered dim r, false)) (remove rays i)) later)
+              on_lines m h = subst (λ (v : List ℤ). dot v q ≡ pos 0) (get_or-map (lowered dim) lines m [] [] h) (met_line (dim + 1) other_lines (other_rays i) q u m (omega (arith, h, length-map {B = List ℤ} lines (lowered dim))))
 
               on_rest : (t : ℕ) → t < length rays → t ≢ i → pos 0 ≤ℤ dot (lowered dim (vector_at rays t)) q
               on_rest t h ne = by_rest (whole_in_rest rays i t hi h)
                 where
                   by_rest : InRest rays i t ⊎ (t ≡ i) → pos 0 ≤ℤ dot (lowered dim (vector_at rays t)) q
-                  by_rest (inl r) = subst (λ (v : List ℤ). pos 0 ≤ℤ dot (lowered dim v) q) (sym r.same) (rest_all r.place [] r.below)
+                  by_rest (inl r) =
+                      subst (λ (v : List ℤ). pos 0 ≤ℤ dot v q) (get_or-map (lowered dim) (remove rays i) r.place [] [] r.below ∙ ap (lowered dim) (sym r.same))
+                      (met_ray (dim + 1) other_lines (other_rays i) q u (suc r.place) (omega (arith, r.below, length-map {B = List ℤ} (remove rays i) (lowered dim))))
                   by_rest (inr e) = absurd (ne e)
 
 pub level_rows_are_needed : LevelRowsAreNeeded
