@@ -1,15 +1,13 @@
 -- A row that is 0 in column e can't be left out.
-use Rattle.std.proofs.Common.{map, ◌≡◌, ◌≢◌, ◌⊎◌, inl, inr, ℕ, zero, suc, ◌+◌, ◌<◌, ◌≤◌, List, [], ◌∷◌, ◌++◌, length, slice_index_or, filter, not, Bool, true, false, ℤ, pos, negsuc, ◌+ℤ◌, ◌-ℤ◌, ◌*ℤ◌, neg_ℤ, ◌≤ℤ◌, ◌<ℤ◌, All, refl, sym, ap, ◌∙◌, subst, arith}
+use Rattle.std.proofs.Common.{map, ◌≡◌, ◌≢◌, ◌⊎◌, inl, inr, ℕ, zero, suc, ◌+◌, ◌<◌, ◌≤◌, List, [], ◌∷◌, length, slice_index_or, false, ℤ, pos, negsuc, ◌+ℤ◌, ◌-ℤ◌, ◌*ℤ◌, neg_ℤ, ◌≤ℤ◌, ◌<ℤ◌, All, refl, sym, ap, ◌∙◌, subst, arith}
 use Rattle.std.specs.Prelude.{⊤, remove}
-use mathlib.Core.Bool.{true≢false}
 use Rattle.cone_laws.proofs.LineSteps.{InRest, whole_in_rest}
 use Rattle.std.proofs.lemmas.Int.{ints}
-use Rattle.std.proofs.lemmas.List.{get_or_default}
 use Rattle.std.proofs.Math.Nat.{eq-or-lt_of_le}
 use Rattle.row_core.specs.Vectors.{cell, dot}
 use Rattle.row_core.specs.Lists.{Row}
 use Rattle.row_core.specs.Points.{IsPoint}
-use Rattle.cone_laws.specs.Cones.{Meets, Upto, Spans}
+use Rattle.cone_laws.specs.Cones.{Upto, Spans}
 use Rattle.cone_laws.specs.Canon.{vector_at, IsSystem}
 use Rattle.cone_laws.proofs.Ring.{ring, mul_comm, by_sign, at_least_zero_or_not, mul-zero, mul-at_least_zero, at_least_zero_of_mul, same_or_not}
 use Rattle.cone_laws.proofs.Sums.{V, Same, Among, SpansBy, sums_one_ray, spans_sums, spans_same, spans_spans}
@@ -18,10 +16,9 @@ use Rattle.cone_laws.proofs.Bridge.{In, columns, in_at, to_sums}
 use Rattle.cone_laws.proofs.Instance.{Beside, rest_beside}
 use Rattle.cone_laws.proofs.Factors.{All-remove}
 use Rattle.cone_laws.proofs.Existence.{both, cell-both, length-both}
-use Rattle.cone_laws.proofs.Bipolar.{dot-both, admitted_is_spanned}
+use Rattle.cone_laws.proofs.Bipolar.{dot-both}
 use Rattle.nnc_laws.specs.Encoding.{lowered, height_row, bound_row, IsEncodedDual}
-use Rattle.cone_laws.specs.Duality.{lines_of, rays_of}
-use Rattle.std.proofs.lemmas.List.Elements.{All-map, All-filter, filter_passes, All-append, All-cons, All-nil, All-head, All-tail}
+use Rattle.std.proofs.lemmas.List.Elements.{All-map, All-cons}
 use Rattle.std.proofs.lemmas.List.{get_or-map, length-map}
 use Rattle.row_core.specs.Lists.{system_rows}
 use Rattle.dual_cones.specs.Members.{ConeOf}
