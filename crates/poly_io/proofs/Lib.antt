@@ -1,1 +1,4 @@
 pub mod Known
+pub mod CutLaws
+pub mod ReadLaws
+pub mod NextLaws

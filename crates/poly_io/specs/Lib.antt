@@ -5,3 +5,5 @@ pub mod Timetable
 pub mod Memory
 pub mod Whole
 pub mod Edges
+pub mod Cut
+pub mod LineReading

@@ -2,6 +2,7 @@
 #![tactic(auto)]
 
 mod edges;
+mod line_reader;
 mod memory_sinks;
 mod memory_sources;
 mod reading;
@@ -10,6 +11,7 @@ mod whole;
 mod writing;
 
 pub use edges::{StdSink, StdSource};
+pub use line_reader::{LINE_LIMIT, LineAns, LineReader};
 pub use memory_sinks::{MemSink, SafeSink};
 pub use memory_sources::{MemSource, SafeSource};
 pub use reading::{ReadAns, Source};
