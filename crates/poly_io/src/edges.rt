@@ -1,24 +1,36 @@
 //! Readers and writers of the standard library as sources and sinks.
-ghost use Rattle.std.specs.Prelude.{◌≡◌, ℕ, ◌<◌, ◌≤◌, List, length, take, Option, None};
+ghost use Rattle.std.specs.Prelude.{◌≡◌, ℕ, ◌<◌, ◌≤◌, List, length, take, Option, None, IfOk};
 ghost use Rattle.std.specs.Io.KnownBytes.{Appends};
 ghost use Rattle.poly_io.specs.Counts.{HasRisen};
 ghost use Rattle.poly_io.specs.Reads.{Reads};
 ghost use Rattle.poly_io.specs.Writes.{Writes};
-ghost use Rattle.poly_io.specs.Edges.{Means, Sends};
+ghost use Rattle.poly_io.specs.Edges.{Means, Sends, answer_to_read, answer_to_write, count_after_read, count_after_write};
 
 use super::reading::{ReadAns, Source};
 use super::writing::{Sink, WriteAns};
+use std::io;
 use std::io::{Read, Write};
 use std::marker::Model;
 
 // What a reader's answer means: no byte is the end, and an error is a failure.
-fn answer_of<R: Read>(reader: &mut R, buf: &mut [u8]) -> ReadAns
-    ensures { Means (R.remaining reader.old) (R.remaining reader.new) buf.new result }
+fn read_answer(outcome: io::Result<usize>) -> ReadAns
+    ensures { result ≡ answer_to_read outcome }
 {
-    match reader.read(buf) {
+    match outcome {
         Ok(0) => ReadAns::End,
         Ok(count) => ReadAns::Got(count),
         Err(_) => ReadAns::Failed,
+    }
+}
+
+// What a writer's answer means: no byte and an error are failures.
+fn write_answer(outcome: io::Result<usize>) -> WriteAns
+    ensures { result ≡ answer_to_write outcome }
+{
+    match outcome {
+        Ok(0) => WriteAns::Failed,
+        Ok(count) => WriteAns::Took(count),
+        Err(_) => WriteAns::Failed,
     }
 }
 
@@ -57,9 +69,11 @@ impl<R: Read + Drop> Source for StdSource<R> {
         ensures moved { Reads None None buf.new result }
         ensures failed_by_fault { result ≡ ReadAns.Failed → HasRisen self.old.1 self.new.1 }
         ensures counted { self.old.1 ≤ self.new.1 }
+        // A failure counts one fault, and any other answer counts none.
+        ensures exact { self.new.1 ≡ count_after_read self.old.1 result }
         ensures means { Means (R.remaining self.old.0) (R.remaining self.new.0) buf.new result }
     {
-        let answer = answer_of(&mut self.reader, buf);
+        let answer = read_answer(self.reader.read(buf));
         if matches!(&answer, ReadAns::Failed) {
             self.count = self.count.saturating_add(1);
         }
@@ -67,15 +81,14 @@ impl<R: Read + Drop> Source for StdSource<R> {
     }
 }
 
-// How many bytes the writer took and flushed, 0 after an error of either.
-fn write_through<W: Write>(writer: &mut W, buf: &[u8]) -> usize
-    ensures bound { result ≤ length buf.now }
-    ensures sent { 0 < result → Appends (W.contents writer.old) (W.contents writer.new) (take result buf.now) }
+// Writes, and flushes what was taken: an error of either is one of both.
+fn write_through<W: Write>(writer: &mut W, buf: &[u8]) -> io::Result<usize>
+    ensures bound { IfOk result (λ count. count ≤ length buf.now) }
+    ensures sent { IfOk result (λ count. Appends (W.contents writer.old) (W.contents writer.new) (take count buf.now)) }
 {
-    match writer.write(buf) {
-        Ok(count) if writer.flush().is_ok() => count,
-        _ => 0,
-    }
+    let count = writer.write(buf)?;
+    writer.flush()?;
+    Ok(count)
 }
 
 /// A writer as a sink, seen as the writer and the count of its errors. It tells nothing of its
@@ -115,13 +128,14 @@ impl<W: Write + Drop> Sink for StdSink<W> {
         ensures appended { Writes None None buf.now result }
         ensures failed_by_fault { result ≡ WriteAns.Failed → HasRisen self.old.1 self.new.1 }
         ensures counted { self.old.1 ≤ self.new.1 }
+        // A failure counts one fault, and any other answer counts none.
+        ensures exact { self.new.1 ≡ count_after_write self.old.1 result }
         ensures sent { Sends (W.contents self.old.0) (W.contents self.new.0) buf.now result }
     {
-        let count = write_through(&mut self.writer, buf);
-        if count == 0 {
+        let answer = write_answer(write_through(&mut self.writer, buf));
+        if matches!(&answer, WriteAns::Failed) {
             self.count = self.count.saturating_add(1);
-            return WriteAns::Failed;
         }
-        WriteAns::Took(count)
+        answer
     }
 }

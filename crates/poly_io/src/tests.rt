@@ -1,4 +1,7 @@
+ghost use Rattle.std.specs.Prelude.{◌≤◌};
+
 use super::*;
+use std::alloc::{AllocError, Global};
 use std::io;
 use std::io::{Read, Write};
 use std::test::Fail;
@@ -178,6 +181,75 @@ fn writers_are_sinks(rt: HostRuntime) -> Result<(), Fail> {
         WriteAns::Took(1),
     ] {
         assert_eq!(rt; stuck.write(b"yes"), want);
+    }
+    Ok(())
+}
+
+// The lines of the bytes, each in brackets, and what the reader answers at last.
+fn lines_of(
+    alloc: Global,
+    bytes: &[u8],
+    piece: usize,
+    fails: &[u64],
+) -> Result<(Vec<u8>, LineAns), AllocError>
+    requires { 1 ≤ piece }
+{
+    let mut source = MemSource::new(alloc, bytes, piece, fails)?;
+    let mut reader = LineReader::new(alloc)?;
+    let mut out = Vec::new(alloc);
+    for _ in 0..100_000 {
+        match reader.next(&mut source) {
+            LineAns::Line => {
+                out.push(b'[')?;
+                out.extend_from_slice(reader.line())?;
+                out.push(b']')?;
+            }
+            LineAns::Failed => out.push(b'!')?,
+            answer => return Ok((out, answer)),
+        }
+    }
+    Ok((out, LineAns::Failed))
+}
+
+#[test]
+fn lines_come_alike_in_any_pieces(rt: HostRuntime) -> Result<(), Fail> {
+    for (bytes, lines) in [
+        (b"".as_slice(), b"".as_slice()),
+        (b"\n".as_slice(), b"[]".as_slice()),
+        (b"ab\ncd".as_slice(), b"[ab][cd]".as_slice()),
+        (b"ab\r\n\r\n\rcd\r".as_slice(), b"[ab][][\rcd\r]".as_slice()),
+        (b"a\n\nb\r\r\n".as_slice(), b"[a][][b\r]".as_slice()),
+    ] {
+        for piece in [1, 2, 7, 4_096] {
+            let (out, answer) = lines_of(rt.alloc(), bytes, piece, &[])?;
+            assert_eq!(rt; out.as_slice(), lines);
+            assert_eq!(rt; answer, LineAns::End);
+        }
+    }
+    let (out, answer) = lines_of(rt.alloc(), b"ab\ncd\ne", 2, &[2, 4])?;
+    assert_eq!(rt; out.as_slice(), b"![ab]![cd][e]".as_slice());
+    assert_eq!(rt; answer, LineAns::End);
+    Ok(())
+}
+
+#[test]
+fn long_lines_are_cut(rt: HostRuntime) -> Result<(), Fail> {
+    for (count, length) in [
+        (65_534, 65_534),
+        (65_535, 65_535),
+        (65_536, 65_536),
+        (65_537, 65_536),
+        (65_538, 65_536),
+        (200_000, 65_536),
+    ] {
+        for piece in [4_096, 65_535, 1_000_000] {
+            let mut text = vec![in rt.alloc(); b'x'; count]?;
+            text.extend_from_slice(b"\r\nend")?;
+            let (out, answer) = lines_of(rt.alloc(), text.as_slice(), piece, &[])?;
+            assert_eq!(rt; out.len(), length + 7);
+            assert!(rt; out.ends_with(b"x][end]"));
+            assert_eq!(rt; answer, LineAns::End);
+        }
     }
     Ok(())
 }

@@ -1,5 +1,5 @@
 //! Reading all of a source, and writing all of some bytes.
-ghost use Rattle.std.specs.Prelude.{◌≡◌, ℕ, ◌<◌, ◌≤◌, ◌↔◌, List, length, take, vec_len, IfOk, OnOk, OnErr, IsErrOf};
+ghost use Rattle.std.specs.Prelude.{◌≡◌, ℕ, ◌^◌, ◌<◌, ◌≤◌, ◌↔◌, List, length, take, vec_len, IfOk, OnOk, OnErr, IsErrOf};
 ghost use Rattle.std.specs.Io.KnownBytes.{prepend_known, append_known, IsAtEnd};
 ghost use Rattle.poly_io.specs.Counts.{HasRisen};
 ghost use Rattle.poly_io.specs.Whole.{AnswersGiven};
@@ -37,7 +37,7 @@ pub enum WriteAllErr {
     Memory,
 }
 
-/// How many bytes are asked for at a time.
+/// How many bytes are asked for at a time, 2^16.
 pub const ROOM: usize = 65_536;
 
 /// Reads a source to its end, unless it gives more than `limit` bytes: then no more is read.
@@ -46,7 +46,7 @@ pub fn read_all<S: Source>(
     source: &mut S,
     limit: usize,
 ) -> Result<Vec<u8>, ReadAllErr>
-    ensures given { (given : List ℕ) × (S.left source.old ≡ prepend_known given (S.left source.new)) × AnswersGiven given limit ROOM result }
+    ensures given { (given : List ℕ) × (S.left source.old ≡ prepend_known given (S.left source.new)) × AnswersGiven given limit (2 ^ 16) result }
     ensures end { OnOk result (IsAtEnd (S.left source.new)) }
     ensures failed_by_fault { IsErrOf result ReadAllErr.Failed → HasRisen (S.faults source.old) (S.faults source.new) }
     ensures counted { S.faults source.old ≤ S.faults source.new }

@@ -1,8 +1,112 @@
-use Rattle.poly_io.proofs.NextLaws.{cuts_told}
+use Rattle.std.proofs.Common.{ℕ, List, ◌≡◌, ◌≤◌, ◌<◌, ◌-◌, ◌++◌, length, take, drop, true, false, ap, sym, ◌∙◌, arith, inr, length-drop, min, subst}
+use Rattle.std.specs.Prelude.{Contains}
+use Rattle.std.specs.Io.KnownBytes.{IsAtEnd}
+use Rattle.std.proofs.lemmas.List.{length-take}
+use Rattle.poly_io.specs.Cut.{LacksFeed}
+use Rattle.poly_io.specs.LineReading.{Reading}
+use Rattle.poly_io.proofs.Known.{prepend_known-then}
+use Rattle.poly_io.proofs.CutLaws.{lacks_found, kept_lacks}
+use Rattle.poly_io.proofs.NextLaws.{line_given, rest_given, failed_given, follows_fill, no_feed, was_few, ended_more, cuts_told}
+use Rattle.poly_io.specs.declared.line_reader.LineAns.TheVariants.{Line, Failed}
+use Rattle.poly_io.specs.declared.reading.ReadAns.TheVariants.{Failed as ReadFailed}
 use Rattle.poly_io.proofs.line_reader.LineReader.next.Goals as goal
 
-pub returns-clause-cuts : goal.returns-clause-cuts
-returns-clause-cuts g c =
-    let h = c.advance.ensures.given in
+pub returns-in-Some-clause-given : goal.returns-in-Some-clause-given
+returns-in-Some-clause-given g c =
+    let h = c.loop-self.invariant in
+    let new = c.take_line.new.self in (
+      h.0,
+      h.1,
+      c.take_line.ensures.taken ∙ h.2.taken,
+      line_given h.0 c.args.self.now c.loop-self.self new c.in-Some.at h.2 c.in-Some.ensures c.take_line.ensures.line c.take_line.ensures.pending,
+    )
+
+pub returns-then-self-clause-given : goal.returns-then-self-clause-given
+returns-then-self-clause-given g c =
+    let h = c.loop-self.invariant in
+    let s = c.self.inside in
+    let new = c.take_rest.new.self in
+    let mid = c.loop-self.self in
+    let pending : take (s.end - s.start) (drop s.start s.bytes.items) ≡ mid.pending = ap (λ (r : Reading). r.pending) c.self.view_is in
+    let ended : mid.ended ≡ true = ap (λ (r : Reading). r.ended) (sym c.self.view_is) ∙ c.if-self.true in
+    let some : 0 < length mid.pending =
+    omega (arith, ap length pending, length-take (s.end - s.start) (drop s.start s.bytes.items), length-drop s.start s.bytes.items, c.self.invariant, s.bytes.ok, c.if-self-2.false) in (
+      h.0,
+      h.1,
+      c.take_rest.ensures.taken ∙ h.2.taken,
+      rest_given h.0 c.args.self.now mid new h.2 (lacks_found mid.pending c.in_default.ensures) some (c.take_rest.ensures.ended ∙ ended) c.take_rest.ensures.line c.take_rest.ensures.pending,
+    )
+
+pub returns-in-Failed-clause-given : goal.returns-in-Failed-clause-given
+returns-in-Failed-clause-given g c =
+    let h = c.loop-self.invariant in
+    let f = c.in-Failed.ensures.filled in
     let left = g.S.Source.left in
-    cuts_told h.0 c.args.self.now c.advance.new.self (left c.args.source.now) (left c.advance.new.source) c.advance.result h.1 h.3 c.advance.ensures.ended
+    let mid = c.loop-self.self in
+    let going : mid.ended ≡ false = ap (λ (r : Reading). r.ended) (sym c.self.view_is) ∙ c.if-self.false in
+    let lacks : LacksFeed mid.pending = lacks_found mid.pending c.in_default.ensures in (
+      h.0 ++ f.0,
+      prepend_known-then h.0 f.0 (left c.args.source.now) (left c.loop-self.source) (left c.fill.new.source) h.1 f.1,
+      (follows_fill h.0 f.0 c.args.self.now mid c.fill.new.self _ h.2 lacks going f.2).taken,
+      failed_given h.0 f.0 c.args.self.now mid c.fill.new.self h.2 lacks going f.2,
+    )
+
+pub returns-in-Failed-clause-unread : goal.returns-in-Failed-clause-unread
+returns-in-Failed-clause-unread g c few some =
+    let h = c.loop-self.invariant in
+    absurd (no_feed c.args.self.now c.loop-self.self c.args.source.now c.loop-self.source h.5 (lacks_found c.loop-self.self.pending c.in_default.ensures) some)
+
+pub loop-self-preserved : goal.loop-self-preserved
+loop-self-preserved g c =
+    let h = c.loop-self.invariant in
+    let f = c.fill.ensures.filled in
+    let left = g.S.Source.left in
+    let mid = c.loop-self.self in
+    let new = c.fill.new.self in
+    let lacks : LacksFeed mid.pending = lacks_found mid.pending c.in_default.ensures in
+    let few : mid.taken ≤ 67108864 = omega (arith, ap (λ (r : Reading). r.taken) c.self.view_is, c.if-self-gt-INPUT_LIMIT.false) in
+    let going : mid.ended ≡ false = ap (λ (r : Reading). r.ended) (sym c.self.view_is) ∙ c.if-self.false in
+    let s = c.self.inside in
+    let pending : take (s.end - s.start) (drop s.start s.bytes.items) ≡ mid.pending = ap (λ (r : Reading). r.pending) c.self.view_is in
+    let size : length mid.pending ≡ s.end - s.start =
+    omega (arith, ap length pending, length-take (s.end - s.start) (drop s.start s.bytes.items), length-drop s.start s.bytes.items, c.self.invariant, s.bytes.ok) in
+    let kept = kept_lacks mid.pending f.0 c.min-seen.result lacks (c.min-seen.ensures ∙ ap (λ (k : ℕ). min k 65537) (sym size)) in
+    let seen = subst (λ (x : List ℕ). (c.min-seen.result ≤ length x) × LacksFeed (take c.min-seen.result x)) (sym f.2.pending) kept in (
+      h.0 ++ f.0,
+      prepend_known-then h.0 f.0 (left c.args.source.now) (left c.loop-self.source) (left c.fill.new.source) h.1 f.1,
+      follows_fill h.0 f.0 c.args.self.now mid new c.fill.result h.2 lacks going f.2,
+      ended_more mid.ended new.ended c.fill.result (IsAtEnd (left c.fill.new.source)) f.2.ended going c.fill.ensures.ended,
+      omega (arith, h.4, c.fill.ensures.counted),
+      inr (
+        was_few c.args.self.now mid c.args.source.now c.loop-self.source h.5 few,
+        λ (some : Contains c.args.self.now.pending 10). no_feed c.args.self.now mid c.args.source.now c.loop-self.source h.5 lacks some,
+      ),
+      seen.0,
+      seen.1,
+    )
+
+pub returns-in-Some-clause-cuts : goal.returns-in-Some-clause-cuts
+returns-in-Some-clause-cuts g c =
+    let h = returns-in-Some-clause-given g c in
+    let left = g.S.Source.left in
+    let new = c.take_line.new.self in
+    cuts_told h.0 c.args.self.now new (left c.args.source.now) (left c.loop-self.source) Line h.1 h.3
+    (λ (e : new.ended ≡ true). c.loop-self.invariant.3 (sym c.take_line.ensures.ended ∙ e))
+
+pub returns-then-self-clause-cuts : goal.returns-then-self-clause-cuts
+returns-then-self-clause-cuts g c =
+    let h = returns-then-self-clause-given g c in
+    let left = g.S.Source.left in
+    let new = c.take_rest.new.self in
+    cuts_told h.0 c.args.self.now new (left c.args.source.now) (left c.loop-self.source) Line h.1 h.3
+    (λ (e : new.ended ≡ true). c.loop-self.invariant.3 (sym c.take_rest.ensures.ended ∙ e))
+
+pub returns-in-Failed-clause-cuts : goal.returns-in-Failed-clause-cuts
+returns-in-Failed-clause-cuts g c =
+    let h = returns-in-Failed-clause-given g c in
+    let left = g.S.Source.left in
+    let mid = c.loop-self.self in
+    let new = c.fill.new.self in
+    let going : mid.ended ≡ false = ap (λ (r : Reading). r.ended) (sym c.self.view_is) ∙ c.if-self.false in
+    cuts_told h.0 c.args.self.now new (left c.args.source.now) (left c.fill.new.source) Failed h.1 h.3
+    (ended_more mid.ended new.ended ReadFailed (IsAtEnd (left c.fill.new.source)) c.in-Failed.ensures.filled.2.ended going c.in-Failed.ensures.ended)

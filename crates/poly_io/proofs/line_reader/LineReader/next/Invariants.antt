@@ -2,7 +2,7 @@ use Rattle.std.proofs.Common.{◌≡◌, ℕ, ◌+◌, ◌-◌, ◌*◌, ◌≤�
 use Rattle.poly_io.specs.Cut.{LacksFeed}
 use Rattle.std.specs.Io.KnownBytes.{prepend_known, IsAtEnd}
 use Rattle.poly_io.proofs.NextLaws.{Follows, IsFirst}
-use Rattle.poly_io.proofs.line_reader.LineReader.advance.Given as goal
+use Rattle.poly_io.proofs.line_reader.LineReader.next.Given as goal
 
 abbrev pub invariant-loop-self : goal.invariant-loop-self
 invariant-loop-self g l =
