@@ -6,3 +6,4 @@ pub mod FullForms
 pub mod TableLemmas
 pub mod AskLemmas
 pub mod OneReply
+pub mod CutLines

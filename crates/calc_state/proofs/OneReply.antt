@@ -20,7 +20,7 @@ use Rattle.term_text.specs.declared.terms.ValueErr.TheVariants as cause
 use Rattle.term_text.proofs.Unique.{one_cons, one_point, one_point_row}
 use Rattle.calc_state.specs.Line.{Command, nothing, makes, asks}
 use Rattle.calc_state.specs.Table.{Table, system_of, put}
-use Rattle.calc_state.specs.Step.{Reply, Answered, Refused, Overflows, IsFaultOf, Tells, ShowsOverflow, Makes, Replies, Performs, Step, Gives, IsGiven, answer_line}
+use Rattle.calc_state.specs.Step.{Reply, Answered, Refused, Overflows, IsFaultOf, Tells, ShowsOverflow, Makes, Replies, Performs, Reads, Step, Gives, GivesBy, IsGiven, answer_line}
 use Rattle.calc_state.specs.declared.refusal.StepErr.{StepErr}
 use Rattle.calc_state.specs.declared.refusal.StepErr.TheVariants as err
 use Rattle.calc_state.proofs.SpellLemmas.{spells_one}
@@ -181,14 +181,27 @@ one_performed old nothing r s new other a b = (a.0 ∙ sym b.0, a.1 ∙ sym b.1)
 one_performed old (makes name dim text) r s new other a b = one_made old name dim text r s new other a b
 one_performed old (asks name text) r s new other a b = (one_asked (system_of old name) text r s a.0 b.0, a.1 ∙ sym b.1)
 
-pub one_reply : (old : Table) (line : List ℕ) (r s : Reply) (new other : Table) → Step old line r new → Step old line s other → (r ≡ s) × (new ≡ other)
-one_reply old line r s new other (inl a) (inl b) =
+one_read : (old : Table) (line : List ℕ) (r s : Reply) (new other : Table) → Reads old line r new → Reads old line s other → (r ≡ s) × (new ≡ other)
+one_read old line r s new other (inl a) (inl b) =
     let e : a.command ≡ b.command = spells_one line a.command b.command a.spelled b.spelled in
     let first : Performs old b.command r new = subst (λ (c : Command). Performs old c r new) e a.performed in
     one_performed old b.command r s new other first b.performed
-one_reply old line r s new other (inl a) (inr b) = absurd (b.none a.command a.spelled)
-one_reply old line r s new other (inr a) (inl b) = absurd (a.none b.command b.spelled)
-one_reply old line r s new other (inr a) (inr b) = (a.fault ∙ sym b.fault, a.unchanged ∙ sym b.unchanged)
+one_read old line r s new other (inl a) (inr b) = absurd (b.none a.command a.spelled)
+one_read old line r s new other (inr a) (inl b) = absurd (a.none b.command b.spelled)
+one_read old line r s new other (inr a) (inr b) = (a.fault ∙ sym b.fault, a.unchanged ∙ sym b.unchanged)
+
+pub one_reply : (old : Table) (line : List ℕ) (r s : Reply) (new other : Table) → Step old line r new → Step old line s other → (r ≡ s) × (new ≡ other)
+one_reply old line r s new other (inl a) (inl b) = (a.fault ∙ sym b.fault, a.unchanged ∙ sym b.unchanged)
+one_reply old line r s new other (inl a) (inr b) = absurd (omega (arith, a.long, b.short))
+one_reply old line r s new other (inr a) (inl b) = absurd (omega (arith, a.short, b.long))
+one_reply old line r s new other (inr a) (inr b) = one_read old line r s new other a.read b.read
+
+-- what came of reading a line within the limit is what came of the step
+pub read_given : (old : Table) (line : List ℕ) (result : Result (List ℕ) StepErr) (new : Table) → length line ≤ 65535 → GivesBy (Reads old line) old result new → Gives old line result new
+read_given old line (Ok lines) new short r = inr (record { short = short; read = r })
+read_given old line (Err (err.Input fault)) new short r = inr (record { short = short; read = r })
+read_given old line (Err (err.Overflow over)) new short r = inr (record { short = short; read = r })
+read_given old line (Err err.Memory) new short r = r
 
 -- what the calculator may reply is what was given
 pub only_given : (old : Table) (line : List ℕ) (result : Result (List ℕ) StepErr) (new : Table) → Gives old line result new → (reply : Reply) (table : Table) → Step old line reply table → IsGiven result reply

@@ -1,4 +1,4 @@
-use Rattle.std.specs.Prelude.{◌≡◌, ℕ, ◌⊎◌, ◌++◌, ◌∷◌, ◌↔◌, List, [], ℤ, Bool, true, false, Option, Some, None, Result, Ok, Err, IsTrue, codes}
+use Rattle.std.specs.Prelude.{◌≡◌, ℕ, ◌<◌, ◌≤◌, length, ◌⊎◌, ◌++◌, ◌∷◌, ◌↔◌, List, [], ℤ, Bool, true, false, Option, Some, None, Result, Ok, Err, IsTrue, codes}
 use Rattle.row_core.specs.declared.PairOver.{PairOver}
 use Rattle.row_core.specs.declared.Overflow.{Overflow}
 use Rattle.cons_sys.specs.Constraints.{Constraints, In, row_at}
@@ -109,9 +109,24 @@ pub record Unspelled (old : Table) (line : List ℕ) (reply : Reply) (new : Tabl
   pub fault : reply ≡ Refused (fault.Syntax 1)
   pub unchanged : new ≡ old
 
+-- what the line spells is performed, or it spells no command
+abbrev pub Reads : Table → List ℕ → Reply → Table → Type 0
+Reads old line reply new = Accepts old line reply new ⊎ Unspelled old line reply new
+
+-- the line has more bytes than the limit, and isn't read
+pub record IsTooLong (old : Table) (line : List ℕ) (reply : Reply) (new : Table) : Type 0 where
+  pub long : 65535 < length line
+  pub fault : reply ≡ Refused fault.LineTooLong
+  pub unchanged : new ≡ old
+
+-- the line is within the limit, and is read
+pub record Fits (old : Table) (line : List ℕ) (reply : Reply) (new : Table) : Type 0 where
+  pub short : length line ≤ 65535
+  pub read : Reads old line reply new
+
 -- from the old table the calculator gives this reply to the line, and goes on to the new table
 abbrev pub Step : Table → List ℕ → Reply → Table → Type 0
-Step old line reply new = Accepts old line reply new ⊎ Unspelled old line reply new
+Step old line reply new = IsTooLong old line reply new ⊎ Fits old line reply new
 
 -- what was given is such a reply with such a table after it, or memory ran out and the table is as before
 abbrev pub GivesBy : (Reply → Table → Type 0) → Table → Result (List ℕ) StepErr → Table → Type 0

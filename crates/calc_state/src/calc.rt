@@ -5,7 +5,7 @@ ghost use Rattle.grammar.specs.Grammar.{alone, list_of};
 ghost use Rattle.calc_state.specs.Line.{closed_con, proper_point};
 ghost use Rattle.cons_sys.specs.Constraints.{row_at};
 ghost use Rattle.calc_state.specs.Table.{Table, system_of};
-ghost use Rattle.calc_state.specs.Step.{Reply, Step, Gives, IsGiven, GivesBy, Makes, Asked, AskedOf, PointUnread, answer_line};
+ghost use Rattle.calc_state.specs.Step.{Reply, Step, Reads, Gives, IsGiven, GivesBy, Makes, Asked, AskedOf, PointUnread, answer_line};
 ghost use Rattle.row_core.specs.Points.{IsPoint as IsPointRow};
 ghost use Rattle.term_text.specs.Texts.{IsPoint};
 
@@ -19,6 +19,9 @@ use std::alloc::Global;
 use std::marker::Model;
 use std::sync::ledger::Ledger;
 use term_text::{cons_of, point_of};
+
+// The most bytes of a line.
+const LINE_LIMIT: usize = 65_535;
 
 /// The calculator: names, and the system under each.
 #[derive(Drop)]
@@ -49,7 +52,7 @@ impl Calc {
     /// # Errors
     ///
     /// `Input` exactly where the line is refused for this fault, the first that holds in this order:
-    /// it spells no command, its name isn't there, a variable isn't below the dimension, a number or
+    /// it has more than 65,535 bytes, it spells no command, its name isn't there, a variable isn't below the dimension, a number or
     /// a partial sum leaves the range. `Overflow` exactly where the test of the constraints at the
     /// point comes to one whose value can't be computed within the range. After each the table is as
     /// before.
@@ -59,11 +62,15 @@ impl Calc {
         ensures only { (reply : Reply) (table : Table) → Step self.old line.now reply table → IsGiven result reply }
         ensures refused { OnErr result (self.new ≡ self.old) }
     {
+        if line.len() > LINE_LIMIT {
+            return Err(StepErr::Input(Fault::LineTooLong));
+        }
         self.reply(line)
     }
 
+    // Reads a line within the limit, and performs what it spells.
     fn reply(&mut self, line: &[u8]) -> Result<Text, StepErr>
-        ensures step { Gives self.old line.now result self.new }
+        ensures read { GivesBy (Reads self.old line.now) self.old result self.new }
         ensures refused { OnErr result (self.new ≡ self.old) }
     {
         match read_line(self.alloc, line)? {

@@ -1,6 +1,6 @@
-pub mod Cuts
 pub mod RunWords
 pub mod RunLaws
-pub mod OutcomeLaws
 pub mod TruthLaws
 pub mod OneRun
+pub mod CutRuns
+pub mod StreamLaws

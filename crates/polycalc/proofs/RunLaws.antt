@@ -1,5 +1,5 @@
 -- Runs that go on by one step.
-use Rattle.std.proofs.Common.{◌≡◌, ℕ, List, [], ◌∷◌, ◌++◌, refl, ap, subst, ◌∙◌, sym, append_assoc, Bool, true, false}
+use Rattle.std.proofs.Common.{◌≡◌, ℕ, List, [], ◌∷◌, ◌++◌, refl, ap, subst, ◌∙◌, Bool, true, false}
 use Rattle.std.specs.Prelude.{◌&&◌}
 use Rattle.std.specs.List.{flat_map, list_all}
 use Rattle.std.proofs.lemmas.Grind.{flat_map-append}
@@ -33,7 +33,3 @@ written-more replies reply =
     both_parts (flat_map reply_bytes (replies ++ reply ∷ [])) (flat_map reply_bytes replies ++ reply_bytes reply) (list_all is_answer (replies ++ reply ∷ [])) (list_all is_answer replies && is_answer reply)
     (flat_map-append reply_bytes replies (reply ∷ []) ∙ ap (λ last. flat_map reply_bytes replies ++ last) (append-nil (reply_bytes reply)))
     (list_all-append is_answer replies (reply ∷ []) ∙ ap (λ last. list_all is_answer replies && last) (and_true (is_answer reply)))
-
--- the lines that were answered, and one more in front of the others
-pub lines-moved : (all done rest after : List (List ℕ)) (line : List ℕ) → all ≡ done ++ rest → rest ≡ line ∷ after → all ≡ (done ++ line ∷ []) ++ after
-lines-moved all done rest after line h k = h ∙ ap (λ others. done ++ others) k ∙ sym (append_assoc done (line ∷ []) after)

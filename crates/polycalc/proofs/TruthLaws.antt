@@ -5,12 +5,12 @@ use Rattle.std.specs.Str.{bytes_eq}
 use Rattle.std.proofs.lemmas.Slice.Eq.{bytes_eq-Decides}
 use Rattle.cons_sys.specs.Constraints.{Constraints}
 use Rattle.term_text.specs.Systems.{IsCons}
-use Rattle.calc_state.specs.Line.{Command, nothing, makes, asks, Spells}
+use Rattle.calc_state.specs.Line.{Command, nothing, makes, asks}
 use Rattle.calc_state.specs.Table.{Table, system_of, put}
-use Rattle.calc_state.specs.Step.{Reply, Answered, Refused, Overflows, Step, Accepts, Unspelled, Performs, Replies}
+use Rattle.calc_state.specs.Step.{Reply, Answered, Refused, Overflows, Step, Performs, Replies}
 use Rattle.polycalc.specs.Replies.{is_answer}
 use Rattle.polycalc.specs.Runs.{Run}
-use Rattle.polycalc.specs.Truth.{Made, last_made, later, ReadAs, SaysTruthOf, IsTruthful, AreTruthful}
+use Rattle.polycalc.specs.Truth.{Made, last_made, later, SaysTruthOf, IsTruthful, AreTruthful}
 
 same_choice : (b : Bool) (x y z : Option Constraints) → cond b x z ≡ cond b x (cond b y z)
 same_choice true x y z = refl
@@ -93,9 +93,12 @@ pub run_is_truthful : (old : Table) (made : List Made) (lines : List (List ℕ))
 run_is_truthful old made [] [] new a r = tt
 run_is_truthful old made (line ∷ lines) (reply ∷ replies) new a (mid, step, run) =
     elim step [
-      | inl accepted ↦ (let p = performed old mid made accepted.command reply a accepted.performed in
-          (Some accepted.command, accepted.spelled, p.0, run_is_truthful mid (later made (Some accepted.command) reply) lines replies new p.1 run))
-      | inr unspelled ↦ (None, unspelled.none, tt, run_is_truthful mid made lines replies new (kept old mid made unspelled.unchanged a) run)
+      | inl long ↦ (None, inl long.long, tt, run_is_truthful mid made lines replies new (kept old mid made long.unchanged a) run)
+      | inr fits ↦ elim fits.read [
+        | inl accepted ↦ (let p = performed old mid made accepted.command reply a accepted.performed in
+            (Some accepted.command, (fits.short, accepted.spelled), p.0, run_is_truthful mid (later made (Some accepted.command) reply) lines replies new p.1 run))
+        | inr unspelled ↦ (None, inr unspelled.none, tt, run_is_truthful mid made lines replies new (kept old mid made unspelled.unchanged a) run)
+      ]
     ]
 run_is_truthful old made [] (reply ∷ replies) new a r = absurd r
 run_is_truthful old made (line ∷ lines) [] new a r = absurd r
@@ -114,4 +117,7 @@ performed_unchanged old new (asks name text) reply p f = p.1
 -- a refused line leaves the table as it was
 pub refused_unchanged : (old : Table) (line : List ℕ) (reply : Reply) (new : Table) → Step old line reply new → is_answer reply ≡ false → new ≡ old
 refused_unchanged old line reply new step f =
-    elim step [ inl accepted ↦ performed_unchanged old new accepted.command reply accepted.performed f | inr unspelled ↦ unspelled.unchanged ]
+    elim step [
+      | inl long ↦ long.unchanged
+      | inr fits ↦ elim fits.read [ inl accepted ↦ performed_unchanged old new accepted.command reply accepted.performed f | inr unspelled ↦ unspelled.unchanged ]
+    ]

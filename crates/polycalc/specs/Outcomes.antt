@@ -1,14 +1,12 @@
-use Rattle.std.specs.Prelude.{◌≡◌, ℕ, ◌+◌, ◌<◌, ◌≤◌, List, [], ◌++◌, length, take, Option, Some, Bool, true, false, if◌then◌else◌}
+use Rattle.std.specs.Prelude.{◌≡◌, ℕ, ◌+◌, ◌^◌, ◌<◌, ◌≤◌, List, [], ◌∷◌, ◌++◌, length, take, Option, Some, Bool, true, false, if◌then◌else◌}
 use Rattle.std.specs.Io.KnownBytes.{append_known, prepend_known, IsAtEnd}
 use Rattle.std.specs.Str.Lines.{lines}
 use Rattle.calc_state.specs.Table.{Table}
 use Rattle.calc_state.specs.Step.{Reply}
 use Rattle.polycalc.specs.Replies.{replies_bytes, is_clean}
 use Rattle.polycalc.specs.Runs.{Run}
-use Rattle.polycalc.specs.declared.top.Status.{Status}
-use Rattle.polycalc.specs.declared.top.Status.TheVariants.{Done, Refused, Usage, ReadFault, WriteFault, Memory, InputTooLong}
-use Rattle.polycalc.specs.declared.top.TheConstants.{INPUT_LIMIT}
-use Rattle.poly_io.specs.declared.whole.TheConstants.{ROOM}
+use Rattle.polycalc.specs.declared.status.Status.{Status}
+use Rattle.polycalc.specs.declared.status.Status.TheVariants.{Done, Refused, Usage, ReadFault, WriteFault, Memory, InputTooLong}
 
 -- what was held, and behind it the replies of a run over the lines of the script; whether no reply is a fault or an overflow is told
 pub record Completes (script : List ℕ) (clean : Bool) (old new : Option (List ℕ)) : Type 0 where
@@ -33,24 +31,25 @@ pub record WritesPrefix (script : List ℕ) (old new : Option (List ℕ)) : Type
   pub count : ℕ
   pub held : new ≡ append_known old (take count (replies_bytes replies))
 
--- what is held after a script was answered, and the status
-abbrev pub Answers : List ℕ → Option (List ℕ) → Option (List ℕ) → Status → Type 0
-Answers script old new Done = Completes script true old new
-Answers script old new Refused = Completes script false old new
-Answers script old new WriteFault = WritesPrefix script old new
-Answers script old new Memory = WritesPrefix script old new
-Answers script old new Usage = ⊥
-Answers script old new ReadFault = ⊥
-Answers script old new InputTooLong = ⊥
+-- what was held, and behind it the replies of a run over the whole lines of the script: with a line feed behind the
+-- script, over all its lines but the last
+pub record AnswersWhole (script : List ℕ) (old new : Option (List ℕ)) : Type 0 where
+  pub whole : List (List ℕ)
+  pub last : List ℕ
+  pub cut : lines (script ++ 10 ∷ []) ≡ whole ++ last ∷ []
+  pub table : Table
+  pub replies : List Reply
+  pub run : Run [] whole replies table
+  pub held : new ≡ append_known old (replies_bytes replies)
 
 -- what came of the word run, after the source gave these bytes and now has those left
 abbrev pub Outcome : List ℕ → Option (List ℕ) → Option (List ℕ) → Option (List ℕ) → Status → Type 0
-Outcome given left old new Done = (length given ≤ INPUT_LIMIT) × IsAtEnd left × Completes given true old new
-Outcome given left old new Refused = (length given ≤ INPUT_LIMIT) × IsAtEnd left × Completes given false old new
-Outcome given left old new ReadFault = (length given ≤ INPUT_LIMIT) × (new ≡ old)
-Outcome given left old new WriteFault = (length given ≤ INPUT_LIMIT) × WritesPrefix given old new
-Outcome given left old new Memory = (length given ≤ INPUT_LIMIT) × WritesPrefix given old new
-Outcome given left old new InputTooLong = (INPUT_LIMIT < length given) × (length given ≤ INPUT_LIMIT + ROOM) × (new ≡ old)
+Outcome given left old new Done = (length given ≤ 2 ^ 26) × IsAtEnd left × Completes given true old new
+Outcome given left old new Refused = (length given ≤ 2 ^ 26) × IsAtEnd left × Completes given false old new
+Outcome given left old new ReadFault = (length given ≤ 2 ^ 26) × AnswersWhole given old new
+Outcome given left old new WriteFault = (length given ≤ 2 ^ 26) × WritesPrefix given old new
+Outcome given left old new Memory = (length given ≤ 2 ^ 26) × WritesPrefix given old new
+Outcome given left old new InputTooLong = (2 ^ 26 < length given) × (length given ≤ 2 ^ 26 + 2 ^ 16) × WritesPrefix given old new
 Outcome given left old new Usage = ⊥
 
 -- the script is answered: behind what was held stand the replies of a run over its lines, from the table without names,

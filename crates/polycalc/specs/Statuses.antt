@@ -1,6 +1,6 @@
 use Rattle.std.specs.Prelude.{ℕ}
-use Rattle.polycalc.specs.declared.top.Status.{Status}
-use Rattle.polycalc.specs.declared.top.Status.TheVariants.{Done, Refused, Usage, ReadFault, WriteFault, Memory, InputTooLong}
+use Rattle.polycalc.specs.declared.status.Status.{Status}
+use Rattle.polycalc.specs.declared.status.Status.TheVariants.{Done, Refused, Usage, ReadFault, WriteFault, Memory, InputTooLong}
 
 -- the program's exit code
 abbrev pub code_of : Status → ℕ

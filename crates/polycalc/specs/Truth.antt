@@ -1,4 +1,4 @@
-use Rattle.std.specs.Prelude.{◌≡◌, ◌↔◌, ℕ, ℤ, List, [], ◌∷◌, Bool, Option, None, Some, IsTrue, if◌then◌else◌}
+use Rattle.std.specs.Prelude.{◌≡◌, ◌↔◌, ◌⊎◌, ℕ, ◌<◌, ◌≤◌, length, ℤ, List, [], ◌∷◌, Bool, Option, None, Some, IsTrue, if◌then◌else◌}
 use Rattle.std.specs.Str.{bytes_eq}
 use Rattle.cons_sys.specs.Constraints.{Constraints, In}
 use Rattle.term_text.specs.Texts.{IsPoint}
@@ -26,10 +26,10 @@ later made (Some (makes name dim constraints)) (Refused fault) = made
 later made (Some (makes name dim constraints)) (Overflows over) = made
 later made (Some (asks name point)) reply = made
 
--- the line spells the command, or no command at all
+-- the line is within the limit of a line's length and spells the command; or it is longer, or spells no command at all
 abbrev pub ReadAs : List ℕ → Option Command → Type 0
-ReadAs line None = (c : Command) → Spells line c → ⊥
-ReadAs line (Some c) = Spells line c
+ReadAs line None = (65535 < length line) ⊎ ((c : Command) → Spells line c → ⊥)
+ReadAs line (Some c) = (length line ≤ 65535) × Spells line c
 
 -- the reply says whether the point of the text satisfies the constraints of the line
 pub record SaysTruth (made : Made) (text lines : List ℕ) : Type 0 where

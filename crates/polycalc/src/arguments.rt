@@ -1,5 +1,5 @@
 //! The program's arguments as words.
-use crate::top::Status;
+use crate::status::Status;
 use crate::vocabulary::Words;
 use row_core::Memory;
 use std::alloc::Global;

@@ -6,19 +6,20 @@ ghost use Rattle.std.specs.Prelude.{◌≡◌, ◌<◌};
 
 mod arguments;
 mod laws;
-mod line_ends;
 mod replies;
 mod runs;
+mod status;
 mod top;
 mod vocabulary;
 
 use poly_io::{StdSink, StdSource};
 use row_core::Steps;
+use status::{Status, exit_code};
 use std::io::{Stdin, Stdout};
 use std::marker::Brand;
 use std::process::ExitCode;
 use std::sync::ledger::{Blank, Ledger};
-use top::{Status, polycalc};
+use top::polycalc;
 use vocabulary::Words;
 
 fn main(rt: HostRuntime) -> ExitCode {
@@ -26,7 +27,7 @@ fn main(rt: HostRuntime) -> ExitCode {
         Ok(words) => on_standard_streams::<Brand>(&rt, &words, Blank::new(1)),
         Err(status) => status,
     };
-    ExitCode::from(status.code())
+    exit_code(status)
 }
 
 // The call over standard input and standard output.

@@ -69,6 +69,13 @@ impl Replies {
         Ok(())
     }
 
+    /// Forgets the bytes, which were written.
+    pub fn clear(&mut self)
+        ensures { self.new ≡ record { bytes = []; clean = self.old.clean } }
+    {
+        self.bytes.clear();
+    }
+
     /// The bytes.
     pub fn bytes(&self) -> &[u8]
         ensures { result.now ≡ self.now.bytes }

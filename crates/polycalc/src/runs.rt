@@ -1,35 +1,55 @@
-//! A run of the calculator over the lines of a script.
-ghost use Rattle.std.specs.Prelude.{◌≡◌, IfOk, OnOk};
-ghost use Rattle.std.specs.Str.Lines.{lines};
-ghost use Rattle.calc_state.specs.Table.{Table};
+//! A run of the calculator over the lines of a source, as they come.
+ghost use Rattle.std.specs.Prelude.{◌≡◌, ℕ, List, OnOk};
+ghost use Rattle.std.specs.Io.KnownBytes.{prepend_known};
+ghost use Rattle.poly_io.specs.Counts.{HasRisen};
 ghost use Rattle.calc_state.specs.Step.{Reply, Step};
 ghost use Rattle.polycalc.specs.Replies.{with_reply};
-ghost use Rattle.polycalc.specs.Runs.{RunsTo};
+ghost use Rattle.polycalc.specs.Outcomes.{Outcome};
 
-use crate::line_ends::split_line;
 use crate::replies::Replies;
+use crate::status::Status;
 use calc_state::{Calc, StepErr};
+use poly_io::{LineAns, LineReader, Sink, Source, WriteAllErr, write_all};
 use row_core::{Memory, Steps};
 use std::alloc::Global;
 use std::sync::ledger::Ledger;
 
-/// Gives the calculator the lines of a script in order, from the table without names.
-pub fn replies_to<L: Ledger>(
+/// Answers the lines of a source, and writes the replies before more is read.
+pub fn run_lines<S: Source, W: Sink, L: Ledger>(
     alloc: Global,
-    script: &[u8],
+    source: &mut S,
+    sink: &mut W,
     steps: &mut Steps<L>,
-) -> Result<Replies, Memory>
-    ensures { IfOk result (λ replies. (table : Table) × RunsTo (lines script.now) replies table) }
+) -> Status
+    ensures outcome { (given : List ℕ) × (S.left source.old ≡ prepend_known given (S.left source.new))
+        × Outcome given (S.left source.new) (W.held sink.old) (W.held sink.new) result }
+    ensures read_fault { result ≡ Status.ReadFault → HasRisen (S.faults source.old) (S.faults source.new) }
+    ensures write_fault { result ≡ Status.WriteFault → HasRisen (W.faults sink.old) (W.faults sink.new) }
 {
+    let Ok(mut reader) = LineReader::new(alloc) else {
+        return Status::Memory;
+    };
     let mut calc = Calc::new(alloc);
     let mut replies = Replies::new(alloc);
-    let mut rest = script;
-    while !rest.is_empty() {
-        let (line, after) = split_line(rest);
-        reply_to(&mut calc, line, steps, &mut replies)?;
-        rest = after;
+    loop {
+        match reader.next(source) {
+            LineAns::Line => (),
+            LineAns::End if replies.is_clean() => return Status::Done,
+            LineAns::End => return Status::Refused,
+            LineAns::Failed => return Status::ReadFault,
+            LineAns::TooLong => return Status::InputTooLong,
+        }
+        let Ok(()) = reply_to(&mut calc, reader.line(), steps, &mut replies) else {
+            return Status::Memory;
+        };
+        if !reader.has_line() {
+            match write_all(sink, replies.bytes()) {
+                Ok(()) => replies.clear(),
+                Err(WriteAllErr::Failed) => return Status::WriteFault,
+                Err(WriteAllErr::Memory) => return Status::Memory,
+            }
+        }
     }
-    Ok(replies)
 }
 
 // One line's step, and its reply.

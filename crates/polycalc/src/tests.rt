@@ -1,6 +1,7 @@
 ghost use Rattle.std.specs.Prelude.{◌≡◌, ◌<◌, ◌≤◌};
 
-use crate::top::{INPUT_LIMIT, Status, polycalc};
+use crate::status::Status;
+use crate::top::polycalc;
 use crate::vocabulary::Words;
 use poly_io::{MemSink, MemSource};
 use row_core::Steps;
@@ -118,21 +119,29 @@ fn other_words_have_no_meaning(rt: HostRuntime) -> Result<(), Fail> {
 }
 
 #[test]
-fn each_failing_read_ends_the_call(rt: HostRuntime) -> Result<(), Fail> {
-    for number in 1..5u64 {
-        let mut trial = trial_of(FIRST, 32);
+fn whole_lines_before_a_failing_read_are_answered(rt: HostRuntime) -> Result<(), Fail> {
+    for (piece, number, replies) in [
+        (32, 1, ""),
+        (32, 2, ""),
+        (32, 3, "ok\nyes\n"),
+        (32, 4, "ok\nyes\nno\n"),
+        (45, 2, "ok\n"),
+        (64, 2, "ok\nyes\n"),
+        (4_096, 2, "ok\nyes\nno\n"),
+    ] {
+        let mut trial = trial_of(FIRST, piece);
         let fails = [number];
         trial.read_fails = &fails;
         let (status, held) = outcome_of(rt.alloc(), &trial)?;
-        assert_eq!(rt; status, Status::ReadFault, "{number}");
-        assert_eq!(rt; held.len(), 0, "{number}");
+        assert_eq!(rt; status, Status::ReadFault, "{piece} {number}");
+        assert_eq!(rt; held.as_slice(), replies.as_bytes(), "{piece} {number}");
     }
     Ok(())
 }
 
 #[test]
 fn each_failing_write_leaves_a_front_of_the_replies(rt: HostRuntime) -> Result<(), Fail> {
-    for (number, front) in [(1, ""), (2, "ok\n"), (3, "ok\nyes"), (4, "ok\nyes\nno")] {
+    for (number, front) in [(1, ""), (2, "ok\n"), (3, "ok\nyes"), (4, "ok\nyes\n")] {
         let mut trial = trial_of(FIRST, 3);
         let fails = [number];
         trial.write_fails = &fails;
@@ -149,10 +158,12 @@ fn hashes(alloc: Global, count: usize) -> Result<Vec<u8>, AllocError> {
 }
 
 #[test]
-fn a_script_has_a_limit(rt: HostRuntime) -> Result<(), Fail> {
+fn lines_and_scripts_have_a_limit(rt: HostRuntime) -> Result<(), Fail> {
     for (count, status, reply) in [
-        (INPUT_LIMIT, Status::Refused, "fault 1 Syntax 1\n"),
-        (INPUT_LIMIT + 1, Status::InputTooLong, ""),
+        (65_535, Status::Refused, "fault 1 Syntax 1\n"),
+        (65_536, Status::Refused, "fault 14 LineTooLong\n"),
+        (67_108_864, Status::Refused, "fault 14 LineTooLong\n"),
+        (67_108_865, Status::InputTooLong, ""),
     ] {
         let script = hashes(rt.alloc(), count)?;
         let (got, held) = outcome_of(rt.alloc(), &trial_of(&script, 65_536))?;

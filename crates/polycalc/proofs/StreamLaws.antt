@@ -1,0 +1,232 @@
+-- A run over the lines of a source, as they come.
+use Rattle.std.proofs.Common.{◌≡◌, ℕ, ◌+◌, ◌<◌, ◌≤◌, ◌⊎◌, List, [], ◌∷◌, ◌++◌, length, take, drop, refl, ap, subst, ◌∙◌, sym, append_assoc, length-append, Bool, true, false, inl, inr, arith}
+use Rattle.std.specs.Prelude.{Option, Contains, ◌&&◌, ◌↔◌, MatchBool}
+use Rattle.std.proofs.lemmas.Bool.{cases_lt}
+use Rattle.std.specs.Str.Lines.{lines, strip_carriage_return}
+use Rattle.std.specs.Io.KnownBytes.{append_known}
+use Rattle.std.proofs.lemmas.List.{append-nil}
+use Rattle.std.proofs.Math.Seq.{take-add, drop-append_seam, take-append_seam}
+use Rattle.poly_io.specs.Cut.{cut}
+use Rattle.poly_io.specs.LineReading.{Reading, Answers}
+use Rattle.poly_io.specs.declared.line_reader.LineAns.TheVariants.{Line, End, Failed, TooLong}
+use Rattle.poly_io.proofs.CutLaws.{cut_at}
+use Rattle.poly_io.proofs.Known.{append_known-append, append_known-nil}
+use Rattle.calc_state.specs.Table.{Table}
+use Rattle.calc_state.specs.Step.{Reply, Step}
+use Rattle.polycalc.specs.Replies.{Written, written, with_reply, reply_bytes, replies_bytes, is_answer, is_clean}
+use Rattle.polycalc.specs.Runs.{Run}
+use Rattle.polycalc.specs.Outcomes.{Completes, WritesPrefix, AnswersWhole}
+use Rattle.polycalc.proofs.RunLaws.{Run-then, written-more}
+use Rattle.polycalc.proofs.CutRuns.{run_of_cut, parts_of_cut, one_of_cut, run_of_part}
+
+-- where a run stands: the bytes given so far are cut into the lines answered and what is pending, and the replies are
+-- those that were written and those that are gathered
+pub record Goes (given : List ℕ) (old now : Option (List ℕ)) (table : Table) (reader : Reading) (w : Written) : Type 0 where
+  pub done : List (List ℕ)
+  pub replies : List Reply
+  pub run : Run [] done replies table
+  pub cuts : (later : List ℕ) → (reader.ended ≡ true → later ≡ []) → cut (given ++ later) ≡ done ++ cut (reader.pending ++ later)
+  pub flushed : List ℕ
+  pub held : now ≡ append_known old flushed
+  pub bytes : flushed ++ w.bytes ≡ replies_bytes replies
+  pub clean : w.clean ≡ is_clean replies
+  pub size : reader.taken ≡ length given
+
+-- all replies are written where the source is to be read
+abbrev pub IsReady : Reading → Written → Type 0
+IsReady reader w = (w.bytes ≡ []) ⊎ Contains reader.pending 10
+
+abbrev pub start_reading : Reading
+start_reading = record { pending = []; taken = 0; ended = false; line = [] }
+
+pub goes_start : (held : Option (List ℕ)) (reader : Reading) → reader ≡ start_reading → Goes [] held held [] reader (written [])
+goes_start held reader e = record {
+  done = [];
+  replies = [];
+  run = refl;
+  cuts = λ (later : List ℕ) (h : reader.ended ≡ true → later ≡ []). ap (λ (r : Reading). cut (r.pending ++ later)) (sym e);
+  flushed = [];
+  held = sym (append_known-nil held);
+  bytes = refl;
+  clean = refl;
+  size = ap (λ (r : Reading). r.taken) e;
+}
+
+-- the source gave nothing to a reader that had ended
+abbrev pub IsStill : List ℕ → Reading → Reading → Type 0
+IsStill given old new = old.ended ≡ true → (new.ended ≡ true) × (new.taken ≡ old.taken)
+
+none_given : (given : List ℕ) (old new : Reading) → new.taken ≡ old.taken + length given → IsStill given old new → old.ended ≡ true → given ≡ []
+none_given [] old new t s e = refl
+none_given (b ∷ given) old new t s e = (let same = (s e).1 in absurd (omega arith))
+
+nothing_more : (given later : List ℕ) (old new : Reading) → new.taken ≡ old.taken + length given → IsStill given old new → (new.ended ≡ true → later ≡ []) → old.ended ≡ true → given ++ later ≡ []
+nothing_more given later old new t s h e = ap (λ (g : List ℕ). g ++ later) (none_given given old new t s e) ∙ h (s e).0
+
+-- a line more, and its reply
+pub goes_line : (given more : List ℕ) (old now : Option (List ℕ)) (table after : Table) (reader new : Reading) (w v : Written) (reply : Reply) → Goes given old now table reader w →
+    new.taken ≡ reader.taken + length more → IsStill more reader new → Answers more reader new Line → Step table new.line reply after → v ≡ with_reply w reply → Goes (given ++ more) old now after new v
+goes_line given more old now table after reader new w v reply g t s a step e = record {
+  done = g.done ++ new.line ∷ [];
+  replies = g.replies ++ reply ∷ [];
+  run = Run-then [] g.done g.replies table new.line reply after g.run step;
+  cuts = λ (later : List ℕ) (h : new.ended ≡ true → later ≡ []).
+      (ap cut (append_assoc given more later) ∙ g.cuts (more ++ later) (nothing_more more later reader new t s h)
+      ∙ ap (λ (x : List (List ℕ)). g.done ++ x) (a.0 later h) ∙ sym (append_assoc g.done (new.line ∷ []) (cut (new.pending ++ later))));
+  flushed = g.flushed;
+  held = g.held;
+  bytes = ap (λ (x : Written). g.flushed ++ x.bytes) e ∙ sym (append_assoc g.flushed w.bytes (reply_bytes reply)) ∙ ap (λ (x : List ℕ). x ++ reply_bytes reply) g.bytes
+      ∙ ap (λ (x : Written). x.bytes) (sym (written-more g.replies reply));
+  clean = ap (λ (x : Written). x.clean) e ∙ ap (λ (c : Bool). c && is_answer reply) g.clean ∙ ap (λ (x : Written). x.clean) (sym (written-more g.replies reply));
+  size = omega (arith, t, g.size, length-append given more);
+}
+
+-- the gathered replies are written
+pub goes_written : (given : List ℕ) (old now later : Option (List ℕ)) (table : Table) (reader : Reading) (w v : Written) → Goes given old now table reader w →
+    later ≡ append_known now w.bytes → v.bytes ≡ [] → v.clean ≡ w.clean → Goes given old later table reader v
+goes_written given old now later table reader w v g h b c = record {
+  done = g.done;
+  replies = g.replies;
+  run = g.run;
+  cuts = g.cuts;
+  flushed = g.flushed ++ w.bytes;
+  held = h ∙ ap (λ (k : Option (List ℕ)). append_known k w.bytes) g.held ∙ sym (append_known-append old g.flushed w.bytes);
+  bytes = ap (λ (x : List ℕ). (g.flushed ++ w.bytes) ++ x) b ∙ append-nil (g.flushed ++ w.bytes) ∙ g.bytes;
+  clean = c ∙ g.clean;
+  size = g.size;
+}
+
+front : (u v : List ℕ) (n : ℕ) → take (length u + n) (u ++ v) ≡ u ++ take n v
+front u v n =
+    take-add (length u) n (u ++ v) ∙ ap (λ (t : List ℕ). t ++ take n (drop (length u) (u ++ v))) (take-append_seam u v)
+    ∙ ap (λ (t : List ℕ). u ++ take n t) (drop-append_seam u v)
+
+parts_empty : (u v : List ℕ) → u ++ v ≡ [] → (u ≡ []) × (v ≡ [])
+parts_empty [] v e = (refl, e)
+parts_empty (b ∷ u) v e = cc
+
+empty_lacks : (p : List ℕ) → p ≡ [] → Contains p 10 → ⊥
+empty_lacks [] e (k, h, i) = omega arith
+empty_lacks (b ∷ p) e h = cc
+
+-- the first lines of some bytes are answered, and a front of the replies is written
+prefix_of_cut : (all : List ℕ) (answered others : List (List ℕ)) (old new : Option (List ℕ)) (table : Table) (replies : List Reply) (n : ℕ) → cut all ≡ answered ++ others →
+    Run [] answered replies table → new ≡ append_known old (take n (replies_bytes replies)) → WritesPrefix all old new
+prefix_of_cut all answered others old new table replies n e r h =
+    let p = parts_of_cut (lines all) answered others e in
+    record {
+      answered = p.first;
+      others = p.second;
+      cut = p.both;
+      table = table;
+      replies = replies;
+      run = run_of_part (lines all) answered others replies table p r;
+      count = n;
+      held = h;
+    }
+
+-- all whole lines of some bytes are answered
+whole_of_cut : (all : List ℕ) (answered : List (List ℕ)) (last : List ℕ) (old new : Option (List ℕ)) (table : Table) (replies : List Reply) → cut (all ++ 10 ∷ []) ≡ answered ++ last ∷ [] →
+    Run [] answered replies table → new ≡ append_known old (replies_bytes replies) → AnswersWhole all old new
+whole_of_cut all answered last old new table replies e r h =
+    let p = parts_of_cut (lines (all ++ 10 ∷ [])) answered (last ∷ []) e in
+    let o = one_of_cut p.second last p.second_cut in
+    record {
+      whole = p.first;
+      last = o.line;
+      cut = p.both ∙ ap (λ (t : List (List ℕ)). p.first ++ t) o.is;
+      table = table;
+      replies = replies;
+      run = run_of_part (lines (all ++ 10 ∷ [])) answered (last ∷ []) replies table p r;
+      held = h;
+    }
+
+-- a front of what was gathered is written
+pub front_of_goes : (given : List ℕ) (old now later : Option (List ℕ)) (table : Table) (reader : Reading) (w : Written) (n : ℕ) → Goes given old now table reader w →
+    later ≡ append_known now (take n w.bytes) → WritesPrefix given old later
+front_of_goes given old now later table reader w n g h =
+    prefix_of_cut given g.done (cut (reader.pending ++ [])) old later table g.replies (length g.flushed + n)
+    (ap cut (sym (append-nil given)) ∙ g.cuts [] (λ (e : reader.ended ≡ true). refl)) g.run
+    (h ∙ ap (λ (k : Option (List ℕ)). append_known k (take n w.bytes)) g.held ∙ sym (append_known-append old g.flushed (take n w.bytes))
+    ∙ ap (λ (x : List ℕ). append_known old x) (sym (front g.flushed w.bytes n) ∙ ap (take (length g.flushed + n)) g.bytes))
+
+-- all that was gathered is written
+all_written : (given : List ℕ) (old now : Option (List ℕ)) (table : Table) (reader : Reading) (w : Written) (g : Goes given old now table reader w) → w.bytes ≡ [] → now ≡ append_known old (replies_bytes g.replies)
+all_written given old now table reader w g all = g.held ∙ ap (append_known old) (sym (append-nil g.flushed) ∙ ap (λ (x : List ℕ). g.flushed ++ x) (sym all) ∙ g.bytes)
+
+-- nothing that was gathered is written
+none_written : (given : List ℕ) (old now : Option (List ℕ)) (table : Table) (reader : Reading) (w : Written) (g : Goes given old now table reader w) →
+    now ≡ append_known old (take (length g.flushed + 0) (replies_bytes g.replies))
+none_written given old now table reader w g = g.held ∙ ap (append_known old) (sym (append-nil g.flushed) ∙ sym (front g.flushed w.bytes 0) ∙ ap (take (length g.flushed + 0)) g.bytes)
+
+-- the input has ended
+pub goes_end : (given more : List ℕ) (old now : Option (List ℕ)) (table : Table) (reader new : Reading) (w : Written) → Goes given old now table reader w → IsReady reader w →
+    new.taken ≡ reader.taken + length more → IsStill more reader new → Answers more reader new End → Completes (given ++ more) w.clean old now
+goes_end given more old now table reader new w g r t s a =
+    let none = parts_empty reader.pending more a.1 in
+    let all : w.bytes ≡ [] = (elim r [ inl x ↦ x | inr y ↦ absurd (empty_lacks reader.pending none.0 y) ]) in
+    let done : cut (given ++ more) ≡ g.done =
+    (ap cut (sym (append-nil (given ++ more)) ∙ append_assoc given more []) ∙ g.cuts (more ++ []) (λ (e : reader.ended ≡ true). (append-nil more ∙ none.1))
+    ∙ ap (λ (x : List ℕ). g.done ++ cut (reader.pending ++ x)) (append-nil more) ∙ ap (λ (x : List ℕ). g.done ++ cut x) a.1 ∙ append-nil g.done) in
+    record {
+      table = table;
+      replies = g.replies;
+      run = run_of_cut [] (lines (given ++ more)) g.replies table (subst (λ (x : List (List ℕ)). Run [] x g.replies table) (sym done) g.run);
+      held = all_written given old now table reader w g all;
+      verdict = sym g.clean;
+    }
+
+-- a read failed
+pub goes_failed : (given more : List ℕ) (old now : Option (List ℕ)) (table : Table) (reader new : Reading) (w : Written) → Goes given old now table reader w → w.bytes ≡ [] →
+    new.taken ≡ reader.taken + length more → IsStill more reader new → new.ended ≡ false → Answers more reader new Failed → AnswersWhole (given ++ more) old now
+goes_failed given more old now table reader new w g all t s going a =
+    let open_reader : reader.ended ≡ true → ⊥ = λ (e : reader.ended ≡ true). (let no : true ≡ false = sym (s e).0 ∙ going in cc) in
+    whole_of_cut (given ++ more) g.done (take 65536 (strip_carriage_return new.pending)) old now table g.replies
+    (ap cut (append_assoc given more (10 ∷ [])) ∙ g.cuts (more ++ 10 ∷ []) (λ (e : reader.ended ≡ true). absurd (open_reader e))
+    ∙ ap (λ (x : List (List ℕ)). g.done ++ x) (a.0 (10 ∷ []) ∙ cut_at new.pending [] a.1))
+    g.run (all_written given old now table reader w g all)
+
+-- too many bytes were given
+pub goes_too_long : (given more : List ℕ) (old now : Option (List ℕ)) (table : Table) (reader new : Reading) (w : Written) → Goes given old now table reader w →
+    new.taken ≡ reader.taken + length more → IsStill more reader new → Answers more reader new TooLong → WritesPrefix (given ++ more) old now
+goes_too_long given more old now table reader new w g t s a =
+    prefix_of_cut (given ++ more) g.done (cut (new.pending ++ [])) old now table g.replies (length g.flushed + 0)
+    (ap cut (sym (append-nil (given ++ more)) ∙ append_assoc given more [])
+    ∙ g.cuts (more ++ []) (nothing_more more [] reader new t s (λ (e : new.ended ≡ true). refl)) ∙ ap (λ (x : List (List ℕ)). g.done ++ x) (a []))
+    g.run (none_written given old now table reader w g)
+
+-- a line was taken, and its reply wasn't had
+pub goes_unanswered : (given more : List ℕ) (old now : Option (List ℕ)) (table : Table) (reader new : Reading) (w : Written) → Goes given old now table reader w →
+    new.taken ≡ reader.taken + length more → IsStill more reader new → Answers more reader new Line → WritesPrefix (given ++ more) old now
+goes_unanswered given more old now table reader new w g t s a =
+    prefix_of_cut (given ++ more) g.done (new.line ∷ cut (new.pending ++ [])) old now table g.replies (length g.flushed + 0)
+    (ap cut (sym (append-nil (given ++ more)) ∙ append_assoc given more [])
+    ∙ g.cuts (more ++ []) (nothing_more more [] reader new t s (λ (e : new.ended ≡ true). refl)) ∙ ap (λ (x : List (List ℕ)). g.done ++ x) (a.0 [] (λ (e : new.ended ≡ true). refl)))
+    g.run (none_written given old now table reader w g)
+
+-- nothing is a front of the replies to no line
+pub nothing_streamed : (held : Option (List ℕ)) → WritesPrefix [] held held
+nothing_streamed held = record {
+  answered = [];
+  others = lines [];
+  cut = refl;
+  table = [];
+  replies = [];
+  run = refl;
+  count = 0;
+  held = sym (append_known-nil held);
+}
+
+pub few_taken : (A : Type 0) (n : ℕ) → A ↔ (67108864 < n) → (A → ⊥) → n ≤ 67108864
+few_taken A n h never = elim (cases_lt 67108864 n) [ inl x ↦ absurd (never (h.1 x)) | inr y ↦ y ]
+
+pub size_given : (given more : List ℕ) (reader new : Reading) → reader.taken ≡ length given → new.taken ≡ reader.taken + length more → new.taken ≡ length (given ++ more)
+size_given given more reader new e t = omega (arith, e, t, length-append given more)
+
+pub match_true : (b : Bool) (A B : Type 0) → b ≡ true → MatchBool b A B → A
+match_true true A B e h = h
+match_true false A B e h = cc
+
+pub match_false : (b : Bool) (A B : Type 0) → b ≡ false → MatchBool b A B → B
+match_false true A B e h = cc
+match_false false A B e h = h

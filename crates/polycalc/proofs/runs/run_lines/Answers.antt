@@ -1,0 +1,231 @@
+use Rattle.std.proofs.Common.{◌≡◌, ℕ, List, ◌++◌, [], take, Bool, true, false, ap, sym, refl, subst, ◌∙◌, arith, inl, inr}
+use Rattle.std.specs.Prelude.{Contains}
+use Rattle.poly_io.specs.Cut.{LacksFeed}
+use Rattle.std.specs.Io.KnownBytes.{append_known, prepend_known}
+use Rattle.poly_io.specs.LineReading.{Reading}
+use Rattle.poly_io.specs.declared.line_reader.LineAns.TheVariants.{Line, End, Failed, TooLong}
+use Rattle.poly_io.proofs.Known.{prepend_known-then, prepend_known-nil}
+use Rattle.calc_state.specs.Step.{Step}
+use Rattle.calc_state.specs.Table.{Table}
+use Rattle.polycalc.specs.Replies.{Written, written}
+use Rattle.polycalc.specs.Outcomes.{Completes}
+use Rattle.polycalc.proofs.StreamLaws.{Goes, start_reading, goes_start, goes_line, goes_written, front_of_goes, goes_end, goes_failed, goes_too_long, goes_unanswered, nothing_streamed, few_taken, size_given, match_true}
+use Rattle.polycalc.proofs.runs.run_lines.Goals as goal
+
+pub returns-in_default-clause-outcome : goal.returns-in_default-clause-outcome
+returns-in_default-clause-outcome g c =
+    ([], sym (prepend_known-nil (g.S.Source.left c.args.source.now)), (omega arith, nothing_streamed (g.W.Sink.held c.args.sink.now)))
+
+pub loop-replies-init : goal.loop-replies-init
+loop-replies-init g c =
+    let fresh : c.in-Ok.reader ≡ start_reading = c.in-Ok.ensures in
+    let held = g.W.Sink.held c.args.sink.now in
+    let fresh_goes : Goes [] held held c.new-calc.result c.in-Ok.reader c.new-replies.result =
+    subst (λ (w : Written). Goes [] held held c.new-calc.result c.in-Ok.reader w) (sym c.new-replies.ensures)
+    (subst (λ (t : Table). Goes [] held held t c.in-Ok.reader (written [])) (sym c.new-calc.ensures) (goes_start held c.in-Ok.reader fresh)) in (
+      [],
+      sym (prepend_known-nil (g.S.Source.left c.args.source.now)),
+      fresh_goes,
+      inl (ap (λ (w : Written). w.bytes) c.new-replies.ensures),
+      λ (e : c.in-Ok.reader.ended ≡ true). (let no : true ≡ false = sym e ∙ ap (λ (r : Reading). r.ended) fresh in cc),
+      omega arith,
+      omega arith,
+      omega (arith, ap (λ (r : Reading). r.taken) fresh),
+    )
+
+pub returns-in-End-clause-outcome : goal.returns-in-End-clause-outcome
+returns-in-End-clause-outcome g c =
+    let h = c.loop-replies.invariant in
+    let e = c.in-End.ensures in
+    let a = e.given in
+    let left = g.S.Source.left in
+    let held = g.W.Sink.held in
+    let few = few_taken (End ≡ TooLong) c.next.new.self.taken e.too_long (λ (i : End ≡ TooLong). cc) in
+    let size = size_given h.0 a.0 c.loop-replies.reader c.next.new.self h.2.size a.2 in (
+      h.0 ++ a.0,
+      prepend_known-then h.0 a.0 (left c.args.source.now) (left c.loop-replies.source) (left c.next.new.source) h.1 a.1,
+      (
+        omega (arith, few, size),
+        e.ended a.3.0,
+        subst (λ (b : Bool). Completes (h.0 ++ a.0) b (held c.args.sink.now) (held c.loop-replies.sink)) (sym c.is_clean.ensures ∙ c.if-is_clean.true)
+            (goes_end h.0 a.0 (held c.args.sink.now) (held c.loop-replies.sink) c.loop-replies.calc c.loop-replies.reader c.next.new.self c.loop-replies.replies h.2 h.3 a.2 e.still a.3),
+      ),
+    )
+
+pub returns-in-End-2-clause-outcome : goal.returns-in-End-2-clause-outcome
+returns-in-End-2-clause-outcome g c =
+    let h = c.loop-replies.invariant in
+    let e = c.in-End-2.ensures in
+    let a = e.given in
+    let left = g.S.Source.left in
+    let held = g.W.Sink.held in
+    let few = few_taken (End ≡ TooLong) c.next.new.self.taken e.too_long (λ (i : End ≡ TooLong). cc) in
+    let size = size_given h.0 a.0 c.loop-replies.reader c.next.new.self h.2.size a.2 in (
+      h.0 ++ a.0,
+      prepend_known-then h.0 a.0 (left c.args.source.now) (left c.loop-replies.source) (left c.next.new.source) h.1 a.1,
+      (
+        omega (arith, few, size),
+        e.ended a.3.0,
+        subst (λ (b : Bool). Completes (h.0 ++ a.0) b (held c.args.sink.now) (held c.loop-replies.sink)) (sym c.is_clean.ensures ∙ c.if-is_clean.false)
+            (goes_end h.0 a.0 (held c.args.sink.now) (held c.loop-replies.sink) c.loop-replies.calc c.loop-replies.reader c.next.new.self c.loop-replies.replies h.2 h.3 a.2 e.still a.3),
+      ),
+    )
+
+pub returns-in-Failed-clause-outcome : goal.returns-in-Failed-clause-outcome
+returns-in-Failed-clause-outcome g c =
+    let h = c.loop-replies.invariant in
+    let e = c.in-Failed.ensures in
+    let a = e.given in
+    let left = g.S.Source.left in
+    let held = g.W.Sink.held in
+    let few = few_taken (Failed ≡ TooLong) c.next.new.self.taken e.too_long (λ (i : Failed ≡ TooLong). cc) in
+    let size = size_given h.0 a.0 c.loop-replies.reader c.next.new.self h.2.size a.2 in
+    let written : c.loop-replies.replies.bytes ≡ [] = (elim h.3 [ inl x ↦ x | inr y ↦ (let no : Failed ≡ Line = (e.unread h.7 y).0 in cc) ]) in (
+      h.0 ++ a.0,
+      prepend_known-then h.0 a.0 (left c.args.source.now) (left c.loop-replies.source) (left c.next.new.source) h.1 a.1,
+      (
+        omega (arith, few, size),
+        goes_failed h.0 a.0 (held c.args.sink.now) (held c.loop-replies.sink) c.loop-replies.calc c.loop-replies.reader c.next.new.self c.loop-replies.replies h.2 written a.2 e.still (e.going refl) a.3,
+      ),
+    )
+
+pub returns-in-TooLong-clause-outcome : goal.returns-in-TooLong-clause-outcome
+returns-in-TooLong-clause-outcome g c =
+    let h = c.loop-replies.invariant in
+    let e = c.in-TooLong.ensures in
+    let a = e.given in
+    let left = g.S.Source.left in
+    let held = g.W.Sink.held in
+    let many = e.too_long.0 refl in
+    let size = size_given h.0 a.0 c.loop-replies.reader c.next.new.self h.2.size a.2 in (
+      h.0 ++ a.0,
+      prepend_known-then h.0 a.0 (left c.args.source.now) (left c.loop-replies.source) (left c.next.new.source) h.1 a.1,
+      (
+        omega (arith, many, size),
+        omega (arith, e.bounded, size),
+        goes_too_long h.0 a.0 (held c.args.sink.now) (held c.loop-replies.sink) c.loop-replies.calc c.loop-replies.reader c.next.new.self c.loop-replies.replies h.2 a.2 e.still a.3,
+      ),
+    )
+
+pub returns-in_default-reply_to-clause-outcome : goal.returns-in_default-reply_to-clause-outcome
+returns-in_default-reply_to-clause-outcome g c =
+    let h = c.loop-replies.invariant in
+    let e = c.in-Line.ensures in
+    let a = e.given in
+    let left = g.S.Source.left in
+    let held = g.W.Sink.held in
+    let few = few_taken (Line ≡ TooLong) c.next.new.self.taken e.too_long (λ (i : Line ≡ TooLong). cc) in
+    let size = size_given h.0 a.0 c.loop-replies.reader c.next.new.self h.2.size a.2 in (
+      h.0 ++ a.0,
+      prepend_known-then h.0 a.0 (left c.args.source.now) (left c.loop-replies.source) (left c.next.new.source) h.1 a.1,
+      (
+        omega (arith, few, size),
+        goes_unanswered h.0 a.0 (held c.args.sink.now) (held c.loop-replies.sink) c.loop-replies.calc c.loop-replies.reader c.next.new.self c.loop-replies.replies h.2 a.2 e.still a.3,
+      ),
+    )
+
+pub loop-replies-preserved-in-Ok-write_all : goal.loop-replies-preserved-in-Ok-write_all
+loop-replies-preserved-in-Ok-write_all g c =
+    let h = c.loop-replies.invariant in
+    let e = c.in-Line.ensures in
+    let a = e.given in
+    let left = g.S.Source.left in
+    let held = g.W.Sink.held in
+    let new = c.next.new.self in
+    let s = c.in-Ok-reply_to.ensures in
+    let few = few_taken (Line ≡ TooLong) new.taken e.too_long (λ (i : Line ≡ TooLong). cc) in
+    let size = size_given h.0 a.0 c.loop-replies.reader new h.2.size a.2 in
+    let step : Step c.loop-replies.calc new.line s.0 c.reply_to.new.calc = subst (λ (x : List ℕ). Step c.loop-replies.calc x s.0 c.reply_to.new.calc) c.line.ensures s.1 in
+    let more = goes_line h.0 a.0 (held c.args.sink.now) (held c.loop-replies.sink) c.loop-replies.calc c.reply_to.new.calc c.loop-replies.reader new c.loop-replies.replies c.reply_to.new.replies s.0
+    h.2 a.2 e.still a.3 step s.2 in
+    let given : left c.args.source.now ≡ prepend_known (h.0 ++ a.0) (left c.next.new.source) =
+    prepend_known-then h.0 a.0 (left c.args.source.now) (left c.loop-replies.source) (left c.next.new.source) h.1 a.1 in
+    let none : c.clear.new.self.bytes ≡ [] = ap (λ (w : Written). w.bytes) c.clear.ensures in (
+      h.0 ++ a.0,
+      given,
+      goes_written (h.0 ++ a.0) (held c.args.sink.now) (held c.loop-replies.sink) (held c.write_all.new.sink) c.reply_to.new.calc new c.reply_to.new.replies c.clear.new.self more
+          (c.in-Ok-write_all.ensures.written ∙ ap (append_known (held c.loop-replies.sink)) c.bytes.ensures) none (ap (λ (w : Written). w.clean) c.clear.ensures),
+      inl none,
+      e.ended,
+      omega (arith, h.5, e.counted),
+      omega (arith, h.6, c.write_all.ensures.counted),
+      few,
+    )
+
+pub returns-in-Err-Failed-clause-outcome : goal.returns-in-Err-Failed-clause-outcome
+returns-in-Err-Failed-clause-outcome g c =
+    let h = c.loop-replies.invariant in
+    let e = c.in-Line.ensures in
+    let a = e.given in
+    let left = g.S.Source.left in
+    let held = g.W.Sink.held in
+    let new = c.next.new.self in
+    let s = c.in-Ok-reply_to.ensures in
+    let few = few_taken (Line ≡ TooLong) new.taken e.too_long (λ (i : Line ≡ TooLong). cc) in
+    let size = size_given h.0 a.0 c.loop-replies.reader new h.2.size a.2 in
+    let step : Step c.loop-replies.calc new.line s.0 c.reply_to.new.calc = subst (λ (x : List ℕ). Step c.loop-replies.calc x s.0 c.reply_to.new.calc) c.line.ensures s.1 in
+    let more = goes_line h.0 a.0 (held c.args.sink.now) (held c.loop-replies.sink) c.loop-replies.calc c.reply_to.new.calc c.loop-replies.reader new c.loop-replies.replies c.reply_to.new.replies s.0
+    h.2 a.2 e.still a.3 step s.2 in
+    let given : left c.args.source.now ≡ prepend_known (h.0 ++ a.0) (left c.next.new.source) =
+    prepend_known-then h.0 a.0 (left c.args.source.now) (left c.loop-replies.source) (left c.next.new.source) h.1 a.1 in
+    let p = c.in-Err-Failed.ensures.partly in (
+      h.0 ++ a.0,
+      given,
+      (
+        omega (arith, few, size),
+        front_of_goes (h.0 ++ a.0) (held c.args.sink.now) (held c.loop-replies.sink) (held c.write_all.new.sink) c.reply_to.new.calc new c.reply_to.new.replies p.0 more
+            (p.1 ∙ ap (λ (x : List ℕ). append_known (held c.loop-replies.sink) (take p.0 x)) c.bytes.ensures),
+      ),
+    )
+
+pub returns-in-Err-Memory-clause-outcome : goal.returns-in-Err-Memory-clause-outcome
+returns-in-Err-Memory-clause-outcome g c =
+    let h = c.loop-replies.invariant in
+    let e = c.in-Line.ensures in
+    let a = e.given in
+    let left = g.S.Source.left in
+    let held = g.W.Sink.held in
+    let new = c.next.new.self in
+    let s = c.in-Ok-reply_to.ensures in
+    let few = few_taken (Line ≡ TooLong) new.taken e.too_long (λ (i : Line ≡ TooLong). cc) in
+    let size = size_given h.0 a.0 c.loop-replies.reader new h.2.size a.2 in
+    let step : Step c.loop-replies.calc new.line s.0 c.reply_to.new.calc = subst (λ (x : List ℕ). Step c.loop-replies.calc x s.0 c.reply_to.new.calc) c.line.ensures s.1 in
+    let more = goes_line h.0 a.0 (held c.args.sink.now) (held c.loop-replies.sink) c.loop-replies.calc c.reply_to.new.calc c.loop-replies.reader new c.loop-replies.replies c.reply_to.new.replies s.0
+    h.2 a.2 e.still a.3 step s.2 in
+    let given : left c.args.source.now ≡ prepend_known (h.0 ++ a.0) (left c.next.new.source) =
+    prepend_known-then h.0 a.0 (left c.args.source.now) (left c.loop-replies.source) (left c.next.new.source) h.1 a.1 in
+    let p = c.in-Err-Memory.ensures.partly in (
+      h.0 ++ a.0,
+      given,
+      (
+        omega (arith, few, size),
+        front_of_goes (h.0 ++ a.0) (held c.args.sink.now) (held c.loop-replies.sink) (held c.write_all.new.sink) c.reply_to.new.calc new c.reply_to.new.replies p.0 more
+            (p.1 ∙ ap (λ (x : List ℕ). append_known (held c.loop-replies.sink) (take p.0 x)) c.bytes.ensures),
+      ),
+    )
+
+pub loop-replies-preserved : goal.loop-replies-preserved
+loop-replies-preserved g c =
+    let h = c.loop-replies.invariant in
+    let e = c.in-Line.ensures in
+    let a = e.given in
+    let left = g.S.Source.left in
+    let held = g.W.Sink.held in
+    let new = c.next.new.self in
+    let s = c.in-Ok-reply_to.ensures in
+    let few = few_taken (Line ≡ TooLong) new.taken e.too_long (λ (i : Line ≡ TooLong). cc) in
+    let size = size_given h.0 a.0 c.loop-replies.reader new h.2.size a.2 in
+    let step : Step c.loop-replies.calc new.line s.0 c.reply_to.new.calc = subst (λ (x : List ℕ). Step c.loop-replies.calc x s.0 c.reply_to.new.calc) c.line.ensures s.1 in
+    let more = goes_line h.0 a.0 (held c.args.sink.now) (held c.loop-replies.sink) c.loop-replies.calc c.reply_to.new.calc c.loop-replies.reader new c.loop-replies.replies c.reply_to.new.replies s.0
+    h.2 a.2 e.still a.3 step s.2 in
+    let given : left c.args.source.now ≡ prepend_known (h.0 ++ a.0) (left c.next.new.source) =
+    prepend_known-then h.0 a.0 (left c.args.source.now) (left c.loop-replies.source) (left c.next.new.source) h.1 a.1 in (
+      h.0 ++ a.0,
+      given,
+      more,
+      inr (match_true c.has_line.result (Contains new.pending 10) (LacksFeed new.pending) c.if-not-has_line.false c.has_line.ensures),
+      e.ended,
+      omega (arith, h.5, e.counted),
+      h.6,
+      few,
+    )
