@@ -5,9 +5,10 @@ use Rattle.std.proofs.lemmas.Bool.{cases_lt}
 use Rattle.std.specs.Str.Lines.{lines, strip_carriage_return}
 use Rattle.std.specs.Io.KnownBytes.{append_known}
 use Rattle.std.proofs.lemmas.List.{append-nil}
+use Rattle.std.proofs.lemmas.List.Elements.{All-append}
 use Rattle.std.proofs.Math.Seq.{take-add, drop-append_seam, take-append_seam}
-use Rattle.poly_io.specs.Cut.{cut}
-use Rattle.poly_io.specs.LineReading.{Reading, Answers}
+use Rattle.poly_io.specs.Cut.{cut, is_feed, LacksFeed}
+use Rattle.poly_io.specs.LineReading.{Reading, Answers, EndsInOneRead}
 use Rattle.poly_io.specs.declared.line_reader.LineAns.TheVariants.{Line, End, Failed, TooLong}
 use Rattle.poly_io.proofs.CutLaws.{cut_at}
 use Rattle.poly_io.proofs.Known.{append_known-append, append_known-nil}
@@ -15,7 +16,7 @@ use Rattle.calc_state.specs.Table.{Table}
 use Rattle.calc_state.specs.Step.{Reply, Step}
 use Rattle.polycalc.specs.Replies.{Written, written, with_reply, reply_bytes, replies_bytes, is_answer, is_clean}
 use Rattle.polycalc.specs.Runs.{Run}
-use Rattle.polycalc.specs.Outcomes.{Completes, WritesPrefix, AnswersWhole}
+use Rattle.polycalc.specs.Outcomes.{Completes, WritesPrefix, AnswersWhole, AnswersEarlier}
 use Rattle.polycalc.proofs.RunLaws.{Run-then, written-more}
 use Rattle.polycalc.proofs.CutRuns.{run_of_cut, parts_of_cut, one_of_cut, run_of_part}
 
@@ -192,8 +193,25 @@ pub goes_too_long : (given more : List ℕ) (old now : Option (List ℕ)) (table
 goes_too_long given more old now table reader new w g t s a =
     prefix_of_cut (given ++ more) g.done (cut (new.pending ++ [])) old now table g.replies (length g.flushed + 0)
     (ap cut (sym (append-nil (given ++ more)) ∙ append_assoc given more [])
-    ∙ g.cuts (more ++ []) (nothing_more more [] reader new t s (λ (e : new.ended ≡ true). refl)) ∙ ap (λ (x : List (List ℕ)). g.done ++ x) (a []))
+    ∙ g.cuts (more ++ []) (nothing_more more [] reader new t s (λ (e : new.ended ≡ true). refl)) ∙ ap (λ (x : List (List ℕ)). g.done ++ x) (a.0 []))
     g.run (none_written given old now table reader w g)
+
+-- and all whole lines that were given before the last read are answered
+pub goes_earlier : (given more : List ℕ) (old now : Option (List ℕ)) (table : Table) (reader : Reading) (w : Written) → Goes given old now table reader w → w.bytes ≡ [] →
+    (reader.ended ≡ true → ⊥) → LacksFeed reader.pending → EndsInOneRead more → AnswersEarlier (given ++ more) old now
+goes_earlier given more old now table reader w g all going lacks q =
+    let line = reader.pending ++ q.quiet in
+    record {
+      earlier = given ++ q.quiet;
+      last = q.last;
+      parts = ap (λ (x : List ℕ). given ++ x) q.parts ∙ sym (append_assoc given q.quiet q.last);
+      few = q.few;
+      answers = whole_of_cut (given ++ q.quiet) g.done (take 65536 (strip_carriage_return line)) old now table g.replies
+          (ap cut (append_assoc given q.quiet (10 ∷ [])) ∙ g.cuts (q.quiet ++ 10 ∷ []) (λ (e : reader.ended ≡ true). absurd (going e))
+          ∙ ap (λ (x : List (List ℕ)). g.done ++ x)
+          (ap cut (sym (append_assoc reader.pending q.quiet (10 ∷ []))) ∙ cut_at line [] (All-append (λ (b : ℕ). is_feed b ≡ false) reader.pending q.quiet lacks q.lacks)))
+          g.run (all_written given old now table reader w g all);
+    }
 
 -- a line was taken, and its reply wasn't had
 pub goes_unanswered : (given more : List ℕ) (old now : Option (List ℕ)) (table : Table) (reader new : Reading) (w : Written) → Goes given old now table reader w →

@@ -42,6 +42,14 @@ pub record AnswersWhole (script : List ℕ) (old new : Option (List ℕ)) : Type
   pub run : Run [] whole replies table
   pub held : new ≡ append_known old (replies_bytes replies)
 
+-- what was held, and behind it the replies of a run over the whole lines of all bytes of the script but those of one read
+pub record AnswersEarlier (script : List ℕ) (old new : Option (List ℕ)) : Type 0 where
+  pub earlier : List ℕ
+  pub last : List ℕ
+  pub parts : script ≡ earlier ++ last
+  pub few : length last ≤ 2 ^ 16
+  pub answers : AnswersWhole earlier old new
+
 -- what came of the word run, after the source gave these bytes and now has those left
 abbrev pub Outcome : List ℕ → Option (List ℕ) → Option (List ℕ) → Option (List ℕ) → Status → Type 0
 Outcome given left old new Done = (length given ≤ 2 ^ 26) × IsAtEnd left × Completes given true old new
@@ -49,7 +57,7 @@ Outcome given left old new Refused = (length given ≤ 2 ^ 26) × IsAtEnd left �
 Outcome given left old new ReadFault = (length given ≤ 2 ^ 26) × AnswersWhole given old new
 Outcome given left old new WriteFault = (length given ≤ 2 ^ 26) × WritesPrefix given old new
 Outcome given left old new Memory = (length given ≤ 2 ^ 26) × WritesPrefix given old new
-Outcome given left old new InputTooLong = (2 ^ 26 < length given) × (length given ≤ 2 ^ 26 + 2 ^ 16) × WritesPrefix given old new
+Outcome given left old new InputTooLong = (2 ^ 26 < length given) × (length given ≤ 2 ^ 26 + 2 ^ 16) × WritesPrefix given old new × AnswersEarlier given old new
 Outcome given left old new Usage = ⊥
 
 -- the script is answered: behind what was held stand the replies of a run over its lines, from the table without names,

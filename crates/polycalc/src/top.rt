@@ -3,7 +3,7 @@ ghost use Rattle.std.specs.Prelude.{◌≡◌, ◌≢◌, ℕ, ◌+◌, ◌^◌,
 ghost use Rattle.std.specs.Io.KnownBytes.{prepend_known};
 ghost use Rattle.poly_io.specs.Counts.{HasRisen};
 ghost use Rattle.polycalc.specs.Words.{run_words};
-ghost use Rattle.polycalc.specs.Outcomes.{Ends, IsAnswered, WritesPrefix, AnswersWhole};
+ghost use Rattle.polycalc.specs.Outcomes.{Ends, IsAnswered, WritesPrefix, AnswersWhole, AnswersEarlier};
 
 use crate::runs::run_lines;
 use crate::status::Status;
@@ -42,7 +42,10 @@ pub fn polycalc<S: Source, W: Sink, L: Ledger>(
     // After a failed read all whole lines that the source gave are answered.
     ensures whole_lines { result ≡ Status.ReadFault → (given : List ℕ)
         × (S.left source.old ≡ prepend_known given (S.left source.new)) × AnswersWhole given (W.held sink.old) (W.held sink.new) }
-    // Otherwise a front of the replies to lines that were read is written.
+    // Where the script is too long, those that it gave before the last read are.
+    ensures earlier_lines { result ≡ Status.InputTooLong → (given : List ℕ)
+        × (S.left source.old ≡ prepend_known given (S.left source.new)) × AnswersEarlier given (W.held sink.old) (W.held sink.new) }
+    // A front of the replies to lines that were read is written, whatever else went wrong.
     ensures partly { (result ≡ Status.WriteFault) ⊎ (result ≡ Status.Memory) ⊎ (result ≡ Status.InputTooLong) → (given : List ℕ)
         × (S.left source.old ≡ prepend_known given (S.left source.new)) × WritesPrefix given (W.held sink.old) (W.held sink.new) }
 {

@@ -4,12 +4,13 @@ use Rattle.poly_io.specs.Cut.{LacksFeed}
 use Rattle.std.specs.Io.KnownBytes.{append_known, prepend_known}
 use Rattle.poly_io.specs.LineReading.{Reading}
 use Rattle.poly_io.specs.declared.line_reader.LineAns.TheVariants.{Line, End, Failed, TooLong}
+use Rattle.poly_io.proofs.CutLaws.{lacks_unless}
 use Rattle.poly_io.proofs.Known.{prepend_known-then, prepend_known-nil}
 use Rattle.calc_state.specs.Step.{Step}
 use Rattle.calc_state.specs.Table.{Table}
 use Rattle.polycalc.specs.Replies.{Written, written}
 use Rattle.polycalc.specs.Outcomes.{Completes}
-use Rattle.polycalc.proofs.StreamLaws.{Goes, start_reading, goes_start, goes_line, goes_written, front_of_goes, goes_end, goes_failed, goes_too_long, goes_unanswered, nothing_streamed, few_taken, size_given, match_true}
+use Rattle.polycalc.proofs.StreamLaws.{Goes, start_reading, goes_start, goes_line, goes_written, front_of_goes, goes_end, goes_failed, goes_too_long, goes_earlier, goes_unanswered, nothing_streamed, few_taken, size_given, match_true}
 use Rattle.polycalc.proofs.runs.run_lines.Goals as goal
 
 pub returns-in_default-clause-outcome : goal.returns-in_default-clause-outcome
@@ -97,6 +98,9 @@ returns-in-TooLong-clause-outcome g c =
     let left = g.S.Source.left in
     let held = g.W.Sink.held in
     let many = e.too_long.0 refl in
+    let no_line : Contains c.loop-replies.reader.pending 10 → ⊥ = λ (y : Contains c.loop-replies.reader.pending 10). (let no : TooLong ≡ Line = (e.unread h.7 y).0 in cc) in
+    let going : c.loop-replies.reader.ended ≡ true → ⊥ = λ (t : c.loop-replies.reader.ended ≡ true). (let same = (e.still t).1 in omega (arith, same, many, h.7)) in
+    let written : c.loop-replies.replies.bytes ≡ [] = (elim h.3 [ inl x ↦ x | inr y ↦ absurd (no_line y) ]) in
     let size = size_given h.0 a.0 c.loop-replies.reader c.next.new.self h.2.size a.2 in (
       h.0 ++ a.0,
       prepend_known-then h.0 a.0 (left c.args.source.now) (left c.loop-replies.source) (left c.next.new.source) h.1 a.1,
@@ -104,6 +108,8 @@ returns-in-TooLong-clause-outcome g c =
         omega (arith, many, size),
         omega (arith, e.bounded, size),
         goes_too_long h.0 a.0 (held c.args.sink.now) (held c.loop-replies.sink) c.loop-replies.calc c.loop-replies.reader c.next.new.self c.loop-replies.replies h.2 a.2 e.still a.3,
+        goes_earlier h.0 a.0 (held c.args.sink.now) (held c.loop-replies.sink) c.loop-replies.calc c.loop-replies.reader c.loop-replies.replies h.2 written going
+            (lacks_unless c.loop-replies.reader.pending no_line) a.3.1,
       ),
     )
 

@@ -1,15 +1,25 @@
-use Rattle.std.proofs.Common.{ℕ, List, ◌≡◌, ◌≤◌, ◌<◌, ◌-◌, ◌++◌, length, take, drop, true, false, ap, sym, ◌∙◌, arith, inr, length-drop, min, subst}
+use Rattle.std.proofs.Common.{ℕ, List, [], refl, inl, false, ◌≡◌, ◌≤◌, ◌<◌, ◌-◌, ◌++◌, length, take, drop, true, ap, sym, ◌∙◌, arith, inr, length-drop, min, subst}
 use Rattle.std.specs.Prelude.{Contains}
 use Rattle.std.specs.Io.KnownBytes.{IsAtEnd}
 use Rattle.std.proofs.lemmas.List.{length-take}
-use Rattle.poly_io.specs.Cut.{LacksFeed}
+use Rattle.std.proofs.lemmas.List.Elements.{All-nil}
+use Rattle.poly_io.specs.Cut.{is_feed, LacksFeed}
 use Rattle.poly_io.specs.LineReading.{Reading}
-use Rattle.poly_io.proofs.Known.{prepend_known-then}
+use Rattle.poly_io.proofs.Known.{prepend_known-then, prepend_known-nil}
 use Rattle.poly_io.proofs.CutLaws.{lacks_found, kept_lacks}
-use Rattle.poly_io.proofs.NextLaws.{line_given, rest_given, failed_given, follows_fill, no_feed, was_few, ended_more, cuts_told}
+use Rattle.poly_io.proofs.NextLaws.{follows_start, too_long_given, line_given, rest_given, failed_given, follows_fill, no_feed, was_few, ended_more, cuts_told}
 use Rattle.poly_io.specs.declared.line_reader.LineAns.TheVariants.{Line, Failed}
 use Rattle.poly_io.specs.declared.reading.ReadAns.TheVariants.{Failed as ReadFailed}
 use Rattle.poly_io.proofs.line_reader.LineReader.next.Goals as goal
+
+pub loop-self-init : goal.loop-self-init
+loop-self-init g c =
+    ([], sym (prepend_known-nil (g.S.Source.left c.args.source.now)), follows_start c.args.self.now, c.requires, omega arith, inl (refl, refl), omega arith, All-nil (λ (b : ℕ). is_feed b ≡ false))
+
+pub returns-then-self-gt-INPUT_LIMIT-clause-given : goal.returns-then-self-gt-INPUT_LIMIT-clause-given
+returns-then-self-gt-INPUT_LIMIT-clause-given g c =
+    let h = c.loop-self.invariant in
+    (h.0, h.1, h.2.taken, too_long_given h.0 c.args.self.now c.loop-self.self h.2)
 
 pub returns-in-Some-clause-given : goal.returns-in-Some-clause-given
 returns-in-Some-clause-given g c =
