@@ -80,7 +80,7 @@ fn con_row(alloc: Global, dim: usize, text: &[u8]) -> Result<OneCon, ValueErr>
     let (terms, state) = scan(alloc, text)?;
     let relation = state.relation();
     let cells = row_facing(alloc, dim, terms.as_slice(), relation)?;
-    let row = RowBuf::new(alloc, &cells)?;
+    let row = RowBuf::from_vec(cells);
     Ok(OneCon {
         row,
         kind: relation.kind(),
@@ -113,7 +113,7 @@ fn add_terms(
 {
     match row_facing(alloc, system.dim(), terms, relation) {
         Ok(cells) => {
-            system.push(&cells, relation.kind())?;
+            system.push_row(RowBuf::from_vec(cells), relation.kind())?;
             Ok(true)
         }
         Err(ValueErr::TooLarge) => Ok(false),

@@ -28,7 +28,7 @@ fn expr_row(alloc: Global, dim: usize, text: &[u8]) -> Result<RowBuf, ValueErr>
 {
     let (terms, _state) = scan(alloc, text)?;
     let cells = row_of(alloc, dim, terms.as_slice())?;
-    Ok(RowBuf::new(alloc, &cells)?)
+    Ok(RowBuf::from_vec(cells))
 }
 
 /// The row of an expression: in each column the sum of its variable's terms, and last the sum of
@@ -73,7 +73,7 @@ fn frac_row(alloc: Global, dim: usize, text: &[u8]) -> Result<Frac, ValueErr>
     ensures { MatchResult result (λ f. IsFracOf dim (ratio_read text.now) f.expr f.den) (IsRatioFault dim (ratio_read text.now)) }
 {
     let (cells, den) = ratio_row(alloc, dim, text)?;
-    let expr = RowBuf::new(alloc, &cells)?;
+    let expr = RowBuf::from_vec(cells);
     Ok(Frac { expr, den })
 }
 
@@ -83,7 +83,7 @@ fn point_row(alloc: Global, dim: usize, text: &[u8]) -> Result<RowBuf, ValueErr>
 {
     let (mut cells, divisor) = ratio_row(alloc, dim, text)?;
     cells[dim] = divisor;
-    Ok(RowBuf::new(alloc, &cells)?)
+    Ok(RowBuf::from_vec(cells))
 }
 
 /// The row of an expression and its divisor, which is 1 without a division.
