@@ -10,7 +10,7 @@ use Rattle.row_core.specs.Content.{IsPrimitive}
 use Rattle.sat_matrix.specs.Tables.{Table, marked}
 use Rattle.sat_matrix.proofs.Flat.{marked_skip, marked_take}
 use Rattle.cone_laws.specs.Steps.{sign, pair_at}
-use Rattle.cone_laws.proofs.Ring.{zero-mul, mul-zero}
+use Rattle.row_core.proofs.Ring.{zero-mul, mul-zero}
 use Rattle.chernikova.specs.Combinations.{IsCombined}
 use Rattle.chernikova.specs.Changes.{value_at, AreLowered, AreOthersLowered, with_upward, AreMade, IsPairCombined, IsCross, IsCrossesUpto, IsCrossesBelow, AreAllCrosses}
 use Rattle.chernikova.proofs.FactorLemmas.{magnitude_above, scale_more}

@@ -8,7 +8,7 @@ use Rattle.std.proofs.Math.Nat.{eq-zero_of_zero-dvd}
 use Rattle.std.proofs.lemmas.Int.{unsigned_abs-mul, ints, to_z-of_z, to_z_pos, fits_signed_from_abs}
 use Rattle.cone_laws.specs.Leaves.{AreFactors}
 use Rattle.cone_laws.specs.Steps.{sign}
-use Rattle.cone_laws.proofs.Ring.{ring, mul_comm, mul_assoc, mul-zero, one-mul, neg-mul, mul-positive, zero_of_mul, square_positive}
+use Rattle.row_core.proofs.Ring.{ring, mul_comm, mul_assoc, mul-zero, one-mul, neg-mul, mul-positive, zero_of_mul, square_positive}
 use Rattle.cone_laws.proofs.Columns.{cell-scale, cell-add}
 use Rattle.row_core.specs.Vectors.{cell, add, scale}
 use Rattle.row_core.specs.Content.{IsMultipleOf, IsPrimitive}

@@ -11,7 +11,7 @@ use Rattle.sat_matrix.specs.Tables.{Table, bits_of, conjunction, marked}
 use Rattle.sat_matrix.proofs.Flat.{length-conjunction}
 use Rattle.cone_laws.specs.Canon.{vector_at}
 use Rattle.cone_laws.specs.Steps.{sign, pair_at, IsPair}
-use Rattle.cone_laws.proofs.Ring.{ring, mul-zero, neg-mul, zero_of_mul, mul-at_least_zero, by_sign}
+use Rattle.row_core.proofs.Ring.{ring, mul-zero, neg-mul, zero_of_mul, mul-at_least_zero, by_sign}
 use Rattle.cone_laws.proofs.UptoRows.{IsSumOf, dot_sum}
 use Rattle.chernikova.specs.Combinations.{IsCombined}
 use Rattle.sat_matrix.specs.ZeroTables.{TellsZeros, IsZeroTable}

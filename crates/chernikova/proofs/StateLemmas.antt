@@ -9,7 +9,7 @@ use Rattle.row_core.specs.Lists.{Row, row_at, vectors, Pointwise}
 use Rattle.sat_matrix.specs.Tables.{Table, bits_of, marked, HasThird}
 use Rattle.cone_laws.specs.Canon.{vector_at}
 use Rattle.cone_laws.specs.Steps.{sign, pair_at, stays, IsLowered, IsLastCrossing, IsLineStep, IsMade, IsMadeOf, NoThird, IsCrossing, IsRayStep, upward}
-use Rattle.cone_laws.proofs.Ring.{ring, mul-zero, neg-mul, zero_of_mul}
+use Rattle.row_core.proofs.Ring.{ring, mul-zero, neg-mul, zero_of_mul}
 use Rattle.cone_laws.proofs.UptoRows.{IsSumOf, dot_sum}
 use Rattle.chernikova.specs.Combinations.{IsCombined}
 use Rattle.sat_matrix.specs.ZeroTables.{TellsZeros, IsZeroTable}

@@ -1,7 +1,7 @@
 -- The rays on which a map is 0, and the combinations of adjacent rays on its two sides, span all of the cone on which it is 0.
 use Rattle.std.proofs.Common.{◌≡◌, ◌≢◌, ◌⊎◌, inl, inr, ℕ, zero, suc, ◌<◌, ◌≤◌, ℤ, pos, ◌+ℤ◌, ◌-ℤ◌, ◌*ℤ◌, neg_ℤ, ◌≤ℤ◌, ◌<ℤ◌, refl, sym, ap, ◌∙◌, arith}
 use Rattle.std.proofs.lemmas.Int.{ints}
-use Rattle.cone_laws.proofs.Ring.{ring, mul_comm, mul-at_least_zero, mul-positive, neg-mul, mul-neg, mul-zero, zero-mul, zero_of_mul, by_sign}
+use Rattle.row_core.proofs.Ring.{ring, mul_comm, mul-at_least_zero, mul-positive, neg-mul, mul-neg, mul-zero, zero-mul, zero_of_mul, by_sign}
 use Rattle.cone_laws.proofs.Sums.{V, IsMore, Same, Among, Sums, none, line, ray, Nothing, SpansBy, IsLinear, same_value, sums_same, sums_zero, sums_one_ray, spans_sums, spans_of_multiple, spans_add, spans_from_lines}
 use Rattle.cone_laws.proofs.Supports.{support, IsZeroWith, support-le, support-lt, IsGreatest, HasGreatest, greatest_ratio}
 use Rattle.cone_laws.proofs.Face.{face, OnFace, zero_or_positive, same_without, same_beside}

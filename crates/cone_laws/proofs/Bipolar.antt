@@ -9,13 +9,13 @@ use Rattle.cone_laws.specs.Canon.{vector_at}
 use Rattle.cone_laws.specs.Steps.{IsRowAt, sign, upward}
 use Rattle.cone_laws.specs.StepLaws.{GeneratesUpto}
 use Rattle.cone_laws.specs.Duality.{lines_of, rays_of, IsAdmitted}
-use Rattle.cone_laws.proofs.Ring.{ring, mul-zero, same_or_not, square_positive}
+use Rattle.row_core.proofs.Ring.{ring, magnitude_positive, mul-zero, same_or_not, square_positive}
 use Rattle.cone_laws.proofs.Sums.{V, Among, SpansBy, none, sums_one_line, sums_one_ray, spans_sums, spans_more, spans_add, spans_of_multiple}
 use Rattle.cone_laws.proofs.Columns.{dot_comm, dot-scale, dot-negated, length-scale}
 use Rattle.cone_laws.proofs.Bridge.{In, from_sums}
 use Rattle.cone_laws.proofs.Spanning.{at_least_zero_on_spanned}
 use Rattle.cone_laws.proofs.UptoRows.{Asks, zero_asks, asks_least, IsSumOf, dot_sum, IsZeroOn, both_zero, scale_zero, upto_zero, upto_more}
-use Rattle.cone_laws.proofs.LineSteps.{LowersTo, magnitude_positive, lowered_within, negated_lowered_within, upward_dot, not_negative}
+use Rattle.cone_laws.proofs.LineSteps.{LowersTo, lowered_within, negated_lowered_within, upward_dot, not_negative}
 use Rattle.cone_laws.proofs.OppositeRays.{Stands, pair_within, lines_stay}
 use Rattle.cone_laws.proofs.Ratios.{shift}
 use Rattle.cone_laws.proofs.Existence.{both, cell-both, length-both, lowered_row, lowers_row, pair_row, pairs_row, Crosses, AllFlat, crossing_or_flat, row_is_at}
@@ -43,9 +43,6 @@ dot_zero (a ∷ v) h zero = square_zero a (omega (arith, ints, square_least a, d
 dot_zero (a ∷ v) h (suc j) = dot_zero v (omega (arith, ints, square_least a, dot_least v, h)) j
 
 -- ---- values of v on combinations
-once_value : (x y s u t w : ℤ) → x ≡ s *ℤ u +ℤ t *ℤ w → pos 1 *ℤ y ≡ x → y ≡ s *ℤ u +ℤ t *ℤ w
-once_value x y s u t w e f = omega (arith, ints, e, f)
-
 pub dot-both : (a : List ℤ) (s : ℤ) (u : List ℤ) (t : ℤ) (v : List ℤ) → dot a (both s u t v) ≡ s *ℤ dot a u +ℤ t *ℤ dot a v
 dot-both a s u t v =
     let c : IsSumOf (both s u t v) s u t v = record { times = pos 1; positive = omega (arith, ints); same = λ j. omega (arith, ints, cell-both s u t v j) } in

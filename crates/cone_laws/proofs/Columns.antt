@@ -1,15 +1,12 @@
 -- Lists of numbers as vectors by column: the entries of sums and multiples, and a row as a linear map.
-use Rattle.std.proofs.Common.{◌≡◌, ℕ, zero, suc, List, [], ◌∷◌, length, ℤ, pos, ◌+ℤ◌, ◌*ℤ◌, neg_ℤ, refl, sym, ap, ◌∙◌, arith}
+use Rattle.std.proofs.Common.{◌≡◌, ℕ, suc, List, [], ◌∷◌, ℤ, pos, ◌+ℤ◌, ◌*ℤ◌, neg_ℤ, refl, sym, ap, ◌∙◌, arith}
 use Rattle.std.proofs.lemmas.Int.{ints}
-use Rattle.row_core.specs.Vectors.{cell, dot, scale, add}
+use Rattle.row_core.specs.Vectors.{cell, dot, add}
 use Rattle.cone_laws.specs.Cones.{negated}
-use Rattle.cone_laws.proofs.Ring.{ring, mul_comm, mul-zero}
-use Rattle.cone_laws.proofs.Sums.{V, IsMore, IsLinear, same_value}
-
-pub cell-scale : (k : ℤ) (v : List ℤ) (j : ℕ) → cell (scale k v) j ≡ k *ℤ cell v j
-cell-scale k [] j = sym (mul-zero k)
-cell-scale k (a ∷ v) zero = refl
-cell-scale k (a ∷ v) (suc j) = cell-scale k v j
+use Rattle.row_core.proofs.Ring.{ring}
+pub use Rattle.row_core.proofs.CellLemmas.{cell-scale, length-scale, cell-add, length-add}
+pub use Rattle.row_core.proofs.DotLemmas.{dot_comm, dot-scale}
+use Rattle.cone_laws.proofs.Sums.{V, IsMore, IsLinear}
 
 negate_is : (x y : ℤ) → x ≡ neg_ℤ (pos 1) *ℤ y → x ≡ neg_ℤ y
 negate_is x y e = omega (arith, ints)
@@ -19,24 +16,6 @@ cell-negated v j = negate_is (cell (negated v) j) (cell v j) (cell-scale (neg_�
 
 add_zero : (x : ℤ) → x ≡ x +ℤ pos 0
 add_zero x = omega (arith, ints)
-
-zero_add_is : (x : ℤ) → x ≡ pos 0 +ℤ x
-zero_add_is x = omega (arith, ints)
-
-pub cell-add : (u v : List ℤ) (j : ℕ) → cell (add u v) j ≡ cell u j +ℤ cell v j
-cell-add [] v j = zero_add_is (cell v j)
-cell-add (a ∷ u) [] j = add_zero (cell (a ∷ u) j)
-cell-add (a ∷ u) (b ∷ v) zero = refl
-cell-add (a ∷ u) (b ∷ v) (suc j) = cell-add u v j
-
-pub length-scale : (k : ℤ) (v : List ℤ) → length (scale k v) ≡ length v
-length-scale k [] = refl
-length-scale k (a ∷ v) = ap suc (length-scale k v)
-
-pub length-add : (u v : List ℤ) → length u ≡ length v → length (add u v) ≡ length v
-length-add [] v e = refl
-length-add (a ∷ u) [] e = e
-length-add (a ∷ u) (b ∷ v) e = ap suc (length-add u v (omega arith))
 
 -- ---- a row as a map of vectors by column
 abbrev pub value : List ℤ → V → ℤ
@@ -77,24 +56,8 @@ dot_is (a ∷ u) [] = sym (zero_sum a (pos 0) (value u (λ j. pos 0)) refl (valu
 dot_is (a ∷ u) (b ∷ v) = ap (λ (z : ℤ). a *ℤ b +ℤ z) (dot_is u v)
 
 -- ---- dot, without a premise on widths
-pub dot_comm : (u v : List ℤ) → dot u v ≡ dot v u
-dot_comm [] [] = refl
-dot_comm [] (b ∷ v) = refl
-dot_comm (a ∷ u) [] = refl
-dot_comm (a ∷ u) (b ∷ v) = swapped a b (dot u v) (dot v u) (dot_comm u v)
-  where
-    swapped : (a b s t : ℤ) → s ≡ t → a *ℤ b +ℤ s ≡ b *ℤ a +ℤ t
-    swapped a b s t e = let f = mul_comm a b in omega (arith, ints)
-
--- equal entries give equal values
-pub dot_same : (a u v : List ℤ) → ((j : ℕ) → cell u j ≡ cell v j) → dot a u ≡ dot a v
-dot_same a u v e = dot_is a u ∙ same_value (value a) (value_linear a) (cell u) (cell v) e ∙ sym (dot_is a v)
-
 pub dot-multiple : (a w u : List ℤ) (k : ℤ) → ((j : ℕ) → cell w j ≡ k *ℤ cell u j) → dot a w ≡ k *ℤ dot a u
 dot-multiple a w u k e = dot_is a w ∙ value_multiple a (cell w) (cell u) k e ∙ ap (λ (z : ℤ). k *ℤ z) (sym (dot_is a u))
-
-pub dot-scale : (a : List ℤ) (k : ℤ) (v : List ℤ) → dot a (scale k v) ≡ k *ℤ dot a v
-dot-scale a k v = dot-multiple a (scale k v) v k (cell-scale k v)
 
 pub dot-negated : (a v : List ℤ) → dot a (negated v) ≡ neg_ℤ (dot a v)
 dot-negated a v = negate_is (dot a (negated v)) (dot a v) (dot-scale a (neg_ℤ (pos 1)) v)

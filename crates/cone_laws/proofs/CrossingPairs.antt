@@ -10,7 +10,7 @@ use Rattle.row_core.specs.Lists.{Row}
 use Rattle.cone_laws.specs.Canon.{vector_at}
 use Rattle.cone_laws.specs.Steps.{NoThird, IsCrossing, pair_at}
 use Rattle.cone_laws.specs.SystemLaws.{AreAllCrossings}
-use Rattle.cone_laws.proofs.Ring.{by_sign}
+use Rattle.row_core.proofs.Ring.{by_sign}
 use Rattle.cone_laws.proofs.ThirdRay.{IsThird, third_or_none}
 
 -- ---- whether two rays cross

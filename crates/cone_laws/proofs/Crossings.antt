@@ -1,7 +1,7 @@
 -- Lines on which a map is 0 and rays on both sides of it: what is spanned and on which the map is 0 is spanned by the lines, the rays on which it is 0 and the pairs of rays from the two sides.
 use Rattle.std.proofs.Common.{◌≡◌, ◌⊎◌, inl, inr, ℕ, ℤ, pos, ◌+ℤ◌, ◌-ℤ◌, ◌*ℤ◌, neg_ℤ, ◌≤ℤ◌, ◌<ℤ◌, refl, sym, ap, ◌∙◌, arith}
 use Rattle.std.proofs.lemmas.Int.{ints}
-use Rattle.cone_laws.proofs.Ring.{ring, mul_assoc, mul-zero, mul_comm, mul-at_least_zero, mul-positive, zero_of_mul, by_sign}
+use Rattle.row_core.proofs.Ring.{ring, mul_assoc, mul-zero, mul_comm, mul-at_least_zero, mul-positive, zero_of_mul, by_sign}
 use Rattle.cone_laws.proofs.Sums.{V, IsMore, Same, Nothing, Sums, none, line, ray, SpansBy, IsLinear, sums_same, sums_add, sums_scale, sums_more, sums_at_least_zero, sums_zero}
 
 -- the combination of two vectors on which the map is 0

@@ -1,6 +1,6 @@
 -- Reduced echelon form: the unit vectors have it, and both kinds of step keep it.
-use Rattle.std.specs.Prelude.{◌≡◌, ◌≢◌, ℕ, ◌+◌, ◌<◌, ◌≤◌, List, [], ◌∷◌, length, slice_index_or, remove, Bool, true, false, cond, if◌then◌else◌, ℤ, pos, negsuc, ◌-ℤ◌, ◌<ℤ◌, ◌⊎◌, All, filter, unsigned_abs, refl}
-use Prim.Native.Nat.{suc, zero, ◌∣◌}
+use Rattle.std.specs.Prelude.{◌≡◌, ◌≢◌, ℕ, ◌+◌, ◌<◌, ◌≤◌, List, [], ◌∷◌, length, slice_index_or, remove, Bool, true, false, cond, if◌then◌else◌, ℤ, pos, ◌-ℤ◌, ◌<ℤ◌, ◌⊎◌, All, filter, unsigned_abs}
+use Prim.Native.Nat.{◌∣◌}
 use lib.Dec.{ltb}
 use Rattle.std.proofs.Math.IntN.{◌*ℤ◌}
 use Rattle.std.proofs.Math.Nat.{eq-one_of_dvd-one}
@@ -15,7 +15,7 @@ use Rattle.row_core.specs.Lists.{Row}
 use Rattle.cone_laws.specs.Canon.{vector_at, IsPivot, IsEchelon}
 use Rattle.cone_laws.specs.Steps.{AreUnits, IsMade, pair_at, IsRayStep, stays, sign, IsLowered, upward, IsLineStep}
 use Rattle.cone_laws.proofs.Columns.{cell-scale}
-use Rattle.cone_laws.proofs.Ring.{zero_of_mul, positive_of_mul, mul-positive}
+use Rattle.row_core.proofs.Ring.{magnitude_positive, zero_of_mul, positive_of_mul, mul-positive}
 
 -- ---- the entries of a lowered vector
 pub lowered_zero : (t r n w c l : ℤ) → pos 0 <ℤ t → t *ℤ r ≡ n *ℤ w -ℤ c *ℤ l → w ≡ pos 0 → c *ℤ l ≡ pos 0 → r ≡ pos 0
@@ -29,11 +29,6 @@ zero_right c l e = ap (λ (z : ℤ). c *ℤ z) e ∙ omega (arith, ints)
 
 pub zero_left : (c l : ℤ) → c ≡ pos 0 → c *ℤ l ≡ pos 0
 zero_left c l e = ap (λ (z : ℤ). z *ℤ l) e ∙ omega (arith, ints)
-
-pub magnitude_positive : (a : ℤ) → a ≢ pos 0 → pos 0 <ℤ pos (unsigned_abs a)
-magnitude_positive (pos zero) h = absurd (h refl)
-magnitude_positive (pos (suc n)) h = omega (arith, ints)
-magnitude_positive (negsuc n) h = omega (arith, ints)
 
 -- ---- the places of a list less its element q
 pub old_place : ℕ → ℕ → ℕ

@@ -6,7 +6,7 @@ use Rattle.row_core.specs.Vectors.{cell, dot, scale, add}
 use Rattle.row_core.specs.Lists.{Row}
 use Rattle.cone_laws.specs.Canon.{vector_at}
 use Rattle.cone_laws.specs.Steps.{IsRowAt, IsPair, sign}
-use Rattle.cone_laws.proofs.Ring.{ring, same_or_not}
+use Rattle.row_core.proofs.Ring.{ring, same_or_not}
 use Rattle.cone_laws.proofs.Columns.{cell-add, cell-scale, length-add, length-scale}
 use Rattle.cone_laws.proofs.LineSteps.{LowersTo}
 

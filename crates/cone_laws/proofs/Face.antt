@@ -1,7 +1,7 @@
 -- The rays of a sum, where maps that are at least 0 on all rays are 0 on the sum.
 use Rattle.std.proofs.Common.{◌≡◌, ◌⊎◌, inl, inr, ℕ, zero, suc, ℤ, pos, negsuc, ◌+ℤ◌, ◌*ℤ◌, ◌≤ℤ◌, ◌<ℤ◌, refl, sym, ap, ◌∙◌, arith}
 use Rattle.std.proofs.lemmas.Int.{ints}
-use Rattle.cone_laws.proofs.Ring.{mul-at_least_zero, zero_of_mul, zero-mul, mul-zero}
+use Rattle.row_core.proofs.Ring.{mul-at_least_zero, zero_of_mul, zero-mul, mul-zero}
 use Rattle.cone_laws.proofs.Sums.{V, IsMore, Sums, none, line, ray, IsLinear, sums_same, sums_at_least_zero}
 
 -- a sum of two that are at least 0 is 0

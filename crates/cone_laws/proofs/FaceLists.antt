@@ -6,7 +6,7 @@ use Rattle.cone_laws.specs.Cones.{Upto, Generates}
 use Rattle.cone_laws.specs.Canon.{vector_at, IsIrredundant}
 use Rattle.cone_laws.specs.Steps.{NoThird}
 use Rattle.cone_laws.specs.AdjacencyLaws.{AreAdjacent, FaceLaw, NoRayIsIrredundant, RaysAreNotZero}
-use Rattle.cone_laws.proofs.Ring.{mul-zero}
+use Rattle.row_core.proofs.Ring.{mul-zero}
 use Rattle.cone_laws.proofs.Sums.{V, Same, none, SpansBy, IsLinear, same_value, sums_more, spans_more, spans_sums}
 use Rattle.cone_laws.proofs.Columns.{value, value_linear}
 use Rattle.cone_laws.proofs.Bridge.{columns, In, to_sums, from_sums}

@@ -9,7 +9,8 @@ use Rattle.std.proofs.lemmas.List.{get_or_past}
 use Rattle.std.proofs.lemmas.List.Elements.{All-append, All-take, All-drop, All-from_get_or}
 use Rattle.row_core.specs.Vectors.{cell, scale, add, combined}
 use Rattle.cone_laws.specs.Canon.{vector_at}
-use Rattle.cone_laws.proofs.Ring.{ring}
+use Rattle.row_core.proofs.Ring.{ring}
+pub use Rattle.row_core.proofs.CellLemmas.{combined-scale}
 use Rattle.cone_laws.proofs.Columns.{cell-scale, cell-add}
 use Rattle.cone_laws.proofs.EchelonForm.{zero_right, zero_left}
 
@@ -26,14 +27,6 @@ combined-add [] ys gs j = omega (arith, ints)
 combined-add (a ∷ xs) [] gs j = omega (arith, ints)
 combined-add (a ∷ xs) (b ∷ ys) [] j = refl
 combined-add (a ∷ xs) (b ∷ ys) (g ∷ gs) j = add_step a b (cell g j) (combined xs gs j) (combined ys gs j) (combined (add xs ys) gs j) (combined-add xs ys gs j)
-
-scale_step : (c a g x z : ℤ) → z ≡ c *ℤ x → (c *ℤ a) *ℤ g +ℤ z ≡ c *ℤ (a *ℤ g +ℤ x)
-scale_step c a g x z e = simp ring (omega (arith, ints, e))
-
-pub combined-scale : (c : ℤ) (xs : List ℤ) (gs : List (List ℤ)) (j : ℕ) → combined (scale c xs) gs j ≡ c *ℤ combined xs gs j
-combined-scale c [] gs j = sym (zero_right c (pos 0) refl)
-combined-scale c (a ∷ xs) [] j = sym (zero_right c (pos 0) refl)
-combined-scale c (a ∷ xs) (g ∷ gs) j = scale_step c a (cell g j) (combined xs gs j) (combined (scale c xs) gs j) (combined-scale c xs gs j)
 
 -- c times the one sum plus d times the other
 pub combined-both : (c d : ℤ) (xs ys : List ℤ) (gs : List (List ℤ)) (j : ℕ) → combined (add (scale c xs) (scale d ys)) gs j ≡ c *ℤ combined xs gs j +ℤ d *ℤ combined ys gs j

@@ -20,7 +20,6 @@ pub mod GeneratedSteps
 pub mod Ratios
 pub mod Existence
 pub mod Bipolar
-pub mod PointwiseLists
 pub mod Spare
 pub mod Instance
 pub mod Filtered

@@ -7,11 +7,11 @@ use Rattle.row_core.specs.Vectors.{cell, dot}
 use Rattle.row_core.specs.Lists.{Row, Pointwise}
 use Rattle.cone_laws.specs.Canon.{vector_at, IsIrredundant}
 use Rattle.cone_laws.specs.Steps.{IsLowered, IsLoweredBy, sign, upward, IsLineStep}
-use Rattle.cone_laws.proofs.Ring.{neg-mul, zero_of_mul}
+use Rattle.row_core.proofs.Ring.{neg-mul, magnitude_positive, zero_of_mul}
 use Rattle.cone_laws.proofs.Sums.{V, Same, Nothing, SpansBy, same_value, sums_zero, sums_one_line, sums_one_ray, spans_sums, spans_same, spans_of_multiple, spans_add, spans_spans}
 use Rattle.cone_laws.proofs.Columns.{value, value_linear, dot_is, cell-scale}
 use Rattle.cone_laws.proofs.Bridge.{columns, In, in_at}
-use Rattle.cone_laws.proofs.LineSteps.{rest_in_whole, magnitude_positive, lowered_dot, upward_dot}
+use Rattle.cone_laws.proofs.LineSteps.{rest_in_whole, lowered_dot, upward_dot}
 use Rattle.cone_laws.proofs.Instance.{Beside, needed_by_columns, needed_by_lists}
 
 module _ (a l : List ℤ) (crosses : dot a l ≢ pos 0) (lines rays kept : List (List ℤ)) (to_kept : Pointwise (IsLowered a l) rays kept) (is_line : In lines (cell l)) where

@@ -10,7 +10,7 @@ use Rattle.row_core.specs.Lists.{Row, Pointwise}
 use Rattle.cone_laws.specs.Cones.{Upto, Generates, HasLineality, negated}
 use Rattle.cone_laws.specs.Canon.{vector_at}
 use Rattle.cone_laws.specs.Steps.{IsRowAt, IsLoweredBy, sign, upward}
-use Rattle.cone_laws.proofs.Ring.{ring, mul_assoc, mul_comm, zero_of_mul}
+use Rattle.row_core.proofs.Ring.{ring, magnitude_positive, mul_assoc, mul_comm, zero_of_mul}
 use Rattle.cone_laws.proofs.Sums.{V, Same, Nothing, SpansBy, sums_one_line, sums_one_ray, spans_sums, spans_spans, same_value}
 use Rattle.cone_laws.proofs.Columns.{value, value_linear, dot_is, dot-scale, dot-negated, cell-scale, cell-negated, length-scale}
 use Rattle.cone_laws.proofs.Bridge.{In, in_at, columns, to_sums, to_lines, from_sums, from_lines}
@@ -27,11 +27,6 @@ pub sign_square : (x : ℤ) → x ≢ pos 0 → sign x *ℤ sign x ≡ pos 1
 sign_square (pos zero) h = absurd (h refl)
 sign_square (pos (suc n)) h = refl
 sign_square (negsuc n) h = refl
-
-pub magnitude_positive : (x : ℤ) → x ≢ pos 0 → pos 0 <ℤ pos (unsigned_abs x)
-magnitude_positive (pos zero) h = absurd (h refl)
-magnitude_positive (pos (suc n)) h = omega (arith, ints)
-magnitude_positive (negsuc n) h = omega (arith, ints)
 
 -- ---- numbers of a lowered vector
 as_sum : (x p u q v : ℤ) → x ≡ p *ℤ u -ℤ q *ℤ v → x ≡ p *ℤ u +ℤ neg_ℤ q *ℤ v

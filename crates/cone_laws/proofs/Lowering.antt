@@ -1,7 +1,7 @@
 -- A line on which a map is positive lowers all vectors onto the map's zeros: what is spanned and on which the map is 0 is spanned by the lowered lines and rays.
 use Rattle.std.proofs.Common.{◌≡◌, ◌⊎◌, inl, inr, ℕ, ℤ, pos, ◌+ℤ◌, ◌-ℤ◌, ◌*ℤ◌, ◌≤ℤ◌, ◌<ℤ◌, refl, ap, ◌∙◌, arith}
 use Rattle.std.proofs.lemmas.Int.{ints}
-use Rattle.cone_laws.proofs.Ring.{ring, mul-zero, mul-at_least_zero, mul-positive}
+use Rattle.row_core.proofs.Ring.{ring, mul-zero, mul-at_least_zero, mul-positive}
 use Rattle.cone_laws.proofs.Sums.{V, IsMore, Same, Sums, none, line, ray, SpansBy, IsLinear, sums_same, sums_add, sums_more, sums_one_ray}
 
 -- so much of e is taken from v that the map is 0 on the rest

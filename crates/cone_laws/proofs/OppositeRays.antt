@@ -7,7 +7,7 @@ use Rattle.row_core.specs.Lists.{Row}
 use Rattle.cone_laws.specs.Cones.{Upto, Generates, negated}
 use Rattle.cone_laws.specs.Canon.{vector_at}
 use Rattle.cone_laws.specs.Steps.{IsRowAt, IsPair}
-use Rattle.cone_laws.proofs.Ring.{ring, zero_of_mul}
+use Rattle.row_core.proofs.Ring.{ring, zero_of_mul}
 use Rattle.cone_laws.proofs.Columns.{dot-negated}
 use Rattle.cone_laws.proofs.UptoRows.{zero_asks, IsSumOf, dot_sum, upto_sum, upto_more}
 

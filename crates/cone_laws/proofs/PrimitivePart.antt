@@ -94,6 +94,6 @@ primitive_sum s x t y e = from_part (primitive_part (add (scale s x) (scale t y)
             ∙ ap (λ (z : ℤ). z +ℤ cell (scale t y) j) (cell-scale s x j) ∙ ap (λ (z : ℤ). s *ℤ cell x j +ℤ z) (cell-scale t y j);
       };
       wide = sym (length-scale (pos p.is.multiple.times) p.part) ∙ ap (λ (v : List ℤ). length v) (sym p.is.multiple.same)
-          ∙ length-add (scale s x) (scale t y) (length-scale s x ∙ e ∙ sym (length-scale t y)) ∙ length-scale s x;
+          ∙ length-add (scale s x) (scale t y) (length-scale s x ∙ e ∙ sym (length-scale t y)) ∙ length-scale t y ∙ sym e;
       primitive = p.is.primitive;
     }

@@ -2,7 +2,7 @@
 use Rattle.std.proofs.Common.{◌≡◌, ◌⊎◌, inl, inr, ℕ, zero, suc, ◌<◌, ℤ, pos, ◌+ℤ◌, ◌-ℤ◌, ◌*ℤ◌, neg_ℤ, ◌≤ℤ◌, ◌<ℤ◌, ap, ◌∙◌, subst, arith}
 use Rattle.std.proofs.lemmas.Int.{ints}
 use Rattle.std.proofs.Math.Nat.{eq-or-lt_of_le}
-use Rattle.cone_laws.proofs.Ring.{ring, mul_comm, mul-zero, mul-at_least_zero, at_least_zero_of_mul, by_sign, at_least_zero_or_not}
+use Rattle.row_core.proofs.Ring.{ring, mul_comm, mul-zero, mul-at_least_zero, at_least_zero_of_mul, by_sign, at_least_zero_or_not}
 
 -- ---- the least ratio of y to x
 record Least (count : ℕ) (x y : ℕ → ℤ) : Type 0 where

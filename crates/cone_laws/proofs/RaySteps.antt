@@ -12,7 +12,7 @@ use Rattle.cone_laws.specs.Cones.{Upto, Generates, HasLineality, negated}
 use Rattle.cone_laws.specs.Canon.{vector_at, IsIrredundant}
 use Rattle.cone_laws.specs.Steps.{IsRowAt, NoThird, IsOpposite, IsCrossing, IsPair, stays, pair_at, IsRayStep}
 use Rattle.cone_laws.specs.AdjacencyLaws.{IsMinimal}
-use Rattle.cone_laws.proofs.Ring.{ring, neg-mul, zero-mul, zero_of_mul}
+use Rattle.row_core.proofs.Ring.{ring, neg-mul, zero-mul, zero_of_mul}
 use Rattle.cone_laws.proofs.Sums.{V, Same, Nothing, SpansBy, same_value, sums_one_line, sums_one_ray, spans_sums, spans_same, spans_of_multiple, spans_add, spans_spans}
 use Rattle.cone_laws.proofs.Columns.{value, value_linear, dot_is, dot-negated}
 use Rattle.cone_laws.proofs.Bridge.{columns, In, to_sums, from_sums}

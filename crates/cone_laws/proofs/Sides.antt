@@ -1,7 +1,7 @@
 -- Two rays on the two sides of a map, and their combination on which it is 0.
 use Rattle.std.proofs.Common.{◌≡◌, ◌≢◌, ℕ, ◌<◌, ℤ, pos, ◌+ℤ◌, ◌*ℤ◌, neg_ℤ, ◌≤ℤ◌, ◌<ℤ◌, refl, ap, ◌∙◌, arith}
 use Rattle.std.proofs.lemmas.Int.{ints}
-use Rattle.cone_laws.proofs.Ring.{ring, mul-at_least_zero, mul-zero}
+use Rattle.row_core.proofs.Ring.{ring, mul-at_least_zero, mul-zero}
 use Rattle.cone_laws.proofs.Sums.{V, IsLinear}
 use Rattle.cone_laws.proofs.Columns.{value_both}
 use Rattle.cone_laws.proofs.Face.{first_zero}

@@ -9,7 +9,7 @@ use Rattle.cone_laws.specs.Cones.{Upto, Spans, negated}
 use Rattle.cone_laws.specs.Canon.{vector_at}
 use Rattle.cone_laws.specs.Steps.{AreUnits}
 use Rattle.cone_laws.specs.StepLaws.{GeneratesUpto}
-use Rattle.cone_laws.proofs.Ring.{at_least_zero_of_mul, mul-zero}
+use Rattle.row_core.proofs.Ring.{at_least_zero_of_mul, mul-zero}
 use Rattle.cone_laws.proofs.Sums.{V, spans_add, spans_spans, spans_same, same_value, sums_at_least_zero}
 use Rattle.cone_laws.proofs.Columns.{value, value_linear, dot_is, cell-add, cell-scale, length-scale}
 use Rattle.cone_laws.proofs.Bridge.{columns, to_sums, to_lines, from_sums}

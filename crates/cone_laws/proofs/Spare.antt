@@ -1,7 +1,7 @@
 -- After a step with a map, none of the rays that stay or are made of adjacent rays is spanned by the lines and the others.
 use Rattle.std.proofs.Common.{◌≡◌, ◌≢◌, ◌⊎◌, inl, inr, ℕ, zero, suc, ◌<◌, ℤ, pos, ◌+ℤ◌, ◌-ℤ◌, ◌*ℤ◌, neg_ℤ, ◌≤ℤ◌, ◌<ℤ◌, refl, sym, ap, ◌∙◌, arith}
 use Rattle.std.proofs.lemmas.Int.{ints}
-use Rattle.cone_laws.proofs.Ring.{ring, mul_comm, add-mul, mul-at_least_zero, mul-positive, mul-zero, zero-mul, zero_of_mul, at_least_zero_or_not}
+use Rattle.row_core.proofs.Ring.{ring, mul_comm, add-mul, mul-at_least_zero, mul-positive, mul-zero, zero-mul, zero_of_mul, at_least_zero_or_not}
 use Rattle.cone_laws.proofs.Sums.{V, IsMore, Same, Among, Sums, none, line, ray, Nothing, SpansBy, IsLinear, same_value, sums_same, sums_more, sums_zero, sums_at_least_zero}
 use Rattle.cone_laws.proofs.Face.{face, zero_or_positive, same_without, same_beside, first_zero, rest_zero}
 use Rattle.cone_laws.proofs.Systems.{Others, System, IsFlat, ray_not_flat}

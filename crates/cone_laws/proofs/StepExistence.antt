@@ -11,9 +11,8 @@ use Rattle.cone_laws.specs.Cones.{Upto}
 use Rattle.cone_laws.specs.Canon.{vector_at, IsSystem}
 use Rattle.cone_laws.specs.Steps.{IsRowAt, AreUnits, IsCrossing, IsMadeOf, pair_at, stays, sign, IsLowered, IsLastCrossing, upward}
 use Rattle.cone_laws.specs.SystemLaws.{HasSystem, HasSystemOf, AreAllCrossings}
-use Rattle.cone_laws.proofs.Ring.{neg-mul, same_or_not}
+use Rattle.row_core.proofs.Ring.{neg-mul, same_or_not}
 use Rattle.cone_laws.proofs.Factors.{All-remove}
-use Rattle.cone_laws.proofs.PointwiseLists.{Pointwise-nil}
 use Rattle.cone_laws.proofs.PrimitivePart.{HasPrimitiveSum, primitive_sum}
 use Rattle.cone_laws.proofs.CrossingPairs.{HasCrossings, crossings}
 use Rattle.cone_laws.proofs.NextSystems.{units_system, line_step_system, ray_step_system}
@@ -35,7 +34,7 @@ Pointwise-cons {A = A} {B = B} R x xs y ys r p = record { as_many = ap suc p.as_
     by_index (suc i) d e h = p.each i d e (omega arith)
 
 pointwise_exists : {A B : Type 0} (R : A → B → Type 0) (xs : List A) → All (HasRelated R) xs → HasPointwise R xs
-pointwise_exists R [] f = record { list = []; related = Pointwise-nil R }
+pointwise_exists R [] f = record { list = []; related = record { as_many = refl; each = λ i d e h. absurd (omega arith) } }
 pointwise_exists R (x ∷ xs) f =
     let first = All-head (HasRelated R) x xs f in
     let rest = pointwise_exists R xs (All-tail (HasRelated R) x xs f) in

@@ -1,7 +1,7 @@
 -- Sums of multiplied lines and of rays with factors of at least 0, over vectors as functions of the column.
-use Rattle.std.proofs.Common.{◌≡◌, ℕ, ℤ, pos, ◌+ℤ◌, ◌*ℤ◌, neg_ℤ, ◌≤ℤ◌, ◌<ℤ◌, refl, sym, ap, ◌∙◌, arith}
+use Rattle.std.proofs.Common.{◌≡◌, ℕ, ℤ, pos, ◌+ℤ◌, ◌*ℤ◌, ◌≤ℤ◌, ◌<ℤ◌, refl, sym, ap, ◌∙◌, arith}
 use Rattle.std.proofs.lemmas.Int.{ints}
-use Rattle.cone_laws.proofs.Ring.{ring, mul_assoc, mul-at_least_zero, mul-positive}
+use Rattle.row_core.proofs.Ring.{ring, mul_assoc, mul-at_least_zero, mul-positive}
 
 -- a vector, by its entries
 abbrev pub V : Type 0
@@ -48,9 +48,6 @@ same_value a lin u v e =
     omega (arith, ints)
 
 -- ---- closure
-pub more_same : (v w k x y : ℤ) → w ≡ v → v ≡ k *ℤ x +ℤ y → w ≡ k *ℤ x +ℤ y
-more_same v w k x y e h = e ∙ h
-
 pub sums_same : {L R : V → Type 0} (v w : V) → Sums L R v → Same w v → Sums L R w
 sums_same v w (none z) e = none (λ j. e j ∙ z j)
 sums_same v w (line k l u m s h) e = line k l u m s (λ j. e j ∙ h j)
@@ -88,12 +85,6 @@ lines_scale c v x (none z) e = none (λ j. zero_scale c (x j) (v j) (z j) (e j))
 lines_scale c v x (line k l u m s h) e =
     line (c *ℤ k) l (λ j. c *ℤ u j) m (lines_scale c u (λ j. c *ℤ u j) s (λ j. refl)) (λ j. more_scale c (x j) (v j) k (l j) (u j) (h j) (e j))
 lines_scale c v x (ray k r u q m s h) e = elim m [ ]
-
-pub lines_negate : {L : V → Type 0} (v x : V) → Sums L Nothing v → ((j : ℕ) → x j ≡ neg_ℤ (v j)) → Sums L Nothing x
-lines_negate v x s e = lines_scale (neg_ℤ (pos 1)) v x s (λ j. negate_is (x j) (v j) (e j))
-  where
-    negate_is : (x v : ℤ) → x ≡ neg_ℤ v → x ≡ neg_ℤ (pos 1) *ℤ v
-    negate_is x v e = omega (arith, ints)
 
 pub one_more : (v x : ℤ) → v ≡ x → v ≡ pos 1 *ℤ x +ℤ pos 0
 one_more v x e = omega (arith, ints)

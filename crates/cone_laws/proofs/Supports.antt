@@ -2,7 +2,7 @@ use Rattle.std.specs.Prelude.{◌≡◌, ℕ, zero, suc, ℤ, pos, ◌+ℤ◌, �
 use Rattle.std.proofs.Common.{arith, refl, inl, inr}
 use Rattle.std.proofs.Math.IntN.{◌*ℤ◌, negsuc}
 use Rattle.std.proofs.lemmas.Int.{ints}
-use Rattle.cone_laws.proofs.Ring.{ring, mul-at_least_zero, at_least_zero_of_mul}
+use Rattle.row_core.proofs.Ring.{ring, mul-at_least_zero, at_least_zero_of_mul}
 
 -- 1 for a number that isn't 0
 abbrev pub one_unless_zero : ℤ → ℕ

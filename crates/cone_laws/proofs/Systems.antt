@@ -1,7 +1,7 @@
 -- A system of lines and numbered rays of a cone, none of the rays to spare.
 use Rattle.std.proofs.Common.{◌≡◌, ◌≢◌, ◌⊎◌, inl, inr, ℕ, ◌<◌, ℤ, pos, ◌+ℤ◌, ◌*ℤ◌, neg_ℤ, ◌≤ℤ◌, ◌<ℤ◌, refl, sym, arith}
 use Rattle.std.proofs.lemmas.Int.{ints}
-use Rattle.cone_laws.proofs.Ring.{mul-at_least_zero, neg-mul, at_least_zero_or_not}
+use Rattle.row_core.proofs.Ring.{mul-at_least_zero, neg-mul, at_least_zero_or_not}
 use Rattle.cone_laws.proofs.Sums.{V, Among, Nothing, SpansBy, IsLinear, sums_add, sums_one_ray, spans_sums, spans_of_multiple, spans_add, lines_spans_scale, spans_from_lines}
 use Rattle.cone_laws.proofs.Columns.{value_both}
 use Rattle.cone_laws.proofs.Bridge.{Below}

@@ -4,7 +4,7 @@ use Rattle.row_core.specs.Vectors.{dot}
 use Rattle.row_core.specs.Lists.{Row, row_at}
 use Rattle.cone_laws.specs.Canon.{vector_at}
 use Rattle.cone_laws.specs.Steps.{IsBetween, NoThird}
-use Rattle.cone_laws.proofs.Ring.{same_or_not}
+use Rattle.row_core.proofs.Ring.{same_or_not}
 
 pub same_number : (m n : ℕ) → (m ≡ n) ⊎ (m ≢ n)
 same_number m n = by_order (grind arith)

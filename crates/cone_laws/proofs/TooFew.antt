@@ -9,7 +9,7 @@ use Rattle.cone_laws.specs.Cones.{Upto, Spans}
 use Rattle.cone_laws.specs.Canon.{vector_at}
 use Rattle.cone_laws.specs.Steps.{NoThird}
 use Rattle.cone_laws.specs.AdjacencyLaws.{IsMinimal, TooFewLaw}
-use Rattle.cone_laws.proofs.Ring.{mul-zero, neg-mul, by_sign, same_or_not, zero_of_mul}
+use Rattle.row_core.proofs.Ring.{mul-zero, neg-mul, by_sign, same_or_not, zero_of_mul}
 use Rattle.cone_laws.proofs.Sums.{V, same_value, SpansBy, sums_zero}
 use Rattle.cone_laws.proofs.Columns.{value, value_linear, dot_is, dot_comm, dot-add, length-add}
 use Rattle.cone_laws.proofs.Bridge.{In, columns, to_sums}

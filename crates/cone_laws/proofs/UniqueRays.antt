@@ -10,7 +10,7 @@ use Rattle.row_core.specs.Vectors.{cell, scale, add, combined}
 use Rattle.cone_laws.specs.Cones.{negated, Spans}
 use Rattle.cone_laws.specs.Canon.{vector_at, IsSystem}
 use Rattle.cone_laws.specs.ConeSets.{IsCone}
-use Rattle.cone_laws.proofs.Ring.{ring, mul-neg, mul-positive, mul-at_least_zero, zero_of_mul, by_sign, at_least_zero_or_not, mul_comm}
+use Rattle.row_core.proofs.Ring.{ring, mul-neg, mul-positive, mul-at_least_zero, zero_of_mul, by_sign, at_least_zero_or_not, mul_comm}
 use Rattle.cone_laws.proofs.Sums.{V}
 use Rattle.cone_laws.proofs.Columns.{cell-scale, cell-add, length-scale, length-add}
 use Rattle.cone_laws.proofs.EchelonForm.{zero_left}

@@ -12,7 +12,7 @@ use Rattle.cone_laws.specs.Cones.{Meets, Upto, Spans, negated}
 use Rattle.cone_laws.specs.Canon.{vector_at, IsSystem, Canon}
 use Rattle.cone_laws.specs.ConeSets.{IsCone}
 use Rattle.cone_laws.specs.UniqueLaws.{AdmitSame, AreInOrder}
-use Rattle.cone_laws.proofs.Ring.{mul-at_least_zero, at_least_zero_of_mul, zero_of_mul, by_sign, same_or_not, mul_comm}
+use Rattle.row_core.proofs.Ring.{mul-at_least_zero, at_least_zero_of_mul, zero_of_mul, by_sign, same_or_not, mul_comm}
 use Rattle.cone_laws.proofs.Primitive.{primitive_same}
 use Rattle.cone_laws.proofs.Columns.{cell-scale, value, value_linear, value_both, dot_is, dot-scale}
 use Rattle.cone_laws.proofs.Rearranging.{permutation_from_apart, irredundant_apart, canon_from_sorted}
@@ -108,13 +108,10 @@ module _ (width : ℕ) (C : List ℤ → Type 0) (cone : IsCone width C) (lines 
           no_part : s.part ≡ pos 0 → ⊥
           no_part e = ne (zero_of_mul s.times (cell w j) s.positive (multiple j ∙ zero_left s.part (cell y j) e))
 
-          y_other : cell y j ≢ pos 0
-          y_other e = ne (zero_of_mul s.times (cell w j) s.positive (multiple j ∙ zero_right s.part (cell y j) e))
-
           by_part : (pos 0 <ℤ s.part) ⊎ ((s.part <ℤ pos 0) ⊎ (s.part ≡ pos 0)) → w ≡ y
           by_part (inl p) =
-              primitive_same s.times s.part w y j s.positive p (cone.wide w (sys2.generates.rays_within m [] g) ∙ sym (cone.wide y (sys.generates.rays_within i [] h)))
-              multiple (sys2.primitive_rays m [] g) (sys.primitive_rays i [] h) l ne y_other
+              primitive_same s.times s.part w y s.positive p (cone.wide w (sys2.generates.rays_within m [] g) ∙ sym (cone.wide y (sys.generates.rays_within i [] h)))
+              multiple (sys2.primitive_rays m [] g) (sys.primitive_rays i [] h)
           by_part (inr (inl p)) = absurd (omega (arith, ints, p, s.at_least_zero))
           by_part (inr (inr e)) = absurd (no_part e)
 

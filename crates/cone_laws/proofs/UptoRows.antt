@@ -7,7 +7,7 @@ use Rattle.row_core.specs.Vectors.{cell, dot, scale}
 use Rattle.row_core.specs.Lists.{Row}
 use Rattle.cone_laws.specs.Cones.{Meets, Upto, negated}
 use Rattle.cone_laws.specs.Steps.{IsRowAt}
-use Rattle.cone_laws.proofs.Ring.{mul-zero, mul-at_least_zero, at_least_zero_of_mul, zero_of_mul}
+use Rattle.row_core.proofs.Ring.{mul-zero, mul-at_least_zero, at_least_zero_of_mul, zero_of_mul}
 use Rattle.cone_laws.proofs.Sums.{V}
 use Rattle.cone_laws.proofs.Columns.{value, value_linear, value_both, dot_is, dot-scale, dot-negated}
 

@@ -5,7 +5,8 @@ use Rattle.row_core.specs.Vectors.{dot}
 use Rattle.row_core.specs.Points.{IsSamePoint}
 use Rattle.cons_sys.specs.Constraints.{Constraint, Constraints, constraint_at, IsConstraint, FitDimension, Satisfies, In}
 use Rattle.cons_sys.specs.declared.kind.ConKind.TheVariants.{Eq}
-use Rattle.cons_sys.proofs.Signs.{dot-scale, same_sign, Allows-same_sign}
+use Rattle.row_core.proofs.DotLemmas.{dot-scale}
+use Rattle.cons_sys.proofs.Signs.{same_sign, Allows-same_sign}
 
 -- constraint i fits the dimension
 pub IsConstraint-at : (cs : Constraints) (i : ℕ) → FitDimension cs → i < length cs.list → IsConstraint cs.dim (constraint_at cs.list i)
@@ -20,7 +21,7 @@ pub Satisfies-same_point : (u v : List ℤ) (c : Constraint) → IsSamePoint u v
 Satisfies-same_point u v c same h =
     Allows-same_sign c.1 (dot c.0 u) (dot c.0 v)
     (same_sign same.left same.right (dot c.0 u) (dot c.0 v) same.left_positive same.right_positive
-    (sym (dot-scale c.0 u same.left) ∙ (ap (λ (w : List ℤ). dot c.0 w) same.same ∙ dot-scale c.0 v same.right)))
+    (sym (dot-scale c.0 same.left u) ∙ (ap (λ (w : List ℤ). dot c.0 w) same.same ∙ dot-scale c.0 same.right v)))
     h
 
 pub In-same_point : (cs : Constraints) (u v : List ℤ) → IsSamePoint u v → In cs u → In cs v

@@ -51,7 +51,7 @@ module _ (lines rays : List (List ℤ)) (i : ℕ) (v : List ℤ) (e : IsEchelon 
       no_part f = all_zero (λ j. multiple j ∙ zero_left c (cell (vector_at rays i) j) f)
 
       by_part : (j : ℕ) → j < length v → cell v j ≢ pos 0 → (pos 0 <ℤ c) ⊎ ((c <ℤ pos 0) ⊎ (c ≡ pos 0)) → v ≡ vector_at rays i
-      by_part j l ne (inl f) = primitive_same t c v (vector_at rays i) j p f w multiple pv pr l ne (λ g. ne (zero_of_mul t (cell v j) p (multiple j ∙ zero_right c (cell (vector_at rays i) j) g)))
+      by_part j l ne (inl f) = primitive_same t c v (vector_at rays i) p f w multiple pv pr
       by_part j l ne (inr (inl f)) = absurd (omega (arith, ints, f, q))
       by_part j l ne (inr (inr f)) = absurd (no_part f)
 

@@ -3,10 +3,8 @@ use Rattle.std.proofs.Common.{arith, sym, ◌∙◌, ap, refl, subst, below_more
 use Rattle.std.proofs.lemmas.Int.{ints}
 use Rattle.std.proofs.lemmas.List.{ext_get_or, get_or-set_same, get_or-set_other}
 use Rattle.std.proofs.Math.IntN.{◌*ℤ◌}
-use Rattle.row_core.specs.Vectors.{cell, scale, add}
-
-times_zero_z : (k : ℤ) → pos 0 ≡ k *ℤ pos 0
-times_zero_z k = omega (arith, ints)
+use Rattle.row_core.specs.Vectors.{cell, scale, add, combined}
+use Rattle.row_core.proofs.Ring.{mul_assoc, mul-add, mul-zero}
 
 zero_add_z : (a : ℤ) → a ≡ pos 0 +ℤ a
 zero_add_z a = omega (arith, ints)
@@ -15,7 +13,7 @@ add_zero_z : (a : ℤ) → a ≡ a +ℤ pos 0
 add_zero_z a = omega (arith, ints)
 
 pub cell-scale : (k : ℤ) (v : List ℤ) (j : ℕ) → cell (scale k v) j ≡ k *ℤ cell v j
-cell-scale k [] j = times_zero_z k
+cell-scale k [] j = sym (mul-zero k)
 cell-scale k (a ∷ v) zero = refl
 cell-scale k (a ∷ v) (suc j) = cell-scale k v j
 
@@ -29,17 +27,25 @@ cell-add (a ∷ u) [] j = add_zero_z (cell (a ∷ u) j)
 cell-add (a ∷ u) (b ∷ v) zero = refl
 cell-add (a ∷ u) (b ∷ v) (suc j) = cell-add u v j
 
-pub length-add : (u v : List ℤ) → length u ≡ length v → length (add u v) ≡ length u
-length-add [] [] e = refl
-length-add [] (b ∷ v) e = absurd (omega arith)
-length-add (a ∷ u) [] e = refl
+pub length-add : (u v : List ℤ) → length u ≡ length v → length (add u v) ≡ length v
+length-add [] v e = refl
+length-add (a ∷ u) [] e = e
 length-add (a ∷ u) (b ∷ v) e = ap suc (length-add u v (omega arith))
+
+scale_step : (c a g x z : ℤ) → z ≡ c *ℤ x → (c *ℤ a) *ℤ g +ℤ z ≡ c *ℤ (a *ℤ g +ℤ x)
+scale_step c a g x z e = omega (arith, ints, e, mul_assoc c a g, mul-add c (a *ℤ g) x)
+
+-- with all factors multiplied, the sum is multiplied
+pub combined-scale : (c : ℤ) (factors : List ℤ) (rows : List (List ℤ)) (j : ℕ) → combined (scale c factors) rows j ≡ c *ℤ combined factors rows j
+combined-scale c [] rows j = sym (mul-zero c)
+combined-scale c (a ∷ factors) [] j = sym (mul-zero c)
+combined-scale c (a ∷ factors) (row ∷ rows) j = scale_step c a (cell row j) (combined factors rows j) (combined (scale c factors) rows j) (combined-scale c factors rows j)
 
 -- a row whose columns are those of the combination is the combination
 pub combination_from_cells : (d u v : List ℤ) (s t : ℤ) → length d ≡ length u → length u ≡ length v → ((k : ℕ) → k < length d → cell d k ≡ s *ℤ cell u k +ℤ t *ℤ cell v k) → d ≡ add (scale s u) (scale t v)
 combination_from_cells d u v s t e f cells =
     ext_get_or (pos 0) d (add (scale s u) (scale t v))
-    (e ∙ sym (length-scale s u) ∙ sym (length-add (scale s u) (scale t v) (length-scale s u ∙ (f ∙ sym (length-scale t v)))))
+    (e ∙ f ∙ sym (length-scale t v) ∙ sym (length-add (scale s u) (scale t v) (length-scale s u ∙ (f ∙ sym (length-scale t v)))))
     (λ k h. cells k h ∙ (ap (λ (a : ℤ). a +ℤ t *ℤ cell v k) (sym (cell-scale s u k)) ∙ (ap (λ (b : ℤ). cell (scale s u) k +ℤ b) (sym (cell-scale t v k)) ∙ sym (cell-add (scale s u) (scale t v) k))))
 
 -- after a write at column j, what held of each column below j, and holds of what was written, holds up to j

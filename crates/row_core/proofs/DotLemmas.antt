@@ -1,9 +1,10 @@
 use Rattle.std.specs.Prelude.{◌≡◌, ℕ, ◌+◌, ◌<◌, zero, suc, List, [], ◌∷◌, length, take, ℤ, pos, ◌+ℤ◌}
-use Rattle.std.proofs.Common.{arith, ◌∙◌, ap, add-one}
+use Rattle.std.proofs.Common.{arith, sym, ◌∙◌, ap, refl, add-one}
 use Rattle.std.proofs.lemmas.Int.{ints}
 use Rattle.std.proofs.lemmas.List.{take_all}
 use Rattle.std.proofs.Math.IntN.{◌*ℤ◌}
-use Rattle.row_core.specs.Vectors.{cell, dot}
+use Rattle.row_core.specs.Vectors.{cell, dot, scale}
+use Rattle.row_core.proofs.Ring.{mul_comm, mul_left_comm, mul-add, mul-zero}
 
 -- sums may be regrouped
 pub add_assoc_z : (a b c : ℤ) → a +ℤ (b +ℤ c) ≡ (a +ℤ b) +ℤ c
@@ -29,3 +30,20 @@ dot-take_more u v j h k = rw add-one (dot-take_suc u v j h k)
 -- all columns
 pub dot-take_all : (u v : List ℤ) (n : ℕ) → n ≡ length u → length u ≡ length v → dot (take n u) (take n v) ≡ dot u v
 dot-take_all u v n e f = ap (λ w. dot w (take n v)) (take_all n u (omega arith)) ∙ ap (dot u) (take_all n v (omega arith))
+
+pub dot_comm : (u v : List ℤ) → dot u v ≡ dot v u
+dot_comm [] [] = refl
+dot_comm [] (b ∷ v) = refl
+dot_comm (a ∷ u) [] = refl
+dot_comm (a ∷ u) (b ∷ v) = swapped a b (dot u v) (dot v u) (dot_comm u v)
+  where
+    swapped : (a b s t : ℤ) → s ≡ t → a *ℤ b +ℤ s ≡ b *ℤ a +ℤ t
+    swapped a b s t e = omega (arith, ints, e, mul_comm a b)
+
+one_column_more : (a b k d e : ℤ) → e ≡ k *ℤ d → a *ℤ (k *ℤ b) +ℤ e ≡ k *ℤ (a *ℤ b +ℤ d)
+one_column_more a b k d e same = omega (arith, ints, same, mul_left_comm a k b, mul-add k (a *ℤ b) d)
+
+pub dot-scale : (u : List ℤ) (k : ℤ) (v : List ℤ) → dot u (scale k v) ≡ k *ℤ dot u v
+dot-scale [] k v = sym (mul-zero k)
+dot-scale (a ∷ u) k [] = sym (mul-zero k)
+dot-scale (a ∷ u) k (b ∷ v) = one_column_more a b k (dot u v) (dot u (scale k v)) (dot-scale u k v)

@@ -1,3 +1,4 @@
+pub mod Ring
 pub mod RowListLemmas
 pub mod DotLemmas
 pub mod ColumnLemmas
