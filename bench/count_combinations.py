@@ -1,5 +1,5 @@
 #!/usr/bin/env python3
-"""The number of combinations that the double description method makes of rows on standard input.
+"""The number of combinations that the double description method makes of rows on standard input, in the form of make_rows.py.
 
 The number is a matter of the rows alone: with a row that isn't 0 on some line, one combination for each other vector
 that isn't 0 on it; otherwise one for each pair of adjacent rays on its two sides. This script counts them with
@@ -32,7 +32,7 @@ def convert(width, rows):
     zeros = []
     counts = []
     sizes = []
-    for k, row in enumerate(rows):
+    for k, (equality, row) in enumerate(rows):
         made = 0
         values = [dot(row, l) for l in lines]
         crossing = [i for i, u in enumerate(values) if u]
@@ -54,11 +54,14 @@ def convert(width, rows):
                     r = combine(line, u, r, v)
                 new_rays.append(r)
             lines = new_lines
-            rays = new_rays + [line if u > 0 else tuple(-x for x in line)]
-            zeros = [z | {k} for z in zeros] + [set(range(k))]
+            rays = new_rays
+            zeros = [z | {k} for z in zeros]
+            if not equality:
+                rays.append(line if u > 0 else tuple(-x for x in line))
+                zeros.append(set(range(k)))
         else:
             v = [dot(row, r) for r in rays]
-            kept = [i for i in range(len(rays)) if v[i] >= 0]
+            kept = [i for i in range(len(rays)) if v[i] == 0 or (v[i] > 0 and not equality)]
             new_rays = [rays[i] for i in kept]
             new_zeros = [zeros[i] | ({k} if v[i] == 0 else set()) for i in kept]
             for p in range(len(rays)):
@@ -80,9 +83,11 @@ def convert(width, rows):
 
 
 def main():
-    numbers = list(map(int, sys.stdin.read().split()))
-    width = numbers[0]
-    rows = [numbers[i:i + width] for i in range(1, len(numbers), width)]
+    width = int(next(sys.stdin))
+    rows = []
+    for line in sys.stdin:
+        mark, *words = line.split()
+        rows.append((mark == "=", list(map(int, words))))
     lines, rays, counts, sizes = convert(width, rows)
     print(f"lines {len(lines)} rays {len(rays)} combinations {sum(counts)} bound {sum(sizes)}")
     assert all(c <= s for c, s in zip(counts, sizes))

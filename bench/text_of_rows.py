@@ -22,10 +22,13 @@ def expression(row):
 
 
 def main():
-    numbers = list(map(int, sys.stdin.read().split()))
-    width = numbers[0]
-    rows = [numbers[i:i + width] for i in range(1, len(numbers), width)]
-    print(", ".join(f"{expression(row[:-1])} >= {-row[-1]}" for row in rows), end="")
+    next(sys.stdin)
+    constraints = []
+    for line in sys.stdin:
+        mark, *words = line.split()
+        row = list(map(int, words))
+        constraints.append(f"{expression(row[:-1])} {mark} {-row[-1]}")
+    print(", ".join(constraints), end="")
 
 
 if __name__ == "__main__":
