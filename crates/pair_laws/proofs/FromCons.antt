@@ -1,4 +1,5 @@
 -- The systems of a constraint list: the stored pair holds where the constraints hold.
+use Rattle.row_core.specs.Lists.{system_rows}
 use Rattle.std.proofs.Common.{◌≡◌, ◌⊎◌, inl, inr, ℕ, ◌+◌, List, slice_index_or, ℤ, pos, ◌+ℤ◌, ◌*ℤ◌, ◌≤ℤ◌, ◌<ℤ◌, sym, ◌∙◌, subst, arith, All}
 use Rattle.std.proofs.lemmas.Int.{ints}
 use Rattle.std.proofs.lemmas.List.Elements.{All-weaker}
@@ -8,13 +9,13 @@ use Rattle.cone_laws.specs.Canon.{Canon}
 use Rattle.cone_laws.proofs.Ring.{mul-positive, by_sign}
 use Rattle.cons_sys.specs.Constraints.{Constraints}
 use Rattle.dual_cones.specs.Members.{ConeOf}
-use Rattle.dual_cones.specs.DualSystems.{system_rows, AreSystemsOf}
+use Rattle.dual_cones.specs.DualSystems.{AreSystemsOf}
 use Rattle.dual_cones.proofs.SystemLists.{zero_on_lines}
 use Rattle.dual_cones.proofs.ValidRows.{row_of_valid, are_dual, admits_second, second_admits}
 use Rattle.pair_laws.specs.WorkLists.{HasPoint, divisor_row, constraint_list}
 use Rattle.pair_laws.specs.PointSets.{AreClosed, IsWithin, HoldSame}
 use Rattle.pair_laws.specs.StoredForms.{stored_constraints, AreClosedSystems}
-use Rattle.pair_laws.specs.FirstLists.{NoPointInConstraints, PairOfConstraints}
+use Rattle.pair_laws.specs.FirstLists.{ConstraintListAdmits, NoPointInConstraints, PairOfConstraints}
 use Rattle.pair_laws.proofs.DivisorRow.{dot_divisor, length-divisor}
 use Rattle.pair_laws.proofs.ClosedCons.{in_cone, cone_in, cone_divisor}
 use Rattle.pair_laws.proofs.StoredPair.{cone_stored, within_cone}
@@ -80,3 +81,6 @@ pair_of_constraints cs lines rays equalities inequalities closed s point = (
   cons_polyhedral cs closed lines rays s.first equalities inequalities s.second point,
   cons_hold_same cs closed lines rays s.first equalities inequalities s.second point,
 )
+
+pub constraint_list_admits : ConstraintListAdmits
+constraint_list_admits cs p closed pt = ((λ h. in_cone cs closed p (record { point = pt; holds = h })), cone_in cs closed p)

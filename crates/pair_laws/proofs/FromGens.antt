@@ -5,7 +5,7 @@ use Rattle.std.proofs.lemmas.Int.{ints}
 use Rattle.std.proofs.lemmas.List.Elements.{All-map, All-weaker, All-get_or}
 use Rattle.row_core.specs.Vectors.{cell, dot, combined}
 use Rattle.row_core.specs.Points.{IsPoint}
-use Rattle.row_core.specs.Lists.{Row}
+use Rattle.row_core.specs.Lists.{Row, system_rows}
 use Rattle.cone_laws.specs.Cones.{Meets, Spans, Generates}
 use Rattle.cone_laws.specs.Canon.{vector_at}
 use Rattle.cone_laws.proofs.Columns.{dot_comm}
@@ -20,14 +20,14 @@ use Rattle.gens_sys.specs.declared.kind.GenKind.TheVariants.{Line, Ray, Point, C
 use Rattle.gens_sys.specs.Generators.{Generator, Generators, generator_at, kind_at}
 use Rattle.gens_sys.specs.Spans.{Span}
 use Rattle.dual_cones.specs.Members.{ConeOf}
-use Rattle.dual_cones.specs.DualSystems.{system_rows, IsDual, AreSystemsOf}
+use Rattle.dual_cones.specs.DualSystems.{IsDual, AreSystemsOf}
 use Rattle.dual_cones.proofs.MemberLemmas.{cone_meets, cone_from, spanned_within}
 use Rattle.dual_cones.proofs.SystemLists.{zero_on_lines}
 use Rattle.dual_cones.proofs.ValidRows.{valid_of_row, row_of_valid, are_dual, admits_second}
 use Rattle.pair_laws.specs.WorkLists.{divisor_row, generator_row, generator_list}
 use Rattle.pair_laws.specs.PointSets.{IsClosedGen, AreClosedGens}
 use Rattle.pair_laws.specs.StoredForms.{stored_constraints, stored_generators, AreClosedSystems}
-use Rattle.pair_laws.specs.FirstLists.{PointOfGenerators, PairOfGenerators}
+use Rattle.pair_laws.specs.FirstLists.{GeneratorListSpans, PointOfGenerators, PairOfGenerators}
 use Rattle.pair_laws.proofs.ListLemmas.{All-unmap}
 use Rattle.pair_laws.proofs.DivisorRow.{dot_divisor, length-divisor}
 use Rattle.pair_laws.proofs.ClosedGens.{HasPositive, positive_term, zero_divisor, spans_generated, generated_spans}
@@ -157,3 +157,6 @@ pair_of_generators gs equalities inequalities lines rays k closed wide s below p
   gens_polyhedral gs closed wide equalities inequalities lines rays s k below point,
   gens_span_same gs closed wide equalities inequalities lines rays s k below point,
 )
+
+pub generator_list_spans : GeneratorListSpans
+generator_list_spans gs p closed pt = (spans_generated gs p, generated_spans gs p closed pt.positive)

@@ -8,7 +8,7 @@ use Rattle.std.proofs.lemmas.List.Edits.{remove-append_left, remove-append_right
 use Rattle.std.proofs.lemmas.List.Elements.{All-cons, All-append, All-map, All-filter, All-contains_itself, All-from_get_or, filter_passes}
 use Rattle.row_core.specs.Vectors.{cell}
 use Rattle.row_core.specs.Points.{IsPoint}
-use Rattle.row_core.specs.Lists.{Row}
+use Rattle.row_core.specs.Lists.{Row, system_rows}
 use Rattle.cone_laws.specs.Cones.{Spans, Generates}
 use Rattle.cone_laws.specs.Canon.{vector_at}
 use Rattle.cone_laws.specs.Duality.{lines_of, rays_of}
@@ -22,7 +22,6 @@ use Rattle.gens_sys.specs.declared.kind.GenKind.TheVariants.{Line}
 use Rattle.gens_sys.specs.Generators.{Generator, Generators}
 use Rattle.gens_sys.specs.Spans.{Span}
 use Rattle.dual_cones.specs.Members.{ConeOf}
-use Rattle.dual_cones.specs.DualSystems.{system_rows}
 use Rattle.dual_cones.proofs.SystemLists.{lines_of-system_rows, rays_of-system_rows}
 use Rattle.pair_laws.specs.WorkLists.{divisor_row, constraint_row, constraint_list, generator_row, generator_list}
 use Rattle.pair_laws.specs.PointSets.{IsClosedKind, AreClosed, IsWithin}
@@ -74,7 +73,7 @@ remove_ray dim lines rays i h =
     remove-append_right (map (λ l. (l, Line)) lines) (map (λ r. (r, vector_kind (cell r dim))) rays) (length lines) i (length-map {B = Generator} lines (λ (l : List ℤ). (l, Line))) h
     ∙ ap (λ (xs : List Generator). map (λ l. (l, Line)) lines ++ xs) (remove-map (λ (r : List ℤ). (r, vector_kind (cell r dim))) rays (i - length lines))
 
-length_stored : (dim : ℕ) (lines rays : List (List ℤ)) → length (stored_generators dim lines rays) ≡ length lines + length rays
+pub length_stored : (dim : ℕ) (lines rays : List (List ℤ)) → length (stored_generators dim lines rays) ≡ length lines + length rays
 length_stored dim lines rays =
     let a = length-append {A = Generator} (map (λ l. (l, Line)) lines) (map (λ r. (r, vector_kind (cell r dim))) rays) in
     let b = length-map {B = Generator} lines (λ (l : List ℤ). (l, Line)) in

@@ -1,8 +1,8 @@
 -- What a closed polyhedron stores, be it empty or not.
-use Rattle.std.proofs.Common.{◌≡◌, inl, inr, ℕ, zero, suc, List, [], ◌∷◌, ℤ, pos, negsuc, ◌+ℤ◌, ◌*ℤ◌, neg_ℤ, ◌≤ℤ◌, ◌<ℤ◌, refl, sym, ap, ◌∙◌, subst, arith}
+use Rattle.std.proofs.Common.{◌≡◌, inl, inr, ℕ, zero, suc, List, [], ◌∷◌, length, ℤ, pos, negsuc, ◌+ℤ◌, ◌*ℤ◌, neg_ℤ, ◌≤ℤ◌, ◌<ℤ◌, refl, sym, ap, ◌∙◌, subst, arith}
 use Rattle.std.specs.Prelude.{◌↔◌}
 use Rattle.std.proofs.lemmas.Int.{ints}
-use Rattle.std.proofs.lemmas.List.Elements.{All-nil, All-head}
+use Rattle.std.proofs.lemmas.List.Elements.{All-nil, All-cons, All-head}
 use Rattle.row_core.specs.Vectors.{cell, dot}
 use Rattle.row_core.specs.Points.{IsPoint}
 use Rattle.cons_sys.specs.declared.kind.ConKind.TheVariants.{Ge}
@@ -10,12 +10,12 @@ use Rattle.cons_sys.specs.Constraints.{Constraint, Constraints, Satisfies, In}
 use Rattle.gens_sys.specs.Generators.{Generator, Generators}
 use Rattle.gens_sys.specs.Spans.{Span}
 use Rattle.pair_laws.specs.WorkLists.{divisor_row}
-use Rattle.pair_laws.specs.PointSets.{IsWithin, HoldSame}
+use Rattle.pair_laws.specs.PointSets.{IsClosedKind, AreClosed, IsClosedGen, AreClosedGens, IsWithin, HoldSame}
 use Rattle.pair_laws.specs.StoredForms.{stored_constraints, stored_generators, false_row, IsEmptyForm, IsPairForm, IsStored}
-use Rattle.pair_laws.specs.StoredLaws.{IsPair, AreIrredundantConstraints, AreIrredundantGenerators, IsCanonicalPair, AdmitValidRows, StoredIsPair, StoredIsIrredundant, StoredIsCanonical, StoredAdmitsValidRows, AreSameSystems, StoredIsUnique}
+use Rattle.pair_laws.specs.StoredLaws.{StoredIsClosed, StoredIsEmpty, IsPair, AreIrredundantConstraints, AreIrredundantGenerators, IsCanonicalPair, AdmitValidRows, StoredIsPair, StoredIsIrredundant, StoredIsCanonical, StoredAdmitsValidRows, AreSameSystems, StoredIsUnique}
 use Rattle.pair_laws.proofs.DivisorRow.{length-divisor, cell-divisor_last}
-use Rattle.pair_laws.proofs.StoredPair.{is_pair, is_canonical, inner_within, inner_point, rows_same, vectors_same}
-use Rattle.pair_laws.proofs.NothingToSpare.{no_constraint_to_spare, no_generator_to_spare}
+use Rattle.pair_laws.proofs.StoredPair.{pair_closed, gens_closed, is_pair, is_canonical, inner_within, inner_point, rows_same, vectors_same}
+use Rattle.pair_laws.proofs.NothingToSpare.{length_stored, no_constraint_to_spare, no_generator_to_spare}
 use Rattle.pair_laws.proofs.ValidRows.{valid_are_listed, valid_without_points}
 
 -- ---- the empty form
@@ -149,3 +149,32 @@ stored_is_unique cs ds gs hs e s t = (
       cons = same_constraints cs ds e r.0;
       gens = same_generators gs hs (stored_dim cs gs s ∙ e ∙ sym (stored_dim ds hs t)) r.1;
     }
+
+-- ---- kinds and points
+false_closed : (dim : ℕ) → AreClosed (record { dim = dim; list = (false_row dim, Ge) ∷ [] })
+false_closed dim = All-cons (λ (c : Constraint). IsClosedKind c.1) (false_row dim, Ge) [] tt (All-nil (λ (c : Constraint). IsClosedKind c.1))
+
+pub stored_is_closed : StoredIsClosed
+stored_is_closed cs gs (inl e) = record {
+  same_dim = e.same_dim;
+  cons = subst (λ (xs : List Constraint). AreClosed (record { dim = cs.dim; list = xs })) (sym e.cons) (false_closed cs.dim);
+  gens = subst (λ (xs : List Generator). AreClosedGens (record { dim = gs.dim; list = xs })) (sym e.gens) (All-nil (IsClosedGen gs.dim));
+}
+stored_is_closed cs gs (inr f) = record {
+  same_dim = f.same_dim;
+  cons = with_lists (λ c g. AreClosed c) cs gs f (pair_closed cs.dim f.lines f.rays f.equalities f.inequalities f.systems);
+  gens = with_lists (λ c g. AreClosedGens g) cs gs f (gens_closed cs.dim f.lines f.rays f.equalities f.inequalities f.systems);
+}
+
+some_generator : (cs : Constraints) (gs : Generators) → IsPairForm cs gs → gs.list ≡ [] → ⊥
+some_generator cs gs f e =
+    let a : length gs.list ≡ length (stored_generators cs.dim f.lines f.rays) = ap length f.gens in
+    let b : length gs.list ≡ 0 = ap length e in
+    omega (arith, a, b, length_stored cs.dim f.lines f.rays, f.systems.point.below)
+
+pub stored_is_empty : StoredIsEmpty
+stored_is_empty cs gs (inl e) = ((λ g p w. empty_has_no_point cs gs e p w), (λ none. e.gens))
+stored_is_empty cs gs (inr f) = (
+  (λ g. absurd (some_generator cs gs f g)),
+  (λ none. absurd (none (inner_point cs.dim f.lines f.rays f.equalities f.inequalities f.systems) (pair_point cs gs f))),
+)

@@ -4,7 +4,7 @@ use Rattle.std.proofs.lemmas.Int.{ints}
 use Rattle.std.proofs.lemmas.List.Elements.{All-cons, All-append, All-map, All-weaker, All-filter}
 use Rattle.row_core.specs.Vectors.{cell, dot}
 use Rattle.row_core.specs.Points.{IsPoint}
-use Rattle.row_core.specs.Lists.{Row}
+use Rattle.row_core.specs.Lists.{Row, system_rows}
 use Rattle.cone_laws.specs.Cones.{Meets, Spans, Generates, negated}
 use Rattle.cone_laws.specs.Canon.{vector_at, Canon}
 use Rattle.cone_laws.specs.Duality.{lines_of, rays_of}
@@ -17,7 +17,6 @@ use Rattle.gens_sys.specs.declared.kind.GenKind.TheVariants.{Line}
 use Rattle.gens_sys.specs.Generators.{Generators}
 use Rattle.gens_sys.specs.Spans.{Span}
 use Rattle.dual_cones.specs.Members.{ConeOf}
-use Rattle.dual_cones.specs.DualSystems.{system_rows}
 use Rattle.dual_cones.proofs.SystemLists.{lines_of-system_rows, rays_of-system_rows, zero_on_lines, least_on_rays, cone_of_row}
 use Rattle.dual_cones.proofs.MemberLemmas.{cone_from, canon_same, spanned_within}
 use Rattle.dual_cones.proofs.ValidRows.{valid_of_row, row_of_valid}

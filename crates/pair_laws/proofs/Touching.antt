@@ -4,7 +4,7 @@ use Rattle.std.proofs.lemmas.Int.{ints}
 use Rattle.std.proofs.lemmas.List.{length-map, get_or-map}
 use Rattle.std.proofs.lemmas.List.Elements.{All-append, All-map, All-filter, All-get_or, All-from_get_or, filter_passes}
 use Rattle.row_core.specs.Vectors.{cell, dot}
-use Rattle.row_core.specs.Lists.{Row, row_at}
+use Rattle.row_core.specs.Lists.{Row, row_at, system_rows}
 use Rattle.cone_laws.specs.Canon.{vector_at}
 use Rattle.cone_laws.specs.Cones.{Spans}
 use Rattle.cone_laws.proofs.Columns.{dot_comm}
@@ -12,7 +12,6 @@ use Rattle.cons_sys.specs.declared.kind.ConKind.TheVariants.{Eq, Ge}
 use Rattle.cons_sys.specs.Constraints.{Constraint, Constraints}
 use Rattle.gens_sys.specs.declared.kind.GenKind.TheVariants.{Line, Point}
 use Rattle.gens_sys.specs.Generators.{Generator, Generators, generator_at}
-use Rattle.dual_cones.specs.DualSystems.{system_rows}
 use Rattle.dual_cones.specs.ExtremeRays.{Touches}
 use Rattle.dual_cones.proofs.ExtremeRays.{ray_touches}
 use Rattle.dual_cones.proofs.LikeRays.{like_ray_is_same}

@@ -2,7 +2,9 @@ use Rattle.std.specs.Prelude.{◌≡◌, ℕ, ◌+◌, ◌<◌, ◌↔◌, List,
 use Rattle.row_core.specs.Vectors.{cell}
 use Rattle.row_core.specs.Points.{IsPoint}
 use Rattle.cone_laws.specs.Canon.{Canon}
-use Rattle.cons_sys.specs.Constraints.{Constraints}
+use Rattle.cone_laws.specs.Cones.{Spans}
+use Rattle.cone_laws.specs.Duality.{lines_of, rays_of}
+use Rattle.cons_sys.specs.Constraints.{Constraints, In}
 use Rattle.gens_sys.specs.declared.kind.GenKind.TheVariants.{Point}
 use Rattle.gens_sys.specs.Generators.{Generators, kind_at}
 use Rattle.gens_sys.specs.Spans.{Span}
@@ -11,6 +13,14 @@ use Rattle.dual_cones.specs.DualSystems.{AreSystemsOf}
 use Rattle.pair_laws.specs.WorkLists.{constraint_list, generator_list, HasPoint}
 use Rattle.pair_laws.specs.PointSets.{AreClosed, AreClosedGens, AreWideGens, IsWithin, HoldSame}
 use Rattle.pair_laws.specs.StoredForms.{stored_constraints, stored_generators, AreClosedSystems}
+
+-- constraints hold at the points that their list admits
+abbrev pub ConstraintListAdmits : Type 0
+ConstraintListAdmits = (cs : Constraints) (p : List ℤ) → AreClosed cs → IsPoint cs.dim p → In cs p ↔ ConeOf (cs.dim + 1) (constraint_list cs) p
+
+-- generators generate the points that their list spans
+abbrev pub GeneratorListSpans : Type 0
+GeneratorListSpans = (gs : Generators) (p : List ℤ) → AreClosedGens gs → IsPoint gs.dim p → Span gs p ↔ Spans (lines_of (generator_list gs)) (rays_of (generator_list gs)) p
 
 -- where no ray of the system of the constraint list has a positive last entry, the constraints hold at no point
 abbrev pub NoPointInConstraints : Type 0

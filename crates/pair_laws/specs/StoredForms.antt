@@ -1,3 +1,4 @@
+use Rattle.row_core.specs.Lists.{system_rows}
 use Rattle.std.specs.Prelude.{◌≡◌, ℕ, zero, suc, ◌+◌, ◌⊎◌, List, [], ◌∷◌, ◌++◌, map, filter, not, ◌&&◌, Bool, false, ℤ, pos, negsuc}
 use Rattle.std.specs.Ordering.{int_eq}
 use Rattle.row_core.specs.Vectors.{cell}
@@ -7,7 +8,7 @@ use Rattle.gens_sys.specs.declared.kind.GenKind.{GenKind}
 use Rattle.gens_sys.specs.declared.kind.GenKind.TheVariants.{Line, Ray, Point}
 use Rattle.gens_sys.specs.Generators.{Generator, Generators}
 use Rattle.dual_cones.specs.Members.{ConeOf}
-use Rattle.dual_cones.specs.DualSystems.{system_rows, IsDual}
+use Rattle.dual_cones.specs.DualSystems.{IsDual}
 use Rattle.pair_laws.specs.WorkLists.{divisor_row, HasPoint}
 
 -- ---- what two canonical systems stand for

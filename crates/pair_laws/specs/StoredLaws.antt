@@ -1,4 +1,4 @@
-use Rattle.std.specs.Prelude.{◌≡◌, ℕ, ◌+◌, ◌<◌, ◌↔◌, List, length, remove, ℤ, pos}
+use Rattle.std.specs.Prelude.{◌≡◌, ℕ, ◌+◌, ◌<◌, ◌↔◌, List, [], length, remove, ℤ, pos}
 use Rattle.row_core.specs.Vectors.{dot}
 use Rattle.row_core.specs.Points.{IsPoint}
 use Rattle.cone_laws.specs.Canon.{Canon}
@@ -10,8 +10,21 @@ use Rattle.gens_sys.specs.Generators.{Generators}
 use Rattle.gens_sys.specs.Spans.{Span}
 use Rattle.dual_cones.specs.Members.{ConeOf}
 use Rattle.pair_laws.specs.WorkLists.{generator_list}
-use Rattle.pair_laws.specs.PointSets.{IsWithin, IsValid, IsInCone, HoldSame}
+use Rattle.pair_laws.specs.PointSets.{AreClosed, AreClosedGens, IsWithin, IsValid, IsInCone, HoldSame}
 use Rattle.pair_laws.specs.StoredForms.{stored_constraints, stored_generators, IsStored}
+
+-- a stored system has neither strict constraints nor closure points, and both have its dimension
+pub record AreClosedForms (cs : Constraints) (gs : Generators) : Type 0 where
+  pub same_dim : gs.dim ≡ cs.dim
+  pub cons : AreClosed cs
+  pub gens : AreClosedGens gs
+
+abbrev pub StoredIsClosed : Type 0
+StoredIsClosed = (cs : Constraints) (gs : Generators) → IsStored cs gs → AreClosedForms cs gs
+
+-- there is no generator exactly where there is no point
+abbrev pub StoredIsEmpty : Type 0
+StoredIsEmpty = (cs : Constraints) (gs : Generators) → IsStored cs gs → (gs.list ≡ []) ↔ ((p : List ℤ) → ¬ (IsWithin cs p))
 
 -- both systems hold the same points
 abbrev pub IsPair : Constraints → Generators → Type 0

@@ -1,6 +1,6 @@
 use Rattle.std.specs.Prelude.{◌≡◌, ℕ, zero, suc, ◌+◌, ◌<◌, ◌⊎◌, List, [], ◌∷◌, length, map, Bool, true, false, ℤ, pos, ◌<ℤ◌}
 use Rattle.row_core.specs.Vectors.{cell}
-use Rattle.row_core.specs.Lists.{Row}
+use Rattle.row_core.specs.Lists.{Row, system_rows}
 use Rattle.row_core.specs.declared.errors.Overflow.{Overflow}
 use Rattle.cone_laws.specs.Canon.{vector_at, Canon}
 use Rattle.cone_laws.specs.Leaves.{Leaves}
@@ -11,7 +11,6 @@ use Rattle.gens_sys.specs.declared.kind.GenKind.{GenKind}
 use Rattle.gens_sys.specs.declared.kind.GenKind.TheVariants.{Line, Ray, Point, ClosurePoint}
 use Rattle.gens_sys.specs.Generators.{Generator, Generators}
 use Rattle.dual_cones.specs.Members.{ConeOf}
-use Rattle.dual_cones.specs.DualSystems.{system_rows}
 
 -- ---- first lists
 -- the row `(0, .., 0, 1)`: the divisor is at least 0

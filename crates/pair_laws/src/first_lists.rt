@@ -1,5 +1,11 @@
 //! Laws of the canonical systems of a list of constraints, and of a list of generators.
-ghost use Rattle.pair_laws.specs.FirstLists.{NoPointInConstraints, PairOfConstraints, PointOfGenerators, PairOfGenerators};
+ghost use Rattle.pair_laws.specs.FirstLists.{ConstraintListAdmits, GeneratorListSpans, NoPointInConstraints, PairOfConstraints, PointOfGenerators, PairOfGenerators};
+
+/// A first list tells which points its constraints hold at, or its generators generate.
+pub fn points_of_lists()
+    ensures constraints { ConstraintListAdmits }
+    ensures generators { GeneratorListSpans }
+{}
 
 /// The systems of the constraint list of a closed system tell whether there is a point, and then hold
 /// at the points of the constraints.

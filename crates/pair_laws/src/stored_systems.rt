@@ -1,5 +1,15 @@
 //! Laws of the two systems that a closed polyhedron stores.
-ghost use Rattle.pair_laws.specs.StoredLaws.{StoredIsPair, StoredIsIrredundant, StoredIsCanonical, StoredAdmitsValidRows, StoredInequalitiesTouch, StoredIsUnique};
+ghost use Rattle.pair_laws.specs.StoredLaws.{StoredIsClosed, StoredIsEmpty, StoredIsPair, StoredIsIrredundant, StoredIsCanonical, StoredAdmitsValidRows, StoredInequalitiesTouch, StoredIsUnique};
+
+/// There are neither strict constraints nor closure points.
+pub fn stored_is_closed()
+    ensures { StoredIsClosed }
+{}
+
+/// Without generators there is no point, and only then.
+pub fn stored_is_empty()
+    ensures { StoredIsEmpty }
+{}
 
 /// Both systems hold the same points.
 pub fn stored_is_pair()
