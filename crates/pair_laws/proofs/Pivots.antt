@@ -15,9 +15,9 @@ use Rattle.dual_cones.proofs.SystemLists.{zero_on_lines}
 use Rattle.pair_laws.specs.WorkLists.{divisor_row, HasPoint}
 use Rattle.pair_laws.specs.StoredForms.{AreClosedSystems}
 use Rattle.pair_laws.proofs.DivisorRow.{dot_divisor, cell-divisor_last, cell-divisor_other}
-use Rattle.pair_laws.proofs.ClosedGens.{HasPositive, positive_term}
+use Rattle.pair_laws.proofs.ClosedGenerators.{HasPositive, positive_term}
 use Rattle.pair_laws.proofs.StoredPair.{inner_point, inner_within, within_cone}
-use Rattle.pair_laws.proofs.Extremes.{combined_zero}
+use Rattle.pair_laws.proofs.NeededRows.{combined_zero}
 
 -- a row that is 0 before its last column is a multiple of the row of the divisor
 column_of : (dim : ℕ) (l : List ℤ) → length l ≡ dim + 1 → ((j : ℕ) → j < dim → cell l j ≡ pos 0) → (j : ℕ) → cell l j ≡ cell l dim *ℤ cell (divisor_row dim) j

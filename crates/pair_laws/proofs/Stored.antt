@@ -15,7 +15,7 @@ use Rattle.pair_laws.specs.StoredForms.{stored_constraints, stored_generators, f
 use Rattle.pair_laws.specs.StoredLaws.{StoredIsClosed, StoredIsEmpty, IsPair, AreIrredundantConstraints, AreIrredundantGenerators, IsCanonicalPair, AdmitValidRows, StoredIsPair, StoredIsIrredundant, StoredIsCanonical, StoredAdmitsValidRows, AreSameSystems, StoredIsUnique}
 use Rattle.pair_laws.proofs.DivisorRow.{length-divisor, cell-divisor_last}
 use Rattle.pair_laws.proofs.StoredPair.{pair_closed, gens_closed, is_pair, is_canonical, inner_within, inner_point, rows_same, vectors_same}
-use Rattle.pair_laws.proofs.NothingToSpare.{length_stored, no_constraint_to_spare, no_generator_to_spare}
+use Rattle.pair_laws.proofs.Irredundance.{length_stored, no_constraint_to_spare, no_generator_to_spare}
 use Rattle.pair_laws.proofs.ValidRows.{valid_are_listed, valid_without_points}
 
 -- ---- the empty form

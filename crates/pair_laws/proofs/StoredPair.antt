@@ -26,8 +26,8 @@ use Rattle.pair_laws.specs.StoredForms.{is_divisor_row, vector_kind, stored_cons
 use Rattle.pair_laws.specs.StoredLaws.{IsPair, IsCanonicalPair}
 use Rattle.pair_laws.proofs.ListLemmas.{All-map_first, All-map_rest, All-unmap}
 use Rattle.pair_laws.proofs.DivisorRow.{dot_divisor, all_from_kept}
-use Rattle.pair_laws.proofs.ClosedCons.{meets_constraint, cone_in, cone_divisor, above_cone, admitted_in_cone, cone_admitted}
-use Rattle.pair_laws.proofs.ClosedGens.{spans_generated, generated_spans}
+use Rattle.pair_laws.proofs.ClosedConstraints.{meets_constraint, cone_in, cone_divisor, above_cone, admitted_in_cone, cone_admitted}
+use Rattle.pair_laws.proofs.ClosedGenerators.{spans_generated, generated_spans}
 
 -- ---- lists as constraints and generators
 -- the rows as constraints

@@ -1,5 +1,5 @@
-use Rattle.pair_laws.proofs.FromCons.{constraint_list_admits}
-use Rattle.pair_laws.proofs.FromGens.{generator_list_spans}
+use Rattle.pair_laws.proofs.ConstraintLists.{constraint_list_admits}
+use Rattle.pair_laws.proofs.GeneratorLists.{generator_list_spans}
 use Rattle.pair_laws.proofs.first_lists.points_of_lists.Goals as goal
 
 pub returns : goal.returns

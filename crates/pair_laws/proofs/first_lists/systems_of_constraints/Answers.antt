@@ -1,4 +1,4 @@
-use Rattle.pair_laws.proofs.FromCons.{no_point_in_constraints, pair_of_constraints}
+use Rattle.pair_laws.proofs.ConstraintLists.{no_point_in_constraints, pair_of_constraints}
 use Rattle.pair_laws.proofs.first_lists.systems_of_constraints.Goals as goal
 
 pub returns : goal.returns

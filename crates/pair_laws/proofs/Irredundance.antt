@@ -28,12 +28,12 @@ use Rattle.pair_laws.specs.PointSets.{IsClosedKind, AreClosed, IsWithin}
 use Rattle.pair_laws.specs.StoredForms.{is_divisor_row, vector_kind, stored_constraints, stored_generators, AreClosedSystems}
 use Rattle.pair_laws.specs.StoredLaws.{AreIrredundantConstraints, AreIrredundantGenerators}
 use Rattle.pair_laws.proofs.DivisorRow.{length-divisor, cell-divisor_last, divisor_primitive, kept_other}
-use Rattle.pair_laws.proofs.Limits.{above_everywhere}
-use Rattle.pair_laws.proofs.ClosedCons.{above_cone}
-use Rattle.pair_laws.proofs.ClosedGens.{spans_generated}
+use Rattle.pair_laws.proofs.Directions.{above_everywhere}
+use Rattle.pair_laws.proofs.ClosedConstraints.{above_cone}
+use Rattle.pair_laws.proofs.ClosedGenerators.{spans_generated}
 use Rattle.pair_laws.proofs.StoredPair.{plain_cons, kept_rows, gen_list_stored, pair_closed, pair_wide, vector_divisor, cone_point, inner_point, inner_within, holds_generated, row_valid}
-use Rattle.pair_laws.proofs.Removed.{remove-map, contains_here, all_later, IsFrom, from_filtered, more_spans}
-use Rattle.pair_laws.proofs.Extremes.{line_needed, extra_is}
+use Rattle.pair_laws.proofs.RemovedElements.{remove-map, contains_here, all_later, IsFrom, from_filtered, more_spans}
+use Rattle.pair_laws.proofs.NeededRows.{line_needed, extra_is}
 use Rattle.pair_laws.proofs.Pivots.{systems_divisor_zero}
 
 -- ---- the list of plain constraints

@@ -30,9 +30,9 @@ use Rattle.pair_laws.specs.StoredForms.{stored_constraints, stored_generators, A
 use Rattle.pair_laws.specs.FirstLists.{GeneratorListSpans, PointOfGenerators, PairOfGenerators}
 use Rattle.pair_laws.proofs.ListLemmas.{All-unmap}
 use Rattle.pair_laws.proofs.DivisorRow.{dot_divisor, length-divisor}
-use Rattle.pair_laws.proofs.ClosedGens.{HasPositive, positive_term, zero_divisor, spans_generated, generated_spans}
+use Rattle.pair_laws.proofs.ClosedGenerators.{HasPositive, positive_term, zero_divisor, spans_generated, generated_spans}
 use Rattle.pair_laws.proofs.StoredPair.{cone_stored, within_cone, gens_closed, stored_generates, stored_spans}
-use Rattle.pair_laws.proofs.Extremes.{combined_zero}
+use Rattle.pair_laws.proofs.NeededRows.{combined_zero}
 use Rattle.pair_laws.proofs.Pivots.{second_positive, point_of_divisor}
 
 -- ---- the last entry of a closed generator

@@ -17,9 +17,9 @@ use Rattle.pair_laws.specs.PointSets.{AreClosed, IsWithin, HoldSame}
 use Rattle.pair_laws.specs.StoredForms.{stored_constraints, AreClosedSystems}
 use Rattle.pair_laws.specs.FirstLists.{ConstraintListAdmits, NoPointInConstraints, PairOfConstraints}
 use Rattle.pair_laws.proofs.DivisorRow.{dot_divisor, length-divisor}
-use Rattle.pair_laws.proofs.ClosedCons.{in_cone, cone_in, cone_divisor}
+use Rattle.pair_laws.proofs.ClosedConstraints.{in_cone, cone_in, cone_divisor}
 use Rattle.pair_laws.proofs.StoredPair.{cone_stored, within_cone}
-use Rattle.pair_laws.proofs.Extremes.{combined_zero}
+use Rattle.pair_laws.proofs.NeededRows.{combined_zero}
 
 module _ (cs : Constraints) (closed : AreClosed cs) (lines rays : List (List ℤ)) (first : Canon (ConeOf (cs.dim + 1) (constraint_list cs)) lines rays) where
   abbrev width : ℕ

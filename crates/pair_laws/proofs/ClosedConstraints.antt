@@ -14,7 +14,7 @@ use Rattle.pair_laws.specs.WorkLists.{divisor_row, constraint_row, constraint_li
 use Rattle.pair_laws.specs.PointSets.{IsClosedKind, AreClosed, AreWide, IsWithin, IsValid, IsInCone}
 use Rattle.pair_laws.proofs.ListLemmas.{All-unmap}
 use Rattle.pair_laws.proofs.DivisorRow.{dot_divisor, length-divisor}
-use Rattle.pair_laws.proofs.Limits.{above_everywhere}
+use Rattle.pair_laws.proofs.Directions.{above_everywhere}
 
 -- ---- one constraint
 pub meets_constraint : (c : Constraint) (v : List ℤ) → IsClosedKind c.1 → Satisfies v c → Meets v (constraint_row c)

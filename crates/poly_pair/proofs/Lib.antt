@@ -1,0 +1,7 @@
+pub mod RowLemmas
+pub mod GeneratorLemmas
+pub mod CountLemmas
+pub mod FitLemmas
+pub mod UniverseLemmas
+pub mod StoredLemmas
+pub mod ListLemmas
