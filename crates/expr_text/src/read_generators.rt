@@ -12,7 +12,7 @@ use crate::read_refusals::{check_form, refusal};
 use gens_sys::{GenKind, GenPushErr, GensSys};
 use grammar::gens_column;
 use reply_text::{Fault, ReadErr};
-use row_core::Memory;
+use row_core::{Memory, RowBuf};
 use std::alloc::Global;
 use term_text::{Term, ValueErr, row_of, scan_text};
 
@@ -80,13 +80,12 @@ fn vector_of(alloc: Global, dim: usize, terms: &[Term], last: u128) -> Result<Ve
 }
 
 /// Stores the vector, where it fits its kind.
-fn store(system: &mut GensSys, kind: GenKind, cells: &[i128]) -> Result<Outcome, Memory>
-    requires wide { length cells.now ≡ system.old.dim + 1 }
-    requires in_range { AllInRange cells.now }
+fn store(system: &mut GensSys, kind: GenKind, row: RowBuf) -> Result<Outcome, Memory>
+    requires { length row ≡ system.old.dim + 1 }
     ensures dim { system.new.dim ≡ system.old.dim }
-    ensures value { MatchResult result (Stores system.old.dim system.old.list system.new.list kind cells.now) (λ _. Unit {0}) }
+    ensures value { MatchResult result (Stores system.old.dim system.old.list system.new.list kind row) (λ _. Unit {0}) }
 {
-    match system.push(cells, kind) {
+    match system.push_row(row, kind) {
         Ok(()) => Ok(Outcome::Fits),
         Err(GenPushErr::ZeroVector) => Ok(Outcome::ZeroVector),
         Err(GenPushErr::BadDivisor) => Ok(Outcome::ZeroDivisor),
@@ -106,7 +105,7 @@ fn add_terms(
     ensures value { MatchResult result (Adds system.old.dim system.old.list system.new.list (given kind (record { terms = terms.now; divisor = divisor }))) (StopsAt system.old.dim (given kind (record { terms = terms.now; divisor = divisor }))) }
 {
     match vector_of(alloc, system.dim(), terms, last_entry(kind, divisor)) {
-        Ok(cells) => Ok(store(system, kind, &cells)?),
+        Ok(cells) => Ok(store(system, kind, RowBuf::from_vec(cells))?),
         Err(ValueErr::TooLarge) => Ok(Outcome::TooLarge),
         Err(error) => Err(error),
     }
