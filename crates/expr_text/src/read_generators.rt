@@ -1,7 +1,7 @@
 //! Systems of generators from their texts.
-ghost use Rattle.std.specs.Prelude.{◌≡◌, ◌+◌, ◌-◌, ◌^◌, ◌<◌, ◌==◌, [], length, map, MatchResult};
+ghost use Rattle.std.specs.Prelude.{◌≡◌, ◌+◌, ◌-◌, ◌^◌, ◌<◌, ◌==◌, [], length, map, pos, MatchOption, MatchResult};
 ghost use Rattle.std.specs.List.{slice_split};
-ghost use Rattle.row_core.specs.Range.{AllInRange};
+ghost use Rattle.row_core.specs.Range.{InRange};
 ghost use Rattle.grammar.specs.Cases.{gens_cases};
 ghost use Rattle.expr_text.specs.Refusals.{IsRefused};
 ghost use Rattle.expr_text.specs.GeneratorReading.{last_entry, given, kind_read, gen_read, gens_read};
@@ -14,7 +14,7 @@ use grammar::gens_column;
 use reply_text::{Fault, ReadErr};
 use row_core::{Memory, RowBuf};
 use std::alloc::Global;
-use term_text::{Term, ValueErr, row_of, scan_text};
+use term_text::{TermReader, ValueErr};
 
 /// How far generators can be stored.
 #[derive(Clone, Copy, Debug, PartialEq, Eq)]
@@ -56,23 +56,28 @@ fn kind_of_text(text: &[u8]) -> GenKind
     }
 }
 
-/// The last entry of a vector of the kind.
-fn last_entry(kind: GenKind, divisor: u128) -> u128
-    ensures { result ≡ last_entry kind divisor }
+/// The last entry of the vector of the kind, where it is of the range.
+fn last_entry(kind: GenKind, reader: &TermReader) -> Option<i128>
+    ensures { MatchOption result (last_entry kind reader.now.divisor < 2 ^ 127 → ⊥) (λ last. (last_entry kind reader.now.divisor < 2 ^ 127) × (last ≡ pos (last_entry kind reader.now.divisor)) × InRange last) }
 {
     match kind {
-        GenKind::Line | GenKind::Ray => 0,
-        GenKind::Point | GenKind::ClosurePoint => divisor,
+        GenKind::Line | GenKind::Ray => Some(0),
+        GenKind::Point | GenKind::ClosurePoint => reader.divisor(),
     }
 }
 
-/// The vector of the terms with that last entry.
-fn vector_of(alloc: Global, dim: usize, terms: &[Term], last: u128) -> Result<Vec<i128>, ValueErr>
+/// The vector of the kind of what was read.
+fn vector_of(
+    alloc: Global,
+    dim: usize,
+    kind: GenKind,
+    reader: &TermReader,
+) -> Result<Vec<i128>, ValueErr>
     requires { dim < 2 ^ 32 - 2 }
-    ensures { MatchResult result (λ row. IsSafeVector dim terms.now last row.items) (IsVectorFault dim terms.now last) }
+    ensures { MatchResult result (λ row. IsSafeVector dim reader.now.terms (last_entry kind reader.now.divisor) row.items) (IsVectorFault dim reader.now.terms (last_entry kind reader.now.divisor)) }
 {
-    let mut cells = row_of(alloc, dim, terms)?;
-    let Ok(last) = i128::try_from(last) else {
+    let mut cells = reader.row(alloc, dim)?;
+    let Some(last) = last_entry(kind, reader) else {
         return Err(ValueErr::TooLarge);
     };
     cells[dim] = last;
@@ -93,36 +98,34 @@ fn store(system: &mut GensSys, kind: GenKind, row: RowBuf) -> Result<Outcome, Me
     }
 }
 
-/// Stores the generator of the terms.
-fn add_terms(
+/// Stores the generator of the kind of what was read.
+fn add_vector(
     alloc: Global,
     system: &mut GensSys,
     kind: GenKind,
-    terms: &[Term],
-    divisor: u128,
+    reader: &TermReader,
 ) -> Result<Outcome, ValueErr>
     ensures dim { system.new.dim ≡ system.old.dim }
-    ensures value { MatchResult result (Adds system.old.dim system.old.list system.new.list (given kind (record { terms = terms.now; divisor = divisor }))) (StopsAt system.old.dim (given kind (record { terms = terms.now; divisor = divisor }))) }
+    ensures value { MatchResult result (Adds system.old.dim system.old.list system.new.list (given kind reader.now)) (StopsAt system.old.dim (given kind reader.now)) }
 {
-    match vector_of(alloc, system.dim(), terms, last_entry(kind, divisor)) {
+    match vector_of(alloc, system.dim(), kind, reader) {
         Ok(cells) => Ok(store(system, kind, RowBuf::from_vec(cells))?),
         Err(ValueErr::TooLarge) => Ok(Outcome::TooLarge),
         Err(error) => Err(error),
     }
 }
 
-fn add_generator(alloc: Global, system: &mut GensSys, text: &[u8]) -> Result<Outcome, ValueErr>
+fn add_generator(
+    alloc: Global,
+    system: &mut GensSys,
+    reader: &mut TermReader,
+    text: &[u8],
+) -> Result<Outcome, ValueErr>
     ensures dim { system.new.dim ≡ system.old.dim }
     ensures value { MatchResult result (Adds system.old.dim system.old.list system.new.list (gen_read text.now)) (StopsAt system.old.dim (gen_read text.now)) }
 {
-    let (terms, state) = scan_text(alloc, text)?;
-    add_terms(
-        alloc,
-        system,
-        kind_of_text(text),
-        terms.as_slice(),
-        state.divisor(),
-    )
+    reader.read(text)?;
+    add_vector(alloc, system, kind_of_text(text), &*reader)
 }
 
 /// Stores the generators between the commas.
@@ -131,9 +134,10 @@ fn add_list(alloc: Global, system: &mut GensSys, text: &[u8]) -> Result<Outcome,
     ensures dim { system.new.dim ≡ system.old.dim }
     ensures value { MatchResult result (HaveRead system.old.dim (map gen_read (slice_split (λ b. b == 44) text.now)) system.new.list) (StopAt system.old.dim (map gen_read (slice_split (λ b. b == 44) text.now))) }
 {
+    let mut reader = TermReader::new(alloc);
     let mut outcome = Outcome::Fits;
     for part in text.split(|byte| *byte == b',') {
-        let added = add_generator(alloc, system, part)?;
+        let added = add_generator(alloc, system, &mut reader, part)?;
         outcome = outcome.worse(added);
     }
     Ok(outcome)

@@ -77,12 +77,12 @@ fn con_row(alloc: Global, dim: usize, text: &[u8]) -> Result<OneCon, ValueErr>
     requires { dim < 2 ^ 32 - 2 }
     ensures { MatchResult result (λ c. IsConOf dim (con_read text.now) c.row c.kind) (IsRowOfFault dim (con_read text.now).terms) }
 {
-    let (terms, state) = scan(alloc, text)?;
+    let mut terms = Vec::new(alloc);
+    let state = scan(text, &mut terms)?;
     let relation = state.relation();
     let cells = row_facing(alloc, dim, terms.as_slice(), relation)?;
-    let row = RowBuf::from_vec(cells);
     Ok(OneCon {
-        row,
+        row: RowBuf::from_vec(cells),
         kind: relation.kind(),
     })
 }
@@ -121,11 +121,16 @@ fn add_terms(
     }
 }
 
-fn add_con(alloc: Global, system: &mut ConsSys, text: &[u8]) -> Result<bool, ValueErr>
+fn add_con(
+    alloc: Global,
+    system: &mut ConsSys,
+    terms: &mut Vec<Term>,
+    text: &[u8],
+) -> Result<bool, ValueErr>
     ensures dim { system.new.dim ≡ system.old.dim }
     ensures value { MatchResult result (Adds system.old.dim system.old.list system.new.list (con_read text.now)) (StopsAt system.old.dim (con_read text.now)) }
 {
-    let (terms, state) = scan(alloc, text)?;
+    let state = scan(text, terms)?;
     add_terms(alloc, system, terms.as_slice(), state.relation())
 }
 
@@ -135,9 +140,10 @@ fn add_list(alloc: Global, system: &mut ConsSys, text: &[u8]) -> Result<bool, Va
     ensures dim { system.new.dim ≡ system.old.dim }
     ensures value { MatchResult result (HaveRead system.old.dim (map con_read (slice_split (λ b. b == 44) text.now)) system.new.list) (StopAt system.old.dim (map con_read (slice_split (λ b. b == 44) text.now))) }
 {
+    let mut terms = Vec::new(alloc);
     let mut fits = true;
     for part in text.split(|byte| *byte == b',') {
-        let added = add_con(alloc, system, part)?;
+        let added = add_con(alloc, system, &mut terms, part)?;
         fits &= added;
     }
     Ok(fits)

@@ -3,8 +3,6 @@ ghost use Rattle.std.specs.Prelude.{◌≡◌, ◌+◌, ◌*◌, ◌^◌, ◌++�
 ghost use Rattle.term_text.specs.Reading.{next_number, with_digit, with_letter, with_equals, ends_term, after, part_term, term_of, begun, start, terms_read, final, relation_at, divisor_at};
 
 use crate::terms::{Relation, Term, ValueErr};
-use smallvec::SmallVec;
-use std::alloc::Global;
 
 /// Stands for all greater sizes.
 const MOST_SIZE: u128 = 1 << 127;
@@ -23,27 +21,23 @@ pub enum Part {
 }
 
 impl Part {
-    fn with_digit(self, digit: u8) -> Part
-        ensures { result ≡ with_digit self digit }
+    fn push_digit(&mut self, digit: u8)
+        ensures { self.new ≡ with_digit self.old digit }
     {
         match self {
-            Part::Nothing => Part::Number(digit as u128),
-            Part::Number(size) => Part::Number(next_size(size, digit)),
-            Part::Letter(factor, place, number) => Part::Letter(
-                factor,
-                place,
-                next_index(number, digit),
-            ),
+            Part::Nothing => *self = Part::Number(digit as u128),
+            Part::Number(size) => *size = next_size(*size, digit),
+            Part::Letter(_, _, number) => *number = next_index(*number, digit),
         }
     }
 
-    fn with_letter(self, place: u8) -> Part
-        ensures { result ≡ with_letter self place }
+    fn push_letter(&mut self, place: u8)
+        ensures { self.new ≡ with_letter self.old place }
     {
-        match self {
+        *self = match *self {
             Part::Number(factor) => Part::Letter(factor, place as u64, 0),
             Part::Nothing | Part::Letter(_, _, _) => Part::Letter(1, place as u64, 0),
-        }
+        };
     }
 
     fn term(self, negative: bool) -> Option<Term>
@@ -65,12 +59,19 @@ impl Part {
     }
 }
 
+/// No digit behind a lesser size leaves the range.
+const SMALL_SIZE: u128 = 1 << 120;
+
 fn next_size(size: u128, digit: u8) -> u128
     ensures { result ≡ next_number (2 ^ 127) size digit }
 {
-    size.saturating_mul(10)
-        .saturating_add(digit as u128)
-        .min(MOST_SIZE)
+    if size < SMALL_SIZE {
+        size * 10 + digit as u128
+    } else {
+        size.saturating_mul(10)
+            .saturating_add(digit as u128)
+            .min(MOST_SIZE)
+    }
 }
 
 fn next_index(number: u64, digit: u8) -> u64
@@ -133,25 +134,27 @@ impl State {
         }
     }
 
-    fn after(self, byte: u8) -> State
-        ensures { result ≡ after self byte }
+    fn begin(&mut self, place: Place, negative: bool)
+        ensures { self.new ≡ begun place negative }
+    {
+        self.negative = negative;
+        self.part = Part::Nothing;
+        self.place = place;
+    }
+
+    fn push(&mut self, byte: u8)
+        ensures { self.new ≡ after self.old byte }
     {
         match byte {
-            b'0'..=b'9' => State {
-                part: self.part.with_digit(byte - b'0'),
-                ..self
-            },
-            b'A'..=b'Z' => State {
-                part: self.part.with_letter(byte - b'A'),
-                ..self
-            },
-            b'+' => State::begun(self.place, false),
-            b'-' => State::begun(self.place, true),
-            b'=' => State::begun(self.place.with_equals(), false),
-            b'>' => State::begun(Place::Right(Relation::Above), false),
-            b'<' => State::begun(Place::Right(Relation::Below), false),
-            b'/' => State::begun(Place::Divisor, false),
-            _ => self,
+            b'0'..=b'9' => self.part.push_digit(byte - b'0'),
+            b'A'..=b'Z' => self.part.push_letter(byte - b'A'),
+            b'+' => self.begin(self.place, false),
+            b'-' => self.begin(self.place, true),
+            b'=' => self.begin(self.place.with_equals(), false),
+            b'>' => self.begin(Place::Right(Relation::Above), false),
+            b'<' => self.begin(Place::Right(Relation::Below), false),
+            b'/' => self.begin(Place::Divisor, false),
+            _ => {}
         }
     }
 
@@ -185,8 +188,8 @@ impl State {
         }
     }
 
-    fn end_term(self, terms: &mut SmallVec<Term, 8>) -> Result<(), ValueErr>
-        ensures { MatchResult result (λ _. terms.new.items ≡ terms.old.items ++ option_to_list (term_of self)) (λ e. e ≡ ValueErr.Memory) }
+    fn end_term(&self, terms: &mut Vec<Term>) -> Result<(), ValueErr>
+        ensures { MatchResult result (λ _. terms.new.items ≡ terms.old.items ++ option_to_list (term_of self.now)) (λ e. e ≡ ValueErr.Memory) }
     {
         if let Some(term) = self.term() {
             terms.push(term)?;
@@ -201,18 +204,18 @@ fn ends_term(byte: u8) -> bool
     matches!(byte, b'+' | b'-' | b'=' | b'>' | b'<' | b'/')
 }
 
-/// Returns the terms of a text, and what stands behind its last byte.
-pub fn scan(alloc: Global, text: &[u8]) -> Result<(SmallVec<Term, 8>, State), ValueErr>
-    ensures { MatchResult result (λ r. (r.0.items ≡ terms_read start text.now) × (r.1 ≡ final start text.now)) (λ e. e ≡ ValueErr.Memory) }
+/// Makes `terms` the terms of a text, and returns what stands behind its last byte.
+pub fn scan(text: &[u8], terms: &mut Vec<Term>) -> Result<State, ValueErr>
+    ensures { MatchResult result (λ state. (terms.new.items ≡ terms_read start text.now) × (state ≡ final start text.now)) (λ e. e ≡ ValueErr.Memory) }
 {
-    let mut terms = SmallVec::new(alloc);
+    terms.clear();
     let mut state = State::begun(Place::Left, false);
     for byte in text {
         if ends_term(*byte) {
-            state.end_term(&mut terms)?;
+            state.end_term(terms)?;
         }
-        state = state.after(*byte);
+        state.push(*byte);
     }
-    state.end_term(&mut terms)?;
-    Ok((terms, state))
+    state.end_term(terms)?;
+    Ok(state)
 }

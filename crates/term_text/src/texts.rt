@@ -26,7 +26,8 @@ fn expr_row(alloc: Global, dim: usize, text: &[u8]) -> Result<RowBuf, ValueErr>
     requires { dim < 2 ^ 32 - 2 }
     ensures { MatchResult result (IsRowOf dim (terms_read start text.now)) (IsRowOfFault dim (terms_read start text.now)) }
 {
-    let (terms, _state) = scan(alloc, text)?;
+    let mut terms = Vec::new(alloc);
+    scan(text, &mut terms)?;
     let cells = row_of(alloc, dim, terms.as_slice())?;
     Ok(RowBuf::from_vec(cells))
 }
@@ -62,7 +63,8 @@ fn ratio_row(alloc: Global, dim: usize, text: &[u8]) -> Result<(Vec<i128>, i128)
     requires { dim < 2 ^ 32 - 2 }
     ensures { MatchResult result (λ r. IsFracOf dim (ratio_read text.now) r.0.items r.1 × AllInRange r.0.items) (IsRatioFault dim (ratio_read text.now)) }
 {
-    let (terms, state) = scan(alloc, text)?;
+    let mut terms = Vec::new(alloc);
+    let state = scan(text, &mut terms)?;
     let cells = row_of(alloc, dim, terms.as_slice())?;
     let divisor = divisor_of(state)?;
     Ok((cells, divisor))
@@ -73,8 +75,10 @@ fn frac_row(alloc: Global, dim: usize, text: &[u8]) -> Result<Frac, ValueErr>
     ensures { MatchResult result (λ f. IsFracOf dim (ratio_read text.now) f.expr f.den) (IsRatioFault dim (ratio_read text.now)) }
 {
     let (cells, den) = ratio_row(alloc, dim, text)?;
-    let expr = RowBuf::from_vec(cells);
-    Ok(Frac { expr, den })
+    Ok(Frac {
+        expr: RowBuf::from_vec(cells),
+        den,
+    })
 }
 
 fn point_row(alloc: Global, dim: usize, text: &[u8]) -> Result<RowBuf, ValueErr>
