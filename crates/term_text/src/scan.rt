@@ -1,6 +1,6 @@
 //! One pass over the bytes of a text.
-ghost use Rattle.std.specs.Prelude.{◌≡◌, ◌+◌, ◌*◌, ◌^◌, ◌++◌, min, option_to_list, MatchResult};
-ghost use Rattle.term_text.specs.Reading.{next_number, with_digit, with_letter, with_equals, ends_term, after, part_term, term_of, begun, start, terms_read, final, relation_at, divisor_at};
+ghost use Rattle.std.specs.Prelude.{◌≡◌, ◌+◌, ◌*◌, ◌^◌, ◌++◌, min, option_to_list, MatchResult, OnOk};
+ghost use Rattle.term_text.specs.Reading.{next_number, with_digit, with_letter, with_equals, ended, after, part_term, term_of, begun, start, terms_read, final, relation_at, divisor_at};
 
 use crate::terms::{Relation, Term, ValueErr};
 
@@ -142,22 +142,6 @@ impl State {
         self.place = place;
     }
 
-    fn push(&mut self, byte: u8)
-        ensures { self.new ≡ after self.old byte }
-    {
-        match byte {
-            b'0'..=b'9' => self.part.push_digit(byte - b'0'),
-            b'A'..=b'Z' => self.part.push_letter(byte - b'A'),
-            b'+' => self.begin(self.place, false),
-            b'-' => self.begin(self.place, true),
-            b'=' => self.begin(self.place.with_equals(), false),
-            b'>' => self.begin(Place::Right(Relation::Above), false),
-            b'<' => self.begin(Place::Right(Relation::Below), false),
-            b'/' => self.begin(Place::Divisor, false),
-            _ => {}
-        }
-    }
-
     fn term(self) -> Option<Term>
         ensures { result ≡ term_of self }
     {
@@ -196,12 +180,34 @@ impl State {
         }
         Ok(())
     }
-}
 
-fn ends_term(byte: u8) -> bool
-    ensures { result ≡ ends_term byte }
-{
-    matches!(byte, b'+' | b'-' | b'=' | b'>' | b'<' | b'/')
+    /// Ends the term that is read, and begins the next one.
+    fn turn(&mut self, terms: &mut Vec<Term>, place: Place, negative: bool) -> Result<(), ValueErr>
+        ensures state { OnOk result (self.new ≡ begun place negative) }
+        ensures terms { MatchResult result (λ _. terms.new.items ≡ terms.old.items ++ option_to_list (term_of self.old)) (λ e. e ≡ ValueErr.Memory) }
+    {
+        self.end_term(terms)?;
+        self.begin(place, negative);
+        Ok(())
+    }
+
+    fn push(&mut self, byte: u8, terms: &mut Vec<Term>) -> Result<(), ValueErr>
+        ensures state { OnOk result (self.new ≡ after self.old byte) }
+        ensures terms { MatchResult result (λ _. terms.new.items ≡ terms.old.items ++ ended self.old byte) (λ e. e ≡ ValueErr.Memory) }
+    {
+        match byte {
+            b'0'..=b'9' => self.part.push_digit(byte - b'0'),
+            b'A'..=b'Z' => self.part.push_letter(byte - b'A'),
+            b'+' => self.turn(terms, self.place, false)?,
+            b'-' => self.turn(terms, self.place, true)?,
+            b'=' => self.turn(terms, self.place.with_equals(), false)?,
+            b'>' => self.turn(terms, Place::Right(Relation::Above), false)?,
+            b'<' => self.turn(terms, Place::Right(Relation::Below), false)?,
+            b'/' => self.turn(terms, Place::Divisor, false)?,
+            _ => {}
+        }
+        Ok(())
+    }
 }
 
 /// Makes `terms` the terms of a text, and returns what stands behind its last byte.
@@ -211,10 +217,7 @@ pub fn scan(text: &[u8], terms: &mut Vec<Term>) -> Result<State, ValueErr>
     terms.clear();
     let mut state = State::begun(Place::Left, false);
     for byte in text {
-        if ends_term(*byte) {
-            state.end_term(terms)?;
-        }
-        state.push(*byte);
+        state.push(*byte, terms)?;
     }
     state.end_term(terms)?;
     Ok(state)
