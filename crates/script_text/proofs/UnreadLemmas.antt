@@ -1,41 +1,13 @@
 -- A line isn't both read and refused, and is refused for one fault.
-use Rattle.std.proofs.Common.{◌≡◌, ℕ, ◌<◌, ◌≤◌, List, [], ◌∷◌, zero, suc, length, map, refl, ap, arith, subst, sym, inl, inr}
-use Rattle.std.specs.Prelude.{Contains, ◌⊎◌}
-use Rattle.grammar.specs.Form.{Form, Matches, AnyMatches, IsColumnOfAny}
+use Rattle.std.proofs.Common.{◌≡◌, ℕ, ◌<◌, ◌≤◌, List, length, map, refl, ap, arith, inl, inr}
+use Rattle.grammar.specs.Form.{Form, IsColumnOfAny}
 use Rattle.reply_text.specs.declared.faults.Fault.{Fault}
 use Rattle.reply_text.specs.declared.faults.Fault.TheVariants.{LineTooLong, Syntax}
 use Rattle.reply_text.specs.declared.faults.ReadErr.TheVariants.{Input}
 use Rattle.script_text.specs.Rows.{row_form, rows}
 use Rattle.script_text.specs.Line.{Spells, IsUnread}
-use Rattle.script_text.specs.declared.row.Row.{Row}
-use Rattle.script_text.specs.declared.row.Row.TheVariants as row
 use Rattle.script_text.specs.declared.command.Command.{Command}
-
-row_in : (r : Row) → Contains rows r
-row_in row.Nothing = (0, omega arith, refl)
-row_in row.Cons = (1, omega arith, refl)
-row_in row.Gens = (2, omega arith, refl)
-row_in row.Universe = (3, omega arith, refl)
-row_in row.Empty = (4, omega arith, refl)
-row_in row.Copy = (5, omega arith, refl)
-row_in row.Drop = (6, omega arith, refl)
-row_in row.Add = (7, omega arith, refl)
-row_in row.Addgen = (8, omega arith, refl)
-row_in row.Has = (9, omega arith, refl)
-row_in row.Size = (10, omega arith, refl)
-row_in row.Print = (11, omega arith, refl)
-row_in row.Names = (12, omega arith, refl)
-
-head_or_tail : (x : Row) (xs : List Row) (r : Row) → Contains (x ∷ xs) r → (x ≡ r) ⊎ Contains xs r
-head_or_tail x xs r (zero, h, e) = inl e
-head_or_tail x xs r (suc k, h, e) = inr (k, omega arith, e)
-
-nowhere : (r : Row) → Contains [] r → ⊥
-nowhere r (k, h, e) = omega arith
-
-any_at : (rs : List Row) (r : Row) (w : List ℕ) → Contains rs r → Matches (row_form r) w → AnyMatches (map row_form rs) w
-any_at [] r w c m = absurd (nowhere r c)
-any_at (x ∷ rs) r w c m = elim (head_or_tail x rs r c) [ inl e ↦ inl (subst (λ (y : Row). Matches (row_form y) w) (sym e) m) | inr d ↦ inr (any_at rs r w d m) ]
+use Rattle.script_text.proofs.AnyRow.{row_in, any_matches}
 
 not_less : (fs : List Form) (w : List ℕ) (c d : ℕ) → IsColumnOfAny fs w c → IsColumnOfAny fs w d → c < d → ⊥
 not_less fs w c d a b less = elim (a.here) [ inl h ↦ h.1 (b.before c less) | inr e ↦ elim (b.here) [ inl h ↦ (let le : d ≤ length w = h.0 in omega arith) | inr f ↦ omega arith ] ]
@@ -49,7 +21,7 @@ column_once fs w c d a b =
 -- a line that spells a command isn't refused by its reader
 pub spelled_read : (line : List ℕ) (c : Command) (f : Fault) → Spells line c → IsUnread line (Input f) → ⊥
 spelled_read line c LineTooLong s u = let short : length line ≤ 65535 = s.short in omega arith
-spelled_read line c (Syntax column) s u = u.1.not (any_at rows s.row line (row_in s.row) s.form)
+spelled_read line c (Syntax column) s u = u.1.not (any_matches rows s.row line (row_in s.row) s.form)
 spelled_read line c f s u = u
 
 short_long : (n : ℕ) → n ≤ 65535 → 65535 < n → ⊥

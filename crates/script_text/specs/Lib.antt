@@ -3,5 +3,4 @@ pub mod Fields
 pub mod Laws
 pub mod Line
 pub mod Rows
-pub mod Shown
 pub mod Words

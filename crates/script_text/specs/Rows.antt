@@ -1,5 +1,5 @@
 -- The lines of the commands.
-use Rattle.std.specs.Prelude.{ℕ, List, [], ◌∷◌, Option, Some, None, codes}
+use Rattle.std.specs.Prelude.{◌≡◌, ℕ, List, [], ◌∷◌, Option, Some, None, codes}
 use Rattle.grammar.specs.Form.{Form, word}
 use Rattle.grammar.specs.Grammar.{◌·◌, ◌∣◌, symbol, blanks, gap, perhaps, alone, comment, name, nat, cons, point, gens}
 use Rattle.script_text.specs.declared.row.Row.{Row}
@@ -64,6 +64,11 @@ shape_of Has = with_part (codes "has") (name ∷ []) point
 shape_of Size = plain (codes "size") (name ∷ [])
 shape_of Print = plain (codes "print") (side ∷ name ∷ [])
 shape_of Names = plain (codes "names") []
+
+-- the word is the row's command word; a blank line has none
+abbrev pub IsCommandWord : Row → List ℕ → Type 0
+IsCommandWord Nothing w = ⊥
+IsCommandWord row w = (shape_of row).command ≡ w
 
 -- the lines of the row
 abbrev pub row_form : Row → Form

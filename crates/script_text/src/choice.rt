@@ -1,12 +1,14 @@
 //! The row of a line.
 ghost use Rattle.std.specs.Prelude.{◌≡◌, IfOk, IfSome, MatchResult, Contains, map};
 ghost use Rattle.grammar.specs.Form.{Matches, IsColumnOfAny};
-ghost use Rattle.script_text.specs.Rows.{row_form, rows, shape_of};
+ghost use Rattle.script_text.specs.Rows.{row_form, rows, IsCommandWord};
+ghost use Rattle.script_text.specs.Words.{word_of, behind_word};
 
 use crate::forms::form_of;
 use crate::row::Row;
+use crate::shapes::{nothing_verdict, rest_verdict};
 use crate::words::split_word;
-use grammar::{Verdict, column_of, matches};
+use grammar::{Verdict, column_of};
 use std::alloc::{AllocError, Global};
 
 const ROWS: [Row; 13] = [
@@ -27,7 +29,7 @@ const ROWS: [Row; 13] = [
 
 /// The row that the command word names.
 fn named(word: &[u8]) -> Option<Row>
-    ensures { IfSome result (λ row. (shape_of row).command ≡ word.now) }
+    ensures { IfSome result (λ row. IsCommandWord row word.now) }
 {
     match word {
         b"cons" => Some(Row::Cons),
@@ -60,15 +62,31 @@ fn by_trying(alloc: Global, rows: &[Row], line: &[u8]) -> Result<Result<Row, usi
     Ok(Err(column))
 }
 
+/// The row whose word begins the line if the line is one of its lines, and else the column of the fault
+/// over all rows: no other row goes on behind the word.
+fn by_word(row: Row, line: &[u8], rest: &[u8]) -> Result<Row, usize>
+    requires named { IsCommandWord row (word_of line.now) }
+    requires behind { rest.now ≡ behind_word line.now }
+    ensures { MatchResult result (λ r. Matches (row_form r) line.now) (IsColumnOfAny (map row_form rows) line.now) }
+{
+    match rest_verdict(row, rest) {
+        Verdict::Accepted => Ok(row),
+        Verdict::RefusedAt(column) => Err(line.len() - rest.len() + column),
+    }
+}
+
 /// The row whose form the line has, and else the column of the fault over all rows.
+///
+/// The recognizer is asked only where no command's word begins the line.
 pub fn row_of(alloc: Global, line: &[u8]) -> Result<Result<Row, usize>, AllocError>
     ensures { IfOk result (λ r. MatchResult r (λ row. Matches (row_form row) line.now) (IsColumnOfAny (map row_form rows) line.now)) }
 {
-    let (word, _) = split_word(line);
-    if let Some(row) = named(word)
-        && matches(alloc, &form_of(row), line)?
-    {
-        return Ok(Ok(row));
+    let (word, rest) = split_word(line);
+    if let Some(row) = named(word) {
+        return Ok(by_word(row, line, rest));
     }
-    by_trying(alloc, &ROWS, line)
+    match nothing_verdict(line) {
+        Verdict::Accepted => Ok(Ok(Row::Nothing)),
+        Verdict::RefusedAt(_) => by_trying(alloc, &ROWS, line),
+    }
 }

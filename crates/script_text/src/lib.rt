@@ -13,6 +13,8 @@ mod laws;
 mod making;
 mod read;
 mod row;
+mod shapes;
+mod tables;
 mod words;
 
 pub use command::{Command, Part};

@@ -1,12 +1,13 @@
 //! The command of a row and its fields.
 ghost use Rattle.std.specs.Prelude.{◌≡◌, IfOk};
 ghost use Rattle.script_text.specs.Commands.{command_of, number_of, is_word, is_strict, begins_strict, part_from};
-ghost use Rattle.script_text.specs.Shown.{shown};
+ghost use Rattle.script_text.specs.Fields.{fields_in};
+ghost use Rattle.script_text.specs.Words.{part_of};
 ghost use Rattle.script_text.specs.declared.row.Row.TheVariants as row;
 
 use crate::command::{Command, Part};
 use crate::row::Row;
-use crate::words::Fields;
+use crate::words::{part_of, split_word};
 use reply_text::Text;
 use row_core::Memory;
 use std::alloc::Global;
@@ -43,10 +44,11 @@ fn is_strict(text: &[u8]) -> bool
     false
 }
 
-/// The part of this text.
-fn part(alloc: Global, bytes: &[u8]) -> Result<Part, Memory>
-    ensures { IfOk result (λ p. p ≡ part_from bytes.now) }
+/// The part behind the colon.
+fn part(alloc: Global, rest: &[u8]) -> Result<Part, Memory>
+    ensures { IfOk result (λ p. p ≡ part_from (part_of rest.now)) }
 {
+    let bytes = part_of(rest);
     Ok(Part {
         text: text(alloc, bytes)?,
         strict: is_strict(bytes),
@@ -72,126 +74,145 @@ fn number(digits: &[u8]) -> u64
     n
 }
 
-/// The command of a line of the row with these fields.
-pub fn command_of(alloc: Global, row: Row, fields: &Fields) -> Result<Command, Memory>
-    ensures { IfOk result (λ c. c ≡ command_of row (shown fields.now)) }
+/// The command of a line of the row, from what stands behind its word.
+pub fn command_of(alloc: Global, row: Row, rest: &[u8]) -> Result<Command, Memory>
+    ensures { IfOk result (λ c. c ≡ command_of row (fields_in rest.now)) }
 {
     match row {
         Row::Nothing => Ok(Command::Nothing),
-        Row::Cons => cons_command(alloc, fields),
-        Row::Gens => gens_command(alloc, fields),
-        Row::Universe => universe_command(alloc, fields),
-        Row::Empty => empty_command(alloc, fields),
-        Row::Copy => copy_command(alloc, fields),
-        Row::Drop => drop_command(alloc, fields),
-        Row::Add => add_command(alloc, fields),
-        Row::Addgen => addgen_command(alloc, fields),
-        Row::Has => has_command(alloc, fields),
-        Row::Size => size_command(alloc, fields),
-        Row::Print => print_command(alloc, fields),
+        Row::Cons => cons_command(alloc, rest),
+        Row::Gens => gens_command(alloc, rest),
+        Row::Universe => universe_command(alloc, rest),
+        Row::Empty => empty_command(alloc, rest),
+        Row::Copy => copy_command(alloc, rest),
+        Row::Drop => drop_command(alloc, rest),
+        Row::Add => add_command(alloc, rest),
+        Row::Addgen => addgen_command(alloc, rest),
+        Row::Has => has_command(alloc, rest),
+        Row::Size => size_command(alloc, rest),
+        Row::Print => print_command(alloc, rest),
         Row::Names => Ok(Command::Names),
     }
 }
 
-fn cons_command(alloc: Global, fields: &Fields) -> Result<Command, Memory>
-    ensures { IfOk result (λ c. c ≡ command_of row.Cons (shown fields.now)) }
+fn cons_command(alloc: Global, rest: &[u8]) -> Result<Command, Memory>
+    ensures { IfOk result (λ c. c ≡ command_of row.Cons (fields_in rest.now)) }
 {
+    let (out, behind) = split_word(rest);
+    let (top, behind) = split_word(behind);
+    let (n, _) = split_word(behind);
     Ok(Command::Cons {
-        out: text(alloc, fields.first)?,
-        top: is_word(fields.second, b"nnc"),
-        n: number(fields.third),
-        cons: part(alloc, fields.part)?,
+        out: text(alloc, out)?,
+        top: is_word(top, b"nnc"),
+        n: number(n),
+        cons: part(alloc, rest)?,
     })
 }
 
-fn gens_command(alloc: Global, fields: &Fields) -> Result<Command, Memory>
-    ensures { IfOk result (λ c. c ≡ command_of row.Gens (shown fields.now)) }
+fn gens_command(alloc: Global, rest: &[u8]) -> Result<Command, Memory>
+    ensures { IfOk result (λ c. c ≡ command_of row.Gens (fields_in rest.now)) }
 {
+    let (out, behind) = split_word(rest);
+    let (top, behind) = split_word(behind);
+    let (n, _) = split_word(behind);
     Ok(Command::Gens {
-        out: text(alloc, fields.first)?,
-        top: is_word(fields.second, b"nnc"),
-        n: number(fields.third),
-        gens: part(alloc, fields.part)?,
+        out: text(alloc, out)?,
+        top: is_word(top, b"nnc"),
+        n: number(n),
+        gens: part(alloc, rest)?,
     })
 }
 
-fn universe_command(alloc: Global, fields: &Fields) -> Result<Command, Memory>
-    ensures { IfOk result (λ c. c ≡ command_of row.Universe (shown fields.now)) }
+fn universe_command(alloc: Global, rest: &[u8]) -> Result<Command, Memory>
+    ensures { IfOk result (λ c. c ≡ command_of row.Universe (fields_in rest.now)) }
 {
+    let (out, behind) = split_word(rest);
+    let (top, behind) = split_word(behind);
+    let (n, _) = split_word(behind);
     Ok(Command::Universe {
-        out: text(alloc, fields.first)?,
-        top: is_word(fields.second, b"nnc"),
-        n: number(fields.third),
+        out: text(alloc, out)?,
+        top: is_word(top, b"nnc"),
+        n: number(n),
     })
 }
 
-fn empty_command(alloc: Global, fields: &Fields) -> Result<Command, Memory>
-    ensures { IfOk result (λ c. c ≡ command_of row.Empty (shown fields.now)) }
+fn empty_command(alloc: Global, rest: &[u8]) -> Result<Command, Memory>
+    ensures { IfOk result (λ c. c ≡ command_of row.Empty (fields_in rest.now)) }
 {
+    let (out, behind) = split_word(rest);
+    let (top, behind) = split_word(behind);
+    let (n, _) = split_word(behind);
     Ok(Command::Empty {
-        out: text(alloc, fields.first)?,
-        top: is_word(fields.second, b"nnc"),
-        n: number(fields.third),
+        out: text(alloc, out)?,
+        top: is_word(top, b"nnc"),
+        n: number(n),
     })
 }
 
-fn copy_command(alloc: Global, fields: &Fields) -> Result<Command, Memory>
-    ensures { IfOk result (λ c. c ≡ command_of row.Copy (shown fields.now)) }
+fn copy_command(alloc: Global, rest: &[u8]) -> Result<Command, Memory>
+    ensures { IfOk result (λ c. c ≡ command_of row.Copy (fields_in rest.now)) }
 {
+    let (out, behind) = split_word(rest);
+    let (p, _) = split_word(behind);
     Ok(Command::Copy {
-        out: text(alloc, fields.first)?,
-        p: text(alloc, fields.second)?,
+        out: text(alloc, out)?,
+        p: text(alloc, p)?,
     })
 }
 
-fn drop_command(alloc: Global, fields: &Fields) -> Result<Command, Memory>
-    ensures { IfOk result (λ c. c ≡ command_of row.Drop (shown fields.now)) }
+fn drop_command(alloc: Global, rest: &[u8]) -> Result<Command, Memory>
+    ensures { IfOk result (λ c. c ≡ command_of row.Drop (fields_in rest.now)) }
 {
+    let (name, _) = split_word(rest);
     Ok(Command::Drop {
-        name: text(alloc, fields.first)?,
+        name: text(alloc, name)?,
     })
 }
 
-fn add_command(alloc: Global, fields: &Fields) -> Result<Command, Memory>
-    ensures { IfOk result (λ c. c ≡ command_of row.Add (shown fields.now)) }
+fn add_command(alloc: Global, rest: &[u8]) -> Result<Command, Memory>
+    ensures { IfOk result (λ c. c ≡ command_of row.Add (fields_in rest.now)) }
 {
+    let (p, _) = split_word(rest);
     Ok(Command::Add {
-        p: text(alloc, fields.first)?,
-        cons: part(alloc, fields.part)?,
+        p: text(alloc, p)?,
+        cons: part(alloc, rest)?,
     })
 }
 
-fn addgen_command(alloc: Global, fields: &Fields) -> Result<Command, Memory>
-    ensures { IfOk result (λ c. c ≡ command_of row.Addgen (shown fields.now)) }
+fn addgen_command(alloc: Global, rest: &[u8]) -> Result<Command, Memory>
+    ensures { IfOk result (λ c. c ≡ command_of row.Addgen (fields_in rest.now)) }
 {
+    let (p, _) = split_word(rest);
     Ok(Command::Addgen {
-        p: text(alloc, fields.first)?,
-        gens: part(alloc, fields.part)?,
+        p: text(alloc, p)?,
+        gens: part(alloc, rest)?,
     })
 }
 
-fn has_command(alloc: Global, fields: &Fields) -> Result<Command, Memory>
-    ensures { IfOk result (λ c. c ≡ command_of row.Has (shown fields.now)) }
+fn has_command(alloc: Global, rest: &[u8]) -> Result<Command, Memory>
+    ensures { IfOk result (λ c. c ≡ command_of row.Has (fields_in rest.now)) }
 {
+    let (p, _) = split_word(rest);
     Ok(Command::Has {
-        p: text(alloc, fields.first)?,
-        point: part(alloc, fields.part)?,
+        p: text(alloc, p)?,
+        point: part(alloc, rest)?,
     })
 }
 
-fn size_command(alloc: Global, fields: &Fields) -> Result<Command, Memory>
-    ensures { IfOk result (λ c. c ≡ command_of row.Size (shown fields.now)) }
+fn size_command(alloc: Global, rest: &[u8]) -> Result<Command, Memory>
+    ensures { IfOk result (λ c. c ≡ command_of row.Size (fields_in rest.now)) }
 {
-    Ok(Command::Size {
-        p: text(alloc, fields.first)?,
-    })
+    let (p, _) = split_word(rest);
+    Ok(Command::Size { p: text(alloc, p)? })
 }
 
-fn print_command(alloc: Global, fields: &Fields) -> Result<Command, Memory>
-    ensures { IfOk result (λ c. c ≡ command_of row.Print (shown fields.now)) }
+fn print_command(alloc: Global, rest: &[u8]) -> Result<Command, Memory>
+    ensures { IfOk result (λ c. c ≡ command_of row.Print (fields_in rest.now)) }
 {
+    let (side, behind) = split_word(rest);
+    let (p, _) = split_word(behind);
     Ok(Command::Print {
-        side: is_word(fields.first, b"gens"),
-        p: text(alloc, fields.second)?,
+        side: is_word(side, b"gens"),
+        p: text(alloc, p)?,
     })
 }

@@ -5,7 +5,7 @@ ghost use Rattle.script_text.specs.Line.{Spells, IsUnread, PartsMatch};
 use crate::choice::row_of;
 use crate::command::Command;
 use crate::making::command_of;
-use crate::words::{fields_in, split_word};
+use crate::words::split_word;
 use reply_text::{Fault, ReadErr};
 use std::alloc::Global;
 
@@ -28,7 +28,7 @@ pub fn read_command(alloc: Global, line: &[u8]) -> Result<Command, ReadErr>
     match row_of(alloc, line)? {
         Ok(row) => {
             let (_, rest) = split_word(line);
-            Ok(command_of(alloc, row, &fields_in(rest))?)
+            Ok(command_of(alloc, row, rest)?)
         }
         Err(column) => Err(ReadErr::Input(Fault::Syntax(column as u64))),
     }

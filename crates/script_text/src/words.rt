@@ -1,8 +1,6 @@
 //! The words of a line.
 ghost use Rattle.std.specs.Prelude.{◌≡◌, length, take_while, reverse};
 ghost use Rattle.script_text.specs.Words.{is_blank, is_in_word, is_before_colon, is_before_comment, past_blanks, before_blanks, word_of, behind_word, before_comment, behind_colon, part_of};
-ghost use Rattle.script_text.specs.Fields.{fields_in};
-ghost use Rattle.script_text.specs.Shown.{shown};
 
 /// How many blanks stand in front.
 fn blanks_in_front(text: &[u8]) -> usize
@@ -85,37 +83,8 @@ fn behind_colon(text: &[u8]) -> &[u8]
 }
 
 /// What stands between the first colon and a comment, without the blanks around it.
-fn part_of(text: &[u8]) -> &[u8]
+pub fn part_of(text: &[u8]) -> &[u8]
     ensures { result.now ≡ part_of text.now }
 {
     before_blanks(past_blanks(behind_colon(before_comment(text))))
-}
-
-/// The words behind the command word, and the part behind the colon; a field that the line hasn't is
-/// empty.
-#[derive(Clone, Copy)]
-pub struct Fields<'a> {
-    pub first: &'a [u8],
-    pub second: &'a [u8],
-    pub third: &'a [u8],
-    pub fourth: &'a [u8],
-    pub part: &'a [u8],
-}
-
-/// The fields of what stands behind the command word.
-pub fn fields_in(rest: &[u8]) -> Fields<'_>
-    ensures { shown result ≡ fields_in rest.now }
-{
-    let part = part_of(rest);
-    let (first, rest) = split_word(rest);
-    let (second, rest) = split_word(rest);
-    let (third, rest) = split_word(rest);
-    let (fourth, _) = split_word(rest);
-    Fields {
-        first,
-        second,
-        third,
-        fourth,
-        part,
-    }
 }

@@ -1,0 +1,47 @@
+-- Some row, and no row, of a list of rows.
+use Rattle.std.proofs.Common.{◌≡◌, ℕ, List, [], ◌∷◌, zero, suc, map, refl, arith, subst, sym, inl, inr}
+use Rattle.std.specs.Prelude.{Contains, ◌⊎◌}
+use Rattle.grammar.specs.Form.{Matches, Begins, AnyMatches, AnyBegins}
+use Rattle.script_text.specs.Rows.{row_form, rows}
+use Rattle.script_text.specs.declared.row.Row.{Row}
+use Rattle.script_text.specs.declared.row.Row.TheVariants as row
+
+pub row_in : (r : Row) → Contains rows r
+row_in row.Nothing = (0, omega arith, refl)
+row_in row.Cons = (1, omega arith, refl)
+row_in row.Gens = (2, omega arith, refl)
+row_in row.Universe = (3, omega arith, refl)
+row_in row.Empty = (4, omega arith, refl)
+row_in row.Copy = (5, omega arith, refl)
+row_in row.Drop = (6, omega arith, refl)
+row_in row.Add = (7, omega arith, refl)
+row_in row.Addgen = (8, omega arith, refl)
+row_in row.Has = (9, omega arith, refl)
+row_in row.Size = (10, omega arith, refl)
+row_in row.Print = (11, omega arith, refl)
+row_in row.Names = (12, omega arith, refl)
+
+head_or_tail : (x : Row) (xs : List Row) (r : Row) → Contains (x ∷ xs) r → (x ≡ r) ⊎ Contains xs r
+head_or_tail x xs r (zero, h, e) = inl e
+head_or_tail x xs r (suc k, h, e) = inr (k, omega arith, e)
+
+nowhere : (r : Row) → Contains [] r → ⊥
+nowhere r (k, h, e) = omega arith
+
+pub any_matches : (rs : List Row) (r : Row) (w : List ℕ) → Contains rs r → Matches (row_form r) w → AnyMatches (map row_form rs) w
+any_matches [] r w c m = absurd (nowhere r c)
+any_matches (x ∷ rs) r w c m = elim (head_or_tail x rs r c) [ inl e ↦ inl (subst (λ (y : Row). Matches (row_form y) w) (sym e) m) | inr d ↦ inr (any_matches rs r w d m) ]
+
+pub any_begins : (rs : List Row) (r : Row) (p : List ℕ) → Contains rs r → Begins (row_form r) p → AnyBegins (map row_form rs) p
+any_begins [] r p c b = absurd (nowhere r c)
+any_begins (x ∷ rs) r p c b = elim (head_or_tail x rs r c) [ inl e ↦ inl (subst (λ (y : Row). Begins (row_form y) p) (sym e) b) | inr d ↦ inr (any_begins rs r p d b) ]
+
+pub none_matches : (rs : List Row) (w : List ℕ) → ((r : Row) → Matches (row_form r) w → ⊥) → AnyMatches (map row_form rs) w → ⊥
+none_matches [] w none m = m
+none_matches (x ∷ rs) w none (inl m) = none x m
+none_matches (x ∷ rs) w none (inr m) = none_matches rs w none m
+
+pub none_begins : (rs : List Row) (p : List ℕ) → ((r : Row) → Begins (row_form r) p → ⊥) → AnyBegins (map row_form rs) p → ⊥
+none_begins [] p none b = b
+none_begins (x ∷ rs) p none (inl b) = none x b
+none_begins (x ∷ rs) p none (inr b) = none_begins rs p none b
