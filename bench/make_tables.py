@@ -72,6 +72,8 @@ def read_definitions(path, clauses):
         if ' = ' not in line or line[0] in ' \t' or ' : ' in line:
             continue
         left, right = line.split(' = ', 1)
+        if not TOKEN.search(right):
+            continue
         left = Parser(left).expression()
         patterns = []
         while left[0] == 'apply':

@@ -3,9 +3,9 @@ use Rattle.std.proofs.Common.{ℕ, List, [], Option, Some, None, refl, sym, appe
 use Rattle.grammar.specs.Form.{Form, Matches}
 use Rattle.grammar.specs.Grammar.{alone, expr, vexpr, frac, vfrac, con, cons, point, gen, gens}
 use Rattle.script_text.specs.Rows.{Shape, shape_of, tail_form, line_form, row_form}
-use Rattle.script_text.specs.Fields.{part_by, fields_by, fields_of_row}
+use Rattle.script_text.specs.Fields.{Fields, part_by, fields_by, fields_of_row}
 use Rattle.script_text.specs.Commands.{command_of}
-use Rattle.script_text.specs.Line.{PartsMatch}
+use Rattle.script_text.specs.Line.{PartsMatch, PartsTold}
 use Rattle.script_text.specs.declared.row.Row.{Row}
 use Rattle.script_text.specs.declared.row.Row.TheVariants.{Cons, Gens, Add, Addgen, Has}
 
@@ -33,3 +33,12 @@ parts_match Add w m = line_part (shape_of Add) w m
 parts_match Addgen w m = line_part (shape_of Addgen) w m
 parts_match Has w m = line_part (shape_of Has) w m
 parts_match row w m = tt
+
+-- what is told of each part is so
+pub parts_told : (row : Row) (f : Fields) → PartsTold (command_of row f)
+parts_told Cons f = refl
+parts_told Gens f = refl
+parts_told Add f = refl
+parts_told Addgen f = refl
+parts_told Has f = refl
+parts_told row f = tt

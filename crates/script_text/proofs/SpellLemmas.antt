@@ -5,12 +5,12 @@ use Rattle.script_text.specs.Rows.{row_form}
 use Rattle.script_text.specs.Words.{behind_word}
 use Rattle.script_text.specs.Fields.{fields_of_row, fields_in}
 use Rattle.script_text.specs.Commands.{command_of}
-use Rattle.script_text.specs.Line.{Spells, PartsMatch}
+use Rattle.script_text.specs.Line.{Spells, PartsMatch, PartsTold}
 use Rattle.script_text.specs.declared.row.Row.{Row}
 use Rattle.script_text.specs.declared.row.Row.TheVariants.{Nothing}
 use Rattle.script_text.specs.declared.command.Command.{Command}
 use Rattle.script_text.proofs.RowLaws.{row_law, row_told}
-use Rattle.script_text.proofs.PartLemmas.{parts_match}
+use Rattle.script_text.proofs.PartLemmas.{parts_match, parts_told}
 
 -- the command of a line is that of its words
 command_law : (row : Row) (w : List ℕ) (m : Matches (row_form row) w) → command_of row (fields_of_row row w m) ≡ command_of row (fields_in (behind_word w))
@@ -23,6 +23,10 @@ spells line row c short m is = record { short = short; row = row; form = m; is =
 -- each part of a command that a line spells has its form
 pub parts : (line : List ℕ) (c : Command) → Spells line c → PartsMatch c
 parts line c s = subst PartsMatch (sym s.is) (parts_match s.row line s.form)
+
+-- what is told of each part of a command that a line spells is so
+pub told : (line : List ℕ) (c : Command) → Spells line c → PartsTold c
+told line c s = subst PartsTold (sym s.is) (parts_told s.row (fields_of_row s.row line s.form))
 
 -- a line spells one command at most
 pub spells_one : (line : List ℕ) (c d : Command) → Spells line c → Spells line d → c ≡ d

@@ -9,7 +9,7 @@ use Rattle.reply_text.specs.declared.faults.ReadErr.{ReadErr}
 use Rattle.reply_text.specs.declared.faults.ReadErr.TheVariants.{Input, Memory}
 use Rattle.script_text.specs.Rows.{row_form, rows}
 use Rattle.script_text.specs.Fields.{fields_of_row}
-use Rattle.script_text.specs.Commands.{command_of}
+use Rattle.script_text.specs.Commands.{command_of, is_strict}
 use Rattle.script_text.specs.declared.row.Row.{Row}
 use Rattle.script_text.specs.declared.command.Command.{Command}
 use Rattle.script_text.specs.declared.command.Command.TheVariants.{Cons, Gens, Add, Addgen, Has}
@@ -36,6 +36,15 @@ PartsMatch (Add p part) = Matches (alone cons_cases) part.text
 PartsMatch (Addgen p part) = Matches (alone gens_cases) part.text
 PartsMatch (Has p part) = Matches (alone point_cases) part.text
 PartsMatch _ = Unit {0}
+
+-- whether a strict relation or a closure point stands in each part of the command is told as it is
+abbrev pub PartsTold : Command → Type 0
+PartsTold (Cons out top n part) = part.strict ≡ is_strict part.text
+PartsTold (Gens out top n part) = part.strict ≡ is_strict part.text
+PartsTold (Add p part) = part.strict ≡ is_strict part.text
+PartsTold (Addgen p part) = part.strict ≡ is_strict part.text
+PartsTold (Has p part) = part.strict ≡ is_strict part.text
+PartsTold _ = Unit {0}
 
 -- a line spells one command at most
 abbrev pub SpellsOne : Type 0

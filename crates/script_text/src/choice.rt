@@ -11,7 +11,7 @@ use crate::words::split_word;
 use grammar::{Verdict, column_of};
 use std::alloc::{AllocError, Global};
 
-const ROWS: [Row; 13] = [
+pub const ROWS: [Row; 13] = [
     Row::Nothing,
     Row::Cons,
     Row::Gens,
@@ -49,7 +49,7 @@ fn named(word: &[u8]) -> Option<Row>
 }
 
 /// A row whose form the line has, and else the column of the fault over all rows.
-fn by_trying(alloc: Global, rows: &[Row], line: &[u8]) -> Result<Result<Row, usize>, AllocError>
+pub fn by_trying(alloc: Global, rows: &[Row], line: &[u8]) -> Result<Result<Row, usize>, AllocError>
     ensures { IfOk result (λ r. MatchResult r (λ row. Matches (row_form row) line.now) (IsColumnOfAny (map row_form rows.now) line.now)) }
 {
     let mut column = 0;

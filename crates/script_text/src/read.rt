@@ -1,6 +1,6 @@
 //! A line of the calculator, as a command.
 ghost use Rattle.std.specs.Prelude.{IfOk, MatchResult};
-ghost use Rattle.script_text.specs.Line.{Spells, IsUnread, PartsMatch};
+ghost use Rattle.script_text.specs.Line.{Spells, IsUnread, PartsMatch, PartsTold};
 
 use crate::choice::row_of;
 use crate::command::Command;
@@ -21,6 +21,7 @@ const MAX_LINE: usize = 65_535;
 pub fn read_command(alloc: Global, line: &[u8]) -> Result<Command, ReadErr>
     ensures command { MatchResult result (Spells line.now) (IsUnread line.now) }
     ensures parts { IfOk result PartsMatch }
+    ensures told { IfOk result PartsTold }
 {
     if line.len() > MAX_LINE {
         return Err(ReadErr::Input(Fault::LineTooLong));

@@ -1,4 +1,4 @@
-//! The tables of what stands behind a command word; `bench/make_tables.py` makes them.
+//! The tables of what stands behind a command word; `bench/make_line_tables` makes them.
 
 use grammar::Machine;
 
