@@ -1,19 +1,28 @@
 -- What a ray codes, and what the list of a system admits.
-use Rattle.std.proofs.Common.{◌≡◌, ℕ, ◌+◌, List, [], ◌∷◌, length, ℤ, pos, ◌*ℤ◌, ◌<ℤ◌, refl, sym, ap, ◌∙◌, subst, arith}
+use Rattle.std.proofs.Common.{◌≡◌, ℕ, ◌+◌, List, [], ◌∷◌, length, ℤ, pos, ◌*ℤ◌, ◌≤ℤ◌, ◌<ℤ◌, refl, sym, ap, ◌∙◌, subst, arith}
+use Rattle.std.specs.Prelude.{◌↔◌}
 use Rattle.std.proofs.lemmas.Int.{ints}
 use Rattle.row_core.specs.Vectors.{cell, scale}
-use Rattle.row_core.specs.Lists.{row_at, system_rows}
-use Rattle.cone_laws.specs.Cones.{Upto, Spans}
+use Rattle.row_core.specs.Lists.{Row, row_at, vectors, system_rows}
+use Rattle.cone_laws.specs.Cones.{Upto, Spans, Generates}
 use Rattle.cone_laws.proofs.Bipolar.{admitted_is_spanned}
 use Rattle.dual_cones.specs.Members.{ConeOf}
 use Rattle.dual_cones.proofs.MemberLemmas.{spanned_within}
 use Rattle.dual_cones.proofs.SystemLists.{lines_of-system_rows, rays_of-system_rows, system_wide}
-use Rattle.dual_cones.proofs.ValidRows.{least_on_spanned}
+use Rattle.dual_cones.proofs.ValidRows.{least_on_spanned, valid_of_row, row_of_valid}
+use Rattle.cone_laws.proofs.Columns.{dot_comm}
+use Rattle.row_core.specs.Points.{IsPoint}
+use Rattle.cons_sys.specs.Constraints.{Constraints, In}
+use Rattle.gens_sys.specs.Generators.{Generators}
+use Rattle.gens_sys.specs.Spans.{Span}
 use Rattle.cone_laws.specs.Duality.{lines_of}
 use Rattle.nnc_laws.specs.Encoding.{raised, lowered, Codes}
 use Rattle.nnc_laws.specs.StrongRows.{IsAdmittedVector}
 use Rattle.nnc_laws.proofs.EncodedRows.{insert_remove}
 use Rattle.nnc_enc.specs.Coded.{RayIsCoded, SecondListAdmits}
+use Rattle.nnc_enc.specs.Decoding.{AreDecodedRows, AreDecodedVectors}
+use Rattle.nnc_enc.specs.Results.{AreRows, AreVectors}
+use Rattle.nnc_enc.proofs.ResultLemmas.{decoded_rows_code, decoded_vectors_code}
 use Rattle.nnc_enc.proofs.MarkLemmas.{length-vectors, vector_at-vectors}
 
 one_time : (x : ℤ) → pos 1 *ℤ x ≡ x
@@ -47,3 +56,29 @@ second_list_admits width rows lines rays v g = (to, λ u. record { wide = u.wide
         (subst (λ (ls : List (List ℤ)). Spans ls rays v) (lines_of-system_rows lines rays)
         (subst (λ (rs : List (List ℤ)). Spans (lines_of (system_rows lines rays)) rs v) (rays_of-system_rows lines rays)
         (admitted_is_spanned width (system_rows lines rays) v (system_wide width (ConeOf width rows) lines rays (λ x c. c.wide) g) u.wide u.admits)))
+
+-- ---- decoded systems
+-- what is coded by one set is coded by a set that includes it
+codes_within : (dim : ℕ) (C D : List ℤ → Type 0) (p : List ℤ) → ((v : List ℤ) → C v → D v) → Codes dim C p → Codes dim D p
+codes_within dim C D p f k = record { times = k.times; positive = k.positive; height = k.height; above = k.above; member = f (raised dim (scale k.times p) k.height) k.member }
+
+-- what the valid rows admit is 0 on the lines and at least 0 on the rays of their system
+admitted_is_dual : (width : ℕ) (gens : List Row) (lines rays : List (List ℤ)) (v : List ℤ) → Generates (ConeOf width gens) lines rays → IsAdmittedVector width gens v ↔ ConeOf width (system_rows lines rays) v
+admitted_is_dual width gens lines rays v g = (
+  (λ u. row_of_valid width (ConeOf width gens) lines rays g v u.wide (λ a m. subst (λ (z : ℤ). pos 0 ≤ℤ z) (dot_comm a v) (u.admits a m))),
+  (λ u. record { wide = u.wide; admits = λ a m. subst (λ (z : ℤ). pos 0 ≤ℤ z) (dot_comm v a) (valid_of_row width (ConeOf width gens) lines rays g v u a m) }),
+)
+
+pub decoded_rows_hold : (dim : ℕ) (lines rays : List Row) (cs : Constraints) (p : List ℤ) → AreRows dim lines rays → AreDecodedRows dim lines rays cs.list → IsPoint dim p → In cs p ↔ Codes dim (ConeOf (dim + 2) (system_rows (vectors lines) (vectors rays))) p
+decoded_rows_hold dim lines rays cs p r d point =
+    let code = decoded_rows_code dim r.gens lines rays cs p r.rows d point in (
+      (λ h. codes_within dim (IsAdmittedVector (dim + 2) r.gens) (ConeOf (dim + 2) (system_rows (vectors lines) (vectors rays))) p (λ v u. (admitted_is_dual (dim + 2) r.gens (vectors lines) (vectors rays) v r.rows.system.generates).0 u) (code.0 h)),
+      (λ k. code.1 (codes_within dim (ConeOf (dim + 2) (system_rows (vectors lines) (vectors rays))) (IsAdmittedVector (dim + 2) r.gens) p (λ v u. (admitted_is_dual (dim + 2) r.gens (vectors lines) (vectors rays) v r.rows.system.generates).1 u) k)),
+    )
+
+pub decoded_vectors_span : (dim : ℕ) (lines rays : List Row) (gs : Generators) (v : List ℤ) → AreVectors dim lines rays → AreDecodedVectors dim lines rays gs.list → length v ≡ dim + 1 → Span gs v ↔ Codes dim (IsAdmittedVector (dim + 2) (system_rows (vectors lines) (vectors rays))) v
+decoded_vectors_span dim lines rays gs v r d wide =
+    let code = decoded_vectors_code dim r.rows lines rays gs v r.vectors d wide in (
+      (λ h. codes_within dim (ConeOf (dim + 2) r.rows) (IsAdmittedVector (dim + 2) (system_rows (vectors lines) (vectors rays))) v (λ u m. (second_list_admits (dim + 2) r.rows (vectors lines) (vectors rays) u r.vectors.system.generates).1 m) (code.0 h)),
+      (λ k. code.1 (codes_within dim (IsAdmittedVector (dim + 2) (system_rows (vectors lines) (vectors rays))) (ConeOf (dim + 2) r.rows) v (λ u m. (second_list_admits (dim + 2) r.rows (vectors lines) (vectors rays) u r.vectors.system.generates).0 m) k)),
+    )

@@ -17,3 +17,4 @@ pub mod AlikeLemmas
 pub mod StoredLemmas
 pub mod PartLemmas
 pub mod CodedLemmas
+pub mod ConditionLemmas

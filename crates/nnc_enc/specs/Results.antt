@@ -28,6 +28,16 @@ pub record AreVectorsOf (dim : ℕ) (rows lines rays : List Row) : Type 0 where
   pub member : Upto (dim + 2) rows (length rows) vector
   pub above : pos 0 <ℤ cell vector dim
 
+-- the lists are the canonical system of the rows that are valid on some encoded cone
+pub record AreRows (dim : ℕ) (lines rays : List Row) : Type 0 where
+  pub gens : List Row
+  pub rows : AreRowsOf dim gens lines rays
+
+-- the lists are the canonical system of some encoded cone
+pub record AreVectors (dim : ℕ) (lines rays : List Row) : Type 0 where
+  pub rows : List Row
+  pub vectors : AreVectorsOf dim rows lines rays
+
 -- decoded constraints hold exactly at the points that the cone codes
 abbrev pub DecodedRowsCode : Type 0
 DecodedRowsCode = (dim : ℕ) (gens lines rays : List Row) (cs : Constraints) (p : List ℤ) → AreRowsOf dim gens lines rays → AreDecodedRows dim lines rays cs.list → IsPoint dim p → In cs p ↔ Codes dim (IsAdmittedVector (dim + 2) gens) p

@@ -2,16 +2,16 @@
 ghost use Rattle.std.specs.Prelude.{◌≡◌, ℕ, ◌+◌, ◌-◌, ◌^◌, ◌<◌, ◌≤◌, ◌↔◌, ◌++◌, ◌∷◌, if◌then◌else◌, [], true, Bool, List, length, remove, replicate, All, IfOk, OnOk, IsTrue, ℤ};
 ghost use Rattle.row_core.specs.Vectors.{cell};
 ghost use Rattle.row_core.specs.Range.{AllInRange};
-ghost use Rattle.row_core.specs.Lists.{Row, row_at};
+ghost use Rattle.row_core.specs.Lists.{row_at, vectors, system_rows};
 ghost use Rattle.row_core.specs.Points.{IsPoint};
-ghost use Rattle.cone_laws.specs.Cones.{Upto};
+ghost use Rattle.dual_cones.specs.Members.{ConeOf};
 ghost use Rattle.nnc_laws.specs.Encoding.{lowered, Codes};
 ghost use Rattle.nnc_laws.specs.StrongRows.{IsAdmittedVector};
 ghost use Rattle.nnc_laws.specs.DecodedVectors.{kind_of, vector_kind, place_kind};
 ghost use Rattle.cons_sys.specs.Constraints.{In, Gains as ConGains};
 ghost use Rattle.gens_sys.specs.Generators.{Gains as GenGains};
 ghost use Rattle.gens_sys.specs.Spans.{Span};
-ghost use Rattle.nnc_enc.specs.Results.{AreRowsOf, AreVectorsOf};
+ghost use Rattle.nnc_enc.specs.Results.{AreRows, AreVectors};
 ghost use Rattle.cons_sys.specs.declared.kind.ConKind.TheVariants.{Eq};
 ghost use Rattle.gens_sys.specs.declared.kind.GenKind.TheVariants.{Line};
 ghost use Rattle.nnc_enc.specs.Decoding.{con_kind, index_at, Grew, AreConstraintsOf, AreGeneratorsOf, AreKept, HaveVariables, AreDecodedRows, AreDecodedVectors, FitsKind, FitKinds};
@@ -46,7 +46,7 @@ fn push_if(keep: bool, kept: &mut Vec<usize>, index: usize) -> Result<(), AllocE
 }
 
 /// The indices of the kept rows.
-pub fn kept(alloc: Global, keep: &[bool]) -> Result<Vec<usize>, AllocError>
+pub(crate) fn kept(alloc: Global, keep: &[bool]) -> Result<Vec<usize>, AllocError>
     ensures { IfOk result (λ v. AreKept keep.now v.items (length keep.now)) }
 {
     let mut kept = Vec::new(alloc);
@@ -141,7 +141,7 @@ fn push_con_rays(
 }
 
 /// The constraints of the lines, and of the rays at the indices.
-pub fn constraints_of(
+pub(crate) fn constraints_of(
     alloc: Global,
     dim: usize,
     lines: &RowList,
@@ -179,21 +179,21 @@ fn decoded_rows(
     constraints_of(alloc, dim, lines, rays, &order)
 }
 
-/// The constraints that a canonical system of valid rows stands for, in its order.
+/// The constraints that a canonical system of valid rows stands for, in its order: they hold at the
+/// points that are coded by the vectors on which the lines are 0 and the rays at least 0.
 pub fn decode_cons(
     alloc: Global,
     dim: usize,
     lines: &RowList,
     rays: &RowList,
 ) -> Result<ConsSys, Memory>
-    ghost gens: { List Row }
     requires narrow { dim < 2 ^ 32 - 2 }
     requires lines_width { lines.now.width ≡ dim + 2 }
     requires rays_width { rays.now.width ≡ dim + 2 }
-    requires rows { AreRowsOf dim gens lines.now.rows rays.now.rows }
+    requires rows { AreRows dim lines.now.rows rays.now.rows }
     ensures dim { IfOk result (λ cons. cons.dim ≡ dim) }
     ensures list { IfOk result (λ cons. AreDecodedRows dim lines.now.rows rays.now.rows cons.list) }
-    ensures points { IfOk result (λ cons. (p : List ℤ) → IsPoint dim p → In cons p ↔ Codes dim (IsAdmittedVector (dim + 2) gens) p) }
+    ensures points { IfOk result (λ cons. (p : List ℤ) → IsPoint dim p → In cons p ↔ Codes dim (ConeOf (dim + 2) (system_rows (vectors lines.now.rows) (vectors rays.now.rows))) p) }
 {
     decoded_rows(alloc, dim, lines, rays)
 }
@@ -284,7 +284,7 @@ fn push_gen_rays(
 }
 
 /// The generators of the lines, and of the rays at the indices.
-pub fn generators_of(
+pub(crate) fn generators_of(
     alloc: Global,
     dim: usize,
     lines: &RowList,
@@ -331,21 +331,21 @@ fn decoded_vectors(
     generators_of(alloc, dim, lines, rays, &order)
 }
 
-/// The generators that a canonical system of vectors stands for, in its order.
+/// The generators that a canonical system of vectors stands for, in its order: they span the points
+/// that are coded by what the lines and rays span.
 pub fn decode_gens(
     alloc: Global,
     dim: usize,
     lines: &RowList,
     rays: &RowList,
 ) -> Result<GensSys, Memory>
-    ghost rows: { List Row }
     requires narrow { dim < 2 ^ 32 - 2 }
     requires lines_width { lines.now.width ≡ dim + 2 }
     requires rays_width { rays.now.width ≡ dim + 2 }
-    requires vectors { AreVectorsOf dim rows lines.now.rows rays.now.rows }
+    requires vectors { AreVectors dim lines.now.rows rays.now.rows }
     ensures dim { IfOk result (λ gens. gens.dim ≡ dim) }
     ensures list { IfOk result (λ gens. AreDecodedVectors dim lines.now.rows rays.now.rows gens.list) }
-    ensures points { IfOk result (λ gens. (v : List ℤ) → length v ≡ dim + 1 → Span gens v ↔ Codes dim (Upto (dim + 2) rows (length rows)) v) }
+    ensures points { IfOk result (λ gens. (v : List ℤ) → length v ≡ dim + 1 → Span gens v ↔ Codes dim (IsAdmittedVector (dim + 2) (system_rows (vectors lines.now.rows) (vectors rays.now.rows))) v) }
 {
     decoded_vectors(alloc, dim, lines, rays)
 }

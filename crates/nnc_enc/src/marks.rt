@@ -9,7 +9,7 @@ use std::alloc::{AllocError, Global};
 
 /// What is asked of the columns e and d of a row or vector.
 #[derive(Clone, Copy, Debug)]
-pub enum Mark {
+pub(crate) enum Mark {
     /// e is 0.
     Level,
     /// e is 0 and d isn't.
@@ -33,7 +33,12 @@ fn tells(mark: Mark, height: i128, divisor: i128) -> bool
 }
 
 /// Which rows are as the mark asks.
-pub fn marks(alloc: Global, dim: usize, list: &RowList, mark: Mark) -> Result<Vec<bool>, AllocError>
+pub(crate) fn marks(
+    alloc: Global,
+    dim: usize,
+    list: &RowList,
+    mark: Mark,
+) -> Result<Vec<bool>, AllocError>
     requires { list.now.width ≡ dim + 2 }
     ensures { IfOk result (λ v. AreTold mark dim list.now.rows v.items (length list.now.rows)) }
 {
@@ -46,7 +51,7 @@ pub fn marks(alloc: Global, dim: usize, list: &RowList, mark: Mark) -> Result<Ve
 }
 
 /// Whether the row has a variable.
-pub fn has_variable(dim: usize, row: &[i128]) -> bool
+pub(crate) fn has_variable(dim: usize, row: &[i128]) -> bool
     requires { dim ≤ length row.now }
     ensures { IsTrue result ↔ HasVariable dim row.now }
 {

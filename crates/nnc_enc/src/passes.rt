@@ -6,7 +6,7 @@ ghost use Rattle.nnc_enc.specs.Passes.{IsClear, IsCoveredRow, IsStep, IsPassed};
 use sat_matrix::SatMatrix;
 
 /// Whether row `i` of the table is true at none of the marked columns.
-pub fn is_clear(columns: &[bool], sat: &SatMatrix, i: usize) -> bool
+pub(crate) fn is_clear(columns: &[bool], sat: &SatMatrix, i: usize) -> bool
     requires wide { length columns.now ≡ sat.now.columns }
     requires row { i < length sat.now.rows }
     ensures { IsTrue result ↔ IsClear columns.now (bits_of sat.now.rows i) (length columns.now) }
@@ -65,7 +65,7 @@ fn drop_if_covered(level: &[bool], marks: &[bool], sat: &SatMatrix, keep: &mut [
 }
 
 /// Leaves out each marked row that another marked row covers that is still kept.
-pub fn drop_covered(level: &[bool], marks: &[bool], sat: &SatMatrix, keep: &mut [bool])
+pub(crate) fn drop_covered(level: &[bool], marks: &[bool], sat: &SatMatrix, keep: &mut [bool])
     requires wide { length level.now ≡ sat.now.columns }
     requires marks { length marks.now ≡ length sat.now.rows }
     requires keep { length keep.old ≡ length sat.now.rows }

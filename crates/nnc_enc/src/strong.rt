@@ -102,7 +102,7 @@ fn first_vectors(
 }
 
 /// The rows that a strong pass keeps.
-pub fn strict_pass(
+fn strict_pass(
     alloc: Global,
     dim: usize,
     rays: &RowList,
@@ -123,7 +123,7 @@ pub fn strict_pass(
 }
 
 /// The vectors that a strong pass keeps.
-pub fn point_pass(
+fn point_pass(
     alloc: Global,
     dim: usize,
     rays: &RowList,
@@ -145,7 +145,7 @@ pub fn point_pass(
 }
 
 /// The constraints of what a strong pass keeps, in order.
-fn strong_rows(
+pub(crate) fn strong_rows(
     alloc: Global,
     dim: usize,
     lines: &RowList,
