@@ -427,7 +427,7 @@ const SYSTEMS: [(usize, &str, &str, &str); 27] = [
         3,
         "Gt -2 -1 2 0; Gt -2 -2 -2 2; Gt 1 0 1 2; Gt 0 1 2 0",
         " Gt [1, 0, 1, 2] Gt [0, 1, 2, 0] Gt [-1, -1, -1, 1] Gt [-2, -1, 2, 0]",
-        " ClosurePoint [2, -2, 1, 1] Ray [1, -2, 1, 0] Ray [-1, 0, 1, 0] Ray [-1, -2, 1, 0] ClosurePoint [-4, 4, -2, 3] ClosurePoint [-7, 12, -1, 4] Point [-9, 12, 1, 8]",
+        " ClosurePoint [2, -2, 1, 1] Ray [1, -2, 1, 0] Point [-1, 1, 0, 1] Ray [-1, 0, 1, 0] Ray [-1, -2, 1, 0] ClosurePoint [-4, 4, -2, 3] ClosurePoint [-7, 12, -1, 4]",
     ),
     (
         3,
