@@ -160,7 +160,7 @@ module _ (dim : ℕ) (lines rays equalities inequalities : List (List ℤ)) (pai
         below : (i - length lines) < length rays
         below = omega (arith, h, l, length_stored dim lines rays)
 
-  -- D9, the generators
+  -- no generator to spare
   pub no_generator_to_spare : AreIrredundantGenerators gs
   no_generator_to_spare i h same = generator_needed i h same (cases_lt i (length lines))
 
@@ -226,6 +226,6 @@ module _ (dim : ℕ) (lines rays equalities inequalities : List (List ℤ)) (pai
             extra_is (dim + 1) (ConeOf (dim + 1) (system_rows lines rays)) (upto_cone (dim + 1) (system_rows lines rays) (length (system_rows lines rays))) equalities inequalities pair.dual.rows.system from.place from.below (divisor_row dim) pair.divisor more
             (λ x b. divisor_zero x b) (divisor_primitive dim) dim (subst (λ (z : ℤ). pos 0 <ℤ z) (sym (cell-divisor_last dim)) (omega (arith, ints)))
 
-  -- D9, the constraints
+  -- no constraint to spare
   pub no_constraint_to_spare : AreIrredundantConstraints cs
   no_constraint_to_spare i h same = constraint_needed i h same (cases_lt i (length equalities))

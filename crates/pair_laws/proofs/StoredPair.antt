@@ -166,7 +166,7 @@ module _ (dim : ℕ) (lines rays equalities inequalities : List (List ℤ)) (pai
   pub inner_within : IsWithin cs inner_point
   inner_within = cone_point inner_point (vectors_gen.rays_within pair.point.index [] pair.point.below) pair.point.positive
 
-  -- ---- D5
+  -- ---- both systems hold the same points
   pub lines_flat : All (λ l. cell l dim ≡ pos 0) lines
   lines_flat i d h =
       let l = slice_index_or lines i d in
@@ -188,7 +188,7 @@ module _ (dim : ℕ) (lines rays equalities inequalities : List (List ℤ)) (pai
   pub is_pair : IsPair cs gs
   is_pair p pt = (holds_generated p pt, generated_holds p pt)
 
-  -- ---- D10
+  -- ---- the systems are canonical
   -- the list of the stored constraints has the same cone
   pub cone_listed : (x : List ℤ) → ConeOf (dim + 1) (system_rows equalities inequalities) x → ConeOf (dim + 1) (constraint_list cs) x
   cone_listed x u =
