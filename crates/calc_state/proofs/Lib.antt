@@ -7,3 +7,4 @@ pub mod TableLemmas
 pub mod AskLemmas
 pub mod OneReply
 pub mod CutLines
+pub mod DistinctNames

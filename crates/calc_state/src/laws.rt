@@ -1,5 +1,7 @@
 //! Laws of the definitions that the contracts cite.
-ghost use Rattle.calc_state.specs.Laws.{SpellsOne, HasOneReply};
+ghost use Rattle.std.specs.Prelude.{[]};
+ghost use Rattle.calc_state.specs.Table.{HasDistinctNames};
+ghost use Rattle.calc_state.specs.Laws.{SpellsOne, HasOneReply, KeepsNamesDistinct};
 
 /// A line spells one command at most.
 #[tactic(auto, using(crate::proofs::SpellLemmas::spells_one))]
@@ -10,4 +12,11 @@ pub fn one_command()
 /// The calculator has one reply to a line, and goes on to one table.
 pub fn one_reply()
     ensures { HasOneReply }
+{}
+
+/// No two entries of the calculator's table have the same name: the empty table has none, and each
+/// step keeps the names distinct.
+pub fn names_stay_distinct()
+    ensures empty { HasDistinctNames [] }
+    ensures step { KeepsNamesDistinct }
 {}

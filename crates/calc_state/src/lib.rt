@@ -10,5 +10,5 @@ mod refusal;
 mod words;
 
 pub use calc::Calc;
-pub use laws::{one_command, one_reply};
+pub use laws::{names_stay_distinct, one_command, one_reply};
 pub use refusal::StepErr;

@@ -4,3 +4,4 @@ pub mod TruthLaws
 pub mod OneRun
 pub mod CutRuns
 pub mod StreamLaws
+pub mod DistinctNames

@@ -1,12 +1,12 @@
 //! Laws of runs.
 ghost use Rattle.std.specs.Prelude.{◌≡◌, ℕ, List, [], false};
-ghost use Rattle.calc_state.specs.Table.{Table};
+ghost use Rattle.calc_state.specs.Table.{Table, HasDistinctNames};
 ghost use Rattle.calc_state.specs.Step.{Reply, Step};
 ghost use Rattle.polycalc.specs.Replies.{is_answer};
 ghost use Rattle.polycalc.specs.Runs.{Run};
 ghost use Rattle.polycalc.specs.Truth.{AreTruthful};
 
-use calc_state::one_reply;
+use calc_state::{names_stay_distinct, one_reply};
 
 /// In each run every answered question says the truth of the points that satisfy the constraints of
 /// the last accepted line of its name, and a refused line leaves every name as it was.
@@ -26,4 +26,11 @@ pub fn one_run()
     ensures { (lines : List (List ℕ)) (r s : List Reply) (new other : Table) → Run [] lines r new → Run [] lines s other → (r ≡ s) × (new ≡ other) }
 {
     one_reply();
+}
+
+/// In the table after a run no two entries have the same name.
+pub fn names_are_distinct()
+    ensures { (lines : List (List ℕ)) (replies : List Reply) (table : Table) → Run [] lines replies table → HasDistinctNames table }
+{
+    names_stay_distinct();
 }
