@@ -5,3 +5,4 @@ pub mod FitLemmas
 pub mod UniverseLemmas
 pub mod StoredLemmas
 pub mod ListLemmas
+pub mod TestLemmas

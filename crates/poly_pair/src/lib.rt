@@ -22,3 +22,6 @@ pub use errors::GenErr;
 pub use lists::{constraint_list, generator_list};
 pub use poly::Poly;
 pub use topology::{MAX_DIM, Topology};
+
+#[cfg(test)]
+mod tests;
