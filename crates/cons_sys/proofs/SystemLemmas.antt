@@ -1,6 +1,6 @@
-use Rattle.std.specs.Prelude.{ℕ, ◌<◌, List, [], ◌∷◌, ◌++◌, length, ℤ, slice_index_or}
-use Rattle.std.proofs.Common.{sym, ◌∙◌, ap}
-use Rattle.std.proofs.lemmas.List.Elements.{All-get_or, All-push}
+use Rattle.std.specs.Prelude.{◌≡◌, ℕ, ◌-◌, ◌^◌, ◌<◌, List, [], ◌∷◌, ◌++◌, length, ℤ, slice_index_or, All}
+use Rattle.std.proofs.Common.{sym, ◌∙◌, ap, subst}
+use Rattle.std.proofs.lemmas.List.Elements.{All-get_or, All-push, All-append}
 use Rattle.row_core.specs.Vectors.{dot}
 use Rattle.row_core.specs.Points.{IsSamePoint}
 use Rattle.cons_sys.specs.Constraints.{Constraint, Constraints, constraint_at, IsConstraint, FitDimension, Satisfies, In}
@@ -15,6 +15,13 @@ IsConstraint-at cs i fits h = All-get_or (IsConstraint cs.dim) cs.list i ([], Eq
 -- one constraint more fits
 pub FitDimension-push : (dim : ℕ) (list : List Constraint) (c : Constraint) → FitDimension (record { dim = dim; list = list }) → IsConstraint dim c → FitDimension (record { dim = dim; list = list ++ c ∷ [] })
 FitDimension-push dim list c fits h = record { each = All-push (IsConstraint dim) list c fits.each h; narrow = fits.narrow }
+
+-- constraints fit behind others
+pub FitDimension-append : (dim : ℕ) (a b : Constraints) → FitDimension a → FitDimension b → a.dim ≡ dim → b.dim ≡ dim → FitDimension (record { dim = dim; list = a.list ++ b.list })
+FitDimension-append dim a b fits more e f = record {
+  each = All-append (IsConstraint dim) a.list b.list (subst (λ (n : ℕ). All (IsConstraint n) a.list) e fits.each) (subst (λ (n : ℕ). All (IsConstraint n) b.list) f more.each);
+  narrow = subst (λ (n : ℕ). n < 2 ^ 32 - 2) e fits.narrow;
+}
 
 -- one constraint holds at both or at neither of two vectors of one point
 pub Satisfies-same_point : (u v : List ℤ) (c : Constraint) → IsSamePoint u v → Satisfies u c → Satisfies v c

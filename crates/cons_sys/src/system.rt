@@ -1,5 +1,5 @@
 //! A list of constraints over one dimension.
-ghost use Rattle.std.specs.Prelude.{◌≡◌, ℕ, ◌+◌, ◌-◌, ◌^◌, ◌<◌, ◌==◌, ◌↔◌, List, ℤ, [], length, map, MatchResult, IfOk, IsTrue, Err};
+ghost use Rattle.std.specs.Prelude.{◌≡◌, ℕ, ◌+◌, ◌-◌, ◌^◌, ◌<◌, ◌==◌, ◌↔◌, List, ℤ, [], ◌++◌, length, map, MatchResult, IfOk, IsTrue, Err};
 ghost use Rattle.std.specs.Borrow.{Bor};
 ghost use Rattle.std.specs.Iterator.{YieldsFirstBy, item_count};
 ghost use Rattle.row_core.specs.Range.{AllInRange};
@@ -73,6 +73,22 @@ impl ConsSys {
         let row = row.into_primitive();
         self.entries.push(Entry { row, kind })?;
         Ok(())
+    }
+
+    /// Returns these constraints and then the later ones, all over one dimension.
+    pub fn followed_by(&self, alloc: Global, later: &ConsSys) -> Result<ConsSys, Memory>
+        requires same_dimension { later.now.dim ≡ self.now.dim }
+        ensures dim { IfOk result (λ both. both.dim ≡ self.now.dim) }
+        ensures list { IfOk result (λ both. both.list ≡ self.now.list ++ later.now.list) }
+    {
+        let mut entries = self.clone()?.entries;
+        let mut rest = later.clone()?.entries;
+        entries.append(&mut rest)?;
+        Ok(ConsSys {
+            alloc,
+            dim: self.dim,
+            entries,
+        })
     }
 
     /// The number of variables.

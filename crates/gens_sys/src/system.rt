@@ -1,5 +1,5 @@
 //! A list of generators over one dimension.
-ghost use Rattle.std.specs.Prelude.{◌≡◌, ℕ, ◌+◌, ◌-◌, ◌^◌, ◌<◌, ◌==◌, ◌↔◌, List, ℤ, [], length, map, MatchResult, Err};
+ghost use Rattle.std.specs.Prelude.{◌≡◌, ℕ, ◌+◌, ◌-◌, ◌^◌, ◌<◌, ◌==◌, ◌↔◌, List, ℤ, [], ◌++◌, length, map, MatchResult, IfOk, Err};
 ghost use Rattle.std.specs.Borrow.{Bor};
 ghost use Rattle.std.specs.Iterator.{YieldsFirstBy, item_count};
 ghost use Rattle.row_core.specs.Vectors.{cell};
@@ -114,6 +114,22 @@ impl GensSys {
         let row = row.into_primitive();
         self.entries.push(Entry { row, kind })?;
         Ok(())
+    }
+
+    /// Returns these generators and then the later ones, all over one dimension.
+    pub fn followed_by(&self, alloc: Global, later: &GensSys) -> Result<GensSys, Memory>
+        requires same_dimension { later.now.dim ≡ self.now.dim }
+        ensures dim { IfOk result (λ both. both.dim ≡ self.now.dim) }
+        ensures list { IfOk result (λ both. both.list ≡ self.now.list ++ later.now.list) }
+    {
+        let mut entries = self.clone()?.entries;
+        let mut rest = later.clone()?.entries;
+        entries.append(&mut rest)?;
+        Ok(GensSys {
+            alloc,
+            dim: self.dim,
+            entries,
+        })
     }
 
     /// The number of variables.
