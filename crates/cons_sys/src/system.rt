@@ -1,40 +1,35 @@
 //! A list of constraints over one dimension.
-ghost use Rattle.std.specs.Prelude.{◌≡◌, ℕ, ◌+◌, ◌-◌, ◌^◌, ◌<◌, ◌==◌, ◌↔◌, List, ℤ, [], ◌++◌, length, map, MatchResult, IfOk, IsTrue, Err};
-ghost use Rattle.std.specs.Borrow.{Bor};
-ghost use Rattle.std.specs.Iterator.{YieldsFirstBy, item_count};
+ghost use Rattle.std.specs.Prelude.{◌≡◌, ◌+◌, ◌-◌, ◌^◌, ◌<◌, ◌==◌, ◌↔◌, [], ◌++◌, length, MatchResult, IfOk, IsTrue, Err};
 ghost use Rattle.row_core.specs.Range.{AllInRange};
 ghost use Rattle.row_core.specs.Content.{IsPrimitive};
 ghost use Rattle.row_core.specs.Points.{IsPoint};
 ghost use Rattle.row_core.specs.declared.PairOver.{PairOver};
-ghost use Rattle.cons_sys.specs.Constraints.{Constraint, Constraints, FitDimension, Gains, In, row_at, kind_at};
+ghost use Rattle.cons_sys.specs.Constraints.{Constraints, FitDimension, Gains, In, row_at, kind_at};
 ghost use Rattle.cons_sys.specs.declared.kind.ConKind.{ConKind};
 ghost use Rattle.cons_sys.specs.Testing.{Answers, AnswersAt, LeavesRange};
 
 use crate::kind::ConKind;
-use row_core::{Memory, OverKind, PairOver, RowBuf, dot};
+use row_core::{MarkedRows, Memory, OverKind, PairOver, RowBuf, dot};
 use std::alloc::{AllocError, Global};
 use std::marker::Model;
-
-#[derive(Clone, Debug, Drop)]
-struct Entry {
-    row: RowBuf,
-    kind: ConKind,
-}
 
 /// Constraints over one dimension. Each row is kept primitive.
 #[derive(Debug, Drop)]
 pub struct ConsSys {
     alloc: Global,
     dim: usize,
-    entries: Vec<Entry>,
+    rows: MarkedRows<ConKind>,
 }
+
+/// The constraints of a system that are still to come, each row with its kind.
+pub type Iter<'a> = row_core::Iter<'a, ConKind>;
 
 impl Model for ConsSys {
     ghost Value = { Constraints };
 
-    ghost view = { λ s. record { dim = s.dim; list = map (λ e. (e.row, e.kind)) s.entries.items } };
+    ghost view = { λ s. record { dim = s.dim; list = s.rows } };
 
-    ghost invariant = { λ s. FitDimension (record { dim = s.dim; list = map (λ e. (e.row, e.kind)) s.entries.items }) };
+    ghost invariant = { λ s. FitDimension (record { dim = s.dim; list = s.rows }) };
 }
 
 impl ConsSys {
@@ -47,7 +42,7 @@ impl ConsSys {
         ConsSys {
             alloc,
             dim,
-            entries: Vec::new(alloc),
+            rows: MarkedRows::new(alloc),
         }
     }
 
@@ -71,7 +66,7 @@ impl ConsSys {
         ensures list { MatchResult result (λ _. Gains self.old.list self.new.list row kind) (λ _. self.new.list ≡ self.old.list) }
     {
         let row = row.into_primitive();
-        self.entries.push(Entry { row, kind })?;
+        self.rows.push(row, kind)?;
         Ok(())
     }
 
@@ -81,13 +76,11 @@ impl ConsSys {
         ensures dim { IfOk result (λ both. both.dim ≡ self.now.dim) }
         ensures list { IfOk result (λ both. both.list ≡ self.now.list ++ later.now.list) }
     {
-        let mut entries = self.clone()?.entries;
-        let mut rest = later.clone()?.entries;
-        entries.append(&mut rest)?;
+        let rows = self.rows.followed_by(&later.rows)?;
         Ok(ConsSys {
             alloc,
             dim: self.dim,
-            entries,
+            rows,
         })
     }
 
@@ -106,7 +99,7 @@ impl ConsSys {
     pub fn len(&self) -> usize
         ensures { result ≡ length self.now.list }
     {
-        self.entries.len()
+        self.rows.len()
     }
 
     /// Whether there is no constraint.
@@ -114,7 +107,7 @@ impl ConsSys {
     pub fn is_empty(&self) -> bool
         ensures { result ≡ (length self.now.list == 0) }
     {
-        self.entries.is_empty()
+        self.rows.is_empty()
     }
 
     /// Lends the row of constraint `i`.
@@ -127,7 +120,7 @@ impl ConsSys {
         ensures in_range { AllInRange (row_at self.now.list i) }
         ensures primitive { IsPrimitive (row_at self.now.list i) }
     {
-        self.entries[i].row.cells()
+        self.rows.row(i)
     }
 
     /// The kind of constraint `i`.
@@ -136,7 +129,7 @@ impl ConsSys {
         requires { i < length self.now.list }
         ensures { result ≡ kind_at self.now.list i }
     {
-        self.entries[i].kind
+        self.rows.mark(i)
     }
 
     /// Lends the constraints in order, each row with its kind.
@@ -144,9 +137,7 @@ impl ConsSys {
     pub fn iter(&self) -> Iter<'_>
         ensures { result ≡ self.now.list }
     {
-        Iter {
-            rest: self.entries.as_slice(),
-        }
+        self.rows.iter()
     }
 
     /// Whether constraint `i` holds at a vector.
@@ -172,7 +163,7 @@ impl ConsSys {
         requires { length v.now ≡ self.now.dim + 1 }
         ensures { Answers self.now.list v.now result }
     {
-        for i in 0..self.entries.len() {
+        for i in 0..self.rows.len() {
             if !self.holds_one(i, v)? {
                 return Ok(false);
             }
@@ -205,35 +196,8 @@ impl Clone for ConsSys {
         Ok(ConsSys {
             alloc: self.alloc,
             dim: self.dim,
-            entries: self.entries.clone()?,
+            rows: self.rows.clone()?,
         })
-    }
-}
-
-/// The constraints of a system that are still to come, each row with its kind.
-#[derive(Debug, Drop)]
-pub struct Iter<'a> {
-    rest: &'a [Entry],
-}
-
-impl<'a> Model for Iter<'a> {
-    ghost Value = { List Constraint };
-
-    ghost view = { λ a. map (λ e. (e.row, e.kind)) a.rest.now };
-}
-
-impl<'a> Iterator for Iter<'a> {
-    type Item = (&'a [i128], ConKind);
-
-    ghost next_gives = { YieldsFirstBy (λ (x : Bor (List ℤ) × ConKind). (x.0.now, x.1)) (λ (rest : List Constraint). rest) };
-
-    ghost remaining = { item_count (λ (rest : List Constraint). rest) };
-
-    #[inline]
-    fn next(&mut self) -> Option<(&'a [i128], ConKind)> {
-        let (first, rest) = self.rest.split_first()?;
-        self.rest = rest;
-        Some((first.row.cells(), first.kind))
     }
 }
 

@@ -1,40 +1,34 @@
 //! A list of generators over one dimension.
-ghost use Rattle.std.specs.Prelude.{◌≡◌, ℕ, ◌+◌, ◌-◌, ◌^◌, ◌<◌, ◌==◌, ◌↔◌, List, ℤ, [], ◌++◌, length, map, MatchResult, IfOk, Err};
-ghost use Rattle.std.specs.Borrow.{Bor};
-ghost use Rattle.std.specs.Iterator.{YieldsFirstBy, item_count};
+ghost use Rattle.std.specs.Prelude.{◌≡◌, ◌+◌, ◌-◌, ◌^◌, ◌<◌, ◌==◌, ◌↔◌, [], ◌++◌, length, MatchResult, IfOk, Err};
 ghost use Rattle.row_core.specs.Vectors.{cell};
 ghost use Rattle.row_core.specs.Range.{AllInRange};
-ghost use Rattle.row_core.specs.Content.{IsPrimitive};
 ghost use Rattle.gens_sys.specs.Kinds.{HasBadDivisor, IsZeroDirection};
-ghost use Rattle.gens_sys.specs.Generators.{Generator, Generators, IsGenerator, FitDimension, Gains, generator_at, row_at, kind_at};
+ghost use Rattle.gens_sys.specs.Generators.{Generators, IsGenerator, FitDimension, Gains, generator_at, row_at, kind_at};
 ghost use Rattle.gens_sys.specs.declared.kind.GenKind.{GenKind};
 ghost use Rattle.gens_sys.specs.Refusals.{Refusal};
 
 use crate::kind::{GenKind, GenPushErr};
-use row_core::{Memory, RowBuf};
+use row_core::{MarkedRows, Memory, RowBuf};
 use std::alloc::{AllocError, Global};
 use std::marker::Model;
-
-#[derive(Clone, Debug, Drop)]
-struct Entry {
-    row: RowBuf,
-    kind: GenKind,
-}
 
 /// Generators over one dimension. Each vector is kept primitive.
 #[derive(Debug, Drop)]
 pub struct GensSys {
     alloc: Global,
     dim: usize,
-    entries: Vec<Entry>,
+    rows: MarkedRows<GenKind>,
 }
+
+/// The generators of a system that are still to come, each vector with its kind.
+pub type Iter<'a> = row_core::Iter<'a, GenKind>;
 
 impl Model for GensSys {
     ghost Value = { Generators };
 
-    ghost view = { λ s. record { dim = s.dim; list = map (λ e. (e.row, e.kind)) s.entries.items } };
+    ghost view = { λ s. record { dim = s.dim; list = s.rows } };
 
-    ghost invariant = { λ s. FitDimension (record { dim = s.dim; list = map (λ e. (e.row, e.kind)) s.entries.items }) };
+    ghost invariant = { λ s. FitDimension (record { dim = s.dim; list = s.rows }) };
 }
 
 impl GensSys {
@@ -47,7 +41,7 @@ impl GensSys {
         GensSys {
             alloc,
             dim,
-            entries: Vec::new(alloc),
+            rows: MarkedRows::new(alloc),
         }
     }
 
@@ -112,7 +106,7 @@ impl GensSys {
         ensures list { MatchResult result (λ _. Gains self.old.list self.new.list row kind) (λ _. self.new.list ≡ self.old.list) }
     {
         let row = row.into_primitive();
-        self.entries.push(Entry { row, kind })?;
+        self.rows.push(row, kind)?;
         Ok(())
     }
 
@@ -122,13 +116,11 @@ impl GensSys {
         ensures dim { IfOk result (λ both. both.dim ≡ self.now.dim) }
         ensures list { IfOk result (λ both. both.list ≡ self.now.list ++ later.now.list) }
     {
-        let mut entries = self.clone()?.entries;
-        let mut rest = later.clone()?.entries;
-        entries.append(&mut rest)?;
+        let rows = self.rows.followed_by(&later.rows)?;
         Ok(GensSys {
             alloc,
             dim: self.dim,
-            entries,
+            rows,
         })
     }
 
@@ -147,7 +139,7 @@ impl GensSys {
     pub fn len(&self) -> usize
         ensures { result ≡ length self.now.list }
     {
-        self.entries.len()
+        self.rows.len()
     }
 
     /// Whether there is no generator.
@@ -155,7 +147,7 @@ impl GensSys {
     pub fn is_empty(&self) -> bool
         ensures { result ≡ (length self.now.list == 0) }
     {
-        self.entries.is_empty()
+        self.rows.is_empty()
     }
 
     /// Lends the vector of generator `i`.
@@ -168,7 +160,7 @@ impl GensSys {
         ensures in_range { AllInRange (row_at self.now.list i) }
         ensures generator { IsGenerator self.now.dim (generator_at self.now.list i) }
     {
-        self.entries[i].row.cells()
+        self.rows.row(i)
     }
 
     /// The kind of generator `i`.
@@ -177,7 +169,7 @@ impl GensSys {
         requires { i < length self.now.list }
         ensures { result ≡ kind_at self.now.list i }
     {
-        self.entries[i].kind
+        self.rows.mark(i)
     }
 
     /// Lends the generators in order, each vector with its kind.
@@ -185,9 +177,7 @@ impl GensSys {
     pub fn iter(&self) -> Iter<'_>
         ensures { result ≡ self.now.list }
     {
-        Iter {
-            rest: self.entries.as_slice(),
-        }
+        self.rows.iter()
     }
 }
 
@@ -198,35 +188,8 @@ impl Clone for GensSys {
         Ok(GensSys {
             alloc: self.alloc,
             dim: self.dim,
-            entries: self.entries.clone()?,
+            rows: self.rows.clone()?,
         })
-    }
-}
-
-/// The generators of a system that are still to come, each vector with its kind.
-#[derive(Debug, Drop)]
-pub struct Iter<'a> {
-    rest: &'a [Entry],
-}
-
-impl<'a> Model for Iter<'a> {
-    ghost Value = { List Generator };
-
-    ghost view = { λ a. map (λ e. (e.row, e.kind)) a.rest.now };
-}
-
-impl<'a> Iterator for Iter<'a> {
-    type Item = (&'a [i128], GenKind);
-
-    ghost next_gives = { YieldsFirstBy (λ (x : Bor (List ℤ) × GenKind). (x.0.now, x.1)) (λ (rest : List Generator). rest) };
-
-    ghost remaining = { item_count (λ (rest : List Generator). rest) };
-
-    #[inline]
-    fn next(&mut self) -> Option<(&'a [i128], GenKind)> {
-        let (first, rest) = self.rest.split_first()?;
-        self.rest = rest;
-        Some((first.row.cells(), first.kind))
     }
 }
 

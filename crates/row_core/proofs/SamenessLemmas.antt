@@ -27,8 +27,14 @@ is_same_list-Decides a b =
       λ e. both.1 (ap (λ (l : Rows). l.width) e, ap (λ (l : Rows). l.rows) e),
     )
 
--- a test of what the rows of two lists are made of, where their widths agree
-pub is_same_list-map : {X : Type 0} (h : X → Row) (a b : ℕ) (xs ys : List X) (l m : Rows) (r : Bool) → record { width = a; rows = map h xs } ≡ l → record { width = b; rows = map h ys } ≡ m → a ≡ b → r ≡ pointwise (λ x y. is_same_marked beq (h x) (h y)) xs ys → r ≡ is_same_list l m
-is_same_list-map h a b xs ys l m r f g e same =
-    same ∙ (sym (pointwise-map h (is_same_marked beq) xs ys) ∙ (ap (λ (t : Bool). t && pointwise (is_same_marked beq) (map h xs) (map h ys)) (sym ((unsigned_Decides a b).1 e))
-    ∙ (ap (λ (k : Rows). is_same_list k (record { width = b; rows = map h ys })) f ∙ ap (λ (k : Rows). is_same_list l k) g)))
+-- a test of what the rows of two lists are made of
+pub same_marked-map : {X M : Type 0} (h : X → List ℤ × M) (E : M → M → Bool) (xs ys : List X) (us vs : List (List ℤ × M)) (r : Bool) → map h xs ≡ us → map h ys ≡ vs → r ≡ pointwise (λ x y. is_same_marked E (h x) (h y)) xs ys → r ≡ pointwise (is_same_marked E) us vs
+same_marked-map {X} {M} h E xs ys us vs r f g same =
+    same ∙ (sym (pointwise-map h (is_same_marked E) xs ys)
+    ∙ (ap (λ (l : List (List ℤ × M)). pointwise (is_same_marked E) l (map h ys)) f ∙ ap (λ (l : List (List ℤ × M)). pointwise (is_same_marked E) us l) g))
+
+-- a test of the rows of two lists, where their widths agree
+pub is_same_list-rows : (a b : ℕ) (us vs : List Row) (l m : Rows) (r : Bool) → record { width = a; rows = us } ≡ l → record { width = b; rows = vs } ≡ m → a ≡ b → r ≡ pointwise (is_same_marked beq) us vs → r ≡ is_same_list l m
+is_same_list-rows a b us vs l m r f g e same =
+    same ∙ (ap (λ (t : Bool). t && pointwise (is_same_marked beq) us vs) (sym ((unsigned_Decides a b).1 e))
+    ∙ (ap (λ (k : Rows). is_same_list k (record { width = b; rows = vs })) f ∙ ap (λ (k : Rows). is_same_list l k) g))

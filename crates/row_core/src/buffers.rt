@@ -1,17 +1,16 @@
 //! One row, and a list of rows of one width, on the heap.
-ghost use Rattle.std.specs.Prelude.{◌≡◌, ℕ, ◌^◌, ◌<◌, ◌==◌, Bool, List, [], ◌∷◌, ◌++◌, length, map, ℤ, All, Decides, MatchResult, IfOk, slice_index_or, false};
+ghost use Rattle.std.specs.Prelude.{◌≡◌, ◌^◌, ◌<◌, ◌==◌, List, [], ◌∷◌, ◌++◌, length, ℤ, Decides, MatchResult, IfOk};
 ghost use Rattle.std.specs.Cmp;
 ghost use Rattle.std.specs.Cmp.Lexicographic.{pointwise};
 ghost use Rattle.std.specs.Ordering.{int_eq};
 ghost use Rattle.std.proofs.lemmas.Cmp.{int_eq_equiv, lists_equiv};
-ghost use Rattle.std.specs.Iterator.{YieldsFirstBy, item_count};
-ghost use Rattle.std.specs.Borrow.{Bor};
 ghost use Rattle.row_core.specs.Range.{AllInRange};
 ghost use Rattle.row_core.specs.Content.{IsPrimitiveOf};
 ghost use Rattle.row_core.specs.Sameness.{is_same_list, same_list_equiv};
-ghost use Rattle.row_core.specs.Lists.{Row, Rows, FitWidth, row_at, is_eq_at};
+ghost use Rattle.row_core.specs.Lists.{Rows, FitWidth, row_at, is_eq_at};
 
 use crate::errors::Memory;
+use crate::marked::{Iter, MarkedRows};
 use crate::primitive::make_primitive;
 use std::alloc::{AllocError, Global};
 use std::marker::Model;
@@ -137,27 +136,20 @@ impl Clone for RowBuf {
     }
 }
 
-/// A row of a list, and whether it is an equality.
-#[derive(Clone, Debug, Drop, PartialEq, Eq)]
-struct Marked {
-    row: RowBuf,
-    eq: bool,
-}
-
 /// Rows of one width, each marked as an equality or an inequality.
 #[derive(Debug, Drop)]
 pub struct RowList {
     alloc: Global,
     width: usize,
-    marked: Vec<Marked>,
+    marked: MarkedRows<bool>,
 }
 
 impl Model for RowList {
     ghost Value = { Rows };
 
-    ghost view = { λ l. record { width = l.width; rows = map (λ m. (m.row, m.eq)) l.marked.items } };
+    ghost view = { λ l. record { width = l.width; rows = l.marked } };
 
-    ghost invariant = { λ l. FitWidth (record { width = l.width; rows = map (λ m. (m.row, m.eq)) l.marked.items }) };
+    ghost invariant = { λ l. FitWidth (record { width = l.width; rows = l.marked }) };
 }
 
 impl RowList {
@@ -170,7 +162,7 @@ impl RowList {
         RowList {
             alloc,
             width,
-            marked: Vec::new(alloc),
+            marked: MarkedRows::new(alloc),
         }
     }
 
@@ -191,7 +183,7 @@ impl RowList {
         ensures width { self.new.width ≡ self.old.width }
         ensures rows { MatchResult result (λ _. self.new.rows ≡ self.old.rows ++ (row, eq) ∷ []) (λ _. self.new.rows ≡ self.old.rows) }
     {
-        self.marked.push(Marked { row, eq })?;
+        self.marked.push(row, eq)?;
         Ok(())
     }
 
@@ -229,7 +221,7 @@ impl RowList {
         ensures wide { length (row_at self.now.rows i) ≡ self.now.width }
         ensures in_range { AllInRange (row_at self.now.rows i) }
     {
-        self.marked[i].row.cells()
+        self.marked.row(i)
     }
 
     /// Whether row `i` is an equality.
@@ -238,17 +230,15 @@ impl RowList {
         requires { i < length self.now.rows }
         ensures { result ≡ is_eq_at self.now.rows i }
     {
-        self.marked[i].eq
+        self.marked.mark(i)
     }
 
     /// Lends the rows in order, each with its mark.
     #[inline]
-    pub fn iter(&self) -> Iter<'_>
+    pub fn iter(&self) -> Iter<'_, bool>
         ensures { result ≡ self.now.rows }
     {
-        Iter {
-            rest: self.marked.as_slice(),
-        }
+        self.marked.iter()
     }
 }
 
@@ -281,41 +271,14 @@ impl Eq for RowList {
     ghost laws = { same_list_equiv };
 }
 
-/// The rows of a list that are still to come, each with its mark.
-#[derive(Debug, Drop)]
-pub struct Iter<'a> {
-    rest: &'a [Marked],
-}
-
-impl<'a> Model for Iter<'a> {
-    ghost Value = { List Row };
-
-    ghost view = { λ a. map (λ m. (m.row, m.eq)) a.rest.now };
-}
-
-impl<'a> Iterator for Iter<'a> {
-    type Item = (&'a [i128], bool);
-
-    ghost next_gives = { YieldsFirstBy (λ (x : Bor (List ℤ) × Bool). (x.0.now, x.1)) (λ (rest : List Row). rest) };
-
-    ghost remaining = { item_count (λ (rest : List Row). rest) };
-
-    #[inline]
-    fn next(&mut self) -> Option<(&'a [i128], bool)> {
-        let (first, rest) = self.rest.split_first()?;
-        self.rest = rest;
-        Some((first.row.cells(), first.eq))
-    }
-}
-
 impl<'a> IntoIterator for &'a RowList {
     type Item = (&'a [i128], bool);
 
-    type IntoIter = Iter<'a>;
+    type IntoIter = Iter<'a, bool>;
 
     ghost into_iter_gives = { λ list it. it ≡ list.now.rows };
 
-    fn into_iter(self) -> Iter<'a> {
+    fn into_iter(self) -> Iter<'a, bool> {
         self.iter()
     }
 }

@@ -1,7 +1,7 @@
 //! Rows of exact integers, and arithmetic that says where it leaves the range.
 //!
-//! - [`RowBuf`] and [`RowList`] keep rows whose numbers are of the range, from `-(2^127 - 1)` to
-//!   `2^127 - 1`.
+//! - [`RowBuf`], [`MarkedRows`] and [`RowList`] keep rows whose numbers are of the range, from
+//!   `-(2^127 - 1)` to `2^127 - 1`.
 //! - [`Memory`], [`Overflow`], [`PairOver`] and [`ConvErr`] are the answers that a call may refuse by.
 //! - [`Steps`] counts combinations of two rows.
 //! - [`dot`] and [`combine_into`] give the exact numbers, or the first column that leaves the range.
@@ -14,13 +14,15 @@ mod counting;
 mod errors;
 mod laws;
 mod linear;
+mod marked;
 mod primitive;
 
-pub use buffers::{Iter, RowBuf, RowList};
+pub use buffers::{RowBuf, RowList};
 pub use counting::Steps;
 pub use errors::{ConvErr, Memory, OverKind, Overflow, PairOver};
 pub use laws::one_primitive;
 pub use linear::{combine_into, dot};
+pub use marked::{Iter, MarkedRows};
 pub use primitive::{gcd, make_primitive};
 
 #[cfg(test)]

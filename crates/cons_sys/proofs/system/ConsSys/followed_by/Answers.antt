@@ -1,6 +1,5 @@
 use Rattle.std.specs.Prelude.{◌≡◌}
-use Rattle.std.proofs.Common.{sym, ◌∙◌, ap}
-use Rattle.std.proofs.lemmas.List.{map-append}
+use Rattle.std.proofs.Common.{sym, ◌∙◌, ap, refl}
 use Rattle.cons_sys.specs.Constraints.{Constraints}
 use Rattle.cons_sys.proofs.SystemLemmas.{FitDimension-append}
 use Rattle.cons_sys.proofs.system.ConsSys.followed_by.Goals as goal
@@ -8,7 +7,6 @@ use Rattle.cons_sys.proofs.system.ConsSys.followed_by.Goals as goal
 pub invariant_of-result : goal.invariant_of-result
 invariant_of-result c =
     let dim = λ (cs : Constraints). cs.dim in
-    let same : c.entries.inside.dim ≡ c.self.inside.dim = ap dim (c.entries.view_is ∙ (c.in_ok-entries.ensures.cases ∙ sym c.self.view_is)) in
-    let also : c.rest.inside.dim ≡ c.self.inside.dim = ap dim (c.rest.view_is ∙ c.in_ok-rest.ensures.cases) ∙ (c.requires.same_dimension ∙ sym (ap dim c.self.view_is)) in
-    rw (c.in_ok-append.ensures.items, map-append)
-    (FitDimension-append c.self.inside.dim _ _ c.entries.invariant c.rest.invariant same also)
+    let same : c.later.inside.dim ≡ c.self.inside.dim = ap dim c.later.view_is ∙ (c.requires.same_dimension ∙ sym (ap dim c.self.view_is)) in
+    rw c.in_ok-rows.ensures
+    (FitDimension-append c.self.inside.dim _ _ c.self.invariant c.later.invariant refl same)

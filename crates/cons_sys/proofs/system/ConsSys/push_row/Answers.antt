@@ -1,11 +1,10 @@
 use Rattle.std.proofs.Common.{arith, ap}
-use Rattle.std.proofs.lemmas.List.{map-append}
 use Rattle.cons_sys.specs.Constraints.{Constraints}
 use Rattle.cons_sys.proofs.SystemLemmas.{FitDimension-push}
 use Rattle.cons_sys.proofs.system.ConsSys.push_row.Goals as goal
 
 pub invariant_of-self-2 : goal.invariant_of-self-2
 invariant_of-self-2 c =
-    rw (c.in_ok-push.ensures.items, map-append)
+    rw c.in_ok-push.ensures
     (FitDimension-push c.self.inside.dim _ (c.into_primitive-row.result, c.args.kind) c.self.invariant
     (record { wide = omega (arith, c.into_primitive-row.ensures.width, c.requires, ap (λ (cs : Constraints). cs.dim) c.self.view_is); in_range = c.into_primitive-row.ensures.in_range; primitive = c.into_primitive-row.ensures.primitive.primitive }))

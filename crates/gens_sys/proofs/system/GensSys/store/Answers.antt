@@ -1,6 +1,5 @@
 use Rattle.std.specs.Prelude.{◌≡◌, ℕ}
 use Rattle.std.proofs.Common.{arith, ap, subst}
-use Rattle.std.proofs.lemmas.List.{map-append}
 use Rattle.row_core.specs.Vectors.{cell}
 use Rattle.gens_sys.specs.Kinds.{HasBadDivisor}
 use Rattle.gens_sys.specs.Generators.{Generators}
@@ -13,7 +12,7 @@ invariant_of-self-2 c =
     let multiple = c.into_primitive-row.ensures.primitive.multiple in
     let stored = c.into_primitive-row.result in
     let same_dim : c.self.inside.dim ≡ c.args.self.now.dim = ap (λ (gs : Generators). gs.dim) c.self.view_is in
-    rw (c.in_ok-push.ensures.items, map-append)
+    rw c.in_ok-push.ensures
     (FitDimension-push c.self.inside.dim _ (c.into_primitive-row.result, c.args.kind) c.self.invariant
     (record {
       wide = omega (arith, c.into_primitive-row.ensures.width, c.requires.wide, same_dim);
