@@ -3,15 +3,15 @@ use Rattle.std.proofs.Common.{◌≡◌, ℕ, ◌+◌, ◌-◌, ◌^◌, ◌<◌
 use Rattle.std.specs.Prelude.{◌&&◌, ℤ, pos, negsuc, ◌+ℤ◌, unsigned_abs, All, codes}
 use Rattle.std.specs.Ordering.{int_eq}
 use Rattle.std.specs.Fmt.{signed_decimal}
-use Rattle.std.proofs.Math.IntN.{neg_ℤ, ◌*ℤ◌}
-use Rattle.std.proofs.lemmas.Int.{ints}
+use Rattle.std.proofs.Math.IntN.{neg_ℤ}
 use Rattle.std.proofs.lemmas.Bool.{cases_lt}
 use Rattle.std.proofs.lemmas.Bool.Decides.{Decides-int_eq}
 use Rattle.std.proofs.lemmas.List.{take_all, take-append-le, get_or-take, length-take-le}
 use Rattle.std.proofs.lemmas.List.Elements.{All-nil, All-cons, All-head, All-tail, All-push, All-get_or, All-take, All-map, All-weaker}
-use Rattle.row_core.specs.Vectors.{cell, scale}
+use Rattle.row_core.specs.Vectors.{cell}
 use Rattle.row_core.specs.Range.{InRange, AllInRange}
-use Rattle.row_core.specs.Content.{IsPrimitive, IsPrimitiveOf}
+use Rattle.row_core.specs.Content.{IsPrimitive}
+use Rattle.row_core.proofs.OnePrimitive.{IsPrimitiveOf-self}
 use Rattle.cons_sys.specs.Constraints.{Constraint, Constraints, IsConstraint, FitDimension}
 use Rattle.cons_sys.specs.declared.kind.ConKind.{ConKind}
 use Rattle.cons_sys.specs.declared.kind.ConKind.TheVariants.{Eq, Ge, Gt}
@@ -150,17 +150,6 @@ comparison_stays dim row fits =
 comparison_within : (dim : ℕ) (row : List ℤ) → IsFitting dim row → AreWithin dim (row_terms (take dim row) ++ last_term (cell row dim) ∷ [])
 comparison_within dim row fits = All-push (IsWithin dim) (row_terms (take dim row)) (last_term (cell row dim)) (front_within dim row fits) tt
 
-one_times : (z : ℤ) → z ≡ pos 1 *ℤ z
-one_times z = omega (arith, ints)
-
-scale-one : (row : List ℤ) → row ≡ scale (pos 1) row
-scale-one [] = refl
-scale-one (z ∷ row) = ap (λ (y : ℤ). y ∷ row) (one_times z) ∙ ap (λ (ys : List ℤ). (pos 1 *ℤ z) ∷ ys) (scale-one row)
-
--- a primitive row is its own
-pub itself : (row : List ℤ) → IsPrimitive row → IsPrimitiveOf row row
-itself row primitive = record { multiple = record { times = 1; positive = lit< tt; same = scale-one row }; primitive = primitive }
-
 comparison_row : (dim : ℕ) (c : Constraint) → IsFitting dim c.0 → IsConRow dim (comparison_of dim c) c.0
 comparison_row dim c fits = record {
   wide = fits.wide;
@@ -168,7 +157,7 @@ comparison_row dim c fits = record {
 }
 
 constraint_stored : (dim : ℕ) (c : Constraint) → IsFitting dim c.0 → IsPrimitive c.0 → IsStored dim (comparison_of dim c) c
-constraint_stored dim c fits primitive = record { row = c.0; sums = comparison_row dim c fits; primitive = itself c.0 primitive; kind = kind_of-relation_for c.1 }
+constraint_stored dim c fits primitive = record { row = c.0; sums = comparison_row dim c fits; primitive = IsPrimitiveOf-self c.0 primitive; kind = kind_of-relation_for c.1 }
 
 abbrev Fits : ℕ → Constraint → Type 0
 Fits dim c = IsFitting dim c.0 × IsPrimitive c.0
@@ -262,7 +251,7 @@ never_stored : (dim : ℕ) (c : Constraint) → Fits dim c → IsNever dim c →
 never_stored dim c fits is = record {
   row = c.0;
   sums = record { wide = fits.0.wide; cells = λ j within. never_cells dim c is j (cases_lt j dim) within };
-  primitive = itself c.0 fits.1;
+  primitive = IsPrimitiveOf-self c.0 fits.1;
   kind = is.kind;
 }
 

@@ -1,4 +1,4 @@
-use Rattle.std.specs.Prelude.{◌≡◌, List, ℤ, pos, ◌≤ℤ◌, ◌<ℤ◌, All, ⊤}
+use Rattle.std.specs.Prelude.{◌≡◌, Bool, true, false, List, ℤ, pos, ◌≤ℤ◌, ◌<ℤ◌, All, ⊤}
 use Rattle.gens_sys.specs.declared.kind.GenKind.{GenKind}
 use Rattle.gens_sys.specs.declared.kind.GenKind.TheVariants.{Line, Ray, Point, ClosurePoint}
 
@@ -22,3 +22,10 @@ AllowsFactor Line factor = ⊤
 AllowsFactor Ray factor = pos 0 ≤ℤ factor
 AllowsFactor Point factor = pos 0 ≤ℤ factor
 AllowsFactor ClosurePoint factor = pos 0 ≤ℤ factor
+
+-- whether a generator of the kind is a line
+abbrev pub is_line : GenKind → Bool
+is_line Line = true
+is_line Ray = false
+is_line Point = false
+is_line ClosurePoint = false

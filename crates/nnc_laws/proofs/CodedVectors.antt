@@ -21,7 +21,8 @@ use Rattle.nnc_laws.specs.Encoding.{raised, Codes}
 use Rattle.nnc_laws.specs.StrongRows.{IsAdmittedVector}
 use Rattle.nnc_laws.specs.EncodedGenerators.{encoded_generator, encoded_generators, CodedIsSpanned}
 use Rattle.nnc_laws.proofs.MarkedSums.{Marks}
-use Rattle.nnc_laws.proofs.SpanMarks.{is_line, LineOf, OtherOf, PointOf, marks_span}
+use Rattle.gens_sys.specs.Kinds.{is_line}
+use Rattle.nnc_laws.proofs.SpanMarks.{LineOf, OtherOf, PointOf, marks_span}
 use Rattle.nnc_laws.proofs.EncodedRows.{remove_insert, length_insert, cell_insert}
 use Rattle.nnc_laws.proofs.PositiveParts.{Found, found}
 use Rattle.nnc_laws.proofs.Relaxed.{skip, cell-remove, sums_columns}

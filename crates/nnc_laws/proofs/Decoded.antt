@@ -22,7 +22,8 @@ use Rattle.nnc_laws.proofs.Relaxed.{relaxed, relaxed_lines, Numbered, PointAt_of
 use Rattle.nnc_laws.proofs.LeftOutVectors.{remain_all}
 use Rattle.nnc_laws.proofs.CodedPoints.{coded_of_marks, marks_of_coded}
 use Rattle.nnc_laws.proofs.NeededPoints.{point_needed}
-use Rattle.nnc_laws.proofs.SpanMarks.{is_line, LineOf, OtherOf, PointOf, span_marks, marks_span}
+use Rattle.gens_sys.specs.Kinds.{is_line}
+use Rattle.nnc_laws.proofs.SpanMarks.{LineOf, OtherOf, PointOf, span_marks, marks_span}
 
 -- ---- kinds
 place_not_line : (d : ℤ) → is_line (place_kind d) ≡ false

@@ -16,7 +16,8 @@ use Rattle.nnc_laws.specs.Encoding.{raised, lowered, height_row, bound_row, Code
 use Rattle.nnc_laws.specs.StrongRows.{IsAdmittedVector}
 use Rattle.nnc_laws.specs.EncodedGenerators.{encoded_generator, encoded_generators, HasPoint, GeneratorsEncode, SpannedIsCoded}
 use Rattle.nnc_laws.proofs.MarkedSums.{Marks}
-use Rattle.nnc_laws.proofs.SpanMarks.{is_line, LineOf, OtherOf, PointOf, span_marks}
+use Rattle.gens_sys.specs.Kinds.{is_line}
+use Rattle.nnc_laws.proofs.SpanMarks.{LineOf, OtherOf, PointOf, span_marks}
 use Rattle.nnc_laws.proofs.EncodedRows.{dot_by_height, remove_insert, length_insert, cell_insert}
 use Rattle.nnc_laws.proofs.EncodedDuals.{height_at, bound_at, last_at, value_flat, flat_width, height_width, bound_width}
 

@@ -3,7 +3,7 @@ use Rattle.std.proofs.Common.{◌≡◌, ◌≢◌, ◌⊎◌, inl, inr, ℕ, ze
 use mathlib.Core.Bool.{true≢false}
 use Rattle.std.proofs.lemmas.Int.{ints}
 use Rattle.row_core.specs.Vectors.{cell, add, combined}
-use Rattle.gens_sys.specs.Kinds.{AllowsFactor}
+use Rattle.gens_sys.specs.Kinds.{AllowsFactor, is_line}
 use Rattle.gens_sys.specs.Generators.{Generator, Generators, row_at, kind_at, rows_of}
 use Rattle.gens_sys.specs.Spans.{Span}
 use Rattle.gens_sys.specs.declared.kind.GenKind.{GenKind}
@@ -12,12 +12,6 @@ use Rattle.cone_laws.proofs.Sums.{V, IsMore, Same, Among, Sums, none, line, ray}
 use Rattle.cone_laws.proofs.Columns.{cell-add}
 use Rattle.cone_laws.proofs.Factors.{single, cell-single_same, cell-single_other, combined-single, combined-add}
 use Rattle.nnc_laws.proofs.MarkedSums.{Marks, same_number}
-
-abbrev pub is_line : GenKind → Bool
-is_line Line = true
-is_line Ray = false
-is_line Point = false
-is_line ClosurePoint = false
 
 -- the vectors of the lines of the list, of the others, and of the points
 abbrev pub LineOf : List Generator → V → Type 0

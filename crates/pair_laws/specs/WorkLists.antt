@@ -1,14 +1,12 @@
-use Rattle.std.specs.Prelude.{◌≡◌, ℕ, zero, suc, ◌+◌, ◌<◌, ◌⊎◌, List, [], ◌∷◌, length, map, Bool, true, false, ℤ, pos, ◌<ℤ◌}
+use Rattle.std.specs.Prelude.{◌≡◌, ℕ, zero, suc, ◌+◌, ◌<◌, ◌⊎◌, List, [], ◌∷◌, length, map, false, ℤ, pos, ◌<ℤ◌}
 use Rattle.row_core.specs.Vectors.{cell}
 use Rattle.row_core.specs.Lists.{Row, system_rows}
 use Rattle.row_core.specs.declared.errors.Overflow.{Overflow}
 use Rattle.cone_laws.specs.Canon.{vector_at, Canon}
 use Rattle.cone_laws.specs.Leaves.{Leaves}
-use Rattle.cons_sys.specs.declared.kind.ConKind.{ConKind}
-use Rattle.cons_sys.specs.declared.kind.ConKind.TheVariants.{Eq, Ge, Gt}
+use Rattle.cons_sys.specs.Kinds.{is_equality}
 use Rattle.cons_sys.specs.Constraints.{Constraint, Constraints}
-use Rattle.gens_sys.specs.declared.kind.GenKind.{GenKind}
-use Rattle.gens_sys.specs.declared.kind.GenKind.TheVariants.{Line, Ray, Point, ClosurePoint}
+use Rattle.gens_sys.specs.Kinds.{is_line}
 use Rattle.gens_sys.specs.Generators.{Generator, Generators}
 use Rattle.dual_cones.specs.Members.{ConeOf}
 
@@ -17,19 +15,6 @@ use Rattle.dual_cones.specs.Members.{ConeOf}
 abbrev pub divisor_row : ℕ → List ℤ
 divisor_row zero = pos 1 ∷ []
 divisor_row (suc dim) = pos 0 ∷ divisor_row dim
-
--- whether a constraint of the kind is marked as an equality
-abbrev pub is_equality : ConKind → Bool
-is_equality Eq = true
-is_equality Ge = false
-is_equality Gt = false
-
--- whether a generator of the kind is marked as an equality
-abbrev pub is_line : GenKind → Bool
-is_line Line = true
-is_line Ray = false
-is_line Point = false
-is_line ClosurePoint = false
 
 abbrev pub constraint_row : Constraint → Row
 constraint_row c = (c.0, is_equality c.1)

@@ -4,7 +4,9 @@ ghost use Rattle.row_core.specs.Vectors.{cell};
 ghost use Rattle.row_core.specs.Range.{AllInRange};
 ghost use Rattle.row_core.specs.Lists.{row_at, vectors, system_rows};
 ghost use Rattle.chernikova.specs.Changes.{AreLists};
-ghost use Rattle.pair_laws.specs.WorkLists.{divisor_row, constraint_list, generator_list, is_equality, is_line};
+ghost use Rattle.cons_sys.specs.Kinds.{is_equality};
+ghost use Rattle.gens_sys.specs.Kinds.{is_line};
+ghost use Rattle.pair_laws.specs.WorkLists.{divisor_row, constraint_list, generator_list};
 ghost use Rattle.poly_pair.specs.Conversions.{cone_rows};
 
 use chernikova::Cone;

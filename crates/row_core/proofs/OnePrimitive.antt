@@ -12,7 +12,7 @@ use Rattle.std.proofs.lemmas.Nat.Gcd.{IsGcd-from_zero, IsGcd-from_sub, IsGcd-swa
 use Rattle.row_core.specs.Vectors.{cell, scale}
 use Rattle.row_core.specs.Content.{DividesAll, IsPrimitive, IsMultipleOf, IsPrimitiveOf}
 use Rattle.row_core.proofs.CellLemmas.{cell-scale, length-scale}
-use Rattle.row_core.proofs.ContentLemmas.{Divides}
+use Rattle.row_core.proofs.ContentLemmas.{Divides, IsMultipleOf-refl}
 
 -- a greatest common divisor, which is multiplied as both numbers are
 pub record ScaledGcd (a b : ℕ) : Type 0 where
@@ -153,3 +153,7 @@ same_by_primitive old a b p q (inr one) (inr also_one) =
 
 pub IsPrimitiveOf-once : (old a b : List ℤ) → IsPrimitiveOf old a → IsPrimitiveOf old b → a ≡ b
 IsPrimitiveOf-once old a b p q = same_by_primitive old a b p.multiple q.multiple p.primitive q.primitive
+
+-- a primitive vector is its own
+pub IsPrimitiveOf-self : (v : List ℤ) → IsPrimitive v → IsPrimitiveOf v v
+IsPrimitiveOf-self v primitive = record { multiple = IsMultipleOf-refl v; primitive = primitive }

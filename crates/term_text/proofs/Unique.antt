@@ -28,7 +28,7 @@ pub one_point : HasOneReading point_cases point_by
 one_point = record { one = λ text m n. sym (alone_point_law text m) ∙ alone_point_law text n }
 
 -- rows of one width with equal cells
-same_row : (dim : ℕ) (u v : List ℤ) → length u ≡ dim + 1 → length v ≡ dim + 1 → ((j : ℕ) → j ≤ dim → cell u j ≡ cell v j) → u ≡ v
+pub same_row : (dim : ℕ) (u v : List ℤ) → length u ≡ dim + 1 → length v ≡ dim + 1 → ((j : ℕ) → j ≤ dim → cell u j ≡ cell v j) → u ≡ v
 same_row dim u v wide same each = ext_get_or (pos 0) u v (wide ∙ sym same) (λ j h. each j (omega arith))
 
 pub one_expr_row : ExprHasOneRow
