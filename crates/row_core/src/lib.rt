@@ -4,7 +4,8 @@
 //!   `-(2^127 - 1)` to `2^127 - 1`.
 //! - [`Memory`], [`Overflow`], [`PairOver`] and [`ConvErr`] are the answers that a call may refuse by.
 //! - [`Steps`] counts combinations of two rows.
-//! - [`dot`] and [`combine_into`] give the exact numbers, or the first column that leaves the range.
+//! - [`dot`], [`combine_into`] and [`combine_onto`] give the exact numbers, or the first column that
+//!   leaves the range.
 //! - [`gcd`] and [`make_primitive`] divide a row by the greatest common divisor of its entries.
 //! - [`one_primitive`] is a law of primitive rows.
 #![tactic(auto)]
@@ -12,6 +13,7 @@
 mod buffers;
 mod counting;
 mod errors;
+mod in_place;
 mod laws;
 mod linear;
 mod marked;
@@ -20,6 +22,7 @@ mod primitive;
 pub use buffers::{RowBuf, RowList};
 pub use counting::Steps;
 pub use errors::{ConvErr, Memory, OverKind, Overflow, PairOver};
+pub use in_place::combine_onto;
 pub use laws::one_primitive;
 pub use linear::{combine_into, dot};
 pub use marked::{Iter, MarkedRows};

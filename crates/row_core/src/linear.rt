@@ -75,7 +75,7 @@ pub fn dot(u: &[i128], v: &[i128]) -> Result<i128, u32>
 /// # Errors
 ///
 /// The first column at which the range is left.
-fn check_combination(u: &[i128], s: i128, v: &[i128], t: i128) -> Result<(), u32>
+pub(crate) fn check_combination(u: &[i128], s: i128, v: &[i128], t: i128) -> Result<(), u32>
     requires same_width { length u.now ≡ length v.now }
     requires narrow { length u.now < 2 ^ 32 }
     ensures { MatchResult result (λ _. AllStay (CombineStays u.now s v.now t) (length u.now)) (IsFirstToLeave (CombineStays u.now s v.now t) (length u.now)) }
@@ -90,7 +90,7 @@ fn check_combination(u: &[i128], s: i128, v: &[i128], t: i128) -> Result<(), u32
 
 /// `s * x + t * y`.
 #[inline]
-fn combined(s: i128, x: i128, t: i128, y: i128) -> i128
+pub(crate) fn combined(s: i128, x: i128, t: i128, y: i128) -> i128
     requires { ColumnStays s x t y }
     ensures value { result ≡ s *ℤ x +ℤ t *ℤ y }
     ensures in_range { InRange result }

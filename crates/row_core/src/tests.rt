@@ -52,6 +52,10 @@ fn check_combinations<L: Ledger>(rt: &impl Abort, blank: Blank)
         Err(0)
     );
     assert_eq!(rt; row, [-7, 8], "a refused combination writes nothing");
+    assert_eq!(rt; combine_onto(&mut row, 2, &[5, -1], 3, &mut steps), Ok(()));
+    assert_eq!(rt; row, [1, 13]);
+    assert_eq!(rt; combine_onto(&mut row, 1, &[1, K], 1, &mut steps), Err(1));
+    assert_eq!(rt; row, [1, 13], "a refused combination keeps its row");
 }
 
 #[test]

@@ -1,0 +1,45 @@
+//! Combinations that are written over one of their rows.
+ghost use Rattle.std.specs.Prelude.{◌≡◌, ℕ, ◌+◌, ◌^◌, ◌<◌, length, MatchResult, OnOk};
+ghost use Rattle.row_core.specs.Vectors.{scale, add};
+ghost use Rattle.row_core.specs.Range.{AllInRange, CombineStays, IsFirstToLeave, AllStay};
+
+use crate::counting::Steps;
+use crate::linear::{check_combination, combined};
+use std::sync::ledger::Ledger;
+
+/// Writes `s * dst + t * v` over `dst`.
+fn write_onto(dst: &mut [i128], s: i128, v: &[i128], t: i128)
+    requires same_width { length dst.old ≡ length v.now }
+    requires stays { AllStay (CombineStays dst.old s v.now t) (length dst.old) }
+    ensures combined { dst.new ≡ add (scale s dst.old) (scale t v.now) }
+    ensures in_range { AllInRange dst.new }
+{
+    for j in 0..dst.len() {
+        dst[j] = combined(s, dst[j], t, v[j]);
+    }
+}
+
+/// Writes `s * dst + t * v` over `dst`, and counts one combination. Both rows have one width.
+///
+/// # Errors
+///
+/// The first column at which a product or the sum leaves the range. `dst` is then as before.
+pub fn combine_onto<L: Ledger>(
+    dst: &mut [i128],
+    s: i128,
+    v: &[i128],
+    t: i128,
+    steps: &mut Steps<L>,
+) -> Result<(), u32>
+    requires same_width { length dst.old ≡ length v.now }
+    requires narrow { length v.now < 2 ^ 32 }
+    ensures counted { steps.new ≡ steps.old + 1 }
+    ensures width { length dst.new ≡ length dst.old }
+    ensures combined { MatchResult result (λ _. (dst.new ≡ add (scale s dst.old) (scale t v.now)) × AllStay (CombineStays dst.old s v.now t) (length dst.old)) (λ j. (dst.new ≡ dst.old) × IsFirstToLeave (CombineStays dst.old s v.now t) (length dst.old) j) }
+    ensures in_range { OnOk result (AllInRange dst.new) }
+{
+    steps.tick();
+    check_combination(dst, s, v, t)?;
+    write_onto(dst, s, v, t);
+    Ok(())
+}

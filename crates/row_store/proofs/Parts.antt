@@ -1,0 +1,254 @@
+-- Rows of one width in a buffer.
+use Rattle.std.proofs.Common.{◌≡◌, ◌≢◌, ℕ, suc, ◌+◌, ◌-◌, ◌*◌, ◌<◌, ◌≤◌, List, [], ◌∷◌, ◌++◌, length, get_or, set, take, drop, refl, sym, ap, inl, inr, ◌⊎◌, subst, ◌∙◌, arith, length-take, length-drop, length-append, ℤ}
+use Rattle.std.proofs.lemmas.List.{ext_get_or, drop_at, take-append-le, drop-append-le, get_or-set_same, get_or-set_other, length-set, drop-drop, append_assoc, take_all, take-append-drop, take_at}
+use Rattle.std.proofs.lemmas.List.FromFn.{length-map-range_with_len, get_or-map-range_with_len, map-range_with_len_more}
+use Rattle.std.proofs.lemmas.Bool.{cases_eq, cases_lt}
+use Rattle.std.proofs.Math.Nat.{mul-le-mul_right}
+use Rattle.std.proofs.lemmas.Slice.{put_mid-paste}
+use Rattle.std.proofs.lemmas.List.Edits.{paste_all}
+use borrow.Rule.Slice.PartMut.{put_mid}
+use Rattle.row_core.specs.Vectors.{scale, add}
+use Rattle.row_core.specs.Range.{CombineStays, IsFirstToLeave, AllStay}
+use Rattle.row_store.specs.Stores.{Store, entries_at, rows_of, window, with_window, IsLaidOut}
+
+-- the places of a row lie before those of the end
+pub row_end : (w n i : ℕ) → i < n → i * w + w ≤ n * w
+row_end w n i below = let le : suc i ≤ n = omega arith in omega (arith, mul-le-mul_right w le)
+
+pub length-rows_of : (w n : ℕ) (cells : List ℤ) → length (rows_of w n cells) ≡ n
+length-rows_of w n cells = length-map-range_with_len (λ i. take w (drop (i * w) cells)) 0 n
+
+pub entries-rows_of : (w n i : ℕ) (cells : List ℤ) → i < n → entries_at (rows_of w n cells) i ≡ take w (drop (i * w) cells)
+entries-rows_of w n i cells below = get_or-map-range_with_len (λ i. take w (drop (i * w) cells)) 0 n i i [] below (omega arith)
+
+-- rows whose places agree are the same
+pub rows_of_same : (w n : ℕ) (xs ys : List ℤ) → ((i : ℕ) → i < n → take w (drop (i * w) xs) ≡ take w (drop (i * w) ys)) → rows_of w n xs ≡ rows_of w n ys
+rows_of_same w n xs ys same =
+    ext_get_or [] (rows_of w n xs) (rows_of w n ys) (length-rows_of w n xs ∙ sym (length-rows_of w n ys))
+    (λ i h. let below : i < n = omega (arith, length-rows_of w n xs) in entries-rows_of w n i xs below ∙ same i below ∙ sym (entries-rows_of w n i ys below))
+
+-- a part before the seam of two lists
+pub take-drop-append : (w k : ℕ) (xs ys : List ℤ) → k + w ≤ length xs → take w (drop k (xs ++ ys)) ≡ take w (drop k xs)
+take-drop-append w k xs ys within =
+    let first : k ≤ length xs = omega arith in
+    let second : w ≤ length (drop k xs) = omega (arith, length-drop k xs) in
+    rw (drop-append-le k xs ys first) (take-append-le w (drop k xs) ys second)
+
+pub rows_of-push : (w n : ℕ) (xs row : List ℤ) → length xs ≡ n * w → length row ≡ w → rows_of w (n + 1) (xs ++ row) ≡ rows_of w n xs ++ row ∷ []
+rows_of-push w n xs row wide one =
+    let last : take w (drop (n * w) (xs ++ row)) ≡ row = rw (drop_at xs row (n * w) wide) (take_all w row (omega arith)) in
+    let before : rows_of w n (xs ++ row) ≡ rows_of w n xs = rows_of_same w n (xs ++ row) xs (λ i h. take-drop-append w (i * w) xs row (omega (arith, row_end w n i h))) in
+    map-range_with_len_more (λ i. take w (drop (i * w) (xs ++ row))) 0 n n (omega arith) ∙ ap (λ r. rows_of w n (xs ++ row) ++ r ∷ []) last ∙ ap (λ rs. rs ++ row ∷ []) before
+
+-- the table that is seen in the places
+abbrev pub seen_store : (w n s : ℕ) → List ℤ → Store
+seen_store w n s cells = record { width = w; rows = rows_of w n cells; spare = s }
+
+-- what the layout says of a table that is seen as t
+pub record IsSeen (w n s : ℕ) (cells : List ℤ) (t : Store) : Type 0 where
+  pub count : length t.rows ≡ n
+  pub width : t.width ≡ w
+  pub row : (i : ℕ) → i < n → entries_at t.rows i ≡ take w (drop (i * w) cells)
+
+pub seen : (w n s : ℕ) (cells : List ℤ) (t : Store) → seen_store w n s cells ≡ t → IsSeen w n s cells t
+seen w n s cells t e = record {
+  count = ap (λ (u : Store). length u.rows) (sym e) ∙ length-rows_of w n cells;
+  width = ap (λ (u : Store). u.width) (sym e);
+  row = λ i h. ap (λ (u : Store). entries_at u.rows i) (sym e) ∙ entries-rows_of w n i cells h;
+}
+
+pub length_row : (w n i : ℕ) (cells : List ℤ) → i < n → length cells ≡ n * w → length (take w (drop (i * w) cells)) ≡ w
+length_row w n i cells below wide = omega (arith, length-take w (drop (i * w) cells), length-drop (i * w) cells, row_end w n i below)
+
+-- row i of a table that is seen as t lies within its places
+pub row_within : (w n s len room i : ℕ) (cells : List ℤ) (t : Store) → IsLaidOut w n s len room → seen_store w n s cells ≡ t → i < length t.rows → i * w + w ≤ len
+row_within w n s len room i cells t laid e below =
+    let count = (seen w n s cells t e).count in
+    omega (arith, laid.taken, row_end w n i (omega arith))
+
+-- a row that is appended, made from the width
+pub push_seen : (w n s len room : ℕ) (cells : List ℤ) (t : Store) (row : ℕ → List ℤ) → IsLaidOut w n s len room → length cells ≡ len → seen_store w n s cells ≡ t → length (row w) ≡ w → rows_of w (n + 1) (cells ++ row w) ≡ t.rows ++ row t.width ∷ []
+push_seen w n s len room cells t row laid wide e one =
+    let P : Store → Type 0 = λ u. rows_of w (n + 1) (cells ++ row w) ≡ u.rows ++ row u.width ∷ [] in
+    subst P e (rows_of-push w n cells (row w) (wide ∙ laid.taken) one)
+
+-- ---- a row written over a part
+pub length-window : (p w : ℕ) (cells : List ℤ) → p + w ≤ length cells → length (window p w cells) ≡ w
+length-window p w cells h = omega (arith, length-take w (drop p cells), length-drop p cells, h)
+
+pub with_window_is : (p w k : ℕ) (cells row : List ℤ) → k ≡ w → length row ≡ w → put_mid p k cells row ≡ with_window p w row cells
+with_window_is p w k cells row e l =
+    put_mid-paste p k cells row row w refl (sym e) (sym l)
+    ∙ paste_all cells p row w (sym l)
+
+-- what a part that wasn't changed leaves
+pub with_same_window : (p w : ℕ) (cells : List ℤ) → p + w ≤ length cells → with_window p w (window p w cells) cells ≡ cells
+with_same_window p w cells h =
+    ap (λ (r : List ℤ). take p cells ++ (window p w cells ++ r)) (sym (drop-drop w p cells ∙ ap (λ (n : ℕ). drop n cells) (omega arith)))
+    ∙ ap (λ (r : List ℤ). take p cells ++ r) (take-append-drop w (drop p cells))
+    ∙ take-append-drop p cells
+
+-- the outcome on a part, as an outcome on the whole
+abbrev pub IsCombinedPart : (p w : ℕ) (s : ℤ) (v : List ℤ) (t : ℤ) (old new : List ℤ) → Type 0
+IsCombinedPart p w s v t old new = (new ≡ with_window p w (add (scale s (window p w old)) (scale t v)) old) × AllStay (CombineStays (window p w old) s v t) w
+
+abbrev pub IsPartLeft : (p w : ℕ) (s : ℤ) (v : List ℤ) (t : ℤ) (old new : List ℤ) (j : ℕ) → Type 0
+IsPartLeft p w s v t old new j = (new ≡ old) × IsFirstToLeave (CombineStays (window p w old) s v t) w j
+
+pub part_combined : (p w k : ℕ) (s t : ℤ) (cells v part new : List ℤ) → k ≡ w → part ≡ window p k cells → p + w ≤ length cells → length new ≡ length part
+    → new ≡ add (scale s part) (scale t v) → AllStay (CombineStays part s v t) (length part) → IsCombinedPart p w s v t cells (put_mid p k cells new)
+part_combined p w k s t cells v part new e is within len value stays =
+    let is_w : part ≡ window p w cells = is ∙ ap (λ (n : ℕ). window p n cells) e in
+    let wide : length part ≡ w = ap length is_w ∙ length-window p w cells within in (
+      with_window_is p w k cells new e (len ∙ wide) ∙ ap (λ (r : List ℤ). with_window p w r cells) (value ∙ ap (λ (r : List ℤ). add (scale s r) (scale t v)) is_w),
+      λ i h. subst (λ (r : List ℤ). CombineStays r s v t i) is_w (stays i (omega (arith, wide, h))),
+    )
+
+pub part_left : (p w k : ℕ) (s t : ℤ) (cells v part new : List ℤ) (j : ℕ) → k ≡ w → part ≡ window p k cells → p + w ≤ length cells
+    → new ≡ part → IsFirstToLeave (CombineStays part s v t) (length part) j → IsPartLeft p w s v t cells (put_mid p k cells new) j
+part_left p w k s t cells v part new j e is within same leaves =
+    let is_w : part ≡ window p w cells = is ∙ ap (λ (n : ℕ). window p n cells) e in
+    let wide : length part ≡ w = ap length is_w ∙ length-window p w cells within in (
+      with_window_is p w k cells new e (ap length same ∙ wide) ∙ ap (λ (r : List ℤ). with_window p w r cells) (same ∙ is_w) ∙ with_same_window p w cells within,
+      subst (λ (n : ℕ). IsFirstToLeave (CombineStays (window p w cells) s v t) n j) wide (subst (λ (r : List ℤ). IsFirstToLeave (CombineStays r s v t) (length part) j) is_w leaves),
+    )
+
+-- ---- two parts of one list
+pub window_in_front : (p w : ℕ) (front back : List ℤ) → p + w ≤ length front → window p w front ≡ window p w (front ++ back)
+window_in_front p w front back h =
+    let first : p ≤ length front = omega arith in
+    let second : w ≤ length (drop p front) = omega (arith, length-drop p front) in
+    sym (ap (λ (r : List ℤ). take w r) (drop-append-le p front back first) ∙ take-append-le w (drop p front) back second)
+
+pub with_window_in_front : (p w : ℕ) (row front back : List ℤ) → p + w ≤ length front → with_window p w row front ++ back ≡ with_window p w row (front ++ back)
+with_window_in_front p w row front back h =
+    append_assoc (take p front) (row ++ drop (p + w) front) back
+    ∙ ap (λ (r : List ℤ). take p front ++ r) (append_assoc row (drop (p + w) front) back)
+    ∙ ap (λ (r : List ℤ). take p front ++ (row ++ r)) (sym (drop-append-le (p + w) front back h))
+    ∙ ap (λ (r : List ℤ). r ++ (row ++ drop (p + w) (front ++ back))) (sym (take-append-le p front back (omega (arith, h))))
+
+pub drop_behind : (p w : ℕ) (front back : List ℤ) → length front ≡ p → drop (p + w) (front ++ back) ≡ drop (0 + w) back
+drop_behind p w front back e =
+    ap (λ (n : ℕ). drop n (front ++ back)) (omega arith) ∙ sym (drop-drop w p (front ++ back)) ∙ ap (λ (r : List ℤ). drop w r) (drop_at front back p e) ∙ ap (λ (n : ℕ). drop n back) (omega arith)
+
+pub window_in_back : (p w : ℕ) (front back : List ℤ) → length front ≡ p → window 0 w back ≡ window p w (front ++ back)
+window_in_back p w front back e = ap (λ (r : List ℤ). take w r) (sym (drop_at front back p e))
+
+pub with_window_in_back : (p w : ℕ) (row front back : List ℤ) → length front ≡ p → front ++ with_window 0 w row back ≡ with_window p w row (front ++ back)
+with_window_in_back p w row front back e =
+    ap (λ (r : List ℤ). front ++ (row ++ r)) (sym (drop_behind p w front back e))
+    ∙ ap (λ (r : List ℤ). r ++ (row ++ drop (p + w) (front ++ back))) (sym (take_at front back p e))
+
+-- the two parts as they are seen in the whole
+pub moved_combined : (p p' w : ℕ) (s t : ℤ) (old v new cells v' new' : List ℤ) → window p' w old ≡ window p w cells → v ≡ v' → ((row : List ℤ) → new ≡ with_window p' w row old → new' ≡ with_window p w row cells)
+    → IsCombinedPart p' w s v t old new → IsCombinedPart p w s v' t cells new'
+moved_combined p p' w s t old v new cells v' new' e f wrote h = (
+  wrote (add (scale s (window p' w old)) (scale t v)) h.0 ∙ ap (λ (r : List ℤ). with_window p w (add (scale s r) (scale t v)) cells) e ∙ ap (λ (r : List ℤ). with_window p w (add (scale s (window p w cells)) (scale t r)) cells) f,
+  λ i l. subst (λ (r : List ℤ). CombineStays r s v' t i) e (subst (λ (r : List ℤ). CombineStays (window p' w old) s r t i) f (h.1 i l)),
+)
+
+pub moved_left : (p p' w : ℕ) (s t : ℤ) (old v new cells v' new' : List ℤ) (j : ℕ) → window p' w old ≡ window p w cells → v ≡ v' → (new ≡ old → new' ≡ cells)
+    → IsPartLeft p' w s v t old new j → IsPartLeft p w s v' t cells new' j
+moved_left p p' w s t old v new cells v' new' j e f same h =
+    (same h.0, subst (λ (r : List ℤ). IsFirstToLeave (CombineStays r s v' t) w j) e (subst (λ (r : List ℤ). IsFirstToLeave (CombineStays (window p' w old) s r t) w j) f h.1))
+
+-- ---- one row of all
+pub length-scale : (k : ℤ) (v : List ℤ) → length (scale k v) ≡ length v
+length-scale k [] = refl
+length-scale k (a ∷ v) = ap (λ (n : ℕ). suc n) (length-scale k v)
+
+pub length-add : (u v : List ℤ) → length u ≡ length v → length (add u v) ≡ length u
+length-add [] [] e = refl
+length-add [] (b ∷ v) e = absurd (omega (arith, e))
+length-add (a ∷ u) [] e = absurd (omega (arith, e))
+length-add (a ∷ u) (b ∷ v) e = ap (λ (n : ℕ). suc n) (length-add u v (omega (arith, e)))
+
+pub rows_apart : (w i j : ℕ) → i ≢ j → (i * w + w ≤ j * w) ⊎ (j * w + w ≤ i * w)
+rows_apart w i j other = elim (cases_lt i j) [ inl less ↦ inl (row_end w j i less) | inr more ↦ inr (row_end w i j (omega arith)) ]
+
+row_before : (w i k : ℕ) (cells row : List ℤ) → k < i → i * w ≤ length cells → window (k * w) w (with_window (i * w) w row cells) ≡ window (k * w) w cells
+row_before w i k cells row less within =
+    let long : k * w + w ≤ length (take (i * w) cells) = omega (arith, length-take (i * w) cells, row_end w i k less) in
+    sym (window_in_front (k * w) w (take (i * w) cells) (row ++ drop (i * w + w) cells) long)
+    ∙ window_in_front (k * w) w (take (i * w) cells) (drop (i * w) cells) long
+    ∙ ap (λ (r : List ℤ). window (k * w) w r) (take-append-drop (i * w) cells)
+
+row_behind : (w i k : ℕ) (cells row : List ℤ) → i < k → i * w + w ≤ length cells → length row ≡ w → window (k * w) w (with_window (i * w) w row cells) ≡ window (k * w) w cells
+row_behind w i k cells row more within one =
+    let r : ℕ = k * w - (i * w + w) in
+    let at : k * w ≡ i * w + w + r = omega (arith, row_end w k i more) in
+    let front : List ℤ = take (i * w) cells ++ row in
+    let rest : List ℤ = drop (i * w + w) cells in
+    let long : length front ≡ i * w + w = omega (arith, length-append (take (i * w) cells) row, length-take (i * w) cells, one, within) in
+    ap (λ (xs : List ℤ). take w (drop (k * w) xs)) (sym (append_assoc (take (i * w) cells) row rest))
+    ∙ ap (λ (n : ℕ). take w (drop n (front ++ rest))) at
+    ∙ ap (λ (xs : List ℤ). take w xs) (sym (drop-drop r (i * w + w) (front ++ rest)) ∙ ap (λ (xs : List ℤ). drop r xs) (drop_at front rest (i * w + w) long) ∙ drop-drop r (i * w + w) cells)
+    ∙ ap (λ (n : ℕ). take w (drop n cells)) (sym at)
+
+row_itself : (w i : ℕ) (cells row : List ℤ) → i * w + w ≤ length cells → length row ≡ w → window (i * w) w (with_window (i * w) w row cells) ≡ row
+row_itself w i cells row within one =
+    ap (λ (xs : List ℤ). take w xs) (drop_at (take (i * w) cells) (row ++ drop (i * w + w) cells) (i * w) (omega (arith, length-take (i * w) cells, within)))
+    ∙ take_at row (drop (i * w + w) cells) w one
+
+pub rows_of-with_window : (w n i : ℕ) (cells row : List ℤ) → i < n → length cells ≡ n * w → length row ≡ w → rows_of w n (with_window (i * w) w row cells) ≡ set (rows_of w n cells) i row
+rows_of-with_window w n i cells row below wide one =
+    let new : List ℤ = with_window (i * w) w row cells in
+    let old : List (List ℤ) = rows_of w n cells in
+    let within : i * w + w ≤ length cells = omega (arith, wide, row_end w n i below) in
+    ext_get_or [] (rows_of w n new) (set old i row)
+    (length-rows_of w n new ∙ sym (length-set old i row ∙ length-rows_of w n cells))
+    (λ k h.
+    let inside : k < n = omega (arith, length-rows_of w n new) in
+    entries-rows_of w n k new inside ∙
+    elim (cases_eq k i) as (λ _. window (k * w) w new ≡ get_or (set old i row) k []) [
+      | inl same ↦ rw same (row_itself w i cells row within one ∙ sym (get_or-set_same old i row [] (omega (arith, length-rows_of w n cells))))
+      | inr other ↦ elim (cases_lt k i) as (λ _. window (k * w) w new ≡ get_or (set old i row) k []) [
+        | inl less ↦ row_before w i k cells row less (omega (arith, within)) ∙ sym (entries-rows_of w n k cells inside) ∙ sym (get_or-set_other old i k row [] other)
+        | inr more ↦ row_behind w i k cells row (omega (arith, other, more)) within one ∙ sym (entries-rows_of w n k cells inside) ∙ sym (get_or-set_other old i k row [] other)
+      ]
+    ])
+
+-- the outcome on the buffer, as an outcome on the rows
+abbrev pub IsCombinedRow : (s t : ℤ) (i j : ℕ) (old new : Store) → Type 0
+IsCombinedRow s t i j old new = (new ≡ record old { rows = set old.rows i (add (scale s (entries_at old.rows i)) (scale t (entries_at old.rows j))) }) × AllStay (CombineStays (entries_at old.rows i) s (entries_at old.rows j) t) old.width
+
+abbrev pub IsRowLeft : (s t : ℤ) (i j : ℕ) (old new : Store) (c : ℕ) → Type 0
+IsRowLeft s t i j old new c = (new ≡ old) × IsFirstToLeave (CombineStays (entries_at old.rows i) s (entries_at old.rows j) t) old.width c
+
+pub combined_seen : (w n sp len room i j : ℕ) (s t : ℤ) (cells new : List ℤ) (old : Store) → IsLaidOut w n sp len room → length cells ≡ len → seen_store w n sp cells ≡ old → i < length old.rows → j < length old.rows
+    → IsCombinedPart (i * w) w s (window (j * w) w cells) t cells new → IsCombinedRow s t i j old (seen_store w n sp new)
+combined_seen w n sp len room i j s t cells new old laid long e in_i in_j h =
+    let k = seen w n sp cells old e in
+    let wide : length cells ≡ n * w = long ∙ laid.taken in
+    let below_i : i < n = omega (arith, k.count, in_i) in
+    let below_j : j < n = omega (arith, k.count, in_j) in
+    let u : List ℤ = window (i * w) w cells in
+    let v : List ℤ = window (j * w) w cells in
+    let length_u : length u ≡ w = length_row w n i cells below_i wide in
+    let length_v : length v ≡ w = length_row w n j cells below_j wide in
+    let one : length (add (scale s u) (scale t v)) ≡ w = length-add (scale s u) (scale t v) (length-scale s u ∙ length_u ∙ sym (length-scale t v ∙ length_v)) ∙ length-scale s u ∙ length_u in
+    let make : List (List ℤ) → Store = λ rs. record { width = w; rows = rs; spare = sp } in
+    let at_i : u ≡ entries_at (rows_of w n cells) i = sym (entries-rows_of w n i cells below_i) in
+    let at_j : v ≡ entries_at (rows_of w n cells) j = sym (entries-rows_of w n j cells below_j) in
+    let whole : IsCombinedRow s t i j (seen_store w n sp cells) (seen_store w n sp new) = (
+      ap (λ (cs : List ℤ). seen_store w n sp cs) h.0
+          ∙ ap make (rows_of-with_window w n i cells (add (scale s u) (scale t v)) below_i wide one)
+          ∙ ap (λ (r : List ℤ). make (set (rows_of w n cells) i (add (scale s r) (scale t v)))) at_i
+          ∙ ap (λ (r : List ℤ). make (set (rows_of w n cells) i (add (scale s (entries_at (rows_of w n cells) i)) (scale t r)))) at_j,
+      λ c l. subst (λ (r : List ℤ). CombineStays r s (entries_at (rows_of w n cells) j) t c) at_i (subst (λ (r : List ℤ). CombineStays u s r t c) at_j (h.1 c l)),
+    ) in
+    subst (λ (o : Store). IsCombinedRow s t i j o (seen_store w n sp new)) e whole
+
+pub left_seen : (w n sp len room i j : ℕ) (s t : ℤ) (cells new : List ℤ) (old : Store) (c : ℕ) → IsLaidOut w n sp len room → length cells ≡ len → seen_store w n sp cells ≡ old → i < length old.rows → j < length old.rows
+    → IsPartLeft (i * w) w s (window (j * w) w cells) t cells new c → IsRowLeft s t i j old (seen_store w n sp new) c
+left_seen w n sp len room i j s t cells new old c laid long e in_i in_j h =
+    let k = seen w n sp cells old e in
+    let below_i : i < n = omega (arith, k.count, in_i) in
+    let below_j : j < n = omega (arith, k.count, in_j) in
+    let at_i : window (i * w) w cells ≡ entries_at (rows_of w n cells) i = sym (entries-rows_of w n i cells below_i) in
+    let at_j : window (j * w) w cells ≡ entries_at (rows_of w n cells) j = sym (entries-rows_of w n j cells below_j) in
+    let whole : IsRowLeft s t i j (seen_store w n sp cells) (seen_store w n sp new) c = (
+      ap (λ (cs : List ℤ). seen_store w n sp cs) h.0,
+      subst (λ (r : List ℤ). IsFirstToLeave (CombineStays r s (entries_at (rows_of w n cells) j) t) w c) at_i (subst (λ (r : List ℤ). IsFirstToLeave (CombineStays (window (i * w) w cells) s r t) w c) at_j h.1),
+    ) in
+    subst (λ (o : Store). IsRowLeft s t i j o (seen_store w n sp new) c) e whole

@@ -1,0 +1,54 @@
+use Rattle.std.specs.Prelude.{◌≡◌, ℕ, ℤ, List, ◌+◌, ◌-◌, ◌++◌, ◌≤◌, length, take, drop}
+use Rattle.std.specs.Int.{w128}
+use mir.Val.{SFits}
+use Rattle.std.proofs.Common.{arith, sym, ap, subst, ◌∙◌}
+use Rattle.std.proofs.lemmas.Int.{to_z-of_z}
+use Rattle.std.proofs.lemmas.Result.{MatchResult-weaker}
+use Rattle.std.proofs.lemmas.List.Elements.{All-append, All-take, All-drop}
+use Rattle.row_core.specs.Range.{InRange, AllInRange}
+use Rattle.row_store.specs.Stores.{window, with_window}
+use Rattle.row_store.proofs.Parts.{moved_combined, moved_left, window_in_front, with_window_in_front, window_in_back, with_window_in_back}
+use Rattle.row_store.proofs.windows.combine_parts.Goals as goal
+
+pub returns-then-to-from-clause-combined : goal.returns-then-to-from-clause-combined
+returns-then-to-from-clause-combined g c =
+    let s_fits : SFits w128 c.args.s = c.ranges.s in
+    let t_fits : SFits w128 c.args.t = c.ranges.t in
+    let front = c.split_at_mut-front.result.0.now in
+    let back = c.split_at_mut-front.result.1.now in
+    let cells = c.args.cells.now in
+    let value : cells ≡ front ++ back = c.split_at_mut-front.ensures.value in
+    let within : c.args.to + c.args.width ≤ length front = omega (arith, c.split_at_mut-front.ensures.front_len, c.requires.apart, c.if-to-from.true) in
+    let e : window c.args.to c.args.width front ≡ window c.args.to c.args.width cells = window_in_front c.args.to c.args.width front back within ∙ ap (λ (r : List ℤ). window c.args.to c.args.width r) (sym value) in
+    let combined = simp to_z-of_z at c.combine_part.ensures.combined in
+    MatchResult-weaker c.combine_part.result combined
+    (λ x h. moved_combined c.args.to c.args.to c.args.width c.args.s c.args.t front _ c.combine_part.new.cells cells (window c.args.from c.args.width cells) (c.combine_part.new.cells ++ back) e (ap (λ (r : List ℤ). take c.args.width r) c.split_at_mut-front.ensures.back)
+    (λ row w. ap (λ (r : List ℤ). r ++ back) w ∙ with_window_in_front c.args.to c.args.width row front back within ∙ ap (λ (r : List ℤ). with_window c.args.to c.args.width row r) (sym value)) h)
+    (λ y h. moved_left c.args.to c.args.to c.args.width c.args.s c.args.t front _ c.combine_part.new.cells cells (window c.args.from c.args.width cells) (c.combine_part.new.cells ++ back) y e (ap (λ (r : List ℤ). take c.args.width r) c.split_at_mut-front.ensures.back)
+    (λ w. ap (λ (r : List ℤ). r ++ back) w ∙ sym value) h)
+
+pub returns-else-to-from-clause-combined : goal.returns-else-to-from-clause-combined
+returns-else-to-from-clause-combined g c =
+    let s_fits : SFits w128 c.args.s = c.ranges.s in
+    let t_fits : SFits w128 c.args.t = c.ranges.t in
+    let front = c.split_at_mut-front-else-to-from.result.0.now in
+    let back = c.split_at_mut-front-else-to-from.result.1.now in
+    let cells = c.args.cells.now in
+    let value : cells ≡ front ++ back = c.split_at_mut-front-else-to-from.ensures.value in
+    let front_len : length front ≡ c.args.to = c.split_at_mut-front-else-to-from.ensures.front_len in
+    let within : c.args.from + c.args.width ≤ length front = omega (arith, front_len, c.requires.apart, c.if-to-from.false, c.requires.second) in
+    let e : window 0 c.args.width back ≡ window c.args.to c.args.width cells = window_in_back c.args.to c.args.width front back front_len ∙ ap (λ (r : List ℤ). window c.args.to c.args.width r) (sym value) in
+    let f : take (c.args.from + c.args.width - c.args.from) (drop c.args.from front) ≡ window c.args.from c.args.width cells
+    = ap (λ (n : ℕ). take n (drop c.args.from front)) (omega arith) ∙ window_in_front c.args.from c.args.width front back within ∙ ap (λ (r : List ℤ). window c.args.from c.args.width r) (sym value) in
+    let combined = simp to_z-of_z at c.combine_part-else-to-from.ensures.combined in
+    MatchResult-weaker c.combine_part-else-to-from.result combined
+    (λ x h. moved_combined c.args.to 0 c.args.width c.args.s c.args.t back _ c.combine_part-else-to-from.new.cells cells (window c.args.from c.args.width cells) (front ++ c.combine_part-else-to-from.new.cells) e f
+    (λ row w. ap (λ (r : List ℤ). front ++ r) w ∙ with_window_in_back c.args.to c.args.width row front back front_len ∙ ap (λ (r : List ℤ). with_window c.args.to c.args.width row r) (sym value)) h)
+    (λ y h. moved_left c.args.to 0 c.args.width c.args.s c.args.t back _ c.combine_part-else-to-from.new.cells cells (window c.args.from c.args.width cells) (front ++ c.combine_part-else-to-from.new.cells) y e f
+    (λ w. ap (λ (r : List ℤ). front ++ r) w ∙ sym value) h)
+
+pub returns-else-to-from-clause-in_range : goal.returns-else-to-from-clause-in_range
+returns-else-to-from-clause-in_range g c = λ h.
+    All-append InRange c.split_at_mut-front-else-to-from.result.0.now c.combine_part-else-to-from.new.cells
+    (subst AllInRange (sym c.split_at_mut-front-else-to-from.ensures.front) (All-take InRange c.args.to c.args.cells.now h))
+    (c.combine_part-else-to-from.ensures.in_range (subst AllInRange (sym c.split_at_mut-front-else-to-from.ensures.back) (All-drop InRange c.args.to c.args.cells.now h)))

@@ -1,0 +1,192 @@
+//! The rows.
+ghost use Rattle.std.specs.Prelude.{◌≡◌, ◌≢◌, ℕ, ◌+◌, ◌*◌, ◌^◌, ◌<◌, ◌≤◌, List, [], ◌∷◌, ◌++◌, length, max, take, Bool, slice_set, vec_len, vec_capacity, OnOk, OnErr, MatchResult};
+ghost use Rattle.row_core.specs.Vectors.{scale, add};
+ghost use Rattle.row_core.specs.Content.{IsPrimitiveOf};
+ghost use Rattle.row_core.specs.Range.{AllInRange, CombineStays, IsFirstToLeave, AllStay};
+ghost use Rattle.row_store.specs.Stores.{Store, entries_at, rows_of, IsKept, IsNegated, IsRowChanged};
+ghost use Rattle.sat_matrix.specs.Tables.{marked};
+
+use crate::windows::{append_part, append_row, combine_parts, make_part_primitive, negate_part};
+use row_core::{Memory, Steps};
+use std::alloc::Global;
+use std::marker::Model;
+use std::sync::ledger::Ledger;
+
+/// Rows of one width in one buffer.
+#[derive(Debug, Drop)]
+pub struct RowStore {
+    width: usize,
+    count: usize,
+    spare: usize,
+    cells: Vec<i128>,
+}
+
+impl Model for RowStore {
+    ghost Value = { Store };
+
+    ghost view = { λ m. record { width = m.width; rows = rows_of m.width m.count m.cells.items; spare = m.spare } };
+
+    ghost invariant = { λ m. IsKept m.width m.count m.spare (vec_len m.cells) (vec_capacity m.cells) m.cells.items };
+}
+
+impl RowStore {
+    /// Returns the empty list of that width.
+    pub fn new(alloc: Global, width: usize) -> RowStore
+        requires { width < 2 ^ 32 }
+        ensures width { result.width ≡ width }
+        ensures rows { result.rows ≡ [] }
+        ensures spare { result.spare ≡ 0 }
+    {
+        RowStore {
+            width,
+            count: 0,
+            spare: 0,
+            cells: Vec::new(alloc),
+        }
+    }
+
+    /// The number of rows.
+    #[inline]
+    pub fn len(&self) -> usize
+        ensures { result ≡ length self.now.rows }
+    {
+        self.count
+    }
+
+    /// Makes room for `n` more rows. After want of memory the list is as before.
+    pub fn reserve(&mut self, n: usize) -> Result<(), Memory>
+        ensures ok { OnOk result (self.new ≡ record self.old { spare = max self.old.spare n }) }
+        ensures err { OnErr result (self.new ≡ self.old) }
+    {
+        if n <= self.spare {
+            return Ok(());
+        }
+        let total = self.count.checked_add(n).ok_or(Memory)?;
+        let places = total.checked_mul(self.width).ok_or(Memory)?;
+        self.cells.reserve(places - self.cells.len())?;
+        self.spare = n;
+        Ok(())
+    }
+
+    /// Appends a row, for which room was made.
+    pub fn push_reserved(&mut self, row: &[i128])
+        requires spare { 0 < self.old.spare }
+        requires wide { length row.now ≡ self.old.width }
+        requires in_range { AllInRange row.now }
+        ensures width { self.new.width ≡ self.old.width }
+        ensures rows { self.new.rows ≡ self.old.rows ++ row.now ∷ [] }
+        ensures spare { self.new.spare + 1 ≡ self.old.spare }
+    {
+        append_row(&mut self.cells, row);
+        self.count += 1;
+        self.spare -= 1;
+    }
+
+    /// Appends a copy of row `i`, for which room was made.
+    pub fn push_copy(&mut self, i: usize)
+        requires spare { 0 < self.old.spare }
+        requires row { i < length self.old.rows }
+        ensures width { self.new.width ≡ self.old.width }
+        ensures rows { self.new.rows ≡ self.old.rows ++ entries_at self.old.rows i ∷ [] }
+        ensures spare { self.new.spare + 1 ≡ self.old.spare }
+    {
+        let width = self.width;
+        append_part(&mut self.cells, i * width, width);
+        self.count += 1;
+        self.spare -= 1;
+    }
+
+    /// Lends row `i`.
+    #[inline]
+    pub fn row(&self, i: usize) -> &[i128]
+        requires { i < length self.now.rows }
+        ensures value { result.now ≡ entries_at self.now.rows i }
+        ensures wide { length result.now ≡ self.now.width }
+        ensures in_range { AllInRange result.now }
+    {
+        let start = i * self.width;
+        &self.cells[start..start + self.width]
+    }
+
+    /// Writes `s * row i + t * row j` over row `i`, and counts one combination.
+    ///
+    /// # Errors
+    ///
+    /// The first column at which a product or the sum leaves the range. The rows are then as before.
+    pub fn combine_rows<L: Ledger>(
+        &mut self,
+        i: usize,
+        s: i128,
+        j: usize,
+        t: i128,
+        steps: &mut Steps<L>,
+    ) -> Result<(), u32>
+        requires first { i < length self.old.rows }
+        requires second { j < length self.old.rows }
+        requires other { i ≢ j }
+        ensures counted { steps.new ≡ steps.old + 1 }
+        ensures combined { MatchResult result (λ _. (self.new ≡ record self.old { rows = slice_set self.old.rows i (add (scale s (entries_at self.old.rows i)) (scale t (entries_at self.old.rows j))) }) × AllStay (CombineStays (entries_at self.old.rows i) s (entries_at self.old.rows j) t) self.old.width) (λ c. (self.new ≡ self.old) × IsFirstToLeave (CombineStays (entries_at self.old.rows i) s (entries_at self.old.rows j) t) self.old.width c) }
+    {
+        let (to, from) = (i * self.width, j * self.width);
+        combine_parts(self.cells.as_mut_slice(), self.width, to, s, from, t, steps)
+    }
+
+    /// Divides row `i` by the greatest common divisor of its entries. It keeps all signs, and leaves
+    /// an all-zero row.
+    pub fn make_row_primitive(&mut self, i: usize)
+        requires { i < length self.old.rows }
+        ensures { IsRowChanged IsPrimitiveOf i self.old self.new }
+    {
+        let width = self.width;
+        make_part_primitive(self.cells.as_mut_slice(), i * width, width);
+    }
+
+    /// Changes all signs of row `i`.
+    pub fn negate(&mut self, i: usize)
+        requires { i < length self.old.rows }
+        ensures { IsRowChanged IsNegated i self.old self.new }
+    {
+        let width = self.width;
+        negate_part(self.cells.as_mut_slice(), i * width, width);
+    }
+
+    /// Keeps the marked rows, in order. No row that is reserved is lost.
+    pub fn keep_rows(&mut self, keep: &[bool])
+        requires { length keep.now ≡ length self.old.rows }
+        ensures width { self.new.width ≡ self.old.width }
+        ensures rows { self.new.rows ≡ marked keep.now self.old.rows }
+        ensures spare { self.old.spare ≤ self.new.spare }
+    {
+        let mut kept = 0;
+        for row in 0..keep.len() {
+            if keep[row] {
+                self.copy_row(row, kept);
+                kept += 1;
+            }
+        }
+        self.truncate(kept);
+    }
+
+    // Writes row `from` over row `to`.
+    fn copy_row(&mut self, from: usize, to: usize)
+        requires from { from < length self.old.rows }
+        requires to { to < length self.old.rows }
+        ensures { self.new ≡ record self.old { rows = slice_set self.old.rows to (entries_at self.old.rows from) } }
+    {
+        let width = self.width;
+        let start = from * width;
+        self.cells.copy_within(start..start + width, to * width);
+    }
+
+    // Keeps the first `count` rows.
+    fn truncate(&mut self, count: usize)
+        requires { count ≤ length self.old.rows }
+        ensures { self.new ≡ record self.old { rows = take count self.old.rows } }
+    {
+        self.cells.truncate(count * self.width);
+        self.count = count;
+    }
+}
+
+#[cfg(test)]
+mod tests;

@@ -1,0 +1,4 @@
+pub mod WordLemmas
+pub mod BlockLemmas
+pub mod PlaceLemmas
+pub mod CountLemmas

@@ -1,0 +1,16 @@
+use Rattle.std.proofs.Common.{length, slice_index_or, arith}
+use Rattle.sat_bits.specs.Places.{place}
+use Rattle.sat_bits.proofs.CountLemmas.{count_more, count_fits}
+use Rattle.sat_bits.proofs.PlaceLemmas.{place_of}
+use Rattle.sat_bits.proofs.counts.count.Goals as goal
+
+pub overflow_add-total : goal.overflow_add-total
+overflow_add-total c =
+    let fits = count_fits (place c.args.a.now) c.loop-word.word (length c.args.a.now) (slice_index_or c.args.a.now c.loop-word.word 0) c.loop-word.total (c.type_inv.a c.loop-word.word).fits
+    (λ j h. place_of c.args.a.now c.loop-word.word j h) (omega arith) c.requires c.loop-word.invariant.total in
+    omega (arith, fits)
+
+pub loop-word-preserved : goal.loop-word-preserved
+loop-word-preserved c =
+    let more = count_more (place c.args.a.now) c.loop-word.word (slice_index_or c.args.a.now c.loop-word.word 0) (c.type_inv.a c.loop-word.word).fits (λ j h. place_of c.args.a.now c.loop-word.word j h) in
+    omega (arith, c.loop-word.invariant.total, more)

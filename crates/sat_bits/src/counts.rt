@@ -1,0 +1,29 @@
+//! How many places are true.
+ghost use Rattle.std.specs.Prelude.{◌≡◌, ◌*◌, ◌^◌, ◌<◌, ◌&&◌, length};
+ghost use Rattle.std.specs.List.{range_with_len, count_by};
+ghost use Rattle.sat_bits.specs.Places.{place};
+
+/// The number of true places.
+pub fn count(a: &[u64]) -> usize
+    requires { length a.now * 64 < 2 ^ 64 }
+    ensures { result ≡ count_by (place a.now) (range_with_len 0 (length a.now * 64)) }
+{
+    let mut total = 0;
+    for word in 0..a.len() {
+        total += a[word].count_ones() as usize;
+    }
+    total
+}
+
+/// The number of places that are true in both rows.
+pub fn count_and(a: &[u64], b: &[u64]) -> usize
+    requires narrow { length a.now * 64 < 2 ^ 64 }
+    requires second { length b.now ≡ length a.now }
+    ensures { result ≡ count_by (λ i. place a.now i && place b.now i) (range_with_len 0 (length a.now * 64)) }
+{
+    let mut total = 0;
+    for word in 0..a.len() {
+        total += (a[word] & b[word]).count_ones() as usize;
+    }
+    total
+}

@@ -1,0 +1,13 @@
+//! Rows of truth values, 64 in each word, by lanes of words.
+#![tactic(auto)]
+
+mod counts;
+mod kernels;
+mod places;
+
+pub use counts::{count, count_and};
+pub use kernels::{and_into, is_subset_of_and};
+pub use places::{get, is_subset, set, with_bit};
+
+#[cfg(test)]
+mod tests;
