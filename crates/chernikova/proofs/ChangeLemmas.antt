@@ -1,18 +1,19 @@
 use Rattle.std.specs.Prelude.{◌≡◌, ◌≢◌, ℕ, ◌+◌, ◌-◌, ◌<◌, ◌≤◌, ◌⊎◌, Bool, true, false, List, [], ◌∷◌, ◌++◌, length, ℤ, pos, ◌*ℤ◌, ◌-ℤ◌, ◌<ℤ◌, unsigned_abs, Contains}
 use Rattle.std.proofs.Common.{refl, sym, ap, ◌∙◌, subst, arith, inl, inr, get_or, take, add-one}
-use Rattle.std.proofs.lemmas.List.{get_or_append_left, get_or_push, length_push, length-take, get_or-take, append_assoc, take_more}
+use Rattle.std.proofs.lemmas.List.{get_or_append_left, get_or_push, length_push, length-take, get_or-take, append_assoc, append-nil}
 use Rattle.std.proofs.lemmas.List.Elements.{All-push, All-same, Contains-append_left, Contains-push}
 use Rattle.std.proofs.lemmas.Int.{ints}
 use Rattle.std.proofs.lemmas.Bool.{cases_lt}
 use Rattle.row_core.specs.Vectors.{cell, scale}
 use Rattle.row_core.specs.Lists.{Row, row_at, vectors, AreMarked}
 use Rattle.row_core.specs.Content.{IsPrimitive}
-use Rattle.sat_matrix.specs.Tables.{Table, marked}
-use Rattle.sat_matrix.proofs.Flat.{marked_skip, marked_take}
+use Rattle.sat_matrix.specs.Tables.{Table}
+use Rattle.row_core.specs.Flat.{marked}
+use Rattle.row_core.proofs.Flat.{marked_skip, marked_take}
 use Rattle.cone_laws.specs.Steps.{sign, pair_at}
 use Rattle.row_core.proofs.Ring.{zero-mul, mul-zero}
 use Rattle.chernikova.specs.Combinations.{IsCombined}
-use Rattle.chernikova.specs.Changes.{value_at, AreLowered, AreOthersLowered, with_upward, AreMade, IsPairCombined, IsCross, IsCrossesUpto, IsCrossesBelow, AreAllCrosses}
+use Rattle.chernikova.specs.Changes.{value_at, AreLowered, AreOthersLowered, with_upward, AreMade, HasMade, IsPairCombined, IsCross, IsCrossesUpto, IsCrossesBelow, AreAllCrosses}
 use Rattle.chernikova.proofs.FactorLemmas.{magnitude_above, scale_more}
 use Rattle.chernikova.proofs.VectorLemmas.{row_at-push_before, row_at-push_last, vectors_push, vector_at-vectors, length-vectors}
 
@@ -101,6 +102,16 @@ made_more values rays pairs i made r eq inside h one =
                 subst P (sym (get_or-take (i + 1) pairs k (0, 0) short ∙ ap (λ m. pair_at pairs m) at)) (subst S (sym (row_at-push_last made (r, eq) k (omega (arith, size)))) one)
           ];
     }
+
+pub has_made_none : (values : List ℤ) (rays old : List Row) → HasMade values rays [] old old
+has_made_none values rays old = record { made = []; is_made = made_none values rays; result = sym (append-nil old) }
+
+pub has_made_more : (values : List ℤ) (rays : List Row) (pairs : List (ℕ × ℕ)) (i : ℕ) (old new : List Row) (r : List ℤ) (eq : Bool) → i < length pairs → HasMade values rays (take i pairs) old new → IsPairCombined values rays (pair_at pairs i) r → HasMade values rays (take (i + 1) pairs) old (new ++ (r, eq) ∷ [])
+has_made_more values rays pairs i old new r eq inside h one = record {
+  made = h.made ++ (r, eq) ∷ [];
+  is_made = made_more values rays pairs i h.made r eq inside h.is_made one;
+  result = ap (λ (rows : List Row). rows ++ (r, eq) ∷ []) h.result ∙ append_assoc old h.made ((r, eq) ∷ []);
+}
 
 -- ---- pairs
 pub pair_at-push_before : (pairs : List (ℕ × ℕ)) (p : ℕ × ℕ) (i : ℕ) → i < length pairs → pair_at (pairs ++ p ∷ []) i ≡ pair_at pairs i
@@ -230,9 +241,3 @@ kept_take marks rays kept i v in_marks in_rays before is mark =
 pub kept_skip : (marks : List Bool) (rays kept : List Row) (i : ℕ) → i < length marks → i < length rays → vectors kept ≡ marked (take i marks) (take i (vectors rays)) → get_or marks i false ≡ false → vectors kept ≡ marked (take (i + 1) marks) (take (i + 1) (vectors rays))
 kept_skip marks rays kept i in_marks in_rays before mark =
     before ∙ sym (rw add-one (marked_skip i marks (vectors rays) in_marks (omega (arith, length-vectors rays)) mark))
-
-pub all_more : (old cur from : List Row) (i : ℕ) (v : List ℤ) → i < length from → vectors cur ≡ vectors old ++ take i (vectors from) → v ≡ row_at from i → vectors (cur ++ (v, false) ∷ []) ≡ vectors old ++ take (i + 1) (vectors from)
-all_more old cur from i v inside before is =
-    vectors_push cur v false ∙ ap (λ vs. vs ++ v ∷ []) before ∙ append_assoc (vectors old) (take i (vectors from)) (v ∷ []) ∙
-    ap (λ w. vectors old ++ (take i (vectors from) ++ w ∷ [])) (is ∙ sym (vector_at-vectors from i)) ∙
-    ap (λ vs. vectors old ++ vs) (sym (take_more (vectors from) i [] (omega (arith, length-vectors from))))

@@ -6,7 +6,8 @@ use Rattle.std.proofs.lemmas.List.{get_or-map, get_or_default, length-map, appen
 use Rattle.std.proofs.lemmas.List.Edits.{length-remove, get_or-remove_below, get_or-remove_above}
 use Rattle.row_core.specs.Vectors.{cell, dot, scale}
 use Rattle.row_core.specs.Lists.{Row, row_at, vectors, Pointwise}
-use Rattle.sat_matrix.specs.Tables.{Table, bits_of, marked, HasThird}
+use Rattle.sat_matrix.specs.Tables.{Table, bits_of, HasThird}
+use Rattle.row_core.specs.Flat.{marked}
 use Rattle.cone_laws.specs.Canon.{vector_at}
 use Rattle.cone_laws.specs.Steps.{sign, pair_at, stays, IsLowered, IsLastCrossing, IsLineStep, IsMade, IsMadeOf, NoThird, IsCrossing, IsRayStep, upward}
 use Rattle.row_core.proofs.Ring.{ring, mul-zero, neg-mul, zero_of_mul}

@@ -1,7 +1,8 @@
 use Rattle.std.specs.Prelude.{◌≡◌, ◌≢◌, ℕ, ◌+◌, ◌-◌, ◌<◌, ◌≤◌, ◌⊎◌, Bool, true, false, ◌++◌, [], ◌∷◌, List, length, ℤ, pos, ◌<ℤ◌, slice_index_or, Contains}
 use Rattle.row_core.specs.Vectors.{scale}
 use Rattle.row_core.specs.Lists.{Row, Rows, row_at, vectors, AreMarked}
-use Rattle.sat_matrix.specs.Tables.{Table, HasThird, marked}
+use Rattle.sat_matrix.specs.Tables.{Table, HasThird}
+use Rattle.row_core.specs.Flat.{marked}
 use Rattle.cone_laws.specs.Steps.{sign, pair_at}
 use Rattle.chernikova.specs.Combinations.{IsCombined}
 
@@ -85,6 +86,12 @@ IsPairCombined values rays pair result = IsCombined (value_at values pair.0) (va
 pub record AreMade (values : List ℤ) (rays : List Row) (pairs : List (ℕ × ℕ)) (made : List Row) : Type 0 where
   pub as_many : length made ≡ length pairs
   pub each : (i : ℕ) → i < length pairs → IsPairCombined values rays (pair_at pairs i) (row_at made i)
+
+-- one ray of each pair was appended
+pub record HasMade (values : List ℤ) (rays : List Row) (pairs : List (ℕ × ℕ)) (old new : List Row) : Type 0 where
+  pub made : List Row
+  pub is_made : AreMade values rays pairs made
+  pub result : new ≡ old ++ made
 
 -- the marked rays, and one ray of each pair
 pub record IsRayChange (values : List ℤ) (marks : List Bool) (pairs : List (ℕ × ℕ)) (rays new : List Row) : Type 0 where

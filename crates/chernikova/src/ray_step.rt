@@ -1,9 +1,10 @@
 //! The step with a row that is 0 on all lines.
 ghost use Rattle.std.specs.Prelude.{◌≡◌, ◌≢◌, ℕ, ◌+◌, ◌-◌, ◌^◌, ◌<◌, ◌≤◌, Bool, true, false, List, [], ◌∷◌, ◌++◌, length, All, pos, ◌<ℤ◌, ◌↔◌, IsTrue, MatchResult, IfOk, OnOk};
 ghost use Rattle.row_core.specs.Range.{InRange, AllInRange};
-ghost use Rattle.sat_matrix.specs.Tables.{HasThird, marked};
+ghost use Rattle.sat_matrix.specs.Tables.{HasThird};
+ghost use Rattle.row_core.specs.Flat.{marked};
 ghost use Rattle.row_core.specs.Lists.{vectors, AreMarked};
-ghost use Rattle.chernikova.specs.Changes.{value_at, AreAllCrosses, IsCross, IsCrossesBelow, IsPairAt, ArePairs, IsPairCombined, AreMade, IsRayChange};
+ghost use Rattle.chernikova.specs.Changes.{value_at, AreAllCrosses, IsCross, IsCrossesBelow, IsPairAt, ArePairs, IsPairCombined, HasMade, IsRayChange};
 ghost use Rattle.chernikova.specs.Faults.{IsPairFault};
 ghost use Rattle.chernikova.specs.CountTests.{CountsDecide};
 
@@ -148,28 +149,30 @@ fn combine_pair<L: Ledger>(
     Ok(())
 }
 
-/// One ray for each pair, 0 on the row.
-fn made<L: Ledger>(
+/// Appends one ray for each pair, 0 on the row.
+fn push_made<L: Ledger>(
     alloc: Global,
+    into: &mut RowList,
     rays: &RowList,
     values: &[i128],
     pairs: &[(usize, usize)],
     steps: &mut Steps<L>,
-) -> Result<RowList, Fault>
+) -> Result<(), Fault>
+    requires width { into.old.width ≡ rays.now.width }
     requires as_many { length values.now ≡ length rays.now.rows }
     requires in_range { All InRange values.now }
     requires opposite { ArePairs values.now pairs.now }
     ensures counted { (steps.old ≤ steps.new) × (steps.new ≤ steps.old + length pairs.now) }
-    ensures made { MatchResult result (λ made. AreMade values.now rays.now.rows pairs.now made.rows) (IsPairFault values.now pairs.now (vectors rays.now.rows)) }
-    ensures list { IfOk result (λ made. (made.width ≡ rays.now.width) × AreMarked false made.rows) }
+    ensures width { into.new.width ≡ into.old.width }
+    ensures made { MatchResult result (λ _. HasMade values.now rays.now.rows pairs.now into.old.rows into.new.rows) (IsPairFault values.now pairs.now (vectors rays.now.rows)) }
+    ensures marked { OnOk result (AreMarked false into.old.rows → AreMarked false into.new.rows) }
 {
-    let mut made = RowList::new(alloc, rays.width());
     let mut scratch = vec![in alloc; 0; rays.width()]?;
     for index in 0..pairs.len() {
         combine_pair(&mut scratch, rays, values, pairs[index], steps)?;
-        made.push(&scratch, false)?;
+        into.push(&scratch, false)?;
     }
-    Ok(made)
+    Ok(())
 }
 
 /// The marked rays, in order.
@@ -185,19 +188,6 @@ fn kept(alloc: Global, rays: &RowList, marks: &[bool]) -> Result<RowList, Memory
         }
     }
     Ok(kept)
-}
-
-/// Appends all rows of a list, as inequalities.
-fn push_all(into: &mut RowList, from: &RowList) -> Result<(), Memory>
-    requires { from.now.width ≡ into.old.width }
-    ensures width { into.new.width ≡ into.old.width }
-    ensures rows { OnOk result (vectors into.new.rows ≡ vectors into.old.rows ++ vectors from.now.rows) }
-    ensures marked { OnOk result (AreMarked false into.old.rows → AreMarked false into.new.rows) }
-{
-    for index in 0..from.len() {
-        into.push(from.row(index), false)?;
-    }
-    Ok(())
 }
 
 /// The marked rays, and one ray for each pair.
@@ -216,8 +206,7 @@ pub(crate) fn ray_step<L: Ledger>(
     ensures change { MatchResult result (λ new. IsRayChange values.now marks.now pairs.now rays.now.rows new.rows) (IsPairFault values.now pairs.now (vectors rays.now.rows)) }
     ensures list { IfOk result (λ new. (new.width ≡ rays.now.width) × AreMarked false new.rows) }
 {
-    let made = made(alloc, rays, values, pairs, steps)?;
     let mut new = kept(alloc, rays, marks)?;
-    push_all(&mut new, &made)?;
+    push_made(alloc, &mut new, rays, values, pairs, steps)?;
     Ok(new)
 }

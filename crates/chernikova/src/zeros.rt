@@ -1,7 +1,8 @@
 //! The table of the rows on which each ray is 0, brought up to date with a row.
 ghost use Rattle.std.specs.Prelude.{◌≡◌, ℕ, ◌+◌, ◌-◌, ◌<◌, ◌≤◌, ◌==◌, Bool, true, false, List, [], ◌∷◌, ◌++◌, length, map, replicate, pos, IfOk, OnOk, slice_index_or, slice_set};
 ghost use Rattle.std.specs.Ordering.{int_eq};
-ghost use Rattle.sat_matrix.specs.Tables.{bits_of, marked, conjunction};
+ghost use Rattle.sat_matrix.specs.Tables.{bits_of, conjunction};
+ghost use Rattle.row_core.specs.Flat.{marked};
 ghost use Rattle.cone_laws.specs.Steps.{pair_at};
 ghost use Rattle.chernikova.specs.Tables.{HasColumn, HasPairs, HasLineStep, HasRayStep};
 

@@ -6,3 +6,4 @@ pub mod CellLemmas
 pub mod ContentLemmas
 pub mod OnePrimitive
 pub mod SamenessLemmas
+pub mod Flat

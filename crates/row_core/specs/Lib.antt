@@ -5,3 +5,4 @@ pub mod Points
 pub mod Lists
 pub mod Laws
 pub mod Sameness
+pub mod Flat

@@ -9,9 +9,10 @@ use borrow.Rule.Slice.PartMut.{put_mid}
 use Rattle.row_core.specs.Vectors.{cell, scale}
 use Rattle.row_core.proofs.CellLemmas.{cell-scale, length-scale}
 use Rattle.row_core.specs.Range.{InRange, AllInRange}
-use Rattle.row_store.specs.Stores.{Store, entries_at, rows_of, window, IsLaidOut, IsNegated, IsPartChanged, IsRowChanged}
-use Rattle.row_store.proofs.Parts.{row_end, entries-rows_of, rows_of-with_window, seen_store, seen, push_seen, length_row, with_window_is}
-use Rattle.row_store.proofs.KeptRows.{IsCopied}
+use Rattle.row_core.specs.Flat.{Flat, entries_at, rows_of, IsLaidOut}
+use Rattle.row_store.specs.Stores.{window, IsNegated, IsPartChanged, IsRowChanged}
+use Rattle.row_core.proofs.Flat.{row_end, entries_at-rows_of, seen_flat, seen, push_seen, length_row, IsCopied}
+use Rattle.row_store.proofs.Parts.{rows_of-with_window, with_window_is}
 
 -- a row that was changed where a part of the cells was lent
 pub part_changed : (Related : List ℤ → List ℤ → Type 0) (p w k : ℕ) (cells part new : List ℤ) → k ≡ w → part ≡ window p k cells → length new ≡ w → Related part new → IsPartChanged Related p w cells (put_mid p k cells new)
@@ -26,20 +27,20 @@ part_changed Related p w k cells part new e is wide related = record {
 pub given_back : (n : ℕ) (new old : List ℤ) → n ≡ length new → new ≡ take n (new ++ drop (length new) old)
 given_back n new old whole = sym (ap (λ (k : ℕ). take k (new ++ drop (length new) old)) whole ∙ take_at new (drop (length new) old) (length new) refl)
 
-pub changed_seen : (Related : List ℤ → List ℤ → Type 0) (w n sp len room i : ℕ) (cells new : List ℤ) (old : Store) → IsLaidOut w n sp len room → length cells ≡ len → seen_store w n sp cells ≡ old → i < length old.rows
-    → IsPartChanged Related (i * w) w cells new → IsRowChanged Related i old (seen_store w n sp new)
+pub changed_seen : (Related : List ℤ → List ℤ → Type 0) (w n sp len room i : ℕ) (cells new : List ℤ) (old : Flat ℤ) → IsLaidOut w n sp len room → length cells ≡ len → seen_flat w n sp cells ≡ old → i < length old.rows
+    → IsPartChanged Related (i * w) w cells new → IsRowChanged Related i old (seen_flat w n sp new)
 changed_seen Related w n sp len room i cells new old laid long e in_i h =
     let k = seen w n sp cells old e in
     let wide : length cells ≡ n * w = long ∙ laid.taken in
     let below : i < n = omega (arith, k.count, in_i) in
-    let make : List (List ℤ) → Store = λ rs. record { width = w; rows = rs; spare = sp } in
-    let at_i : window (i * w) w cells ≡ entries_at (rows_of w n cells) i = sym (entries-rows_of w n i cells below) in
-    let whole : IsRowChanged Related i (seen_store w n sp cells) (seen_store w n sp new) = record {
+    let make : List (List ℤ) → Flat ℤ = λ rs. record { width = w; rows = rs; spare = sp } in
+    let at_i : window (i * w) w cells ≡ entries_at (rows_of w n cells) i = sym (entries_at-rows_of w n i cells below) in
+    let whole : IsRowChanged Related i (seen_flat w n sp cells) (seen_flat w n sp new) = record {
       row = h.row;
-      same = ap (λ (cs : List ℤ). seen_store w n sp cs) h.same ∙ ap make (rows_of-with_window w n i cells h.row below wide h.wide);
+      same = ap (λ (cs : List ℤ). seen_flat w n sp cs) h.same ∙ ap make (rows_of-with_window w n i cells h.row below wide h.wide);
       related = subst (λ (r : List ℤ). Related r h.row) at_i h.related;
     } in
-    subst (λ (o : Store). IsRowChanged Related i o (seen_store w n sp new)) e whole
+    subst (λ (o : Flat ℤ). IsRowChanged Related i o (seen_flat w n sp new)) e whole
 
 negated_times : (x : ℤ) → neg_ℤ x ≡ neg_ℤ (pos 1) *ℤ x
 negated_times x = omega (arith, ints)
@@ -55,7 +56,7 @@ pub in_range_from : (xs ys : List ℤ) → AllInRange xs → ((k : ℕ) → k < 
 in_range_from xs ys all from = All-from_get_or InRange ys (pos 0) (λ k h. let f = from k h in let P : ℤ → Type 0 = λ z. InRange z in subst P (sym f.2) (all f.0 (pos 0) f.1))
 
 -- one row copied over another
-pub in_range_copied : (w n from to : ℕ) (xs ys : List ℤ) → from < n → to < n → length xs ≡ n * w → length ys ≡ n * w → IsCopied w from to xs ys → AllInRange xs → AllInRange ys
+pub in_range_copied : (w n from to : ℕ) (xs ys : List ℤ) → from < n → to < n → length xs ≡ n * w → length ys ≡ n * w → IsCopied (pos 0) w from to xs ys → AllInRange xs → AllInRange ys
 in_range_copied w n from to xs ys in_from in_to wide still copy all =
     in_range_from xs ys all (λ k h.
     elim (cases_lt k (to * w)) as (λ _. (m : ℕ) × (m < length xs) × (get_or ys k (pos 0) ≡ get_or xs m (pos 0))) [
@@ -67,7 +68,7 @@ in_range_copied w n from to xs ys in_from in_to wide still copy all =
     ])
 
 -- a copy of row i appended
-pub push_copy_seen : (w n s len room i : ℕ) (cells : List ℤ) (t : Store) → IsLaidOut w n s len room → length cells ≡ len → seen_store w n s cells ≡ t → i < length t.rows → rows_of w (n + 1) (cells ++ window (i * w) w cells) ≡ t.rows ++ entries_at t.rows i ∷ []
+pub push_copy_seen : (w n s len room i : ℕ) (cells : List ℤ) (t : Flat ℤ) → IsLaidOut w n s len room → length cells ≡ len → seen_flat w n s cells ≡ t → i < length t.rows → rows_of w (n + 1) (cells ++ window (i * w) w cells) ≡ t.rows ++ entries_at t.rows i ∷ []
 push_copy_seen w n s len room i cells t laid wide e in_i =
     let k = seen w n s cells t e in
     let below : i < n = omega (arith, k.count, in_i) in

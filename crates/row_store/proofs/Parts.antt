@@ -9,68 +9,10 @@ use Rattle.std.proofs.lemmas.List.Edits.{paste_all}
 use borrow.Rule.Slice.PartMut.{put_mid}
 use Rattle.row_core.specs.Vectors.{scale, add}
 use Rattle.row_core.specs.Range.{CombineStays, IsFirstToLeave, AllStay}
-use Rattle.row_store.specs.Stores.{Store, entries_at, rows_of, window, with_window, IsLaidOut}
-
--- the places of a row lie before those of the end
-pub row_end : (w n i : ℕ) → i < n → i * w + w ≤ n * w
-row_end w n i below = let le : suc i ≤ n = omega arith in omega (arith, mul-le-mul_right w le)
-
-pub length-rows_of : (w n : ℕ) (cells : List ℤ) → length (rows_of w n cells) ≡ n
-length-rows_of w n cells = length-map-range_with_len (λ i. take w (drop (i * w) cells)) 0 n
-
-pub entries-rows_of : (w n i : ℕ) (cells : List ℤ) → i < n → entries_at (rows_of w n cells) i ≡ take w (drop (i * w) cells)
-entries-rows_of w n i cells below = get_or-map-range_with_len (λ i. take w (drop (i * w) cells)) 0 n i i [] below (omega arith)
-
--- rows whose places agree are the same
-pub rows_of_same : (w n : ℕ) (xs ys : List ℤ) → ((i : ℕ) → i < n → take w (drop (i * w) xs) ≡ take w (drop (i * w) ys)) → rows_of w n xs ≡ rows_of w n ys
-rows_of_same w n xs ys same =
-    ext_get_or [] (rows_of w n xs) (rows_of w n ys) (length-rows_of w n xs ∙ sym (length-rows_of w n ys))
-    (λ i h. let below : i < n = omega (arith, length-rows_of w n xs) in entries-rows_of w n i xs below ∙ same i below ∙ sym (entries-rows_of w n i ys below))
-
--- a part before the seam of two lists
-pub take-drop-append : (w k : ℕ) (xs ys : List ℤ) → k + w ≤ length xs → take w (drop k (xs ++ ys)) ≡ take w (drop k xs)
-take-drop-append w k xs ys within =
-    let first : k ≤ length xs = omega arith in
-    let second : w ≤ length (drop k xs) = omega (arith, length-drop k xs) in
-    rw (drop-append-le k xs ys first) (take-append-le w (drop k xs) ys second)
-
-pub rows_of-push : (w n : ℕ) (xs row : List ℤ) → length xs ≡ n * w → length row ≡ w → rows_of w (n + 1) (xs ++ row) ≡ rows_of w n xs ++ row ∷ []
-rows_of-push w n xs row wide one =
-    let last : take w (drop (n * w) (xs ++ row)) ≡ row = rw (drop_at xs row (n * w) wide) (take_all w row (omega arith)) in
-    let before : rows_of w n (xs ++ row) ≡ rows_of w n xs = rows_of_same w n (xs ++ row) xs (λ i h. take-drop-append w (i * w) xs row (omega (arith, row_end w n i h))) in
-    map-range_with_len_more (λ i. take w (drop (i * w) (xs ++ row))) 0 n n (omega arith) ∙ ap (λ r. rows_of w n (xs ++ row) ++ r ∷ []) last ∙ ap (λ rs. rs ++ row ∷ []) before
-
--- the table that is seen in the places
-abbrev pub seen_store : (w n s : ℕ) → List ℤ → Store
-seen_store w n s cells = record { width = w; rows = rows_of w n cells; spare = s }
-
--- what the layout says of a table that is seen as t
-pub record IsSeen (w n s : ℕ) (cells : List ℤ) (t : Store) : Type 0 where
-  pub count : length t.rows ≡ n
-  pub width : t.width ≡ w
-  pub row : (i : ℕ) → i < n → entries_at t.rows i ≡ take w (drop (i * w) cells)
-
-pub seen : (w n s : ℕ) (cells : List ℤ) (t : Store) → seen_store w n s cells ≡ t → IsSeen w n s cells t
-seen w n s cells t e = record {
-  count = ap (λ (u : Store). length u.rows) (sym e) ∙ length-rows_of w n cells;
-  width = ap (λ (u : Store). u.width) (sym e);
-  row = λ i h. ap (λ (u : Store). entries_at u.rows i) (sym e) ∙ entries-rows_of w n i cells h;
-}
-
-pub length_row : (w n i : ℕ) (cells : List ℤ) → i < n → length cells ≡ n * w → length (take w (drop (i * w) cells)) ≡ w
-length_row w n i cells below wide = omega (arith, length-take w (drop (i * w) cells), length-drop (i * w) cells, row_end w n i below)
-
--- row i of a table that is seen as t lies within its places
-pub row_within : (w n s len room i : ℕ) (cells : List ℤ) (t : Store) → IsLaidOut w n s len room → seen_store w n s cells ≡ t → i < length t.rows → i * w + w ≤ len
-row_within w n s len room i cells t laid e below =
-    let count = (seen w n s cells t e).count in
-    omega (arith, laid.taken, row_end w n i (omega arith))
-
--- a row that is appended, made from the width
-pub push_seen : (w n s len room : ℕ) (cells : List ℤ) (t : Store) (row : ℕ → List ℤ) → IsLaidOut w n s len room → length cells ≡ len → seen_store w n s cells ≡ t → length (row w) ≡ w → rows_of w (n + 1) (cells ++ row w) ≡ t.rows ++ row t.width ∷ []
-push_seen w n s len room cells t row laid wide e one =
-    let P : Store → Type 0 = λ u. rows_of w (n + 1) (cells ++ row w) ≡ u.rows ++ row u.width ∷ [] in
-    subst P e (rows_of-push w n cells (row w) (wide ∙ laid.taken) one)
+use Rattle.row_core.specs.Flat.{Flat, entries_at, rows_of, IsLaidOut}
+use Rattle.row_core.proofs.CellLemmas.{length-scale, length-add}
+use Rattle.row_core.proofs.Flat.{row_end, length-rows_of, entries_at-rows_of, seen_flat, seen, length_row}
+use Rattle.row_store.specs.Stores.{window, with_window}
 
 -- ---- a row written over a part
 pub length-window : (p w : ℕ) (cells : List ℤ) → p + w ≤ length cells → length (window p w cells) ≡ w
@@ -153,16 +95,6 @@ moved_left p p' w s t old v new cells v' new' j e f same h =
     (same h.0, subst (λ (r : List ℤ). IsFirstToLeave (CombineStays r s v' t) w j) e (subst (λ (r : List ℤ). IsFirstToLeave (CombineStays (window p' w old) s r t) w j) f h.1))
 
 -- ---- one row of all
-pub length-scale : (k : ℤ) (v : List ℤ) → length (scale k v) ≡ length v
-length-scale k [] = refl
-length-scale k (a ∷ v) = ap (λ (n : ℕ). suc n) (length-scale k v)
-
-pub length-add : (u v : List ℤ) → length u ≡ length v → length (add u v) ≡ length u
-length-add [] [] e = refl
-length-add [] (b ∷ v) e = absurd (omega (arith, e))
-length-add (a ∷ u) [] e = absurd (omega (arith, e))
-length-add (a ∷ u) (b ∷ v) e = ap (λ (n : ℕ). suc n) (length-add u v (omega (arith, e)))
-
 pub rows_apart : (w i j : ℕ) → i ≢ j → (i * w + w ≤ j * w) ⊎ (j * w + w ≤ i * w)
 rows_apart w i j other = elim (cases_lt i j) [ inl less ↦ inl (row_end w j i less) | inr more ↦ inr (row_end w i j (omega arith)) ]
 
@@ -199,24 +131,24 @@ rows_of-with_window w n i cells row below wide one =
     (length-rows_of w n new ∙ sym (length-set old i row ∙ length-rows_of w n cells))
     (λ k h.
     let inside : k < n = omega (arith, length-rows_of w n new) in
-    entries-rows_of w n k new inside ∙
+    entries_at-rows_of w n k new inside ∙
     elim (cases_eq k i) as (λ _. window (k * w) w new ≡ get_or (set old i row) k []) [
       | inl same ↦ rw same (row_itself w i cells row within one ∙ sym (get_or-set_same old i row [] (omega (arith, length-rows_of w n cells))))
       | inr other ↦ elim (cases_lt k i) as (λ _. window (k * w) w new ≡ get_or (set old i row) k []) [
-        | inl less ↦ row_before w i k cells row less (omega (arith, within)) ∙ sym (entries-rows_of w n k cells inside) ∙ sym (get_or-set_other old i k row [] other)
-        | inr more ↦ row_behind w i k cells row (omega (arith, other, more)) within one ∙ sym (entries-rows_of w n k cells inside) ∙ sym (get_or-set_other old i k row [] other)
+        | inl less ↦ row_before w i k cells row less (omega (arith, within)) ∙ sym (entries_at-rows_of w n k cells inside) ∙ sym (get_or-set_other old i k row [] other)
+        | inr more ↦ row_behind w i k cells row (omega (arith, other, more)) within one ∙ sym (entries_at-rows_of w n k cells inside) ∙ sym (get_or-set_other old i k row [] other)
       ]
     ])
 
 -- the outcome on the buffer, as an outcome on the rows
-abbrev pub IsCombinedRow : (s t : ℤ) (i j : ℕ) (old new : Store) → Type 0
+abbrev pub IsCombinedRow : (s t : ℤ) (i j : ℕ) (old new : Flat ℤ) → Type 0
 IsCombinedRow s t i j old new = (new ≡ record old { rows = set old.rows i (add (scale s (entries_at old.rows i)) (scale t (entries_at old.rows j))) }) × AllStay (CombineStays (entries_at old.rows i) s (entries_at old.rows j) t) old.width
 
-abbrev pub IsRowLeft : (s t : ℤ) (i j : ℕ) (old new : Store) (c : ℕ) → Type 0
+abbrev pub IsRowLeft : (s t : ℤ) (i j : ℕ) (old new : Flat ℤ) (c : ℕ) → Type 0
 IsRowLeft s t i j old new c = (new ≡ old) × IsFirstToLeave (CombineStays (entries_at old.rows i) s (entries_at old.rows j) t) old.width c
 
-pub combined_seen : (w n sp len room i j : ℕ) (s t : ℤ) (cells new : List ℤ) (old : Store) → IsLaidOut w n sp len room → length cells ≡ len → seen_store w n sp cells ≡ old → i < length old.rows → j < length old.rows
-    → IsCombinedPart (i * w) w s (window (j * w) w cells) t cells new → IsCombinedRow s t i j old (seen_store w n sp new)
+pub combined_seen : (w n sp len room i j : ℕ) (s t : ℤ) (cells new : List ℤ) (old : Flat ℤ) → IsLaidOut w n sp len room → length cells ≡ len → seen_flat w n sp cells ≡ old → i < length old.rows → j < length old.rows
+    → IsCombinedPart (i * w) w s (window (j * w) w cells) t cells new → IsCombinedRow s t i j old (seen_flat w n sp new)
 combined_seen w n sp len room i j s t cells new old laid long e in_i in_j h =
     let k = seen w n sp cells old e in
     let wide : length cells ≡ n * w = long ∙ laid.taken in
@@ -226,29 +158,29 @@ combined_seen w n sp len room i j s t cells new old laid long e in_i in_j h =
     let v : List ℤ = window (j * w) w cells in
     let length_u : length u ≡ w = length_row w n i cells below_i wide in
     let length_v : length v ≡ w = length_row w n j cells below_j wide in
-    let one : length (add (scale s u) (scale t v)) ≡ w = length-add (scale s u) (scale t v) (length-scale s u ∙ length_u ∙ sym (length-scale t v ∙ length_v)) ∙ length-scale s u ∙ length_u in
-    let make : List (List ℤ) → Store = λ rs. record { width = w; rows = rs; spare = sp } in
-    let at_i : u ≡ entries_at (rows_of w n cells) i = sym (entries-rows_of w n i cells below_i) in
-    let at_j : v ≡ entries_at (rows_of w n cells) j = sym (entries-rows_of w n j cells below_j) in
-    let whole : IsCombinedRow s t i j (seen_store w n sp cells) (seen_store w n sp new) = (
-      ap (λ (cs : List ℤ). seen_store w n sp cs) h.0
+    let one : length (add (scale s u) (scale t v)) ≡ w = length-add (scale s u) (scale t v) (length-scale s u ∙ length_u ∙ sym (length-scale t v ∙ length_v)) ∙ length-scale t v ∙ length_v in
+    let make : List (List ℤ) → Flat ℤ = λ rs. record { width = w; rows = rs; spare = sp } in
+    let at_i : u ≡ entries_at (rows_of w n cells) i = sym (entries_at-rows_of w n i cells below_i) in
+    let at_j : v ≡ entries_at (rows_of w n cells) j = sym (entries_at-rows_of w n j cells below_j) in
+    let whole : IsCombinedRow s t i j (seen_flat w n sp cells) (seen_flat w n sp new) = (
+      ap (λ (cs : List ℤ). seen_flat w n sp cs) h.0
           ∙ ap make (rows_of-with_window w n i cells (add (scale s u) (scale t v)) below_i wide one)
           ∙ ap (λ (r : List ℤ). make (set (rows_of w n cells) i (add (scale s r) (scale t v)))) at_i
           ∙ ap (λ (r : List ℤ). make (set (rows_of w n cells) i (add (scale s (entries_at (rows_of w n cells) i)) (scale t r)))) at_j,
       λ c l. subst (λ (r : List ℤ). CombineStays r s (entries_at (rows_of w n cells) j) t c) at_i (subst (λ (r : List ℤ). CombineStays u s r t c) at_j (h.1 c l)),
     ) in
-    subst (λ (o : Store). IsCombinedRow s t i j o (seen_store w n sp new)) e whole
+    subst (λ (o : Flat ℤ). IsCombinedRow s t i j o (seen_flat w n sp new)) e whole
 
-pub left_seen : (w n sp len room i j : ℕ) (s t : ℤ) (cells new : List ℤ) (old : Store) (c : ℕ) → IsLaidOut w n sp len room → length cells ≡ len → seen_store w n sp cells ≡ old → i < length old.rows → j < length old.rows
-    → IsPartLeft (i * w) w s (window (j * w) w cells) t cells new c → IsRowLeft s t i j old (seen_store w n sp new) c
+pub left_seen : (w n sp len room i j : ℕ) (s t : ℤ) (cells new : List ℤ) (old : Flat ℤ) (c : ℕ) → IsLaidOut w n sp len room → length cells ≡ len → seen_flat w n sp cells ≡ old → i < length old.rows → j < length old.rows
+    → IsPartLeft (i * w) w s (window (j * w) w cells) t cells new c → IsRowLeft s t i j old (seen_flat w n sp new) c
 left_seen w n sp len room i j s t cells new old c laid long e in_i in_j h =
     let k = seen w n sp cells old e in
     let below_i : i < n = omega (arith, k.count, in_i) in
     let below_j : j < n = omega (arith, k.count, in_j) in
-    let at_i : window (i * w) w cells ≡ entries_at (rows_of w n cells) i = sym (entries-rows_of w n i cells below_i) in
-    let at_j : window (j * w) w cells ≡ entries_at (rows_of w n cells) j = sym (entries-rows_of w n j cells below_j) in
-    let whole : IsRowLeft s t i j (seen_store w n sp cells) (seen_store w n sp new) c = (
-      ap (λ (cs : List ℤ). seen_store w n sp cs) h.0,
+    let at_i : window (i * w) w cells ≡ entries_at (rows_of w n cells) i = sym (entries_at-rows_of w n i cells below_i) in
+    let at_j : window (j * w) w cells ≡ entries_at (rows_of w n cells) j = sym (entries_at-rows_of w n j cells below_j) in
+    let whole : IsRowLeft s t i j (seen_flat w n sp cells) (seen_flat w n sp new) c = (
+      ap (λ (cs : List ℤ). seen_flat w n sp cs) h.0,
       subst (λ (r : List ℤ). IsFirstToLeave (CombineStays r s (entries_at (rows_of w n cells) j) t) w c) at_i (subst (λ (r : List ℤ). IsFirstToLeave (CombineStays (window (i * w) w cells) s r t) w c) at_j h.1),
     ) in
-    subst (λ (o : Store). IsRowLeft s t i j o (seen_store w n sp new) c) e whole
+    subst (λ (o : Flat ℤ). IsRowLeft s t i j o (seen_flat w n sp new) c) e whole

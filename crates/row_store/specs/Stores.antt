@@ -1,18 +1,8 @@
 use Rattle.std.specs.Prelude.{◌≡◌, ℕ, ◌+◌, ◌*◌, ◌^◌, ◌<◌, ◌≤◌, List, [], ◌++◌, map, take, drop, length, ℤ, pos, slice_index_or, slice_set}
 use Rattle.std.proofs.Math.IntN.{neg_ℤ}
-use Rattle.std.specs.List.{range_with_len}
 use Rattle.row_core.specs.Vectors.{scale}
 use Rattle.row_core.specs.Range.{AllInRange}
-
--- rows of one width, in order, and how many rows can be appended without memory
-pub record Store : Type 0 where
-  pub width : ℕ
-  pub rows : List (List ℤ)
-  pub spare : ℕ
-
--- row i
-abbrev pub entries_at : List (List ℤ) → ℕ → List ℤ
-entries_at rows i = slice_index_or rows i []
+use Rattle.row_core.specs.Flat.{Flat, entries_at, IsLaidOut}
 
 -- the cells from one place on, as many as a row has
 abbrev pub window : ℕ → ℕ → List ℤ → List ℤ
@@ -22,17 +12,7 @@ window p w cells = take w (drop p cells)
 abbrev pub with_window : ℕ → ℕ → List ℤ → List ℤ → List ℤ
 with_window p w row cells = take p cells ++ (row ++ drop (p + w) cells)
 
--- n rows of w cells each, one after another
-abbrev pub rows_of : ℕ → ℕ → List ℤ → List (List ℤ)
-rows_of w n cells = map (λ i. take w (drop (i * w) cells)) (range_with_len 0 n)
-
--- the rows fill the cells that are taken, and there is room for the rows that can be appended
-pub record IsLaidOut (width count spare len capacity : ℕ) : Type 0 where
-  pub taken : len ≡ count * width
-  pub room : (count + spare) * width ≤ capacity
-  pub counted : count + spare < 2 ^ 64
-
--- the same, a u32 names each column, and each number is of the range
+-- the rows are laid out in the cells, a u32 names each column, and each number is of the range
 pub record IsKept (width count spare len capacity : ℕ) (cells : List ℤ) : Type 0 where
   pub laid : IsLaidOut width count spare len capacity
   pub narrow : width < 2 ^ 32
@@ -50,7 +30,7 @@ pub record IsPartChanged (Related : List ℤ → List ℤ → Type 0) (p w : ℕ
   pub related : Related (window p w old) row
 
 -- row i is changed into one that stands to it as said; all else stays
-pub record IsRowChanged (Related : List ℤ → List ℤ → Type 0) (i : ℕ) (old new : Store) : Type 0 where
+pub record IsRowChanged (Related : List ℤ → List ℤ → Type 0) (i : ℕ) (old new : Flat ℤ) : Type 0 where
   pub row : List ℤ
   pub same : new ≡ record old { rows = slice_set old.rows i row }
   pub related : Related (entries_at old.rows i) row

@@ -1,10 +1,10 @@
 //! The rows.
-ghost use Rattle.std.specs.Prelude.{◌≡◌, ◌≢◌, ℕ, ◌+◌, ◌*◌, ◌^◌, ◌<◌, ◌≤◌, List, [], ◌∷◌, ◌++◌, length, max, take, Bool, slice_set, vec_len, vec_capacity, OnOk, OnErr, MatchResult};
+ghost use Rattle.std.specs.Prelude.{◌≡◌, ◌≢◌, ℕ, ◌+◌, ◌*◌, ◌^◌, ◌<◌, ◌≤◌, List, [], ◌∷◌, ◌++◌, length, max, take, Bool, ℤ, slice_set, vec_len, vec_capacity, OnOk, OnErr, MatchResult};
 ghost use Rattle.row_core.specs.Vectors.{scale, add};
 ghost use Rattle.row_core.specs.Content.{IsPrimitiveOf};
 ghost use Rattle.row_core.specs.Range.{AllInRange, CombineStays, IsFirstToLeave, AllStay};
-ghost use Rattle.row_store.specs.Stores.{Store, entries_at, rows_of, IsKept, IsNegated, IsRowChanged};
-ghost use Rattle.sat_matrix.specs.Tables.{marked};
+ghost use Rattle.row_core.specs.Flat.{Flat, entries_at, rows_of, marked};
+ghost use Rattle.row_store.specs.Stores.{IsKept, IsNegated, IsRowChanged};
 
 use crate::windows::{append_part, append_row, combine_parts, make_part_primitive, negate_part};
 use row_core::{Memory, Steps};
@@ -22,7 +22,7 @@ pub struct RowStore {
 }
 
 impl Model for RowStore {
-    ghost Value = { Store };
+    ghost Value = { Flat ℤ };
 
     ghost view = { λ m. record { width = m.width; rows = rows_of m.width m.count m.cells.items; spare = m.spare } };
 

@@ -1,5 +1,5 @@
 -- How many places are true.
-use Rattle.std.proofs.Common.{◌≡◌, ℕ, zero, suc, ◌+◌, ◌*◌, ◌^◌, ◌<◌, ◌≤◌, ◌&&◌, Bool, false, cond, bit_and, nat_eq, List, length, map, slice_index_or, refl, sym, ap, ◌∙◌, arith}
+use Rattle.std.proofs.Common.{◌≡◌, ℕ, zero, suc, ◌+◌, ◌-◌, ◌*◌, ◌^◌, ◌<◌, ◌≤◌, ◌&&◌, Bool, false, cond, bit_and, nat_eq, List, length, map, slice_index_or, refl, sym, ap, ◌∙◌, arith}
 use Rattle.std.specs.Int.{bit_at}
 use Rattle.std.specs.Int.RustNames.{count_ones}
 use Rattle.std.specs.List.{range_with_len, count_by}
@@ -59,7 +59,7 @@ plus_none : (k : ℕ) → k ≡ 0 + k
 plus_none k = omega arith
 
 -- a run of places is one run and the next
-joined : (p : ℕ → Bool) (s m n : ℕ) → count_by p (range_with_len s (m + n)) ≡ count_by p (range_with_len s m) + count_by p (range_with_len (s + m) n)
+pub joined : (p : ℕ → Bool) (s m n : ℕ) → count_by p (range_with_len s (m + n)) ≡ count_by p (range_with_len s m) + count_by p (range_with_len (s + m) n)
 joined p s zero n = ap (λ (k : ℕ). count_by p (range_with_len s k)) (none_plus n) ∙ ap (λ (k : ℕ). count_by p (range_with_len k n)) (plus_zero s) ∙ plus_none (count_by p (range_with_len (s + 0) n))
 joined p s (suc m) n =
     ap (λ (k : ℕ). count_by p (range_with_len s k)) (one_more m n)
@@ -77,11 +77,16 @@ count_more p k word fits same =
     ∙ joined p 0 (k * 64) 64
     ∙ ap (λ (n : ℕ). count_by p (range_with_len 0 (k * 64)) + n) here
 
--- the ones so far fit, since there are no more than places
-pub count_fits : (p : ℕ → Bool) (k n word total : ℕ) → word < 2 ^ 64 → ((j : ℕ) → j < 64 → p (k * 64 + j) ≡ bit_in word j) → k < n → n * 64 < 2 ^ 64 → total ≡ count_by p (range_with_len 0 (k * 64)) → total + count_ones word < 2 ^ 64
-count_fits p k n word total fits same below narrow is =
-    let most : count_by p (range_with_len 0 ((k + 1) * 64)) ≤ (k + 1) * 64 = omega (arith, count_by-le-length p (range_with_len 0 ((k + 1) * 64)), length-range_with_len 0 ((k + 1) * 64)) in
-    omega (arith, most, count_more p k word fits same, is, below, narrow)
+-- the ones so far fit, since they are no more than all
+pub count_fits : (p : ℕ → Bool) (k n word total : ℕ) → word < 2 ^ 64 → ((j : ℕ) → j < 64 → p (k * 64 + j) ≡ bit_in word j) → k < n → count_by p (range_with_len 0 (n * 64)) < 2 ^ 64 → total ≡ count_by p (range_with_len 0 (k * 64)) → total + count_ones word < 2 ^ 64
+count_fits p k n word total fits same below few is =
+    let size : n * 64 ≡ (k + 1) * 64 + (n - (k + 1)) * 64 = omega (arith, below) in
+    let all : count_by p (range_with_len 0 (n * 64)) ≡ count_by p (range_with_len 0 ((k + 1) * 64)) + count_by p (range_with_len (0 + (k + 1) * 64) ((n - (k + 1)) * 64)) = ap (λ (m : ℕ). count_by p (range_with_len 0 m)) size ∙ joined p 0 ((k + 1) * 64) ((n - (k + 1)) * 64) in
+    omega (arith, all, count_more p k word fits same, is, few)
+
+-- no more places are true than there are
+pub true_places-le : (p : ℕ → Bool) (n : ℕ) → count_by p (range_with_len 0 n) ≤ n
+true_places-le p n = omega (arith, count_by-le-length p (range_with_len 0 n), length-range_with_len 0 n)
 
 pub both_in : (a b : List ℕ) (k j : ℕ) → j < 64 → (place a (k * 64 + j) && place b (k * 64 + j)) ≡ bit_in (bit_and (slice_index_or a k 0) (slice_index_or b k 0)) j
 both_in a b k j h =

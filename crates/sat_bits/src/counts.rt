@@ -5,7 +5,7 @@ ghost use Rattle.sat_bits.specs.Places.{place};
 
 /// The number of true places.
 pub fn count(a: &[u64]) -> usize
-    requires { length a.now * 64 < 2 ^ 64 }
+    requires { count_by (place a.now) (range_with_len 0 (length a.now * 64)) < 2 ^ 64 }
     ensures { result ≡ count_by (place a.now) (range_with_len 0 (length a.now * 64)) }
 {
     let mut total = 0;
@@ -17,7 +17,7 @@ pub fn count(a: &[u64]) -> usize
 
 /// The number of places that are true in both rows.
 pub fn count_and(a: &[u64], b: &[u64]) -> usize
-    requires narrow { length a.now * 64 < 2 ^ 64 }
+    requires few { count_by (λ i. place a.now i && place b.now i) (range_with_len 0 (length a.now * 64)) < 2 ^ 64 }
     requires second { length b.now ≡ length a.now }
     ensures { result ≡ count_by (λ i. place a.now i && place b.now i) (range_with_len 0 (length a.now * 64)) }
 {

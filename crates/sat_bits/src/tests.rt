@@ -1,9 +1,22 @@
-ghost use Rattle.std.specs.Prelude.{◌<◌, ◌≤◌};
+ghost use Rattle.std.specs.Prelude.{◌≡◌, ◌<◌, ◌≤◌, length};
 
 use super::*;
 use std::process::Abort;
 
 const ALL: [u64; 17] = [u64::MAX; 17];
+
+fn ones(row: &[u64]) -> usize
+    requires { length row.now ≤ 17 }
+{
+    count(row)
+}
+
+fn shared(a: &[u64], b: &[u64]) -> usize
+    requires few { length a.now ≤ 17 }
+    requires second { length b.now ≡ length a.now }
+{
+    count_and(a, b)
+}
 
 // Each call on as many words, before and after one place of the last word is changed.
 fn check_width(rt: &impl Abort, words: usize)
@@ -11,7 +24,7 @@ fn check_width(rt: &impl Abort, words: usize)
 {
     let full = &ALL[..words];
     let mut holed = ALL;
-    assert_eq!(rt; count(full), words * 64);
+    assert_eq!(rt; ones(full), words * 64);
     assert!(rt; is_subset(full, &holed[..words]));
     if words == 0 {
         return;
@@ -23,8 +36,8 @@ fn check_width(rt: &impl Abort, words: usize)
     assert!(rt; is_subset(holed, full) && !is_subset(full, holed));
     assert!(rt; is_subset_of_and(full, holed, holed));
     assert!(rt; !is_subset_of_and(full, full, holed));
-    assert_eq!(rt; count(holed), words * 64 - 1);
-    assert_eq!(rt; count_and(full, holed), words * 64 - 1);
+    assert_eq!(rt; ones(holed), words * 64 - 1);
+    assert_eq!(rt; shared(full, holed), words * 64 - 1);
     let mut both = [0; 17];
     and_into(&mut both[..words], full, holed);
     assert!(rt; is_subset(&both[..words], holed) && is_subset(holed, &both[..words]));

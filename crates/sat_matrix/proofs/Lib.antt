@@ -1,2 +1,4 @@
-pub mod Flat
+pub mod WordRows
+pub mod BitRows
+pub mod WrittenRows
 pub mod Counting

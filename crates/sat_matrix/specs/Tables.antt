@@ -1,4 +1,4 @@
-use Rattle.std.specs.Prelude.{◌≡◌, ◌≢◌, ℕ, ◌+◌, ◌*◌, ◌^◌, ◌<◌, ◌≤◌, Bool, true, false, ◌&&◌, List, [], ◌∷◌, length, map, take, drop, IsTrue, slice_index_or}
+use Rattle.std.specs.Prelude.{◌≡◌, ◌≢◌, ℕ, ◌<◌, Bool, true, false, ◌&&◌, List, [], ◌∷◌, length, map, IsTrue, slice_index_or}
 use Rattle.std.specs.List.{range_with_len}
 
 -- rows of truth values with a place for each column, and how many rows can be appended without memory
@@ -15,28 +15,11 @@ bits_of rows i = slice_index_or rows i []
 abbrev pub bit_at : List (List Bool) → ℕ → ℕ → Bool
 bit_at rows i j = slice_index_or (bits_of rows i) j false
 
--- n rows of w places each, one after another
-abbrev pub rows_of : ℕ → ℕ → List Bool → List (List Bool)
-rows_of w n bits = map (λ i. take w (drop (i * w) bits)) (range_with_len 0 n)
-
--- the rows fill the places that are taken, and there is room for the rows that can be appended
-pub record IsLaidOut (columns count spare len capacity : ℕ) : Type 0 where
-  pub taken : len ≡ count * columns
-  pub room : (count + spare) * columns ≤ capacity
-  pub counted : count + spare < 2 ^ 64
-
 -- where both rows are true, place by place
 abbrev pub conjunction : List Bool → List Bool → List Bool
 conjunction [] ys = []
 conjunction (x ∷ xs) [] = []
 conjunction (x ∷ xs) (y ∷ ys) = (x && y) ∷ conjunction xs ys
-
--- the elements that are marked, in order
-abbrev pub marked : {X : Type 0} → List Bool → List X → List X
-marked [] xs = []
-marked (keep ∷ marks) [] = []
-marked (true ∷ marks) (x ∷ xs) = x ∷ marked marks xs
-marked (false ∷ marks) (x ∷ xs) = marked marks xs
 
 -- the columns of a table as rows
 abbrev pub transposed : ℕ → List (List Bool) → List (List Bool)

@@ -1,8 +1,9 @@
-//! Tables of truth values, with rows of one width that are appended without memory once it is reserved.
+//! Tables of truth values, with a row for each ray and a column for each constraint.
 //!
-//! - [`SatMatrix`] keeps the rows, and finds a third row that covers the conjunction of two.
+//! - [`SatMatrix`] keeps the rows as bits, and is appended to without memory once it is reserved.
 #![tactic(auto)]
 
 mod matrix;
+mod words;
 
 pub use matrix::SatMatrix;

@@ -1,5 +1,5 @@
 ghost use Rattle.std.specs.Prelude.{◌≡◌, ◌<◌, length, IfOk};
-ghost use Rattle.row_store.specs.Stores.{Store};
+ghost use Rattle.row_core.specs.Flat.{Flat};
 
 use super::*;
 use std::marker::Brand;

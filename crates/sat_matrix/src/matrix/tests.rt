@@ -51,3 +51,21 @@ fn third_row(rt: HostRuntime) -> Result<(), Fail> {
     assert!(rt; !table.third_between(0, 1));
     Ok(())
 }
+
+#[test]
+fn rows_of_several_words(rt: HostRuntime) -> Result<(), Fail> {
+    let mut table = SatMatrix::new(rt.alloc(), 63);
+    table.reserve(2)?;
+    table.push_reserved(true);
+    table.push_reserved(false);
+    table.add_column()?;
+    table.add_column()?;
+    table.set(0, 64, true);
+    table.set(1, 63, true);
+    assert_eq!(rt; table.columns(), 65);
+    assert_eq!(rt; table.len(), 2);
+    assert_eq!(rt; [table.ones(0), table.ones(1)], [64, 1]);
+    assert_eq!(rt; table.shared(0, 1), 0);
+    assert!(rt; table.get(0, 64) && !table.get(0, 63));
+    Ok(())
+}

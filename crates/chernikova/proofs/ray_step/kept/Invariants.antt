@@ -1,5 +1,5 @@
 use Rattle.std.proofs.Common.{◌≡◌, take, false}
-use Rattle.sat_matrix.specs.Tables.{marked}
+use Rattle.row_core.specs.Flat.{marked}
 use Rattle.row_core.specs.Lists.{vectors, AreMarked}
 use Rattle.chernikova.proofs.ray_step.kept.Given as goal
 

@@ -7,7 +7,7 @@ use Rattle.sat_bits.proofs.counts.count_and.Goals as goal
 pub overflow_add-total : goal.overflow_add-total
 overflow_add-total c =
     let fits = count_fits (λ (i : ℕ). place c.args.a.now i && place c.args.b.now i) c.loop-word.word (length c.args.a.now) (bit_and (slice_index_or c.args.a.now c.loop-word.word 0) (slice_index_or c.args.b.now c.loop-word.word 0)) c.loop-word.total (omega (arith, and_le_l (slice_index_or c.args.a.now c.loop-word.word 0) (slice_index_or c.args.b.now c.loop-word.word 0), (c.type_inv.a c.loop-word.word).fits))
-    (λ j h. both_in c.args.a.now c.args.b.now c.loop-word.word j h) (omega arith) c.requires.narrow c.loop-word.invariant.total in
+    (λ j h. both_in c.args.a.now c.args.b.now c.loop-word.word j h) (omega arith) c.requires.few c.loop-word.invariant.total in
     omega (arith, fits)
 
 pub loop-word-preserved : goal.loop-word-preserved

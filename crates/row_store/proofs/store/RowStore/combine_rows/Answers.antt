@@ -5,8 +5,10 @@ use Rattle.std.proofs.Common.{arith, sym, ap, ◌∙◌, subst}
 use Rattle.std.proofs.lemmas.Int.{to_z-of_z}
 use Rattle.std.proofs.lemmas.List.{take_at}
 use Rattle.std.proofs.lemmas.Result.{MatchResult-weaker}
-use Rattle.row_store.specs.Stores.{Store, window}
-use Rattle.row_store.proofs.Parts.{seen_store, IsCombinedRow, IsRowLeft, IsCombinedPart, IsPartLeft, row_within, rows_apart, combined_seen, left_seen}
+use Rattle.row_core.specs.Flat.{Flat}
+use Rattle.row_store.specs.Stores.{window}
+use Rattle.row_core.proofs.Flat.{seen_flat, row_within}
+use Rattle.row_store.proofs.Parts.{IsCombinedRow, IsRowLeft, IsCombinedPart, IsPartLeft, rows_apart, combined_seen, left_seen}
 use Rattle.row_store.proofs.store.RowStore.combine_rows.Goals as goal
 
 pub overflow_mul-to : goal.overflow_mul-to
@@ -31,14 +33,14 @@ returns-clause-combined g c =
     let w : ℕ = c.self.inside.width in
     let value = c.as_mut_slice.ensures.value in
     let combined = simp to_z-of_z at c.combine_parts.ensures.combined in
-    let old : Store = c.args.self.now in
+    let old : Flat ℤ = c.args.self.now in
     let held : List ℤ = c.self.inside.cells.items in
     let new : List ℤ = c.combine_parts.new.cells in
     let len : length held ≡ c.self.inside.cells.len = sym c.self.inside.cells.ok.0 in
     let whole : c.self.inside.cells.len ≡ length new = sym len ∙ ap length (sym value) ∙ sym c.combine_parts.auto.cells in
     let left : new ≡ take c.self.inside.cells.len (new ++ drop (length new) held) =
     sym (ap (λ (n : ℕ). take n (new ++ drop (length new) held)) whole ∙ take_at new (drop (length new) held) (length new) refl) in
-    let seen_as : List ℤ → Store = λ cs. seen_store w c.self.inside.count c.self.inside.spare cs in
+    let seen_as : List ℤ → Flat ℤ = λ cs. seen_flat w c.self.inside.count c.self.inside.spare cs in
     subst (λ (cs : List ℤ). MatchResult c.combine_parts.result (λ x. IsCombinedRow c.args.s c.args.t c.args.i c.args.j old (seen_as cs)) (λ y. IsRowLeft c.args.s c.args.t c.args.i c.args.j old (seen_as cs) y)) left
     (MatchResult-weaker c.combine_parts.result combined
     (λ x h. combined_seen w c.self.inside.count c.self.inside.spare _ _ c.args.i c.args.j c.args.s c.args.t held new old c.self.invariant.laid len c.self.view_is c.requires.first c.requires.second

@@ -1,7 +1,6 @@
 use Rattle.std.proofs.Common.{◌≡◌, ◌*◌, length, pos, arith, sym, ◌∙◌}
-use Rattle.row_store.proofs.Parts.{row_within, seen}
+use Rattle.row_core.proofs.Flat.{row_within, seen, copy_seen}
 use Rattle.row_store.proofs.ChangedRows.{in_range_copied}
-use Rattle.row_store.proofs.KeptRows.{copy_seen}
 use Rattle.row_store.proofs.store.RowStore.copy_row.Goals as goal
 
 pub overflow_mul-start : goal.overflow_mul-start
@@ -40,7 +39,7 @@ invariant_of-self c =
 
 pub returns : goal.returns
 returns c =
-    copy_seen _ _ _ _ _ _ _ _ _ _ c.self.invariant.laid (sym c.self.inside.cells.ok.0) (sym c.copy_within.new.self.ok.0 ∙ c.copy_within.ensures.len) c.self.view_is c.requires.from c.requires.to (record {
+    copy_seen (pos 0) _ _ _ _ _ _ _ _ _ _ c.self.invariant.laid (sym c.self.inside.cells.ok.0) (sym c.copy_within.new.self.ok.0 ∙ c.copy_within.ensures.len) c.self.view_is c.requires.from c.requires.to (record {
       copied = λ k from_start to_end. c.copy_within.ensures.by_index.0 k (pos 0) from_start (omega arith);
       below = λ k before. c.copy_within.ensures.by_index.1 k (pos 0) before;
       above = λ k after. c.copy_within.ensures.by_index.2 k (pos 0) (omega arith);

@@ -1,7 +1,7 @@
-use Rattle.std.proofs.Common.{◌≡◌, ◌+◌, ◌∙◌, length, take, drop, set, ap, arith}
+use Rattle.std.proofs.Common.{◌≡◌, ℤ, ◌+◌, ◌∙◌, length, take, drop, set, ap, arith}
 use Rattle.std.proofs.lemmas.List.{length-set}
-use Rattle.row_store.specs.Stores.{Store, entries_at}
-use Rattle.row_store.proofs.KeptRows.{keep_step, keep_rest, skip_step, skip_rest}
+use Rattle.row_core.specs.Flat.{Flat, entries_at}
+use Rattle.row_core.proofs.Flat.{keep_step, keep_rest, skip_step, skip_rest}
 use Rattle.row_store.proofs.store.RowStore.keep_rows.Goals as goal
 use Rattle.row_store.proofs.store.RowStore.keep_rows.Goals.{then-keep-row, else-keep-row}
 
@@ -16,19 +16,19 @@ loop-row-preserved c =
       | then-keep-row w ↦
           let new : c.if-keep-row.self ≡ record c.loop-row.self { rows = set rows kept (entries_at rows row) } = w.self-is ∙ w.copy_row.ensures in
           record {
-            width = ap (λ (t : Store). t.width) new ∙ inv.width;
-            spare = ap (λ (t : Store). t.spare) new ∙ inv.spare;
-            length = ap (λ (t : Store). length t.rows) new ∙ length-set rows kept (entries_at rows row) ∙ inv.length;
+            width = ap (λ (t : Flat ℤ). t.width) new ∙ inv.width;
+            spare = ap (λ (t : Flat ℤ). t.spare) new ∙ inv.spare;
+            length = ap (λ (t : Flat ℤ). length t.rows) new ∙ length-set rows kept (entries_at rows row) ∙ inv.length;
             within = omega (arith, inv.within);
-            kept = ap (λ k. take k c.if-keep-row.self.rows) w.kept-is ∙ ap (λ (t : Store). take (kept + 1) t.rows) new ∙ keep_step row kept c.args.keep.now old rows c.loop-row-test.true (omega arith) inv.length inv.within inv.kept inv.rest w.if-keep-row.true;
-            rest = ap (λ (t : Store). drop (row + 1) t.rows) new ∙ keep_rest row kept old rows (entries_at rows row) (omega arith) inv.length inv.within inv.rest;
+            kept = ap (λ k. take k c.if-keep-row.self.rows) w.kept-is ∙ ap (λ (t : Flat ℤ). take (kept + 1) t.rows) new ∙ keep_step row kept c.args.keep.now old rows c.loop-row-test.true (omega arith) inv.length inv.within inv.kept inv.rest w.if-keep-row.true;
+            rest = ap (λ (t : Flat ℤ). drop (row + 1) t.rows) new ∙ keep_rest row kept old rows (entries_at rows row) (omega arith) inv.length inv.within inv.rest;
           }
       | else-keep-row w ↦ record {
-        width = ap (λ (t : Store). t.width) w.self-is ∙ inv.width;
-        spare = ap (λ (t : Store). t.spare) w.self-is ∙ inv.spare;
-        length = ap (λ (t : Store). length t.rows) w.self-is ∙ inv.length;
+        width = ap (λ (t : Flat ℤ). t.width) w.self-is ∙ inv.width;
+        spare = ap (λ (t : Flat ℤ). t.spare) w.self-is ∙ inv.spare;
+        length = ap (λ (t : Flat ℤ). length t.rows) w.self-is ∙ inv.length;
         within = omega (arith, inv.within);
-        kept = ap (λ k. take k c.if-keep-row.self.rows) w.kept-is ∙ ap (λ (t : Store). take kept t.rows) w.self-is ∙ skip_step row kept c.args.keep.now old rows c.loop-row-test.true (omega arith) inv.kept w.if-keep-row.false;
-        rest = ap (λ (t : Store). drop (row + 1) t.rows) w.self-is ∙ skip_rest row old rows inv.rest;
+        kept = ap (λ k. take k c.if-keep-row.self.rows) w.kept-is ∙ ap (λ (t : Flat ℤ). take kept t.rows) w.self-is ∙ skip_step row kept c.args.keep.now old rows c.loop-row-test.true (omega arith) inv.kept w.if-keep-row.false;
+        rest = ap (λ (t : Flat ℤ). drop (row + 1) t.rows) w.self-is ∙ skip_rest row old rows inv.rest;
       }
     ]

@@ -1,5 +1,5 @@
 use Rattle.std.proofs.Common.{◌≡◌, ◌≤◌, take, drop, length}
-use Rattle.sat_matrix.specs.Tables.{marked}
+use Rattle.row_core.specs.Flat.{marked}
 use Rattle.row_store.proofs.store.RowStore.keep_rows.Given as goal
 
 abbrev pub invariant-loop-row : goal.invariant-loop-row

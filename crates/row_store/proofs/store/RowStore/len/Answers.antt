@@ -1,5 +1,5 @@
 use Rattle.std.proofs.Common.{sym}
-use Rattle.row_store.proofs.Parts.{seen}
+use Rattle.row_core.proofs.Flat.{seen}
 use Rattle.row_store.proofs.store.RowStore.len.Goals as goal
 
 pub returns : goal.returns

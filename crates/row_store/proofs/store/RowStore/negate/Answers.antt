@@ -2,7 +2,7 @@ use Rattle.std.specs.Prelude.{◌≡◌, ℕ, ℤ, List, ◌*◌, length}
 use Rattle.std.proofs.Common.{arith, sym, ap, ◌∙◌, subst}
 use Rattle.row_store.specs.Stores.{IsNegated}
 use Rattle.row_store.specs.Stores.{IsPartChanged}
-use Rattle.row_store.proofs.Parts.{row_within}
+use Rattle.row_core.proofs.Flat.{row_within}
 use Rattle.row_store.proofs.ChangedRows.{given_back, changed_seen}
 use Rattle.row_store.proofs.store.RowStore.negate.Goals as goal
 

@@ -1,8 +1,9 @@
 use Rattle.std.proofs.Common.{◌≡◌, ℕ, ◌+◌, ◌-◌, ◌*◌, List, ℤ, arith, sym, ap, subst}
 use Rattle.std.proofs.lemmas.List.Elements.{All-append, All-take, All-drop}
 use Rattle.row_core.specs.Range.{InRange, AllInRange}
-use Rattle.row_store.specs.Stores.{Store, window}
-use Rattle.row_store.proofs.Parts.{row_within}
+use Rattle.row_core.specs.Flat.{Flat}
+use Rattle.row_store.specs.Stores.{window}
+use Rattle.row_core.proofs.Flat.{row_within}
 use Rattle.row_store.proofs.ChangedRows.{push_copy_seen}
 use Rattle.row_store.proofs.store.RowStore.push_copy.Goals as goal
 
@@ -17,7 +18,7 @@ invariant_of-self c =
     let w = c.self.inside.width in
     let held : List ℤ = c.self.inside.cells.items in
     let all : AllInRange held = c.self.invariant.in_range in
-    let spare : c.args.self.now.spare ≡ c.self.inside.spare = ap (λ (t : Store). t.spare) (sym c.self.view_is) in
+    let spare : c.args.self.now.spare ≡ c.self.inside.spare = ap (λ (t : Flat ℤ). t.spare) (sym c.self.view_is) in
     let rows : c.self.inside.count + 1 + (c.self.inside.spare - 1) ≡ c.self.inside.count + c.self.inside.spare = omega (arith, spare, c.requires.spare) in
     record {
       laid = record {

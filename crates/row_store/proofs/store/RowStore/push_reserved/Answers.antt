@@ -1,5 +1,5 @@
 use Rattle.std.proofs.Common.{sym, ◌∙◌}
-use Rattle.row_store.proofs.Parts.{seen, push_seen}
+use Rattle.row_core.proofs.Flat.{seen, push_seen}
 use Rattle.row_store.proofs.store.RowStore.push_reserved.Goals as goal
 
 pub returns-clause-rows : goal.returns-clause-rows

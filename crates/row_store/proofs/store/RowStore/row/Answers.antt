@@ -1,7 +1,7 @@
 use Rattle.std.proofs.Common.{◌≡◌, ◌+◌, ◌-◌, ◌*◌, ◌<◌, arith, sym, subst}
 use Rattle.std.proofs.lemmas.List.Elements.{All-take, All-drop}
 use Rattle.row_core.specs.Range.{InRange, AllInRange}
-use Rattle.row_store.proofs.Parts.{seen, row_within}
+use Rattle.row_core.proofs.Flat.{seen, row_within}
 use Rattle.row_store.proofs.store.RowStore.row.Goals as goal
 
 pub overflow_mul-start : goal.overflow_mul-start

@@ -1,9 +1,8 @@
-use Rattle.std.proofs.Common.{◌≡◌, ◌*◌, ◌≤◌, vec_len, arith, sym, subst}
+use Rattle.std.proofs.Common.{◌≡◌, ◌*◌, ◌≤◌, vec_len, pos, arith, sym, subst}
 use Rattle.std.proofs.lemmas.List.Elements.{All-take}
 use Rattle.row_core.specs.Range.{InRange, AllInRange}
 use Rattle.std.proofs.Math.Nat.{mul-le-mul_right}
-use Rattle.row_store.proofs.Parts.{seen}
-use Rattle.row_store.proofs.KeptRows.{take_seen, laid_out-take}
+use Rattle.row_core.proofs.Flat.{seen, take_seen, laid_out-take}
 use Rattle.row_store.proofs.store.RowStore.truncate.Goals as goal
 
 pub overflow_mul-count : goal.overflow_mul-count
@@ -28,4 +27,4 @@ invariant_of-self c =
 pub returns : goal.returns
 returns c =
     rw c.truncate.ensures.items
-    (take_seen _ _ _ _ _ c.args.count _ _ c.self.invariant.laid (sym c.self.inside.cells.ok.0) c.self.view_is c.requires)
+    (take_seen (pos 0) _ _ _ _ _ c.args.count _ _ c.self.invariant.laid (sym c.self.inside.cells.ok.0) c.self.view_is c.requires)

@@ -1,34 +1,14 @@
-use Rattle.std.proofs.Common.{◌≡◌, ◌+◌, ◌∙◌, length, take, drop, set, ap, arith}
-use Rattle.std.proofs.lemmas.List.{length-set}
-use Rattle.sat_matrix.specs.Tables.{Table, bits_of}
-use Rattle.sat_matrix.proofs.Flat.{keep_step, keep_rest, skip_step, skip_rest}
+use Rattle.std.proofs.Common.{List, ℕ, arith, sym, subst}
+use Rattle.std.specs.Prelude.{All}
+use Rattle.sat_matrix.specs.Words.{IsPadded}
+use Rattle.sat_matrix.proofs.BitRows.{kept_seen, all_marked}
 use Rattle.sat_matrix.proofs.matrix.SatMatrix.keep_rows.Goals as goal
-use Rattle.sat_matrix.proofs.matrix.SatMatrix.keep_rows.Goals.{then-keep-row, else-keep-row}
 
-pub loop-row-preserved : goal.loop-row-preserved
-loop-row-preserved c =
-    let inv = c.loop-row.invariant in
-    let row = c.loop-row.row in
-    let kept = c.loop-row.kept in
-    let rows = c.loop-row.self.rows in
-    let old = c.args.self.now.rows in
-    elim c.if-keep-row.branch [
-      | then-keep-row w ↦
-          let new : c.if-keep-row.self ≡ record c.loop-row.self { rows = set rows kept (bits_of rows row) } = w.self-is ∙ w.copy_row.ensures in
-          record {
-            columns = ap (λ (t : Table). t.columns) new ∙ inv.columns;
-            spare = ap (λ (t : Table). t.spare) new ∙ inv.spare;
-            length = ap (λ (t : Table). length t.rows) new ∙ length-set rows kept (bits_of rows row) ∙ inv.length;
-            within = omega (arith, inv.within);
-            kept = ap (λ k. take k c.if-keep-row.self.rows) w.kept-is ∙ ap (λ (t : Table). take (kept + 1) t.rows) new ∙ keep_step row kept c.args.keep.now old rows c.loop-row-test.true (omega arith) inv.length inv.within inv.kept inv.rest w.if-keep-row.true;
-            rest = ap (λ (t : Table). drop (row + 1) t.rows) new ∙ keep_rest row kept old rows (bits_of rows row) (omega arith) inv.length inv.within inv.rest;
-          }
-      | else-keep-row w ↦ record {
-        columns = ap (λ (t : Table). t.columns) w.self-is ∙ inv.columns;
-        spare = ap (λ (t : Table). t.spare) w.self-is ∙ inv.spare;
-        length = ap (λ (t : Table). length t.rows) w.self-is ∙ inv.length;
-        within = omega (arith, inv.within);
-        kept = ap (λ k. take k c.if-keep-row.self.rows) w.kept-is ∙ ap (λ (t : Table). take kept t.rows) w.self-is ∙ skip_step row kept c.args.keep.now old rows c.loop-row-test.true (omega arith) inv.kept w.if-keep-row.false;
-        rest = ap (λ (t : Table). drop (row + 1) t.rows) w.self-is ∙ skip_rest row old rows inv.rest;
-      }
-    ]
+pub invariant_of-self : goal.invariant_of-self
+invariant_of-self c = record {
+  within = omega (arith, c.self.invariant.within, c.keep_rows.ensures.width);
+  padded = subst (λ (rs : List (List ℕ)). All (IsPadded c.self.inside.columns) rs) (sym c.keep_rows.ensures.rows) (all_marked (IsPadded c.self.inside.columns) c.args.keep.now c.self.inside.words.rows c.self.invariant.padded);
+}
+
+pub returns-clause-rows : goal.returns-clause-rows
+returns-clause-rows c = kept_seen c.self.inside.columns c.self.inside.words c.keep_rows.new.self c.args.self.now c.args.keep.now c.self.view_is c.keep_rows.ensures.rows

@@ -1,20 +1,23 @@
-use Rattle.std.proofs.Common.{arith, sym}
-use Rattle.sat_matrix.proofs.Flat.{row_within, push_and_seen}
+use Rattle.std.proofs.Common.{◌<◌, List, [], ℕ, length, arith, sym, subst, ◌∙◌}
+use Rattle.std.specs.Prelude.{All}
+use Rattle.std.proofs.lemmas.List.Elements.{All-append, All-cons, All-nil}
+use Rattle.row_core.specs.Flat.{entries_at}
+use Rattle.sat_matrix.specs.Words.{and_words, IsPadded}
+use Rattle.sat_matrix.proofs.BitRows.{seen_in, and_seen, padded_and}
 use Rattle.sat_matrix.proofs.matrix.SatMatrix.push_and.Goals as goal
 
-pub overflow_mul-i : goal.overflow_mul-i
-overflow_mul-i c = omega (arith, row_within _ _ _ _ _ c.args.i _ _ c.self.invariant c.self.view_is c.requires.first)
-
-pub overflow_mul-j : goal.overflow_mul-j
-overflow_mul-j c = omega (arith, row_within _ _ _ _ _ c.args.j _ _ c.self.invariant c.self.view_is c.requires.second)
-
-pub append_and-requires-clause-left : goal.append_and-requires-clause-left
-append_and-requires-clause-left c = omega (arith, row_within _ _ _ _ _ c.args.i _ _ c.self.invariant c.self.view_is c.requires.first)
-
-pub append_and-requires-clause-right : goal.append_and-requires-clause-right
-append_and-requires-clause-right c = omega (arith, row_within _ _ _ _ _ c.args.j _ _ c.self.invariant c.self.view_is c.requires.second)
+pub invariant_of-self : goal.invariant_of-self
+invariant_of-self c =
+    let columns = c.self.inside.columns in
+    let rows = c.self.inside.words.rows in
+    let k = seen_in columns c.self.inside.words c.args.self.now c.self.view_is in
+    let in_i : c.args.i < length rows = omega (arith, k.count, c.requires.first) in
+    let in_j : c.args.j < length rows = omega (arith, k.count, c.requires.second) in
+    let both : IsPadded columns (and_words (entries_at rows c.args.i) (entries_at rows c.args.j)) = padded_and columns (entries_at rows c.args.i) (entries_at rows c.args.j) (c.push_and.ensures.rectangular c.args.i in_i ∙ sym (c.push_and.ensures.rectangular c.args.j in_j)) (c.self.invariant.padded c.args.i [] in_i) in
+    record {
+      within = omega (arith, c.self.invariant.within, c.push_and.ensures.width);
+      padded = subst (λ (rs : List (List ℕ)). All (IsPadded columns) rs) (sym c.push_and.ensures.rows) (All-append (IsPadded columns) rows _ c.self.invariant.padded (All-cons (IsPadded columns) _ [] both (All-nil (IsPadded columns))));
+    }
 
 pub returns-clause-rows : goal.returns-clause-rows
-returns-clause-rows c =
-    rw c.append_and.ensures.items
-    (push_and_seen _ _ _ _ _ _ _ c.args.i c.args.j c.self.invariant (sym c.self.inside.bits.ok.0) c.self.view_is c.requires.first c.requires.second)
+returns-clause-rows c = and_seen c.self.inside.columns c.self.inside.words c.push_and.new.self c.args.self.now c.args.i c.args.j c.push_and.ensures.rectangular c.self.view_is c.requires.first c.requires.second c.push_and.ensures.rows

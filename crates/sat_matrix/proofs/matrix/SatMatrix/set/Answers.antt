@@ -1,19 +1,17 @@
-use Rattle.std.proofs.Common.{arith}
-use Rattle.sat_matrix.proofs.Flat.{seen, row_within, set_seen}
+use Rattle.std.proofs.Common.{◌≡◌, ◌<◌, ◌/◌, List, ℕ, length, set, slice_index_or, arith, ap, ◌∙◌}
+use Rattle.sat_bits.specs.Places.{bit_in}
+use Rattle.row_core.specs.Flat.{Flat, entries_at}
+use Rattle.sat_matrix.specs.Words.{IsPlaceSet}
+use Rattle.sat_matrix.proofs.BitRows.{seen_in, seen_bits, place_set, set_in}
 use Rattle.sat_matrix.proofs.matrix.SatMatrix.set.Goals as goal
 
-pub overflow_mul-start : goal.overflow_mul-start
-overflow_mul-start c = omega (arith, row_within _ _ _ _ _ c.args.row _ _ c.self.invariant c.self.view_is c.requires.row)
-
-pub overflow_add-start : goal.overflow_add-start
-overflow_add-start c =
-    let k = seen _ _ _ _ _ c.self.view_is in
-    omega (arith, k.columns, row_within _ _ _ _ _ c.args.row _ _ c.self.invariant c.self.view_is c.requires.row)
-
-pub index_mut-requires : goal.index_mut-requires
-index_mut-requires c =
-    let k = seen _ _ _ _ _ c.self.view_is in
-    omega (arith, k.columns, row_within _ _ _ _ _ c.args.row _ _ c.self.invariant c.self.view_is c.requires.row)
-
 pub returns : goal.returns
-returns c = set_seen _ _ _ _ _ _ _ c.args.row c.args.column c.args.bit c.self.invariant c.self.view_is c.requires.row c.requires.column
+returns c =
+    let columns = c.self.inside.columns in
+    let words = c.self.inside.words in
+    let k = seen_in columns words c.args.self.now c.self.view_is in
+    let old : List ℕ = entries_at words.rows c.args.row in
+    let read : c.row.result.now ≡ old = c.row.ensures.values in
+    let inside : c.args.column / 64 < length old = omega (arith, ap length read, c.row.ensures.wide, c.self.invariant.within, k.wide, c.requires.column) in
+    let p : IsPlaceSet c.args.column c.args.bit old (set old (c.args.column / 64) c.with_bit.result) = place_set old c.args.column c.with_bit.result c.args.bit inside c.with_bit.ensures.same (λ j h other. c.with_bit.ensures.others j h other ∙ ap (λ (r : List ℕ). bit_in (slice_index_or r (c.args.column / 64) 0) j) read) in
+    ap (λ (w : Flat ℕ). seen_bits columns w) c.put.ensures ∙ set_in columns words c.args.self.now c.args.row c.args.column c.args.bit (set old (c.args.column / 64) c.with_bit.result) c.self.view_is c.requires.row c.requires.column p

@@ -2,7 +2,6 @@ use Rattle.std.proofs.Common.{subst, arith, below_more}
 use Rattle.std.proofs.lemmas.Bool.{false≢true}
 use Rattle.std.specs.Prelude.{IsTrue}
 use Rattle.sat_matrix.specs.Tables.{IsThird}
-use Rattle.sat_matrix.proofs.Flat.{Covers_along}
 use Rattle.sat_matrix.proofs.matrix.SatMatrix.third_between.Goals as goal
 use Rattle.sat_matrix.proofs.matrix.SatMatrix.third_between.Goals.{else-k-i-via-then-k-i+then-k-j+else-covers, else-k-i-via-then-k-i+else-k-j, else-k-i-via-else-k-i}
 
@@ -11,7 +10,7 @@ loop-k-preserved c =
     below_more _ _ c.loop-k.invariant
     (λ third. elim c.else-k-i.branch [
       | else-k-i-via-then-k-i+then-k-j+else-covers w ↦
-          false≢true (subst IsTrue w.if-covers.false (w.covers.ensures.1 (Covers_along _ _ _ _ _ _ w.row.ensures.values w.row-then-k-j.ensures.values w.row-then-k-j-2.ensures.values third.covers)))
+          false≢true (subst IsTrue w.if-covers.false (w.covers.ensures.1 third.covers))
       | else-k-i-via-then-k-i+else-k-j w ↦ third.not_second (omega (arith, w.if-k-j.false))
       | else-k-i-via-else-k-i w ↦ third.not_first (omega (arith, w.if-k-i.false))
     ])

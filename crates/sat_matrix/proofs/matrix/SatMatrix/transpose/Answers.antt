@@ -1,5 +1,5 @@
 use Rattle.std.proofs.Common.{ap, ◌∙◌, ◌++◌, ◌∷◌, [], map, false, get_or, sym, arith}
-use Rattle.sat_matrix.proofs.Flat.{transposed_more}
+use Rattle.sat_matrix.proofs.BitRows.{transposed_more}
 use Rattle.sat_matrix.proofs.matrix.SatMatrix.transpose.Goals as goal
 
 pub loop-column-preserved : goal.loop-column-preserved

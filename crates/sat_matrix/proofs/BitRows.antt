@@ -1,0 +1,275 @@
+-- Rows of truth values in rows of words.
+use Rattle.std.proofs.Common.{◌≡◌, ◌≢◌, ℕ, suc, zero, ◌+◌, ◌/◌, ◌%◌, ◌<◌, ◌≤◌, Bool, true, false, ◌&&◌, bit_and, IsTrue, List, [], ◌∷◌, ◌++◌, length, get_or, set, map, replicate, nat_eq, refl, sym, ap, inl, inr, ◌⊎◌, subst, ◌∙◌, arith}
+use Rattle.std.specs.Prelude.{All}
+use Rattle.std.proofs.lemmas.List.{ext_get_or, get_or-map, length-map, map-append, map-set, length-set, get_or-set_same, get_or-set_other, length-replicate, get_or-replicate}
+use Rattle.std.proofs.lemmas.Nat.Bits.{bit_at-zero}
+use Rattle.std.proofs.lemmas.List.FromFn.{length-map-range_with_len, get_or-map-range_with_len, map-range_with_len_more}
+use Rattle.std.proofs.lemmas.List.Elements.{All-nil, All-cons, All-head, All-tail, All-map}
+use Rattle.std.proofs.lemmas.Bool.{cases_lt, cases_eq}
+use Rattle.sat_bits.specs.Places.{place, bit_in, IsSubsetOfAnd}
+use Rattle.sat_bits.proofs.PlaceLemmas.{places_and}
+use Rattle.sat_matrix.proofs.WordRows.{length-and_words}
+use Rattle.row_core.specs.Flat.{Flat, entries_at, HasOneWidth, marked}
+use Rattle.sat_matrix.specs.Tables.{Table, bits_of, bit_at, conjunction, transposed, Covers}
+use Rattle.sat_matrix.specs.Words.{bits_in, and_words, IsPadded, IsTable, IsPlaceSet}
+
+pub length-conjunction : (xs ys : List Bool) → length xs ≡ length ys → length (conjunction xs ys) ≡ length xs
+length-conjunction [] ys e = refl
+length-conjunction (x ∷ xs) [] e = absurd (omega (arith, e))
+length-conjunction (x ∷ xs) (y ∷ ys) e = ap (λ n. suc n) (length-conjunction xs ys (omega (arith, e)))
+
+pub Covers_along : (a b c a' b' c' : List Bool) → a' ≡ a → b' ≡ b → c' ≡ c → Covers a b c → Covers a' b' c'
+Covers_along a b c a' b' c' p q r h = let P : List Bool → Type 0 = λ x. Covers x b' c' in subst P (sym p) (let Q : List Bool → Type 0 = λ y. Covers a y c' in subst Q (sym q) (let R : List Bool → Type 0 = λ z. Covers a b z in subst R (sym r) h))
+
+pub length-bits_in : (columns : ℕ) (words : List ℕ) → length (bits_in columns words) ≡ columns
+length-bits_in columns words = length-map-range_with_len (place words) 0 columns
+
+pub bit_is : (columns : ℕ) (words : List ℕ) (j : ℕ) → j < columns → get_or (bits_in columns words) j false ≡ place words j
+bit_is columns words j h = get_or-map-range_with_len (place words) 0 columns j j false h (omega arith)
+
+pub bits_of-map : (columns : ℕ) (rows : List (List ℕ)) (i : ℕ) → i < length rows → bits_of (map (bits_in columns) rows) i ≡ bits_in columns (entries_at rows i)
+bits_of-map columns rows i h = get_or-map (bits_in columns) rows i [] [] h
+
+-- the table that is seen in rows of words
+abbrev pub seen_bits : ℕ → Flat ℕ → Table
+seen_bits columns words = record { columns = columns; rows = map (bits_in columns) words.rows; spare = words.spare }
+
+pub record IsSeenIn (columns : ℕ) (words : Flat ℕ) (t : Table) : Type 0 where
+  pub count : length t.rows ≡ length words.rows
+  pub wide : t.columns ≡ columns
+  pub spare : t.spare ≡ words.spare
+  pub row : (i : ℕ) → i < length words.rows → bits_of t.rows i ≡ bits_in columns (entries_at words.rows i)
+
+pub seen_in : (columns : ℕ) (words : Flat ℕ) (t : Table) → seen_bits columns words ≡ t → IsSeenIn columns words t
+seen_in columns words t e = record {
+  count = ap (λ (u : Table). length u.rows) (sym e) ∙ length-map words.rows (bits_in columns);
+  wide = ap (λ (u : Table). u.columns) (sym e);
+  spare = ap (λ (u : Table). u.spare) (sym e);
+  row = λ i h. ap (λ (u : Table). bits_of u.rows i) (sym e) ∙ bits_of-map columns words.rows i h;
+}
+
+pub rectangular_in : (columns : ℕ) (words : Flat ℕ) (t : Table) → seen_bits columns words ≡ t → (i : ℕ) → i < length t.rows → length (bits_of t.rows i) ≡ t.columns
+rectangular_in columns words t e i h =
+    let k = seen_in columns words t e in
+    ap length (k.row i (omega (arith, k.count, h))) ∙ length-bits_in columns (entries_at words.rows i) ∙ sym k.wide
+
+pub bit_seen : (columns : ℕ) (words : Flat ℕ) (t : Table) (i c : ℕ) → seen_bits columns words ≡ t → i < length t.rows → c < t.columns → place (entries_at words.rows i) c ≡ bit_at t.rows i c
+bit_seen columns words t i c e in_i in_c =
+    let k = seen_in columns words t e in
+    sym (ap (λ (r : List Bool). get_or r c false) (k.row i (omega (arith, k.count, in_i))) ∙ bit_is columns (entries_at words.rows i) c (omega (arith, k.wide, in_c)))
+
+-- ---- rows that cover
+no_truth : IsTrue false → ⊥
+no_truth h = grind (arith, h)
+
+covers_to : (columns : ℕ) (a b c : List ℕ) → IsSubsetOfAnd a b c → Covers (bits_in columns a) (bits_in columns b) (bits_in columns c)
+covers_to columns a b c f j h p q =
+    let l : j < columns = omega (arith, h, length-bits_in columns a) in
+    subst IsTrue (sym (bit_is columns c j l)) (f j (subst IsTrue (bit_is columns a j l) p) (subst IsTrue (bit_is columns b j l) q))
+
+covers_from : (columns : ℕ) (a b c : List ℕ) → IsPadded columns a → Covers (bits_in columns a) (bits_in columns b) (bits_in columns c) → IsSubsetOfAnd a b c
+covers_from columns a b c padded f i p q = by_order (cases_lt i columns)
+  where
+    by_order : (i < columns) ⊎ (columns ≤ i) → IsTrue (place c i)
+    by_order (inl l) = subst IsTrue (bit_is columns c i l) (f i (omega (arith, l, length-bits_in columns a)) (subst IsTrue (sym (bit_is columns a i l)) p) (subst IsTrue (sym (bit_is columns b i l)) q))
+    by_order (inr past) = absurd (no_truth (subst IsTrue (padded i past) p))
+
+pub covers_seen : (columns : ℕ) (words : Flat ℕ) (t : Table) (i j k : ℕ) (a b c : List ℕ) (S : Type 0) → IsTable columns words → seen_bits columns words ≡ t → i < length t.rows → j < length t.rows → k < length t.rows
+    → a ≡ entries_at words.rows i → b ≡ entries_at words.rows j → c ≡ entries_at words.rows k → (S → IsSubsetOfAnd a b c) × (IsSubsetOfAnd a b c → S)
+    → (S → Covers (bits_of t.rows i) (bits_of t.rows j) (bits_of t.rows k)) × (Covers (bits_of t.rows i) (bits_of t.rows j) (bits_of t.rows k) → S)
+covers_seen columns words t i j k a b c S table e in_i in_j in_k ea eb ec r =
+    let s = seen_in columns words t e in
+    let below : i < length words.rows = omega (arith, s.count, in_i) in
+    let ra : bits_of t.rows i ≡ bits_in columns a = s.row i below ∙ ap (bits_in columns) (sym ea) in
+    let rb : bits_of t.rows j ≡ bits_in columns b = s.row j (omega (arith, s.count, in_j)) ∙ ap (bits_in columns) (sym eb) in
+    let rc : bits_of t.rows k ≡ bits_in columns c = s.row k (omega (arith, s.count, in_k)) ∙ ap (bits_in columns) (sym ec) in
+    let padded : IsPadded columns a = subst (λ (w : List ℕ). IsPadded columns w) (sym ea) (table.padded i [] below) in (
+      λ h. Covers_along (bits_in columns a) (bits_in columns b) (bits_in columns c) (bits_of t.rows i) (bits_of t.rows j) (bits_of t.rows k) ra rb rc (covers_to columns a b c (r.0 h)),
+      λ h. r.1 (covers_from columns a b c padded (Covers_along (bits_of t.rows i) (bits_of t.rows j) (bits_of t.rows k) (bits_in columns a) (bits_in columns b) (bits_in columns c) (sym ra) (sym rb) (sym rc) h)),
+    )
+
+-- ---- one place
+pub place_set : (words : List ℕ) (c word : ℕ) (bit : Bool) → c / 64 < length words → bit_in word (c % 64) ≡ bit → ((k : ℕ) → k < 64 → k ≢ c % 64 → bit_in word k ≡ bit_in (get_or words (c / 64) 0) k) → IsPlaceSet c bit words (set words (c / 64) word)
+place_set words c word bit h same others = record {
+  width = length-set words (c / 64) word;
+  same = ap (λ (w : ℕ). bit_in w (c % 64)) (get_or-set_same words (c / 64) word 0 h) ∙ same;
+  others = λ k other.
+      elim (cases_eq (k / 64) (c / 64)) as (λ _. place (set words (c / 64) word) k ≡ place words k) [
+        | inl e ↦
+            let apart : k % 64 ≢ c % 64 = λ r. other (let q : k ≡ c = omega (arith, e, r) in q) in
+            let inside : k % 64 < 64 = omega arith in
+            ap (λ (q : ℕ). bit_in (get_or (set words (c / 64) word) q 0) (k % 64)) e
+            ∙ ap (λ (w : ℕ). bit_in w (k % 64)) (get_or-set_same words (c / 64) word 0 h)
+            ∙ others (k % 64) inside apart
+            ∙ ap (λ (q : ℕ). bit_in (get_or words q 0) (k % 64)) (sym e)
+        | inr d ↦ ap (λ (w : ℕ). bit_in w (k % 64)) (get_or-set_other words (c / 64) (k / 64) word 0 d)
+      ];
+}
+
+pub bits_in_set : (columns c : ℕ) (bit : Bool) (old new : List ℕ) → c < columns → IsPlaceSet c bit old new → bits_in columns new ≡ set (bits_in columns old) c bit
+bits_in_set columns c bit old new h p =
+    ext_get_or false (bits_in columns new) (set (bits_in columns old) c bit)
+    (length-bits_in columns new ∙ sym (length-set (bits_in columns old) c bit ∙ length-bits_in columns old))
+    (λ k below.
+    let l : k < columns = omega (arith, below, length-bits_in columns new) in
+    bit_is columns new k l ∙
+    elim (cases_eq k c) as (λ _. place new k ≡ get_or (set (bits_in columns old) c bit) k false) [
+      | inl e ↦ ap (place new) e ∙ p.same ∙ sym (ap (λ (q : ℕ). get_or (set (bits_in columns old) c bit) q false) e ∙ get_or-set_same (bits_in columns old) c bit false (omega (arith, h, length-bits_in columns old)))
+      | inr d ↦ p.others k d ∙ sym (bit_is columns old k l) ∙ sym (get_or-set_other (bits_in columns old) c k bit false d)
+    ])
+
+pub padded_set : (columns c : ℕ) (bit : Bool) (old new : List ℕ) → c < columns → IsPlaceSet c bit old new → IsPadded columns old → IsPadded columns new
+padded_set columns c bit old new h p padded k past = p.others k (λ e. absurd (omega (arith, e, h, past))) ∙ padded k past
+
+pub set_in : (columns : ℕ) (words : Flat ℕ) (t : Table) (i c : ℕ) (bit : Bool) (row : List ℕ) → seen_bits columns words ≡ t → i < length t.rows → c < t.columns → IsPlaceSet c bit (entries_at words.rows i) row
+    → seen_bits columns (record words { rows = set words.rows i row }) ≡ record t { rows = set t.rows i (set (bits_of t.rows i) c bit) }
+set_in columns words t i c bit row e in_i in_c p =
+    let s = seen_in columns words t e in
+    let below : i < length words.rows = omega (arith, s.count, in_i) in
+    let make : List (List Bool) → Table = λ rs. record { columns = columns; rows = rs; spare = words.spare } in
+    let P : Table → Type 0 = λ u. seen_bits columns (record words { rows = set words.rows i row }) ≡ record u { rows = set u.rows i (set (bits_of u.rows i) c bit) } in
+    subst P e (ap make (map-set (bits_in columns) words.rows i row
+    ∙ ap (λ (r : List Bool). set (map (bits_in columns) words.rows) i r) (bits_in_set columns c bit (entries_at words.rows i) row (omega (arith, s.wide, in_c)) p ∙ ap (λ (r : List Bool). set r c bit) (sym (bits_of-map columns words.rows i below)))))
+
+-- ---- rows that are kept
+pub marked-map : {X Y : Type 0} (f : X → Y) (keep : List Bool) (xs : List X) → map f (marked keep xs) ≡ marked keep (map f xs)
+marked-map f [] xs = refl
+marked-map f (k ∷ keep) [] = refl
+marked-map f (true ∷ keep) (x ∷ xs) = ap (λ (ys : List _). f x ∷ ys) (marked-map f keep xs)
+marked-map f (false ∷ keep) (x ∷ xs) = marked-map f keep xs
+
+pub all_marked : {X : Type 0} (P : X → Type 0) (keep : List Bool) (xs : List X) → All P xs → All P (marked keep xs)
+all_marked P [] xs h = All-nil P
+all_marked P (k ∷ keep) [] h = All-nil P
+all_marked P (true ∷ keep) (x ∷ xs) h = All-cons P x (marked keep xs) (All-head P x xs h) (all_marked P keep xs (All-tail P x xs h))
+all_marked P (false ∷ keep) (x ∷ xs) h = all_marked P keep xs (All-tail P x xs h)
+
+pub kept_seen : (columns : ℕ) (words new : Flat ℕ) (t : Table) (keep : List Bool) → seen_bits columns words ≡ t → new.rows ≡ marked keep words.rows → map (bits_in columns) new.rows ≡ marked keep t.rows
+kept_seen columns words new t keep e rows =
+    ap (λ (rs : List (List ℕ)). map (bits_in columns) rs) rows ∙ marked-map (bits_in columns) keep words.rows ∙ ap (λ (u : Table). marked keep u.rows) e
+
+-- ---- conjunctions
+and_word : (a b : List ℕ) (k : ℕ) → length a ≡ length b → k < length a → get_or (and_words a b) k 0 ≡ bit_and (get_or a k 0) (get_or b k 0)
+and_word [] b k e h = absurd (omega (arith, h))
+and_word (x ∷ a) [] k e h = absurd (omega (arith, e))
+and_word (x ∷ a) (y ∷ b) zero e h = refl
+and_word (x ∷ a) (y ∷ b) (suc k) e h = and_word a b k (omega (arith, e)) (omega (arith, h))
+
+and_place : (a b : List ℕ) (i : ℕ) → length a ≡ length b → place (and_words a b) i ≡ (place a i && place b i)
+and_place a b i e =
+    let l : length (and_words a b) ≡ length a = length-and_words a b e in
+    places_and a b (and_words a b) (sym l) (sym e ∙ sym l) (λ k h. and_word a b k e (omega (arith, h, l))) i
+
+conjunction_at : (xs ys : List Bool) (k : ℕ) → length xs ≡ length ys → k < length xs → get_or (conjunction xs ys) k false ≡ (get_or xs k false && get_or ys k false)
+conjunction_at [] ys k e h = absurd (omega (arith, h))
+conjunction_at (x ∷ xs) [] k e h = absurd (omega (arith, e))
+conjunction_at (x ∷ xs) (y ∷ ys) zero e h = refl
+conjunction_at (x ∷ xs) (y ∷ ys) (suc k) e h = conjunction_at xs ys k (omega (arith, e)) (omega (arith, h))
+
+pub bits_in_and : (columns : ℕ) (a b : List ℕ) → length a ≡ length b → bits_in columns (and_words a b) ≡ conjunction (bits_in columns a) (bits_in columns b)
+bits_in_and columns a b e =
+    let same : length (bits_in columns a) ≡ length (bits_in columns b) = length-bits_in columns a ∙ sym (length-bits_in columns b) in
+    ext_get_or false (bits_in columns (and_words a b)) (conjunction (bits_in columns a) (bits_in columns b))
+    (length-bits_in columns (and_words a b) ∙ sym (length-conjunction (bits_in columns a) (bits_in columns b) same ∙ length-bits_in columns a))
+    (λ k h.
+    let l : k < columns = omega (arith, h, length-bits_in columns (and_words a b)) in
+    bit_is columns (and_words a b) k l ∙ and_place a b k e
+    ∙ ap (λ (x : Bool). x && place b k) (sym (bit_is columns a k l)) ∙ ap (λ (y : Bool). get_or (bits_in columns a) k false && y) (sym (bit_is columns b k l))
+    ∙ sym (conjunction_at (bits_in columns a) (bits_in columns b) k same (omega (arith, l, length-bits_in columns a))))
+
+pub padded_and : (columns : ℕ) (a b : List ℕ) → length a ≡ length b → IsPadded columns a → IsPadded columns (and_words a b)
+padded_and columns a b e padded c h = and_place a b c e ∙ ap (λ (x : Bool). x && place b c) (padded c h)
+
+pub and_seen : (columns : ℕ) (words new : Flat ℕ) (t : Table) (i j : ℕ) → HasOneWidth words → seen_bits columns words ≡ t → i < length t.rows → j < length t.rows → new.rows ≡ words.rows ++ and_words (entries_at words.rows i) (entries_at words.rows j) ∷ []
+    → map (bits_in columns) new.rows ≡ t.rows ++ conjunction (bits_of t.rows i) (bits_of t.rows j) ∷ []
+and_seen columns words new t i j rect e in_i in_j rows =
+    let s = seen_in columns words t e in
+    let below_i : i < length words.rows = omega (arith, s.count, in_i) in
+    let below_j : j < length words.rows = omega (arith, s.count, in_j) in
+    let a : List ℕ = entries_at words.rows i in
+    let b : List ℕ = entries_at words.rows j in
+    ap (λ (rs : List (List ℕ)). map (bits_in columns) rs) rows
+    ∙ map-append (bits_in columns) words.rows (and_words a b ∷ [])
+    ∙ ap (λ (u : Table). u.rows ++ bits_in columns (and_words a b) ∷ []) e
+    ∙ ap (λ (r : List Bool). t.rows ++ r ∷ []) (bits_in_and columns a b (rect i below_i ∙ sym (rect j below_j)))
+    ∙ ap (λ (r : List Bool). t.rows ++ conjunction r (bits_in columns b) ∷ []) (sym (s.row i below_i))
+    ∙ ap (λ (r : List Bool). t.rows ++ conjunction (bits_of t.rows i) r ∷ []) (sym (s.row j below_j))
+
+-- ---- whole rows
+no_words : (z n k : ℕ) → get_or (replicate n z) k z ≡ z
+no_words z zero k = refl
+no_words z (suc n) zero = refl
+no_words z (suc n) (suc k) = no_words z n k
+
+none_in_zero : (j : ℕ) → bit_in 0 j ≡ false
+none_in_zero j = ap (λ (n : ℕ). nat_eq n 1) (bit_at-zero j)
+
+pub none_in_zeros : (n c : ℕ) → place (replicate n 0) c ≡ false
+none_in_zeros n c = ap (λ (w : ℕ). bit_in w (c % 64)) (no_words 0 n (c / 64)) ∙ none_in_zero (c % 64)
+
+pub bits_in_zeros : (columns n : ℕ) → bits_in columns (replicate n 0) ≡ replicate columns false
+bits_in_zeros columns n =
+    ext_get_or false (bits_in columns (replicate n 0)) (replicate columns false) (length-bits_in columns (replicate n 0) ∙ sym (length-replicate columns false))
+    (λ k h. let l : k < columns = omega (arith, h, length-bits_in columns (replicate n 0)) in
+    bit_is columns (replicate n 0) k l ∙ none_in_zeros n k ∙ sym (get_or-replicate columns k false false l))
+
+pub false_seen : (columns n : ℕ) (words new : Flat ℕ) (t : Table) → seen_bits columns words ≡ t → new.rows ≡ words.rows ++ replicate n 0 ∷ [] → map (bits_in columns) new.rows ≡ t.rows ++ replicate t.columns false ∷ []
+false_seen columns n words new t e rows =
+    ap (λ (rs : List (List ℕ)). map (bits_in columns) rs) rows
+    ∙ map-append (bits_in columns) words.rows (replicate n 0 ∷ [])
+    ∙ ap (λ (r : List Bool). map (bits_in columns) words.rows ++ r ∷ []) (bits_in_zeros columns n)
+    ∙ ap (λ (u : Table). u.rows ++ replicate u.columns false ∷ []) e
+
+-- ---- a column more
+longer_word : (xs : List ℕ) (k : ℕ) → get_or (xs ++ 0 ∷ []) k 0 ≡ get_or xs k 0
+longer_word [] zero = refl
+longer_word [] (suc k) = refl
+longer_word (x ∷ xs) zero = refl
+longer_word (x ∷ xs) (suc k) = longer_word xs k
+
+pub place_longer : (words : List ℕ) (i : ℕ) → place (words ++ 0 ∷ []) i ≡ place words i
+place_longer words i = ap (λ (w : ℕ). bit_in w (i % 64)) (longer_word words (i / 64))
+
+longer_row : (columns : ℕ) (old new : List ℕ) → ((i : ℕ) → place new i ≡ place old i) → IsPadded columns old → bits_in (columns + 1) new ≡ bits_in columns old ++ false ∷ []
+longer_row columns old new same padded =
+    let here : bits_in columns new ≡ bits_in columns old = ext_get_or false (bits_in columns new) (bits_in columns old) (length-bits_in columns new ∙ sym (length-bits_in columns old)) (λ k h. let l : k < columns = omega (arith, h, length-bits_in columns new) in bit_is columns new k l ∙ same k ∙ sym (bit_is columns old k l)) in
+    map-range_with_len_more (place new) 0 columns columns (omega arith)
+    ∙ ap (λ (r : List Bool). r ++ place new columns ∷ []) here
+    ∙ ap (λ (b : Bool). bits_in columns old ++ b ∷ []) (same columns ∙ padded columns (omega arith))
+
+-- rows whose places agree with those of padded rows have one column of false more
+pub longer_rows : (columns : ℕ) (f : List ℕ → List ℕ) (rows : List (List ℕ)) → ((row : List ℕ) (i : ℕ) → place (f row) i ≡ place row i) → All (IsPadded columns) rows → map (bits_in (columns + 1)) (map f rows) ≡ map (λ (row : List Bool). row ++ false ∷ []) (map (bits_in columns) rows)
+longer_rows columns f [] same padded = refl
+longer_rows columns f (x ∷ xs) same padded =
+    ap (λ (r : List Bool). r ∷ map (bits_in (columns + 1)) (map f xs)) (longer_row columns x (f x) (same x) (All-head (IsPadded columns) x xs padded))
+    ∙ ap (λ (rs : List (List Bool)). (bits_in columns x ++ false ∷ []) ∷ rs) (longer_rows columns f xs same (All-tail (IsPadded columns) x xs padded))
+
+map_same : (xs : List (List ℕ)) → map (λ (x : List ℕ). x) xs ≡ xs
+map_same [] = refl
+map_same (x ∷ xs) = ap (λ (ys : List (List ℕ)). x ∷ ys) (map_same xs)
+
+-- the table with a column of false more
+abbrev pub with_column : Table → Table
+with_column t = record { columns = t.columns + 1; rows = map (λ (row : List Bool). row ++ false ∷ []) t.rows; spare = 0 }
+
+pub column_seen : (columns : ℕ) (f : List ℕ → List ℕ) (words new : Flat ℕ) (t : Table) → ((row : List ℕ) (i : ℕ) → place (f row) i ≡ place row i) → IsTable columns words → seen_bits columns words ≡ t → new.rows ≡ map f words.rows → new.spare ≡ 0
+    → seen_bits (columns + 1) new ≡ with_column t
+column_seen columns f words new t same table e rows none =
+    let make : List (List Bool) → ℕ → Table = λ rs n. record { columns = columns + 1; rows = rs; spare = n } in
+    ap (λ (rs : List (List ℕ)). make (map (bits_in (columns + 1)) rs) new.spare) rows
+    ∙ ap (λ (n : ℕ). make (map (bits_in (columns + 1)) (map f words.rows)) n) none
+    ∙ ap (λ (rs : List (List Bool)). make rs 0) (longer_rows columns f words.rows same table.padded)
+    ∙ ap with_column e
+
+pub same_column : (columns : ℕ) (words new : Flat ℕ) (t : Table) → IsTable columns words → seen_bits columns words ≡ t → new.rows ≡ words.rows → new.spare ≡ 0 → seen_bits (columns + 1) new ≡ with_column t
+same_column columns words new t table e rows none = column_seen columns (λ r. r) words new t (λ row i. refl) table e (rows ∙ sym (map_same words.rows)) none
+
+pub longer_column : (columns : ℕ) (words new : Flat ℕ) (t : Table) → IsTable columns words → seen_bits columns words ≡ t → new.rows ≡ map (λ (row : List ℕ). row ++ 0 ∷ []) words.rows → new.spare ≡ 0 → seen_bits (columns + 1) new ≡ with_column t
+longer_column columns words new t table e rows none = column_seen columns (λ r. r ++ 0 ∷ []) words new t place_longer table e rows none
+
+pub all_longer : (columns : ℕ) (rows : List (List ℕ)) → All (IsPadded columns) rows → All (IsPadded (columns + 1)) (map (λ (row : List ℕ). row ++ 0 ∷ []) rows)
+all_longer columns rows padded = All-map (IsPadded (columns + 1)) (λ (row : List ℕ). row ++ 0 ∷ []) rows (λ i d h c past. place_longer (get_or rows i d) c ∙ padded i d h c (omega (arith, past)))
+
+-- ---- columns
+pub transposed_more : (c : ℕ) (rows : List (List Bool)) → transposed (c + 1) rows ≡ transposed c rows ++ map (λ row. get_or row c false) rows ∷ []
+transposed_more c rows = map-range_with_len_more (λ j. map (λ row. get_or row j false) rows) 0 c c (omega arith)

@@ -1,0 +1,54 @@
+-- A row that is written place by place.
+use Rattle.std.proofs.Common.{◌≡◌, ℕ, zero, suc, ◌+◌, ◌<◌, Bool, false, List, [], ◌∷◌, ◌++◌, length, get_or, set, take, drop, refl, sym, ap, ◌∙◌, arith}
+use Rattle.std.proofs.lemmas.List.{get_or-set_same, set-set}
+use Rattle.sat_matrix.specs.Tables.{bits_of}
+
+pub set_itself : (rows : List (List Bool)) (i : ℕ) → set rows i (bits_of rows i) ≡ rows
+set_itself [] i = refl
+set_itself (x ∷ xs) zero = refl
+set_itself (x ∷ xs) (suc i) = ap (λ (ys : List (List Bool)). x ∷ ys) (set_itself xs i)
+
+-- one place more
+written_at : (c : ℕ) (new old : List Bool) → c < length new → length old ≡ length new → set (take c new ++ drop c old) c (get_or new c false) ≡ take (suc c) new ++ drop (suc c) old
+written_at c [] old h e = absurd (omega (arith, h))
+written_at c (x ∷ new) [] h e = absurd (omega (arith, e))
+written_at zero (x ∷ new) (y ∷ old) h e = refl
+written_at (suc c) (x ∷ new) (y ∷ old) h e = ap (λ (ys : List Bool). x ∷ ys) (written_at c new old (omega (arith, h)) (omega (arith, e)))
+
+written_all : (n : ℕ) (new old : List Bool) → length new ≡ n → length old ≡ n → take n new ++ drop n old ≡ new
+written_all zero [] [] e f = refl
+written_all zero [] (y ∷ old) e f = absurd (omega (arith, f))
+written_all zero (x ∷ new) old e f = absurd (omega (arith, e))
+written_all (suc n) [] old e f = absurd (omega (arith, e))
+written_all (suc n) (x ∷ new) [] e f = absurd (omega (arith, f))
+written_all (suc n) (x ∷ new) (y ∷ old) e f = ap (λ (ys : List Bool). x ∷ ys) (written_all n new old (omega (arith, e)) (omega (arith, f)))
+
+abbrev pub written : List (List Bool) → ℕ → List Bool → ℕ → List (List Bool)
+written old i new c = set old i (take c new ++ drop c (bits_of old i))
+
+pub written_none : (old : List (List Bool)) (i : ℕ) (new : List Bool) → old ≡ written old i new 0
+written_none old i new = sym (set_itself old i)
+
+pub written_whole : (old : List (List Bool)) (i n : ℕ) (new : List Bool) → length new ≡ n → length (bits_of old i) ≡ n → written old i new n ≡ set old i new
+written_whole old i n new e f = ap (λ (r : List Bool). set old i r) (written_all n new (bits_of old i) e f)
+
+pub written_more : (i c : ℕ) (rows old : List (List Bool)) (new : List Bool) (bit : Bool) → i < length old → rows ≡ written old i new c → c < length new → length (bits_of old i) ≡ length new → get_or new c false ≡ bit
+    → set rows i (set (bits_of rows i) c bit) ≡ written old i new (c + 1)
+written_more i c rows old new bit in_i is in_c wide value =
+    let part : List Bool = take c new ++ drop c (bits_of old i) in
+    let read : bits_of rows i ≡ part = ap (λ (rs : List (List Bool)). bits_of rs i) is ∙ get_or-set_same old i part [] in_i in
+    let more : c + 1 ≡ suc c = omega arith in
+    ap (λ (rs : List (List Bool)). set rs i (set (bits_of rows i) c bit)) is
+    ∙ set-set old i part (set (bits_of rows i) c bit)
+    ∙ ap (λ (r : List Bool). set old i (set r c bit)) read
+    ∙ ap (λ (b : Bool). set old i (set part c b)) (sym value)
+    ∙ ap (λ (r : List Bool). set old i r) (written_at c new (bits_of old i) in_c wide)
+    ∙ ap (λ (k : ℕ). written old i new k) (sym more)
+
+set_last : (xs : List (List Bool)) (x y : List Bool) → set (xs ++ x ∷ []) (length xs) y ≡ xs ++ y ∷ []
+set_last [] x y = refl
+set_last (z ∷ xs) x y = ap (λ (ys : List (List Bool)). z ∷ ys) (set_last xs x y)
+
+pub last_written : (old rows new : List (List Bool)) (x y z : List Bool) (n : ℕ) → rows ≡ old ++ x ∷ [] → n ≡ length old → new ≡ set rows n y → y ≡ z → new ≡ old ++ z ∷ []
+last_written old rows new x y z n is at wrote same =
+    wrote ∙ ap (λ (rs : List (List Bool)). set rs n y) is ∙ ap (λ (k : ℕ). set (old ++ x ∷ []) k y) at ∙ set_last old x y ∙ ap (λ (r : List Bool). old ++ r ∷ []) same

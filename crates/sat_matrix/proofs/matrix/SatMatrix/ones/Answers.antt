@@ -1,0 +1,12 @@
+use Rattle.std.proofs.Common.{arith, ◌∙◌}
+use Rattle.sat_matrix.specs.Tables.{bits_of}
+use Rattle.sat_matrix.proofs.Counting.{count_seen, ones-le}
+use Rattle.sat_matrix.proofs.matrix.SatMatrix.ones.Goals as goal
+
+pub count-requires : goal.count-requires
+count-requires c =
+    let count = count_seen c.self.inside.columns c.self.inside.words c.args.self.now c.args.i c.row.result.now c.self.invariant c.self.view_is c.requires c.row.ensures.values c.row.ensures.wide in
+    omega (arith, count, ones-le (bits_of c.args.self.now.rows c.args.i), c.columns-columns.ensures.rectangular c.args.i c.requires, c.columns-columns.ensures.value)
+
+pub returns : goal.returns
+returns c = c.count.ensures ∙ count_seen c.self.inside.columns c.self.inside.words c.args.self.now c.args.i c.row.result.now c.self.invariant c.self.view_is c.requires c.row.ensures.values c.row.ensures.wide
