@@ -6,6 +6,7 @@ use crate::tables::{CON, CONS, EXPR, FRAC, GENS, POINT};
 use crate::verdict::Verdict;
 
 /// Whether the text is an expression with any blanks around it.
+#[inline(never)]
 pub fn expr_column(text: &[u8]) -> Verdict
     ensures { IsVerdict (alone expr) text.now result }
 {
@@ -13,6 +14,7 @@ pub fn expr_column(text: &[u8]) -> Verdict
 }
 
 /// Whether the text is an expression with or without a divisor with any blanks around it.
+#[inline(never)]
 pub fn frac_column(text: &[u8]) -> Verdict
     ensures { IsVerdict (alone frac) text.now result }
 {
@@ -20,6 +22,7 @@ pub fn frac_column(text: &[u8]) -> Verdict
 }
 
 /// Whether the text is a constraint with any blanks around it.
+#[inline(never)]
 pub fn con_column(text: &[u8]) -> Verdict
     ensures { IsVerdict (alone con) text.now result }
 {
@@ -27,6 +30,7 @@ pub fn con_column(text: &[u8]) -> Verdict
 }
 
 /// Whether the text is a list of constraints with any blanks around it.
+#[inline(never)]
 pub fn cons_column(text: &[u8]) -> Verdict
     ensures { IsVerdict (alone cons) text.now result }
 {
@@ -34,6 +38,7 @@ pub fn cons_column(text: &[u8]) -> Verdict
 }
 
 /// Whether the text is a point with any blanks around it.
+#[inline(never)]
 pub fn point_column(text: &[u8]) -> Verdict
     ensures { IsVerdict (alone point) text.now result }
 {
@@ -41,6 +46,7 @@ pub fn point_column(text: &[u8]) -> Verdict
 }
 
 /// Whether the text is a list of generators with any blanks around it.
+#[inline(never)]
 pub fn gens_column(text: &[u8]) -> Verdict
     ensures { IsVerdict (alone gens) text.now result }
 {

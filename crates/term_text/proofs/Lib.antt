@@ -4,6 +4,7 @@ pub mod TermLaws
 pub mod SumLaws
 pub mod TextLaws
 pub mod RowSums
+pub mod ScanSteps
 pub mod ListLaws
 pub mod SaysLaws
 pub mod Stored

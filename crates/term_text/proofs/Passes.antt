@@ -13,11 +13,11 @@ pub record Reads (s : State) (w : List ℕ) (ts : List Term) (t : State) : Type 
   pub terms : emitted s w ≡ ts
   pub state : final s w ≡ t
 
-emitted-append : (s : State) (u v : List ℕ) → emitted s (u ++ v) ≡ emitted s u ++ emitted (final s u) v
+pub emitted-append : (s : State) (u v : List ℕ) → emitted s (u ++ v) ≡ emitted s u ++ emitted (final s u) v
 emitted-append s [] v = refl
 emitted-append s (b ∷ u) v = ap (λ ts. ended s b ++ ts) (emitted-append (after s b) u v) ∙ sym (append_assoc (ended s b) (emitted (after s b) u) (emitted (final (after s b) u) v))
 
-final-append : (s : State) (u v : List ℕ) → final s (u ++ v) ≡ final (final s u) v
+pub final-append : (s : State) (u v : List ℕ) → final s (u ++ v) ≡ final (final s u) v
 final-append s [] v = refl
 final-append s (b ∷ u) v = final-append (after s b) u v
 

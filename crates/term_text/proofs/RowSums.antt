@@ -1,14 +1,16 @@
 -- The row of the first terms, one term further.
-use Rattle.std.proofs.Common.{eq-eqb, zero, suc, lit<, ◌≡◌, ◌⊎◌, ℕ, ◌+◌, ◌^◌, ◌<◌, ◌≤◌, List, [], ◌∷◌, ◌++◌, length, take, get_or, refl, sym, ◌∙◌, ap, arith, length-append, inl, inr}
-use Rattle.std.specs.Prelude.{MatchOption, Option, Some, None, unwrap_or, All, ℤ, pos, ◌+ℤ◌}
+use Rattle.std.proofs.Common.{eq-eqb, zero, suc, lit<, ◌≡◌, ◌⊎◌, ℕ, ◌+◌, ◌^◌, ◌<◌, ◌≤◌, List, [], ◌∷◌, ◌++◌, length, take, get_or, refl, sym, ◌∙◌, ap, arith, length-append, subst, inl, inr}
+use Rattle.std.specs.Prelude.{MatchOption, Option, Some, None, unwrap_or, All, Bool, true, false, ℤ, pos, ◌+ℤ◌}
 use Rattle.std.proofs.lemmas.Int.{ints}
-use Rattle.std.proofs.lemmas.List.{take_more, take-append-le, take_all}
-use Rattle.std.proofs.lemmas.List.Elements.{All-push, All-get_or, All-nil, All-weaker}
+use Rattle.std.proofs.lemmas.List.{append-nil, get_or_push, take-append-le, take_all}
+use Rattle.std.proofs.Math.Seq.{take-append_seam}
+use Rattle.std.proofs.lemmas.List.Elements.{All-push, All-get_or, All-nil, All-take, All-weaker}
 use Rattle.std.proofs.lemmas.Bool.{cases_lt}
 use Rattle.row_core.specs.Vectors.{cell}
 use Rattle.row_core.specs.Range.{InRange, AllInRange}
 use Rattle.term_text.specs.declared.terms.Term.{Term}
-use Rattle.term_text.specs.Terms.{column_of, value_of, part, total, Stay, IsRow, FitsBehind, IsSafeRow, IsWithin, AreWithin}
+use Rattle.term_text.specs.Sums.{Sum, HasSummed, Gains}
+use Rattle.term_text.specs.Terms.{column_of, value_of, part, total, Stay, IsRow, FitsBehind, IsSafeRow, IsWithin}
 
 plus_zero : (z : ℤ) → z +ℤ pos 0 ≡ pos 0 +ℤ z
 plus_zero z = omega (arith, ints)
@@ -35,17 +37,18 @@ stay_push dim ts t stay size next = record {
 next_in_range : (dim : ℕ) (ts : List Term) (t : Term) (row next : List ℤ) → IsRow dim ts row → AllInRange next → length next ≡ dim + 1 → ((j : ℕ) → j ≤ dim → cell next j ≡ cell row j +ℤ part dim t j) → (j : ℕ) → j ≤ dim → InRange (total dim ts j +ℤ part dim t j)
 next_in_range dim ts t row next is in_range wide added j within = rw (← is.cells j within, ← added j within) (All-get_or InRange next j (pos 0) (omega arith) in_range)
 
--- the row of i terms, with the next term added
-pub safe_row_more : (dim : ℕ) (terms : List Term) (i : ℕ) (t : Term) (row next : List ℤ) → i < length terms → t ≡ get_or terms i t → IsSafeRow dim (take i terms) row → FitsBehind t (cell row (column_of dim t)) → length next ≡ length row → AllInRange next → ((j : ℕ) → j ≤ dim → cell next j ≡ cell row j +ℤ part dim t j) → IsSafeRow dim (take (i + 1) terms) next
-safe_row_more dim terms i t row next h e safe fits same in_range added =
-    let ts : List Term = take i terms in
+-- the row of terms, with the next term added
+safe_row_push : (dim : ℕ) (ts : List Term) (t : Term) (row next : List ℤ) → IsSafeRow dim ts row → FitsBehind t (cell row (column_of dim t)) → length next ≡ length row → AllInRange next → ((j : ℕ) → j ≤ dim → cell next j ≡ cell row j +ℤ part dim t j) → IsSafeRow dim (ts ++ t ∷ []) next
+safe_row_push dim ts t row next safe fits same in_range added =
     let wide : length next ≡ dim + 1 = same ∙ safe.sums.wide in
-    let pushed : take (i + 1) terms ≡ ts ++ t ∷ [] = take_more terms i t h ∙ ap (λ x. ts ++ x ∷ []) (sym e) in
-    rw pushed (record {
+    record {
       sums = record { wide = wide; cells = λ j within. added j within ∙ ap (λ z. z +ℤ part dim t j) (safe.sums.cells j within) ∙ sym (total-push dim ts t j) };
       stay = stay_push dim ts t safe.stay fits.number (next_in_range dim ts t row next safe.sums in_range wide added);
       in_range = in_range;
-    })
+    }
+
+last_of : (P : Term → Type 0) (ts : List Term) (t : Term) → All P (ts ++ t ∷ []) → P t
+last_of P ts t all = let last : P (get_or (ts ++ t ∷ []) (length ts) t) = All-get_or P (ts ++ t ∷ []) (length ts) t (omega (arith, length-append ts (t ∷ []))) all in subst P (get_or_push ts t t (length ts) refl) last
 
 part-own : (dim : ℕ) (t : Term) → part dim t (column_of dim t) ≡ value_of t
 part-own dim t = rw (eq-eqb (column_of dim t) (column_of dim t) refl) refl
@@ -55,17 +58,23 @@ column_within dim None within = omega arith
 column_within dim (Some j) within = omega arith
 
 -- where the next term can't be added, no row exists
-pub no_row : (dim : ℕ) (terms : List Term) (i : ℕ) (t : Term) (row : List ℤ) → i < length terms → t ≡ get_or terms i t → AreWithin dim terms → IsRow dim (take i terms) row → ¬ (FitsBehind t (cell row (column_of dim t))) → ¬ (Stay dim terms)
-no_row dim terms i t row h e all_within is fails stay =
-    let within : column_of dim t ≤ dim = column_within dim t.variable (rw e (All-get_or (IsWithin dim) terms i t h all_within)) in
-    let ts : List Term = take i terms in
+no_row : (dim : ℕ) (ts : List Term) (t : Term) (row : List ℤ) → IsWithin dim t → IsRow dim ts row → ¬ (FitsBehind t (cell row (column_of dim t))) → ¬ (Stay dim (ts ++ t ∷ []))
+no_row dim ts t row is_within is fails stay =
+    let within : column_of dim t ≤ dim = column_within dim t.variable is_within in
     let j : ℕ = column_of dim t in
-    let pushed : take (i + 1) terms ≡ ts ++ t ∷ [] = take_more terms i t h ∙ ap (λ x. ts ++ x ∷ []) (sym e) in
-    let sum : total dim (take (i + 1) terms) j ≡ cell row j +ℤ value_of t = ap (λ x. total dim x j) pushed ∙ total-push dim ts t j ∙ ap (λ z. z +ℤ part dim t j) (sym (is.cells j within)) ∙ ap (λ z. cell row j +ℤ z) (part-own dim t) in
+    let sum : total dim (ts ++ t ∷ []) j ≡ cell row j +ℤ value_of t = total-push dim ts t j ∙ ap (λ z. z +ℤ part dim t j) (sym (is.cells j within)) ∙ ap (λ z. cell row j +ℤ z) (part-own dim t) in
+    let all : total dim (take (length (ts ++ t ∷ [])) (ts ++ t ∷ [])) j ≡ total dim (ts ++ t ∷ []) j = ap (λ x. total dim x j) (take_all (length (ts ++ t ∷ [])) (ts ++ t ∷ []) (omega arith)) in
     fails (record {
-      number = rw e (All-get_or (λ (t : Term). t.size < 2 ^ 127) terms i t h stay.numbers);
-      next = rw (← sum) (stay.sums (i + 1) (omega arith) j within);
+      number = last_of (λ (t : Term). t.size < 2 ^ 127) ts t stay.numbers;
+      next = rw (← (all ∙ sum)) (stay.sums (length (ts ++ t ∷ [])) (omega arith) j within);
     })
+
+-- the first terms of terms that stay in the range
+stay_front : (dim : ℕ) (ts us : List Term) → Stay dim (ts ++ us) → Stay dim ts
+stay_front dim ts us stay = record {
+  numbers = rw (take-append_seam ts us) at (All-take (λ (t : Term). t.size < 2 ^ 127) (length ts) (ts ++ us) stay.numbers);
+  sums = λ i le j within. rw (take-append-le i ts us le) at (stay.sums i (omega (arith, length-append ts us, le)) j within);
+}
 
 zero_in_range : InRange (pos 0)
 zero_in_range = record { size = lit< tt }
@@ -75,9 +84,57 @@ none_in_range dim zero j = zero_in_range
 none_in_range dim (suc i) j = zero_in_range
 
 -- no term: the row is zero
-pub safe_row_none : (dim : ℕ) (row : List ℤ) → length row ≡ dim + 1 → All (λ z. z ≡ pos 0) row → IsSafeRow dim [] row
+safe_row_none : (dim : ℕ) (row : List ℤ) → length row ≡ dim + 1 → All (λ z. z ≡ pos 0) row → IsSafeRow dim [] row
 safe_row_none dim row wide zeros = record {
   sums = record { wide = wide; cells = λ j within. All-get_or (λ z. z ≡ pos 0) row j (pos 0) (omega arith) zeros };
   stay = record { numbers = All-nil (λ (t : Term). t.size < 2 ^ 127); sums = λ i le j within. none_in_range dim i j };
   in_range = All-weaker (λ z. z ≡ pos 0) InRange (λ z e. rw e zero_in_range) row zeros;
 }
+
+abbrev pub summed : ℕ → List ℤ → Bool → Sum
+summed dim row fits = record { dim = dim; row = row; fits = fits }
+
+-- no term was added
+pub summed_none : (dim : ℕ) (row : List ℤ) → length row ≡ dim + 1 → All (λ z. z ≡ pos 0) row → HasSummed [] (summed dim row true)
+summed_none dim row wide zeros = record {
+  within = All-nil (IsWithin dim);
+  safe = λ e. safe_row_none dim row wide zeros;
+  leaves = λ e. cc;
+}
+
+-- a term was added
+pub gains_one : (dim : ℕ) (t : Term) (row next : List ℤ) (fits : Bool) → fits ≡ true → IsWithin dim t → FitsBehind t (cell row (column_of dim t)) → length next ≡ length row → AllInRange next → ((j : ℕ) → j ≤ dim → cell next j ≡ cell row j +ℤ part dim t j) → Gains (t ∷ []) (summed dim row fits) (summed dim next fits)
+gains_one dim t row next fits has within behind same in_range added = record {
+  over = refl;
+  more = λ before h. record {
+    within = All-push (IsWithin dim) before t h.within within;
+    safe = λ e. safe_row_push dim before t row next (h.safe has) behind same in_range added;
+    leaves = λ e. let never : true ≡ false = sym has ∙ e in cc;
+  };
+}
+
+-- a term leaves the range
+pub gains_too_large : (dim : ℕ) (t : Term) (row next : List ℤ) (fits : Bool) → fits ≡ true → IsWithin dim t → ¬ (FitsBehind t (cell row (column_of dim t))) → Gains (t ∷ []) (summed dim row fits) (summed dim next false)
+gains_too_large dim t row next fits has within fails = record {
+  over = refl;
+  more = λ before h. record {
+    within = All-push (IsWithin dim) before t h.within within;
+    safe = λ e. cc;
+    leaves = λ e. no_row dim before t row within (h.safe has).sums fails;
+  };
+}
+
+-- a term before has left the range
+pub gains_still : (dim : ℕ) (t : Term) (row : List ℤ) (fits : Bool) → fits ≡ false → IsWithin dim t → Gains (t ∷ []) (summed dim row fits) (summed dim row fits)
+gains_still dim t row fits left within = record {
+  over = refl;
+  more = λ before h. record {
+    within = All-push (IsWithin dim) before t h.within within;
+    safe = λ e. let never : true ≡ false = sym e ∙ left in cc;
+    leaves = λ e stay. h.leaves left (stay_front dim before (t ∷ []) stay);
+  };
+}
+
+-- nothing was added
+pub gains_none : (s : Sum) → Gains [] s s
+gains_none s = record { over = refl; more = λ before h. subst (λ ts. HasSummed ts s) (sym (append-nil before)) h }

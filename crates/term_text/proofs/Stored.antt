@@ -8,8 +8,11 @@ use Rattle.std.proofs.Math.Seq.{take-append_seam}
 use Rattle.cons_sys.specs.Constraints.{Constraint, Constraints}
 use Rattle.term_text.specs.declared.terms.ValueErr.{ValueErr}
 use Rattle.term_text.specs.declared.terms.ValueErr.TheVariants.{OutOfRange, TooLarge, ZeroDivisor, Memory}
+use Rattle.term_text.specs.declared.terms.Term.{Term}
+use Rattle.term_text.specs.declared.terms.Relation.TheVariants.{AtLeast}
 use Rattle.term_text.specs.Terms.{AreWithin, Stay}
-use Rattle.term_text.specs.Values.{Comparison, never}
+use Rattle.term_text.specs.Sums.{Sum, HasSummed, Gains}
+use Rattle.term_text.specs.Values.{Comparison, number_term, never}
 use Rattle.term_text.specs.Reading.{con_read, cons_read}
 use Rattle.term_text.specs.Systems.{IsStored, AreStored, AllStay, Adds, StopsAt, HaveRead, StopAt, IsConsOf, IsConsOfFault}
 
@@ -119,3 +122,11 @@ pub no_system : (dim d : ℕ) (cs : List Comparison) (list : List Constraint) (f
 no_system dim d cs list fits same not_all read =
     let at_dim : HaveRead dim cs list fits = subst (λ x. HaveRead x cs list fits) same read in
     (at_dim.within, at_dim.leaves not_all)
+
+abbrev minus_one : Term
+minus_one = number_term true 1
+
+-- the constraint -1 >= 0, from the sum of its one term
+pub adds_never : (dim : ℕ) (list new : List Constraint) (none one : Sum) (r : Result Bool ValueErr) → HasSummed [] none → Gains (minus_one ∷ []) none one → MatchResult r (λ added. (ts : List Term) → HasSummed ts one → Adds dim list new (record { terms = ts; relation = AtLeast }) added) (λ e. e ≡ Memory) → MatchResult r (Adds dim list new never) (StopsAt dim never)
+adds_never dim list new none one (Ok added) start gains adds = adds (minus_one ∷ []) (gains.more [] start)
+adds_never dim list new none one (Err e) start gains is = rw is tt

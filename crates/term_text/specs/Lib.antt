@@ -1,5 +1,6 @@
 pub mod Numbers
 pub mod Terms
+pub mod Sums
 pub mod Values
 pub mod Reading
 pub mod Texts

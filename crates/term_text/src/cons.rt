@@ -1,5 +1,5 @@
 //! Constraints, and lists of them.
-ghost use Rattle.std.specs.Prelude.{◌≡◌, ℕ, ◌-◌, ◌^◌, ◌<◌, ◌≤◌, ◌==◌, [], map, MatchResult};
+ghost use Rattle.std.specs.Prelude.{◌≡◌, ℕ, ◌-◌, ◌^◌, ◌<◌, ◌==◌, List, [], length, map, MatchResult};
 ghost use Rattle.std.specs.List.{slice_split};
 ghost use Rattle.std.proofs.Math.IntN.{neg_ℤ};
 ghost use Rattle.grammar.specs.Form.{Matches};
@@ -7,12 +7,15 @@ ghost use Rattle.grammar.specs.Grammar.{alone};
 ghost use Rattle.grammar.specs.Cases.{con_cases, cons_cases};
 ghost use Rattle.row_core.specs.Vectors.{cell};
 ghost use Rattle.row_core.specs.Range.{AllInRange};
-ghost use Rattle.term_text.specs.Values.{Comparison};
+ghost use Rattle.term_text.specs.declared.terms.Term.{Term};
+ghost use Rattle.term_text.specs.declared.terms.ValueErr.TheVariants as ValueErr;
+ghost use Rattle.term_text.specs.Sums.{HasSummed};
+ghost use Rattle.term_text.specs.Values.{never};
 ghost use Rattle.term_text.specs.Reading.{con_read, cons_read};
 ghost use Rattle.term_text.specs.Texts.{turns, facing, IsConRow, IsRowOfFault};
 ghost use Rattle.term_text.specs.Systems.{kind_of, IsConOf, IsCon, IsConFault, IsConsOf, IsConsOfFault, IsCons, IsConsFault, Adds, StopsAt, HaveRead, StopAt};
 
-use crate::rows::row_of;
+use crate::rows::RowSum;
 use crate::scan::scan;
 use crate::terms::{Relation, Term, ValueErr};
 use cons_sys::{ConKind, ConsSys};
@@ -56,33 +59,31 @@ fn negate(cells: &mut [i128])
     }
 }
 
-/// The row of the terms, with its signs changed for `<=` and `<`.
-fn row_facing(
-    alloc: Global,
-    dim: usize,
-    terms: &[Term],
-    relation: Relation,
-) -> Result<Vec<i128>, ValueErr>
-    requires { dim < 2 ^ 32 - 2 }
-    ensures { MatchResult result (λ row. IsConOf dim (record { terms = terms.now; relation = relation }) row.items (kind_of relation) × AllInRange row.items) (IsRowOfFault dim terms.now) }
+/// The cells, with their signs changed for `<=` and `<`.
+fn facing(mut cells: Vec<i128>, relation: Relation) -> Vec<i128>
+    requires { AllInRange cells.items }
+    ensures in_range { AllInRange result.items }
+    ensures width { length result.items ≡ length cells.items }
+    ensures cells { (j : ℕ) → cell result.items j ≡ facing relation (cell cells.items j) }
 {
-    let mut cells = row_of(alloc, dim, terms)?;
     if relation.turns() {
         negate(&mut cells);
     }
-    Ok(cells)
+    cells
 }
 
 fn con_row(alloc: Global, dim: usize, text: &[u8]) -> Result<OneCon, ValueErr>
     requires { dim < 2 ^ 32 - 2 }
     ensures { MatchResult result (λ c. IsConOf dim (con_read text.now) c.row c.kind) (IsRowOfFault dim (con_read text.now).terms) }
 {
-    let mut terms = Vec::new(alloc);
-    let state = scan(text, &mut terms)?;
+    let mut sum = RowSum::new(alloc, dim)?;
+    let state = scan(text, &mut sum)?;
     let relation = state.relation();
-    let cells = row_facing(alloc, dim, terms.as_slice(), relation)?;
+    let Some(cells) = sum.into_cells() else {
+        return Err(ValueErr::TooLarge);
+    };
     Ok(OneCon {
-        row: RowBuf::from_vec(cells),
+        row: RowBuf::from_vec(facing(cells, relation)),
         kind: relation.kind(),
     })
 }
@@ -101,37 +102,43 @@ pub fn con_of(alloc: Global, dim: usize, text: &[u8]) -> Result<OneCon, ValueErr
     con_row(alloc, dim, text)
 }
 
-/// Stores the constraint of the terms. The answer is false where a number leaves the range.
-fn add_terms(
-    alloc: Global,
-    system: &mut ConsSys,
-    terms: &[Term],
-    relation: Relation,
-) -> Result<bool, ValueErr>
+/// Stores the constraint of what was summed. The answer is false where a number leaves the range.
+fn add_sum(system: &mut ConsSys, sum: RowSum, relation: Relation) -> Result<bool, ValueErr>
+    requires { sum.dim ≡ system.old.dim }
     ensures dim { system.new.dim ≡ system.old.dim }
-    ensures value { MatchResult result (Adds system.old.dim system.old.list system.new.list (record { terms = terms.now; relation = relation })) (StopsAt system.old.dim (record { terms = terms.now; relation = relation })) }
+    ensures value { MatchResult result (λ added. (ts : List Term) → HasSummed ts sum → Adds system.old.dim system.old.list system.new.list (record { terms = ts; relation = relation }) added) (λ e. e ≡ ValueErr.Memory) }
 {
-    match row_facing(alloc, system.dim(), terms, relation) {
-        Ok(cells) => {
-            system.push_row(RowBuf::from_vec(cells), relation.kind())?;
+    match sum.into_cells() {
+        Some(cells) => {
+            let row = RowBuf::from_vec(facing(cells, relation));
+            system.push_row(row, relation.kind())?;
             Ok(true)
         }
-        Err(ValueErr::TooLarge) => Ok(false),
-        Err(fault) => Err(fault),
+        None => Ok(false),
     }
 }
 
-fn add_con(
-    alloc: Global,
-    system: &mut ConsSys,
-    terms: &mut Vec<Term>,
-    text: &[u8],
-) -> Result<bool, ValueErr>
+fn add_con(alloc: Global, system: &mut ConsSys, text: &[u8]) -> Result<bool, ValueErr>
     ensures dim { system.new.dim ≡ system.old.dim }
     ensures value { MatchResult result (Adds system.old.dim system.old.list system.new.list (con_read text.now)) (StopsAt system.old.dim (con_read text.now)) }
 {
-    let state = scan(text, terms)?;
-    add_terms(alloc, system, terms.as_slice(), state.relation())
+    let mut sum = RowSum::new(alloc, system.dim())?;
+    let state = scan(text, &mut sum)?;
+    add_sum(system, sum, state.relation())
+}
+
+/// Stores the constraint -1 >= 0.
+fn add_never(alloc: Global, system: &mut ConsSys) -> Result<bool, ValueErr>
+    ensures dim { system.new.dim ≡ system.old.dim }
+    ensures value { MatchResult result (Adds system.old.dim system.old.list system.new.list never) (StopsAt system.old.dim never) }
+{
+    let mut sum = RowSum::new(alloc, system.dim())?;
+    sum.add(Term {
+        negative: true,
+        size: 1,
+        variable: None,
+    })?;
+    add_sum(system, sum, Relation::AtLeast)
 }
 
 /// Stores the constraints between the commas. The answer is false where a number leaves the range.
@@ -140,10 +147,9 @@ fn add_list(alloc: Global, system: &mut ConsSys, text: &[u8]) -> Result<bool, Va
     ensures dim { system.new.dim ≡ system.old.dim }
     ensures value { MatchResult result (HaveRead system.old.dim (map con_read (slice_split (λ b. b == 44) text.now)) system.new.list) (StopAt system.old.dim (map con_read (slice_split (λ b. b == 44) text.now))) }
 {
-    let mut terms = Vec::new(alloc);
     let mut fits = true;
     for part in text.split(|byte| *byte == b',') {
-        let added = add_con(alloc, system, &mut terms, part)?;
+        let added = add_con(alloc, system, part)?;
         fits &= added;
     }
     Ok(fits)
@@ -159,12 +165,7 @@ fn add_cons(alloc: Global, system: &mut ConsSys, text: &[u8]) -> Result<bool, Va
         return Ok(true);
     }
     if text.contains(&b'f') {
-        let minus_one = Term {
-            negative: true,
-            size: 1,
-            variable: None,
-        };
-        return add_terms(alloc, system, &[minus_one], Relation::AtLeast);
+        return add_never(alloc, system);
     }
     add_list(alloc, system, text)
 }

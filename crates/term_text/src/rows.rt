@@ -1,12 +1,13 @@
 //! Rows of terms, exactly.
-ghost use Rattle.std.specs.Prelude.{◌≡◌, ℕ, ◌+◌, ◌-◌, ◌≤◌, ◌<◌, ◌^◌, ◌+ℤ◌, length, pos, ◌↔◌, All, IsTrue, MatchOption, MatchResult};
+ghost use Rattle.std.specs.Prelude.{◌≡◌, ℕ, ◌+◌, ◌-◌, ◌≤◌, ◌<◌, ◌^◌, ◌+ℤ◌, [], ◌∷◌, length, ◌↔◌, true, false, IsTrue, MatchOption, MatchResult};
 ghost use Rattle.row_core.specs.Vectors.{cell};
 ghost use Rattle.row_core.specs.Range.{InRange, AllInRange};
-ghost use Rattle.term_text.specs.Terms.{IsWithin, AreWithin, column_of, value_of, part, Stay, IsSafeRow, FitsBehind};
-ghost use Rattle.term_text.specs.Texts.{IsRowOf, IsRowOfFault};
+ghost use Rattle.term_text.specs.Terms.{IsWithin, column_of, value_of, part, FitsBehind};
+ghost use Rattle.term_text.specs.Sums.{Sum, HasSummed, Gains};
 
 use crate::terms::{Term, ValueErr};
 use std::alloc::Global;
+use std::marker::Model;
 
 impl Term {
     fn is_within(self, dim: usize) -> bool
@@ -61,40 +62,65 @@ fn add(cells: &mut [i128], dim: usize, term: Term) -> Option<()>
     Some(())
 }
 
-/// Adds terms to a row of zeros, in their order. The answer is `None` where a number leaves the range.
-fn add_all(cells: &mut [i128], dim: usize, terms: &[Term]) -> Option<()>
-    requires wide { length cells.old ≡ dim + 1 }
-    requires zero { All (λ z. z ≡ pos 0) cells.old }
-    requires within { AreWithin dim terms.now }
-    ensures { MatchOption result (Stay dim terms.now → ⊥) (λ _. IsSafeRow dim terms.now cells.new) }
-{
-    for term in terms {
-        add(cells, dim, *term)?;
-    }
-    Some(())
+/// The row of terms that are added one after another.
+#[derive(Debug, Drop)]
+pub struct RowSum {
+    dim: usize,
+    cells: Vec<i128>,
+    fits: bool,
 }
 
-fn are_within(dim: usize, terms: &[Term]) -> bool
-    ensures { IsTrue result ↔ AreWithin dim terms.now }
-{
-    terms.iter().all(|term| term.is_within(dim))
+impl Model for RowSum {
+    ghost Value = { Sum };
+
+    ghost view = { λ s. record { dim = s.dim; row = s.cells.items; fits = s.fits } };
+
+    ghost invariant = { λ s. (length s.cells.items ≡ s.dim + 1) × AllInRange s.cells.items × (s.dim < 2 ^ 32 - 2) };
 }
 
-/// The row of terms over `dim` variables: in each column the sum of its terms, in their order.
-///
-/// # Errors
-/// `OutOfRange` exactly where a variable isn't below `dim`, and otherwise `TooLarge` exactly where
-/// a number, or a sum of the first terms of a column, leaves the range.
-pub fn row_of(alloc: Global, dim: usize, terms: &[Term]) -> Result<Vec<i128>, ValueErr>
-    requires { dim < 2 ^ 32 - 2 }
-    ensures { MatchResult result (λ row. IsRowOf dim terms.now row.items × AllInRange row.items) (IsRowOfFault dim terms.now) }
-{
-    if !are_within(dim, terms) {
-        return Err(ValueErr::OutOfRange);
+impl RowSum {
+    /// The row of no term over `dim` variables.
+    ///
+    /// # Errors
+    /// `Memory` alone.
+    pub fn new(alloc: Global, dim: usize) -> Result<RowSum, ValueErr>
+        requires { dim < 2 ^ 32 - 2 }
+        ensures { MatchResult result (λ sum. (sum.dim ≡ dim) × HasSummed [] sum) (λ e. e ≡ ValueErr.Memory) }
+    {
+        let cells = vec![in alloc; 0i128; dim + 1]?;
+        Ok(RowSum {
+            dim,
+            cells,
+            fits: true,
+        })
     }
-    let mut cells = vec![in alloc; 0i128; dim + 1]?;
-    match add_all(&mut cells, dim, terms) {
-        Some(()) => Ok(cells),
-        None => Err(ValueErr::TooLarge),
+
+    /// Adds a term, where the terms before it and their sums were of the range.
+    ///
+    /// # Errors
+    /// `OutOfRange` exactly where the variable isn't below the dimension.
+    pub fn add(&mut self, term: Term) -> Result<(), ValueErr>
+        ensures { MatchResult result (λ _. Gains (term ∷ []) self.old self.new) (λ e. (e ≡ ValueErr.OutOfRange) × ¬ (IsWithin self.old.dim term)) }
+    {
+        if !term.is_within(self.dim) {
+            return Err(ValueErr::OutOfRange);
+        }
+        if !self.fits {
+            return Ok(());
+        }
+        match add(&mut self.cells, self.dim, term) {
+            Some(()) => Ok(()),
+            None => {
+                self.fits = false;
+                Ok(())
+            }
+        }
+    }
+
+    /// The row, where each number and each sum of the first terms of a column was of the range.
+    pub fn into_cells(self) -> Option<Vec<i128>>
+        ensures { MatchOption result (self.fits ≡ false) (λ row. (self.fits ≡ true) × (row.items ≡ self.row) × AllInRange row.items) }
+    {
+        if self.fits { Some(self.cells) } else { None }
     }
 }

@@ -1,7 +1,10 @@
 //! One pass over the bytes of a text.
-ghost use Rattle.std.specs.Prelude.{◌≡◌, ◌+◌, ◌*◌, ◌^◌, ◌++◌, min, option_to_list, MatchResult, OnOk};
+ghost use Rattle.std.specs.Prelude.{◌≡◌, ◌+◌, ◌*◌, ◌^◌, [], min, option_to_list, MatchResult, OnOk};
+ghost use Rattle.term_text.specs.Terms.{AreWithin};
+ghost use Rattle.term_text.specs.Sums.{HasSummed, Gains};
 ghost use Rattle.term_text.specs.Reading.{next_number, with_digit, with_letter, with_equals, ended, after, part_term, term_of, begun, start, terms_read, final, relation_at, divisor_at};
 
+use crate::rows::RowSum;
 use crate::terms::{Relation, Term, ValueErr};
 
 /// Stands for all greater sizes.
@@ -172,53 +175,53 @@ impl State {
         }
     }
 
-    fn end_term(&self, terms: &mut Vec<Term>) -> Result<(), ValueErr>
-        ensures { MatchResult result (λ _. terms.new.items ≡ terms.old.items ++ option_to_list (term_of self.now)) (λ e. e ≡ ValueErr.Memory) }
+    fn end_term(&self, sum: &mut RowSum) -> Result<(), ValueErr>
+        ensures { MatchResult result (λ _. Gains (option_to_list (term_of self.now)) sum.old sum.new) (λ e. (e ≡ ValueErr.OutOfRange) × ¬ (AreWithin sum.old.dim (option_to_list (term_of self.now)))) }
     {
-        if let Some(term) = self.term() {
-            terms.push(term)?;
+        match self.term() {
+            Some(term) => sum.add(term),
+            None => Ok(()),
         }
-        Ok(())
     }
 
     /// Ends the term that is read, and begins the next one.
-    fn turn(&mut self, terms: &mut Vec<Term>, place: Place, negative: bool) -> Result<(), ValueErr>
+    fn turn(&mut self, sum: &mut RowSum, place: Place, negative: bool) -> Result<(), ValueErr>
         ensures state { OnOk result (self.new ≡ begun place negative) }
-        ensures terms { MatchResult result (λ _. terms.new.items ≡ terms.old.items ++ option_to_list (term_of self.old)) (λ e. e ≡ ValueErr.Memory) }
+        ensures sum { MatchResult result (λ _. Gains (option_to_list (term_of self.old)) sum.old sum.new) (λ e. (e ≡ ValueErr.OutOfRange) × ¬ (AreWithin sum.old.dim (option_to_list (term_of self.old)))) }
     {
-        self.end_term(terms)?;
+        self.end_term(sum)?;
         self.begin(place, negative);
         Ok(())
     }
 
-    fn push(&mut self, byte: u8, terms: &mut Vec<Term>) -> Result<(), ValueErr>
+    fn push(&mut self, byte: u8, sum: &mut RowSum) -> Result<(), ValueErr>
         ensures state { OnOk result (self.new ≡ after self.old byte) }
-        ensures terms { MatchResult result (λ _. terms.new.items ≡ terms.old.items ++ ended self.old byte) (λ e. e ≡ ValueErr.Memory) }
+        ensures sum { MatchResult result (λ _. Gains (ended self.old byte) sum.old sum.new) (λ e. (e ≡ ValueErr.OutOfRange) × ¬ (AreWithin sum.old.dim (ended self.old byte))) }
     {
         match byte {
             b'0'..=b'9' => self.part.push_digit(byte - b'0'),
             b'A'..=b'Z' => self.part.push_letter(byte - b'A'),
-            b'+' => self.turn(terms, self.place, false)?,
-            b'-' => self.turn(terms, self.place, true)?,
-            b'=' => self.turn(terms, self.place.with_equals(), false)?,
-            b'>' => self.turn(terms, Place::Right(Relation::Above), false)?,
-            b'<' => self.turn(terms, Place::Right(Relation::Below), false)?,
-            b'/' => self.turn(terms, Place::Divisor, false)?,
+            b'+' => self.turn(sum, self.place, false)?,
+            b'-' => self.turn(sum, self.place, true)?,
+            b'=' => self.turn(sum, self.place.with_equals(), false)?,
+            b'>' => self.turn(sum, Place::Right(Relation::Above), false)?,
+            b'<' => self.turn(sum, Place::Right(Relation::Below), false)?,
+            b'/' => self.turn(sum, Place::Divisor, false)?,
             _ => {}
         }
         Ok(())
     }
 }
 
-/// Makes `terms` the terms of a text, and returns what stands behind its last byte.
-pub fn scan(text: &[u8], terms: &mut Vec<Term>) -> Result<State, ValueErr>
-    ensures { MatchResult result (λ state. (terms.new.items ≡ terms_read start text.now) × (state ≡ final start text.now)) (λ e. e ≡ ValueErr.Memory) }
+/// Adds the terms of a text, and returns what stands behind its last byte.
+pub fn scan(text: &[u8], sum: &mut RowSum) -> Result<State, ValueErr>
+    requires { HasSummed [] sum.old }
+    ensures { MatchResult result (λ state. HasSummed (terms_read start text.now) sum.new × (sum.new.dim ≡ sum.old.dim) × (state ≡ final start text.now)) (λ e. (e ≡ ValueErr.OutOfRange) × ¬ (AreWithin sum.old.dim (terms_read start text.now))) }
 {
-    terms.clear();
     let mut state = State::begun(Place::Left, false);
     for byte in text {
-        state.push(*byte, terms)?;
+        state.push(*byte, sum)?;
     }
-    state.end_term(terms)?;
+    state.end_term(sum)?;
     Ok(state)
 }

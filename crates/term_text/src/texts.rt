@@ -1,14 +1,14 @@
 //! The values of texts that have their form.
-ghost use Rattle.std.specs.Prelude.{◌-◌, ◌^◌, ◌<◌, MatchResult};
+ghost use Rattle.std.specs.Prelude.{◌≡◌, ◌-◌, ◌^◌, ◌<◌, MatchResult};
 ghost use Rattle.grammar.specs.Form.{Matches};
 ghost use Rattle.row_core.specs.Range.{AllInRange};
 ghost use Rattle.grammar.specs.Grammar.{alone};
 ghost use Rattle.grammar.specs.Cases.{expr_cases, frac_cases, point_cases};
-ghost use Rattle.term_text.specs.Reading.{start, terms_read, ratio_read, divisor_at};
+ghost use Rattle.term_text.specs.Reading.{start, terms_read, ratio_read};
 ghost use Rattle.term_text.specs.Texts.{IsRowOf, IsRowOfFault, IsFracOf, IsPointOf, IsDivisor, IsDivisorFault, IsRatioFault, IsExpr, IsExprFault, IsFrac, IsFracFault, IsPoint, IsPointFault};
 
-use crate::rows::row_of;
-use crate::scan::{State, scan};
+use crate::rows::RowSum;
+use crate::scan::scan;
 use crate::terms::ValueErr;
 use row_core::RowBuf;
 use std::alloc::Global;
@@ -26,10 +26,12 @@ fn expr_row(alloc: Global, dim: usize, text: &[u8]) -> Result<RowBuf, ValueErr>
     requires { dim < 2 ^ 32 - 2 }
     ensures { MatchResult result (IsRowOf dim (terms_read start text.now)) (IsRowOfFault dim (terms_read start text.now)) }
 {
-    let mut terms = Vec::new(alloc);
-    scan(text, &mut terms)?;
-    let cells = row_of(alloc, dim, terms.as_slice())?;
-    Ok(RowBuf::from_vec(cells))
+    let mut sum = RowSum::new(alloc, dim)?;
+    scan(text, &mut sum)?;
+    match sum.into_cells() {
+        Some(cells) => Ok(RowBuf::from_vec(cells)),
+        None => Err(ValueErr::TooLarge),
+    }
 }
 
 /// The row of an expression: in each column the sum of its variable's terms, and last the sum of
@@ -47,10 +49,10 @@ pub fn expr_of(alloc: Global, dim: usize, text: &[u8]) -> Result<RowBuf, ValueEr
     expr_row(alloc, dim, text)
 }
 
-fn divisor_of(state: State) -> Result<i128, ValueErr>
-    ensures { MatchResult result (λ d. IsDivisor (divisor_at state.place state.part) d) (IsDivisorFault (divisor_at state.place state.part)) }
+fn divisor_of(number: u128) -> Result<i128, ValueErr>
+    ensures { MatchResult result (λ d. IsDivisor number d) (IsDivisorFault number) }
 {
-    let Ok(divisor) = i128::try_from(state.divisor()) else {
+    let Ok(divisor) = i128::try_from(number) else {
         return Err(ValueErr::TooLarge);
     };
     if divisor == 0 {
@@ -59,14 +61,30 @@ fn divisor_of(state: State) -> Result<i128, ValueErr>
     Ok(divisor)
 }
 
+/// The row of a text, in each column the sum of its terms, in their order, and its divisor, which is 1
+/// without a division; 2^127 stands for all greater ones too.
+///
+/// # Errors
+/// `OutOfRange` exactly where a variable isn't below `dim`, and otherwise `TooLarge` exactly where
+/// a number, or a sum of the first terms of a column, leaves the range.
+pub fn ratio_of(alloc: Global, dim: usize, text: &[u8]) -> Result<(Vec<i128>, u128), ValueErr>
+    requires { dim < 2 ^ 32 - 2 }
+    ensures { MatchResult result (λ r. IsRowOf dim (ratio_read text.now).terms r.0.items × AllInRange r.0.items × (r.1 ≡ (ratio_read text.now).divisor)) (IsRowOfFault dim (ratio_read text.now).terms) }
+{
+    let mut sum = RowSum::new(alloc, dim)?;
+    let state = scan(text, &mut sum)?;
+    match sum.into_cells() {
+        Some(cells) => Ok((cells, state.divisor())),
+        None => Err(ValueErr::TooLarge),
+    }
+}
+
 fn ratio_row(alloc: Global, dim: usize, text: &[u8]) -> Result<(Vec<i128>, i128), ValueErr>
     requires { dim < 2 ^ 32 - 2 }
     ensures { MatchResult result (λ r. IsFracOf dim (ratio_read text.now) r.0.items r.1 × AllInRange r.0.items) (IsRatioFault dim (ratio_read text.now)) }
 {
-    let mut terms = Vec::new(alloc);
-    let state = scan(text, &mut terms)?;
-    let cells = row_of(alloc, dim, terms.as_slice())?;
-    let divisor = divisor_of(state)?;
+    let (cells, number) = ratio_of(alloc, dim, text)?;
+    let divisor = divisor_of(number)?;
     Ok((cells, divisor))
 }
 
