@@ -1,0 +1,34 @@
+use Rattle.std.proofs.Common.{List, subst, sym, rules}
+use Rattle.std.specs.Prelude.{ℤ}
+use Rattle.row_core.specs.Vectors.{cell}
+use Rattle.row_core.specs.Content.{IsPrimitiveOf}
+use Rattle.gens_sys.specs.Kinds.{HasBadDivisor, IsZeroDirection}
+use Rattle.cdd_text.specs.Files.{IsKind}
+use Rattle.cdd_text.proofs.StoreLaws.{kept_faultless, zero_row, no_bad_divisor}
+use Rattle.cdd_text.proofs.store.push_vector.Goals as goal
+
+pub returns-in-Ok-push_row-clause-list : goal.returns-in-Ok-push_row-clause-list
+returns-in-Ok-push_row-clause-list c =
+    let row = c.args.row.now in
+    let kind = c.in-Ok.kind in
+    let same = c.in-Ok-turned.ensures.row in
+    let kept = c.in-Ok-push_row.ensures in
+    let is_kind : IsKind c.args.marked (cell c.args.row.now 0) c.in-Ok.kind = search rules in (
+      (kept.list.stored, kind),
+      (subst (λ (v : List ℤ). IsPrimitiveOf v kept.list.stored) same kept.list.primitive, is_kind),
+      kept.list.list,
+      kept_faultless c.args.marked row kind c.requires.some is_kind (λ zero. let refused = kept.zero_vector.1 (subst (λ (v : List ℤ). IsZeroDirection kind v) (sym same) zero) in cc),
+    )
+
+pub returns-in-Err-ZeroVector : goal.returns-in-Err-ZeroVector
+returns-in-Err-ZeroVector c = record {
+  dim = search rules;
+  list = zero_row c.in-Ok.kind c.args.row.now (subst (λ (v : List ℤ). IsZeroDirection c.in-Ok.kind v) c.in-Ok-turned.ensures.row (c.in-Err-ZeroVector.ensures.zero_vector.0 (search rules)));
+}
+
+pub returns-in-Err-BadDivisor : goal.returns-in-Err-BadDivisor
+returns-in-Err-BadDivisor c =
+    let dim = c.args.system.now.dim in
+    let is_kind : IsKind c.args.marked (cell c.args.row.now 0) c.in-Ok.kind = search rules in
+    let bad = c.in-Err-BadDivisor.ensures.bad_divisor.0 (search rules) in
+    absurd (no_bad_divisor c.args.marked c.args.row.now dim c.in-Ok.kind c.requires.wide is_kind (subst (λ (v : List ℤ). HasBadDivisor c.in-Ok.kind (cell v dim)) c.in-Ok-turned.ensures.row bad))

@@ -1,0 +1,12 @@
+use Rattle.std.proofs.Common.{◌≡◌, arith}
+use Rattle.std.proofs.lemmas.Grind.{common_steps}
+use Rattle.std.proofs.lemmas.List.Elements.{All-same}
+use Rattle.row_core.specs.Range.{InRange}
+use Rattle.cdd_text.specs.Files.{turned}
+use Rattle.cdd_text.proofs.StoreLaws.{in_range-turned}
+use Rattle.cdd_text.proofs.store.turned.Goals as goal
+
+pub from_vec-requires-clause-in_range : goal.from_vec-requires-clause-in_range
+from_vec-requires-clause-in_range c =
+    let e : c.push.new.self.items ≡ turned c.args.row.now = grind (arith, common_steps) in
+    All-same InRange c.push.new.self.items (turned c.args.row.now) e (in_range-turned c.args.row.now c.requires.in_range)

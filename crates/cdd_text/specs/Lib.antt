@@ -1,0 +1,10 @@
+pub mod Bodies
+pub mod Files
+pub mod FirstWrong
+pub mod Headings
+pub mod OneAnswer
+pub mod ReadBack
+pub mod Refusals
+pub mod Tables
+pub mod Tokens
+pub mod Written

@@ -1,0 +1,19 @@
+-- What is written is read back.
+use Rattle.std.specs.Prelude.{◌≡◌, ◌^◌, ◌<◌, ◌≤◌, [], ◌⊎◌, length, true}
+use Rattle.std.specs.List.{list_any, filter}
+use Rattle.cons_sys.specs.Constraints.{Constraints}
+use Rattle.cons_sys.specs.Constraints as cons
+use Rattle.gens_sys.specs.Generators.{Generators}
+use Rattle.gens_sys.specs.Generators as gens
+use Rattle.cdd_text.specs.Files.{IsIneFile, IsExtFile, is_point}
+use Rattle.cdd_text.specs.Refusals.{tests, NoneOf}
+use Rattle.cdd_text.specs.Written.{ine_text, ext_text, is_equality_constraint, is_line_generator, HasNoStrict, HasNoClosurePoint}
+use Rattle.cdd_text.specs.declared.format.Format.TheVariants.{Ine, Ext}
+
+-- what is written of constraints without a strict one, over at most 31 variables and fewer than 2^64, holds them; where at most 32 are equalities, as in a stored polyhedron, it passes all tests
+abbrev pub ConstraintsAreReadBack : Type 0
+ConstraintsAreReadBack = (cs : Constraints) → cons.FitDimension cs → cs.dim < 32 → length cs.list < 2 ^ 64 → HasNoStrict cs → IsIneFile (ine_text cs) cs × (length (filter is_equality_constraint cs.list) ≤ 32 → NoneOf (tests Ine (ine_text cs)))
+
+-- likewise of generators without a closure point, where there is a point or no generator at all
+abbrev pub GeneratorsAreReadBack : Type 0
+GeneratorsAreReadBack = (gs : Generators) → gens.FitDimension gs → gs.dim < 32 → length gs.list < 2 ^ 64 → HasNoClosurePoint gs → (gs.list ≡ []) ⊎ (list_any is_point gs.list ≡ true) → IsExtFile (ext_text gs) gs × (length (filter is_line_generator gs.list) ≤ 32 → NoneOf (tests Ext (ext_text gs)))
