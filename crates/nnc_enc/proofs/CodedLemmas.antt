@@ -28,7 +28,7 @@ use Rattle.nnc_enc.proofs.MarkLemmas.{length-vectors, vector_at-vectors}
 one_time : (x : ℤ) → pos 1 *ℤ x ≡ x
 one_time x = omega (arith, ints)
 
-scale_one : (v : List ℤ) → scale (pos 1) v ≡ v
+pub scale_one : (v : List ℤ) → scale (pos 1) v ≡ v
 scale_one [] = refl
 scale_one (x ∷ v) = ap (λ (y : ℤ). y ∷ scale (pos 1) v) (one_time x) ∙ ap (λ (w : List ℤ). x ∷ w) (scale_one v)
 
@@ -59,11 +59,11 @@ second_list_admits width rows lines rays v g = (to, λ u. record { wide = u.wide
 
 -- ---- decoded systems
 -- what is coded by one set is coded by a set that includes it
-codes_within : (dim : ℕ) (C D : List ℤ → Type 0) (p : List ℤ) → ((v : List ℤ) → C v → D v) → Codes dim C p → Codes dim D p
+pub codes_within : (dim : ℕ) (C D : List ℤ → Type 0) (p : List ℤ) → ((v : List ℤ) → C v → D v) → Codes dim C p → Codes dim D p
 codes_within dim C D p f k = record { times = k.times; positive = k.positive; height = k.height; above = k.above; member = f (raised dim (scale k.times p) k.height) k.member }
 
 -- what the valid rows admit is 0 on the lines and at least 0 on the rays of their system
-admitted_is_dual : (width : ℕ) (gens : List Row) (lines rays : List (List ℤ)) (v : List ℤ) → Generates (ConeOf width gens) lines rays → IsAdmittedVector width gens v ↔ ConeOf width (system_rows lines rays) v
+pub admitted_is_dual : (width : ℕ) (gens : List Row) (lines rays : List (List ℤ)) (v : List ℤ) → Generates (ConeOf width gens) lines rays → IsAdmittedVector width gens v ↔ ConeOf width (system_rows lines rays) v
 admitted_is_dual width gens lines rays v g = (
   (λ u. row_of_valid width (ConeOf width gens) lines rays g v u.wide (λ a m. subst (λ (z : ℤ). pos 0 ≤ℤ z) (dot_comm a v) (u.admits a m))),
   (λ u. record { wide = u.wide; admits = λ a m. subst (λ (z : ℤ). pos 0 ≤ℤ z) (dot_comm v a) (valid_of_row width (ConeOf width gens) lines rays g v u a m) }),

@@ -6,3 +6,10 @@ pub mod UniverseLemmas
 pub mod StoredLemmas
 pub mod ListLemmas
 pub mod TestLemmas
+mod EncodedSets
+mod Multiples
+mod StrongSystems
+mod EncodedLists
+mod OkLemmas
+mod UniverseForms
+mod PairLemmas

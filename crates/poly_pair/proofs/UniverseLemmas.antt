@@ -372,7 +372,7 @@ module _ (n : ℕ) where
     point = record { index = 0; below = omega arith; positive = last_positive (cell (divisor_row n) n) one_at };
   }
 
-  no_row_stored : stored_constraints n [] origin ≡ []
+  pub no_row_stored : stored_constraints n [] origin ≡ []
   no_row_stored = ap (λ (b : Bool). map (λ r. (r, Ge)) (cond (not b) origin [])) (is_divisor n)
 
   pub universe_stored : (cs : Constraints) (gs : Generators) → cs.dim ≡ n → gs.dim ≡ n → cs.list ≡ [] → gs.list ≡ map (λ l. (l, Line)) axes ++ (divisor_row n, Point) ∷ [] → IsStored cs gs

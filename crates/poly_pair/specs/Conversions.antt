@@ -4,6 +4,7 @@ use Rattle.row_core.specs.declared.errors.Overflow.{Overflow}
 use Rattle.row_core.specs.Lists.{Row, vectors, system_rows}
 use Rattle.cone_laws.specs.Canon.{Canon}
 use Rattle.cone_laws.specs.Leaves.{Leaves}
+use Rattle.sat_matrix.specs.ZeroTables.{IsZeroTable}
 use Rattle.chernikova.specs.declared.cone.Cone.{Cone}
 use Rattle.chernikova.specs.Changes.{AreLists}
 use Rattle.chernikova.specs.Conversion.{IsCountedUpto}
@@ -17,10 +18,11 @@ use Rattle.poly_pair.specs.declared.systems.Systems.{Systems}
 abbrev pub cone_rows : Cone → List Row
 cone_rows cone = system_rows (vectors cone.lines.rows) (vectors cone.rays.rows)
 
--- the canonical system of the second list
+-- the canonical system of the second list, with its table
 pub record IsSecondOf (width : ℕ) (first second : Cone) : Type 0 where
   pub canon : Canon (ConeOf width (cone_rows first)) (vectors second.lines.rows) (vectors second.rays.rows)
   pub lists : AreLists width second.lines second.rays
+  pub zeros : IsZeroTable (cone_rows first) (length (cone_rows first)) (vectors second.rays.rows) second.sat
 
 -- no ray is positive at the column
 abbrev pub HaveNoPoint : ℕ → List (List ℤ) → Type 0
@@ -33,12 +35,14 @@ pub record HasNoPointSystem (width column : ℕ) (list : List Row) : Type 0 wher
   pub canon : Canon (ConeOf width list) lines rays
   pub level : HaveNoPoint column rays
 
--- the two systems of the list, of which the first has such a ray
+-- the two systems of the list, of which the first has such a ray, with their tables
 pub record ArePointSystems (width column : ℕ) (list : List Row) (s : Systems) : Type 0 where
   pub systems : AreSystemsOf width list (vectors s.first.lines.rows) (vectors s.first.rays.rows) (vectors s.second.lines.rows) (vectors s.second.rays.rows)
   pub point : HasPoint column (vectors s.first.rays.rows)
   pub first_lists : AreLists width s.first.lines s.first.rays
   pub second_lists : AreLists width s.second.lines s.second.rays
+  pub first_zeros : IsZeroTable list (length list) (vectors s.first.rays.rows) s.first.sat
+  pub second_zeros : IsZeroTable (cone_rows s.first) (length (cone_rows s.first)) (vectors s.second.rays.rows) s.second.sat
 
 -- no second system is made where there is no point
 abbrev pub AreListSystems : ℕ → ℕ → List Row → Option Systems → Type 0

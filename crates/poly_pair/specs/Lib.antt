@@ -1,6 +1,10 @@
+pub mod TopologyLists
+pub mod NncForms
 pub mod Polyhedra
+pub mod KeptLaws
 pub mod FirstLists
 pub mod Conversions
+pub mod Parts
 pub mod Refusals
 pub mod Entries
 pub mod Axes

@@ -5,13 +5,16 @@
 //!   constraints or generators; [`Poly::from_rows`] and [`Poly::from_vectors`] take such lists.
 //! - [`GenErr`] says why generators give no polyhedron.
 //!
-//! The laws of what is stored are public functions of `pair_laws`.
+//! [`laws`] says what holds of the two systems of each polyhedron; further laws of closed ones are public
+//! functions of `pair_laws`.
 #![tactic(auto)]
 
 mod axes;
 mod errors;
+pub mod laws;
 mod lists;
 mod making;
+mod pairing;
 mod poly;
 mod storing;
 mod storing_generators;
@@ -20,6 +23,7 @@ mod topology;
 
 pub use errors::GenErr;
 pub use lists::{constraint_list, generator_list};
+pub use making::has_point_kind;
 pub use poly::Poly;
 pub use topology::{MAX_DIM, Topology};
 

@@ -7,11 +7,14 @@ ghost use Rattle.chernikova.specs.Changes.{AreLists};
 ghost use Rattle.cons_sys.specs.Kinds.{is_equality};
 ghost use Rattle.gens_sys.specs.Kinds.{is_line};
 ghost use Rattle.pair_laws.specs.WorkLists.{divisor_row, constraint_list, generator_list};
+ghost use Rattle.poly_pair.specs.TopologyLists.{list_width, constraints_of, generators_of};
 ghost use Rattle.poly_pair.specs.Conversions.{cone_rows};
 
+use crate::topology::Topology;
 use chernikova::Cone;
 use cons_sys::{ConKind, ConsSys};
 use gens_sys::{GenKind, GensSys};
+use nnc_enc::{encode_cons, encode_gens};
 use row_core::{Memory, RowList};
 use std::alloc::Global;
 
@@ -63,7 +66,7 @@ pub(crate) fn divisor(alloc: Global, dim: usize) -> Result<Vec<i128>, Memory>
 }
 
 /// The constraint list of a closed system: the row `(0, .., 0, 1)`, then the constraints.
-pub fn constraint_list(alloc: Global, cons: &ConsSys) -> Result<RowList, Memory>
+fn closed_constraints(alloc: Global, cons: &ConsSys) -> Result<RowList, Memory>
     ensures width { IfOk result (λ list. list.width ≡ cons.now.dim + 1) }
     ensures rows { IfOk result (λ list. list.rows ≡ constraint_list cons.now) }
 {
@@ -73,6 +76,18 @@ pub fn constraint_list(alloc: Global, cons: &ConsSys) -> Result<RowList, Memory>
         list.push(cons.row(index), is_equality_kind(cons.kind(index)))?;
     }
     Ok(list)
+}
+
+/// The constraint list of a system. That of a set that needn't be closed has one more column, before the
+/// divisor.
+pub fn constraint_list(alloc: Global, topology: Topology, cons: &ConsSys) -> Result<RowList, Memory>
+    ensures width { IfOk result (λ list. list.width ≡ list_width topology cons.now.dim) }
+    ensures rows { IfOk result (λ list. list.rows ≡ constraints_of topology cons.now) }
+{
+    match topology {
+        Topology::Closed => closed_constraints(alloc, cons),
+        Topology::Nnc => encode_cons(alloc, cons),
+    }
 }
 
 /// Whether a generator of the kind is a line.
@@ -86,7 +101,7 @@ fn is_line_kind(kind: GenKind) -> bool
 }
 
 /// The generator list of a closed system.
-pub fn generator_list(alloc: Global, gens: &GensSys) -> Result<RowList, Memory>
+fn closed_generators(alloc: Global, gens: &GensSys) -> Result<RowList, Memory>
     ensures width { IfOk result (λ list. list.width ≡ gens.now.dim + 1) }
     ensures rows { IfOk result (λ list. list.rows ≡ generator_list gens.now) }
 {
@@ -95,4 +110,16 @@ pub fn generator_list(alloc: Global, gens: &GensSys) -> Result<RowList, Memory>
         list.push(gens.row(index), is_line_kind(gens.kind(index)))?;
     }
     Ok(list)
+}
+
+/// The generator list of a system. That of a set that needn't be closed has one more column, before the
+/// divisor.
+pub fn generator_list(alloc: Global, topology: Topology, gens: &GensSys) -> Result<RowList, Memory>
+    ensures width { IfOk result (λ list. list.width ≡ list_width topology gens.now.dim) }
+    ensures rows { IfOk result (λ list. list.rows ≡ generators_of topology gens.now) }
+{
+    match topology {
+        Topology::Closed => closed_generators(alloc, gens),
+        Topology::Nnc => encode_gens(alloc, gens),
+    }
 }

@@ -2,27 +2,23 @@
 ghost use Rattle.std.specs.Prelude.{◌≡◌, ℕ, ◌+◌, ◌-◌, ◌^◌, ◌<◌, ◌≤◌, ◌↔◌, ◌∷◌, [], List, length, IfOk, IfErr, MatchBool, Err};
 ghost use Rattle.row_core.specs.Range.{AllInRange};
 ghost use Rattle.cons_sys.specs.declared.kind.ConKind.TheVariants.{Ge};
-ghost use Rattle.row_core.specs.Lists.{vectors};
-ghost use Rattle.chernikova.specs.Changes.{AreLists};
-ghost use Rattle.pair_laws.specs.WorkLists.{constraint_list, generator_list};
-ghost use Rattle.pair_laws.specs.PointSets.{AreClosed, AreClosedKinds};
-ghost use Rattle.pair_laws.specs.StoredForms.{false_row, stored_constraints, stored_generators};
-ghost use Rattle.poly_pair.specs.Polyhedra.{IsKept, IsEmpty, IsOfConstraints, IsOfGenerators, IsUniverse};
+ghost use Rattle.pair_laws.specs.StoredForms.{false_row};
+ghost use Rattle.poly_pair.specs.TopologyLists.{AreConstraintsFor, AreGeneratorsFor, list_width, constraints_of, generators_of};
+ghost use Rattle.poly_pair.specs.Polyhedra.{IsEmpty, IsOfConstraints, IsOfGenerators, IsUniverse};
 ghost use Rattle.poly_pair.specs.FirstLists.{HasPointKind, HasNoPointKind, LacksPoint, IsConstraintList, IsGeneratorList, IsOfRows, IsOfVectors};
-ghost use Rattle.poly_pair.specs.Conversions.{AreClosedCones, IsCountedOn};
+ghost use Rattle.poly_pair.specs.Conversions.{IsCountedOn};
+ghost use Rattle.poly_pair.specs.Parts.{AreStoredOfRows, AreStoredOfVectors, AreStoredOfGenerators};
 ghost use Rattle.poly_pair.specs.Refusals.{IsOverflowOn, IsCountedBeforeOn, IsGenOverflowOn, IsGenCountedBeforeOn};
-ghost use Rattle.poly_pair.specs.declared.topology.Topology.TheVariants.{Closed};
 ghost use Rattle.poly_pair.specs.declared.topology.TheConstants.{MAX_DIM};
 
 use crate::axes::axes;
 use crate::errors::GenErr;
 use crate::lists::{constraint_list, divisor, generator_list};
+use crate::pairing::{pair_of_rows, pair_of_vectors};
 use crate::poly::Poly;
-use crate::storing::stored_constraints;
-use crate::storing_generators::{push_generator, stored_generators};
-use crate::systems::point_systems;
+use crate::storing_generators::push_generator;
+use crate::systems::list_systems;
 use crate::topology::{MAX_DIM, Topology};
-use chernikova::Cone;
 use cons_sys::{ConKind, ConsSys};
 use gens_sys::{GenKind, GensSys};
 use row_core::{ConvErr, Memory, RowList, Steps};
@@ -52,26 +48,19 @@ fn false_constraints(alloc: Global, dim: usize) -> Result<ConsSys, Memory>
     Ok(cons)
 }
 
-/// The polyhedron of two dual systems: that of its vectors, and that of its rows.
-fn paired(alloc: Global, dim: usize, spanning: &Cone, bounding: &Cone) -> Result<Poly, Memory>
-    requires narrow { dim ≤ MAX_DIM }
-    requires spanning_lists { AreLists (dim + 1) spanning.now.lines spanning.now.rays }
-    requires bounding_lists { AreLists (dim + 1) bounding.now.lines bounding.now.rays }
-    requires systems { AreClosedCones dim spanning.now bounding.now }
-    ensures topology { IfOk result (λ p. p.topology ≡ Closed) }
-    ensures dim { IfOk result (λ p. p.cons.dim ≡ dim) }
-    ensures cons { IfOk result (λ p. p.cons.list ≡ stored_constraints dim (vectors bounding.now.lines.rows) (vectors bounding.now.rays.rows)) }
-    ensures gens_dim { IfOk result (λ p. p.gens.dim ≡ dim) }
-    ensures gens { IfOk result (λ p. p.gens.list ≡ stored_generators dim (vectors spanning.now.lines.rows) (vectors spanning.now.rays.rows)) }
-    ensures kept { IfOk result IsKept }
+/// The empty polyhedron, without generators.
+fn no_points(alloc: Global, topology: Topology, dim: usize) -> Result<Poly, Memory>
+    requires { dim ≤ MAX_DIM }
+    ensures empty { IfOk result (IsEmpty topology dim) }
+    ensures none { IfOk result (λ p. p.gens.list ≡ []) }
 {
-    let cons = stored_constraints(alloc, dim, bounding)?;
-    let gens = stored_generators(alloc, dim, spanning)?;
-    Ok(Poly::closed(cons, gens))
+    let cons = false_constraints(alloc, dim)?;
+    let gens = GensSys::new(alloc, dim);
+    Ok(Poly::from_pair(topology, cons, gens))
 }
 
 /// Whether some generator is a point.
-fn has_point_kind(gens: &GensSys) -> bool
+pub fn has_point_kind(gens: &GensSys) -> bool
     ensures { MatchBool result (HasPointKind gens.now.list) (HasNoPointKind gens.now.list) }
 {
     for index in 0..gens.len() {
@@ -85,25 +74,21 @@ fn has_point_kind(gens: &GensSys) -> bool
 impl Poly {
     /// The empty polyhedron.
     pub fn empty(alloc: Global, topology: Topology, dim: usize) -> Result<Poly, Memory>
-        requires closed { topology ≡ Closed }
         requires narrow { dim ≤ MAX_DIM }
         ensures { IfOk result (IsEmpty topology dim) }
     {
-        let cons = false_constraints(alloc, dim)?;
-        let gens = GensSys::new(alloc, dim);
-        Ok(Poly::closed(cons, gens))
+        no_points(alloc, topology, dim)
     }
 
     /// The polyhedron of all points.
     pub fn universe(alloc: Global, topology: Topology, dim: usize) -> Result<Poly, Memory>
-        requires closed { topology ≡ Closed }
         requires narrow { dim ≤ MAX_DIM }
         ensures { IfOk result (IsUniverse topology dim) }
     {
         let cons = ConsSys::new(alloc, dim);
         let mut gens = axes(alloc, dim)?;
         push_generator(&mut gens, &divisor(alloc, dim)?, GenKind::Point)?;
-        Ok(Poly::closed(cons, gens))
+        Ok(Poly::from_pair(topology, cons, gens))
     }
 
     /// The polyhedron of the points that the rows of a constraint list admit.
@@ -118,19 +103,19 @@ impl Poly {
         rows: &RowList,
         steps: &mut Steps<L>,
     ) -> Result<Poly, ConvErr>
-        requires closed { topology ≡ Closed }
         requires narrow { dim ≤ MAX_DIM }
-        requires width { rows.now.width ≡ dim + 1 }
-        requires list { IsConstraintList dim rows.now.rows }
+        requires width { rows.now.width ≡ list_width topology dim }
+        requires list { IsConstraintList topology dim rows.now.rows }
         ensures points { IfOk result (IsOfRows topology dim rows.now.rows) }
-        ensures overflow { IfErr result (IsOverflowOn (dim + 1) dim rows.now.rows) }
+        ensures stored { IfOk result (AreStoredOfRows topology dim rows.now.rows) }
+        ensures overflow { IfErr result (IsOverflowOn (list_width topology dim) dim rows.now.rows) }
         ensures no_fewer { steps.old ≤ steps.new }
-        ensures counted { IsCountedOn (dim + 1) dim rows.now.rows (steps.new - steps.old) }
-        ensures counted_before { IfErr result (IsCountedBeforeOn (dim + 1) dim rows.now.rows (steps.new - steps.old)) }
+        ensures counted { IsCountedOn (list_width topology dim) dim rows.now.rows (steps.new - steps.old) }
+        ensures counted_before { IfErr result (IsCountedBeforeOn (list_width topology dim) dim rows.now.rows (steps.new - steps.old)) }
     {
-        match point_systems(alloc, dim + 1, dim, rows, steps)? {
-            None => Ok(Poly::empty(alloc, topology, dim)?),
-            Some(found) => Ok(paired(alloc, dim, &found.first, &found.second)?),
+        match list_systems(alloc, topology, dim, rows, steps)? {
+            None => Ok(no_points(alloc, topology, dim)?),
+            Some(found) => Ok(pair_of_rows(alloc, topology, dim, rows, &found)?),
         }
     }
 
@@ -146,19 +131,19 @@ impl Poly {
         vectors: &RowList,
         steps: &mut Steps<L>,
     ) -> Result<Poly, ConvErr>
-        requires closed { topology ≡ Closed }
         requires narrow { dim ≤ MAX_DIM }
-        requires width { vectors.now.width ≡ dim + 1 }
-        requires list { IsGeneratorList dim vectors.now.rows }
+        requires width { vectors.now.width ≡ list_width topology dim }
+        requires list { IsGeneratorList topology dim vectors.now.rows }
         ensures points { IfOk result (IsOfVectors topology dim vectors.now.rows) }
-        ensures overflow { IfErr result (IsOverflowOn (dim + 1) dim vectors.now.rows) }
+        ensures stored { IfOk result (AreStoredOfVectors topology dim vectors.now.rows) }
+        ensures overflow { IfErr result (IsOverflowOn (list_width topology dim) dim vectors.now.rows) }
         ensures no_fewer { steps.old ≤ steps.new }
-        ensures counted { IsCountedOn (dim + 1) dim vectors.now.rows (steps.new - steps.old) }
-        ensures counted_before { IfErr result (IsCountedBeforeOn (dim + 1) dim vectors.now.rows (steps.new - steps.old)) }
+        ensures counted { IsCountedOn (list_width topology dim) dim vectors.now.rows (steps.new - steps.old) }
+        ensures counted_before { IfErr result (IsCountedBeforeOn (list_width topology dim) dim vectors.now.rows (steps.new - steps.old)) }
     {
-        match point_systems(alloc, dim + 1, dim, vectors, steps)? {
+        match list_systems(alloc, topology, dim, vectors, steps)? {
             None => unreachable!(),
-            Some(found) => Ok(paired(alloc, dim, &found.second, &found.first)?),
+            Some(found) => Ok(pair_of_vectors(alloc, topology, dim, vectors, &found)?),
         }
     }
 
@@ -173,16 +158,16 @@ impl Poly {
         cons: &ConsSys,
         steps: &mut Steps<L>,
     ) -> Result<Poly, ConvErr>
-        requires closed { topology ≡ Closed }
         requires narrow { cons.now.dim ≤ MAX_DIM }
-        requires kinds { AreClosed cons.now }
+        requires kinds { AreConstraintsFor topology cons.now }
         ensures points { IfOk result (IsOfConstraints topology cons.now) }
-        ensures overflow { IfErr result (IsOverflowOn (cons.now.dim + 1) cons.now.dim (constraint_list cons.now)) }
+        ensures stored { IfOk result (AreStoredOfRows topology cons.now.dim (constraints_of topology cons.now)) }
+        ensures overflow { IfErr result (IsOverflowOn (list_width topology cons.now.dim) cons.now.dim (constraints_of topology cons.now)) }
         ensures no_fewer { steps.old ≤ steps.new }
-        ensures counted { IsCountedOn (cons.now.dim + 1) cons.now.dim (constraint_list cons.now) (steps.new - steps.old) }
-        ensures counted_before { IfErr result (IsCountedBeforeOn (cons.now.dim + 1) cons.now.dim (constraint_list cons.now) (steps.new - steps.old)) }
+        ensures counted { IsCountedOn (list_width topology cons.now.dim) cons.now.dim (constraints_of topology cons.now) (steps.new - steps.old) }
+        ensures counted_before { IfErr result (IsCountedBeforeOn (list_width topology cons.now.dim) cons.now.dim (constraints_of topology cons.now) (steps.new - steps.old)) }
     {
-        let rows = constraint_list(alloc, cons)?;
+        let rows = constraint_list(alloc, topology, cons)?;
         Poly::from_rows(alloc, topology, cons.dim(), &rows, steps)
     }
 
@@ -198,23 +183,23 @@ impl Poly {
         gens: &GensSys,
         steps: &mut Steps<L>,
     ) -> Result<Poly, GenErr>
-        requires closed { topology ≡ Closed }
         requires narrow { gens.now.dim ≤ MAX_DIM }
-        requires kinds { AreClosedKinds gens.now }
+        requires kinds { AreGeneratorsFor topology gens.now }
         ensures points { IfOk result (IsOfGenerators topology gens.now) }
+        ensures stored { IfOk result (AreStoredOfGenerators topology gens.now) }
         ensures no_point { (result ≡ Err GenErr.NoPoint) ↔ LacksPoint gens.now.list }
-        ensures overflow { IfErr result (IsGenOverflowOn (gens.now.dim + 1) gens.now.dim (generator_list gens.now)) }
+        ensures overflow { IfErr result (IsGenOverflowOn (list_width topology gens.now.dim) gens.now.dim (generators_of topology gens.now)) }
         ensures no_fewer { steps.old ≤ steps.new }
-        ensures counted { IsCountedOn (gens.now.dim + 1) gens.now.dim (generator_list gens.now) (steps.new - steps.old) }
-        ensures counted_before { IfErr result (IsGenCountedBeforeOn (gens.now.dim + 1) gens.now.dim (generator_list gens.now) (steps.new - steps.old)) }
+        ensures counted { IsCountedOn (list_width topology gens.now.dim) gens.now.dim (generators_of topology gens.now) (steps.new - steps.old) }
+        ensures counted_before { IfErr result (IsGenCountedBeforeOn (list_width topology gens.now.dim) gens.now.dim (generators_of topology gens.now) (steps.new - steps.old)) }
     {
         if gens.is_empty() {
-            return Ok(Poly::empty(alloc, topology, gens.dim())?);
+            return Ok(no_points(alloc, topology, gens.dim())?);
         }
         if !has_point_kind(gens) {
             return Err(GenErr::NoPoint);
         }
-        let vectors = generator_list(alloc, gens)?;
+        let vectors = generator_list(alloc, topology, gens)?;
         Ok(Poly::from_vectors(alloc, topology, gens.dim(), &vectors, steps)?)
     }
 }

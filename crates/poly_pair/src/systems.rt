@@ -1,13 +1,15 @@
 //! The two canonical systems of a list, of any width.
 ghost use Rattle.std.specs.Prelude.{◌≡◌, ℕ, ◌+◌, ◌-◌, ◌^◌, ◌<◌, ◌≤◌, List, length, IfOk, IfErr, MatchBool};
-ghost use Rattle.row_core.specs.Lists.{vectors};
+ghost use Rattle.row_core.specs.Lists.{FitWidth, vectors};
 ghost use Rattle.chernikova.specs.Changes.{AreLists};
 ghost use Rattle.chernikova.specs.Conversion.{IsRealOverflow, IsCountedUpto, IsCountedBefore};
 ghost use Rattle.pair_laws.specs.WorkLists.{HasPoint};
+ghost use Rattle.poly_pair.specs.TopologyLists.{list_width};
 ghost use Rattle.poly_pair.specs.Conversions.{cone_rows, IsSecondOf, HaveNoPoint, AreListSystems, IsCountedOn};
 ghost use Rattle.poly_pair.specs.Refusals.{IsOverflowOn, IsCountedBeforeOn};
 
 use crate::lists::second_list;
+use crate::topology::Topology;
 use chernikova::{Cone, convert};
 use row_core::{ConvErr, RowList, Steps};
 use std::alloc::Global;
@@ -58,7 +60,7 @@ pub(crate) fn second_system<L: Ledger>(
 /// # Errors
 ///
 /// An overflow is one of the conversion of the list, or of its second list.
-pub(crate) fn point_systems<L: Ledger>(
+fn point_systems<L: Ledger>(
     alloc: Global,
     width: usize,
     column: usize,
@@ -80,4 +82,27 @@ pub(crate) fn point_systems<L: Ledger>(
     }
     let second = second_system(alloc, width, &first, steps)?;
     Ok(Some(Systems { first, second }))
+}
+
+/// The two systems of a list of a topology, or nothing where its first system has no point.
+///
+/// # Errors
+///
+/// An overflow is one of the conversion of the list, or of its second list.
+pub(crate) fn list_systems<L: Ledger>(
+    alloc: Global,
+    topology: Topology,
+    dim: usize,
+    list: &RowList,
+    steps: &mut Steps<L>,
+) -> Result<Option<Systems>, ConvErr>
+    requires { list.now.width ≡ list_width topology dim }
+    ensures fit { FitWidth list.now }
+    ensures systems { IfOk result (AreListSystems (list_width topology dim) dim list.now.rows) }
+    ensures overflow { IfErr result (IsOverflowOn (list_width topology dim) dim list.now.rows) }
+    ensures no_fewer { steps.old ≤ steps.new }
+    ensures counted { IsCountedOn (list_width topology dim) dim list.now.rows (steps.new - steps.old) }
+    ensures counted_before { IfErr result (IsCountedBeforeOn (list_width topology dim) dim list.now.rows (steps.new - steps.old)) }
+{
+    point_systems(alloc, list.width(), dim, list, steps)
 }

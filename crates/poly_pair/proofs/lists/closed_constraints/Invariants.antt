@@ -1,6 +1,6 @@
 use Rattle.std.proofs.Common.{◌≡◌, ◌+◌, ◌∷◌, take, map, false}
 use Rattle.pair_laws.specs.WorkLists.{divisor_row, constraint_row}
-use Rattle.poly_pair.proofs.lists.constraint_list.Given as goal
+use Rattle.poly_pair.proofs.lists.closed_constraints.Given as goal
 
 abbrev pub invariant-loop-index : goal.invariant-loop-index
 invariant-loop-index l = record {
