@@ -1,0 +1,3 @@
+pub mod ListedVectors
+pub mod Directions
+pub mod JoinedLists
