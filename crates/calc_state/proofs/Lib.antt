@@ -1,10 +1,11 @@
-pub mod WordLemmas
-pub mod LineLemmas
-pub mod NumberLemmas
-pub mod SpellLemmas
-pub mod FullForms
-pub mod TableLemmas
-pub mod AskLemmas
-pub mod OneReply
 pub mod CutLines
-pub mod DistinctNames
+mod DistinctNames
+mod FaultOrder
+mod LineLemmas
+mod MakerLemmas
+mod PointLemmas
+mod QuestionLemmas
+pub mod StepLemmas
+mod StrictTexts
+mod TableLemmas
+mod TextFaults

@@ -1,156 +1,93 @@
-use Rattle.std.proofs.Common.{◌≡◌, ◌≢◌, ℕ, ◌<◌, ◌≤◌, List, [], ◌∷◌, ◌++◌, Bool, true, false, zero, suc, refl, ap, sym, ◌∙◌, arith, append_assoc, eqb, subst, inl, inr, codes}
-use Rattle.std.proofs.lemmas.Bool.Decides.{eqb_tells}
-use Rattle.grammar.specs.Form.{Times, Matches, byte}
-use Rattle.grammar.specs.Grammar.{◌∣◌, symbol, blank, blanks, gap, digit, nat, name}
-use Rattle.calc_state.specs.Line.{cons_front, has_front, cons_name, cons_digits, has_name}
-use Rattle.calc_state.specs.Words.{is_blank, is_in_word, word_of, behind_word, behind_colon}
-use Rattle.calc_state.proofs.WordLemmas.{Each, Stops, IsWord, BeginsWord, word_of-front, behind_word-front, behind_colon-append}
+-- What holds of each step of the calculator.
+use Rattle.std.proofs.Common.{◌≡◌, ℕ, List, Ok, Err, Result, refl, sym, subst, inl, inr}
+use Rattle.row_core.specs.declared.errors.Overflow.{Overflow}
+use Rattle.reply_text.specs.declared.faults.Fault.{Fault}
+use Rattle.script_text.specs.declared.command.Command.{Command}
+use Rattle.script_text.specs.Line.{Spells, SpellsOne, ReadsOnce}
+use Rattle.calc_state.specs.declared.refusal.StepErr.{StepErr}
+use Rattle.calc_state.specs.declared.refusal.StepErr.TheVariants as err
+use Rattle.calc_state.specs.Table.{Table}
+use Rattle.calc_state.specs.Order.{order, Passes}
+use Rattle.calc_state.specs.Meanings.{meaning}
+use Rattle.calc_state.specs.Step.{Reply, Answered, Refused, Overflows, IsPerformed, Performs, GivesCommand, HaveSameFault, IsRefusedFor, IsAcceptedUnlessMemory, Agrees, IsGiven}
+use Rattle.calc_state.specs.Line.{Step, Gives, IsFaultOf, MustSucceed, SpellsQuestion}
+use Rattle.calc_state.specs.Laws.{HasOneFault, HasOneAnswer}
+use Rattle.calc_state.proofs.StepLemmas.{Faults, first_or_none, faults_of, same_faults}
 
-Each-append : (p : ℕ → Bool) (u v : List ℕ) → Each p u → Each p v → Each p (u ++ v)
-Each-append p [] v h k = k
-Each-append p (b ∷ u) v h k = (h.0, Each-append p u v h.1 k)
+-- ---- replies to one line
+-- replies to two commands that are the same
+same_command : (old new other : Table) (c d : Command) (r s : Reply) → c ≡ d → Performs old c r new → Performs old d s other → HaveSameFault r s
+same_command old new other c d r s e a b =
+    same_faults (meaning old d).conditions r s (subst (λ (x : Command). Faults (meaning old x).conditions r) e (faults_of (meaning old c) old new r a)) (faults_of (meaning old d) old other s b)
 
-Each-times : (p : ℕ → Bool) (P : List ℕ → Type 0) → ((u : List ℕ) → P u → Each p u) → (n : ℕ) (w : List ℕ) → Times P n w → Each p w
-Each-times p P each zero w e = subst (Each p) (sym e) tt
-Each-times p P each (suc n) w (u, v, e, h, more) = subst (Each p) (sym e) (Each-append p u v (each u h) (Each-times p P each n v more))
+-- both replies are refusals for the same fault
+refused_same : (f g : Fault) (r s : Reply) → r ≡ Refused f → s ≡ Refused g → f ≡ g → HaveSameFault r s
+refused_same f g r s er es e = subst (λ (x : Reply). HaveSameFault x s) (sym er) (subst (λ (x : Reply). HaveSameFault (Refused f) x) (sym es) e)
 
-eqb-false_of : (a b : ℕ) → a ≢ b → eqb a b ≡ false
-eqb-false_of a b h = elim (eqb_tells a b) [ inl e ↦ absurd (h e.1) | inr e ↦ e.0 ]
+pub one_fault : SpellsOne → ReadsOnce → HasOneFault
+one_fault S R old line r s new other (inl a) (inl b) = same_command old new other a.command b.command r s (S line a.command b.command a.spelled b.spelled) a.performed b.performed
+one_fault S R old line r s new other (inl a) (inr b) = absurd (R.spelled line a.command b.fault a.spelled b.cause)
+one_fault S R old line r s new other (inr a) (inl b) = absurd (R.spelled line b.command a.fault b.spelled a.cause)
+one_fault S R old line r s new other (inr a) (inr b) = refused_same a.fault b.fault r s a.shown b.shown (R.unread line a.fault b.fault a.cause b.cause)
 
--- a byte that is no space, no tab and no colon
-in_word : (b : ℕ) → b ≢ 32 → b ≢ 9 → b ≢ 58 → is_in_word b ≡ true
-in_word b h k l = rw (eqb-false_of b 32 h, eqb-false_of b 9 k, eqb-false_of b 58 l)
+-- ---- what was given
+pub agrees : HasOneFault → (old new other : Table) (line : List ℕ) (result : Result (List ℕ) StepErr) (reply : Reply) → Gives old line result new → Step old line reply other → Agrees result reply
+agrees law old new other line (Ok lines) reply a b = law old line (Answered lines) reply new other a b
+agrees law old new other line (Err (err.Input f)) reply a b = law old line (Refused f) reply new other a b
+agrees law old new other line (Err (err.Overflow over)) reply a b = law old line (Overflows over) reply new other a b
+agrees law old new other line (Err err.Memory) reply a b = tt
 
-is_32 : (b : ℕ) → 32 ≤ b → b ≤ 32 → b ≡ 32
-is_32 b h k = omega arith
+-- a fault of the line is a reply to it
+step_of_fault : (old : Table) (line : List ℕ) (f : Fault) → IsFaultOf old line f → Step old line (Refused f) old
+step_of_fault old line f (inl unread) = inr (record { fault = f; cause = unread; shown = refl; unchanged = refl })
+step_of_fault old line f (inr is) = inl (record { command = is.command; spelled = is.spelled; performed = (is.first, refl) })
 
-is_9 : (b : ℕ) → 9 ≤ b → b ≤ 9 → b ≡ 9
-is_9 b h k = omega arith
+refused_of_same : (f : Fault) (result : Result (List ℕ) StepErr) → Agrees result (Refused f) → IsRefusedFor f result
+refused_of_same f (Ok lines) same = same
+refused_of_same f (Err (err.Input g)) same = same
+refused_of_same f (Err (err.Overflow over)) same = same
+refused_of_same f (Err err.Memory) same = tt
 
-Each-blank : (u : List ℕ) → Matches blank u → Each is_blank u
-Each-blank u (inl (b, low, high, e)) = subst (Each is_blank) (sym e) (ap is_blank (is_32 b low high), tt)
-Each-blank u (inr (b, low, high, e)) = subst (Each is_blank) (sym e) (ap is_blank (is_9 b low high), tt)
+pub refused_for : HasOneFault → (old new : Table) (line : List ℕ) (result : Result (List ℕ) StepErr) (f : Fault) → Gives old line result new → IsFaultOf old line f → IsRefusedFor f result
+refused_for law old new line result f given is = refused_of_same f result (agrees law old new old line result (Refused f) given (step_of_fault old line f is))
 
-pub Each-blanks : (u : List ℕ) → Matches blanks u → Each is_blank u
-Each-blanks u (n, times) = Each-times is_blank (Matches blank) Each-blank n u times
+-- the reply is an acceptance
+abbrev IsAnswer : Reply → Type 0
+IsAnswer (Answered lines) = Unit {0}
+IsAnswer (Refused f) = ⊥
+IsAnswer (Overflows o) = ⊥
 
-Stops-blank : (u t : List ℕ) → Matches blank u → Stops is_in_word (u ++ t)
-Stops-blank u t (inl (b, low, high, e)) = subst (λ (w : List ℕ). Stops is_in_word (w ++ t)) (sym e) (ap is_in_word (is_32 b low high))
-Stops-blank u t (inr (b, low, high, e)) = subst (λ (w : List ℕ). Stops is_in_word (w ++ t)) (sym e) (ap is_in_word (is_9 b low high))
+answer_of_safe : (old new : Table) (c : Command) (r : Reply) → Performs old c r new → Passes (meaning old c).conditions → ((over : Overflow) → ¬ ((meaning old c).overflows over)) → IsAnswer r
+answer_of_safe old new c (Answered lines) p passes safe = tt
+answer_of_safe old new c (Refused f) p passes safe = first_or_none order (meaning old c).conditions f p.0 passes
+answer_of_safe old new c (Overflows o) p passes safe = safe o p.1
 
-Stops-gap : (u t : List ℕ) → Matches gap u → Stops is_in_word (u ++ t)
-Stops-gap u t (a, b, e, one, more) =
-    subst (λ (w : List ℕ). Stops is_in_word (w ++ t)) (sym e) (subst (Stops is_in_word) (sym (append_assoc a b t)) (Stops-blank a (b ++ t) one))
+safe_reply : SpellsOne → ReadsOnce → (old new : Table) (line : List ℕ) (r : Reply) → Step old line r new → MustSucceed old line → IsAnswer r
+safe_reply S R old new line r (inl a) m =
+    answer_of_safe old new m.command r (subst (λ (c : Command). Performs old c r new) (S line a.command m.command a.spelled m.spelled) a.performed) m.faultless m.safe
+safe_reply S R old new line r (inr b) m = absurd (R.spelled line m.command b.fault m.spelled b.cause)
 
--- blanks and a colon end a word
-Stops-blanks : (u t : List ℕ) → Matches blanks u → Stops is_in_word (u ++ (58 ∷ t))
-Stops-blanks u t (zero, e) = subst (λ (w : List ℕ). Stops is_in_word (w ++ (58 ∷ t))) (sym e) refl
-Stops-blanks u t (suc n, (a, b, e, one, more)) =
-    subst (λ (w : List ℕ). Stops is_in_word (w ++ (58 ∷ t))) (sym e) (subst (Stops is_in_word) (sym (append_assoc a b (58 ∷ t))) (Stops-blank a (b ++ (58 ∷ t)) one))
+pub complete : SpellsOne → ReadsOnce → (old new : Table) (line : List ℕ) (result : Result (List ℕ) StepErr) → Gives old line result new → MustSucceed old line → IsAcceptedUnlessMemory result
+complete S R old new line (Ok lines) given m = tt
+complete S R old new line (Err (err.Input f)) given m = safe_reply S R old new line (Refused f) given m
+complete S R old new line (Err (err.Overflow o)) given m = safe_reply S R old new line (Overflows o) given m
+complete S R old new line (Err err.Memory) given m = tt
 
-Each-gap : (u : List ℕ) → Matches gap u → Each is_blank u
-Each-gap u (a, b, e, one, more) = subst (Each is_blank) (sym e) (Each-append is_blank a b (Each-blank a one) (Each-blanks b more))
+pub only_answer : HasOneAnswer → (old new other : Table) (line : List ℕ) (result : Result (List ℕ) StepErr) (reply : Reply) → Gives old line result new → SpellsQuestion line → Step old line reply other → IsGiven result reply
+only_answer law old new other line (Ok lines) reply a is b = (law old line reply (Answered lines) other new is b a).0
+only_answer law old new other line (Err (err.Input f)) reply a is b = (law old line reply (Refused f) other new is b a).0
+only_answer law old new other line (Err (err.Overflow o)) reply a is b = (law old line reply (Overflows o) other new is b a).0
+only_answer law old new other line (Err err.Memory) reply a is b = tt
 
-between : (b low high : ℕ) → low ≤ b → b ≤ high → 58 < low → is_in_word b ≡ true
-between b low high h k l = in_word b (omega arith) (omega arith) (omega arith)
+-- a command that was refused leaves the table as it was
+pub given_refusal : (old new : Table) (command : Command) (e : StepErr) → new ≡ old → IsPerformed (meaning old command) (Err e) → GivesCommand old command (Err e) new
+given_refusal old new command (err.Input fault) same is = (is, same)
+given_refusal old new command (err.Overflow over) same is = (is.0, is.1, same)
+given_refusal old new command err.Memory same is = same
 
-digit_in_word : (b : ℕ) → 48 ≤ b → b ≤ 57 → is_in_word b ≡ true
-digit_in_word b h k = in_word b (omega arith) (omega arith) (omega arith)
-
-Each-digit : (u : List ℕ) → Matches digit u → Each is_in_word u
-Each-digit u (b, low, high, e) = subst (Each is_in_word) (sym e) (digit_in_word b low high, tt)
-
-Each-letter : (u : List ℕ) → Matches (byte 97 122) u → Each is_in_word u
-Each-letter u (b, low, high, e) = subst (Each is_in_word) (sym e) (between b 97 122 low high (omega arith), tt)
-
-Each-underscore : (u : List ℕ) → Matches (symbol 95) u → Each is_in_word u
-Each-underscore u (b, low, high, e) = subst (Each is_in_word) (sym e) (between b 95 95 low high (omega arith), tt)
-
-Each-name_byte : (u : List ℕ) → Matches (byte 97 122 ∣ digit ∣ symbol 95) u → Each is_in_word u
-Each-name_byte u (inl letter) = Each-letter u letter
-Each-name_byte u (inr (inl number)) = Each-digit u number
-Each-name_byte u (inr (inr line)) = Each-underscore u line
-
--- a text of one byte and others, each in a word
-one_more : (w u v : List ℕ) (b : ℕ) → w ≡ u ++ v → u ≡ b ∷ [] → Each is_in_word u → Each is_in_word v → IsWord w
-one_more w u v b e f h k = record {
-  first = b;
-  others = v;
-  is = rw (e, f);
-  each = subst (Each is_in_word) (sym e) (Each-append is_in_word u v h k);
-}
-
-pub name_is_word : (w : List ℕ) → Matches name w → IsWord w
-name_is_word w (u, v, e, (b, low, high, eb), (n, within, times)) =
-    one_more w u v b e eb (Each-letter u (b, low, high, eb)) (Each-times is_in_word (Matches (byte 97 122 ∣ digit ∣ symbol 95)) Each-name_byte n v times)
-
-pub nat_is_word : (w : List ℕ) → Matches nat w → IsWord w
-nat_is_word w (u, v, e, (b, low, high, eb), (n, times)) =
-    one_more w u v b e eb (Each-digit u (b, low, high, eb)) (Each-times is_in_word (Matches digit) Each-digit n v times)
-
-cons_is_word : IsWord (codes "cons")
-cons_is_word = record { first = 99; others = codes "ons"; is = refl; each = (refl, (refl, (refl, (refl, tt)))) }
-
-closed_is_word : IsWord (codes "closed")
-closed_is_word = record { first = 99; others = codes "losed"; is = refl; each = (refl, (refl, (refl, (refl, (refl, (refl, tt)))))) }
-
-has_is_word : IsWord (codes "has")
-has_is_word = record { first = 104; others = codes "as"; is = refl; each = (refl, (refl, (refl, tt))) }
-
-same_word : (w c : List ℕ) → w ≡ c → IsWord c → IsWord w
-same_word w c e h = subst IsWord (sym e) h
-
-begins : (front b r c r1 : List ℕ) → front ≡ b ++ r → r ≡ c ++ r1 → Each is_blank b → IsWord c → BeginsWord front c r1
-begins front b r c r1 e f h w = record { before = b; rest = r; whole = e; parts = f; blank = h; is_word = w }
-
-stops_at : (r u v t : List ℕ) → r ≡ u ++ v → Stops is_in_word (u ++ (v ++ t)) → Stops is_in_word (r ++ t)
-stops_at r u v t e s = subst (λ (w : List ℕ). Stops is_in_word (w ++ t)) (sym e) (subst (Stops is_in_word) (sym (append_assoc u v t)) s)
-
--- the four words of a line that makes, and what stands behind its colon
-pub record MakingWords (front part name_part digits : List ℕ) : Type 0 where
-  pub first : word_of (front ++ (58 ∷ part)) ≡ codes "cons"
-  pub second : word_of (behind_word (front ++ (58 ∷ part))) ≡ name_part
-  pub fourth : word_of (behind_word (behind_word (behind_word (front ++ (58 ∷ part))))) ≡ digits
-  pub last : behind_colon (behind_word (behind_word (behind_word (behind_word (front ++ (58 ∷ part)))))) ≡ part
-
-pub making_words : (w part : List ℕ) (m : Matches cons_front w) → MakingWords w part (cons_name w m) (cons_digits w m)
-making_words w part (b, r, e, before, (c, r1, e1, command, (g, r2, e2, gap1, (named, r3, e3, isname, (h, r4, e4, gap2, (t, r5, e5, top, (i, r6, e6, gap3, (digits, r7, e7, number, behind)))))))) =
-    let tail : List ℕ = 58 ∷ part in
-    let starts : BeginsWord w c r1 = begins w b r c r1 e e1 (Each-blanks b before) (same_word c (codes "cons") command cons_is_word) in
-    let first_stops : Stops is_in_word (r1 ++ tail) = stops_at r1 g r2 tail e2 (Stops-gap g (r2 ++ tail) gap1) in
-    let one : behind_word (w ++ tail) ≡ r1 ++ tail = behind_word-front w c r1 tail starts first_stops in
-    let into : BeginsWord r1 named r3 = begins r1 g r2 named r3 e2 e3 (Each-gap g gap1) (name_is_word named isname) in
-    let two_stops : Stops is_in_word (r3 ++ tail) = stops_at r3 h r4 tail e4 (Stops-gap h (r4 ++ tail) gap2) in
-    let two : behind_word (r1 ++ tail) ≡ r3 ++ tail = behind_word-front r1 named r3 tail into two_stops in
-    let three : behind_word (r3 ++ tail) ≡ r5 ++ tail = behind_word-front r3 t r5 tail (begins r3 h r4 t r5 e4 e5 (Each-gap h gap2) (same_word t (codes "closed") top closed_is_word)) (stops_at r5 i r6 tail e6 (Stops-gap i (r6 ++ tail) gap3)) in
-    let last : BeginsWord r5 digits r7 = begins r5 i r6 digits r7 e6 e7 (Each-gap i gap3) (nat_is_word digits number) in
-    let four_stops : Stops is_in_word (r7 ++ tail) = Stops-blanks r7 part behind in
-    let four : behind_word (r5 ++ tail) ≡ r7 ++ tail = behind_word-front r5 digits r7 tail last four_stops in
-    let at3 : behind_word (behind_word (behind_word (w ++ tail))) ≡ r5 ++ tail = ap (λ u. behind_word (behind_word u)) one ∙ (ap behind_word two ∙ three) in
-    record {
-      first = word_of-front w c r1 tail starts first_stops ∙ command;
-      second = ap word_of one ∙ word_of-front r1 named r3 tail into two_stops;
-      fourth = ap word_of at3 ∙ word_of-front r5 digits r7 tail last four_stops;
-      last = ap (λ u. behind_colon (behind_word u)) at3 ∙ (ap behind_colon four ∙ behind_colon-append r7 part (Each-blanks r7 behind));
-    }
-
--- the two words of a line that asks, and what stands behind its colon
-pub record AskingWords (front part name_part : List ℕ) : Type 0 where
-  pub first : word_of (front ++ (58 ∷ part)) ≡ codes "has"
-  pub second : word_of (behind_word (front ++ (58 ∷ part))) ≡ name_part
-  pub last : behind_colon (behind_word (behind_word (front ++ (58 ∷ part)))) ≡ part
-
-pub asking_words : (w part : List ℕ) (m : Matches has_front w) → AskingWords w part (has_name w m)
-asking_words w part (b, r, e, before, (c, r1, e1, command, (g, r2, e2, gap1, (named, r3, e3, isname, behind)))) =
-    let tail : List ℕ = 58 ∷ part in
-    let starts : BeginsWord w c r1 = begins w b r c r1 e e1 (Each-blanks b before) (same_word c (codes "has") command has_is_word) in
-    let first_stops : Stops is_in_word (r1 ++ tail) = stops_at r1 g r2 tail e2 (Stops-gap g (r2 ++ tail) gap1) in
-    let one : behind_word (w ++ tail) ≡ r1 ++ tail = behind_word-front w c r1 tail starts first_stops in
-    let into : BeginsWord r1 named r3 = begins r1 g r2 named r3 e2 e3 (Each-gap g gap1) (name_is_word named isname) in
-    let stops : Stops is_in_word (r3 ++ tail) = Stops-blanks r3 part behind in
-    let two : behind_word (r1 ++ tail) ≡ r3 ++ tail = behind_word-front r1 named r3 tail into stops in
-    record {
-      first = word_of-front w c r1 tail starts first_stops ∙ command;
-      second = ap word_of one ∙ word_of-front r1 named r3 tail into stops;
-      last = ap (λ u. behind_colon (behind_word u)) one ∙ (ap behind_colon two ∙ behind_colon-append r3 part (Each-blanks r3 behind));
-    }
+-- what a command of the line gave is what the line gave
+pub gives_line : (old new : Table) (line : List ℕ) (command : Command) (result : Result (List ℕ) StepErr) → Spells line command → GivesCommand old command result new → Gives old line result new
+gives_line old new line command (Ok lines) s given = inl (record { command = command; spelled = s; performed = given })
+gives_line old new line command (Err (err.Input f)) s given = inl (record { command = command; spelled = s; performed = given })
+gives_line old new line command (Err (err.Overflow o)) s given = inl (record { command = command; spelled = s; performed = given })
+gives_line old new line command (Err err.Memory) s given = given

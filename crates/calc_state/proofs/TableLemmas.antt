@@ -1,58 +1,49 @@
-use Rattle.std.proofs.Common.{◌≡◌, ℕ, List, [], ◌∷◌, Some, Bool, true, false, refl, sym, ◌∙◌, map, ap, cond, Vec, Global}
-use Rattle.std.specs.List.{AllByRecursion, IsDistinct}
+use Rattle.std.proofs.Common.{◌≡◌, ℕ, List, [], ◌∷◌, ◌++◌, Some, true, false, refl, sym, ◌∙◌, map, ap, cond, codes, append_assoc, append-nil, Vec, Global}
 use Rattle.std.specs.Str.{bytes_eq}
 use Rattle.std.specs.Map.{keys_of, lookup}
-use Rattle.std.proofs.lemmas.Slice.Eq.{bytes_eq-Decides}
-use Rattle.std.proofs.lemmas.Map.Made.{AllPairs-from_IsDistinct, IsDistinct-from_AllPairs}
-use Rattle.indexmap.specs.IndexMap.{insert_entry}
-use Rattle.cons_sys.specs.Constraints.{Constraints}
-use Rattle.calc_state.specs.Table.{Table, system_of, put, HasDistinctNames}
+use Rattle.indexmap.specs.IndexMap.{insert_entry, shift_remove_entry}
+use Rattle.calc_state.specs.declared.entry.Entry.{Entry}
+use Rattle.calc_state.specs.Table.{Table, entry_of, put, without}
+use Rattle.calc_state.specs.Questions.{spaced}
 
 abbrev pub Key : Type 0
 Key = Vec ℕ Global
 
 -- the entries without where their names lie in memory
-abbrev pub named : List (Key × Constraints) → Table
+abbrev pub named : List (Key × Entry) → Table
 named es = map (λ e. (e.0.items, e.1)) es
 
-pub lookup-named : (es : List (Key × Constraints)) (name : List ℕ) → lookup (λ (k : Key). bytes_eq name k.items) es ≡ system_of (named es) name
+pub lookup-named : (es : List (Key × Entry)) (name : List ℕ) → lookup (λ (k : Key). bytes_eq name k.items) es ≡ entry_of (named es) name
 lookup-named [] name = refl
 lookup-named (e ∷ es) name = ap (λ o. cond (bytes_eq name e.0.items) (Some e.1) o) (lookup-named es name)
 
-pub named-insert_entry : (es : List (Key × Constraints)) (key : Key) (value : Constraints) → named (insert_entry (λ (a b : Key). bytes_eq a.items b.items) es key value) ≡ put (named es) key.items value
+pub named-insert_entry : (es : List (Key × Entry)) (key : Key) (value : Entry) → named (insert_entry (λ (a b : Key). bytes_eq a.items b.items) es key value) ≡ put (named es) key.items value
 named-insert_entry [] key value = refl
 named-insert_entry (e ∷ es) key value =
     elim (bytes_eq key.items e.0.items) as (λ b. named (cond b ((e.0, value) ∷ es) (e ∷ insert_entry (λ (x y : Key). bytes_eq x.items y.items) es key value)) ≡ cond b ((e.0.items, value) ∷ named es) ((e.0.items, e.1) ∷ put (named es) key.items value)) [ true ↦ refl | false ↦ ap (λ t. (e.0.items, e.1) ∷ t) (named-insert_entry es key value) ]
 
-bytes_eq-flip : (a b : List ℕ) → bytes_eq a b ≡ false → bytes_eq b a ≡ false
-bytes_eq-flip a b h =
-    elim (bytes_eq b a) as (λ t. bytes_eq b a ≡ t → t ≡ false) [
-      | true ↦ λ e. sym ((bytes_eq-Decides a b).1 (sym ((bytes_eq-Decides b a).0 e))) ∙ h
-      | false ↦ λ e. refl
-    ] refl
+pub named-remove_entry : (es : List (Key × Entry)) (name : List ℕ) → named (shift_remove_entry (λ (k : Key). bytes_eq name k.items) es) ≡ without (named es) name
+named-remove_entry [] name = refl
+named-remove_entry (e ∷ es) name =
+    elim (bytes_eq name e.0.items) as (λ b. named (cond b es (e ∷ shift_remove_entry (λ (k : Key). bytes_eq name k.items) es)) ≡ cond b (named es) ((e.0.items, e.1) ∷ without (named es) name)) [ true ↦ refl | false ↦ ap (λ t. (e.0.items, e.1) ∷ t) (named-remove_entry es name) ]
 
-AllByRecursion-put_cases : (P : List ℕ → Type 0) (b : Bool) (entry : List ℕ × Constraints) (system : Constraints) (table changed : Table) → P entry.0 → AllByRecursion P (keys_of table) → AllByRecursion P (keys_of changed) → AllByRecursion P (keys_of (cond b ((entry.0, system) ∷ table) (entry ∷ changed)))
-AllByRecursion-put_cases P true entry system table changed first others more = (first, others)
-AllByRecursion-put_cases P false entry system table changed first others more = (first, more)
+-- ---- names in order
+-- the names, without where they lie in memory
+abbrev pub names_in : List Key → List (List ℕ)
+names_in keys = map (λ k. k.items) keys
 
--- what holds of each name and of the one that is put holds of each name after it
-AllByRecursion-put : (P : List ℕ → Type 0) (table : Table) (name : List ℕ) (system : Constraints) → P name → AllByRecursion P (keys_of table) → AllByRecursion P (keys_of (put table name system))
-AllByRecursion-put P [] name system new h = (new, tt)
-AllByRecursion-put P (entry ∷ table) name system new h =
-    AllByRecursion-put_cases P (bytes_eq name entry.0) entry system table (put table name system) h.0 h.1 (AllByRecursion-put P table name system new h.1)
+pub keys_named : (es : List (Key × Entry)) → names_in (keys_of es) ≡ keys_of (named es)
+keys_named [] = refl
+keys_named (e ∷ es) = ap (λ ns. e.0.items ∷ ns) (keys_named es)
 
-IsDistinct-put_cases : (b : Bool) (entry : List ℕ × Constraints) (name : List ℕ) (system : Constraints) (table : Table) → b ≡ bytes_eq name entry.0 → IsDistinct bytes_eq (keys_of (entry ∷ table)) → IsDistinct bytes_eq (keys_of (put table name system)) → IsDistinct bytes_eq (keys_of (cond b ((entry.0, system) ∷ table) (entry ∷ put table name system)))
-unfolding IsDistinct
-IsDistinct-put_cases true entry name system table e h more = h
-IsDistinct-put_cases false entry name system table e h more =
-    (AllByRecursion-put (λ other. bytes_eq entry.0 other ≡ false) table name system (bytes_eq-flip name entry.0 (sym e)) h.0, more)
+-- one more name was written
+pub one_more_name : (text next all : List ℕ) (left less : List Key) (key : Key) → left ≡ key ∷ less → next ≡ (text ++ codes " ") ++ key.items → text ++ spaced (names_in left) ≡ all → next ++ spaced (names_in less) ≡ all
+one_more_name text next all left less key e f h =
+    ap (λ w. w ++ spaced (names_in less)) f
+    ∙ (append_assoc (text ++ codes " ") key.items (spaced (names_in less))
+    ∙ (append_assoc text (codes " ") (key.items ++ spaced (names_in less))
+    ∙ (sym (ap (λ keys. text ++ spaced (names_in keys)) e) ∙ h)))
 
-IsDistinct-put : (table : Table) (name : List ℕ) (system : Constraints) → IsDistinct bytes_eq (keys_of table) → IsDistinct bytes_eq (keys_of (put table name system))
-unfolding IsDistinct
-IsDistinct-put [] name system h = (tt, tt)
-IsDistinct-put (entry ∷ table) name system h =
-    IsDistinct-put_cases (bytes_eq name entry.0) entry name system table refl h (IsDistinct-put table name system h.1)
-
-pub HasDistinctNames-put : (table : Table) (name : List ℕ) (system : Constraints) → HasDistinctNames table → HasDistinctNames (put table name system)
-HasDistinctNames-put table name system h =
-    AllPairs-from_IsDistinct bytes_eq-Decides (keys_of (put table name system)) (IsDistinct-put table name system (IsDistinct-from_AllPairs bytes_eq-Decides (keys_of table) h))
+-- all names were written
+pub all_names : (text all : List ℕ) (left : List Key) → left ≡ [] → text ++ spaced (names_in left) ≡ all → text ≡ all
+all_names text all left e h = sym (append-nil text) ∙ (sym (ap (λ keys. text ++ spaced (names_in keys)) e) ∙ h)

@@ -1,6 +1,11 @@
-pub mod Line
-pub mod Words
-pub mod Shown
 pub mod Table
+pub mod Order
+pub mod Refusals
+pub mod Meaning
+pub mod Texts
+pub mod Makers
+pub mod Questions
+pub mod Meanings
 pub mod Step
+pub mod Line
 pub mod Laws

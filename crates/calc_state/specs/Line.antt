@@ -1,92 +1,59 @@
-use Rattle.std.specs.Prelude.{◌≡◌, ℕ, ◌≤◌, List, ◌∷◌, ◌++◌, codes}
-use Rattle.grammar.specs.Form.{Form, Matches, word, byte, many}
-use Rattle.grammar.specs.Grammar.{◌·◌, ◌∣◌, ◌⋯◌, symbol, blanks, gap, alone, list_of, digit, nat, name, expr, vexpr}
-use Rattle.term_text.specs.Numbers.{number_after}
-use Rattle.calc_state.specs.declared.line.LineErr.{LineErr}
-use Rattle.calc_state.specs.declared.line.LineErr.TheVariants.{Syntax, Memory}
+-- The steps of the calculator, line by line.
+use Rattle.std.specs.Prelude.{◌≡◌, ◌⊎◌, ℕ, List, Result, Ok, Err}
+use Rattle.reply_text.specs.declared.faults.Fault.{Fault}
+use Rattle.reply_text.specs.declared.faults.ReadErr.TheVariants as unread
+use Rattle.script_text.specs.declared.command.Command.{Command}
+use Rattle.script_text.specs.Line.{Spells, IsUnread}
+use Rattle.calc_state.specs.declared.refusal.StepErr.{StepErr}
+use Rattle.calc_state.specs.declared.refusal.StepErr.TheVariants as err
+use Rattle.calc_state.specs.Table.{Table}
+use Rattle.calc_state.specs.Order.{IsFirst}
+use Rattle.calc_state.specs.Meanings.{meaning}
+use Rattle.calc_state.specs.Step.{Reply, Answered, Refused, Overflows, Performs, IsFaultless, CannotOverflow, IsQuestion}
 
--- one of = >= <=
-abbrev pub closed_rel : Form
-closed_rel = symbol 61 ∣ word (codes ">=") ∣ word (codes "<=")
+-- the line spells a command, which is performed
+pub record Accepts (old : Table) (line : List ℕ) (reply : Reply) (new : Table) : Type 0 where
+  pub command : Command
+  pub spelled : Spells line command
+  pub performed : Performs old command reply new
 
--- EXPR = EXPR, EXPR >= EXPR or EXPR <= EXPR
-abbrev pub closed_con : Form
-closed_con = expr ⋯ closed_rel ⋯ expr
+-- the line spells no command
+pub record Unspelled (old : Table) (line : List ℕ) (reply : Reply) (new : Table) : Type 0 where
+  pub fault : Fault
+  pub cause : IsUnread line (unread.Input fault)
+  pub shown : reply ≡ Refused fault
+  pub unchanged : new ≡ old
 
--- decimal digits, not all of them 0
-abbrev pub positive_nat : Form
-positive_nat = many (symbol 48) · byte 49 57 · many digit
+-- from the old table the calculator gives this reply to the line, and goes on to the new table
+abbrev pub Step : Table → List ℕ → Reply → Table → Type 0
+Step old line reply new = Accepts old line reply new ⊎ Unspelled old line reply new
 
--- VEXPR, or ( VEXPR ) / and a number other than 0
-abbrev pub proper_vfrac : Form
-proper_vfrac = vexpr ∣ (symbol 40 ⋯ vexpr ⋯ symbol 41 ⋯ symbol 47 ⋯ positive_nat)
+-- what was given is such a reply with such a table after it, or memory ran out and the table is as before
+abbrev pub Gives : Table → List ℕ → Result (List ℕ) StepErr → Table → Type 0
+Gives old line (Ok lines) new = Step old line (Answered lines) new
+Gives old line (Err (err.Input fault)) new = Step old line (Refused fault) new
+Gives old line (Err (err.Overflow over)) new = Step old line (Overflows over) new
+Gives old line (Err err.Memory) new = new ≡ old
 
--- p( VFRAC ), where the number behind / isn't 0
-abbrev pub proper_point : Form
-proper_point = word (codes "p(") ⋯ proper_vfrac ⋯ symbol 41
+-- the first fault of a line that spells a command
+pub record CommandFault (old : Table) (line : List ℕ) (fault : Fault) : Type 0 where
+  pub command : Command
+  pub spelled : Spells line command
+  pub first : IsFirst (meaning old command).conditions fault
 
--- cons NAME closed N, before the colon
-abbrev pub cons_front : Form
-cons_front = blanks · word (codes "cons") · gap · name · gap · word (codes "closed") · gap · nat · blanks
+-- the fault of a line
+abbrev pub IsFaultOf : Table → List ℕ → Fault → Type 0
+IsFaultOf old line fault = IsUnread line (unread.Input fault) ⊎ CommandFault old line fault
 
--- cons NAME closed N : CON, CON ..
-abbrev pub cons_line : Form
-cons_line = cons_front · symbol 58 · alone (list_of closed_con)
+-- the line spells a command of which no fault holds, and no list and no pair of it has an overflow
+pub record MustSucceed (old : Table) (line : List ℕ) : Type 0 where
+  pub command : Command
+  pub spelled : Spells line command
+  pub faultless : IsFaultless old command
+  pub safe : CannotOverflow old command
 
--- has NAME, before the colon
-abbrev pub has_front : Form
-has_front = blanks · word (codes "has") · gap · name · blanks
-
--- has NAME : POINT
-abbrev pub has_line : Form
-has_line = has_front · symbol 58 · alone proper_point
-
--- the name of cons NAME closed N
-abbrev pub cons_name : (w : List ℕ) → Matches cons_front w → List ℕ
-cons_name w (b, r, e, before, (c, r1, e1, command, (g, r2, e2, gap1, (named, r3, e3, isname, rest)))) = named
-
--- the digits of N
-abbrev pub cons_digits : (w : List ℕ) → Matches cons_front w → List ℕ
-cons_digits w (b, r, e, before, (c, r1, e1, command, (g, r2, e2, gap1, (named, r3, e3, isname, (h, r4, e4, gap2, (t, r5, e5, top, (i, r6, e6, gap3, (digits, r7, e7, number, behind)))))))) = digits
-
--- the name of has NAME
-abbrev pub has_name : (w : List ℕ) → Matches has_front w → List ℕ
-has_name w (b, r, e, before, (c, r1, e1, command, (g, r2, e2, gap1, (named, r3, e3, isname, behind)))) = named
-
--- a command, with the texts of its parts
-pub data Command : Type 0 where
-  -- a blank line
-  nothing : Command
-  -- the name is to have the constraints of this text over so many variables
-  makes : (name : List ℕ) (dim : ℕ) (constraints : List ℕ) → Command
-  -- is the point of this text in what the name has?
-  asks : (name : List ℕ) (point : List ℕ) → Command
-
--- the line is cons NAME closed N : and this text of constraints
-pub record SpellsMaking (line called : List ℕ) (dim : ℕ) (constraints : List ℕ) : Type 0 where
-  pub front : List ℕ
-  pub whole : line ≡ front ++ 58 ∷ constraints
-  pub form : Matches cons_front front
-  pub behind : Matches (alone (list_of closed_con)) constraints
-  pub named : cons_name front form ≡ called
-  pub dimension : number_after 0 (cons_digits front form) ≡ dim
-  pub small : dim ≤ 31
-
--- the line is has NAME : and this text of a point
-pub record SpellsAsking (line called point : List ℕ) : Type 0 where
-  pub front : List ℕ
-  pub whole : line ≡ front ++ 58 ∷ point
-  pub form : Matches has_front front
-  pub behind : Matches (alone proper_point) point
-  pub named : has_name front form ≡ called
-
--- the line spells the command
-abbrev pub Spells : List ℕ → Command → Type 0
-Spells line nothing = Matches blanks line
-Spells line (makes called dim constraints) = SpellsMaking line called dim constraints
-Spells line (asks called point) = SpellsAsking line called point
-
--- the line spells no command, or memory ran out
-abbrev pub IsUnread : List ℕ → LineErr → Type 0
-IsUnread line Syntax = (c : Command) → ¬ (Spells line c)
-IsUnread line Memory = Unit {0}
+-- the line spells a question
+pub record SpellsQuestion (line : List ℕ) : Type 0 where
+  pub command : Command
+  pub spelled : Spells line command
+  pub question : IsQuestion command

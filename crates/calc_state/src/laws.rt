@@ -1,18 +1,26 @@
 //! Laws of the definitions that the contracts cite.
 ghost use Rattle.std.specs.Prelude.{[]};
 ghost use Rattle.calc_state.specs.Table.{HasDistinctNames};
-ghost use Rattle.calc_state.specs.Laws.{SpellsOne, HasOneReply, KeepsNamesDistinct};
+ghost use Rattle.calc_state.specs.Laws.{HasOneFirst, HasFirstOrPasses, HasOneFault, HasOneAnswer, KeepsNamesDistinct};
 
-/// A line spells one command at most.
-#[tactic(auto, using(crate::proofs::SpellLemmas::spells_one))]
-pub fn one_command()
-    ensures { SpellsOne }
+use script_text::{one_command, reads_once};
+
+/// A command has one first fault in a table, and none where it passes all tests.
+pub fn one_first()
+    ensures once { HasOneFirst }
+    ensures none { HasFirstOrPasses }
 {}
 
-/// The calculator has one reply to a line, and goes on to one table.
+/// The calculator shows one fault to a line or none, and has one reply to a question.
 pub fn one_reply()
-    ensures { HasOneReply }
-{}
+    ensures fault { HasOneFault }
+    ensures question { HasOneAnswer }
+{
+    one_command();
+    reads_once();
+    expr_text::one_answer();
+    cons_sys::one_answer();
+}
 
 /// No two entries of the calculator's table have the same name: the empty table has none, and each
 /// step keeps the names distinct.

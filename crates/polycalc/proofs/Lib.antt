@@ -1,7 +1,12 @@
 pub mod RunWords
 pub mod RunLaws
-pub mod TruthLaws
-pub mod OneRun
+pub mod StepLaws
 pub mod CutRuns
 pub mod StreamLaws
 pub mod DistinctNames
+pub mod TableLaws
+pub mod OneSet
+pub mod SetLaws
+pub mod TruthLaws
+pub mod SameTables
+pub mod AcceptedLaws

@@ -6,7 +6,8 @@ use Rattle.std.proofs.lemmas.Grind.{flat_map-append}
 use Rattle.std.proofs.lemmas.List.Folds.{list_all-append}
 use Rattle.std.proofs.lemmas.List.{append-nil}
 use Rattle.calc_state.specs.Table.{Table}
-use Rattle.calc_state.specs.Step.{Reply, Step}
+use Rattle.calc_state.specs.Step.{Reply}
+use Rattle.calc_state.specs.Line.{Step}
 use Rattle.polycalc.specs.Replies.{Written, written, with_reply, reply_bytes, is_answer}
 use Rattle.polycalc.specs.Runs.{Run}
 

@@ -13,7 +13,8 @@ use Rattle.poly_io.specs.declared.line_reader.LineAns.TheVariants.{Line, End, Fa
 use Rattle.poly_io.proofs.CutLaws.{cut_at}
 use Rattle.poly_io.proofs.Known.{append_known-append, append_known-nil}
 use Rattle.calc_state.specs.Table.{Table}
-use Rattle.calc_state.specs.Step.{Reply, Step}
+use Rattle.calc_state.specs.Step.{Reply}
+use Rattle.calc_state.specs.Line.{Step}
 use Rattle.polycalc.specs.Replies.{Written, written, with_reply, reply_bytes, replies_bytes, is_answer, is_clean}
 use Rattle.polycalc.specs.Runs.{Run}
 use Rattle.polycalc.specs.Outcomes.{Completes, WritesPrefix, AnswersWhole, AnswersEarlier}

@@ -1,123 +1,133 @@
--- In each run the answers are true of what was made before.
-use Rattle.std.proofs.Common.{◌≡◌, ℕ, List, [], ◌∷◌, refl, ap, sym, ◌∙◌, subst, inl, inr, Bool, true, false, cond}
-use Rattle.std.specs.Prelude.{Option, None, Some}
-use Rattle.std.specs.Str.{bytes_eq}
-use Rattle.std.proofs.lemmas.Slice.Eq.{bytes_eq-Decides}
-use Rattle.cons_sys.specs.Constraints.{Constraints}
-use Rattle.term_text.specs.Systems.{IsCons}
-use Rattle.calc_state.specs.Line.{Command, nothing, makes, asks}
-use Rattle.calc_state.specs.Table.{Table, system_of, put}
-use Rattle.calc_state.specs.Step.{Reply, Answered, Refused, Overflows, Step, Performs, Replies}
-use Rattle.polycalc.specs.Replies.{is_answer}
+-- In each run the answers are true of the sets that the accepted commands give.
+use Rattle.std.proofs.Common.{◌≡◌, ℕ, List, [], ◌∷◌, ◌++◌, length, refl, ap, sym, ◌∙◌, subst, inl, inr, Bool, true, false}
+use Rattle.std.specs.Prelude.{Option, None, Some, codes, decimal}
+use Rattle.std.specs.Map.{keys_of}
+use Rattle.std.proofs.lemmas.Map.Entries.{length-keys_of}
+use Rattle.expr_text.specs.Printed.{constraints_text, generators_text}
+use Rattle.expr_text.specs.ReadBack.{ConstraintsAreReadBack, GeneratorsAreReadBack}
+use Rattle.expr_text.specs.GeneratorSystems.{IsGens}
+use Rattle.poly_pair.specs.KeptLaws.{KeptIsPair}
+use Rattle.poly_pair.specs.Polyhedra.{Polyhedron, IsOfConstraints, IsOfGenerators, IsUniverse, IsEmpty}
+use Rattle.script_text.specs.declared.command.Part.{Part}
+use Rattle.script_text.specs.declared.command.Command.{Command}
+use Rattle.script_text.specs.declared.command.Command.TheVariants.{Nothing, Cons, Gens, Universe, Empty, Copy, Drop, Add, Addgen, Has, Size, Print, Names}
+use Rattle.calc_state.specs.declared.entry.Entry.{Entry}
+use Rattle.calc_state.specs.declared.change.Change.{Change}
+use Rattle.calc_state.specs.declared.change.Change.TheVariants.{Says, Puts, TakesOut}
+use Rattle.calc_state.specs.Table.{Table, entry_of, poly_of, HasDistinctNames}
+use Rattle.calc_state.specs.Meaning.{IsSaid, IsPut, IsTakenOut, on_one, answer_line}
+use Rattle.calc_state.specs.Meanings.{meaning, topology_of}
+use Rattle.calc_state.specs.Makers.{SaysConstraints, SaysGenerators, more_constraints, more_generators, copy, drop_of, add, addgen}
+use Rattle.calc_state.specs.Questions.{has, size, print, line, size_text, side_text, spaced, names_text}
+use Rattle.calc_state.specs.Step.{Reply, Answered, Refused, Overflows, IsAccepted, IsProper, lines_of, ok_line}
+use Rattle.calc_state.specs.Laws.{KeepsNamesDistinct}
 use Rattle.polycalc.specs.Runs.{Run}
-use Rattle.polycalc.specs.Truth.{Made, last_made, later, SaysTruthOf, IsTruthful, AreTruthful}
+use Rattle.polycalc.specs.Sets.{IsSetOf, names_of}
+use Rattle.polycalc.specs.Truth.{SaysWhether, IsTrueOf, SaysSide, IsTruthful, AreTruthful}
+use Rattle.polycalc.proofs.OneSet.{same_dims, set_proper}
+use Rattle.polycalc.proofs.SetLaws.{Stands, Agrees, nothing_agrees, agrees_then, agrees_still, not_unspelled}
 
-same_choice : (b : Bool) (x y z : Option Constraints) → cond b x z ≡ cond b x (cond b y z)
-same_choice true x y z = refl
-same_choice false x y z = refl
+-- the laws that are cited: what is printed is read back, and both stored systems hold the same points
+pub record ReadBack : Type 0 where
+  pub cons : ConstraintsAreReadBack
+  pub gens : GeneratorsAreReadBack
+  pub pair : KeptIsPair
 
-other_choice : (b c : Bool) (e s rest changed : Option Constraints) → changed ≡ cond c s rest → (b ≡ true → c ≡ true → ⊥) → cond b e changed ≡ cond c s (cond b e rest)
-other_choice true true e s rest changed h k = absurd (k refl refl)
-other_choice true false e s rest changed h k = refl
-other_choice false c e s rest changed h k = h
+said_lines : (lines : List ℕ) (change : Change) → IsSaid lines change → lines_of change ≡ lines
+said_lines lines (Says text) h = h
+said_lines lines (Puts name e) h = absurd h
+said_lines lines (TakesOut name) h = absurd h
 
-differ : (n k name : List ℕ) → false ≡ bytes_eq n k → bytes_eq name k ≡ true → bytes_eq name n ≡ true → ⊥
-differ n k name f a b =
-    let same : n ≡ k = sym ((bytes_eq-Decides name n).0 b) ∙ (bytes_eq-Decides name k).0 a in
-    let t : true ≡ false = sym ((bytes_eq-Decides n k).1 same) ∙ sym f in cc
+has_true : (old new : Table) (earlier : List Command) (name text : List ℕ) (part : Part) (o : Option Polyhedron) → Stands o (IsSetOf earlier name) → IsAccepted (on_one o (has part)) old text new → IsTrueOf earlier name (SaysWhether part text)
+has_true old new earlier name text part None s p = absurd p.does
+has_true old new earlier name text part (Some q) s p =
+    let t = p.does.holds in
+    record {
+      polyhedron = q;
+      set = s;
+      says = record { point = p.does.point; read = p.does.read; holds = t.holds; said = p.lines_are ∙ said_lines (answer_line t.holds) p.change t.said; true_of_point = t.true_of_point };
+    }
 
-system_of-put_cases : (t : Bool) (n k name : List ℕ) (v system : Constraints) (table changed : Table) → t ≡ bytes_eq n k → system_of changed name ≡ cond (bytes_eq name n) (Some system) (system_of table name) → system_of (cond t ((k, system) ∷ table) ((k, v) ∷ changed)) name ≡ cond (bytes_eq name n) (Some system) (cond (bytes_eq name k) (Some v) (system_of table name))
-system_of-put_cases true n k name v system table changed e h =
-    same_choice (bytes_eq name k) (Some system) (Some v) (system_of table name)
-    ∙ ap (λ (x : List ℕ). cond (bytes_eq name x) (Some system) (cond (bytes_eq name k) (Some v) (system_of table name))) (sym ((bytes_eq-Decides n k).0 (sym e)))
-system_of-put_cases false n k name v system table changed e h =
-    other_choice (bytes_eq name k) (bytes_eq name n) (Some v) (Some system) (system_of table name) (system_of changed name) h (differ n k name e)
+size_true : (old new : Table) (earlier : List Command) (name text : List ℕ) (o : Option Polyhedron) → Stands o (IsSetOf earlier name) → IsAccepted (on_one o size) old text new → IsTrueOf earlier name (λ p. text ≡ line (size_text p))
+size_true old new earlier name text None s p = absurd p.does
+size_true old new earlier name text (Some q) s p = record { polyhedron = q; set = s; says = p.lines_are ∙ said_lines (line (size_text q)) p.change p.does }
 
--- under each name stands what was put there last
-pub system_of-put : (table : Table) (n name : List ℕ) (system : Constraints) → system_of (put table n system) name ≡ cond (bytes_eq name n) (Some system) (system_of table name)
-system_of-put [] n name system = refl
-system_of-put (entry ∷ table) n name system =
-    system_of-put_cases (bytes_eq n entry.0) n entry.0 name entry.1 system table (put table n system) refl (system_of-put table n name system)
-
--- the system is that of the line, and there is one exactly where there is the other
-abbrev pub StandsFor : Option Made → Option Constraints → Type 0
-StandsFor None None = Unit {0}
-StandsFor (Some made) (Some system) = IsCons made.dim made.constraints system
-StandsFor None (Some system) = ⊥
-StandsFor (Some made) None = ⊥
-
--- under each name stands the system of the last accepted line of that name
-abbrev pub Agrees : Table → List Made → Type 0
-Agrees table made = (name : List ℕ) → StandsFor (last_made made name) (system_of table name)
-
-chosen_stands : (b : Bool) (made : Made) (system : Constraints) (o : Option Made) (s : Option Constraints) → IsCons made.dim made.constraints system → StandsFor o s → StandsFor (cond b (Some made) o) (cond b (Some system) s)
-chosen_stands true made system o s h k = h
-chosen_stands false made system o s h k = k
-
-put_agrees : (table : Table) (made : List Made) (new : Made) (system : Constraints) → IsCons new.dim new.constraints system → Agrees table made → Agrees (put table new.name system) (new ∷ made)
-put_agrees table made new system h a name =
-    subst (λ (s : Option Constraints). StandsFor (cond (bytes_eq name new.name) (Some new) (last_made made name)) s) (sym (system_of-put table new.name name system))
-    (chosen_stands (bytes_eq name new.name) new system (last_made made name) (system_of table name) h (a name))
-
-answer_is_true : (o : Option Made) (s : Option Constraints) (text lines : List ℕ) → StandsFor o s → Replies s text (Answered lines) → SaysTruthOf o text lines
-answer_is_true None None text lines a r = r
-answer_is_true (Some made) (Some system) text lines a r = record {
-  system = system;
-  constraints = a;
-  point = r.point;
-  read = r.read;
-  holds = r.holds;
-  said = r.lines_are;
-  true_of_point = r.true_of_point;
+side_says : ReadBack → (side : Bool) (text : List ℕ) (q : Polyhedron) → IsProper q → text ≡ line (side_text side q) → SaysSide side text q
+side_says laws false text q proper e = record { text = constraints_text q.cons; said = e; system = q.cons; printed = refl; read = (laws.cons q.cons q.cons proper.cons).1 refl; stored = refl; points = λ v is. (λ x. x, λ x. x) }
+side_says laws true text q proper e = record {
+  text = generators_text q.gens;
+  said = e;
+  system = q.gens;
+  printed = refl;
+  read = subst (λ (n : ℕ). IsGens n (generators_text q.gens) q.gens) (same_dims q proper) ((laws.gens q.gens q.gens proper.gens).1 refl);
+  stored = refl;
+  points = λ v is. ((laws.pair q proper.kept v is).1, (laws.pair q proper.kept v is).0);
 }
-answer_is_true None (Some system) text lines a r = absurd a
-answer_is_true (Some made) None text lines a r = absurd a
 
-kept : (old new : Table) (made : List Made) → new ≡ old → Agrees old made → Agrees new made
-kept old new made e a = subst (λ (t : Table). Agrees t made) (sym e) a
+print_true : ReadBack → (old new : Table) (earlier : List Command) (side : Bool) (name text : List ℕ) (o : Option Polyhedron) → Stands o (IsSetOf earlier name) → IsAccepted (on_one o (print side)) old text new → IsTrueOf earlier name (SaysSide side text)
+print_true laws old new earlier side name text None s p = absurd p.does
+print_true laws old new earlier side name text (Some q) s p =
+    record { polyhedron = q; set = s; says = side_says laws side text q (set_proper earlier name q s) (p.lines_are ∙ said_lines (line (side_text side q)) p.change p.does) }
 
-performed : (old new : Table) (made : List Made) (c : Command) (reply : Reply) → Agrees old made → Performs old c reply new → IsTruthful made (Some c) reply × Agrees new (later made (Some c) reply)
-performed old new made nothing reply a p = (tt, kept old new made p.1 a)
-performed old new made (makes name dim text) (Answered lines) a p = (
-  tt,
-  subst (λ (t : Table). Agrees t (record { name = name; dim = dim; constraints = text } ∷ made)) (sym p.1.table)
-      (put_agrees old made (record { name = name; dim = dim; constraints = text }) p.1.system p.1.read a),
-)
-performed old new made (makes name dim text) (Refused fault) a p = (tt, kept old new made p.1 a)
-performed old new made (makes name dim text) (Overflows over) a p = absurd p
-performed old new made (asks name text) (Answered lines) a p = (answer_is_true (last_made made name) (system_of old name) text lines (a name) p.0, kept old new made p.1 a)
-performed old new made (asks name text) (Refused fault) a p = (tt, kept old new made p.1 a)
-performed old new made (asks name text) (Overflows over) a p = (tt, kept old new made p.1 a)
+abbrev names_line : ℕ → List (List ℕ) → List ℕ
+names_line n names = line (codes "names " ++ decimal n ++ spaced names)
 
-pub run_is_truthful : (old : Table) (made : List Made) (lines : List (List ℕ)) (replies : List Reply) (new : Table) → Agrees old made → Run old lines replies new → AreTruthful made lines replies
-run_is_truthful old made [] [] new a r = tt
-run_is_truthful old made (line ∷ lines) (reply ∷ replies) new a (mid, step, run) =
-    elim step [
-      | inl long ↦ (None, inl long.long, tt, run_is_truthful mid made lines replies new (kept old mid made long.unchanged a) run)
-      | inr fits ↦ elim fits.read [
-        | inl accepted ↦ (let p = performed old mid made accepted.command reply a accepted.performed in
-            (Some accepted.command, (fits.short, accepted.spelled), p.0, run_is_truthful mid (later made (Some accepted.command) reply) lines replies new p.1 run))
-        | inr unspelled ↦ (None, inr unspelled.none, tt, run_is_truthful mid made lines replies new (kept old mid made unspelled.unchanged a) run)
-      ]
-    ]
-run_is_truthful old made [] (reply ∷ replies) new a r = absurd r
-run_is_truthful old made (line ∷ lines) [] new a r = absurd r
+names_true : (old : Table) (earlier : List Command) (text : List ℕ) → keys_of old ≡ names_of earlier → text ≡ line (names_text old) → text ≡ names_line (length (names_of earlier)) (names_of earlier)
+names_true old earlier text same e =
+    e ∙ ap (λ (n : ℕ). names_line n (keys_of old)) (sym (length-keys_of old)) ∙ ap (λ (names : List (List ℕ)). names_line (length names) names) same
 
--- nothing was made before the first line
-pub runs_are_truthful : (lines : List (List ℕ)) (replies : List Reply) (table : Table) → Run [] lines replies table → AreTruthful [] lines replies
-runs_are_truthful lines replies table r = run_is_truthful [] [] lines replies table (λ name. tt) r
+-- ---- commands that make, change or take out something
+put_ok : (out : List ℕ) (Is : Polyhedron → Type 0) (change : Change) → IsPut out Is change → lines_of change ≡ ok_line
+put_ok out Is (Puts name e) h = refl
+put_ok out Is (Says text) h = absurd h
+put_ok out Is (TakesOut name) h = absurd h
 
-performed_unchanged : (old new : Table) (c : Command) (reply : Reply) → Performs old c reply new → is_answer reply ≡ false → new ≡ old
-performed_unchanged old new nothing reply p f = p.1
-performed_unchanged old new (makes name dim text) (Answered lines) p f = let t : true ≡ false = f in cc
-performed_unchanged old new (makes name dim text) (Refused fault) p f = p.1
-performed_unchanged old new (makes name dim text) (Overflows over) p f = absurd p
-performed_unchanged old new (asks name text) reply p f = p.1
+taken_ok : (name : List ℕ) (change : Change) → IsTakenOut name change → lines_of change ≡ ok_line
+taken_ok name (TakesOut taken) h = refl
+taken_ok name (Says text) h = absurd h
+taken_ok name (Puts out e) h = absurd h
 
--- a refused line leaves the table as it was
-pub refused_unchanged : (old : Table) (line : List ℕ) (reply : Reply) (new : Table) → Step old line reply new → is_answer reply ≡ false → new ≡ old
-refused_unchanged old line reply new step f =
-    elim step [
-      | inl long ↦ long.unchanged
-      | inr fits ↦ elim fits.read [ inl accepted ↦ performed_unchanged old new accepted.command reply accepted.performed f | inr unspelled ↦ unspelled.unchanged ]
-    ]
+copy_ok : (old new : Table) (out text : List ℕ) (o : Option Polyhedron) → IsAccepted (on_one o (copy old out)) old text new → text ≡ ok_line
+copy_ok old new out text None p = absurd p.does
+copy_ok old new out text (Some q) p = p.lines_are ∙ put_ok out (λ r. r ≡ q) p.change p.does
+
+drop_ok : (old new : Table) (out text : List ℕ) (o : Option Entry) → IsAccepted (drop_of out o) old text new → text ≡ ok_line
+drop_ok old new out text None p = absurd p.does
+drop_ok old new out text (Some e) p = p.lines_are ∙ taken_ok out p.change p.does
+
+add_ok : (old new : Table) (out text : List ℕ) (part : Part) (o : Option Polyhedron) → IsAccepted (on_one o (add out part)) old text new → text ≡ ok_line
+add_ok old new out text part None p = absurd p.does
+add_ok old new out text part (Some q) p = p.lines_are ∙ put_ok out (λ r. SaysConstraints q.cons.dim part (λ cs. IsOfConstraints q.topology (more_constraints q.cons cs) r)) p.change p.does
+
+addgen_ok : (old new : Table) (out text : List ℕ) (part : Part) (o : Option Polyhedron) → IsAccepted (on_one o (addgen out part)) old text new → text ≡ ok_line
+addgen_ok old new out text part None p = absurd p.does
+addgen_ok old new out text part (Some q) p = p.lines_are ∙ put_ok out (λ r. SaysGenerators q.gens.dim part (λ gs. IsOfGenerators q.topology (more_generators q.gens gs) r)) p.change p.does
+
+accepted_true : ReadBack → (old new : Table) (earlier : List Command) (c : Command) (text : List ℕ) → Agrees old earlier → IsAccepted (meaning old c) old text new → IsTruthful earlier c text
+accepted_true laws old new earlier (Has name part) text g p = has_true old new earlier name text part (poly_of old name) (g.sets name) p
+accepted_true laws old new earlier (Size name) text g p = size_true old new earlier name text (poly_of old name) (g.sets name) p
+accepted_true laws old new earlier (Print side name) text g p = print_true laws old new earlier side name text (poly_of old name) (g.sets name) p
+accepted_true laws old new earlier Names text g p = names_true old earlier text g.names (p.lines_are ∙ said_lines (line (names_text old)) p.change p.does)
+accepted_true laws old new earlier Nothing text g p = p.lines_are ∙ said_lines [] p.change p.does
+accepted_true laws old new earlier (Cons out top n part) text g p = p.lines_are ∙ put_ok out (λ r. SaysConstraints n part (λ cs. IsOfConstraints (topology_of top) cs r)) p.change p.does
+accepted_true laws old new earlier (Gens out top n part) text g p = p.lines_are ∙ put_ok out (λ r. SaysGenerators n part (λ gs. IsOfGenerators (topology_of top) gs r)) p.change p.does
+accepted_true laws old new earlier (Universe out top n) text g p = p.lines_are ∙ put_ok out (IsUniverse (topology_of top) n) p.change p.does
+accepted_true laws old new earlier (Empty out top n) text g p = p.lines_are ∙ put_ok out (IsEmpty (topology_of top) n) p.change p.does
+accepted_true laws old new earlier (Copy out other) text g p = copy_ok old new out text (poly_of old other) p
+accepted_true laws old new earlier (Drop out) text g p = drop_ok old new out text (entry_of old out) p
+accepted_true laws old new earlier (Add out part) text g p = add_ok old new out text part (poly_of old out) p
+accepted_true laws old new earlier (Addgen out part) text g p = addgen_ok old new out text part (poly_of old out) p
+
+pub run_truthful : KeepsNamesDistinct → ReadBack → (old : Table) (earlier : List Command) (lines : List (List ℕ)) (replies : List Reply) (new : Table) → Agrees old earlier → Run old lines replies new → AreTruthful earlier lines replies
+run_truthful keeps laws old earlier [] [] new g run = tt
+run_truthful keeps laws old earlier (line ∷ lines) (Answered text ∷ replies) new g (mid, inl a, run) =
+    (a.command, a.spelled, accepted_true laws old mid earlier a.command text g a.performed, run_truthful keeps laws mid (a.command ∷ earlier) lines replies new (agrees_then keeps old mid earlier line text a g) run)
+run_truthful keeps laws old earlier (line ∷ lines) (Answered text ∷ replies) new g (mid, inr u, run) = absurd (not_unspelled old mid line text u)
+run_truthful keeps laws old earlier (line ∷ lines) (Refused fault ∷ replies) new g (mid, step, run) = run_truthful keeps laws mid earlier lines replies new (agrees_still old mid earlier line (Refused fault) step refl g) run
+run_truthful keeps laws old earlier (line ∷ lines) (Overflows over ∷ replies) new g (mid, step, run) = run_truthful keeps laws mid earlier lines replies new (agrees_still old mid earlier line (Overflows over) step refl g) run
+run_truthful keeps laws old earlier [] (reply ∷ replies) new g run = absurd run
+run_truthful keeps laws old earlier (line ∷ lines) [] new g run = absurd run
+
+-- nothing was accepted before the first line
+pub answers_true : KeepsNamesDistinct → HasDistinctNames [] → ReadBack → (lines : List (List ℕ)) (replies : List Reply) (table : Table) → Run [] lines replies table → AreTruthful [] lines replies
+answers_true keeps empty laws lines replies table run = run_truthful keeps laws [] [] lines replies table (nothing_agrees empty) run

@@ -3,4 +3,7 @@ pub mod Replies
 pub mod Runs
 pub mod Outcomes
 pub mod Statuses
+pub mod Sets
+pub mod Sameness
 pub mod Truth
+pub mod Laws

@@ -4,7 +4,7 @@ use Rattle.std.specs.Str.Lines.{lines}
 use Rattle.calc_state.specs.Table.{Table}
 use Rattle.calc_state.specs.Step.{Reply}
 use Rattle.polycalc.specs.Replies.{replies_bytes, is_clean}
-use Rattle.polycalc.specs.Runs.{Run}
+use Rattle.polycalc.specs.Runs.{Run, IsComplete}
 use Rattle.polycalc.specs.declared.status.Status.{Status}
 use Rattle.polycalc.specs.declared.status.Status.TheVariants.{Done, Refused, Usage, ReadFault, WriteFault, Memory, InputTooLong}
 
@@ -60,11 +60,12 @@ Outcome given left old new Memory = (length given ≤ 2 ^ 26) × WritesPrefix gi
 Outcome given left old new InputTooLong = (2 ^ 26 < length given) × (length given ≤ 2 ^ 26 + 2 ^ 16) × WritesPrefix given old new × AnswersEarlier given old new
 Outcome given left old new Usage = ⊥
 
--- the script is answered: behind what was held stand the replies of a run over its lines, from the table without names,
--- and the status tells whether one of them is a fault or an overflow
+-- the script is answered: behind what was held stand the replies of a run over its lines, from the table without names;
+-- each line that must succeed is answered, and the status tells whether some reply is a fault or an overflow
 pub record IsAnswered (script before : List ℕ) (held : Option (List ℕ)) (status : Status) : Type 0 where
   pub table : Table
   pub replies : List Reply
   pub run : Run [] (lines script) replies table
+  pub complete : IsComplete [] (lines script) replies table run
   pub held_now : held ≡ Some (before ++ replies_bytes replies)
   pub verdict : status ≡ (if is_clean replies then Done else Refused)

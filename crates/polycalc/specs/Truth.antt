@@ -1,64 +1,79 @@
-use Rattle.std.specs.Prelude.{◌≡◌, ◌↔◌, ◌⊎◌, ℕ, ◌<◌, ◌≤◌, length, ℤ, List, [], ◌∷◌, Bool, Option, None, Some, IsTrue, if◌then◌else◌}
-use Rattle.std.specs.Str.{bytes_eq}
+-- When the answers of a run are true of the sets that the accepted commands give.
+use Rattle.std.specs.Prelude.{◌≡◌, ◌↔◌, ℕ, ℤ, length, List, [], ◌∷◌, ◌++◌, Bool, true, false, IsTrue, codes, decimal}
+use Rattle.row_core.specs.Points.{IsPoint as IsPointRow}
 use Rattle.cons_sys.specs.Constraints.{Constraints, In}
+use Rattle.gens_sys.specs.Generators.{Generators}
+use Rattle.gens_sys.specs.Spans.{Span}
 use Rattle.term_text.specs.Texts.{IsPoint}
 use Rattle.term_text.specs.Systems.{IsCons}
-use Rattle.calc_state.specs.Line.{Command, nothing, makes, asks, Spells}
-use Rattle.calc_state.specs.Step.{Reply, Answered, Refused, Overflows, answer_line}
+use Rattle.expr_text.specs.GeneratorSystems.{IsGens}
+use Rattle.expr_text.specs.Printed.{constraints_text, generators_text}
+use Rattle.pair_laws.specs.PointSets.{HoldSame}
+use Rattle.poly_pair.specs.Polyhedra.{Polyhedron}
+use Rattle.script_text.specs.Line.{Spells}
+use Rattle.script_text.specs.declared.command.Part.{Part}
+use Rattle.script_text.specs.declared.command.Command.{Command}
+use Rattle.script_text.specs.declared.command.Command.TheVariants.{Nothing, Has, Size, Print, Names}
+use Rattle.calc_state.specs.Meaning.{answer_line}
+use Rattle.calc_state.specs.Questions.{line, size_text, spaced}
+use Rattle.calc_state.specs.Step.{Reply, Answered, Refused, Overflows, ok_line}
+use Rattle.polycalc.specs.Sets.{IsSetOf, names_of}
 
--- a line cons that was accepted: its name, its dimension, and the text of its constraints
-pub record Made : Type 0 where
-  pub name : List ℕ
-  pub dim : ℕ
-  pub constraints : List ℕ
-
--- of the accepted lines cons, the last one first, the last one of the name
-abbrev pub last_made : List Made → List ℕ → Option Made
-last_made [] name = None
-last_made (made ∷ earlier) name = if bytes_eq name made.name then Some made else last_made earlier name
-
--- a further line: it adds to what was made where it is an accepted line cons, and a refused line leaves all as it was
-abbrev pub later : List Made → Option Command → Reply → List Made
-later made None reply = made
-later made (Some nothing) reply = made
-later made (Some (makes name dim constraints)) (Answered lines) = record { name = name; dim = dim; constraints = constraints } ∷ made
-later made (Some (makes name dim constraints)) (Refused fault) = made
-later made (Some (makes name dim constraints)) (Overflows over) = made
-later made (Some (asks name point)) reply = made
-
--- the line is within the limit of a line's length and spells the command; or it is longer, or spells no command at all
-abbrev pub ReadAs : List ℕ → Option Command → Type 0
-ReadAs line None = (65535 < length line) ⊎ ((c : Command) → Spells line c → ⊥)
-ReadAs line (Some c) = (length line ≤ 65535) × Spells line c
-
--- the reply says whether the point of the text satisfies the constraints of the line
-pub record SaysTruth (made : Made) (text lines : List ℕ) : Type 0 where
-  pub system : Constraints
-  pub constraints : IsCons made.dim made.constraints system
+-- the reply says whether the point of the text is in the polyhedron
+pub record SaysWhether (part : Part) (reply : List ℕ) (p : Polyhedron) : Type 0 where
   pub point : List ℤ
-  pub read : IsPoint system.dim text point
+  pub read : IsPoint p.cons.dim part.text point
   pub holds : Bool
-  pub said : lines ≡ answer_line holds
-  pub true_of_point : IsTrue holds ↔ In system point
+  pub said : reply ≡ answer_line holds
+  pub true_of_point : IsTrue holds ↔ In p.cons point
 
--- there is such a line, and the reply says the truth of it
-abbrev pub SaysTruthOf : Option Made → List ℕ → List ℕ → Type 0
-SaysTruthOf None text lines = ⊥
-SaysTruthOf (Some made) text lines = SaysTruth made text lines
+-- the reply is the printed form of the stored constraints; it is read as these, and they hold exactly at the points of the polyhedron
+pub record SaysSystem (reply : List ℕ) (p : Polyhedron) : Type 0 where
+  pub text : List ℕ
+  pub said : reply ≡ line text
+  pub system : Constraints
+  pub printed : text ≡ constraints_text system
+  pub read : IsCons p.cons.dim text system
+  pub stored : system ≡ p.cons
+  pub points : HoldSame system p.cons
 
--- where the line is a question and is answered, the answer is true of the last accepted line cons of its name
-abbrev pub IsTruthful : List Made → Option Command → Reply → Type 0
-IsTruthful made None reply = Unit {0}
-IsTruthful made (Some nothing) reply = Unit {0}
-IsTruthful made (Some (makes name dim constraints)) reply = Unit {0}
-IsTruthful made (Some (asks name text)) (Answered lines) = SaysTruthOf (last_made made name) text lines
-IsTruthful made (Some (asks name text)) (Refused fault) = Unit {0}
-IsTruthful made (Some (asks name text)) (Overflows over) = Unit {0}
+-- the reply is the printed form of the stored generators; it is read as these, and they generate exactly the points of the polyhedron
+pub record SaysGeneration (reply : List ℕ) (p : Polyhedron) : Type 0 where
+  pub text : List ℕ
+  pub said : reply ≡ line text
+  pub system : Generators
+  pub printed : text ≡ generators_text system
+  pub read : IsGens p.cons.dim text system
+  pub stored : system ≡ p.gens
+  pub points : (v : List ℤ) → IsPointRow p.cons.dim v → Span system v ↔ In p.cons v
 
--- each line is read as a command or spells none, and each answer is true
-abbrev pub AreTruthful : List Made → List (List ℕ) → List Reply → Type 0
-AreTruthful made [] [] = Unit {0}
-AreTruthful made (line ∷ lines) (reply ∷ replies) =
-    (command : Option Command) × ReadAs line command × IsTruthful made command reply × AreTruthful (later made command reply) lines replies
-AreTruthful made [] (reply ∷ replies) = ⊥
-AreTruthful made (line ∷ lines) [] = ⊥
+-- the reply is true of the polyhedron of the name
+pub record IsTrueOf (commands : List Command) (name : List ℕ) (Says : Polyhedron → Type 0) : Type 0 where
+  pub polyhedron : Polyhedron
+  pub set : IsSetOf commands name polyhedron
+  pub says : Says polyhedron
+
+-- each constraint, or each generator, that is stored is said
+abbrev pub SaysSide : Bool → List ℕ → Polyhedron → Type 0
+SaysSide false reply p = SaysSystem reply p
+SaysSide true reply p = SaysGeneration reply p
+
+-- after these accepted commands the answer to a question is true: to `size` it is the dimension and the numbers of
+-- stored constraints and generators, and to `names` the number of names and the names; a line without a command is
+-- answered by nothing, and each other command by `ok`
+abbrev pub IsTruthful : List Command → Command → List ℕ → Type 0
+IsTruthful earlier (Has name part) reply = IsTrueOf earlier name (SaysWhether part reply)
+IsTruthful earlier (Size name) reply = IsTrueOf earlier name (λ p. reply ≡ line (size_text p))
+IsTruthful earlier (Print side name) reply = IsTrueOf earlier name (SaysSide side reply)
+IsTruthful earlier Names reply = reply ≡ line (codes "names " ++ decimal (length (names_of earlier)) ++ spaced (names_of earlier))
+IsTruthful earlier Nothing reply = reply ≡ []
+IsTruthful earlier other reply = reply ≡ ok_line
+
+-- each answered line spells a command, and each answer is true of what the accepted commands before it give
+abbrev pub AreTruthful : List Command → List (List ℕ) → List Reply → Type 0
+AreTruthful earlier [] [] = Unit {0}
+AreTruthful earlier (line ∷ lines) (Answered text ∷ replies) = (c : Command) × Spells line c × IsTruthful earlier c text × AreTruthful (c ∷ earlier) lines replies
+AreTruthful earlier (line ∷ lines) (Refused fault ∷ replies) = AreTruthful earlier lines replies
+AreTruthful earlier (line ∷ lines) (Overflows over ∷ replies) = AreTruthful earlier lines replies
+AreTruthful earlier [] (reply ∷ replies) = ⊥
+AreTruthful earlier (line ∷ lines) [] = ⊥

@@ -1,32 +1,80 @@
 //! Laws of runs.
 ghost use Rattle.std.specs.Prelude.{◌≡◌, ℕ, List, [], false};
 ghost use Rattle.calc_state.specs.Table.{Table, HasDistinctNames};
-ghost use Rattle.calc_state.specs.Step.{Reply, Step};
+ghost use Rattle.calc_state.specs.Step.{Reply};
+ghost use Rattle.calc_state.specs.Line.{Step};
 ghost use Rattle.polycalc.specs.Replies.{is_answer};
 ghost use Rattle.polycalc.specs.Runs.{Run};
-ghost use Rattle.polycalc.specs.Truth.{AreTruthful};
+ghost use Rattle.polycalc.specs.Laws.{AcceptedLinesDecide, SetsAreAsCommanded, SetsAreUnique, AnswersAreTrue, RunsAreComplete};
 
-use calc_state::{names_stay_distinct, one_reply};
+use calc_state::{names_stay_distinct, one_first};
+use expr_text::{constraints_are_read_back, generators_are_read_back, one_answer};
+use joined_sets::joined_sets_are_same;
+use pair_laws::stored_systems::stored_is_unique;
+use poly_pair::laws::{kept_is_empty, kept_is_pair};
+use script_text::{one_command, reads_once};
 
-/// In each run every answered question says the truth of the points that satisfy the constraints of
-/// the last accepted line of its name, and a refused line leaves every name as it was.
-#[tactic(auto, using(crate::proofs::TruthLaws::runs_are_truthful))]
+/// After each run the table has under each name a polyhedron that the accepted lines give it, by the
+/// commands' definitions in order; its constraints and its generators hold the same points. And the
+/// table has the names that the lines give, in the order in which these were made. The accepted lines
+/// give a name one topology, one dimension and one set of points, and where it is closed one pair of
+/// stored systems.
+pub fn sets_are_as_commanded()
+    ensures sets { SetsAreAsCommanded }
+    ensures unique { SetsAreUnique }
+{
+    names_stay_distinct();
+    one_answer();
+    stored_is_unique();
+    kept_is_pair();
+    kept_is_empty();
+    joined_sets_are_same();
+}
+
+/// In each run every answer is true of the sets that the accepted lines before it give: `has` says
+/// whether the point is in the set, what `print` says is read back as the stored constraints or
+/// generators, which hold at or generate exactly these points, `size` counts them, and `names` says
+/// the names that there are.
 pub fn answers_are_true()
-    ensures { (lines : List (List ℕ)) (replies : List Reply) (table : Table) → Run [] lines replies table → AreTruthful [] lines replies }
-{}
+    ensures { AnswersAreTrue }
+{
+    names_stay_distinct();
+    constraints_are_read_back();
+    generators_are_read_back();
+    kept_is_pair();
+}
+
+/// Two runs that accept the same lines come to the same names and sets, and give the same answers, byte
+/// for byte, whatever other lines they refuse. Only of a polyhedron that needn't be closed the stored
+/// systems may differ, and with them the answers to `print` and `size`.
+pub fn accepted_lines_decide()
+    ensures { AcceptedLinesDecide }
+{
+    names_stay_distinct();
+    one_command();
+    one_answer();
+    constraints_are_read_back();
+    generators_are_read_back();
+    stored_is_unique();
+    kept_is_pair();
+    kept_is_empty();
+    joined_sets_are_same();
+}
+
+/// In each run every line that must succeed is answered.
+pub fn runs_are_complete()
+    ensures { RunsAreComplete }
+{
+    one_command();
+    reads_once();
+    one_first();
+}
 
 /// A line whose reply is a fault or an overflow changes nothing.
-#[tactic(auto, using(crate::proofs::TruthLaws::refused_unchanged))]
+#[tactic(auto, using(crate::proofs::StepLaws::refused_unchanged))]
 pub fn refusals_change_nothing()
     ensures { (old : Table) (line : List ℕ) (reply : Reply) (new : Table) → Step old line reply new → is_answer reply ≡ false → new ≡ old }
 {}
-
-/// A script has one run: its lines determine the replies and the table.
-pub fn one_run()
-    ensures { (lines : List (List ℕ)) (r s : List Reply) (new other : Table) → Run [] lines r new → Run [] lines s other → (r ≡ s) × (new ≡ other) }
-{
-    one_reply();
-}
 
 /// In the table after a run no two entries have the same name.
 pub fn names_are_distinct()

@@ -2,7 +2,8 @@
 ghost use Rattle.std.specs.Prelude.{◌≡◌, ℕ, List, OnOk};
 ghost use Rattle.std.specs.Io.KnownBytes.{prepend_known};
 ghost use Rattle.poly_io.specs.Counts.{HasRisen};
-ghost use Rattle.calc_state.specs.Step.{Reply, Step};
+ghost use Rattle.calc_state.specs.Step.{Reply};
+ghost use Rattle.calc_state.specs.Line.{Step};
 ghost use Rattle.polycalc.specs.Replies.{with_reply};
 ghost use Rattle.polycalc.specs.Outcomes.{Outcome};
 

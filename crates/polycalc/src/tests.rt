@@ -65,42 +65,325 @@ fn call<L: Ledger>(
     polycalc(alloc, words, source, sink, &mut Steps::<L>::new(blank))
 }
 
+// Scripts, each with its status and its replies.
+const SCRIPTS: [(&str, Status, &str); 15] = [
+    // The first run.
+    (
+        "cons a closed 2 : A >= 0, B >= 0, A + B <= 4\n\
+         has a : p(A + B)\n\
+         has a : p((9*A)/2)\n",
+        Status::Done,
+        "ok\n\
+         yes\n\
+         no\n",
+    ),
+    // No line, and lines without a reply.
+    (
+        "\n\
+          \n\
+         # a comment\n",
+        Status::Done,
+        "",
+    ),
+    // A carriage return before a line feed, and no line feed at the end.
+    (
+        "cons a closed 1 : A = 3\r\nhas a : p(3*A)\r\nhas a : p(0)",
+        Status::Done,
+        "ok\nyes\nno\n",
+    ),
+    // The unit square.
+    (
+        "cons s closed 2 : A >= 0, A <= 1, B >= 0, B <= 1\n\
+         print cons s\n\
+         print gens s\n\
+         size s\n",
+        Status::Done,
+        "ok\n\
+         A >= 0, B >= 0, -B >= -1, -A >= -1\n\
+         p(A + B), p(A), p(B), p(0)\n\
+         dim 2 constraints 4 generators 4\n",
+    ),
+    // Points with divisors.
+    (
+        "cons a closed 2 : 2*A >= 1, B >= 0, A + B <= 1\n\
+         print gens a\n",
+        Status::Done,
+        "ok\n\
+         p((A + B)/2), p((A)/2), p(A)\n",
+    ),
+    // No point.
+    (
+        "cons a closed 1 : A >= 1, A <= 0\n\
+         print cons a\n\
+         print gens a\n",
+        Status::Done,
+        "ok\n\
+         false\n\
+         none\n",
+    ),
+    // All points.
+    (
+        "universe u closed 0\n\
+         print cons u\n\
+         print gens u\n\
+         universe v closed 2\n\
+         print gens v\n",
+        Status::Done,
+        "ok\n\
+         true\n\
+         p(0)\n\
+         ok\n\
+         l(A), l(B), p(0)\n",
+    ),
+    // Lines.
+    (
+        "cons a closed 3 : A + B = 1\n\
+         print gens a\n",
+        Status::Done,
+        "ok\n\
+         l(A - B), l(C), p(B)\n",
+    ),
+    // The ends of the range.
+    (
+        "cons a closed 1 : 170141183460469231731687303715884105727*A >= 1\n\
+         print gens a\n\
+         cons b closed 2 : 170141183460469231731687303715884105727*A + 170141183460469231731687303715884105727*B >= 1\n\
+         print gens b\n\
+         has b : p(A + B)\n\
+         print cons b\n\
+         cons c closed 1 : 170141183460469231731687303715884105728*A >= 1\n",
+        Status::Refused,
+        "ok\n\
+         p((A)/170141183460469231731687303715884105727), r(A)\n\
+         ok\n\
+         l(A - B), p((B)/170141183460469231731687303715884105727), r(B)\n\
+         overflow dot step 0 column 2 left 170141183460469231731687303715884105727 170141183460469231731687303715884105727 -1 right 1 1 1\n\
+         170141183460469231731687303715884105727*A + 170141183460469231731687303715884105727*B >= 1\n\
+         fault 8 NumberTooLarge\n",
+    ),
+    // Conversions that leave the range.
+    (
+        "cons a closed 2 : 170141183460469231731687303715884105727*A + 2*B >= 0, A + 3*B >= 0\n\
+         cons b closed 2 : 170141183460469231731687303715884105727*A + B >= 0, B >= -2\n\
+         print cons a\n",
+        Status::Refused,
+        "overflow dot step 2 column 2 left 2 -170141183460469231731687303715884105727 0 right 1 3 0\n\
+         overflow combine step 2 column 2 left 1 -170141183460469231731687303715884105727 0 right 0 0 1\n\
+         fault 2 UnknownName\n",
+    ),
+    // Constraints and generators that are added, names that are dropped.
+    (
+        "cons s closed 2 : A >= 0, A <= 1, B >= 0, B <= 1\n\
+         add s : A + B <= 1\n\
+         print cons s\n\
+         print gens s\n\
+         add s : A + B <= 1\n\
+         print cons s\n\
+         print gens s\n\
+         cons w closed 2 : A >= B\n\
+         gens g closed 2 : p(0)\n\
+         addgen g : r(A), l(B)\n\
+         print gens g\n\
+         empty e closed 2\n\
+         addgen e : r(A)\n\
+         drop w\n\
+         names\n",
+        Status::Refused,
+        "ok\n\
+         ok\n\
+         A >= 0, B >= 0, -A - B >= -1\n\
+         p(A), p(B), p(0)\n\
+         ok\n\
+         A >= 0, B >= 0, -A - B >= -1\n\
+         p(A), p(B), p(0)\n\
+         ok\n\
+         ok\n\
+         ok\n\
+         l(B), r(A), p(0)\n\
+         ok\n\
+         fault 6 NoPoint\n\
+         ok\n\
+         names 3 s g e\n",
+    ),
+    // Each fault.
+    (
+        "cons a closed 2 : A >\n\
+         cons a closed 2 : A > 0\n\
+         cons a closed 2 : C >= 0\n\
+         universe u closed 32\n\
+         universe u closed 31\n\
+         universe v closed 1\n\
+         gens g closed 1 : r(0)\n\
+         names\n",
+        Status::Refused,
+        "fault 1 Syntax 22\n\
+         fault 9 StrictInClosed\n\
+         fault 10 OutOfRange\n\
+         fault 5 TooManyDims\n\
+         ok\n\
+         ok\n\
+         fault 15 ZeroVector\n\
+         names 2 u v\n",
+    ),
+    // A result that is an operand, and names that keep their places.
+    (
+        "cons a closed 1 : A >= 1\n\
+         empty b closed 1\n\
+         copy a a\n\
+         print cons a\n\
+         copy b a\n\
+         print cons b\n\
+         cons a closed 1 : A = 5\n\
+         names\n\
+         drop a\n\
+         copy a b\n\
+         names\n\
+         drop c\n",
+        Status::Refused,
+        "ok\n\
+         ok\n\
+         ok\n\
+         A >= 1\n\
+         ok\n\
+         A >= 1\n\
+         ok\n\
+         names 2 a b\n\
+         ok\n\
+         ok\n\
+         names 2 b a\n\
+         fault 2 UnknownName\n",
+    ),
+    // Strict constraints and closure points that are kept, and one that is spare.
+    (
+        "cons a nnc 1 : A > 0, A <= 1\n\
+         print gens a\n\
+         cons a nnc 2 : A > 0, B > 0, A + B > 0\n\
+         print cons a\n\
+         gens b nnc 2 : p(A + 2*B), p(2*A + B), c(0), r(A), r(B)\n\
+         print cons b\n\
+         cons a nnc 2 : A >= 0, A <= 1, B >= 0, B <= 1, A + B > 0\n\
+         print gens a\n\
+         size a\n\
+         print cons a\n\
+         cons a nnc 1 : A > 0, A < 1\n\
+         cons b closed 1 : A >= 0\n\
+         universe n nnc 31\n\
+         cons b nnc 2 : 170141183460469231731687303715884105727*A + 170141183460469231731687303715884105727*B >= 1\n\
+         has b : p(A + B)\n\
+         print cons b\n\
+         print gens b\n",
+        Status::Refused,
+        "ok\n\
+         p(A), c(0)\n\
+         ok\n\
+         A > 0, B > 0\n\
+         ok\n\
+         A > 0, B > 0\n\
+         ok\n\
+         p(A + B), p(A), p(B), c(0)\n\
+         dim 2 constraints 5 generators 4\n\
+         A + B > 0, A >= 0, B >= 0, -B >= -1, -A >= -1\n\
+         ok\n\
+         ok\n\
+         ok\n\
+         ok\n\
+         overflow dot step 0 column 2 left 170141183460469231731687303715884105727 170141183460469231731687303715884105727 -1 right 1 1 1\n\
+         170141183460469231731687303715884105727*A + 170141183460469231731687303715884105727*B >= 1\n\
+         l(A - B), p((B)/170141183460469231731687303715884105727), r(B)\n",
+    ),
+    // Both topologies side by side.
+    (
+        "cons h nnc 2 : A >= 0, A < 1, B >= 0, B < 1\n\
+         cons s closed 2 : A >= 0, A <= 1, B >= 0, B <= 1\n\
+         has h : p(A)\n\
+         has s : p(A)\n\
+         has h : p((A + B)/2)\n\
+         print cons h\n\
+         print cons s\n\
+         print gens h\n\
+         print gens s\n\
+         size h\n\
+         gens i nnc 1 : p(A), c(0)\n\
+         has i : p(0)\n\
+         has i : p(A)\n\
+         print cons i\n\
+         cons j closed 1 : A > 0\n\
+         gens j closed 1 : p(A), c(0)\n\
+         gens j nnc 1 : c(A), c(0)\n\
+         addgen i : c(2*A)\n\
+         print cons i\n\
+         print gens i\n\
+         has i : p(2*A)\n\
+         has i : p((19*A)/10)\n\
+         add h : A + B > 0\n\
+         has h : p(0)\n\
+         has h : p((B)/2)\n\
+         add s : A + B > 0\n\
+         cons e nnc 1 : A > 0, A < 0\n\
+         print cons e\n\
+         print gens e\n\
+         size e\n\
+         universe u nnc 1\n\
+         print cons u\n\
+         print gens u\n\
+         empty v nnc 1\n\
+         has v : p(0)\n\
+         cons t nnc 2 : A >= 0, B >= 0, A + B <= 4\n\
+         print cons t\n\
+         print gens t\n\
+         copy i t\n\
+         names\n",
+        Status::Refused,
+        "ok\n\
+         ok\n\
+         no\n\
+         yes\n\
+         yes\n\
+         A >= 0, B >= 0, -B > -1, -A > -1\n\
+         A >= 0, B >= 0, -B >= -1, -A >= -1\n\
+         c(A + B), c(A), c(B), p(0)\n\
+         p(A + B), p(A), p(B), p(0)\n\
+         dim 2 constraints 4 generators 4\n\
+         ok\n\
+         no\n\
+         yes\n\
+         A > 0, -A >= -1\n\
+         fault 9 StrictInClosed\n\
+         fault 9 StrictInClosed\n\
+         fault 6 NoPoint\n\
+         ok\n\
+         A > 0, -A > -2\n\
+         c(2*A), p(A), c(0)\n\
+         no\n\
+         yes\n\
+         ok\n\
+         no\n\
+         yes\n\
+         fault 9 StrictInClosed\n\
+         ok\n\
+         false\n\
+         none\n\
+         dim 1 constraints 1 generators 0\n\
+         ok\n\
+         true\n\
+         l(A), p(0)\n\
+         ok\n\
+         no\n\
+         ok\n\
+         A >= 0, B >= 0, -A - B >= -4\n\
+         p(4*A), p(4*B), p(0)\n\
+         ok\n\
+         names 7 h s i e u v t\n",
+    ),
+];
+
 #[test]
 fn scripts_are_answered_line_by_line(rt: HostRuntime) -> Result<(), Fail> {
-    for (script, status, replies) in [
-        (FIRST, Status::Done, "ok\nyes\nno\n"),
-        (b"", Status::Done, ""),
-        (b"\n \n", Status::Done, ""),
-        (
-            b"cons a closed 1 : A = 3\r\nhas a : p(3*A)\r\nhas a : p(0)",
-            Status::Done,
-            "ok\nyes\nno\n",
-        ),
-        (
-            b"has x : p(A)\nprint cons a\n",
-            Status::Refused,
-            "fault 2 UnknownName\nfault 1 Syntax 1\n",
-        ),
-        (
-            b"cons a closed 2 : A >= 0\nhas a : p(C)\nhas a : p(0)\n",
-            Status::Refused,
-            "ok\nfault 10 OutOfRange\nyes\n",
-        ),
-        (
-            b"cons b closed 2 : 170141183460469231731687303715884105727*A + 170141183460469231731687303715884105727*B >= 1\nhas b : p(A + B)\n",
-            Status::Refused,
-            "ok\noverflow dot step 0 column 2 left 170141183460469231731687303715884105727 170141183460469231731687303715884105727 -1 right 1 1 1\n",
-        ),
-        (
-            b"cons c closed 1 : 170141183460469231731687303715884105728*A >= 1\n",
-            Status::Refused,
-            "fault 8 NumberTooLarge\n",
-        ),
-    ] {
-        for piece in [1, 2, 7, 4_096] {
-            let (got, held) = outcome_of(rt.alloc(), &trial_of(script, piece))?;
-            assert_eq!(rt; got, status, "{replies}");
-            assert_eq!(rt; held.as_slice(), replies.as_bytes(), "{replies}");
+    for (script, status, replies) in SCRIPTS {
+        for piece in [1, 7, 4_096] {
+            let (got, held) = outcome_of(rt.alloc(), &trial_of(script.as_bytes(), piece))?;
+            assert_eq!(rt; held.as_slice(), replies.as_bytes(), "{script}");
+            assert_eq!(rt; got, status, "{script}");
         }
     }
     Ok(())
@@ -152,7 +435,7 @@ fn each_failing_write_leaves_a_front_of_the_replies(rt: HostRuntime) -> Result<(
     Ok(())
 }
 
-// So many bytes of which no line is a command.
+// A comment of so many bytes.
 fn hashes(alloc: Global, count: usize) -> Result<Vec<u8>, AllocError> {
     vec![in alloc; b'#'; count]
 }
@@ -160,7 +443,7 @@ fn hashes(alloc: Global, count: usize) -> Result<Vec<u8>, AllocError> {
 #[test]
 fn lines_and_scripts_have_a_limit(rt: HostRuntime) -> Result<(), Fail> {
     for (count, status, reply) in [
-        (65_535, Status::Refused, "fault 1 Syntax 1\n"),
+        (65_535, Status::Done, ""),
         (65_536, Status::Refused, "fault 14 LineTooLong\n"),
         (67_108_864, Status::Refused, "fault 14 LineTooLong\n"),
         (67_108_865, Status::InputTooLong, ""),
@@ -173,36 +456,46 @@ fn lines_and_scripts_have_a_limit(rt: HostRuntime) -> Result<(), Fail> {
     Ok(())
 }
 
+#[test]
+fn names_have_a_limit(rt: HostRuntime) -> Result<(), Fail> {
+    let mut script = Vec::new(rt.alloc());
+    let mut replies = Vec::new(rt.alloc());
+    for i in 0..1_000 {
+        let line = format!(in rt.alloc(); "universe n{i} closed 0\n")?;
+        script.extend_from_slice(line.as_bytes())?;
+        replies.extend_from_slice(b"ok\n")?;
+    }
+    script.extend_from_slice(b"universe more closed 0\nuniverse n0 closed 1\nsize n0\n")?;
+    replies.extend_from_slice(b"fault 13 TooManyNames\nok\ndim 1 constraints 0 generators 2\n")?;
+    let (status, held) = outcome_of(rt.alloc(), &trial_of(&script, 4_096))?;
+    assert_eq!(rt; status, Status::Refused);
+    assert_eq!(rt; held.as_slice(), replies.as_slice());
+    Ok(())
+}
+
 // Lines behind one that gives `a` the triangle with the corners (0, 0), (4, 0) and (0, 4), and their replies.
 const LINES: [(&str, &str); 56] = [
     ("has a:p(A+B)", "yes"),
     ("\t has\ta\t:\tp(\tA\t+\tB\t)\t ", "yes"),
     ("has a : p( ( 9 * A ) / 2 )", "no"),
-    ("hasa : p(0)", "fault 1 Syntax 1"),
-    ("has a p(0)", "fault 1 Syntax 1"),
-    ("has a : p (0)", "fault 1 Syntax 1"),
-    ("has a : p(0", "fault 1 Syntax 1"),
-    ("has a : p(0))", "fault 1 Syntax 1"),
-    ("has a : P(0)", "fault 1 Syntax 1"),
+    ("has a : p(0) # comment", "yes"),
+    ("hasa : p(0)", "fault 1 Syntax 4"),
+    ("has a p(0)", "fault 1 Syntax 7"),
+    ("has a : p (0)", "fault 1 Syntax 10"),
+    ("has a : p(0", "fault 1 Syntax 12"),
+    ("has a : p(0))", "fault 1 Syntax 13"),
     ("Has a : p(0)", "fault 1 Syntax 1"),
-    ("has a : p(0) # comment", "fault 1 Syntax 1"),
-    ("has a : p(00*A + 3*B)", "yes"),
     ("has a : p(003*A)", "yes"),
-    ("has a : p(A*3)", "fault 1 Syntax 1"),
-    ("has a : p(A/2)", "fault 1 Syntax 1"),
-    ("has a : p((A)/0)", "fault 1 Syntax 1"),
-    ("has a : p((A)/000)", "fault 1 Syntax 1"),
+    ("has a : p(A*3)", "fault 1 Syntax 12"),
+    ("has a : p((A)/000)", "fault 7 ZeroDivisor"),
     ("has a : p((8*A)/02)", "yes"),
     ("has a : p(-A)", "no"),
-    ("has a : p(A - A)", "yes"),
     ("has a : p(- A + 2*A)", "yes"),
-    ("has a : p(0 + A)", "fault 1 Syntax 1"),
-    ("has a : p(A + 1)", "fault 1 Syntax 1"),
-    ("has a : p(A0)", "fault 1 Syntax 1"),
-    ("has a : p(A01)", "fault 1 Syntax 1"),
-    ("has a : p(a1)", "fault 1 Syntax 1"),
-    ("has a : p(Ä)", "fault 1 Syntax 1"),
-    ("has a : p(\0)", "fault 1 Syntax 1"),
+    ("has a : p(0 + A)", "fault 1 Syntax 13"),
+    ("has a : p(A + 1)", "fault 1 Syntax 16"),
+    ("has a : p(A01)", "fault 1 Syntax 12"),
+    ("has a : p(Ä)", "fault 1 Syntax 11"),
+    ("has a : p(\0)", "fault 1 Syntax 11"),
     ("has a : p(A1)", "fault 10 OutOfRange"),
     (
         "has a : p(C + 170141183460469231731687303715884105728*A)",
@@ -231,45 +524,52 @@ const LINES: [(&str, &str); 56] = [
     ),
     (
         "has aaaaaaaaaabbbbbbbbbbccccccccccddd : p(0)",
-        "fault 1 Syntax 1",
+        "fault 1 Syntax 37",
     ),
     ("cons c closed 31 : E1 = 0", "ok"),
     ("cons c closed 31 : F1 = 0", "fault 10 OutOfRange"),
-    ("cons c closed 32 : A = 0", "fault 1 Syntax 1"),
-    ("cons c closed 00031 : A = 0", "ok"),
+    ("cons c closed 00031 : true", "ok"),
     ("cons c closed 1 : A = 1 , A>=0,A<=5", "ok"),
-    ("cons c closed 1 : A > 0", "fault 1 Syntax 1"),
-    ("cons c closed 1 : true", "fault 1 Syntax 1"),
-    ("cons c nnc 1 : A = 0", "fault 1 Syntax 1"),
-    ("cons c closed 1 :", "fault 1 Syntax 1"),
-    ("cons c closed 1 : A = 0,", "fault 1 Syntax 1"),
-    ("cons C closed 1 : A = 0", "fault 1 Syntax 1"),
-    ("cons c closed : A = 0", "fault 1 Syntax 1"),
-    (
-        "cons c closed 1 : 170141183460469231731687303715884105727*A = 0",
-        "ok",
-    ),
-    (
-        "cons c closed 1 : 170141183460469231731687303715884105728*A = 0",
-        "fault 8 NumberTooLarge",
-    ),
+    ("cons c nncc 1 : A = 0", "fault 1 Syntax 11"),
+    ("cons c nnc 1 : A = 0\nprint cons c", "ok\nA = 0"),
+    ("cons c closed 1 :", "fault 1 Syntax 18"),
+    ("cons c closed 1 : A = 0,", "fault 1 Syntax 25"),
+    ("cons C closed 1 : A = 0", "fault 1 Syntax 6"),
+    ("cons c closed : A = 0", "fault 1 Syntax 15"),
     (
         "cons c closed 1 : A - A + 170141183460469231731687303715884105727*A >= 0",
         "ok",
     ),
     (
-        "cons a closed 1 : 2*A <= 6, 1 <= A\nhas a : p(3*A)\nhas a : p(4*A)\nhas a : p(0)",
-        "ok\nyes\nno\nno",
+        "cons d closed 0 : 0 >= 1\nhas d : p(0)\nprint cons d",
+        "ok\nno\nfalse",
     ),
     (
         "cons a closed 1 : A >=\nhas a : p(A + B)",
-        "fault 1 Syntax 1\nyes",
+        "fault 1 Syntax 23\nyes",
     ),
     (
         "cons a closed 1 : B = 0\nhas a : p(A + B)",
         "fault 10 OutOfRange\nyes",
     ),
-    ("cons d closed 0 : 0 >= 1\nhas d : p(0)", "ok\nno"),
+    ("gens c closed 1 : none\nprint gens c", "ok\nnone"),
+    ("cons b closed 32 : C1 > 0", "fault 5 TooManyDims"),
+    (
+        "cons b closed 1 : B > 170141183460469231731687303715884105728",
+        "fault 10 OutOfRange",
+    ),
+    (
+        "cons b closed 1 : A > 170141183460469231731687303715884105728",
+        "fault 8 NumberTooLarge",
+    ),
+    ("gens b closed 1 : c((A)/0), r(0)", "fault 7 ZeroDivisor"),
+    ("gens b closed 1 : r(0), c(A)", "fault 9 StrictInClosed"),
+    ("gens b closed 1 : r(0)", "fault 15 ZeroVector"),
+    ("gens b closed 1 : r(A)", "fault 6 NoPoint"),
+    ("add b : C > 0", "fault 2 UnknownName"),
+    ("addgen a : l(C)", "fault 10 OutOfRange"),
+    ("copy c b", "fault 2 UnknownName"),
+    ("size a b", "fault 1 Syntax 8"),
 ];
 
 #[test]

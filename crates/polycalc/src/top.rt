@@ -5,6 +5,7 @@ ghost use Rattle.poly_io.specs.Counts.{HasRisen};
 ghost use Rattle.polycalc.specs.Words.{run_words};
 ghost use Rattle.polycalc.specs.Outcomes.{Ends, IsAnswered, WritesPrefix, AnswersWhole, AnswersEarlier};
 
+use crate::laws::runs_are_complete;
 use crate::runs::run_lines;
 use crate::status::Status;
 use crate::vocabulary::Words;
@@ -24,7 +25,8 @@ pub fn polycalc<S: Source, W: Sink, L: Ledger>(
     steps: &mut Steps<L>,
 ) -> Status
     // Where source and sink tell their bytes, no count of faults rose and memory was found, the
-    // sink holds what it held and then the replies of a run over the lines of all bytes.
+    // sink holds what it held and then the replies of a run over the lines of all bytes, in which
+    // each line that must succeed is answered.
     ensures answered { (script before : List ℕ) → words.now ≡ run_words → S.left source.old ≡ Some script → W.held sink.old ≡ Some before
         → length script ≤ 2 ^ 26 → ¬ (HasRisen (S.faults source.old) (S.faults source.new)) → ¬ (HasRisen (W.faults sink.old) (W.faults sink.new))
         → result ≢ Status.Memory → IsAnswered script before (W.held sink.new) result }
@@ -49,6 +51,7 @@ pub fn polycalc<S: Source, W: Sink, L: Ledger>(
     ensures partly { (result ≡ Status.WriteFault) ⊎ (result ≡ Status.Memory) ⊎ (result ≡ Status.InputTooLong) → (given : List ℕ)
         × (S.left source.old ≡ prepend_known given (S.left source.new)) × WritesPrefix given (W.held sink.old) (W.held sink.new) }
 {
+    runs_are_complete();
     if words.is_run() {
         run_lines(alloc, source, sink, steps)
     } else {

@@ -3,7 +3,7 @@ mod AddgenTable
 mod AnyRow
 mod ColumnLaws
 mod ConsTable
-mod EdgeLemmas
+pub mod EdgeLemmas
 mod GensTable
 mod HasTable
 mod NoWordsTable

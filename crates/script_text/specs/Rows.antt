@@ -35,7 +35,7 @@ nothing_form = blanks · perhaps comment
 
 -- a topology
 abbrev pub top : Form
-top = word (codes "closed")
+top = word (codes "closed") ∣ word (codes "nnc")
 
 -- which of the two stored lists
 abbrev pub side : Form

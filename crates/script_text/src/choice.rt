@@ -7,7 +7,6 @@ ghost use Rattle.script_text.specs.Words.{word_of, behind_word};
 use crate::forms::form_of;
 use crate::row::Row;
 use crate::shapes::{nothing_verdict, rest_verdict};
-use crate::words::split_word;
 use grammar::{Verdict, column_of};
 use std::alloc::{AllocError, Global};
 
@@ -75,13 +74,20 @@ fn by_word(row: Row, line: &[u8], rest: &[u8]) -> Result<Row, usize>
     }
 }
 
-/// The row whose form the line has, and else the column of the fault over all rows.
+/// The row whose form the line has, from its first word and what stands behind that, and else the column
+/// of the fault over all rows.
 ///
 /// The recognizer is asked only where no command's word begins the line.
-pub fn row_of(alloc: Global, line: &[u8]) -> Result<Result<Row, usize>, AllocError>
+pub fn row_of(
+    alloc: Global,
+    line: &[u8],
+    word: &[u8],
+    rest: &[u8],
+) -> Result<Result<Row, usize>, AllocError>
+    requires word { word.now ≡ word_of line.now }
+    requires behind { rest.now ≡ behind_word line.now }
     ensures { IfOk result (λ r. MatchResult r (λ row. Matches (row_form row) line.now) (IsColumnOfAny (map row_form rows) line.now)) }
 {
-    let (word, rest) = split_word(line);
     if let Some(row) = named(word) {
         return Ok(by_word(row, line, rest));
     }

@@ -30,7 +30,7 @@ const NAME: Re<'static> = Re::Named(Rule::Name);
 
 const NAT: Re<'static> = Re::Named(Rule::Nat);
 
-const TOP: Re<'static> = Re::Word(b"closed");
+const TOP: Re<'static> = Re::Or(&Re::Word(b"closed"), &Re::Word(b"nnc"));
 
 const SIDE: Re<'static> = Re::Or(&Re::Word(b"cons"), &Re::Word(b"gens"));
 

@@ -1,5 +1,5 @@
 //! The command of a row and its fields.
-ghost use Rattle.std.specs.Prelude.{◌≡◌, IfOk};
+ghost use Rattle.std.specs.Prelude.{◌≡◌, ℕ, List, ◌∷◌, IfOk};
 ghost use Rattle.script_text.specs.Commands.{command_of, number_of, is_word, is_strict, begins_strict, part_from};
 ghost use Rattle.script_text.specs.Fields.{fields_in};
 ghost use Rattle.script_text.specs.Words.{part_of};
@@ -21,27 +21,25 @@ fn text(alloc: Global, bytes: &[u8]) -> Result<Text, Memory>
     Ok(text)
 }
 
-/// Whether `>` or `<` with no `=` behind it, or `c(`, stands in front.
-fn begins_strict(byte: u8, behind: &[u8]) -> bool
-    ensures { result ≡ begins_strict byte behind.now }
+/// Whether the two bytes are `>` or `<` with no `=` behind it, or `c(`.
+fn begins_strict(byte: u8, next: u8) -> bool
+    ensures { (behind : List ℕ) → result ≡ begins_strict byte (next ∷ behind) }
 {
-    let next = match behind {
-        [] => 0,
-        [next, ..] => *next,
-    };
-    (byte == b'<' || byte == b'>') && next != b'=' || byte == b'c' && next == b'('
+    ((byte == b'<') | (byte == b'>')) & (next != b'=') | (byte == b'c') & (next == b'(')
 }
 
 /// Whether `>` or `<` with no `=` behind it, or `c(`, stands in the text.
 fn is_strict(text: &[u8]) -> bool
     ensures { result ≡ is_strict text.now }
 {
-    for (index, byte) in text.iter().enumerate() {
-        if begins_strict(*byte, &text[index + 1..]) {
-            return true;
-        }
+    let mut found = false;
+    for index in 1..text.len() {
+        found |= begins_strict(text[index - 1], text[index]);
     }
-    false
+    match text {
+        [] => false,
+        [.., last] => found | begins_strict(*last, 0),
+    }
 }
 
 /// The part behind the colon.

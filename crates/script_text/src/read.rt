@@ -26,11 +26,9 @@ pub fn read_command(alloc: Global, line: &[u8]) -> Result<Command, ReadErr>
     if line.len() > MAX_LINE {
         return Err(ReadErr::Input(Fault::LineTooLong));
     }
-    match row_of(alloc, line)? {
-        Ok(row) => {
-            let (_, rest) = split_word(line);
-            Ok(command_of(alloc, row, rest)?)
-        }
+    let (word, rest) = split_word(line);
+    match row_of(alloc, line, word, rest)? {
+        Ok(row) => Ok(command_of(alloc, row, rest)?),
         Err(column) => Err(ReadErr::Input(Fault::Syntax(column as u64))),
     }
 }

@@ -9,6 +9,7 @@ use crate::tables::{
 use grammar::Verdict;
 
 /// Whether the text is what may stand behind the command word of the row.
+#[inline(never)]
 pub fn rest_verdict(row: Row, rest: &[u8]) -> Verdict
     ensures { IsVerdict (rest_form (shape_of row)) rest.now result }
 {

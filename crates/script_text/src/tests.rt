@@ -1,7 +1,8 @@
 use super::*;
 use crate::choice::{ROWS, by_trying, row_of};
+use crate::words::split_word;
 use reply_text::{Fault, ReadErr};
-use std::alloc::Global;
+use std::alloc::{AllocError, Global};
 use std::test::Fail;
 
 /// The column of the fault, or 0 for a line that is read.
@@ -15,7 +16,7 @@ fn column(alloc: Global, line: &[u8]) -> Option<u64> {
 
 #[test]
 fn lines_that_are_read(rt: HostRuntime) {
-    let lines: [&[u8]; 30] = [
+    let lines: [&[u8]; 33] = [
         b"",
         b" \t ",
         b"#",
@@ -28,7 +29,10 @@ fn lines_that_are_read(rt: HostRuntime) {
         b"\tcons\ta\t closed\t2\t:\tA\t>\tB\t",
         b"gens gens closed 00 : none # none",
         b"gens a closed 2:p(A),c(B)#",
+        b"cons nnc nnc 2 : A > 0, B < 1",
+        b"gens a nnc 1 : c(A), p(0)",
         b"universe u closed 3",
+        b"universe u nnc 31",
         b"universe u closed 3#x",
         b"empty empty closed 99999999999999999999 # x",
         b"copy copy drop#",
@@ -60,7 +64,7 @@ fn columns_of_refused_lines(rt: HostRuntime) {
         (b"cons a closed 2 :", 18),
         (b"cons a closed 2", 16),
         (b"cons a closed : A >= 0", 15),
-        (b"cons a nnc 2 : true", 8),
+        (b"cons a nncc 2 : true", 11),
         (b"cons a closed 2 true", 17),
         (b"cons a closed 2 :: true", 18),
         (b"cons a a closed 2 : true", 8),
@@ -147,14 +151,23 @@ fn long_lines(rt: HostRuntime) -> Result<(), Fail> {
     Ok(())
 }
 
+/// The row of the line, from its first word.
+fn by_first_word(alloc: Global, line: &[u8]) -> Result<Result<Row, usize>, AllocError> {
+    let (word, rest) = split_word(line);
+    row_of(alloc, line, word, rest)
+}
+
 /// Each line with one byte changed, and each front of it, has the row that the recognizer tells.
 #[test]
 fn machines_and_the_recognizer(rt: HostRuntime) -> Result<(), Fail> {
     let alloc = rt.alloc();
-    let lines: [&[u8]; 11] = [
+    let lines: [&[u8]; 14] = [
         b"cons a closed 2:A>0#x",
         b"gens a closed 2:p(A)",
+        b"cons nnc nnc 2 : A > 0, B < 1",
+        b"gens a nnc 1 : c(A), p(0)",
         b"universe u closed 3",
+        b"universe u nnc 31",
         b"empty e closed 3 #",
         b"copy a bc",
         b"drop a",
@@ -167,14 +180,17 @@ fn machines_and_the_recognizer(rt: HostRuntime) -> Result<(), Fail> {
     for line in lines {
         for (index, _) in line.iter().enumerate() {
             let front = &line[..index];
-            assert_eq!(rt; row_of(alloc, front)?, by_trying(alloc, &ROWS, front)?);
+            assert_eq!(rt;
+                by_first_word(alloc, front)?,
+                by_trying(alloc, &ROWS, front)?
+            );
             for other in [b'?', b' ', b':', b'n', b'0', b'#'] {
                 let mut changed = Vec::from_slice(alloc, line)?;
                 if let Some(byte) = changed.get_mut(index) {
                     *byte = other;
                 }
                 assert_eq!(rt;
-                    row_of(alloc, &changed)?,
+                    by_first_word(alloc, &changed)?,
                     by_trying(alloc, &ROWS, &changed)?
                 );
             }

@@ -64,7 +64,11 @@ fn comment_start(text: &[u8]) -> usize
 fn before_comment(text: &[u8]) -> &[u8]
     ensures { result.now ≡ before_comment text.now }
 {
-    &text[..comment_start(text)]
+    if text.contains(&b'#') {
+        &text[..comment_start(text)]
+    } else {
+        text
+    }
 }
 
 /// How many bytes stand before the first colon.

@@ -6,7 +6,7 @@ use Rattle.poly_io.specs.LineReading.{Reading}
 use Rattle.poly_io.specs.declared.line_reader.LineAns.TheVariants.{Line, End, Failed, TooLong}
 use Rattle.poly_io.proofs.CutLaws.{lacks_unless}
 use Rattle.poly_io.proofs.Known.{prepend_known-then, prepend_known-nil}
-use Rattle.calc_state.specs.Step.{Step}
+use Rattle.calc_state.specs.Line.{Step}
 use Rattle.calc_state.specs.Table.{Table}
 use Rattle.polycalc.specs.Replies.{Written, written}
 use Rattle.polycalc.specs.Outcomes.{Completes}

@@ -1,0 +1,192 @@
+-- What came of the commands that read the constraints or generators of a text.
+use Rattle.std.proofs.Common.{◌≡◌, ℕ, ◌+◌, ◌<◌, ◌≤◌, List, [], ◌∷◌, ◌++◌, Err, Ok, Result, IsTrue, Bool, true, false, ◌↔◌, refl, sym, ◌∙◌, ap, subst, inl, inr, arith}
+use Rattle.std.specs.Prelude.{All}
+use Rattle.std.proofs.lemmas.List.Elements.{All-nil, All-cons, All-head, All-tail, All-append}
+use Rattle.row_core.specs.declared.errors.Overflow.{Overflow}
+use Rattle.row_core.specs.declared.errors.ConvErr.{ConvErr}
+use Rattle.row_core.specs.declared.errors.ConvErr.TheVariants as conversion
+use Rattle.cons_sys.specs.Constraints.{Constraint, Constraints}
+use Rattle.gens_sys.specs.Generators.{Generator, Generators}
+use Rattle.pair_laws.specs.PointSets.{IsClosedKind, IsClosedGenKind, IsClosedGen}
+use Rattle.pair_laws.specs.StoredLaws.{StoredIsClosed}
+use Rattle.poly_pair.specs.Polyhedra.{Polyhedron, IsStoredAs, IsKept, IsOfConstraints, IsOfGenerators}
+use Rattle.poly_pair.specs.FirstLists.{LacksPoint}
+use Rattle.poly_pair.specs.TopologyLists.{AreConstraintsFor, AreGeneratorsFor, list_width, constraints_of, generators_of}
+use Rattle.poly_pair.specs.Refusals.{IsOverflowOn, IsGenOverflowOn}
+use Rattle.poly_pair.specs.declared.errors.GenErr.{GenErr}
+use Rattle.poly_pair.specs.declared.errors.GenErr.TheVariants as generators
+use Rattle.poly_pair.specs.declared.topology.Topology.{Topology}
+use Rattle.poly_pair.specs.declared.topology.Topology.TheVariants.{Closed, Nnc}
+use Rattle.reply_text.specs.declared.faults.Fault.TheVariants.{NoPoint, TooManyNames}
+use Rattle.expr_text.specs.OneAnswer.{GensHasOneAnswer}
+use Rattle.script_text.specs.declared.command.Part.{Part}
+use Rattle.calc_state.specs.declared.refusal.StepErr.{StepErr}
+use Rattle.calc_state.specs.declared.refusal.StepErr.TheVariants as err
+use Rattle.calc_state.specs.declared.entry.Entry.TheVariants as entry
+use Rattle.calc_state.specs.declared.change.Change.{Change}
+use Rattle.calc_state.specs.declared.change.Change.TheVariants.{Puts}
+use Rattle.calc_state.specs.Table.{Table, HasNoRoom}
+use Rattle.calc_state.specs.Order.{Conditions, NoneOf, IsFirst, Passes}
+use Rattle.calc_state.specs.Refusals.{refusal_of_conversion, refusal_of_generators}
+use Rattle.calc_state.specs.Texts.{text_order, constraints_fault, generators_fault, IsTextRefusal, ReadsConstraints, ReadsGenerators}
+use Rattle.calc_state.specs.Meaning.{Meaning}
+use Rattle.calc_state.specs.Makers.{SaysConstraints, SaysGenerators, LeavesOnConstraints, LeavesOnGenerators, more_constraints, more_generators, cons, gens, add, addgen}
+use Rattle.calc_state.specs.Step.{IsPerformed}
+use Rattle.calc_state.proofs.FaultOrder.{early, late, refused_by_text, refused_late, all_pass}
+
+-- ---- conversions
+-- the conversion of constraints was refused
+pub refused_constraints : (m : Meaning) (t : Topology) (cs : Constraints) (cause : ConvErr) → Passes m.conditions → ((over : Overflow) → LeavesOnConstraints t cs over → m.overflows over) → IsOverflowOn (list_width t cs.dim) cs.dim (constraints_of t cs) cause → IsPerformed m (Err (refusal_of_conversion cause))
+refused_constraints m t cs (conversion.Overflow over) passes shown is = (passes, shown over is)
+refused_constraints m t cs conversion.Memory passes shown is = tt
+
+-- a test that isn't true
+pub not_so : (b : Bool) (P : Type 0) → IsTrue b ↔ P → b ≡ false → ¬ P
+not_so b P is e h = let never : true ≡ false = sym (is.1 h) ∙ e in cc
+
+-- what came of generators that are converted
+abbrev pub made : Polyhedron → Result Polyhedron GenErr
+made p = Ok p
+
+abbrev pub unmade : GenErr → Result Polyhedron GenErr
+unmade cause = Err cause
+
+made_has_point : (p : Polyhedron) (P : Type 0) → (made p ≡ unmade generators.NoPoint) ↔ P → ¬ P
+made_has_point p P is h = let never : made p ≡ unmade generators.NoPoint = is.1 h in cc
+
+-- ---- cons
+cons_early : (table : Table) (out : List ℕ) (t : Topology) (n : ℕ) (part : Part) → n ≤ 31 → NoneOf early (cons table out t n part).conditions
+cons_early table out t n part small = (λ k. k, (λ k. k, (λ k. k, (λ k. k, (λ (k : 31 < n). absurd (omega arith), tt)))))
+
+pub cons_refused : (table : Table) (out : List ℕ) (t : Topology) (n : ℕ) (part : Part) (e : StepErr) → n ≤ 31 → IsTextRefusal (constraints_fault t n part) e → IsPerformed (cons table out t n part) (Err e)
+cons_refused table out t n part e small is = refused_by_text (cons table out t n part) e (cons_early table out t n part small) is
+
+pub cons_full : (table : Table) (out : List ℕ) (t : Topology) (n : ℕ) (part : Part) (system : Constraints) → n ≤ 31 → ReadsConstraints t n part system → HasNoRoom table out → IsFirst (cons table out t n part).conditions TooManyNames
+cons_full table out t n part system small read full =
+    refused_late (cons table out t n part).conditions TooManyNames (cons_early table out t n part small) read.faultless (inr (λ k. k, inr (λ k. k, inl (full, refl))))
+
+cons_passes : (table : Table) (out : List ℕ) (t : Topology) (n : ℕ) (part : Part) (system : Constraints) → n ≤ 31 → ReadsConstraints t n part system → ¬ (HasNoRoom table out) → Passes (cons table out t n part).conditions
+cons_passes table out t n part system small read room =
+    all_pass (cons table out t n part).conditions (cons_early table out t n part small) read.faultless (λ k. k, (λ k. k, (room, tt)))
+
+pub cons_made : (table : Table) (out : List ℕ) (t : Topology) (n : ℕ) (part : Part) (system : Constraints) (p : Polyhedron) → n ≤ 31 → ReadsConstraints t n part system → ¬ (HasNoRoom table out) → IsOfConstraints t system p → IsPerformed (cons table out t n part) (Ok (Puts out (entry.Poly p)))
+cons_made table out t n part system p small read room is =
+    (cons_passes table out t n part system small read room, (refl, record { system = system; read = read.read; holds = is }))
+
+pub cons_leaves : (table : Table) (out : List ℕ) (t : Topology) (n : ℕ) (part : Part) (system : Constraints) (cause : ConvErr) → n ≤ 31 → ReadsConstraints t n part system → ¬ (HasNoRoom table out) → IsOverflowOn (list_width t system.dim) system.dim (constraints_of t system) cause → IsPerformed (cons table out t n part) (Err (refusal_of_conversion cause))
+cons_leaves table out t n part system cause small read room is =
+    refused_constraints (cons table out t n part) t system cause (cons_passes table out t n part system small read room) (λ over leaves. record { system = system; read = read.read; holds = leaves }) is
+
+-- ---- gens
+gens_early : (table : Table) (out : List ℕ) (t : Topology) (n : ℕ) (part : Part) → n ≤ 31 → NoneOf early (gens table out t n part).conditions
+gens_early table out t n part small = (λ k. k, (λ k. k, (λ k. k, (λ k. k, (λ (k : 31 < n). absurd (omega arith), tt)))))
+
+pub gens_refused : (table : Table) (out : List ℕ) (t : Topology) (n : ℕ) (part : Part) (e : StepErr) → n ≤ 31 → IsTextRefusal (generators_fault t n part) e → IsPerformed (gens table out t n part) (Err e)
+gens_refused table out t n part e small is = refused_by_text (gens table out t n part) e (gens_early table out t n part small) is
+
+pub gens_lack : (table : Table) (out : List ℕ) (t : Topology) (n : ℕ) (part : Part) (system : Generators) → n ≤ 31 → ReadsGenerators t n part system → LacksPoint system.list → IsFirst (gens table out t n part).conditions NoPoint
+gens_lack table out t n part system small read lacks =
+    refused_late (gens table out t n part).conditions NoPoint (gens_early table out t n part small) read.faultless (inl (record { system = system; read = read.read; holds = lacks }, refl))
+
+-- no other system is said
+none_lacks : (t : Topology) (n : ℕ) (part : Part) (system : Generators) (P : Generators → Type 0) → GensHasOneAnswer → ReadsGenerators t n part system → ¬ (P system) → ¬ (SaysGenerators n part P)
+none_lacks t n part system P law read lacks k = lacks (subst P ((law n part.text).one_value k.system system k.read read.read) k.holds)
+
+pub gens_full : (table : Table) (out : List ℕ) (t : Topology) (n : ℕ) (part : Part) (system : Generators) → GensHasOneAnswer → n ≤ 31 → ReadsGenerators t n part system → ¬ (LacksPoint system.list) → HasNoRoom table out → IsFirst (gens table out t n part).conditions TooManyNames
+gens_full table out t n part system law small read has full =
+    refused_late (gens table out t n part).conditions TooManyNames (gens_early table out t n part small) read.faultless (inr (none_lacks t n part system (λ (gs : Generators). LacksPoint gs.list) law read has, inr (λ k. k, inl (full, refl))))
+
+gens_passes : (table : Table) (out : List ℕ) (t : Topology) (n : ℕ) (part : Part) (system : Generators) → GensHasOneAnswer → n ≤ 31 → ReadsGenerators t n part system → ¬ (LacksPoint system.list) → ¬ (HasNoRoom table out) → Passes (gens table out t n part).conditions
+gens_passes table out t n part system law small read has room =
+    all_pass (gens table out t n part).conditions (gens_early table out t n part small) read.faultless (none_lacks t n part system (λ (gs : Generators). LacksPoint gs.list) law read has, (λ k. k, (room, tt)))
+
+pub gens_made : (table : Table) (out : List ℕ) (t : Topology) (n : ℕ) (part : Part) (system : Generators) (p : Polyhedron) → GensHasOneAnswer → n ≤ 31 → ReadsGenerators t n part system → ¬ (LacksPoint system.list) → ¬ (HasNoRoom table out) → IsOfGenerators t system p → IsPerformed (gens table out t n part) (Ok (Puts out (entry.Poly p)))
+gens_made table out t n part system p law small read has room is =
+    (gens_passes table out t n part system law small read has room, (refl, record { system = system; read = read.read; holds = is }))
+
+pub gens_leaves : (table : Table) (out : List ℕ) (t : Topology) (n : ℕ) (part : Part) (system : Generators) (cause : GenErr) → GensHasOneAnswer → n ≤ 31 → ReadsGenerators t n part system → ¬ (LacksPoint system.list) → ¬ (HasNoRoom table out) → (unmade cause ≡ unmade generators.NoPoint) ↔ LacksPoint system.list → IsGenOverflowOn (list_width t system.dim) system.dim (generators_of t system) cause → IsPerformed (gens table out t n part) (Err (refusal_of_generators cause))
+gens_leaves table out t n part system generators.NoPoint law small read has room lacks is = absurd (has (lacks.0 refl))
+gens_leaves table out t n part system (generators.Overflow over) law small read has room lacks is = (gens_passes table out t n part system law small read has room, record { system = system; read = read.read; holds = is })
+gens_leaves table out t n part system generators.Memory law small read has room lacks is = tt
+
+-- ---- add
+abbrev HasClosedKind : Constraint → Type 0
+HasClosedKind c = IsClosedKind c.1
+
+joined_kinds : (t : Topology) (cs : Constraints) (gs : Generators) (new joined : Constraints) → StoredIsClosed → IsStoredAs t cs gs → AreConstraintsFor t new → joined.list ≡ cs.list ++ new.list → AreConstraintsFor t joined
+joined_kinds Closed cs gs new joined law is kinds e = subst (λ (list : List Constraint). All HasClosedKind list) (sym e) (All-append HasClosedKind cs.list new.list (law cs gs is).cons kinds)
+joined_kinds Nnc cs gs new joined law is kinds e = tt
+
+-- a polyhedron's constraints and those that are added to it are such as its topology has
+pub joined_constraints : (p : Polyhedron) (part : Part) (new joined : Constraints) → StoredIsClosed → IsKept p → ReadsConstraints p.topology p.cons.dim part new → joined.list ≡ p.cons.list ++ new.list → AreConstraintsFor p.topology joined
+joined_constraints p part new joined law kept read e = joined_kinds p.topology p.cons p.gens new joined law kept.stored read.kinds e
+
+add_early : (name : List ℕ) (part : Part) (p : Polyhedron) → NoneOf early (add name part p).conditions
+add_early name part p = (λ k. k, (λ k. k, (λ k. k, (λ k. k, (λ k. k, tt)))))
+
+pub add_refused : (name : List ℕ) (part : Part) (p : Polyhedron) (e : StepErr) → IsTextRefusal (constraints_fault p.topology p.cons.dim part) e → IsPerformed (add name part p) (Err e)
+add_refused name part p e is = refused_by_text (add name part p) e (add_early name part p) is
+
+add_passes : (name : List ℕ) (part : Part) (p : Polyhedron) (new : Constraints) → ReadsConstraints p.topology p.cons.dim part new → Passes (add name part p).conditions
+add_passes name part p new read = all_pass (add name part p).conditions (add_early name part p) read.faultless (λ k. k, (λ k. k, (λ k. k, tt)))
+
+-- the joined system, by its dimension and its list
+abbrev constraints_over : ℕ → List Constraint → Constraints
+constraints_over dim list = record { dim = dim; list = list }
+
+same_constraints : (old new joined : Constraints) → joined.dim ≡ old.dim → joined.list ≡ old.list ++ new.list → joined ≡ more_constraints old new
+same_constraints old new joined e f = ap (λ (dim : ℕ). constraints_over dim joined.list) e ∙ ap (constraints_over old.dim) f
+
+pub add_made : (name : List ℕ) (part : Part) (p : Polyhedron) (new joined : Constraints) (r : Polyhedron) → ReadsConstraints p.topology p.cons.dim part new → joined.dim ≡ p.cons.dim → joined.list ≡ p.cons.list ++ new.list → IsOfConstraints p.topology joined r → IsPerformed (add name part p) (Ok (Puts name (entry.Poly r)))
+add_made name part p new joined r read e f is =
+    (add_passes name part p new read, (refl, record { system = new; read = read.read; holds = subst (λ (cs : Constraints). IsOfConstraints p.topology cs r) (same_constraints p.cons new joined e f) is }))
+
+pub add_leaves : (name : List ℕ) (part : Part) (p : Polyhedron) (new joined : Constraints) (cause : ConvErr) → ReadsConstraints p.topology p.cons.dim part new → joined.dim ≡ p.cons.dim → joined.list ≡ p.cons.list ++ new.list → IsOverflowOn (list_width p.topology joined.dim) joined.dim (constraints_of p.topology joined) cause → IsPerformed (add name part p) (Err (refusal_of_conversion cause))
+add_leaves name part p new joined cause read e f is =
+    refused_constraints (add name part p) p.topology (more_constraints p.cons new) cause (add_passes name part p new read) (λ over leaves. record { system = new; read = read.read; holds = leaves })
+    (subst (λ (cs : Constraints). IsOverflowOn (list_width p.topology cs.dim) cs.dim (constraints_of p.topology cs) cause) (same_constraints p.cons new joined e f) is)
+
+-- ---- addgen
+abbrev HasClosedGenKind : Generator → Type 0
+HasClosedGenKind g = IsClosedGenKind g.1
+
+kinds_of : (dim : ℕ) (list : List Generator) → All (IsClosedGen dim) list → All HasClosedGenKind list
+kinds_of dim [] h = All-nil HasClosedGenKind
+kinds_of dim (g ∷ gs) h = All-cons HasClosedGenKind g gs ((All-head (IsClosedGen dim) g gs h).kind) (kinds_of dim gs (All-tail (IsClosedGen dim) g gs h))
+
+joined_gen_kinds : (t : Topology) (cs : Constraints) (gs new joined : Generators) → StoredIsClosed → IsStoredAs t cs gs → AreGeneratorsFor t new → joined.list ≡ gs.list ++ new.list → AreGeneratorsFor t joined
+joined_gen_kinds Closed cs gs new joined law is kinds e = subst (λ (list : List Generator). All HasClosedGenKind list) (sym e) (All-append HasClosedGenKind gs.list new.list (kinds_of gs.dim gs.list (law cs gs is).gens) kinds)
+joined_gen_kinds Nnc cs gs new joined law is kinds e = tt
+
+-- a polyhedron's generators and those that are added to it are such as its topology has
+pub joined_generators : (p : Polyhedron) (part : Part) (new joined : Generators) → StoredIsClosed → IsKept p → ReadsGenerators p.topology p.gens.dim part new → joined.list ≡ p.gens.list ++ new.list → AreGeneratorsFor p.topology joined
+joined_generators p part new joined law kept read e = joined_gen_kinds p.topology p.cons p.gens new joined law kept.stored read.kinds e
+
+addgen_early : (name : List ℕ) (part : Part) (p : Polyhedron) → NoneOf early (addgen name part p).conditions
+addgen_early name part p = (λ k. k, (λ k. k, (λ k. k, (λ k. k, (λ k. k, tt)))))
+
+pub addgen_refused : (name : List ℕ) (part : Part) (p : Polyhedron) (e : StepErr) → IsTextRefusal (generators_fault p.topology p.gens.dim part) e → IsPerformed (addgen name part p) (Err e)
+addgen_refused name part p e is = refused_by_text (addgen name part p) e (addgen_early name part p) is
+
+addgen_passes : (name : List ℕ) (part : Part) (p : Polyhedron) (new : Generators) → GensHasOneAnswer → ReadsGenerators p.topology p.gens.dim part new → ¬ (LacksPoint (p.gens.list ++ new.list)) → Passes (addgen name part p).conditions
+addgen_passes name part p new law read has =
+    all_pass (addgen name part p).conditions (addgen_early name part p) read.faultless (none_lacks p.topology p.gens.dim part new (λ (gs : Generators). LacksPoint (p.gens.list ++ gs.list)) law read has, (λ k. k, (λ k. k, tt)))
+
+abbrev generators_over : ℕ → List Generator → Generators
+generators_over dim list = record { dim = dim; list = list }
+
+same_generators : (old new joined : Generators) → joined.dim ≡ old.dim → joined.list ≡ old.list ++ new.list → joined ≡ more_generators old new
+same_generators old new joined e f = ap (λ (dim : ℕ). generators_over dim joined.list) e ∙ ap (generators_over old.dim) f
+
+pub addgen_made : (name : List ℕ) (part : Part) (p : Polyhedron) (new joined : Generators) (r : Polyhedron) → GensHasOneAnswer → ReadsGenerators p.topology p.gens.dim part new → joined.dim ≡ p.gens.dim → joined.list ≡ p.gens.list ++ new.list → (made r ≡ unmade generators.NoPoint) ↔ LacksPoint joined.list → IsOfGenerators p.topology joined r → IsPerformed (addgen name part p) (Ok (Puts name (entry.Poly r)))
+addgen_made name part p new joined r law read e f lacks is =
+    let has = made_has_point r (LacksPoint joined.list) lacks in
+    (addgen_passes name part p new law read (subst (λ (list : List Generator). ¬ (LacksPoint list)) f has), (refl, record { system = new; read = read.read; holds = subst (λ (gs : Generators). IsOfGenerators p.topology gs r) (same_generators p.gens new joined e f) is }))
+
+pub addgen_refuses : (name : List ℕ) (part : Part) (p : Polyhedron) (new joined : Generators) (cause : GenErr) → GensHasOneAnswer → ReadsGenerators p.topology p.gens.dim part new → joined.dim ≡ p.gens.dim → joined.list ≡ p.gens.list ++ new.list → (unmade cause ≡ unmade generators.NoPoint) ↔ LacksPoint joined.list → IsGenOverflowOn (list_width p.topology joined.dim) joined.dim (generators_of p.topology joined) cause → IsPerformed (addgen name part p) (Err (refusal_of_generators cause))
+addgen_refuses name part p new joined generators.NoPoint law read e f lacks is =
+    refused_late (addgen name part p).conditions NoPoint (addgen_early name part p) read.faultless (inl (record { system = new; read = read.read; holds = subst LacksPoint f (lacks.0 refl) }, refl))
+addgen_refuses name part p new joined (generators.Overflow over) law read e f lacks is =
+    let has : ¬ (LacksPoint joined.list) = λ (k : LacksPoint joined.list). let never : unmade (generators.Overflow over) ≡ unmade generators.NoPoint = lacks.1 k in cc in
+    (addgen_passes name part p new law read (subst (λ (list : List Generator). ¬ (LacksPoint list)) f has), record { system = new; read = read.read; holds = subst (λ (gs : Generators). LeavesOnGenerators p.topology gs over) (same_generators p.gens new joined e f) is })
+addgen_refuses name part p new joined generators.Memory law read e f lacks is = tt

@@ -1,0 +1,70 @@
+-- What a command asks of the table, and what it does there.
+use Rattle.std.specs.Prelude.{◌≡◌, ℕ, ◌<◌, List, Bool, Option, None, Some, ◌∷◌, [], ◌++◌, codes, true, false}
+use Rattle.row_core.specs.declared.errors.Overflow.{Overflow}
+use Rattle.reply_text.specs.declared.faults.Fault.TheVariants as fault
+use Rattle.poly_pair.specs.Polyhedra.{Polyhedron}
+use Rattle.calc_state.specs.declared.entry.Entry.TheVariants as entry
+use Rattle.calc_state.specs.declared.change.Change.{Change}
+use Rattle.calc_state.specs.declared.change.Change.TheVariants.{Says, Puts, TakesOut}
+use Rattle.calc_state.specs.Table.{Table, HasNoRoom}
+use Rattle.calc_state.specs.Order.{Conditions}
+
+-- what a command asks of a table and does there: when each fault holds, which overflows it may show, and what it may do
+pub record Meaning : Type 1 where
+  pub conditions : Conditions
+  pub overflows : Overflow → Type 0
+  pub does : Change → Type 0
+
+-- ---- what a command asks
+-- no fault is possible
+abbrev pub no_fault : Conditions
+no_fault other = ⊥
+
+-- no overflow is possible
+abbrev pub no_overflow : Overflow → Type 0
+no_overflow over = ⊥
+
+-- a name that is read isn't there, or is of another kind
+abbrev pub unknown_name : Conditions
+unknown_name fault.UnknownName = Unit {0}
+unknown_name other = ⊥
+
+-- the command reads a name that isn't there
+abbrev pub unknown : Meaning
+unknown = record { conditions = unknown_name; overflows = no_overflow; does = λ change. ⊥ }
+
+-- the command reads one polyhedron
+abbrev pub on_one : Option Polyhedron → (Polyhedron → Meaning) → Meaning
+on_one None meaning = unknown
+on_one (Some p) meaning = meaning p
+
+-- a result needs room for its name
+abbrev pub room : Table → List ℕ → Conditions
+room table out fault.TooManyNames = HasNoRoom table out
+room table out other = ⊥
+
+-- a dimension is within the limit, 31
+abbrev pub small : ℕ → Conditions → Conditions
+small n others fault.TooManyDims = 31 < n
+small n others other = others other
+
+-- ---- what a command does
+-- the reply is this text, and nothing changes
+abbrev pub IsSaid : List ℕ → Change → Type 0
+IsSaid lines (Says text) = text ≡ lines
+IsSaid lines other = ⊥
+
+-- a polyhedron with this property is put under the name
+abbrev pub IsPut : List ℕ → (Polyhedron → Type 0) → Change → Type 0
+IsPut out Is (Puts name (entry.Poly r)) = (name ≡ out) × Is r
+IsPut out Is other = ⊥
+
+-- this name is taken out
+abbrev pub IsTakenOut : List ℕ → Change → Type 0
+IsTakenOut name (TakesOut taken) = taken ≡ name
+IsTakenOut name other = ⊥
+
+-- the answer to a question
+abbrev pub answer_line : Bool → List ℕ
+answer_line true = codes "yes" ++ 10 ∷ []
+answer_line false = codes "no" ++ 10 ∷ []

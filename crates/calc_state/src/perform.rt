@@ -1,0 +1,68 @@
+//! What each command does, from the table as it stands.
+ghost use Rattle.std.specs.Prelude.{◌≡◌};
+ghost use Rattle.script_text.specs.Line.{PartsMatch, PartsTold};
+ghost use Rattle.calc_state.specs.Meanings.{topology_of as named_topology, meaning};
+ghost use Rattle.calc_state.specs.Step.{IsPerformed};
+
+use crate::change::Change;
+use crate::makers::{add, addgen, cons, copy, drop_name, empty, gens, universe};
+use crate::names::Names;
+use crate::questions::{has, name_list, print, size};
+use crate::refusal::StepErr;
+use poly_pair::Topology;
+use reply_text::Text;
+use row_core::Steps;
+use script_text::Command;
+use std::alloc::Global;
+use std::sync::ledger::Ledger;
+
+/// The topology of a line, by whether its word is `nnc`.
+fn topology_of(nnc: bool) -> Topology
+    ensures { result ≡ named_topology nnc }
+{
+    if nnc { Topology::Nnc } else { Topology::Closed }
+}
+
+/// What a command does, or why it is refused.
+pub fn perform<L: Ledger>(
+    alloc: Global,
+    names: &Names,
+    command: Command,
+    steps: &mut Steps<L>,
+) -> Result<Change, StepErr>
+    requires forms { PartsMatch command }
+    requires told { PartsTold command }
+    ensures { IsPerformed (meaning names.now command) result }
+{
+    match command {
+        Command::Nothing => Ok(Change::Says(Text::new(alloc))),
+        Command::Cons {
+            out,
+            top,
+            n,
+            cons: part,
+        } => cons(alloc, names, out, topology_of(top), n, &part, steps),
+        Command::Gens {
+            out,
+            top,
+            n,
+            gens: part,
+        } => gens(alloc, names, out, topology_of(top), n, &part, steps),
+        Command::Universe { out, top, n } => universe(alloc, names, out, topology_of(top), n),
+        Command::Empty { out, top, n } => empty(alloc, names, out, topology_of(top), n),
+        Command::Copy { out, p } => copy(names, out, names.poly(p.bytes())),
+        Command::Drop { name } => drop_name(names, name),
+        Command::Add { p, cons: part } => {
+            let found = names.poly(p.bytes());
+            add(alloc, p, found, &part, steps)
+        }
+        Command::Addgen { p, gens: part } => {
+            let found = names.poly(p.bytes());
+            addgen(alloc, p, found, &part, steps)
+        }
+        Command::Has { p, point: part } => has(alloc, names.poly(p.bytes()), &part),
+        Command::Size { p } => size(alloc, names.poly(p.bytes())),
+        Command::Print { side, p } => print(alloc, side, names.poly(p.bytes())),
+        Command::Names => name_list(alloc, names),
+    }
+}

@@ -1,0 +1,163 @@
+-- Two runs that accept the same lines come to the same sets, with the same answers.
+use Rattle.std.proofs.Common.{◌≡◌, ◌⊎◌, inl, inr, ℕ, ◌<◌, List, [], ◌∷◌, refl, ap, sym, ◌∙◌, subst, arith, Bool, true, false}
+use Rattle.std.specs.Prelude.{◌↔◌, IsTrue, ℤ, pos, ◌<ℤ◌}
+use Rattle.std.proofs.lemmas.Int.{ints}
+use Rattle.row_core.specs.Points.{IsPoint as IsPointRow}
+use Rattle.row_core.specs.Vectors.{cell}
+use Rattle.cons_sys.specs.Constraints.{In}
+use Rattle.grammar.specs.Cases.{point_cases}
+use Rattle.term_text.specs.Values.{Ratio, point_by, alone_by}
+use Rattle.term_text.specs.Texts.{IsPoint, IsPointOf}
+use Rattle.expr_text.specs.OneAnswer.{PointHasOneAnswer}
+use Rattle.poly_pair.specs.Polyhedra.{Polyhedron}
+use Rattle.poly_pair.specs.declared.topology.Topology.{Topology}
+use Rattle.poly_pair.specs.declared.topology.Topology.TheVariants.{Closed, Nnc}
+use Rattle.script_text.specs.declared.command.Part.{Part}
+use Rattle.script_text.specs.declared.command.Command.{Command}
+use Rattle.script_text.specs.declared.command.Command.TheVariants.{Nothing, Cons, Gens, Universe, Empty, Copy, Drop, Add, Addgen, Has, Size, Print, Names}
+use Rattle.script_text.specs.Line.{Spells, SpellsOne}
+use Rattle.calc_state.specs.Table.{HasDistinctNames}
+use Rattle.calc_state.specs.Meaning.{answer_line}
+use Rattle.calc_state.specs.Questions.{line, size_text, side_text}
+use Rattle.calc_state.specs.Step.{Reply, Answered, Refused, Overflows}
+use Rattle.calc_state.specs.Laws.{KeepsNamesDistinct}
+use Rattle.expr_text.specs.Printed.{constraints_text, generators_text}
+use Rattle.polycalc.specs.Sets.{AreAccepted, IsSetOf}
+use Rattle.polycalc.specs.Sameness.{AreSamePolyhedra}
+use Rattle.polycalc.specs.Truth.{SaysWhether, IsTrueOf, SaysSide, IsTruthful, AreTruthful}
+use Rattle.polycalc.specs.Laws.{accepted_lines, answers, IsNotClosed, ShowsStored, AreSameAnswers, AcceptedLinesDecide}
+use Rattle.polycalc.proofs.OneSet.{OneForm, one_set}
+use Rattle.polycalc.proofs.SetLaws.{Agrees, nothing_agrees, run_told}
+use Rattle.polycalc.proofs.SameTables.{agreeing_same}
+use Rattle.polycalc.proofs.TruthLaws.{ReadBack, answers_true}
+
+-- the laws that are cited: a line spells one command, a text says one point, and commands give a name one set
+pub record OneMeaning : Type 0 where
+  pub spells : SpellsOne
+  pub point : PointHasOneAnswer
+  pub form : OneForm
+
+-- ---- the commands of accepted lines
+-- behind the earlier commands the lines spell these
+abbrev AreSpelled : List Command → List (List ℕ) → List Command → Type 0
+AreSpelled earlier [] commands = commands ≡ earlier
+AreSpelled earlier (line ∷ lines) commands = (c : Command) × Spells line c × AreSpelled (c ∷ earlier) lines commands
+
+accepted_spelled : (earlier : List Command) (lines : List (List ℕ)) (replies : List Reply) (commands : List Command) → AreAccepted earlier lines replies commands → AreSpelled earlier (accepted_lines lines replies) commands
+accepted_spelled earlier [] [] commands a = a
+accepted_spelled earlier (line ∷ lines) (Answered text ∷ replies) commands (c, spelled, a) = (c, spelled, accepted_spelled (c ∷ earlier) lines replies commands a)
+accepted_spelled earlier (line ∷ lines) (Refused fault ∷ replies) commands a = accepted_spelled earlier lines replies commands a
+accepted_spelled earlier (line ∷ lines) (Overflows over ∷ replies) commands a = accepted_spelled earlier lines replies commands a
+accepted_spelled earlier [] (reply ∷ replies) commands a = absurd a
+accepted_spelled earlier (line ∷ lines) [] commands a = absurd a
+
+spelled_once : SpellsOne → (earlier : List Command) (lines : List (List ℕ)) (commands others : List Command) → AreSpelled earlier lines commands → AreSpelled earlier lines others → commands ≡ others
+spelled_once one earlier [] commands others a b = a ∙ sym b
+spelled_once one earlier (line ∷ lines) commands others (c, s, a) (d, t, b) =
+    spelled_once one (c ∷ earlier) lines commands others a (subst (λ (x : Command). AreSpelled (x ∷ earlier) lines others) (one line d c t s) b)
+
+-- ---- one answer to an accepted line
+same_bool : (b c : Bool) (P Q : Type 0) → P ↔ Q → IsTrue b ↔ P → IsTrue c ↔ Q → b ≡ c
+same_bool true true P Q e h k = refl
+same_bool false false P Q e h k = refl
+same_bool true false P Q e h k = sym (k.1 (e.0 (h.0 refl)))
+same_bool false true P Q e h k = h.1 (e.1 (k.0 refl))
+
+positive_of : (d : ℕ) (z : ℤ) → z ≡ pos d → 0 < d → pos 0 <ℤ z
+positive_of d z e h = omega (arith, ints, e, h)
+
+row_of_point : (dim : ℕ) (r : Ratio) (row : List ℤ) → IsPointOf dim r row → IsPointRow dim row
+row_of_point dim r row is = record { wide = is.wide; positive = positive_of r.divisor (cell row dim) is.last is.positive }
+
+-- the vector of a point's text is one of a point
+point_row : (dim : ℕ) (text : List ℕ) (row : List ℤ) → IsPoint dim text row → IsPointRow dim row
+point_row dim text row says = row_of_point dim (alone_by point_cases point_by text says.form) row says.holds
+
+told_once : PointHasOneAnswer → (part : Part) (text other : List ℕ) (p q : Polyhedron) → AreSamePolyhedra p q → SaysWhether part text p → SaysWhether part other q → text ≡ other
+told_once one part text other p q same a b =
+    let read : IsPoint q.cons.dim part.text a.point = subst (λ (n : ℕ). IsPoint n part.text a.point) same.dim a.read in
+    let point : a.point ≡ b.point = (one q.cons.dim part.text).one_value a.point b.point read b.read in
+    let sets : In p.cons a.point ↔ In q.cons b.point = subst (λ (v : List ℤ). In p.cons a.point ↔ In q.cons v) point (same.points a.point (point_row p.cons.dim part.text a.point a.read)) in
+    a.said ∙ ap answer_line (same_bool a.holds b.holds (In p.cons a.point) (In q.cons b.point) sets a.true_of_point b.true_of_point) ∙ sym b.said
+
+-- the topology of a set is closed, or stored systems are shown
+by_topology : (commands : List Command) (name : List ℕ) (p : Polyhedron) (t : Topology) (E : Type 0) → IsSetOf commands name p → p.topology ≡ t → (p.topology ≡ Closed → E) → IsNotClosed commands name ⊎ E
+by_topology commands name p Closed E s e f = inr (f e)
+by_topology commands name p Nnc E s e f = inl (record { polyhedron = p; set = s; topology = e })
+
+said_side : (side : Bool) (text : List ℕ) (p : Polyhedron) → SaysSide side text p → text ≡ line (side_text side p)
+said_side false text p a = a.said ∙ ap line (a.printed ∙ ap constraints_text a.stored)
+said_side true text p a = a.said ∙ ap line (a.printed ∙ ap generators_text a.stored)
+
+module _ (laws : OneMeaning) (earlier : List Command) where
+  one_of : (name : List ℕ) (p q : Polyhedron) → IsSetOf earlier name p → IsSetOf earlier name q → AreSamePolyhedra p q
+  one_of name p q h k = one_set laws.form earlier name p q h k
+
+  sized_once : (name text other : List ℕ) → IsTrueOf earlier name (λ p. text ≡ line (size_text p)) → IsTrueOf earlier name (λ p. other ≡ line (size_text p)) → IsNotClosed earlier name ⊎ (text ≡ other)
+  sized_once name text other a b =
+      let same = one_of name a.polyhedron b.polyhedron a.set b.set in
+      by_topology earlier name a.polyhedron a.polyhedron.topology (text ≡ other) a.set refl (λ c. a.says ∙ ap (λ (p : Polyhedron). line (size_text p)) (same.closed c) ∙ sym b.says)
+
+  printed_once : (side : Bool) (name text other : List ℕ) → IsTrueOf earlier name (SaysSide side text) → IsTrueOf earlier name (SaysSide side other) → IsNotClosed earlier name ⊎ (text ≡ other)
+  printed_once side name text other a b =
+      let same = one_of name a.polyhedron b.polyhedron a.set b.set in
+      by_topology earlier name a.polyhedron a.polyhedron.topology (text ≡ other) a.set refl
+      (λ c. said_side side text a.polyhedron a.says ∙ ap (λ (p : Polyhedron). line (side_text side p)) (same.closed c) ∙ sym (said_side side other b.polyhedron b.says))
+
+  -- of one command
+  answered_once : (c : Command) (text other : List ℕ) → IsTruthful earlier c text → IsTruthful earlier c other → ShowsStored earlier c ⊎ (text ≡ other)
+  answered_once (Has name part) text other a b = inr (told_once laws.point part text other a.polyhedron b.polyhedron (one_of name a.polyhedron b.polyhedron a.set b.set) a.says b.says)
+  answered_once (Size name) text other a b = sized_once name text other a b
+  answered_once (Print side name) text other a b = printed_once side name text other a b
+  answered_once Names text other a b = inr (a ∙ sym b)
+  answered_once Nothing text other a b = inr (a ∙ sym b)
+  answered_once (Cons out top n part) text other a b = inr (a ∙ sym b)
+  answered_once (Gens out top n part) text other a b = inr (a ∙ sym b)
+  answered_once (Universe out top n) text other a b = inr (a ∙ sym b)
+  answered_once (Empty out top n) text other a b = inr (a ∙ sym b)
+  answered_once (Copy out name) text other a b = inr (a ∙ sym b)
+  answered_once (Drop out) text other a b = inr (a ∙ sym b)
+  answered_once (Add out part) text other a b = inr (a ∙ sym b)
+  answered_once (Addgen out part) text other a b = inr (a ∙ sym b)
+
+-- ---- the answers to the accepted lines
+-- each line spells a command, and its answer is true
+abbrev AreTrue : List Command → List (List ℕ) → List (List ℕ) → Type 0
+AreTrue earlier [] [] = Unit {0}
+AreTrue earlier (line ∷ lines) (text ∷ texts) = (c : Command) × Spells line c × IsTruthful earlier c text × AreTrue (c ∷ earlier) lines texts
+AreTrue earlier [] (text ∷ texts) = ⊥
+AreTrue earlier (line ∷ lines) [] = ⊥
+
+only_answers : (earlier : List Command) (lines : List (List ℕ)) (replies : List Reply) → AreTruthful earlier lines replies → AreTrue earlier (accepted_lines lines replies) (answers replies)
+only_answers earlier [] [] t = tt
+only_answers earlier (line ∷ lines) (Answered text ∷ replies) (c, spelled, is, t) = (c, spelled, is, only_answers (c ∷ earlier) lines replies t)
+only_answers earlier (line ∷ lines) (Refused fault ∷ replies) t = only_answers earlier lines replies t
+only_answers earlier (line ∷ lines) (Overflows over ∷ replies) t = only_answers earlier lines replies t
+only_answers earlier [] (reply ∷ replies) t = absurd t
+only_answers earlier (line ∷ lines) [] t = absurd t
+
+same_answers : OneMeaning → (earlier : List Command) (lines texts others : List (List ℕ)) → AreTrue earlier lines texts → AreTrue earlier lines others → AreSameAnswers earlier lines texts others
+same_answers laws earlier [] [] [] a b = tt
+same_answers laws earlier (line ∷ lines) (text ∷ texts) (other ∷ others) (c, s, is, a) (d, t, is2, b) =
+    let same : d ≡ c = laws.spells line d c t s in (
+      c,
+      s,
+      answered_once laws earlier c text other is (subst (λ (x : Command). IsTruthful earlier x other) same is2),
+      same_answers laws (c ∷ earlier) lines texts others a (subst (λ (x : Command). AreTrue (x ∷ earlier) lines others) same b),
+    )
+same_answers laws earlier [] (text ∷ texts) others a b = absurd a
+same_answers laws earlier [] [] (other ∷ others) a b = absurd b
+same_answers laws earlier (line ∷ lines) [] others a b = absurd a
+same_answers laws earlier (line ∷ lines) (text ∷ texts) [] a b = absurd b
+
+-- ---- runs
+pub accepted_decide : KeepsNamesDistinct → HasDistinctNames [] → OneMeaning → ReadBack → AcceptedLinesDecide
+accepted_decide keeps empty laws read lines others r s new other run next same =
+    let t = run_told keeps [] [] lines r new (nothing_agrees empty) run in
+    let u = run_told keeps [] [] others s other (nothing_agrees empty) next in
+    let one : t.commands ≡ u.commands = spelled_once laws.spells [] (accepted_lines others s) t.commands u.commands
+    (subst (λ (ls : List (List ℕ)). AreSpelled [] ls t.commands) same (accepted_spelled [] lines r t.commands t.accepted)) (accepted_spelled [] others s u.commands u.accepted) in (
+      agreeing_same laws.form new other u.commands (subst (Agrees new) one t.agrees) u.agrees,
+      same_answers laws [] (accepted_lines lines r) (answers r) (answers s) (only_answers [] lines r (answers_true keeps empty read lines r new run))
+          (subst (λ (ls : List (List ℕ)). AreTrue [] ls (answers s)) (sym same) (only_answers [] others s (answers_true keeps empty read others s other next))),
+    )

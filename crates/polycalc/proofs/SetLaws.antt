@@ -1,0 +1,252 @@
+-- After a run the table has the polyhedra and the names that the accepted commands give.
+use Rattle.std.proofs.Common.{◌≡◌, ℕ, List, [], ◌∷◌, refl, ap, sym, ◌∙◌, subst, inl, inr, Bool, true, false, cond}
+use Rattle.std.specs.Prelude.{Option, None, Some, MatchBool}
+use Rattle.std.specs.Str.{bytes_eq}
+use Rattle.std.specs.Map.{keys_of}
+use Rattle.std.proofs.lemmas.List.Elements.{All-append}
+use Rattle.cons_sys.specs.Constraints.{Constraints, Satisfies}
+use Rattle.pair_laws.proofs.ListLemmas.{All-left, All-right}
+use Rattle.poly_pair.specs.Polyhedra.{Polyhedron, IsOfConstraints, IsOfGenerators, IsUniverse, IsEmpty}
+use Rattle.script_text.specs.declared.command.Part.{Part}
+use Rattle.script_text.specs.declared.command.Command.{Command}
+use Rattle.script_text.specs.declared.command.Command.TheVariants.{Nothing, Cons, Gens, Universe, Empty, Copy, Drop, Add, Addgen, Has, Size, Print, Names}
+use Rattle.calc_state.specs.declared.entry.Entry.{Entry}
+use Rattle.calc_state.specs.declared.entry.Entry.TheVariants as entry
+use Rattle.calc_state.specs.declared.change.Change.{Change}
+use Rattle.calc_state.specs.declared.change.Change.TheVariants.{Says, Puts, TakesOut}
+use Rattle.calc_state.specs.Table.{Table, entry_of, as_poly, poly_of, put, HasDistinctNames}
+use Rattle.calc_state.specs.Meaning.{IsSaid, IsPut, IsTakenOut, on_one, answer_line}
+use Rattle.calc_state.specs.Meanings.{meaning, topology_of}
+use Rattle.calc_state.specs.Makers.{SaysConstraints, SaysGenerators, more_constraints, more_generators, copy, drop_of, add, addgen}
+use Rattle.calc_state.specs.Questions.{has, size, print, line, size_text, side_text, names_text}
+use Rattle.calc_state.specs.Step.{Reply, Answered, Refused, Overflows, IsAccepted, PutsProper, after}
+use Rattle.calc_state.specs.Line.{Step, Accepts, Unspelled}
+use Rattle.calc_state.specs.Laws.{KeepsNamesDistinct}
+use Rattle.script_text.specs.Line.{Spells}
+use Rattle.polycalc.specs.Replies.{is_answer}
+use Rattle.polycalc.specs.Runs.{Run}
+use Rattle.polycalc.specs.Sets.{AreAccepted, IsMade, IsCut, sets, Gives, IsSetOf, with_name, less_name, names_of}
+use Rattle.polycalc.specs.Laws.{IsUnder, AreAsCommanded}
+use Rattle.polycalc.proofs.StepLaws.{refused_unchanged}
+use Rattle.polycalc.proofs.TableLaws.{entry_of-put, entry_of-without, distinct_keys, names-put, names-put_there, names-without}
+use Rattle.polycalc.proofs.OneSet.{OneForm, set_proper, one_set}
+
+-- the polyhedron is such a one, and there is none exactly where there is no such one
+abbrev pub Stands : Option Polyhedron → (Polyhedron → Type 0) → Type 0
+Stands None Is = (p : Polyhedron) → Is p → ⊥
+Stands (Some p) Is = Is p
+
+-- the table has what the commands give
+pub record Agrees (table : Table) (commands : List Command) : Type 0 where
+  pub distinct : HasDistinctNames table
+  pub sets : (name : List ℕ) → Stands (poly_of table name) (IsSetOf commands name)
+  pub names : keys_of table ≡ names_of commands
+
+-- the same, but for the distinct names, after one command more
+record Follows (table : Table) (earlier : List Command) (c : Command) : Type 0 where
+  sets : (name : List ℕ) → Stands (poly_of table name) (IsSetOf (c ∷ earlier) name)
+  names : keys_of table ≡ names_of (c ∷ earlier)
+
+-- ---- what a change does to the polyhedra of the names
+put_stands : (b : Bool) (r : Polyhedron) (o : Option Entry) (M E : Polyhedron → Type 0) → M r → Stands (as_poly o) E → Stands (as_poly (cond b (Some (entry.Poly r)) o)) (λ p. MatchBool b (M p) (E p))
+put_stands true r o M E m e = m
+put_stands false r o M E m e = e
+
+taken_stands : (b : Bool) (o : Option Entry) (E : Polyhedron → Type 0) → Stands (as_poly o) E → Stands (as_poly (cond b None o)) (λ p. MatchBool b ⊥ (E p))
+taken_stands true o E e = λ p h. h
+taken_stands false o E e = e
+
+-- a polyhedron with the property is put under the name
+pub record IsPutMade (out : List ℕ) (Is : Polyhedron → Type 0) (change : Change) : Type 0 where
+  pub made : Polyhedron
+  pub is : IsMade Is made
+  pub change_is : change ≡ Puts out (entry.Poly made)
+
+pub put_made : (out : List ℕ) (Is : Polyhedron → Type 0) (change : Change) → IsPut out Is change → PutsProper change → IsPutMade out Is change
+put_made out Is (Puts name (entry.Poly r)) h proper = record { made = r; is = record { proper = proper; is = h.1 }; change_is = ap (λ (n : List ℕ). Puts n (entry.Poly r)) h.0 }
+put_made out Is (Says text) h proper = absurd h
+put_made out Is (TakesOut name) h proper = absurd h
+
+put_sets : (old : Table) (earlier : List Command) (c : Command) (out name : List ℕ) (r : Polyhedron) → Stands (poly_of old name) (IsSetOf earlier name) → sets c name ≡ bytes_eq name out → Gives c (IsSetOf earlier) r →
+    Stands (poly_of (put old out (entry.Poly r)) name) (IsSetOf (c ∷ earlier) name)
+put_sets old earlier c out name r a e given =
+    subst (λ (b : Bool). Stands (poly_of (put old out (entry.Poly r)) name) (λ p. MatchBool b (Gives c (IsSetOf earlier) p) (IsSetOf earlier name p))) (sym e)
+    (subst (λ (o : Option Entry). Stands (as_poly o) (λ p. MatchBool (bytes_eq name out) (Gives c (IsSetOf earlier) p) (IsSetOf earlier name p))) (sym (entry_of-put old out name (entry.Poly r)))
+    (put_stands (bytes_eq name out) r (entry_of old name) (Gives c (IsSetOf earlier)) (IsSetOf earlier name) given a))
+
+-- a command that puts a polyhedron under its name
+put_follows : (old new : Table) (earlier : List Command) (c : Command) (out : List ℕ) (Is : Polyhedron → Type 0) (change : Change) → Agrees old earlier → IsPut out Is change → PutsProper change → new ≡ after old change →
+    ((name : List ℕ) → sets c name ≡ bytes_eq name out) → ((r : Polyhedron) → IsMade Is r → Gives c (IsSetOf earlier) r) → ((e : Entry) → keys_of (put old out e) ≡ names_of (c ∷ earlier)) → Follows new earlier c
+put_follows old new earlier c out Is change a does proper table own gives names =
+    let p = put_made out Is change does proper in
+    let now : new ≡ put old out (entry.Poly p.made) = table ∙ ap (after old) p.change_is in
+    subst (λ (t : Table). Follows t earlier c) (sym now) (record {
+      sets = λ name. put_sets old earlier c out name p.made (a.sets name) (own name) (gives p.made p.is);
+      names = names (entry.Poly p.made);
+    })
+
+said_table : (old : Table) (lines : List ℕ) (change : Change) → IsSaid lines change → after old change ≡ old
+said_table old lines (Says text) h = refl
+said_table old lines (Puts name e) h = absurd h
+said_table old lines (TakesOut name) h = absurd h
+
+-- a command that only says something
+said_follows : (old new : Table) (earlier : List Command) (c : Command) (lines : List ℕ) (change : Change) → Agrees old earlier → IsSaid lines change → new ≡ after old change → ((name : List ℕ) → sets c name ≡ false) → names_of (c ∷ earlier) ≡ names_of earlier → Follows new earlier c
+said_follows old new earlier c lines change a does table own names =
+    subst (λ (t : Table). Follows t earlier c) (sym (table ∙ said_table old lines change does)) (record {
+      sets = λ name. subst (λ (b : Bool). Stands (poly_of old name) (λ p. MatchBool b (Gives c (IsSetOf earlier) p) (IsSetOf earlier name p))) (sym (own name)) (a.sets name);
+      names = a.names ∙ sym names;
+    })
+
+pub taken_change : (name : List ℕ) (change : Change) → IsTakenOut name change → change ≡ TakesOut name
+taken_change name (TakesOut taken) h = ap TakesOut h
+taken_change name (Says text) h = absurd h
+taken_change name (Puts n e) h = absurd h
+
+-- a name is taken out
+taken_follows : (old new : Table) (earlier : List Command) (out : List ℕ) (change : Change) → Agrees old earlier → IsTakenOut out change → new ≡ after old change → Follows new earlier (Drop out)
+taken_follows old new earlier out change a does table =
+    let distinct = distinct_keys old a.distinct in
+    subst (λ (t : Table). Follows t earlier (Drop out)) (sym (table ∙ ap (after old) (taken_change out change does))) (record {
+      sets = λ name. subst (λ (o : Option Entry). Stands (as_poly o) (λ p. MatchBool (bytes_eq name out) ⊥ (IsSetOf earlier name p))) (sym (entry_of-without old out name distinct))
+          (taken_stands (bytes_eq name out) (entry_of old name) (IsSetOf earlier name) (a.sets name));
+      names = names-without old out distinct ∙ ap (less_name out) a.names;
+    })
+
+-- ---- each accepted command
+new_name : (old : Table) (earlier : List Command) (out : List ℕ) → Agrees old earlier → (e : Entry) → keys_of (put old out e) ≡ with_name out (names_of earlier)
+new_name old earlier out a e = names-put old out e ∙ ap (with_name out) a.names
+
+abbrev poly_entry : Option Polyhedron → Option Entry
+poly_entry None = None
+poly_entry (Some q) = Some (entry.Poly q)
+
+entry_there : (o : Option Entry) (p : Polyhedron) → as_poly o ≡ Some p → o ≡ Some (entry.Poly p)
+entry_there None p h = cc
+entry_there (Some (entry.Poly q)) p h = ap poly_entry h
+
+copy_follows : (old new : Table) (earlier : List Command) (out other text : List ℕ) (o : Option Polyhedron) → Agrees old earlier → Stands o (IsSetOf earlier other) → IsAccepted (on_one o (copy old out)) old text new → Follows new earlier (Copy out other)
+copy_follows old new earlier out other text None a s p = absurd p.does
+copy_follows old new earlier out other text (Some q) a s p =
+    put_follows old new earlier (Copy out other) out (λ r. r ≡ q) p.change a p.does p.proper p.table (λ name. refl) (λ r is. subst (IsSetOf earlier other) (sym is.is) s) (new_name old earlier out a)
+
+drop_follows : (old new : Table) (earlier : List Command) (out text : List ℕ) (o : Option Entry) → Agrees old earlier → IsAccepted (drop_of out o) old text new → Follows new earlier (Drop out)
+drop_follows old new earlier out text None a p = absurd p.does
+drop_follows old new earlier out text (Some e) a p = taken_follows old new earlier out p.change a p.does p.table
+
+cut_of : (q : Polyhedron) (cs : Constraints) (r : Polyhedron) → IsOfConstraints q.topology (more_constraints q.cons cs) r → IsCut q cs r
+cut_of q cs r h = record {
+  over = h.over;
+  points = λ v is. (
+    λ x. (let all = (h.points v is).1 x in (All-left (Satisfies v) q.cons.list cs.list all, All-right (Satisfies v) q.cons.list cs.list all)),
+    λ y. (h.points v is).0 (All-append (Satisfies v) q.cons.list cs.list y.0 y.1),
+  );
+}
+
+add_follows : (old new : Table) (earlier : List Command) (out text : List ℕ) (part : Part) (o : Option Polyhedron) → Agrees old earlier → Stands o (IsSetOf earlier out) → poly_of old out ≡ o → IsAccepted (on_one o (add out part)) old text new → Follows new earlier (Add out part)
+add_follows old new earlier out text part None a s e p = absurd p.does
+add_follows old new earlier out text part (Some q) a s e p =
+    put_follows old new earlier (Add out part) out (λ r. SaysConstraints q.cons.dim part (λ cs. IsOfConstraints q.topology (more_constraints q.cons cs) r)) p.change a p.does p.proper p.table (λ name. refl)
+    (λ r is. record { old = q; was = s; made = record { proper = is.proper; is = record { system = is.is.system; read = is.is.read; holds = cut_of q is.is.system r is.is.holds } } })
+    (λ x. names-put_there old out x (entry.Poly q) (entry_there (entry_of old out) q e) ∙ a.names)
+
+addgen_follows : (old new : Table) (earlier : List Command) (out text : List ℕ) (part : Part) (o : Option Polyhedron) → Agrees old earlier → Stands o (IsSetOf earlier out) → poly_of old out ≡ o → IsAccepted (on_one o (addgen out part)) old text new → Follows new earlier (Addgen out part)
+addgen_follows old new earlier out text part None a s e p = absurd p.does
+addgen_follows old new earlier out text part (Some q) a s e p =
+    put_follows old new earlier (Addgen out part) out (λ r. SaysGenerators q.gens.dim part (λ gs. IsOfGenerators q.topology (more_generators q.gens gs) r)) p.change a p.does p.proper p.table (λ name. refl)
+    (λ r is. record { old = q; was = s; made = is })
+    (λ x. names-put_there old out x (entry.Poly q) (entry_there (entry_of old out) q e) ∙ a.names)
+
+-- the change only says something
+record OnlySays (change : Change) : Type 0 where
+  lines : List ℕ
+  said : IsSaid lines change
+
+has_says : (part : Part) (o : Option Polyhedron) (change : Change) → (on_one o (has part)).does change → OnlySays change
+has_says part None change h = absurd h
+has_says part (Some q) change h = record { lines = answer_line h.holds.holds; said = h.holds.said }
+
+size_says : (o : Option Polyhedron) (change : Change) → (on_one o size).does change → OnlySays change
+size_says None change h = absurd h
+size_says (Some q) change h = record { lines = line (size_text q); said = h }
+
+print_says : (side : Bool) (o : Option Polyhedron) (change : Change) → (on_one o (print side)).does change → OnlySays change
+print_says side None change h = absurd h
+print_says side (Some q) change h = record { lines = line (side_text side q); said = h }
+
+-- what an accepted command leaves is what the commands give
+accepted_follows : (old new : Table) (earlier : List Command) (c : Command) (text : List ℕ) → Agrees old earlier → IsAccepted (meaning old c) old text new → Follows new earlier c
+accepted_follows old new earlier Nothing text a p = said_follows old new earlier Nothing [] p.change a p.does p.table (λ name. refl) refl
+accepted_follows old new earlier (Cons out top n part) text a p =
+    put_follows old new earlier (Cons out top n part) out (λ r. SaysConstraints n part (λ cs. IsOfConstraints (topology_of top) cs r)) p.change a p.does p.proper p.table (λ name. refl) (λ r is. is) (new_name old earlier out a)
+accepted_follows old new earlier (Gens out top n part) text a p =
+    put_follows old new earlier (Gens out top n part) out (λ r. SaysGenerators n part (λ gs. IsOfGenerators (topology_of top) gs r)) p.change a p.does p.proper p.table (λ name. refl) (λ r is. is) (new_name old earlier out a)
+accepted_follows old new earlier (Universe out top n) text a p = put_follows old new earlier (Universe out top n) out (IsUniverse (topology_of top) n) p.change a p.does p.proper p.table (λ name. refl) (λ r is. is) (new_name old earlier out a)
+accepted_follows old new earlier (Empty out top n) text a p = put_follows old new earlier (Empty out top n) out (IsEmpty (topology_of top) n) p.change a p.does p.proper p.table (λ name. refl) (λ r is. is) (new_name old earlier out a)
+accepted_follows old new earlier (Copy out other) text a p = copy_follows old new earlier out other text (poly_of old other) a (a.sets other) p
+accepted_follows old new earlier (Drop out) text a p = drop_follows old new earlier out text (entry_of old out) a p
+accepted_follows old new earlier (Add out part) text a p = add_follows old new earlier out text part (poly_of old out) a (a.sets out) refl p
+accepted_follows old new earlier (Addgen out part) text a p = addgen_follows old new earlier out text part (poly_of old out) a (a.sets out) refl p
+accepted_follows old new earlier (Has name part) text a p = (let s = has_says part (poly_of old name) p.change p.does in said_follows old new earlier (Has name part) s.lines p.change a s.said p.table (λ n. refl) refl)
+accepted_follows old new earlier (Size name) text a p = (let s = size_says (poly_of old name) p.change p.does in said_follows old new earlier (Size name) s.lines p.change a s.said p.table (λ n. refl) refl)
+accepted_follows old new earlier (Print side name) text a p = (let s = print_says side (poly_of old name) p.change p.does in said_follows old new earlier (Print side name) s.lines p.change a s.said p.table (λ n. refl) refl)
+accepted_follows old new earlier Names text a p = said_follows old new earlier Names (line (names_text old)) p.change a p.does p.table (λ name. refl) refl
+
+-- ---- runs
+-- the table and the commands before the first line
+pub nothing_agrees : HasDistinctNames [] → Agrees [] []
+nothing_agrees distinct = record { distinct = distinct; sets = λ name p h. h; names = refl }
+
+-- a line that is accepted
+pub agrees_then : KeepsNamesDistinct → (old new : Table) (earlier : List Command) (line text : List ℕ) (a : Accepts old line (Answered text) new) → Agrees old earlier → Agrees new (a.command ∷ earlier)
+agrees_then keeps old new earlier line text a g =
+    let f = accepted_follows old new earlier a.command text g a.performed in
+    record { distinct = keeps old new line (Answered text) g.distinct (inl a); sets = f.sets; names = f.names }
+
+-- a line that is refused
+pub agrees_still : (old new : Table) (earlier : List Command) (line : List ℕ) (reply : Reply) → Step old line reply new → is_answer reply ≡ false → Agrees old earlier → Agrees new earlier
+agrees_still old new earlier line reply step f g = subst (λ (t : Table). Agrees t earlier) (sym (refused_unchanged old line reply new step f)) g
+
+-- an unspelled line isn't answered
+pub not_unspelled : (old new : Table) (line text : List ℕ) → Unspelled old line (Answered text) new → ⊥
+not_unspelled old new line text u = let no : Answered text ≡ Refused u.fault = u.shown in cc
+
+-- the accepted commands of a run, which the table agrees with
+pub record Told (earlier : List Command) (lines : List (List ℕ)) (replies : List Reply) (table : Table) : Type 0 where
+  pub commands : List Command
+  pub accepted : AreAccepted earlier lines replies commands
+  pub agrees : Agrees table commands
+
+told_then : (earlier : List Command) (line text : List ℕ) (lines : List (List ℕ)) (replies : List Reply) (table : Table) (c : Command) → Spells line c → Told (c ∷ earlier) lines replies table → Told earlier (line ∷ lines) (Answered text ∷ replies) table
+told_then earlier line text lines replies table c s t = record { commands = t.commands; accepted = (c, s, t.accepted); agrees = t.agrees }
+
+pub run_told : KeepsNamesDistinct → (old : Table) (earlier : List Command) (lines : List (List ℕ)) (replies : List Reply) (new : Table) → Agrees old earlier → Run old lines replies new → Told earlier lines replies new
+run_told keeps old earlier [] [] new g run = record { commands = earlier; accepted = refl; agrees = subst (λ (t : Table). Agrees t earlier) (sym run) g }
+run_told keeps old earlier (line ∷ lines) (Answered text ∷ replies) new g (mid, inl a, run) =
+    told_then earlier line text lines replies new a.command a.spelled (run_told keeps mid (a.command ∷ earlier) lines replies new (agrees_then keeps old mid earlier line text a g) run)
+run_told keeps old earlier (line ∷ lines) (Answered text ∷ replies) new g (mid, inr u, run) = absurd (not_unspelled old mid line text u)
+run_told keeps old earlier (line ∷ lines) (Refused fault ∷ replies) new g (mid, step, run) =
+    let t = run_told keeps mid earlier lines replies new (agrees_still old mid earlier line (Refused fault) step refl g) run in record { commands = t.commands; accepted = t.accepted; agrees = t.agrees }
+run_told keeps old earlier (line ∷ lines) (Overflows over ∷ replies) new g (mid, step, run) =
+    let t = run_told keeps mid earlier lines replies new (agrees_still old mid earlier line (Overflows over) step refl g) run in record { commands = t.commands; accepted = t.accepted; agrees = t.agrees }
+run_told keeps old earlier [] (reply ∷ replies) new g run = absurd run
+run_told keeps old earlier (line ∷ lines) [] new g run = absurd run
+
+-- what stands under a name, where such a polyhedron is given
+there_of : (table : Table) (commands : List Command) (name : List ℕ) (p : Polyhedron) (o : Option Polyhedron) → OneForm → poly_of table name ≡ o → Stands o (IsSetOf commands name) → IsSetOf commands name p → IsUnder table name p
+there_of table commands name p None laws e s h = absurd (s p h)
+there_of table commands name p (Some q) laws e s h = record { kept = q; there = e; same = one_set laws commands name p q h s }
+
+-- the table has under each name what the accepted commands give it
+pub as_commanded : KeepsNamesDistinct → HasDistinctNames [] → OneForm → (lines : List (List ℕ)) (replies : List Reply) (table : Table) → Run [] lines replies table → AreAsCommanded lines replies table
+as_commanded keeps empty laws lines replies table run =
+    let t = run_told keeps [] [] lines replies table (nothing_agrees empty) run in
+    let given : (name : List ℕ) (p : Polyhedron) → poly_of table name ≡ Some p → IsSetOf t.commands name p = λ name p e. subst (λ (o : Option Polyhedron). Stands o (IsSetOf t.commands name)) e (t.agrees.sets name) in
+    record {
+      commands = t.commands;
+      accepted = t.accepted;
+      given = given;
+      there = λ name p h. there_of table t.commands name p (poly_of table name) laws refl (t.agrees.sets name) h;
+      pairs = λ name p e. laws.pair p (set_proper t.commands name p (given name p e)).kept;
+      names = t.agrees.names;
+    }

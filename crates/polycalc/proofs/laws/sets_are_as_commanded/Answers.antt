@@ -1,0 +1,23 @@
+use Rattle.polycalc.proofs.OneSet.{one_set}
+use Rattle.polycalc.proofs.SetLaws.{as_commanded}
+use Rattle.polycalc.proofs.laws.sets_are_as_commanded.Goals as goal
+
+pub returns-clause-sets : goal.returns-clause-sets
+returns-clause-sets c = as_commanded c.names_stay_distinct.ensures.step c.names_stay_distinct.ensures.empty (record {
+  cons = c.one_answer.ensures.cons;
+  gens = c.one_answer.ensures.gens;
+  stored = c.stored_is_unique.ensures;
+  pair = c.kept_is_pair.ensures;
+  empty = c.kept_is_empty.ensures;
+  joined = c.joined_sets_are_same.ensures;
+})
+
+pub returns-clause-unique : goal.returns-clause-unique
+returns-clause-unique c = one_set (record {
+  cons = c.one_answer.ensures.cons;
+  gens = c.one_answer.ensures.gens;
+  stored = c.stored_is_unique.ensures;
+  pair = c.kept_is_pair.ensures;
+  empty = c.kept_is_empty.ensures;
+  joined = c.joined_sets_are_same.ensures;
+})
