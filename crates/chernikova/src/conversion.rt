@@ -97,6 +97,3 @@ pub fn convert<L: Ledger>(
     }
     Ok(sorted(alloc, cone)?)
 }
-
-#[cfg(test)]
-mod tests;

@@ -39,3 +39,10 @@ pub mod CrossingPairs
 pub mod StepExistence
 pub mod OneMore
 pub mod TooFew
+pub mod MemberLemmas
+pub mod SystemLists
+pub mod Points
+pub mod ValidRows
+pub mod ExtremeRays
+pub mod LikeRays
+pub mod ZeroFaces

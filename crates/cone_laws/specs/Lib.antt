@@ -9,3 +9,6 @@ pub mod ConeSets
 pub mod UniqueLaws
 pub mod Leaves
 pub mod SystemLaws
+pub mod Members
+pub mod DualSystems
+pub mod ExtremeRays

@@ -16,13 +16,13 @@ use Rattle.cone_laws.proofs.Sums.{spans_of_multiple, spans_sums, sums_one_ray}
 use Rattle.cone_laws.proofs.Columns.{dot-scale, cell-scale, length-scale}
 use Rattle.cone_laws.proofs.Rearranging.{order_lexicographic}
 use Rattle.gens_sys.specs.Generators.{Generators, generator_at}
-use Rattle.nnc_laws.specs.Encoding.{lowered}
-use Rattle.nnc_laws.specs.StrongRows.{IsApart}
-use Rattle.nnc_laws.proofs.EncodedRows.{dot_by_height}
-use Rattle.nnc_laws.proofs.EncodedDuals.{lowered_width, last_at}
-use Rattle.nnc_laws.proofs.ClosedRows.{least_on}
-use Rattle.nnc_laws.proofs.LevelVectors.{level_vector_needed}
-use Rattle.nnc_laws.proofs.Relaxed.{relaxed}
+use Rattle.nnc_enc.specs.Encoding.{lowered}
+use Rattle.nnc_enc.specs.StrongRows.{IsApart}
+use Rattle.nnc_enc.proofs.EncodedRows.{dot_by_height}
+use Rattle.nnc_enc.proofs.EncodedDuals.{lowered_width, last_at}
+use Rattle.nnc_enc.proofs.ClosedRows.{least_on}
+use Rattle.nnc_enc.proofs.LevelVectors.{level_vector_needed}
+use Rattle.nnc_enc.proofs.Relaxed.{relaxed}
 use Rattle.nnc_enc.specs.Strong.{HasStrictRow}
 use Rattle.nnc_enc.specs.Decoding.{index_at, AreKept}
 use Rattle.nnc_enc.specs.Sorting.{AreStrongVectors}

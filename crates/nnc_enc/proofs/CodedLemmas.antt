@@ -6,19 +6,19 @@ use Rattle.row_core.specs.Vectors.{cell, scale}
 use Rattle.row_core.specs.Lists.{Row, row_at, vectors, system_rows}
 use Rattle.cone_laws.specs.Cones.{Upto, Spans, Generates}
 use Rattle.cone_laws.proofs.Bipolar.{admitted_is_spanned}
-use Rattle.dual_cones.specs.Members.{ConeOf}
-use Rattle.dual_cones.proofs.MemberLemmas.{spanned_within}
-use Rattle.dual_cones.proofs.SystemLists.{lines_of-system_rows, rays_of-system_rows, system_wide}
-use Rattle.dual_cones.proofs.ValidRows.{least_on_spanned, valid_of_row, row_of_valid}
+use Rattle.cone_laws.specs.Members.{ConeOf}
+use Rattle.cone_laws.proofs.MemberLemmas.{spanned_within}
+use Rattle.cone_laws.proofs.SystemLists.{lines_of-system_rows, rays_of-system_rows, system_wide}
+use Rattle.cone_laws.proofs.ValidRows.{least_on_spanned, valid_of_row, row_of_valid}
 use Rattle.cone_laws.proofs.Columns.{dot_comm}
 use Rattle.row_core.specs.Points.{IsPoint}
 use Rattle.cons_sys.specs.Constraints.{Constraints, In}
 use Rattle.gens_sys.specs.Generators.{Generators}
 use Rattle.gens_sys.specs.Spans.{Span}
 use Rattle.cone_laws.specs.Duality.{lines_of}
-use Rattle.nnc_laws.specs.Encoding.{raised, lowered, Codes}
-use Rattle.nnc_laws.specs.StrongRows.{IsAdmittedVector}
-use Rattle.nnc_laws.proofs.EncodedRows.{insert_remove}
+use Rattle.nnc_enc.specs.Encoding.{raised, lowered, Codes}
+use Rattle.nnc_enc.specs.StrongRows.{IsAdmittedVector}
+use Rattle.nnc_enc.proofs.EncodedRows.{insert_remove}
 use Rattle.nnc_enc.specs.Coded.{RayIsCoded, SecondListAdmits}
 use Rattle.nnc_enc.specs.Decoding.{AreDecodedRows, AreDecodedVectors}
 use Rattle.nnc_enc.specs.Results.{AreRows, AreVectors}

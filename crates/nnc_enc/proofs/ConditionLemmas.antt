@@ -5,16 +5,16 @@ use Rattle.row_core.specs.Vectors.{cell}
 use Rattle.row_core.specs.Lists.{Rows, FitWidth, Row, IsRow, row_at, vectors, system_rows}
 use Rattle.cone_laws.specs.Cones.{Upto}
 use Rattle.cone_laws.specs.Canon.{vector_at, IsSystem, Canon}
-use Rattle.dual_cones.specs.Members.{ConeOf}
-use Rattle.dual_cones.proofs.SystemLists.{system_wide}
-use Rattle.nnc_laws.specs.Encoding.{encoded_constraints}
+use Rattle.cone_laws.specs.Members.{ConeOf}
+use Rattle.cone_laws.proofs.SystemLists.{system_wide}
+use Rattle.nnc_enc.specs.Encoding.{encoded_constraints}
 use Rattle.cons_sys.specs.Constraints.{Constraints, FitDimension}
 use Rattle.gens_sys.specs.Generators.{Generators, FitDimension as FitGenerators}
-use Rattle.nnc_laws.specs.EncodedGenerators.{encoded_generators, HasPoint}
+use Rattle.nnc_enc.specs.EncodedGenerators.{encoded_generators, HasPoint}
 use Rattle.nnc_enc.specs.Results.{AreRowsOf, AreVectorsOf}
-use Rattle.nnc_laws.proofs.EncodedDuals.{encoded_has_dual, dual_is_encoded}
-use Rattle.nnc_laws.proofs.EncodedRows.{constraints_encode}
-use Rattle.nnc_laws.proofs.EncodedVectors.{generators_encode}
+use Rattle.nnc_enc.proofs.EncodedDuals.{encoded_has_dual, dual_is_encoded}
+use Rattle.nnc_enc.proofs.EncodedRows.{constraints_encode}
+use Rattle.nnc_enc.proofs.EncodedVectors.{generators_encode}
 use Rattle.nnc_enc.specs.Conditions.{ConstraintsHaveVectors, GeneratorsHaveRows, VectorsHaveRows, RowsHaveVectors}
 use Rattle.nnc_enc.proofs.MarkLemmas.{length-vectors, vector_at-vectors}
 

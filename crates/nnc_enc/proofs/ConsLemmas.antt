@@ -15,13 +15,13 @@ use Rattle.cone_laws.proofs.Columns.{dot_comm, dot-scale}
 use Rattle.cons_sys.specs.Kinds.{Allows}
 use Rattle.cons_sys.specs.Constraints.{Constraint, Satisfies, constraint_at}
 use Rattle.cons_sys.specs.declared.kind.ConKind.TheVariants.{Eq}
-use Rattle.nnc_laws.specs.Encoding.{lowered, Codes, IsEncodedDual}
-use Rattle.nnc_laws.specs.StrongRows.{HoldsAt, RowsHold, kept_at, IsSpare, IsAdmittedVector, IsLeftOver}
-use Rattle.nnc_laws.proofs.CodedRows.{rows_are_coded}
-use Rattle.nnc_laws.proofs.LeftOutRows.{kept_rows_hold}
-use Rattle.nnc_laws.proofs.LevelRows.{level_rows_are_needed}
-use Rattle.nnc_laws.proofs.NeededRows.{strict_rows_are_needed}
-use Rattle.nnc_laws.proofs.RowHeights.{height_at_most}
+use Rattle.nnc_enc.specs.Encoding.{lowered, Codes, IsEncodedDual}
+use Rattle.nnc_enc.specs.StrongRows.{HoldsAt, RowsHold, kept_at, IsSpare, IsAdmittedVector, IsLeftOver}
+use Rattle.nnc_enc.proofs.CodedRows.{rows_are_coded}
+use Rattle.nnc_enc.proofs.LeftOutRows.{kept_rows_hold}
+use Rattle.nnc_enc.proofs.LevelRows.{level_rows_are_needed}
+use Rattle.nnc_enc.proofs.NeededRows.{strict_rows_are_needed}
+use Rattle.nnc_enc.proofs.RowHeights.{height_at_most}
 use Rattle.nnc_enc.specs.Strong.{IsStrictPass}
 use Rattle.nnc_enc.specs.Decoding.{index_at, con_kind, Stands, AreConstraintsOf, AreKept}
 use Rattle.nnc_enc.specs.Needs.{IsBesideLine}

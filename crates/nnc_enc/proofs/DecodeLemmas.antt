@@ -5,8 +5,8 @@ use Rattle.std.proofs.lemmas.Bool.{false≢true}
 use Rattle.cone_laws.proofs.ThirdRay.{same_number}
 use Rattle.row_core.specs.Content.{IsPrimitiveOf}
 use Rattle.row_core.specs.Lists.{Row, row_at}
-use Rattle.nnc_laws.specs.Encoding.{lowered}
-use Rattle.nnc_laws.specs.StrongRows.{kept_at}
+use Rattle.nnc_enc.specs.Encoding.{lowered}
+use Rattle.nnc_enc.specs.StrongRows.{kept_at}
 use Rattle.nnc_enc.specs.Decoding.{index_at, Stands, Grew, AreListed, IsNamed, AreKept}
 
 length_push : {A : Type 0} (xs : List A) (x : A) → length (xs ++ x ∷ []) ≡ length xs + 1

@@ -9,8 +9,8 @@ use Rattle.row_core.specs.Lists.{Row, row_at, vectors}
 use Rattle.cone_laws.specs.Canon.{vector_at, IsGreater, IsPivot, IsEchelon}
 use Rattle.cone_laws.proofs.Ring.{zero_of_mul, positive_of_mul}
 use Rattle.cone_laws.proofs.Columns.{cell-scale}
-use Rattle.nnc_laws.specs.Encoding.{lowered}
-use Rattle.nnc_laws.proofs.Relaxed.{cell-remove, skip_before}
+use Rattle.nnc_enc.specs.Encoding.{lowered}
+use Rattle.nnc_enc.proofs.Relaxed.{cell-remove, skip_before}
 use Rattle.nnc_enc.specs.Decoding.{index_at, AreListed}
 use Rattle.nnc_enc.specs.Sorting.{IsOrdered, AreStrongRows}
 use Rattle.nnc_enc.specs.Results.{AreRowsOf}
@@ -19,7 +19,7 @@ use Rattle.nnc_enc.specs.Kept.{IsNeededConstraint}
 use Rattle.nnc_enc.specs.Decoding.{con_kind}
 use Rattle.nnc_enc.proofs.ResultLemmas.{strong_rows_are_needed}
 use Rattle.nnc_enc.proofs.OrderLemmas.{within_permutation}
-use Rattle.nnc_laws.proofs.EncodedDuals.{lowered_width}
+use Rattle.nnc_enc.proofs.EncodedDuals.{lowered_width}
 use Rattle.cons_sys.specs.Kinds.{Allows}
 use Rattle.cons_sys.specs.Constraints.{Constraint, constraint_at}
 use Rattle.std.specs.Ordering.{MatchOrdering, int_cmp}

@@ -24,19 +24,19 @@ use Rattle.cone_laws.proofs.Bipolar.{dot-both, admitted_is_spanned}
 use Rattle.gens_sys.specs.Generators.{Generators, generator_at}
 use Rattle.gens_sys.specs.Spans.{Span}
 use Rattle.gens_sys.specs.declared.kind.GenKind.TheVariants.{Line}
-use Rattle.nnc_laws.specs.Encoding.{lowered, Codes, IsEncoded}
-use Rattle.nnc_laws.specs.StrongRows.{kept_at}
-use Rattle.nnc_laws.specs.DecodedVectors.{kind_of, StandsForLine, StandsForRay, IsListedAs, Decodes}
-use Rattle.nnc_laws.proofs.MarkedSums.{Without, Marks, marks_one, marks_trans, marks_same, marks_spanned}
-use Rattle.nnc_laws.proofs.KeptSums.{Both, IsKept, line_span, one_span}
-use Rattle.nnc_laws.proofs.Removals.{Stay}
-use Rattle.nnc_laws.proofs.ClosedRows.{lowered_wide}
-use Rattle.nnc_laws.proofs.CodedPoints.{coded_of_marks, marks_of_coded, marks_of_member}
-use Rattle.nnc_laws.proofs.LeftOutVectors.{remain_all}
-use Rattle.nnc_laws.proofs.LevelVectors.{level_vector_needed}
-use Rattle.nnc_laws.proofs.Relaxed.{Numbered, PointAt_of, cell-remove, relaxed, relaxed_lines, remain_by, skip}
-use Rattle.nnc_laws.proofs.SpanMarks.{span_marks, marks_span}
-use Rattle.nnc_laws.proofs.Decoded.{from_list, to_list}
+use Rattle.nnc_enc.specs.Encoding.{lowered, Codes, IsEncoded}
+use Rattle.nnc_enc.specs.StrongRows.{kept_at}
+use Rattle.nnc_enc.specs.DecodedVectors.{kind_of, StandsForLine, StandsForRay, IsListedAs, Decodes}
+use Rattle.nnc_enc.proofs.MarkedSums.{Without, Marks, marks_one, marks_trans, marks_same, marks_spanned}
+use Rattle.nnc_enc.proofs.KeptSums.{Both, IsKept, line_span, one_span}
+use Rattle.nnc_enc.proofs.Removals.{Stay}
+use Rattle.nnc_enc.proofs.ClosedRows.{lowered_wide}
+use Rattle.nnc_enc.proofs.CodedPoints.{coded_of_marks, marks_of_coded, marks_of_member}
+use Rattle.nnc_enc.proofs.LeftOutVectors.{remain_all}
+use Rattle.nnc_enc.proofs.LevelVectors.{level_vector_needed}
+use Rattle.nnc_enc.proofs.Relaxed.{Numbered, PointAt_of, cell-remove, relaxed, relaxed_lines, remain_by, skip}
+use Rattle.nnc_enc.proofs.SpanMarks.{span_marks, marks_span}
+use Rattle.nnc_enc.proofs.Decoded.{from_list, to_list}
 use Rattle.nnc_enc.specs.Strong.{HasStrictRow}
 use Rattle.nnc_enc.specs.Decoding.{index_at, AreGeneratorsOf, AreKept, IsNamed}
 use Rattle.nnc_enc.specs.KeptVectors.{LevelVectorsAreNeeded, KeptGeneratorsCode, ListedDecodes}

@@ -13,10 +13,10 @@ use Rattle.cone_laws.proofs.ThirdRay.{same_number}
 use Rattle.gens_sys.specs.Kinds.{HasBadDivisor, IsZeroDirection}
 use Rattle.gens_sys.specs.declared.kind.GenKind.{GenKind}
 use Rattle.gens_sys.specs.declared.kind.GenKind.TheVariants.{Line}
-use Rattle.nnc_laws.specs.Encoding.{lowered}
-use Rattle.nnc_laws.specs.DecodedVectors.{place_kind, vector_kind, kind_of}
-use Rattle.nnc_laws.proofs.CodedPoints.{line_divisor}
-use Rattle.nnc_laws.proofs.Relaxed.{cell-remove, skip, skip_before}
+use Rattle.nnc_enc.specs.Encoding.{lowered}
+use Rattle.nnc_enc.specs.DecodedVectors.{place_kind, vector_kind, kind_of}
+use Rattle.nnc_enc.proofs.CodedPoints.{line_divisor}
+use Rattle.nnc_enc.proofs.Relaxed.{cell-remove, skip, skip_before}
 use Rattle.nnc_enc.specs.Decoding.{FitsKind, FitKinds}
 use Rattle.nnc_enc.specs.Results.{AreVectorsOf}
 use Rattle.nnc_enc.proofs.MarkLemmas.{length-vectors, vector_at-vectors}

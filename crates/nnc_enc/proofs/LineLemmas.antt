@@ -16,12 +16,12 @@ use Rattle.cone_laws.proofs.Existence.{both, length-both}
 use Rattle.cone_laws.proofs.Bipolar.{dot-both}
 use Rattle.gens_sys.specs.Generators.{Generator, Generators, generator_at, rows_of}
 use Rattle.gens_sys.specs.Spans.{Span}
-use Rattle.nnc_laws.specs.Encoding.{raised, lowered, Codes, IsEncoded}
-use Rattle.nnc_laws.specs.DecodedVectors.{StandsForRay, all_kept}
-use Rattle.nnc_laws.proofs.EncodedRows.{remove_insert, cell_insert}
-use Rattle.nnc_laws.proofs.ClosedRows.{value_flat}
-use Rattle.nnc_laws.proofs.CodedPoints.{line_divisor, line_height}
-use Rattle.nnc_laws.proofs.Relaxed.{cell-remove, skip_before}
+use Rattle.nnc_enc.specs.Encoding.{raised, lowered, Codes, IsEncoded}
+use Rattle.nnc_enc.specs.DecodedVectors.{StandsForRay, all_kept}
+use Rattle.nnc_enc.proofs.EncodedRows.{remove_insert, cell_insert}
+use Rattle.nnc_enc.proofs.ClosedRows.{value_flat}
+use Rattle.nnc_enc.proofs.CodedPoints.{line_divisor, line_height}
+use Rattle.nnc_enc.proofs.Relaxed.{cell-remove, skip_before}
 use Rattle.nnc_enc.specs.Needs.{StandsForOtherLine, LinesAreNeeded, NoHeightNoPoint, TwoWaysAreSpanned}
 use Rattle.nnc_enc.proofs.NeededLemmas.{zero_spanned}
 

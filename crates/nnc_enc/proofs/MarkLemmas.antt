@@ -8,7 +8,7 @@ use Rattle.cone_laws.proofs.Ring.{same_or_not}
 use Rattle.cone_laws.specs.Canon.{vector_at}
 use Rattle.row_core.specs.Vectors.{cell}
 use Rattle.row_core.specs.Lists.{Row, row_at, vectors}
-use Rattle.nnc_laws.specs.StrongRows.{HasVariable, HasNoVariable}
+use Rattle.nnc_enc.specs.StrongRows.{HasVariable, HasNoVariable}
 use Rattle.nnc_enc.specs.Marks.{flag}
 use Rattle.nnc_enc.specs.Passes.{IsClear}
 

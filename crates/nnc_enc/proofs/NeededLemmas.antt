@@ -12,14 +12,14 @@ use Rattle.cone_laws.proofs.Columns.{value, dot_is, dot_comm, dot-negated, lengt
 use Rattle.cone_laws.proofs.UptoRows.{Asks}
 use Rattle.cone_laws.proofs.Existence.{both, cell-both, length-both}
 use Rattle.cone_laws.proofs.Bipolar.{dot-both}
-use Rattle.nnc_laws.specs.Encoding.{raised, lowered, height_row, bound_row, Codes, IsEncodedDual}
-use Rattle.nnc_laws.specs.StrongRows.{IsAdmittedVector}
-use Rattle.nnc_laws.proofs.EncodedRows.{dot_by_height, insert_remove, remove_insert, length_insert, cell_insert, dot_zeros, dot_last, length_replicate}
-use Rattle.nnc_laws.proofs.EncodedDuals.{height_at, bound_at, last_at}
-use Rattle.nnc_laws.proofs.ClosedRows.{least_on, lowered_wide}
-use Rattle.nnc_laws.proofs.InnerPoint.{inner_last, inner_line, inner_on, inner_strict}
-use Rattle.nnc_laws.proofs.Relaxed.{cell-remove, last_row, skip, skip_before}
-use Rattle.nnc_laws.proofs.RowHeights.{pivot_below}
+use Rattle.nnc_enc.specs.Encoding.{raised, lowered, height_row, bound_row, Codes, IsEncodedDual}
+use Rattle.nnc_enc.specs.StrongRows.{IsAdmittedVector}
+use Rattle.nnc_enc.proofs.EncodedRows.{dot_by_height, insert_remove, remove_insert, length_insert, cell_insert, dot_zeros, dot_last, length_replicate}
+use Rattle.nnc_enc.proofs.EncodedDuals.{height_at, bound_at, last_at}
+use Rattle.nnc_enc.proofs.ClosedRows.{least_on, lowered_wide}
+use Rattle.nnc_enc.proofs.InnerPoint.{inner_last, inner_line, inner_on, inner_strict}
+use Rattle.nnc_enc.proofs.Relaxed.{cell-remove, last_row, skip, skip_before}
+use Rattle.nnc_enc.proofs.RowHeights.{pivot_below}
 use Rattle.nnc_enc.specs.Needs.{IsBesideLine, EqualitiesAreNeeded, ZeroRowsAreSpanned}
 
 -- ---- unit vectors

@@ -12,9 +12,9 @@ use Rattle.cons_sys.specs.Constraints.{Constraint}
 use Rattle.cons_sys.specs.declared.kind.ConKind.TheVariants.{Eq}
 use Rattle.gens_sys.specs.Generators.{Generator}
 use Rattle.gens_sys.specs.declared.kind.GenKind.TheVariants.{Line}
-use Rattle.nnc_laws.specs.Encoding.{lowered}
-use Rattle.nnc_laws.specs.StrongRows.{HasVariable}
-use Rattle.nnc_laws.specs.DecodedVectors.{kind_of}
+use Rattle.nnc_enc.specs.Encoding.{lowered}
+use Rattle.nnc_enc.specs.StrongRows.{HasVariable}
+use Rattle.nnc_enc.specs.DecodedVectors.{kind_of}
 use Rattle.row_core.specs.Lists.{vectors}
 use Rattle.nnc_enc.specs.Decoding.{index_at, con_kind, Stands, AreListed, IsNamed, AreKept, AreDecodedRows, AreDecodedVectors}
 use Rattle.nnc_enc.specs.Sorting.{AreStrongRows, AreStrongVectors}

@@ -5,7 +5,7 @@ use Rattle.row_core.specs.Lists.{Row, vectors}
 use Rattle.cons_sys.specs.Constraints.{Constraint}
 use Rattle.gens_sys.specs.Generators.{Generator}
 use Rattle.cone_laws.specs.Canon.{vector_at}
-use Rattle.nnc_laws.specs.StrongRows.{HasVariable, HasNoVariable, kept_at, IsSpare, IsSpareVector}
+use Rattle.nnc_enc.specs.StrongRows.{HasVariable, HasNoVariable, kept_at, IsSpare, IsSpareVector}
 use Rattle.nnc_enc.specs.Decoding.{AreDecodedRows, AreDecodedVectors}
 use Rattle.nnc_enc.specs.Results.{DecodedRowsCode, StrongRowsCode, StrongRowsAreNeeded, DecodedVectorsCode, StrongVectorsCode}
 use Rattle.nnc_enc.proofs.MarkLemmas.{length-vectors, vector_at-vectors, variable_or_not}

@@ -10,7 +10,7 @@ use Rattle.row_core.specs.Vectors.{cell, scale}
 use Rattle.row_core.specs.Content.{IsMultipleOf}
 use Rattle.row_core.specs.Lists.{Row, row_at, vectors}
 use Rattle.gens_sys.specs.declared.kind.GenKind.TheVariants.{Line}
-use Rattle.nnc_laws.specs.DecodedVectors.{kind_of}
+use Rattle.nnc_enc.specs.DecodedVectors.{kind_of}
 use Rattle.cone_laws.specs.Cones.{Upto}
 use Rattle.cone_laws.specs.Canon.{vector_at}
 use Rattle.cone_laws.proofs.Ring.{ring, same_or_not}
@@ -19,16 +19,16 @@ use Rattle.cone_laws.proofs.ThirdRay.{same_number}
 use Rattle.cone_laws.proofs.Existence.{both, cell-both, length-both}
 use Rattle.gens_sys.specs.Generators.{Generator, Generators, generator_at}
 use Rattle.gens_sys.specs.Spans.{Span}
-use Rattle.nnc_laws.specs.Encoding.{raised, lowered, Codes}
-use Rattle.nnc_laws.specs.StrongRows.{kept_at}
-use Rattle.nnc_laws.specs.DecodedVectors.{Decodes, StandsForLine, StandsForRay, all_kept}
-use Rattle.nnc_laws.proofs.MarkedSums.{Marks}
-use Rattle.nnc_laws.proofs.KeptSums.{Both}
-use Rattle.nnc_laws.proofs.EncodedRows.{insert_remove}
-use Rattle.nnc_laws.proofs.EncodedDuals.{lowered_width}
-use Rattle.nnc_laws.proofs.CodedPoints.{coded_of_marks, marks_of_member}
-use Rattle.nnc_laws.proofs.Relaxed.{Numbered, PointAt_of, relaxed, relaxed_lines}
-use Rattle.nnc_laws.proofs.Decoded.{points_are_needed}
+use Rattle.nnc_enc.specs.Encoding.{raised, lowered, Codes}
+use Rattle.nnc_enc.specs.StrongRows.{kept_at}
+use Rattle.nnc_enc.specs.DecodedVectors.{Decodes, StandsForLine, StandsForRay, all_kept}
+use Rattle.nnc_enc.proofs.MarkedSums.{Marks}
+use Rattle.nnc_enc.proofs.KeptSums.{Both}
+use Rattle.nnc_enc.proofs.EncodedRows.{insert_remove}
+use Rattle.nnc_enc.proofs.EncodedDuals.{lowered_width}
+use Rattle.nnc_enc.proofs.CodedPoints.{coded_of_marks, marks_of_member}
+use Rattle.nnc_enc.proofs.Relaxed.{Numbered, PointAt_of, relaxed, relaxed_lines}
+use Rattle.nnc_enc.proofs.Decoded.{points_are_needed}
 use Rattle.nnc_enc.specs.Strong.{HasStrictRow}
 use Rattle.nnc_enc.specs.Decoding.{index_at, Stands, AreListed, AreKept, IsNamed}
 use Rattle.nnc_enc.specs.Sorting.{AreStrongVectors}

@@ -13,8 +13,8 @@ use Rattle.cons_sys.specs.declared.kind.ConKind.TheVariants.{Eq}
 use Rattle.gens_sys.specs.Generators.{Generators}
 use Rattle.gens_sys.specs.declared.kind.GenKind.{GenKind}
 use Rattle.gens_sys.specs.declared.kind.GenKind.TheVariants.{Line}
-use Rattle.nnc_laws.specs.DecodedVectors.{place_kind, vector_kind, kind_of}
-use Rattle.nnc_laws.proofs.RowHeights.{pivot_below}
+use Rattle.nnc_enc.specs.DecodedVectors.{place_kind, vector_kind, kind_of}
+use Rattle.nnc_enc.proofs.RowHeights.{pivot_below}
 use Rattle.row_core.specs.Lists.{vectors}
 use Rattle.nnc_enc.specs.Decoding.{index_at, con_kind, AreListed}
 use Rattle.nnc_enc.specs.Forms.{entries, IsStoredForm, AreStoredConstraints, AreStoredGenerators}

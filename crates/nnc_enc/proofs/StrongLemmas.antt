@@ -6,7 +6,7 @@ use Rattle.row_core.specs.Vectors.{cell, dot}
 use Rattle.row_core.specs.Lists.{Row, row_at, vectors}
 use Rattle.sat_matrix.specs.Tables.{Table, bits_of}
 use Rattle.cone_laws.specs.Canon.{vector_at}
-use Rattle.nnc_laws.specs.StrongRows.{HasVariable, HasNoVariable, kept_at, IsSpare, IsSpareVector, IsCovered, IsCoveredPoint, IsBare, IsLoose, HasPlace, IsApart, Covers}
+use Rattle.nnc_enc.specs.StrongRows.{HasVariable, HasNoVariable, kept_at, IsSpare, IsSpareVector, IsCovered, IsCoveredPoint, IsBare, IsLoose, HasPlace, IsApart, Covers}
 use Rattle.sat_matrix.specs.Tables as tables
 use Rattle.nnc_enc.specs.declared.marks.Mark.TheVariants.{Level, Place, Strict, Point}
 use Rattle.nnc_enc.specs.Marks.{flag, AreTold}

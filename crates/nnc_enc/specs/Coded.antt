@@ -2,9 +2,9 @@ use Rattle.std.specs.Prelude.{◌↔◌, ℕ, ◌+◌, ◌<◌, List, length, �
 use Rattle.row_core.specs.Vectors.{cell}
 use Rattle.row_core.specs.Lists.{Row, row_at, system_rows}
 use Rattle.cone_laws.specs.Cones.{Upto, Generates}
-use Rattle.dual_cones.specs.Members.{ConeOf}
-use Rattle.nnc_laws.specs.Encoding.{lowered, Codes}
-use Rattle.nnc_laws.specs.StrongRows.{IsAdmittedVector}
+use Rattle.cone_laws.specs.Members.{ConeOf}
+use Rattle.nnc_enc.specs.Encoding.{lowered, Codes}
+use Rattle.nnc_enc.specs.StrongRows.{IsAdmittedVector}
 use Rattle.nnc_enc.specs.Results.{AreVectorsOf}
 
 -- a ray above 0 in column e codes a point: the vector without column e

@@ -2,11 +2,11 @@ use Rattle.std.specs.Prelude.{ℕ, ◌+◌, ◌<◌, List, length, pos, ◌<ℤ�
 use Rattle.row_core.specs.Vectors.{cell}
 use Rattle.row_core.specs.Lists.{Row, IsRow, row_at, vectors, system_rows}
 use Rattle.cone_laws.specs.Canon.{IsSystem}
-use Rattle.dual_cones.specs.Members.{ConeOf}
+use Rattle.cone_laws.specs.Members.{ConeOf}
 use Rattle.cons_sys.specs.Constraints.{Constraints, FitDimension}
 use Rattle.gens_sys.specs.Generators.{Generators, FitDimension as FitGenerators}
-use Rattle.nnc_laws.specs.Encoding.{encoded_constraints}
-use Rattle.nnc_laws.specs.EncodedGenerators.{encoded_generators, HasPoint}
+use Rattle.nnc_enc.specs.Encoding.{encoded_constraints}
+use Rattle.nnc_enc.specs.EncodedGenerators.{encoded_generators, HasPoint}
 use Rattle.nnc_enc.specs.Results.{AreRowsOf, AreVectorsOf}
 
 -- where some ray is above 0 in column e, the system of the list of constraints is one of vectors

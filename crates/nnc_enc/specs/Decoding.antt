@@ -9,9 +9,9 @@ use Rattle.gens_sys.specs.Kinds.{HasBadDivisor, IsZeroDirection}
 use Rattle.gens_sys.specs.Generators.{Generator}
 use Rattle.gens_sys.specs.declared.kind.GenKind.{GenKind}
 use Rattle.gens_sys.specs.declared.kind.GenKind.TheVariants.{Line}
-use Rattle.nnc_laws.specs.Encoding.{lowered}
-use Rattle.nnc_laws.specs.StrongRows.{HasVariable, kept_at}
-use Rattle.nnc_laws.specs.DecodedVectors.{kind_of}
+use Rattle.nnc_enc.specs.Encoding.{lowered}
+use Rattle.nnc_enc.specs.StrongRows.{HasVariable, kept_at}
+use Rattle.nnc_enc.specs.DecodedVectors.{kind_of}
 use Rattle.nnc_enc.specs.Marks.{flag}
 
 -- index i of the list

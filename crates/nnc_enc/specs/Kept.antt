@@ -4,8 +4,8 @@ use Rattle.row_core.specs.Points.{IsPoint}
 use Rattle.cone_laws.specs.Cones.{Upto}
 use Rattle.cone_laws.specs.Canon.{IsSystem}
 use Rattle.cons_sys.specs.Constraints.{Constraint, Constraints, Satisfies, In, constraint_at}
-use Rattle.nnc_laws.specs.Encoding.{Codes, IsEncodedDual}
-use Rattle.nnc_laws.specs.StrongRows.{kept_at, IsSpare, IsAdmittedVector}
+use Rattle.nnc_enc.specs.Encoding.{Codes, IsEncodedDual}
+use Rattle.nnc_enc.specs.StrongRows.{kept_at, IsSpare, IsAdmittedVector}
 use Rattle.nnc_enc.specs.Strong.{IsStrictPass}
 use Rattle.nnc_enc.specs.Decoding.{AreConstraintsOf, AreKept}
 

@@ -5,9 +5,9 @@ use Rattle.cone_laws.specs.Cones.{Upto}
 use Rattle.cone_laws.specs.Canon.{vector_at, IsSystem}
 use Rattle.gens_sys.specs.Generators.{Generators}
 use Rattle.gens_sys.specs.Spans.{Span}
-use Rattle.nnc_laws.specs.Encoding.{Codes, IsEncoded}
-use Rattle.nnc_laws.specs.StrongRows.{kept_at, IsSpareVector}
-use Rattle.nnc_laws.specs.DecodedVectors.{Decodes}
+use Rattle.nnc_enc.specs.Encoding.{Codes, IsEncoded}
+use Rattle.nnc_enc.specs.StrongRows.{kept_at, IsSpareVector}
+use Rattle.nnc_enc.specs.DecodedVectors.{Decodes}
 use Rattle.nnc_enc.specs.Strong.{HasStrictRow}
 use Rattle.nnc_enc.specs.Decoding.{AreGeneratorsOf, AreKept}
 

@@ -7,8 +7,8 @@ use Rattle.cone_laws.specs.Canon.{IsSystem}
 use Rattle.cons_sys.specs.Constraints.{Constraint, Constraints, In}
 use Rattle.gens_sys.specs.Generators.{Generators}
 use Rattle.gens_sys.specs.Spans.{Span}
-use Rattle.nnc_laws.specs.Encoding.{Codes, IsEncoded, IsEncodedDual}
-use Rattle.nnc_laws.specs.StrongRows.{IsAdmittedVector}
+use Rattle.nnc_enc.specs.Encoding.{Codes, IsEncoded, IsEncodedDual}
+use Rattle.nnc_enc.specs.StrongRows.{IsAdmittedVector}
 use Rattle.nnc_enc.specs.Decoding.{AreDecodedRows, AreDecodedVectors}
 use Rattle.nnc_enc.specs.Sorting.{AreStrongRows, AreStrongVectors}
 use Rattle.nnc_enc.specs.Kept.{IsNeededConstraint}

@@ -3,7 +3,7 @@ use Rattle.row_core.specs.Vectors.{cell, dot}
 use Rattle.row_core.specs.Lists.{Row, row_at}
 use Rattle.sat_matrix.specs.Tables.{bits_of}
 use Rattle.cone_laws.specs.Canon.{vector_at}
-use Rattle.nnc_laws.specs.StrongRows.{HasVariable, kept_at, IsSpare, IsSpareVector, HasPlace, IsApart}
+use Rattle.nnc_enc.specs.StrongRows.{HasVariable, kept_at, IsSpare, IsSpareVector, HasPlace, IsApart}
 use Rattle.nnc_enc.specs.Marks.{flag}
 use Rattle.nnc_enc.specs.Passes.{IsClear}
 

@@ -3,8 +3,8 @@ ghost use Rattle.std.specs.Prelude.{◌≡◌, ℕ, ◌+◌, ◌-◌, ◌^◌, �
 ghost use Rattle.row_core.specs.Vectors.{cell};
 ghost use Rattle.row_core.specs.Range.{InRange, AllInRange};
 ghost use Rattle.cons_sys.specs.Kinds.{is_equality};
-ghost use Rattle.nnc_laws.specs.Encoding.{raised, height_of, encoded_constraint, height_row, bound_row, encoded_constraints};
-ghost use Rattle.nnc_laws.specs.EncodedGenerators.{encoded_generator, encoded_generators};
+ghost use Rattle.nnc_enc.specs.Encoding.{raised, height_of, encoded_constraint, height_row, bound_row, encoded_constraints};
+ghost use Rattle.nnc_enc.specs.EncodedGenerators.{encoded_generator, encoded_generators};
 ghost use Rattle.cons_sys.specs.Constraints.{constraint_at};
 ghost use Rattle.gens_sys.specs.Generators.{generator_at};
 

@@ -1,7 +1,7 @@
 //! Marks on the rows of a list.
 ghost use Rattle.std.specs.Prelude.{◌≡◌, ℕ, ◌+◌, ◌<◌, ◌≤◌, length, IfOk, IsTrue, ◌↔◌};
 ghost use Rattle.row_core.specs.Vectors.{cell};
-ghost use Rattle.nnc_laws.specs.StrongRows.{HasVariable};
+ghost use Rattle.nnc_enc.specs.StrongRows.{HasVariable};
 ghost use Rattle.nnc_enc.specs.Marks.{Tells, AreTold};
 
 use row_core::RowList;

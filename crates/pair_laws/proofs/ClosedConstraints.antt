@@ -8,8 +8,8 @@ use Rattle.cone_laws.proofs.Columns.{dot-negated, dot_comm, length-scale}
 use Rattle.cone_laws.proofs.UniqueSystems.{upto_cone}
 use Rattle.cons_sys.specs.declared.kind.ConKind.TheVariants.{Eq, Ge, Gt}
 use Rattle.cons_sys.specs.Constraints.{Constraint, Constraints, Satisfies, In}
-use Rattle.dual_cones.specs.Members.{ConeOf}
-use Rattle.dual_cones.proofs.MemberLemmas.{cone_meets, cone_from}
+use Rattle.cone_laws.specs.Members.{ConeOf}
+use Rattle.cone_laws.proofs.MemberLemmas.{cone_meets, cone_from}
 use Rattle.pair_laws.specs.WorkLists.{divisor_row, constraint_row, constraint_list}
 use Rattle.pair_laws.specs.PointSets.{IsClosedKind, AreClosed, AreWide, IsWithin, IsValid, IsInCone}
 use Rattle.pair_laws.proofs.ListLemmas.{All-unmap}

@@ -8,10 +8,10 @@ use Rattle.cone_laws.specs.Cones.{Spans, Generates}
 use Rattle.cone_laws.specs.Canon.{Canon}
 use Rattle.cone_laws.proofs.Ring.{mul-positive, by_sign}
 use Rattle.cons_sys.specs.Constraints.{Constraints}
-use Rattle.dual_cones.specs.Members.{ConeOf}
-use Rattle.dual_cones.specs.DualSystems.{AreSystemsOf}
-use Rattle.dual_cones.proofs.SystemLists.{zero_on_lines}
-use Rattle.dual_cones.proofs.ValidRows.{row_of_valid, are_dual, admits_second, second_admits}
+use Rattle.cone_laws.specs.Members.{ConeOf}
+use Rattle.cone_laws.specs.DualSystems.{AreSystemsOf}
+use Rattle.cone_laws.proofs.SystemLists.{zero_on_lines}
+use Rattle.cone_laws.proofs.ValidRows.{row_of_valid, are_dual, admits_second, second_admits}
 use Rattle.pair_laws.specs.WorkLists.{HasPoint, divisor_row, constraint_list}
 use Rattle.pair_laws.specs.PointSets.{AreClosed, IsWithin, HoldSame}
 use Rattle.pair_laws.specs.StoredForms.{stored_constraints, AreClosedSystems}

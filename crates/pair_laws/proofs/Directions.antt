@@ -6,7 +6,7 @@ use Rattle.cone_laws.specs.ConeSets.{IsCone}
 use Rattle.cone_laws.proofs.Ring.{by_sign, at_least_zero_or_not}
 use Rattle.cone_laws.proofs.Existence.{both, cell-both, length-both}
 use Rattle.cone_laws.proofs.Bipolar.{dot-both}
-use Rattle.dual_cones.proofs.Points.{too_far}
+use Rattle.cone_laws.proofs.Points.{too_far}
 
 once_sum : (x s u t v : ℤ) → x ≡ s *ℤ u +ℤ t *ℤ v → pos 1 *ℤ x ≡ s *ℤ u +ℤ t *ℤ v
 once_sum x s u t v e = omega (arith, ints, e)

@@ -19,11 +19,11 @@ use Rattle.gens_sys.specs.declared.kind.GenKind.{GenKind}
 use Rattle.gens_sys.specs.declared.kind.GenKind.TheVariants.{Line, Ray, Point, ClosurePoint}
 use Rattle.gens_sys.specs.Generators.{Generator, Generators, generator_at, kind_at}
 use Rattle.gens_sys.specs.Spans.{Span}
-use Rattle.dual_cones.specs.Members.{ConeOf}
-use Rattle.dual_cones.specs.DualSystems.{IsDual, AreSystemsOf}
-use Rattle.dual_cones.proofs.MemberLemmas.{cone_meets, cone_from, spanned_within}
-use Rattle.dual_cones.proofs.SystemLists.{zero_on_lines}
-use Rattle.dual_cones.proofs.ValidRows.{valid_of_row, row_of_valid, are_dual, admits_second}
+use Rattle.cone_laws.specs.Members.{ConeOf}
+use Rattle.cone_laws.specs.DualSystems.{IsDual, AreSystemsOf}
+use Rattle.cone_laws.proofs.MemberLemmas.{cone_meets, cone_from, spanned_within}
+use Rattle.cone_laws.proofs.SystemLists.{zero_on_lines}
+use Rattle.cone_laws.proofs.ValidRows.{valid_of_row, row_of_valid, are_dual, admits_second}
 use Rattle.pair_laws.specs.WorkLists.{divisor_row, generator_row, generator_list}
 use Rattle.pair_laws.specs.PointSets.{IsClosedGen, AreClosedGens}
 use Rattle.pair_laws.specs.StoredForms.{stored_constraints, stored_generators, AreClosedSystems}

@@ -21,8 +21,8 @@ use Rattle.cons_sys.specs.Constraints.{Constraint, Constraints, Satisfies, In}
 use Rattle.gens_sys.specs.declared.kind.GenKind.TheVariants.{Line}
 use Rattle.gens_sys.specs.Generators.{Generator, Generators}
 use Rattle.gens_sys.specs.Spans.{Span}
-use Rattle.dual_cones.specs.Members.{ConeOf}
-use Rattle.dual_cones.proofs.SystemLists.{lines_of-system_rows, rays_of-system_rows}
+use Rattle.cone_laws.specs.Members.{ConeOf}
+use Rattle.cone_laws.proofs.SystemLists.{lines_of-system_rows, rays_of-system_rows}
 use Rattle.pair_laws.specs.WorkLists.{divisor_row, constraint_row, constraint_list, generator_row, generator_list}
 use Rattle.pair_laws.specs.PointSets.{IsClosedKind, AreClosed, IsWithin}
 use Rattle.pair_laws.specs.StoredForms.{is_divisor_row, vector_kind, stored_constraints, stored_generators, AreClosedSystems}

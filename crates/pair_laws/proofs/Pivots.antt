@@ -11,7 +11,7 @@ use Rattle.cone_laws.proofs.Columns.{dot_comm, dot-multiple}
 use Rattle.cone_laws.proofs.Ring.{by_sign, mul-positive, mul_comm, positive_of_mul, zero_of_mul}
 use Rattle.cone_laws.proofs.EchelonForm.{zero_left, zero_right}
 use Rattle.cone_laws.proofs.Factors.{at_least_zero_from_all, combined-none, combined-one}
-use Rattle.dual_cones.proofs.SystemLists.{zero_on_lines}
+use Rattle.cone_laws.proofs.SystemLists.{zero_on_lines}
 use Rattle.pair_laws.specs.WorkLists.{divisor_row, HasPoint}
 use Rattle.pair_laws.specs.StoredForms.{AreClosedSystems}
 use Rattle.pair_laws.proofs.DivisorRow.{dot_divisor, cell-divisor_last, cell-divisor_other}

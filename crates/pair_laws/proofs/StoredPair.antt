@@ -16,10 +16,10 @@ use Rattle.gens_sys.specs.Kinds.{HasBadDivisor}
 use Rattle.gens_sys.specs.declared.kind.GenKind.TheVariants.{Line}
 use Rattle.gens_sys.specs.Generators.{Generators}
 use Rattle.gens_sys.specs.Spans.{Span}
-use Rattle.dual_cones.specs.Members.{ConeOf}
-use Rattle.dual_cones.proofs.SystemLists.{lines_of-system_rows, rays_of-system_rows, zero_on_lines, least_on_rays, cone_of_row}
-use Rattle.dual_cones.proofs.MemberLemmas.{cone_from, canon_same, spanned_within}
-use Rattle.dual_cones.proofs.ValidRows.{valid_of_row, row_of_valid}
+use Rattle.cone_laws.specs.Members.{ConeOf}
+use Rattle.cone_laws.proofs.SystemLists.{lines_of-system_rows, rays_of-system_rows, zero_on_lines, least_on_rays, cone_of_row}
+use Rattle.cone_laws.proofs.MemberLemmas.{cone_from, canon_same, spanned_within}
+use Rattle.cone_laws.proofs.ValidRows.{valid_of_row, row_of_valid}
 use Rattle.pair_laws.specs.WorkLists.{divisor_row, constraint_row, constraint_list, generator_row}
 use Rattle.gens_sys.specs.Kinds.{is_line}
 use Rattle.pair_laws.specs.PointSets.{IsClosedKind, AreClosed, AreWide, IsClosedGenKind, IsClosedGen, AreClosedGens, IsWithin, IsValid, IsInCone, HoldSame}

@@ -12,9 +12,9 @@ use Rattle.cons_sys.specs.declared.kind.ConKind.TheVariants.{Eq, Ge}
 use Rattle.cons_sys.specs.Constraints.{Constraint, Constraints}
 use Rattle.gens_sys.specs.declared.kind.GenKind.TheVariants.{Line, Point}
 use Rattle.gens_sys.specs.Generators.{Generator, Generators, generator_at}
-use Rattle.dual_cones.specs.ExtremeRays.{Touches}
-use Rattle.dual_cones.proofs.ExtremeRays.{ray_touches}
-use Rattle.dual_cones.proofs.LikeRays.{like_ray_is_same}
+use Rattle.cone_laws.specs.ExtremeRays.{Touches}
+use Rattle.cone_laws.proofs.ExtremeRays.{ray_touches}
+use Rattle.cone_laws.proofs.LikeRays.{like_ray_is_same}
 use Rattle.pair_laws.specs.WorkLists.{divisor_row, generator_row}
 use Rattle.pair_laws.specs.StoredForms.{is_divisor_row, vector_kind, stored_constraints, stored_generators, AreClosedSystems}
 use Rattle.pair_laws.specs.StoredLaws.{TouchesPoint, StoredInequalitiesTouch}

@@ -2,7 +2,7 @@
 use Rattle.std.proofs.Common.{ℕ, ◌+◌, List, [], ℤ, sym, subst, arith}
 use Rattle.row_core.specs.Lists.{Row}
 use Rattle.cons_sys.specs.Constraints.{Constraints}
-use Rattle.dual_cones.specs.Members.{ConeOf}
+use Rattle.cone_laws.specs.Members.{ConeOf}
 use Rattle.pair_laws.specs.PointSets.{IsWithin}
 use Rattle.pair_laws.specs.StoredForms.{stored_constraints, stored_generators, AreClosedSystems}
 use Rattle.pair_laws.specs.StoredLaws.{AdmitValidRows}

@@ -8,8 +8,8 @@ use Rattle.cons_sys.specs.Constraints.{Constraints, In}
 use Rattle.gens_sys.specs.declared.kind.GenKind.TheVariants.{Point}
 use Rattle.gens_sys.specs.Generators.{Generators, kind_at}
 use Rattle.gens_sys.specs.Spans.{Span}
-use Rattle.dual_cones.specs.Members.{ConeOf}
-use Rattle.dual_cones.specs.DualSystems.{AreSystemsOf}
+use Rattle.cone_laws.specs.Members.{ConeOf}
+use Rattle.cone_laws.specs.DualSystems.{AreSystemsOf}
 use Rattle.pair_laws.specs.WorkLists.{constraint_list, generator_list, HasPoint}
 use Rattle.pair_laws.specs.PointSets.{AreClosed, AreClosedGens, AreWideGens, IsWithin, HoldSame}
 use Rattle.pair_laws.specs.StoredForms.{stored_constraints, stored_generators, AreClosedSystems}

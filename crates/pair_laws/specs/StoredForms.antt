@@ -7,8 +7,8 @@ use Rattle.cons_sys.specs.Constraints.{Constraint, Constraints}
 use Rattle.gens_sys.specs.declared.kind.GenKind.{GenKind}
 use Rattle.gens_sys.specs.declared.kind.GenKind.TheVariants.{Line, Ray, Point}
 use Rattle.gens_sys.specs.Generators.{Generator, Generators}
-use Rattle.dual_cones.specs.Members.{ConeOf}
-use Rattle.dual_cones.specs.DualSystems.{IsDual}
+use Rattle.cone_laws.specs.Members.{ConeOf}
+use Rattle.cone_laws.specs.DualSystems.{IsDual}
 use Rattle.pair_laws.specs.WorkLists.{divisor_row, HasPoint}
 
 -- ---- what two canonical systems stand for

@@ -8,7 +8,7 @@ use Rattle.gens_sys.specs.declared.kind.GenKind.TheVariants.{Point}
 use Rattle.gens_sys.specs.Generators as gens
 use Rattle.gens_sys.specs.Generators.{Generators}
 use Rattle.gens_sys.specs.Spans.{Span}
-use Rattle.dual_cones.specs.Members.{ConeOf}
+use Rattle.cone_laws.specs.Members.{ConeOf}
 use Rattle.pair_laws.specs.WorkLists.{generator_list}
 use Rattle.pair_laws.specs.PointSets.{AreClosed, AreClosedGens, IsWithin, IsValid, IsInCone, HoldSame}
 use Rattle.pair_laws.specs.StoredForms.{stored_constraints, stored_generators, IsStored}

@@ -8,7 +8,7 @@ use Rattle.cons_sys.specs.Kinds.{is_equality}
 use Rattle.cons_sys.specs.Constraints.{Constraint, Constraints}
 use Rattle.gens_sys.specs.Kinds.{is_line}
 use Rattle.gens_sys.specs.Generators.{Generator, Generators}
-use Rattle.dual_cones.specs.Members.{ConeOf}
+use Rattle.cone_laws.specs.Members.{ConeOf}
 
 -- ---- first lists
 -- the row `(0, .., 0, 1)`: the divisor is at least 0

@@ -6,7 +6,7 @@ use Rattle.row_core.specs.Lists.{Row, system_rows}
 use Rattle.cone_laws.specs.Canon.{Canon}
 use Rattle.chernikova.specs.Conversion.{IsCountedUpto, IsRealOverflow, IsCountedBefore}
 use Rattle.chernikova.proofs.Counts.{counted_start}
-use Rattle.dual_cones.specs.Members.{ConeOf}
+use Rattle.cone_laws.specs.Members.{ConeOf}
 use Rattle.pair_laws.specs.WorkLists.{HasPoint}
 use Rattle.poly_pair.specs.Conversions.{IsCountedOn}
 use Rattle.poly_pair.specs.Refusals.{IsCountedBeforeOn}

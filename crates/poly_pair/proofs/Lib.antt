@@ -5,7 +5,6 @@ pub mod FitLemmas
 pub mod UniverseLemmas
 pub mod StoredLemmas
 pub mod ListLemmas
-pub mod TestLemmas
 mod EncodedSets
 mod Multiples
 mod StrongSystems

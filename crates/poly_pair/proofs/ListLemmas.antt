@@ -10,14 +10,14 @@ use Rattle.cone_laws.proofs.Ring.{by_sign}
 use Rattle.cons_sys.specs.Constraints.{Constraint, Constraints, In, FitDimension}
 use Rattle.gens_sys.specs.Generators.{Generator, Generators, FitDimension as FitGenerators}
 use Rattle.gens_sys.specs.Spans.{Span}
-use Rattle.dual_cones.specs.Members.{ConeOf}
-use Rattle.dual_cones.specs.DualSystems.{AreSystemsOf}
-use Rattle.nnc_laws.specs.Encoding.{encoded_constraints, Codes}
-use Rattle.nnc_laws.specs.EncodedGenerators.{encoded_generators, HasPoint as HasPointNumber}
-use Rattle.nnc_laws.specs.StrongRows.{IsAdmittedVector}
-use Rattle.nnc_laws.proofs.CodedVectors.{coded_is_spanned}
-use Rattle.nnc_laws.proofs.EncodedRows.{constraints_are_coded, constraints_encode}
-use Rattle.nnc_laws.proofs.EncodedVectors.{generators_encode, spanned_is_coded}
+use Rattle.cone_laws.specs.Members.{ConeOf}
+use Rattle.cone_laws.specs.DualSystems.{AreSystemsOf}
+use Rattle.nnc_enc.specs.Encoding.{encoded_constraints, Codes}
+use Rattle.nnc_enc.specs.EncodedGenerators.{encoded_generators, HasPoint as HasPointNumber}
+use Rattle.nnc_enc.specs.StrongRows.{IsAdmittedVector}
+use Rattle.nnc_enc.proofs.CodedVectors.{coded_is_spanned}
+use Rattle.nnc_enc.proofs.EncodedRows.{constraints_are_coded, constraints_encode}
+use Rattle.nnc_enc.proofs.EncodedVectors.{generators_encode, spanned_is_coded}
 use Rattle.nnc_enc.specs.Results.{AreRowsOf, AreVectorsOf}
 use Rattle.nnc_enc.proofs.ConditionLemmas.{vectors_have_rows, rows_have_vectors}
 use Rattle.nnc_enc.proofs.LineLemmas.{no_height_no_point}

@@ -8,8 +8,8 @@ use Rattle.sat_matrix.specs.ZeroTables.{IsZeroTable}
 use Rattle.chernikova.specs.declared.cone.Cone.{Cone}
 use Rattle.chernikova.specs.Changes.{AreLists}
 use Rattle.chernikova.specs.Conversion.{IsCountedUpto}
-use Rattle.dual_cones.specs.Members.{ConeOf}
-use Rattle.dual_cones.specs.DualSystems.{AreSystemsOf}
+use Rattle.cone_laws.specs.Members.{ConeOf}
+use Rattle.cone_laws.specs.DualSystems.{AreSystemsOf}
 use Rattle.pair_laws.specs.WorkLists.{HasPoint, IsSecondList}
 use Rattle.pair_laws.specs.StoredForms.{AreClosedSystems}
 use Rattle.poly_pair.specs.declared.systems.Systems.{Systems}

@@ -26,6 +26,3 @@ pub use lists::{constraint_list, generator_list};
 pub use making::has_point_kind;
 pub use poly::Poly;
 pub use topology::{MAX_DIM, Topology};
-
-#[cfg(test)]
-mod tests;

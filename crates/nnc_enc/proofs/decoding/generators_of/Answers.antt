@@ -1,5 +1,5 @@
 use Rattle.std.proofs.Common.{[]}
-use Rattle.nnc_laws.specs.DecodedVectors.{kind_of}
+use Rattle.nnc_enc.specs.DecodedVectors.{kind_of}
 use Rattle.gens_sys.specs.declared.kind.GenKind.TheVariants.{Line}
 use Rattle.nnc_enc.proofs.DecodeLemmas.{listed}
 use Rattle.nnc_enc.proofs.decoding.generators_of.Goals as goal

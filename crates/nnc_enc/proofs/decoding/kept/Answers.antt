@@ -1,5 +1,5 @@
 use Rattle.std.proofs.Common.{refl}
-use Rattle.nnc_laws.specs.StrongRows.{kept_at}
+use Rattle.nnc_enc.specs.StrongRows.{kept_at}
 use Rattle.nnc_enc.proofs.DecodeLemmas.{kept_step}
 use Rattle.nnc_enc.proofs.decoding.kept.Goals as goal
 

@@ -1,6 +1,6 @@
 use Rattle.std.proofs.Common.{◌≡◌, []}
 use Rattle.row_core.specs.Lists.{row_at}
-use Rattle.nnc_laws.specs.DecodedVectors.{kind_of}
+use Rattle.nnc_enc.specs.DecodedVectors.{kind_of}
 use Rattle.gens_sys.specs.declared.kind.GenKind.TheVariants.{Line}
 use Rattle.nnc_enc.specs.Decoding.{index_at, Grew}
 use Rattle.nnc_enc.proofs.decoding.push_gen_rays.Given as goal

@@ -1,6 +1,6 @@
 use Rattle.std.proofs.Common.{arith, ℕ}
 use Rattle.row_core.specs.Lists.{row_at}
-use Rattle.nnc_laws.specs.StrongRows.{HasVariable}
+use Rattle.nnc_enc.specs.StrongRows.{HasVariable}
 use Rattle.std.specs.Prelude.{IsTrue, ◌↔◌}
 use Rattle.std.proofs.Common.{subst}
 use Rattle.nnc_enc.proofs.MarkLemmas.{told_more}

@@ -1,5 +1,5 @@
 use Rattle.std.proofs.Common.{◌≡◌, ◌+◌, ◌∷◌, take, map}
-use Rattle.nnc_laws.specs.Encoding.{encoded_constraint, height_row, bound_row}
+use Rattle.nnc_enc.specs.Encoding.{encoded_constraint, height_row, bound_row}
 use Rattle.nnc_enc.proofs.encoding.encode_cons.Given as goal
 
 abbrev pub invariant-loop-index : goal.invariant-loop-index

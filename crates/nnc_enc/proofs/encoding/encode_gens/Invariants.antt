@@ -1,5 +1,5 @@
 use Rattle.std.proofs.Common.{◌≡◌, ◌+◌, take}
-use Rattle.nnc_laws.specs.EncodedGenerators.{encoded_generators}
+use Rattle.nnc_enc.specs.EncodedGenerators.{encoded_generators}
 use Rattle.nnc_enc.proofs.encoding.encode_gens.Given as goal
 
 abbrev pub invariant-loop-index : goal.invariant-loop-index

@@ -1,5 +1,0 @@
-use Rattle.dual_cones.proofs.ZeroFaces.{zero_is_spanned}
-use Rattle.dual_cones.proofs.extreme_rays.zero_is_spanned.Goals as goal
-
-pub returns : goal.returns
-returns c = zero_is_spanned

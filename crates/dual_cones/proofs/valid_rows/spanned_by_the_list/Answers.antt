@@ -1,5 +1,0 @@
-use Rattle.dual_cones.proofs.ValidRows.{spanned_by_the_list}
-use Rattle.dual_cones.proofs.valid_rows.spanned_by_the_list.Goals as goal
-
-pub returns : goal.returns
-returns c = spanned_by_the_list

@@ -1,3 +1,0 @@
-pub mod ListedVectors
-pub mod Directions
-pub mod JoinedLists

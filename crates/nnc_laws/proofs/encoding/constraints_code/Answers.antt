@@ -1,5 +1,0 @@
-use Rattle.nnc_laws.proofs.EncodedRows as lemmas
-use Rattle.nnc_laws.proofs.encoding.constraints_code.Goals as goal
-
-pub returns : goal.returns
-returns c = record { coded = lemmas.constraints_are_coded; encoded = lemmas.constraints_encode }

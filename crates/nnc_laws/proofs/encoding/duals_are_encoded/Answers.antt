@@ -1,5 +1,0 @@
-use Rattle.nnc_laws.proofs.EncodedDuals as lemmas
-use Rattle.nnc_laws.proofs.encoding.duals_are_encoded.Goals as goal
-
-pub returns : goal.returns
-returns c = record { dual = lemmas.encoded_has_dual; cone = lemmas.dual_is_encoded }

@@ -1,5 +1,0 @@
-use Rattle.nnc_laws.proofs.LeftOutRows as lemmas
-use Rattle.nnc_laws.proofs.rows.kept_rows_hold.Goals as goal
-
-pub returns : goal.returns
-returns c = lemmas.kept_rows_hold

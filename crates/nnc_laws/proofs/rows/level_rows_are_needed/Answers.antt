@@ -1,5 +1,0 @@
-use Rattle.nnc_laws.proofs.LevelRows as lemmas
-use Rattle.nnc_laws.proofs.rows.level_rows_are_needed.Goals as goal
-
-pub returns : goal.returns
-returns c = lemmas.level_rows_are_needed

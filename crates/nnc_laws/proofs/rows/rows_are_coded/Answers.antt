@@ -1,5 +1,0 @@
-use Rattle.nnc_laws.proofs.CodedRows as lemmas
-use Rattle.nnc_laws.proofs.rows.rows_are_coded.Goals as goal
-
-pub returns : goal.returns
-returns c = lemmas.rows_are_coded

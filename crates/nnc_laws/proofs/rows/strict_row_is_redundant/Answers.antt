@@ -1,5 +1,0 @@
-use Rattle.nnc_laws.proofs.RedundantRows as lemmas
-use Rattle.nnc_laws.proofs.rows.strict_row_is_redundant.Goals as goal
-
-pub returns : goal.returns
-returns c = lemmas.strict_row_is_redundant

@@ -1,5 +1,0 @@
-use Rattle.nnc_laws.proofs.NeededRows as lemmas
-use Rattle.nnc_laws.proofs.rows.strict_rows_are_needed.Goals as goal
-
-pub returns : goal.returns
-returns c = lemmas.strict_rows_are_needed

@@ -1,5 +1,0 @@
-use Rattle.nnc_laws.proofs.Decoded as lemmas
-use Rattle.nnc_laws.proofs.vectors.kept_vectors_span.Goals as goal
-
-pub returns : goal.returns
-returns c = lemmas.kept_vectors_span

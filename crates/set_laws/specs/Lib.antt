@@ -1,0 +1,3 @@
+pub mod JoinedSets
+pub mod Asking
+pub mod GeneratorLaws
