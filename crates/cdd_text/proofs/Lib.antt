@@ -14,9 +14,9 @@ mod OneFiles
 mod OneHeads
 mod OneRows
 mod ReadBackLaws
-mod ReadKinds
+pub mod ReadKinds
 mod Roles
-mod Stages
+pub mod Stages
 mod StoreLaws
 mod TableLaws
 mod TokenCuts

@@ -25,8 +25,8 @@ pub struct Cut<'a> {
     pub end: usize,
 }
 
-// Whether the line ends a file.
-fn is_end(line: &[u8]) -> bool
+/// Whether the line ends a file: its only token is `end`, and it has at most 65,535 bytes.
+pub fn is_end(line: &[u8]) -> bool
     ensures { MatchBool result (IsEnd line.now) (¬ (IsEnd line.now)) }
 {
     if line.len() > MAX_LINE {

@@ -21,11 +21,9 @@ mod tokens;
 mod values;
 mod write;
 
-pub use file::linearity_after_end;
+pub use file::{is_end, linearity_after_end};
+pub use format::Format;
 pub use laws::{constraints_are_read_back, generators_are_read_back, one_answer};
 pub use read::{read_ext, read_ine};
 pub use reply_text::{Fault, ReadErr, Text};
 pub use write::{write_ext, write_ine};
-
-#[cfg(test)]
-mod tests;

@@ -1,0 +1,15 @@
+//! Closed polyhedra of files in the format of cdd and lrs, both ways.
+//!
+//! - [`read_file`] gives the list that a file holds, and [`Listed::polyhedron`] the polyhedron of the
+//!   list.
+//! - [`write_file`] gives the file of a polyhedron's constraints, or of its generators.
+#![tactic(auto)]
+
+mod listed;
+mod reading;
+mod writing;
+
+pub use cdd_text::Format;
+pub use listed::Listed;
+pub use reading::read_file;
+pub use writing::write_file;

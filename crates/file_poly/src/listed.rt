@@ -1,0 +1,70 @@
+//! The list of a file, and its polyhedron.
+ghost use Rattle.std.specs.Prelude.{◌≡◌, ◌≤◌, IfOk, IfErr};
+ghost use Rattle.pair_laws.specs.PointSets.{AreClosedKinds};
+ghost use Rattle.poly_pair.specs.FirstLists.{LacksPoint};
+ghost use Rattle.poly_pair.specs.Polyhedra.{IsOfGenerators};
+ghost use Rattle.poly_pair.specs.declared.topology.TheConstants.{MAX_DIM};
+ghost use Rattle.poly_pair.specs.declared.topology.Topology.TheVariants.{Closed};
+ghost use Rattle.file_poly.specs.Files.{IsFit, IsOfList, IsOverflowOnList};
+ghost use Rattle.file_poly.specs.declared.listed.Listed.TheVariants;
+
+use cons_sys::ConsSys;
+use gens_sys::GensSys;
+use poly_pair::{GenErr, Poly, Topology};
+use row_core::{ConvErr, Steps};
+use std::alloc::Global;
+use std::sync::ledger::Ledger;
+
+/// The list of a file.
+#[derive(Debug, Drop)]
+pub enum Listed {
+    /// Constraints.
+    Cons(ConsSys),
+    /// Generators.
+    Gens(GensSys),
+}
+
+impl Listed {
+    /// The closed polyhedron of the list.
+    ///
+    /// # Errors
+    ///
+    /// An overflow is one of the conversion of the constraint list or the generator list, or of its
+    /// second list.
+    pub fn polyhedron<L: Ledger>(
+        &self,
+        alloc: Global,
+        steps: &mut Steps<L>,
+    ) -> Result<Poly, ConvErr>
+        requires { IsFit self.now }
+        ensures set { IfOk result (IsOfList self.now) }
+        ensures closed { IfOk result (λ p. p.topology ≡ Closed) }
+        ensures overflow { IfErr result (IsOverflowOnList self.now) }
+    {
+        match self {
+            Listed::Cons(cons) => Poly::from_cons(alloc, Topology::Closed, cons, steps),
+            Listed::Gens(gens) => of_generators(alloc, gens, steps),
+        }
+    }
+}
+
+// The closed polyhedron of generators, where there is none or one is a point.
+fn of_generators<L: Ledger>(
+    alloc: Global,
+    gens: &GensSys,
+    steps: &mut Steps<L>,
+) -> Result<Poly, ConvErr>
+    requires narrow { gens.now.dim ≤ MAX_DIM }
+    requires kinds { AreClosedKinds gens.now }
+    requires point { ¬ (LacksPoint gens.now.list) }
+    ensures set { IfOk result (IsOfGenerators Closed gens.now) }
+    ensures closed { IfOk result (λ p. p.topology ≡ Closed) }
+    ensures overflow { IfErr result (IsOverflowOnList (TheVariants.Gens gens.now)) }
+{
+    match Poly::from_gens(alloc, Topology::Closed, gens, steps) {
+        Ok(made) => Ok(made),
+        Err(GenErr::NoPoint) => unreachable!(),
+        Err(GenErr::Overflow(over)) => Err(ConvErr::Overflow(over)),
+        Err(GenErr::Memory) => Err(ConvErr::Memory),
+    }
+}
