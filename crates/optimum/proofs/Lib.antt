@@ -1,0 +1,10 @@
+pub mod ValueLemmas
+pub mod MemberLemmas
+pub mod RelationLemmas
+pub mod Fractions
+pub mod BestLemmas
+pub mod SeekLemmas
+pub mod SupremumLemmas
+pub mod OneBound
+pub mod OptimumLemmas
+pub mod Witness

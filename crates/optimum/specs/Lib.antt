@@ -1,0 +1,5 @@
+pub mod Values
+pub mod Relations
+pub mod Search
+pub mod Suprema
+pub mod Laws

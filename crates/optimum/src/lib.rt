@@ -1,0 +1,19 @@
+//! The bounds of an expression on a polyhedron, and how a polyhedron lies to a constraint, on both topologies.
+//!
+//! - [`sup`] and [`inf`] give the least upper and the greatest lower bound, a [`Sup`].
+//! - [`relation`] says by a [`Relation`] whether the points satisfy a constraint.
+//! - [`laws`] says that each has one answer, and what the generator shows that an answer numbers.
+//!
+//! None of the three calls takes memory. Each may answer the first product or partial sum that leaves the range.
+#![tactic(auto)]
+
+mod asking;
+mod bounds;
+pub mod laws;
+mod outcome;
+mod relating;
+mod seeking;
+
+pub use bounds::{inf, sup};
+pub use outcome::{Relation, Sup};
+pub use relating::relation;
