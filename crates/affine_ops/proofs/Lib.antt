@@ -1,0 +1,12 @@
+pub mod ColumnLemmas
+pub mod LinearMaps
+pub mod Weights
+pub mod MappedSets
+pub mod PulledSets
+pub mod ListSteps
+pub mod KeptVariables
+pub mod MappedResults
+pub mod PulledResults
+pub mod TurnedMaps
+pub mod AddedVariables
+pub mod ProductFactors

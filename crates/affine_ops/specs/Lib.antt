@@ -1,0 +1,5 @@
+pub mod Maps
+pub mod MappedLists
+pub mod Results
+pub mod Refusals
+pub mod Laws

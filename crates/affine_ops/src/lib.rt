@@ -1,0 +1,20 @@
+//! Images, preimages and changes of the dimension of polyhedra, on both topologies.
+//!
+//! - [`image`] and [`preimage`] replace a variable by an expression.
+//! - [`embed`], [`project`] and [`remove_dims`] add and take away variables.
+//! - [`concat`] gives the product of two sets.
+//!
+//! [`laws`] says which of them undo each other.
+#![tactic(auto)]
+
+mod columns;
+mod dimensions;
+mod images;
+pub mod laws;
+mod mapped;
+mod pulled;
+mod refusals;
+mod substitution;
+
+pub use dimensions::{concat, embed, project, remove_dims};
+pub use images::{image, preimage};
