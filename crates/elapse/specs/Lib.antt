@@ -1,0 +1,4 @@
+pub mod ElapsedPoints
+pub mod Directions
+pub mod Elapses
+pub mod ElapseLaws
