@@ -1,0 +1,3 @@
+pub mod StoredRows
+pub mod DrawnRows
+pub mod SampleLists
