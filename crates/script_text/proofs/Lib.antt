@@ -6,16 +6,23 @@ mod ConsTable
 pub mod EdgeLemmas
 mod GensTable
 mod HasTable
+mod ImageTable
 mod NoWordsTable
 mod NothingTable
 mod NumberLemmas
 mod OneNameTable
+mod OptimumTable
 mod PartLemmas
 mod PrintTable
+mod RelationTable
+mod RemoveTable
 mod RestLaws
 mod RowLaws
 mod SpaceTable
 mod SpellLemmas
+mod ThreeNamesTable
+mod TwoNamesNatTable
 mod TwoNamesTable
 mod UnreadLemmas
+mod VariableLemmas
 mod WordLemmas

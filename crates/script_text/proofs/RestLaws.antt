@@ -28,7 +28,7 @@ abbrev pub is_good : Shape → Bool
 is_good shape =
     word_good (word shape.command) && (all_good shape.words && (avoids (words_form shape.words) 58 && (avoids (words_form shape.words) 35 && (avoids (tail_form shape.part) 35 && part_good shape.part))))
 
-Each-times : (p : ℕ → Bool) (P : List ℕ → Type 0) → ((u : List ℕ) → P u → Each p u) → (n : ℕ) (w : List ℕ) → Times P n w → Each p w
+pub Each-times : (p : ℕ → Bool) (P : List ℕ → Type 0) → ((u : List ℕ) → P u → Each p u) → (n : ℕ) (w : List ℕ) → Times P n w → Each p w
 Each-times p P each zero w e = subst (Each p) (sym e) tt
 Each-times p P each (suc n) w (u, v, e, h, more) = subst (Each p) (sym e) (Each-append p u v (each u h) (Each-times p P each n v more))
 

@@ -8,7 +8,7 @@ use Rattle.script_text.specs.Rows.{shape_of, row_form}
 use Rattle.script_text.specs.Words.{word_of}
 use Rattle.script_text.specs.Laws.{IsRowRead}
 use Rattle.script_text.specs.declared.row.Row.{Row}
-use Rattle.script_text.specs.declared.row.Row.TheVariants.{Nothing, Cons, Gens, Universe, Empty, Copy, Drop, Add, Addgen, Has, Size, Print, Names}
+use Rattle.script_text.specs.declared.row.Row.TheVariants.{Nothing, Cons, Gens, Universe, Empty, Copy, Drop, Add, Addgen, Has, Size, Print, Names, Meet, Hull, Closure, Contains, Equal, Disjoint, Isempty, Relation, Max, Min, Image, Preimage, Embed, Project, Remove, Concat, Elapse}
 use Rattle.script_text.proofs.RestLaws.{is_good, good, fields_law, first_law, nothing_law}
 
 abbrev pub IsGoodRow : Row → Type 0
@@ -30,7 +30,12 @@ abbrev pub row_named : List ℕ → Row
 row_named w =
     if bytes_eq w (codes "cons") then Cons else if bytes_eq w (codes "gens") then Gens else if bytes_eq w (codes "universe") then Universe else if bytes_eq w (codes "empty") then Empty
     else if bytes_eq w (codes "copy") then Copy else if bytes_eq w (codes "drop") then Drop else if bytes_eq w (codes "add") then Add else if bytes_eq w (codes "addgen") then Addgen
-    else if bytes_eq w (codes "has") then Has else if bytes_eq w (codes "size") then Size else if bytes_eq w (codes "print") then Print else if bytes_eq w (codes "names") then Names else Nothing
+    else if bytes_eq w (codes "has") then Has else if bytes_eq w (codes "size") then Size else if bytes_eq w (codes "print") then Print else if bytes_eq w (codes "names") then Names
+    else if bytes_eq w (codes "meet") then Meet else if bytes_eq w (codes "hull") then Hull else if bytes_eq w (codes "closure") then Closure else if bytes_eq w (codes "contains") then Contains
+    else if bytes_eq w (codes "equal") then Equal else if bytes_eq w (codes "disjoint") then Disjoint else if bytes_eq w (codes "isempty") then Isempty else if bytes_eq w (codes "relation") then Relation
+    else if bytes_eq w (codes "max") then Max else if bytes_eq w (codes "min") then Min else if bytes_eq w (codes "image") then Image else if bytes_eq w (codes "preimage") then Preimage
+    else if bytes_eq w (codes "embed") then Embed else if bytes_eq w (codes "project") then Project else if bytes_eq w (codes "remove") then Remove else if bytes_eq w (codes "concat") then Concat
+    else if bytes_eq w (codes "elapse") then Elapse else Nothing
 
 pub named_right : (row : Row) → row_named (shape_of row).command ≡ row
 named_right Nothing = refl

@@ -3,6 +3,7 @@ use Rattle.std.specs.Prelude.{ℕ, ◌-◌, ◌^◌, ◌==◌, min, List, [], �
 use Rattle.std.specs.Str.{bytes_eq}
 use Rattle.term_text.specs.Numbers.{number_after}
 use Rattle.script_text.specs.Fields.{Fields}
+use Rattle.script_text.specs.Variables.{variable_of, variables_of}
 use Rattle.script_text.specs.declared.row.Row.{Row}
 use Rattle.script_text.specs.declared.row.Row.TheVariants as row
 use Rattle.script_text.specs.declared.command.Command.{Command}
@@ -50,3 +51,20 @@ command_of row.Has f = command.Has f.first (part_from f.part)
 command_of row.Size f = command.Size f.first
 command_of row.Print f = command.Print (is_word f.first (codes "gens")) f.second
 command_of row.Names f = command.Names
+command_of row.Meet f = command.Meet f.first f.second f.third
+command_of row.Hull f = command.Hull f.first f.second f.third
+command_of row.Closure f = command.Closure f.first f.second
+command_of row.Contains f = command.Contains f.first f.second
+command_of row.Equal f = command.Equal f.first f.second
+command_of row.Disjoint f = command.Disjoint f.first f.second
+command_of row.Isempty f = command.Isempty f.first
+command_of row.Relation f = command.Relation f.first (part_from f.part)
+command_of row.Max f = command.Max f.first (part_from f.part)
+command_of row.Min f = command.Min f.first (part_from f.part)
+command_of row.Image f = command.Image f.first f.second (variable_of f.third) (part_from f.part)
+command_of row.Preimage f = command.Preimage f.first f.second (variable_of f.third) (part_from f.part)
+command_of row.Embed f = command.Embed f.first f.second (number_of f.third)
+command_of row.Project f = command.Project f.first f.second (number_of f.third)
+command_of row.Remove f = command.Remove f.first f.second (variables_of f.part)
+command_of row.Concat f = command.Concat f.first f.second f.third
+command_of row.Elapse f = command.Elapse f.first f.second f.third

@@ -3,4 +3,5 @@ pub mod Fields
 pub mod Laws
 pub mod Line
 pub mod Rows
+pub mod Variables
 pub mod Words

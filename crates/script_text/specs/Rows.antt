@@ -1,9 +1,9 @@
 -- The lines of the commands.
 use Rattle.std.specs.Prelude.{◌≡◌, ℕ, List, [], ◌∷◌, Option, Some, None, codes}
 use Rattle.grammar.specs.Form.{Form, word}
-use Rattle.grammar.specs.Grammar.{◌·◌, ◌∣◌, symbol, blanks, gap, perhaps, alone, comment, name, nat, cons, point, gens}
+use Rattle.grammar.specs.Grammar.{◌·◌, ◌∣◌, symbol, blanks, gap, perhaps, alone, comment, name, nat, var, vars, expr, frac, con, cons, point, gens}
 use Rattle.script_text.specs.declared.row.Row.{Row}
-use Rattle.script_text.specs.declared.row.Row.TheVariants.{Nothing, Cons, Gens, Universe, Empty, Copy, Drop, Add, Addgen, Has, Size, Print, Names}
+use Rattle.script_text.specs.declared.row.Row.TheVariants.{Nothing, Cons, Gens, Universe, Empty, Copy, Drop, Add, Addgen, Has, Size, Print, Names, Meet, Hull, Closure, Contains, Equal, Disjoint, Isempty, Relation, Max, Min, Image, Preimage, Embed, Project, Remove, Concat, Elapse}
 
 -- a line: its command word, what each word behind it may be, and the part behind a colon
 pub record Shape : Type 0 where
@@ -64,6 +64,23 @@ shape_of Has = with_part (codes "has") (name ∷ []) point
 shape_of Size = plain (codes "size") (name ∷ [])
 shape_of Print = plain (codes "print") (side ∷ name ∷ [])
 shape_of Names = plain (codes "names") []
+shape_of Meet = plain (codes "meet") (name ∷ name ∷ name ∷ [])
+shape_of Hull = plain (codes "hull") (name ∷ name ∷ name ∷ [])
+shape_of Closure = plain (codes "closure") (name ∷ name ∷ [])
+shape_of Contains = plain (codes "contains") (name ∷ name ∷ [])
+shape_of Equal = plain (codes "equal") (name ∷ name ∷ [])
+shape_of Disjoint = plain (codes "disjoint") (name ∷ name ∷ [])
+shape_of Isempty = plain (codes "isempty") (name ∷ [])
+shape_of Relation = with_part (codes "relation") (name ∷ []) con
+shape_of Max = with_part (codes "max") (name ∷ []) expr
+shape_of Min = with_part (codes "min") (name ∷ []) expr
+shape_of Image = with_part (codes "image") (name ∷ name ∷ var ∷ []) frac
+shape_of Preimage = with_part (codes "preimage") (name ∷ name ∷ var ∷ []) frac
+shape_of Embed = plain (codes "embed") (name ∷ name ∷ nat ∷ [])
+shape_of Project = plain (codes "project") (name ∷ name ∷ nat ∷ [])
+shape_of Remove = with_part (codes "remove") (name ∷ name ∷ []) vars
+shape_of Concat = plain (codes "concat") (name ∷ name ∷ name ∷ [])
+shape_of Elapse = plain (codes "elapse") (name ∷ name ∷ name ∷ [])
 
 -- the word is the row's command word; a blank line has none
 abbrev pub IsCommandWord : Row → List ℕ → Type 0
@@ -77,4 +94,4 @@ row_form row = line_form (shape_of row)
 
 -- all rows
 abbrev pub rows : List Row
-rows = Nothing ∷ Cons ∷ Gens ∷ Universe ∷ Empty ∷ Copy ∷ Drop ∷ Add ∷ Addgen ∷ Has ∷ Size ∷ Print ∷ Names ∷ []
+rows = Nothing ∷ Cons ∷ Gens ∷ Universe ∷ Empty ∷ Copy ∷ Drop ∷ Add ∷ Addgen ∷ Has ∷ Size ∷ Print ∷ Names ∷ Meet ∷ Hull ∷ Closure ∷ Contains ∷ Equal ∷ Disjoint ∷ Isempty ∷ Relation ∷ Max ∷ Min ∷ Image ∷ Preimage ∷ Embed ∷ Project ∷ Remove ∷ Concat ∷ Elapse ∷ []

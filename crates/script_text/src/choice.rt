@@ -10,7 +10,7 @@ use crate::shapes::{nothing_verdict, rest_verdict};
 use grammar::{Verdict, column_of};
 use std::alloc::{AllocError, Global};
 
-pub const ROWS: [Row; 13] = [
+pub const ROWS: [Row; 30] = [
     Row::Nothing,
     Row::Cons,
     Row::Gens,
@@ -24,6 +24,23 @@ pub const ROWS: [Row; 13] = [
     Row::Size,
     Row::Print,
     Row::Names,
+    Row::Meet,
+    Row::Hull,
+    Row::Closure,
+    Row::Contains,
+    Row::Equal,
+    Row::Disjoint,
+    Row::Isempty,
+    Row::Relation,
+    Row::Max,
+    Row::Min,
+    Row::Image,
+    Row::Preimage,
+    Row::Embed,
+    Row::Project,
+    Row::Remove,
+    Row::Concat,
+    Row::Elapse,
 ];
 
 /// The row that the command word names.
@@ -43,6 +60,23 @@ fn named(word: &[u8]) -> Option<Row>
         b"size" => Some(Row::Size),
         b"print" => Some(Row::Print),
         b"names" => Some(Row::Names),
+        b"meet" => Some(Row::Meet),
+        b"hull" => Some(Row::Hull),
+        b"closure" => Some(Row::Closure),
+        b"contains" => Some(Row::Contains),
+        b"equal" => Some(Row::Equal),
+        b"disjoint" => Some(Row::Disjoint),
+        b"isempty" => Some(Row::Isempty),
+        b"relation" => Some(Row::Relation),
+        b"max" => Some(Row::Max),
+        b"min" => Some(Row::Min),
+        b"image" => Some(Row::Image),
+        b"preimage" => Some(Row::Preimage),
+        b"embed" => Some(Row::Embed),
+        b"project" => Some(Row::Project),
+        b"remove" => Some(Row::Remove),
+        b"concat" => Some(Row::Concat),
+        b"elapse" => Some(Row::Elapse),
         _ => None,
     }
 }

@@ -1,4 +1,5 @@
 //! A line, read.
+use crate::variables::VarList;
 use reply_text::Text;
 
 /// The text of a part behind a colon.
@@ -76,4 +77,99 @@ pub enum Command {
     },
     /// `names`
     Names,
+    /// `meet OUT P Q`
+    Meet {
+        out: Text,
+        p: Text,
+        q: Text,
+    },
+    /// `hull OUT P Q`
+    Hull {
+        out: Text,
+        p: Text,
+        q: Text,
+    },
+    /// `closure OUT P`
+    Closure {
+        out: Text,
+        p: Text,
+    },
+    /// `contains P Q`
+    Contains {
+        p: Text,
+        q: Text,
+    },
+    /// `equal P Q`
+    Equal {
+        p: Text,
+        q: Text,
+    },
+    /// `disjoint P Q`
+    Disjoint {
+        p: Text,
+        q: Text,
+    },
+    /// `isempty P`
+    Isempty {
+        p: Text,
+    },
+    /// `relation P : CON`
+    Relation {
+        p: Text,
+        con: Part,
+    },
+    /// `max P : EXPR`
+    Max {
+        p: Text,
+        expr: Part,
+    },
+    /// `min P : EXPR`
+    Min {
+        p: Text,
+        expr: Part,
+    },
+    /// `image OUT P V : FRAC`; `v` is the number of the variable, 0 for `A`, 26 for `A1`.
+    Image {
+        out: Text,
+        p: Text,
+        v: u64,
+        frac: Part,
+    },
+    /// `preimage OUT P V : FRAC`
+    Preimage {
+        out: Text,
+        p: Text,
+        v: u64,
+        frac: Part,
+    },
+    /// `embed OUT P N`
+    Embed {
+        out: Text,
+        p: Text,
+        n: u64,
+    },
+    /// `project OUT P N`
+    Project {
+        out: Text,
+        p: Text,
+        n: u64,
+    },
+    /// `remove OUT P : VARS`; `vars` has the number of each variable, in order.
+    Remove {
+        out: Text,
+        p: Text,
+        vars: VarList,
+    },
+    /// `concat OUT P Q`
+    Concat {
+        out: Text,
+        p: Text,
+        q: Text,
+    },
+    /// `elapse OUT P Q`
+    Elapse {
+        out: Text,
+        p: Text,
+        q: Text,
+    },
 }

@@ -30,6 +30,8 @@ const NAME: Re<'static> = Re::Named(Rule::Name);
 
 const NAT: Re<'static> = Re::Named(Rule::Nat);
 
+const VAR: Re<'static> = Re::Named(Rule::Var);
+
 const TOP: Re<'static> = Re::Or(&Re::Word(b"closed"), &Re::Word(b"nnc"));
 
 const SIDE: Re<'static> = Re::Or(&Re::Word(b"cons"), &Re::Word(b"gens"));
@@ -54,6 +56,23 @@ pub fn form_of(row: Row) -> Re<'static>
         Row::Size => size_line(),
         Row::Print => print_line(),
         Row::Names => names_line(),
+        Row::Meet => meet_line(),
+        Row::Hull => hull_line(),
+        Row::Closure => closure_line(),
+        Row::Contains => contains_line(),
+        Row::Equal => equal_line(),
+        Row::Disjoint => disjoint_line(),
+        Row::Isempty => isempty_line(),
+        Row::Relation => relation_line(),
+        Row::Max => max_line(),
+        Row::Min => min_line(),
+        Row::Image => image_line(),
+        Row::Preimage => preimage_line(),
+        Row::Embed => embed_line(),
+        Row::Project => project_line(),
+        Row::Remove => remove_line(),
+        Row::Concat => concat_line(),
+        Row::Elapse => elapse_line(),
     }
 }
 
@@ -159,4 +178,140 @@ fn names_line() -> Re<'static>
     ensures { shape result ≡ line_form (shape_of row.Names) }
 {
     NAMES_LINE
+}
+
+const MEET_LINE: Re<'static> = line!(b"meet", NAME, NAME, NAME);
+
+fn meet_line() -> Re<'static>
+    ensures { shape result ≡ line_form (shape_of row.Meet) }
+{
+    MEET_LINE
+}
+
+const HULL_LINE: Re<'static> = line!(b"hull", NAME, NAME, NAME);
+
+fn hull_line() -> Re<'static>
+    ensures { shape result ≡ line_form (shape_of row.Hull) }
+{
+    HULL_LINE
+}
+
+const CLOSURE_LINE: Re<'static> = line!(b"closure", NAME, NAME);
+
+fn closure_line() -> Re<'static>
+    ensures { shape result ≡ line_form (shape_of row.Closure) }
+{
+    CLOSURE_LINE
+}
+
+const CONTAINS_LINE: Re<'static> = line!(b"contains", NAME, NAME);
+
+fn contains_line() -> Re<'static>
+    ensures { shape result ≡ line_form (shape_of row.Contains) }
+{
+    CONTAINS_LINE
+}
+
+const EQUAL_LINE: Re<'static> = line!(b"equal", NAME, NAME);
+
+fn equal_line() -> Re<'static>
+    ensures { shape result ≡ line_form (shape_of row.Equal) }
+{
+    EQUAL_LINE
+}
+
+const DISJOINT_LINE: Re<'static> = line!(b"disjoint", NAME, NAME);
+
+fn disjoint_line() -> Re<'static>
+    ensures { shape result ≡ line_form (shape_of row.Disjoint) }
+{
+    DISJOINT_LINE
+}
+
+const ISEMPTY_LINE: Re<'static> = line!(b"isempty", NAME);
+
+fn isempty_line() -> Re<'static>
+    ensures { shape result ≡ line_form (shape_of row.Isempty) }
+{
+    ISEMPTY_LINE
+}
+
+const RELATION_LINE: Re<'static> = line!(b"relation", NAME; Rule::Con);
+
+fn relation_line() -> Re<'static>
+    ensures { shape result ≡ line_form (shape_of row.Relation) }
+{
+    RELATION_LINE
+}
+
+const MAX_LINE: Re<'static> = line!(b"max", NAME; Rule::Expr);
+
+fn max_line() -> Re<'static>
+    ensures { shape result ≡ line_form (shape_of row.Max) }
+{
+    MAX_LINE
+}
+
+const MIN_LINE: Re<'static> = line!(b"min", NAME; Rule::Expr);
+
+fn min_line() -> Re<'static>
+    ensures { shape result ≡ line_form (shape_of row.Min) }
+{
+    MIN_LINE
+}
+
+const IMAGE_LINE: Re<'static> = line!(b"image", NAME, NAME, VAR; Rule::Frac);
+
+fn image_line() -> Re<'static>
+    ensures { shape result ≡ line_form (shape_of row.Image) }
+{
+    IMAGE_LINE
+}
+
+const PREIMAGE_LINE: Re<'static> = line!(b"preimage", NAME, NAME, VAR; Rule::Frac);
+
+fn preimage_line() -> Re<'static>
+    ensures { shape result ≡ line_form (shape_of row.Preimage) }
+{
+    PREIMAGE_LINE
+}
+
+const EMBED_LINE: Re<'static> = line!(b"embed", NAME, NAME, NAT);
+
+fn embed_line() -> Re<'static>
+    ensures { shape result ≡ line_form (shape_of row.Embed) }
+{
+    EMBED_LINE
+}
+
+const PROJECT_LINE: Re<'static> = line!(b"project", NAME, NAME, NAT);
+
+fn project_line() -> Re<'static>
+    ensures { shape result ≡ line_form (shape_of row.Project) }
+{
+    PROJECT_LINE
+}
+
+const REMOVE_LINE: Re<'static> = line!(b"remove", NAME, NAME; Rule::Vars);
+
+fn remove_line() -> Re<'static>
+    ensures { shape result ≡ line_form (shape_of row.Remove) }
+{
+    REMOVE_LINE
+}
+
+const CONCAT_LINE: Re<'static> = line!(b"concat", NAME, NAME, NAME);
+
+fn concat_line() -> Re<'static>
+    ensures { shape result ≡ line_form (shape_of row.Concat) }
+{
+    CONCAT_LINE
+}
+
+const ELAPSE_LINE: Re<'static> = line!(b"elapse", NAME, NAME, NAME);
+
+fn elapse_line() -> Re<'static>
+    ensures { shape result ≡ line_form (shape_of row.Elapse) }
+{
+    ELAPSE_LINE
 }

@@ -1,6 +1,7 @@
 //! Laws of the definitions that the contracts cite.
 ghost use Rattle.script_text.specs.Laws.{FieldsAreWords};
 ghost use Rattle.script_text.specs.Line.{SpellsOne, ReadsOnce};
+ghost use Rattle.script_text.specs.Variables.{VariablesAreListed};
 
 /// The fields of a line, however it matches, are those of its words.
 #[tactic(auto, using(crate::proofs::RowLaws::row_law))]
@@ -17,4 +18,10 @@ pub fn one_command()
 /// A line that spells a command isn't refused, and a refused line has one fault.
 pub fn reads_once()
     ensures { ReadsOnce }
+{}
+
+/// A list of variables, however it matches, gives one number for each of them, in order.
+#[tactic(auto, using(crate::proofs::VariableLemmas::variables_listed))]
+pub fn variables_are_listed()
+    ensures { VariablesAreListed }
 {}

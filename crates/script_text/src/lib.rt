@@ -1,9 +1,10 @@
 //! The lines of the calculator, as commands.
 //!
 //! - [`read_command`] gives the command that a line spells, or the fault for which it is refused.
-//! - [`Command`] has a variant for each command, and [`Part`] is the text behind a colon.
-//! - [`one_command`], [`reads_once`] and [`fields_are_words`] are laws of the definitions that the
-//!   contracts cite.
+//! - [`Command`] has a variant for each command, [`Part`] is the text behind a colon, and [`VarList`]
+//!   the variables that stand there.
+//! - [`one_command`], [`reads_once`], [`fields_are_words`] and [`variables_are_listed`] are laws of the
+//!   definitions that the contracts cite.
 #![tactic(auto)]
 
 mod choice;
@@ -15,12 +16,11 @@ mod read;
 mod row;
 mod shapes;
 mod tables;
+mod variables;
 mod words;
 
 pub use command::{Command, Part};
-pub use laws::{fields_are_words, one_command, reads_once};
+pub use laws::{fields_are_words, one_command, reads_once, variables_are_listed};
 pub use read::read_command;
 pub use row::Row;
-
-#[cfg(test)]
-mod tests;
+pub use variables::VarList;

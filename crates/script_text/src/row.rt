@@ -29,4 +29,38 @@ pub enum Row {
     Print,
     /// `names`
     Names,
+    /// `meet`
+    Meet,
+    /// `hull`
+    Hull,
+    /// `closure`
+    Closure,
+    /// `contains`
+    Contains,
+    /// `equal`
+    Equal,
+    /// `disjoint`
+    Disjoint,
+    /// `isempty`
+    Isempty,
+    /// `relation`
+    Relation,
+    /// `max`
+    Max,
+    /// `min`
+    Min,
+    /// `image`
+    Image,
+    /// `preimage`
+    Preimage,
+    /// `embed`
+    Embed,
+    /// `project`
+    Project,
+    /// `remove`
+    Remove,
+    /// `concat`
+    Concat,
+    /// `elapse`
+    Elapse,
 }

@@ -4,7 +4,8 @@ ghost use Rattle.script_text.specs.Rows.{nothing_form, rest_form, shape_of};
 
 use crate::row::Row;
 use crate::tables::{
-    ADD, ADDGEN, CONS, GENS, HAS, NO_WORDS, NOTHING, ONE_NAME, PRINT, SPACE, TWO_NAMES,
+    ADD, ADDGEN, CONS, GENS, HAS, IMAGE, NO_WORDS, NOTHING, ONE_NAME, OPTIMUM, PRINT, RELATION,
+    REMOVE, SPACE, THREE_NAMES, TWO_NAMES, TWO_NAMES_NAT,
 };
 use grammar::Verdict;
 
@@ -27,6 +28,23 @@ pub fn rest_verdict(row: Row, rest: &[u8]) -> Verdict
         Row::Size => ONE_NAME.column(rest),
         Row::Print => PRINT.column(rest),
         Row::Names => NO_WORDS.column(rest),
+        Row::Meet => THREE_NAMES.column(rest),
+        Row::Hull => THREE_NAMES.column(rest),
+        Row::Closure => TWO_NAMES.column(rest),
+        Row::Contains => TWO_NAMES.column(rest),
+        Row::Equal => TWO_NAMES.column(rest),
+        Row::Disjoint => TWO_NAMES.column(rest),
+        Row::Isempty => ONE_NAME.column(rest),
+        Row::Relation => RELATION.column(rest),
+        Row::Max => OPTIMUM.column(rest),
+        Row::Min => OPTIMUM.column(rest),
+        Row::Image => IMAGE.column(rest),
+        Row::Preimage => IMAGE.column(rest),
+        Row::Embed => TWO_NAMES_NAT.column(rest),
+        Row::Project => TWO_NAMES_NAT.column(rest),
+        Row::Remove => REMOVE.column(rest),
+        Row::Concat => THREE_NAMES.column(rest),
+        Row::Elapse => THREE_NAMES.column(rest),
     }
 }
 

@@ -1,5 +1,5 @@
 use Rattle.script_text.specs.Rows.{rest_form, shape_of}
-use Rattle.script_text.specs.declared.row.Row.TheVariants.{Nothing, Cons, Gens, Universe, Empty, Copy, Drop, Add, Addgen, Has, Size, Print, Names}
+use Rattle.script_text.specs.declared.row.Row.TheVariants.{Nothing, Cons, Gens, Universe, Empty, Copy, Drop, Add, Addgen, Has, Size, Print, Names, Meet, Hull, Closure, Contains, Equal, Disjoint, Isempty, Relation, Max, Min, Image, Preimage, Embed, Project, Remove, Concat, Elapse}
 use Rattle.script_text.proofs.AddTable.{add_decides}
 use Rattle.script_text.proofs.AddgenTable.{addgen_decides}
 use Rattle.script_text.proofs.ConsTable.{cons_decides}
@@ -10,6 +10,12 @@ use Rattle.script_text.proofs.OneNameTable.{one_name_decides}
 use Rattle.script_text.proofs.PrintTable.{print_decides}
 use Rattle.script_text.proofs.SpaceTable.{space_decides}
 use Rattle.script_text.proofs.TwoNamesTable.{two_names_decides}
+use Rattle.script_text.proofs.ThreeNamesTable.{three_names_decides}
+use Rattle.script_text.proofs.RelationTable.{relation_decides}
+use Rattle.script_text.proofs.OptimumTable.{optimum_decides}
+use Rattle.script_text.proofs.ImageTable.{image_decides}
+use Rattle.script_text.proofs.TwoNamesNatTable.{two_names_nat_decides}
+use Rattle.script_text.proofs.RemoveTable.{remove_decides}
 use Rattle.script_text.proofs.shapes.rest_verdict.Goals as goal
 
 pub returns-in-Nothing : goal.returns-in-Nothing
@@ -50,3 +56,54 @@ returns-in-Print c = rw c.in-Print.is (c.column-in-Print.ensures (rest_form (sha
 
 pub returns-in-Names : goal.returns-in-Names
 returns-in-Names c = rw c.in-Names.is (c.column-in-Names.ensures (rest_form (shape_of Names)) no_words_decides)
+
+pub returns-in-Meet : goal.returns-in-Meet
+returns-in-Meet c = rw c.in-Meet.is (c.column-in-Meet.ensures (rest_form (shape_of Meet)) three_names_decides)
+
+pub returns-in-Hull : goal.returns-in-Hull
+returns-in-Hull c = rw c.in-Hull.is (c.column-in-Hull.ensures (rest_form (shape_of Hull)) three_names_decides)
+
+pub returns-in-Closure : goal.returns-in-Closure
+returns-in-Closure c = rw c.in-Closure.is (c.column-in-Closure.ensures (rest_form (shape_of Closure)) two_names_decides)
+
+pub returns-in-Contains : goal.returns-in-Contains
+returns-in-Contains c = rw c.in-Contains.is (c.column-in-Contains.ensures (rest_form (shape_of Contains)) two_names_decides)
+
+pub returns-in-Equal : goal.returns-in-Equal
+returns-in-Equal c = rw c.in-Equal.is (c.column-in-Equal.ensures (rest_form (shape_of Equal)) two_names_decides)
+
+pub returns-in-Disjoint : goal.returns-in-Disjoint
+returns-in-Disjoint c = rw c.in-Disjoint.is (c.column-in-Disjoint.ensures (rest_form (shape_of Disjoint)) two_names_decides)
+
+pub returns-in-Isempty : goal.returns-in-Isempty
+returns-in-Isempty c = rw c.in-Isempty.is (c.column-in-Isempty.ensures (rest_form (shape_of Isempty)) one_name_decides)
+
+pub returns-in-Relation : goal.returns-in-Relation
+returns-in-Relation c = rw c.in-Relation.is (c.column-in-Relation.ensures (rest_form (shape_of Relation)) relation_decides)
+
+pub returns-in-Max : goal.returns-in-Max
+returns-in-Max c = rw c.in-Max.is (c.column-in-Max.ensures (rest_form (shape_of Max)) optimum_decides)
+
+pub returns-in-Min : goal.returns-in-Min
+returns-in-Min c = rw c.in-Min.is (c.column-in-Min.ensures (rest_form (shape_of Min)) optimum_decides)
+
+pub returns-in-Image : goal.returns-in-Image
+returns-in-Image c = rw c.in-Image.is (c.column-in-Image.ensures (rest_form (shape_of Image)) image_decides)
+
+pub returns-in-Preimage : goal.returns-in-Preimage
+returns-in-Preimage c = rw c.in-Preimage.is (c.column-in-Preimage.ensures (rest_form (shape_of Preimage)) image_decides)
+
+pub returns-in-Embed : goal.returns-in-Embed
+returns-in-Embed c = rw c.in-Embed.is (c.column-in-Embed.ensures (rest_form (shape_of Embed)) two_names_nat_decides)
+
+pub returns-in-Project : goal.returns-in-Project
+returns-in-Project c = rw c.in-Project.is (c.column-in-Project.ensures (rest_form (shape_of Project)) two_names_nat_decides)
+
+pub returns-in-Remove : goal.returns-in-Remove
+returns-in-Remove c = rw c.in-Remove.is (c.column-in-Remove.ensures (rest_form (shape_of Remove)) remove_decides)
+
+pub returns-in-Concat : goal.returns-in-Concat
+returns-in-Concat c = rw c.in-Concat.is (c.column-in-Concat.ensures (rest_form (shape_of Concat)) three_names_decides)
+
+pub returns-in-Elapse : goal.returns-in-Elapse
+returns-in-Elapse c = rw c.in-Elapse.is (c.column-in-Elapse.ensures (rest_form (shape_of Elapse)) three_names_decides)
