@@ -1,10 +1,17 @@
 pub mod CutLines
 mod DistinctNames
 mod FaultOrder
+mod FractionLemmas
+mod LatticeLemmas
+mod LatticeOnce
 mod LineLemmas
 mod MakerLemmas
+mod OptimaLemmas
+mod OptimaOnce
+mod MapLemmas
 mod PointLemmas
 mod QuestionLemmas
+mod SaysOnce
 pub mod StepLemmas
 mod StrictTexts
 mod TableLemmas

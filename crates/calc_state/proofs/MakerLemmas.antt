@@ -1,5 +1,5 @@
 -- What came of the commands that read the constraints or generators of a text.
-use Rattle.std.proofs.Common.{◌≡◌, ℕ, ◌+◌, ◌<◌, ◌≤◌, List, [], ◌∷◌, ◌++◌, Err, Ok, Result, IsTrue, Bool, true, false, ◌↔◌, refl, sym, ◌∙◌, ap, subst, inl, inr, arith}
+use Rattle.std.proofs.Common.{◌≡◌, ℕ, ◌<◌, ◌≤◌, List, [], ◌∷◌, ◌++◌, Err, Ok, Result, IsTrue, Bool, true, false, ◌↔◌, refl, sym, ◌∙◌, ap, subst, inl, inr, arith}
 use Rattle.std.specs.Prelude.{All}
 use Rattle.std.proofs.lemmas.List.Elements.{All-nil, All-cons, All-head, All-tail, All-append}
 use Rattle.row_core.specs.declared.errors.Overflow.{Overflow}
@@ -21,18 +21,16 @@ use Rattle.reply_text.specs.declared.faults.Fault.TheVariants.{NoPoint, TooManyN
 use Rattle.expr_text.specs.OneAnswer.{GensHasOneAnswer}
 use Rattle.script_text.specs.declared.command.Part.{Part}
 use Rattle.calc_state.specs.declared.refusal.StepErr.{StepErr}
-use Rattle.calc_state.specs.declared.refusal.StepErr.TheVariants as err
 use Rattle.calc_state.specs.declared.entry.Entry.TheVariants as entry
-use Rattle.calc_state.specs.declared.change.Change.{Change}
 use Rattle.calc_state.specs.declared.change.Change.TheVariants.{Puts}
 use Rattle.calc_state.specs.Table.{Table, HasNoRoom}
-use Rattle.calc_state.specs.Order.{Conditions, NoneOf, IsFirst, Passes}
+use Rattle.calc_state.specs.Order.{NoneOf, IsFirst, Passes}
 use Rattle.calc_state.specs.Refusals.{refusal_of_conversion, refusal_of_generators}
-use Rattle.calc_state.specs.Texts.{text_order, constraints_fault, generators_fault, IsTextRefusal, ReadsConstraints, ReadsGenerators}
+use Rattle.calc_state.specs.Texts.{constraints_fault, generators_fault, IsTextRefusal, ReadsConstraints, ReadsGenerators}
 use Rattle.calc_state.specs.Meaning.{Meaning}
-use Rattle.calc_state.specs.Makers.{SaysConstraints, SaysGenerators, LeavesOnConstraints, LeavesOnGenerators, more_constraints, more_generators, cons, gens, add, addgen}
+use Rattle.calc_state.specs.Makers.{SaysGenerators, LeavesOnConstraints, LeavesOnGenerators, more_constraints, more_generators, cons, gens, add, addgen}
 use Rattle.calc_state.specs.Step.{IsPerformed}
-use Rattle.calc_state.proofs.FaultOrder.{early, late, refused_by_text, refused_late, all_pass}
+use Rattle.calc_state.proofs.FaultOrder.{early, refused_by_text, refused_late, all_pass}
 
 -- ---- conversions
 -- the conversion of constraints was refused

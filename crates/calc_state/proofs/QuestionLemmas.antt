@@ -1,73 +1,30 @@
 -- A question has one reply, and changes nothing.
-use Rattle.std.proofs.Common.{◌≡◌, ℕ, List, Ok, Err, Result, Bool, Option, Some, None, refl, ap, sym, ◌∙◌, subst, inl, inr}
+use Rattle.std.proofs.Common.{◌≡◌, ℕ, List, Ok, Err, Result, Bool, true, false, Option, Some, None, ap, sym, ◌∙◌, subst, inl, inr}
 use Rattle.std.specs.Prelude.{ℤ}
 use Rattle.row_core.specs.declared.errors.Overflow.{Overflow}
 use Rattle.row_core.specs.declared.errors.PairOver.{PairOver}
 use Rattle.cons_sys.specs.Constraints.{Constraints}
 use Rattle.cons_sys.specs.Testing.{Answers}
 use Rattle.cons_sys.specs.Testing.{HasOneAnswer as TestHasOneAnswer}
-use Rattle.expr_text.specs.OneAnswer.{PointHasOneAnswer}
+use Rattle.expr_text.specs.OneAnswer.{ExprHasOneAnswer, ConHasOneAnswer, PointHasOneAnswer}
 use Rattle.poly_pair.specs.Polyhedra.{Polyhedron}
 use Rattle.script_text.specs.declared.command.Command.{Command}
-use Rattle.script_text.specs.declared.command.Command.TheVariants.{Has, Size, Print, Names}
+use Rattle.script_text.specs.declared.command.Command.TheVariants.{Has, Size, Print, Names, Contains, Equal, Isempty, Relation, Max, Min}
 use Rattle.script_text.specs.declared.command.Part.{Part}
 use Rattle.script_text.specs.Line.{SpellsOne, ReadsOnce}
 use Rattle.calc_state.specs.declared.change.Change.{Change}
-use Rattle.calc_state.specs.declared.change.Change.TheVariants.{Says, Puts, TakesOut}
 use Rattle.calc_state.specs.Table.{Table, poly_of}
-use Rattle.calc_state.specs.Order.{order}
-use Rattle.calc_state.specs.Meaning.{Meaning, unknown, on_one, IsSaid, answer_line}
-use Rattle.calc_state.specs.Questions.{says, has, size, print, names, line, size_text, side_text, names_text, SaysPoint, Tells, ShowsPair}
-use Rattle.calc_state.specs.Step.{Reply, Answered, Refused, Overflows, Means, Performs, IsQuestion, lines_of, after}
+use Rattle.calc_state.specs.Meaning.{Meaning, on_one, on_two, answer_line}
+use Rattle.calc_state.specs.Questions.{has, size, print, names, line, size_text, side_text, names_text, SaysPoint, Tells, ShowsPair}
+use Rattle.calc_state.specs.Lattice.{contains, equal, isempty}
+use Rattle.calc_state.specs.Optima.{relation, bound}
+use Rattle.calc_state.specs.Step.{Reply, Performs, IsQuestion, lines_of}
 use Rattle.calc_state.specs.Laws.{HasOneAnswer}
-use Rattle.calc_state.proofs.StepLemmas.{first_once, first_or_none}
-
--- ---- meanings with one reply
--- the meaning says one text or shows one overflow, and changes nothing
-pub record SaysOnce (m : Meaning) : Type 0 where
-  pub one_text : (c d : Change) → m.does c → m.does d → lines_of c ≡ lines_of d
-  pub unchanged : (table : Table) (c : Change) → m.does c → after table c ≡ table
-  pub one_overflow : (o p : Overflow) → m.overflows o → m.overflows p → o ≡ p
-  pub not_both : (c : Change) (o : Overflow) → m.does c → ¬ (m.overflows o)
-
-means_once : (m : Meaning) (old new other : Table) (r s : Reply) → SaysOnce m → Means m old r new → Means m old s other → (r ≡ s) × (new ≡ other)
-means_once m old new other (Answered k) (Answered l) once a b =
-    (ap Answered (a.lines_are ∙ (once.one_text a.change b.change a.does b.does ∙ sym b.lines_are)), a.table ∙ (once.unchanged old a.change a.does ∙ sym (b.table ∙ once.unchanged old b.change b.does)))
-means_once m old new other (Answered k) (Refused g) once a b = absurd (first_or_none order m.conditions g b.0 a.passes)
-means_once m old new other (Answered k) (Overflows o) once a b = absurd (once.not_both a.change o a.does b.1)
-means_once m old new other (Refused f) (Answered l) once a b = absurd (first_or_none order m.conditions f a.0 b.passes)
-means_once m old new other (Refused f) (Refused g) once a b = (ap Refused (first_once order m.conditions f g a.0 b.0), a.1 ∙ sym b.1)
-means_once m old new other (Refused f) (Overflows o) once a b = absurd (first_or_none order m.conditions f a.0 b.0)
-means_once m old new other (Overflows o) (Answered l) once a b = absurd (once.not_both b.change o b.does a.1)
-means_once m old new other (Overflows o) (Refused g) once a b = absurd (first_or_none order m.conditions g b.0 a.0)
-means_once m old new other (Overflows o) (Overflows p) once a b = (ap Overflows (once.one_overflow o p a.1 b.1), a.2 ∙ sym b.2)
-
--- ---- what is said
-said_lines : (lines : List ℕ) (c : Change) → IsSaid lines c → lines_of c ≡ lines
-said_lines lines (Says text) is = is
-said_lines lines (Puts name e) is = absurd is
-said_lines lines (TakesOut name) is = absurd is
-
-said_unchanged : (lines : List ℕ) (table : Table) (c : Change) → IsSaid lines c → after table c ≡ table
-said_unchanged lines table (Says text) is = refl
-said_unchanged lines table (Puts name e) is = absurd is
-said_unchanged lines table (TakesOut name) is = absurd is
-
-says_once : (lines : List ℕ) → SaysOnce (says lines)
-says_once lines = record {
-  one_text = λ c d a b. said_lines lines c a ∙ sym (said_lines lines d b);
-  unchanged = λ table c a. said_unchanged lines table c a;
-  one_overflow = λ o p a b. absurd a;
-  not_both = λ c o a b. b;
-}
-
-unknown_once : SaysOnce unknown
-unknown_once = record {
-  one_text = λ c d a b. absurd a;
-  unchanged = λ table c a. absurd a;
-  one_overflow = λ o p a b. absurd a;
-  not_both = λ c o a b. b;
-}
+use Rattle.lattice_ops.specs.Questions.{HasOneAnswer as PairsHaveOneAnswer}
+use Rattle.calc_state.proofs.SaysOnce.{SaysOnce, means_once, said_lines, said_unchanged, says_once, unknown_once}
+use Rattle.calc_state.proofs.LatticeOnce.{contains_once, equal_once, isempty_once}
+use Rattle.calc_state.proofs.OptimaOnce.{relation_once, bound_once}
+use Rattle.optimum.specs.Laws.{HasOneRelation, HasOneSup}
 
 -- ---- points
 abbrev ok_of : Bool → Result Bool PairOver
@@ -113,17 +70,38 @@ on_one_once : (o : Option Polyhedron) (m : Polyhedron → Meaning) → ((p : Pol
 on_one_once None m once = unknown_once
 on_one_once (Some p) m once = once p
 
-performed_once : PointHasOneAnswer → TestHasOneAnswer → (old new other : Table) (c : Command) (r s : Reply) → IsQuestion c → Performs old c r new → Performs old c s other → (r ≡ s) × (new ≡ other)
-performed_once P T old new other (Has p part) r s is a b = means_once (on_one (poly_of old p) (has part)) old new other r s (on_one_once (poly_of old p) (has part) (λ q. has_once part q P T)) a b
-performed_once P T old new other (Size p) r s is a b = means_once (on_one (poly_of old p) size) old new other r s (on_one_once (poly_of old p) size (λ q. says_once (line (size_text q)))) a b
-performed_once P T old new other (Print side p) r s is a b = means_once (on_one (poly_of old p) (print side)) old new other r s (on_one_once (poly_of old p) (print side) (λ q. says_once (line (side_text side q)))) a b
-performed_once P T old new other Names r s is a b = means_once (names old) old new other r s (says_once (line (names_text old))) a b
-performed_once P T old new other c r s is a b = absurd is
+on_two_once : (o u : Option Polyhedron) (m : Polyhedron → Polyhedron → Meaning) → ((p q : Polyhedron) → SaysOnce (m p q)) → SaysOnce (on_two o u m)
+on_two_once None u m once = unknown_once
+on_two_once (Some p) None m once = unknown_once
+on_two_once (Some p) (Some q) m once = once p q
 
-pub one_answer : SpellsOne → ReadsOnce → PointHasOneAnswer → TestHasOneAnswer → HasOneAnswer
-one_answer S R P T old text r s new other q (inl a) (inl b) =
-    performed_once P T old new other q.command r s q.question
+-- the laws that are cited: a text says one thing, and each call has one answer
+pub record OneOfEach : Type 0 where
+  pub point : PointHasOneAnswer
+  pub constraint : ConHasOneAnswer
+  pub expression : ExprHasOneAnswer
+  pub test : TestHasOneAnswer
+  pub pairs : PairsHaveOneAnswer
+  pub relation : HasOneRelation
+  pub bound : HasOneSup
+
+performed_once : OneOfEach → (old new other : Table) (c : Command) (r s : Reply) → IsQuestion c → Performs old c r new → Performs old c s other → (r ≡ s) × (new ≡ other)
+performed_once laws old new other (Has p part) r s is a b = means_once (on_one (poly_of old p) (has part)) old new other r s (on_one_once (poly_of old p) (has part) (λ q. has_once part q laws.point laws.test)) a b
+performed_once laws old new other (Size p) r s is a b = means_once (on_one (poly_of old p) size) old new other r s (on_one_once (poly_of old p) size (λ q. says_once (line (size_text q)))) a b
+performed_once laws old new other (Print side p) r s is a b = means_once (on_one (poly_of old p) (print side)) old new other r s (on_one_once (poly_of old p) (print side) (λ q. says_once (line (side_text side q)))) a b
+performed_once laws old new other Names r s is a b = means_once (names old) old new other r s (says_once (line (names_text old))) a b
+performed_once laws old new other (Contains p q) r s is a b = means_once (on_two (poly_of old p) (poly_of old q) contains) old new other r s (on_two_once (poly_of old p) (poly_of old q) contains (λ x y. contains_once x y laws.pairs)) a b
+performed_once laws old new other (Equal p q) r s is a b = means_once (on_two (poly_of old p) (poly_of old q) equal) old new other r s (on_two_once (poly_of old p) (poly_of old q) equal (λ x y. equal_once x y laws.pairs)) a b
+performed_once laws old new other (Isempty p) r s is a b = means_once (on_one (poly_of old p) isempty) old new other r s (on_one_once (poly_of old p) isempty isempty_once) a b
+performed_once laws old new other (Relation p part) r s is a b = means_once (on_one (poly_of old p) (relation part)) old new other r s (on_one_once (poly_of old p) (relation part) (λ q. relation_once part q laws.constraint laws.relation)) a b
+performed_once laws old new other (Max p part) r s is a b = means_once (on_one (poly_of old p) (bound true part)) old new other r s (on_one_once (poly_of old p) (bound true part) (λ q. bound_once true part q laws.expression laws.bound)) a b
+performed_once laws old new other (Min p part) r s is a b = means_once (on_one (poly_of old p) (bound false part)) old new other r s (on_one_once (poly_of old p) (bound false part) (λ q. bound_once false part q laws.expression laws.bound)) a b
+performed_once laws old new other c r s is a b = absurd is
+
+pub one_answer : SpellsOne → ReadsOnce → OneOfEach → HasOneAnswer
+one_answer S R laws old text r s new other q (inl a) (inl b) =
+    performed_once laws old new other q.command r s q.question
     (subst (λ (c : Command). Performs old c r new) (S text a.command q.command a.spelled q.spelled) a.performed)
     (subst (λ (c : Command). Performs old c s other) (S text b.command q.command b.spelled q.spelled) b.performed)
-one_answer S R P T old text r s new other q (inl a) (inr b) = absurd (R.spelled text q.command b.fault q.spelled b.cause)
-one_answer S R P T old text r s new other q (inr a) step = absurd (R.spelled text q.command a.fault q.spelled a.cause)
+one_answer S R laws old text r s new other q (inl a) (inr b) = absurd (R.spelled text q.command b.fault q.spelled b.cause)
+one_answer S R laws old text r s new other q (inr a) step = absurd (R.spelled text q.command a.fault q.spelled a.cause)

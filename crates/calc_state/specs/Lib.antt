@@ -5,6 +5,9 @@ pub mod Meaning
 pub mod Texts
 pub mod Makers
 pub mod Questions
+pub mod Lattice
+pub mod Optima
+pub mod Affine
 pub mod Meanings
 pub mod Step
 pub mod Line

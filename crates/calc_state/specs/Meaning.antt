@@ -1,5 +1,5 @@
 -- What a command asks of the table, and what it does there.
-use Rattle.std.specs.Prelude.{◌≡◌, ℕ, ◌<◌, List, Bool, Option, None, Some, ◌∷◌, [], ◌++◌, codes, true, false}
+use Rattle.std.specs.Prelude.{◌≡◌, ◌≢◌, ℕ, ◌<◌, List, Bool, Option, None, Some, ◌∷◌, [], ◌++◌, codes, true, false}
 use Rattle.row_core.specs.declared.errors.Overflow.{Overflow}
 use Rattle.reply_text.specs.declared.faults.Fault.TheVariants as fault
 use Rattle.poly_pair.specs.Polyhedra.{Polyhedron}
@@ -37,6 +37,18 @@ unknown = record { conditions = unknown_name; overflows = no_overflow; does = λ
 abbrev pub on_one : Option Polyhedron → (Polyhedron → Meaning) → Meaning
 on_one None meaning = unknown
 on_one (Some p) meaning = meaning p
+
+-- the command reads two
+abbrev pub on_two : Option Polyhedron → Option Polyhedron → (Polyhedron → Polyhedron → Meaning) → Meaning
+on_two None q meaning = unknown
+on_two (Some p) None meaning = unknown
+on_two (Some p) (Some q) meaning = meaning p q
+
+-- two operands have one topology and one dimension
+abbrev pub alike : Polyhedron → Polyhedron → Conditions → Conditions
+alike p q others fault.TopologyMismatch = p.topology ≢ q.topology
+alike p q others fault.DimMismatch = p.cons.dim ≢ q.cons.dim
+alike p q others other = others other
 
 -- a result needs room for its name
 abbrev pub room : Table → List ℕ → Conditions

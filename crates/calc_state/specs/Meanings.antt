@@ -3,11 +3,14 @@ use Rattle.std.specs.Prelude.{[], Bool, true, false}
 use Rattle.poly_pair.specs.declared.topology.Topology.{Topology}
 use Rattle.poly_pair.specs.declared.topology.Topology.TheVariants.{Closed, Nnc}
 use Rattle.script_text.specs.declared.command.Command.{Command}
-use Rattle.script_text.specs.declared.command.Command.TheVariants.{Nothing, Cons, Gens, Universe, Empty, Copy, Drop, Add, Addgen, Has, Size, Print, Names}
+use Rattle.script_text.specs.declared.command.Command.TheVariants.{Nothing, Cons, Gens, Universe, Empty, Copy, Drop, Add, Addgen, Has, Size, Print, Names, Meet, Hull, Closure, Contains, Equal, Disjoint, Isempty, Relation, Max, Min, Embed, Project, Concat, Elapse, Image, Preimage, Remove}
 use Rattle.calc_state.specs.Table.{Table, entry_of, poly_of}
-use Rattle.calc_state.specs.Meaning.{Meaning, on_one}
+use Rattle.calc_state.specs.Meaning.{Meaning, unknown, on_one, on_two}
 use Rattle.calc_state.specs.Makers.{cons, gens, universe, empty, copy, drop_of, add, addgen}
 use Rattle.calc_state.specs.Questions.{says, has, size, print, names}
+use Rattle.calc_state.specs.Optima.{relation, bound}
+use Rattle.calc_state.specs.Lattice.{meet, hull, closure, contains, equal, disjoint, isempty}
+use Rattle.calc_state.specs.Affine.{embed, project, concat, elapse, image, preimage, remove}
 
 -- the topology of a line, by whether its word is nnc
 abbrev pub topology_of : Bool → Topology
@@ -29,3 +32,20 @@ meaning table (Has p part) = on_one (poly_of table p) (has part)
 meaning table (Size p) = on_one (poly_of table p) size
 meaning table (Print side p) = on_one (poly_of table p) (print side)
 meaning table Names = names table
+meaning table (Meet out p q) = on_two (poly_of table p) (poly_of table q) (meet table out)
+meaning table (Hull out p q) = on_two (poly_of table p) (poly_of table q) (hull table out)
+meaning table (Closure out p) = on_one (poly_of table p) (closure table out)
+meaning table (Contains p q) = on_two (poly_of table p) (poly_of table q) contains
+meaning table (Equal p q) = on_two (poly_of table p) (poly_of table q) equal
+meaning table (Disjoint p q) = on_two (poly_of table p) (poly_of table q) disjoint
+meaning table (Isempty p) = on_one (poly_of table p) isempty
+meaning table (Relation p part) = on_one (poly_of table p) (relation part)
+meaning table (Max p part) = on_one (poly_of table p) (bound true part)
+meaning table (Min p part) = on_one (poly_of table p) (bound false part)
+meaning table (Embed out p n) = on_one (poly_of table p) (embed table out n)
+meaning table (Project out p n) = on_one (poly_of table p) (project table out n)
+meaning table (Concat out p q) = on_two (poly_of table p) (poly_of table q) (concat table out)
+meaning table (Elapse out p q) = on_two (poly_of table p) (poly_of table q) (elapse table out)
+meaning table (Image out p v part) = on_one (poly_of table p) (image table out v part)
+meaning table (Preimage out p v part) = on_one (poly_of table p) (preimage table out v part)
+meaning table (Remove out p vars) = on_one (poly_of table p) (remove table out vars)

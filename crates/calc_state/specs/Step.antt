@@ -7,7 +7,7 @@ use Rattle.gens_sys.specs.Generators as gens
 use Rattle.poly_pair.specs.Polyhedra.{Polyhedron, IsKept}
 use Rattle.reply_text.specs.declared.faults.Fault.{Fault}
 use Rattle.script_text.specs.declared.command.Command.{Command}
-use Rattle.script_text.specs.declared.command.Command.TheVariants.{Has, Size, Print, Names}
+use Rattle.script_text.specs.declared.command.Command.TheVariants.{Has, Size, Print, Names, Contains, Equal, Isempty, Relation, Max, Min}
 use Rattle.calc_state.specs.declared.entry.Entry.TheVariants as entry
 use Rattle.calc_state.specs.declared.change.Change.{Change}
 use Rattle.calc_state.specs.declared.change.Change.TheVariants.{Says, Puts, TakesOut}
@@ -134,6 +134,12 @@ IsQuestion (Has p part) = Unit {0}
 IsQuestion (Size p) = Unit {0}
 IsQuestion (Print side p) = Unit {0}
 IsQuestion Names = Unit {0}
+IsQuestion (Contains p q) = Unit {0}
+IsQuestion (Equal p q) = Unit {0}
+IsQuestion (Isempty p) = Unit {0}
+IsQuestion (Relation p part) = Unit {0}
+IsQuestion (Max p part) = Unit {0}
+IsQuestion (Min p part) = Unit {0}
 IsQuestion other = ⊥
 
 -- the reply is what was given, or memory ran out

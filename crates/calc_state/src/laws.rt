@@ -20,6 +20,9 @@ pub fn one_reply()
     reads_once();
     expr_text::one_answer();
     cons_sys::one_answer();
+    lattice_ops::laws::one_answer();
+    optimum::laws::one_relation();
+    optimum::laws::one_sup();
 }
 
 /// No two entries of the calculator's table have the same name: the empty table has none, and each

@@ -6,12 +6,15 @@
 //!   contracts cite.
 #![tactic(auto)]
 
+mod affine;
 mod calc;
 mod change;
 mod entry;
+mod lattice;
 mod laws;
 mod makers;
 mod names;
+mod optima;
 mod perform;
 mod questions;
 mod refusal;
@@ -20,6 +23,3 @@ mod texts;
 pub use calc::Calc;
 pub use laws::{names_stay_distinct, one_first, one_reply};
 pub use refusal::StepErr;
-
-#[cfg(test)]
-mod tests;

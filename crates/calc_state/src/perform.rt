@@ -4,13 +4,16 @@ ghost use Rattle.script_text.specs.Line.{PartsMatch, PartsTold};
 ghost use Rattle.calc_state.specs.Meanings.{topology_of as named_topology, meaning};
 ghost use Rattle.calc_state.specs.Step.{IsPerformed};
 
+use crate::affine::{concat, elapse, embed, image, preimage, project, remove};
 use crate::change::Change;
+use crate::lattice::{closure, contains, disjoint, equal, hull, isempty, meet};
 use crate::makers::{add, addgen, cons, copy, drop_name, empty, gens, universe};
 use crate::names::Names;
+use crate::optima::{bound, relation};
 use crate::questions::{has, name_list, print, size};
 use crate::refusal::StepErr;
 use poly_pair::Topology;
-use reply_text::Text;
+use reply_text::{Fault, Text};
 use row_core::Steps;
 use script_text::Command;
 use std::alloc::Global;
@@ -64,5 +67,58 @@ pub fn perform<L: Ledger>(
         Command::Size { p } => size(alloc, names.poly(p.bytes())),
         Command::Print { side, p } => print(alloc, side, names.poly(p.bytes())),
         Command::Names => name_list(alloc, names),
+        Command::Meet { out, p, q } => {
+            let (one, other) = (names.poly(p.bytes()), names.poly(q.bytes()));
+            meet(alloc, names, out, one, other, steps)
+        }
+        Command::Hull { out, p, q } => {
+            let (one, other) = (names.poly(p.bytes()), names.poly(q.bytes()));
+            hull(alloc, names, out, one, other, steps)
+        }
+        Command::Closure { out, p } => closure(alloc, names, out, names.poly(p.bytes()), steps),
+        Command::Contains { p, q } => {
+            contains(alloc, names.poly(p.bytes()), names.poly(q.bytes()))
+        }
+        Command::Equal { p, q } => equal(alloc, names.poly(p.bytes()), names.poly(q.bytes())),
+        Command::Disjoint { p, q } => {
+            disjoint(alloc, names.poly(p.bytes()), names.poly(q.bytes()), steps)
+        }
+        Command::Isempty { p } => isempty(alloc, names.poly(p.bytes())),
+        Command::Relation { p, con: part } => relation(alloc, names.poly(p.bytes()), &part),
+        Command::Max { p, expr: part } => bound(alloc, true, names.poly(p.bytes()), &part),
+        Command::Min { p, expr: part } => bound(alloc, false, names.poly(p.bytes()), &part),
+        Command::Embed { out, p, n } => embed(alloc, names, out, names.poly(p.bytes()), n, steps),
+        Command::Project { out, p, n } => {
+            project(alloc, names, out, names.poly(p.bytes()), n, steps)
+        }
+        Command::Concat { out, p, q } => {
+            let (one, other) = (names.poly(p.bytes()), names.poly(q.bytes()));
+            concat(alloc, names, out, one, other, steps)
+        }
+        Command::Elapse { out, p, q } => {
+            let (one, other) = (names.poly(p.bytes()), names.poly(q.bytes()));
+            elapse(alloc, names, out, one, other, steps)
+        }
+        Command::Image {
+            out,
+            p,
+            v,
+            frac: part,
+        } => {
+            let found = names.poly(p.bytes());
+            image(alloc, names, out, found, v, &part, steps)
+        }
+        Command::Preimage {
+            out,
+            p,
+            v,
+            frac: part,
+        } => {
+            let found = names.poly(p.bytes());
+            preimage(alloc, names, out, found, v, &part, steps)
+        }
+        Command::Remove { out, p, vars } => {
+            remove(alloc, names, out, names.poly(p.bytes()), &vars, steps)
+        }
     }
 }

@@ -100,7 +100,7 @@ pub fn has(alloc: Global, p: Option<&Poly>, part: &Part) -> Result<Change, StepE
 }
 
 /// The line `yes` or `no`.
-fn answer(alloc: Global, holds: bool) -> Result<Text, Memory>
+pub fn answer(alloc: Global, holds: bool) -> Result<Text, Memory>
     ensures { IfOk result (λ text. text ≡ answer_line holds) }
 {
     let mut text = Text::new(alloc);

@@ -1,41 +1,30 @@
 -- Accepted commands give a name one set at most.
-use Rattle.std.proofs.Common.{◌≡◌, ◌⊎◌, inl, inr, ℕ, zero, suc, ◌<◌, List, [], ◌∷◌, length, refl, ap, sym, ◌∙◌, subst, Bool, true, false, arith}
+use Rattle.std.proofs.Common.{◌≡◌, ℕ, List, [], ◌∷◌, refl, sym, ◌∙◌, subst, Bool, true, false}
 use Rattle.std.specs.Prelude.{◌↔◌, MatchBool, ℤ}
 use Rattle.row_core.specs.Points.{IsPoint}
 use Rattle.cons_sys.specs.Constraints.{Constraints, In}
-use Rattle.gens_sys.specs.declared.kind.GenKind.{GenKind}
-use Rattle.gens_sys.specs.declared.kind.GenKind.TheVariants.{Line, Ray, Point, ClosurePoint}
-use Rattle.gens_sys.specs.Generators.{Generator, Generators, kind_at}
+use Rattle.gens_sys.specs.Generators.{Generators}
 use Rattle.gens_sys.specs.Spans.{Span}
 use Rattle.term_text.specs.Systems.{IsCons}
 use Rattle.expr_text.specs.GeneratorSystems.{IsGens}
-use Rattle.expr_text.specs.OneAnswer.{ConsHasOneAnswer, GensHasOneAnswer}
-use Rattle.pair_laws.specs.PointSets.{HoldSame}
-use Rattle.pair_laws.specs.StoredLaws.{StoredIsUnique, AreSameSystems}
-use Rattle.nnc_laws.specs.EncodedGenerators.{HasPoint}
-use Rattle.joined_sets.specs.JoinedSets.{AreOfSet, GenerateSame, JoinedSetsAreSame}
-use Rattle.poly_pair.specs.KeptLaws.{KeptIsPair, KeptIsEmpty}
-use Rattle.poly_pair.specs.Polyhedra.{Polyhedron, IsStoredAs, HasNoPoint, IsOver, IsOfConstraints, IsOfGenerators, IsUniverse, IsEmpty}
+use Rattle.set_laws.specs.JoinedSets.{GenerateSame}
+use Rattle.poly_pair.specs.Polyhedra.{Polyhedron, IsOver, IsOfConstraints, IsOfGenerators, IsUniverse, IsEmpty}
 use Rattle.poly_pair.specs.declared.topology.Topology.{Topology}
-use Rattle.poly_pair.specs.declared.topology.Topology.TheVariants.{Closed, Nnc}
+use Rattle.lattice_ops.specs.Sets.{IsMeet, IsHull, IsClosure}
+use Rattle.affine_ops.specs.Results.{IsProjection, IsProduct}
+use Rattle.elapse.specs.Elapses.{IsElapse}
 use Rattle.script_text.specs.declared.command.Part.{Part}
 use Rattle.script_text.specs.declared.command.Command.{Command}
-use Rattle.script_text.specs.declared.command.Command.TheVariants.{Cons, Gens, Universe, Empty, Copy, Add, Addgen}
+use Rattle.script_text.specs.declared.command.Command.TheVariants.{Cons, Gens, Universe, Empty, Copy, Add, Addgen, Meet, Hull, Closure, Embed, Project, Concat, Elapse, Image, Preimage, Remove}
 use Rattle.calc_state.specs.Makers.{SaysConstraints, SaysGenerators, more_generators}
+use Rattle.calc_state.specs.Affine.{IsEmbedded, IsRemoved, IsImageBy, IsPreimageBy}
 use Rattle.calc_state.specs.Meanings.{topology_of}
 use Rattle.calc_state.specs.Step.{IsProper}
-use Rattle.polycalc.specs.Sets.{IsMade, IsCut, IsAdded, IsJoined, sets, Gives, IsSetOf}
+use Rattle.polycalc.specs.Sets.{IsMade, IsCut, IsAdded, IsJoined, IsOfAlike, sets, Gives, IsSetOf}
 use Rattle.polycalc.specs.Sameness.{AreSamePolyhedra}
-
--- the laws that are cited: a text says one system; a closed set is stored in one way; both systems of a polyhedron hold
--- the same points, and there is no generator where there is none; what is joined to generators adds to their points alone
-pub record OneForm : Type 0 where
-  pub cons : ConsHasOneAnswer
-  pub gens : GensHasOneAnswer
-  pub stored : StoredIsUnique
-  pub pair : KeptIsPair
-  pub empty : KeptIsEmpty
-  pub joined : JoinedSetsAreSame
+use Rattle.polycalc.proofs.OneForm.{OneForm, same_dims, of_set, one_of_points}
+use Rattle.polycalc.proofs.OneResult.{one_of_one, one_of_two, one_meet, one_hull, one_closure}
+use Rattle.polycalc.proofs.OneMap.{one_embedded, one_projection, one_product, one_elapse, one_image_by, one_preimage_by, one_removed}
 
 -- ---- what each set keeps
 given_proper : (c : Command) (Had : List ℕ → Polyhedron → Type 0) (p : Polyhedron) → ((name : List ℕ) (x : Polyhedron) → Had name x → IsProper x) → Gives c Had p → IsProper p
@@ -46,6 +35,16 @@ given_proper (Empty out top n) Had p kept h = h.proper
 given_proper (Copy out other) Had p kept h = kept other p h
 given_proper (Add out part) Had p kept h = h.made.proper
 given_proper (Addgen out part) Had p kept h = h.made.proper
+given_proper (Meet out one other) Had p kept h = h.made.proper
+given_proper (Hull out one other) Had p kept h = h.made.proper
+given_proper (Closure out other) Had p kept h = h.made.proper
+given_proper (Embed out other n) Had p kept h = h.made.proper
+given_proper (Project out other n) Had p kept h = h.made.proper
+given_proper (Concat out one other) Had p kept h = h.made.proper
+given_proper (Elapse out one other) Had p kept h = h.made.proper
+given_proper (Image out other v part) Had p kept h = h.made.proper
+given_proper (Preimage out other v part) Had p kept h = h.made.proper
+given_proper (Remove out other vars) Had p kept h = h.made.proper
 given_proper other Had p kept h = absurd h
 
 one_case : (b : Bool) (A B E : Type 0) → (A → E) → (B → E) → MatchBool b A B → E
@@ -57,73 +56,7 @@ pub set_proper : (commands : List Command) (name : List ℕ) (p : Polyhedron) �
 set_proper [] name p h = absurd h
 set_proper (c ∷ earlier) name p h = one_case (sets c name) (Gives c (IsSetOf earlier) p) (IsSetOf earlier name p) (IsProper p) (given_proper c (IsSetOf earlier) p (set_proper earlier)) (set_proper earlier name p) h
 
--- both systems have one dimension
-stored_dims : (t : Topology) (p : Polyhedron) → IsStoredAs t p.cons p.gens → p.gens.dim ≡ p.cons.dim
-stored_dims Closed p (inl e) = e.same_dim
-stored_dims Closed p (inr f) = f.same_dim
-stored_dims Nnc p (inl e) = e.same_dim
-stored_dims Nnc p (inr f) = f.same_dim
-
-pub same_dims : (p : Polyhedron) → IsProper p → p.gens.dim ≡ p.cons.dim
-same_dims p a = stored_dims p.topology p a.kept.stored
-
--- some generator is a point, or none is
-point_or_none : (list : List Generator) → HasPoint list ⊎ ((i : ℕ) → i < length list → ¬ (kind_at list i ≡ Point))
-point_or_none [] = inr (λ i h. absurd (omega (arith, h)))
-point_or_none (g ∷ list) = by_first (point_or_not g.1) (point_or_none list)
-  where
-    point_or_not : (k : GenKind) → (k ≡ Point) ⊎ (¬ (k ≡ Point))
-    point_or_not Line = inr (λ e. cc)
-    point_or_not Ray = inr (λ e. cc)
-    point_or_not Point = inl refl
-    point_or_not ClosurePoint = inr (λ e. cc)
-
-    none_at : ¬ (g.1 ≡ Point) → ((i : ℕ) → i < length list → ¬ (kind_at list i ≡ Point)) → (i : ℕ) → i < suc (length list) → ¬ (kind_at (g ∷ list) i ≡ Point)
-    none_at n others zero h = n
-    none_at n others (suc i) h = others i (omega (arith, h))
-
-    by_first : (g.1 ≡ Point) ⊎ (¬ (g.1 ≡ Point)) → HasPoint list ⊎ ((i : ℕ) → i < length list → ¬ (kind_at list i ≡ Point)) → HasPoint (g ∷ list) ⊎ ((i : ℕ) → i < length (g ∷ list) → ¬ (kind_at (g ∷ list) i ≡ Point))
-    by_first (inl e) others = inl (record { number = 0; below = omega arith; kind = e })
-    by_first (inr n) (inl p) = inl (record { number = suc p.number; below = omega (arith, p.below); kind = p.kind })
-    by_first (inr n) (inr others) = inr (none_at n others)
-
--- the generators of a polyhedron are none, or one of them is a point
-of_set : OneForm → (p : Polyhedron) → IsProper p → AreOfSet p.gens
-of_set laws p a = record { fit = a.gens; point = by_search (point_or_none p.gens.list) }
-  where
-    no_points : ((i : ℕ) → i < length p.gens.list → ¬ (kind_at p.gens.list i ≡ Point)) → HasNoPoint p
-    no_points none v w = let s = (laws.pair p a.kept v w.point).0 w.holds in none s.point.index s.point.within s.point.kind
-
-    by_search : HasPoint p.gens.list ⊎ ((i : ℕ) → i < length p.gens.list → ¬ (kind_at p.gens.list i ≡ Point)) → (p.gens.list ≡ []) ⊎ HasPoint p.gens.list
-    by_search (inl h) = inr h
-    by_search (inr none) = inl ((laws.empty p a.kept).1 (no_points none))
-
 -- ---- one set of points
-abbrev of_parts : Topology → Constraints → Generators → Polyhedron
-of_parts t cs gs = record { topology = t; cons = cs; gens = gs }
-
-same_parts : (p q : Polyhedron) → p.topology ≡ q.topology → p.cons ≡ q.cons → p.gens ≡ q.gens → p ≡ q
-same_parts p q t c g = ap (λ (x : Topology). of_parts x p.cons p.gens) t ∙ ap (λ (x : Constraints). of_parts q.topology x p.gens) c ∙ ap (λ (x : Generators). of_parts q.topology q.cons x) g
-
--- two polyhedra of one topology and dimension that hold at the same points
-pub one_of_points : OneForm → (t : Topology) (dim : ℕ) (Has : List ℤ → Type 0) (p q : Polyhedron) → IsProper p → IsProper q → IsOver t dim p → IsOver t dim q →
-    ((v : List ℤ) → IsPoint dim v → Has v ↔ In p.cons v) → ((v : List ℤ) → IsPoint dim v → Has v ↔ In q.cons v) → AreSamePolyhedra p q
-one_of_points laws t dim Has p q a b d e h k = record {
-  topology = d.same_topology ∙ sym e.same_topology;
-  dim = d.same_dim ∙ sym e.same_dim;
-  points = points;
-  closed = λ c. same_parts p q (d.same_topology ∙ sym e.same_topology) (forms c).cons (forms c).gens;
-}
-  where
-    points : HoldSame p.cons q.cons
-    points v is = let at = subst (λ (n : ℕ). IsPoint n v) d.same_dim is in (λ x. (k v at).0 ((h v at).1 x), λ x. (h v at).0 ((k v at).1 x))
-
-    forms : p.topology ≡ Closed → AreSameSystems p.cons q.cons p.gens q.gens
-    forms c =
-        (laws.stored p.cons q.cons p.gens q.gens (d.same_dim ∙ sym e.same_dim)
-        (subst (λ (s : Topology). IsStoredAs s p.cons p.gens) c a.kept.stored)
-        (subst (λ (s : Topology). IsStoredAs s q.cons q.gens) (e.same_topology ∙ sym d.same_topology ∙ c) b.kept.stored)).0 points
-
 one_of_constraints : OneForm → (t : Topology) (cs : Constraints) (p q : Polyhedron) → IsProper p → IsProper q → IsOfConstraints t cs p → IsOfConstraints t cs q → AreSamePolyhedra p q
 one_of_constraints laws t cs p q a b h k = one_of_points laws t cs.dim (In cs) p q a b h.over k.over h.points k.points
 
@@ -228,6 +161,16 @@ one_given laws (Empty out top n) Had p q kept one h k = one_empty laws (topology
 one_given laws (Copy out other) Had p q kept one h k = one other p q h k
 one_given laws (Add out part) Had p q kept one h k = one_added laws (Had out) part p q (one out) h k
 one_given laws (Addgen out part) Had p q kept one h k = one_joined laws (Had out) part p q (kept out) (one out) h k
+one_given laws (Meet out name other) Had p q kept one h k = one_of_two (Had name) (Had other) (IsOfAlike IsMeet) p q (one name) (one other) (one_meet laws) h k
+one_given laws (Hull out name other) Had p q kept one h k = one_of_two (Had name) (Had other) (IsOfAlike IsHull) p q (one name) (one other) (one_hull laws) h k
+one_given laws (Closure out other) Had p q kept one h k = one_of_one (Had other) IsClosure p q (one other) (one_closure laws) h k
+one_given laws (Embed out other n) Had p q kept one h k = one_of_one (Had other) (IsEmbedded n) p q (one other) (one_embedded laws n) h k
+one_given laws (Project out other n) Had p q kept one h k = one_of_one (Had other) (IsProjection n) p q (one other) (one_projection laws n) h k
+one_given laws (Concat out name other) Had p q kept one h k = one_of_two (Had name) (Had other) IsProduct p q (one name) (one other) (one_product laws) h k
+one_given laws (Elapse out name other) Had p q kept one h k = one_of_two (Had name) (Had other) (IsOfAlike IsElapse) p q (one name) (one other) (one_elapse laws) h k
+one_given laws (Image out other v part) Had p q kept one h k = one_of_one (Had other) (IsImageBy v part) p q (one other) (one_image_by laws v part) h k
+one_given laws (Preimage out other v part) Had p q kept one h k = one_of_one (Had other) (IsPreimageBy v part) p q (one other) (one_preimage_by laws v part) h k
+one_given laws (Remove out other vars) Had p q kept one h k = one_of_one (Had other) (IsRemoved vars) p q (one other) (one_removed laws vars) h k
 one_given laws other Had p q kept one h k = absurd h
 
 pub one_set : OneForm → (commands : List Command) (name : List ℕ) (p q : Polyhedron) → IsSetOf commands name p → IsSetOf commands name q → AreSamePolyhedra p q

@@ -13,7 +13,8 @@ use Rattle.calc_state.specs.Table.{Table, entry_of, as_poly}
 use Rattle.polycalc.specs.Sets.{IsSetOf}
 use Rattle.polycalc.specs.Sameness.{AreSamePolyhedra, AreSameEntries, AreSameTables}
 use Rattle.polycalc.proofs.TableLaws.{distinct_keys, none_there}
-use Rattle.polycalc.proofs.OneSet.{OneForm, one_set}
+use Rattle.polycalc.proofs.OneForm.{OneForm}
+use Rattle.polycalc.proofs.OneSet.{one_set}
 use Rattle.polycalc.proofs.SetLaws.{Stands, Agrees}
 
 -- both are nothing, or both the same polyhedron

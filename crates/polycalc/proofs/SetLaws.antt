@@ -6,30 +6,39 @@ use Rattle.std.specs.Map.{keys_of}
 use Rattle.std.proofs.lemmas.List.Elements.{All-append}
 use Rattle.cons_sys.specs.Constraints.{Constraints, Satisfies}
 use Rattle.pair_laws.proofs.ListLemmas.{All-left, All-right}
-use Rattle.poly_pair.specs.Polyhedra.{Polyhedron, IsOfConstraints, IsOfGenerators, IsUniverse, IsEmpty}
+use Rattle.poly_pair.specs.Polyhedra.{Polyhedron, HasNoPoint, IsOfConstraints, IsOfGenerators, IsUniverse, IsEmpty}
+use Rattle.lattice_ops.specs.Sets.{IsMeet, IsHull, IsClosure, IsIncluded, HaveSamePoints, AreDisjoint}
+use Rattle.affine_ops.specs.Results.{IsProjection, IsProduct}
+use Rattle.elapse.specs.Elapses.{IsElapse}
 use Rattle.script_text.specs.declared.command.Part.{Part}
 use Rattle.script_text.specs.declared.command.Command.{Command}
-use Rattle.script_text.specs.declared.command.Command.TheVariants.{Nothing, Cons, Gens, Universe, Empty, Copy, Drop, Add, Addgen, Has, Size, Print, Names}
+use Rattle.script_text.specs.declared.command.Command.TheVariants.{Nothing, Cons, Gens, Universe, Empty, Copy, Drop, Add, Addgen, Has, Size, Print, Names, Meet, Hull, Closure, Contains, Equal, Disjoint, Isempty, Relation, Max, Min, Embed, Project, Concat, Elapse, Image, Preimage, Remove}
 use Rattle.calc_state.specs.declared.entry.Entry.{Entry}
 use Rattle.calc_state.specs.declared.entry.Entry.TheVariants as entry
 use Rattle.calc_state.specs.declared.change.Change.{Change}
 use Rattle.calc_state.specs.declared.change.Change.TheVariants.{Says, Puts, TakesOut}
 use Rattle.calc_state.specs.Table.{Table, entry_of, as_poly, poly_of, put, HasDistinctNames}
-use Rattle.calc_state.specs.Meaning.{IsSaid, IsPut, IsTakenOut, on_one, answer_line}
+use Rattle.calc_state.specs.Order.{Passes}
+use Rattle.calc_state.specs.Meaning.{Meaning, IsSaid, IsPut, IsTakenOut, on_one, on_two, room, answer_line}
 use Rattle.calc_state.specs.Meanings.{meaning, topology_of}
 use Rattle.calc_state.specs.Makers.{SaysConstraints, SaysGenerators, more_constraints, more_generators, copy, drop_of, add, addgen}
 use Rattle.calc_state.specs.Questions.{has, size, print, line, size_text, side_text, names_text}
+use Rattle.calc_state.specs.Optima.{relation, bound, relation_text, bound_text}
+use Rattle.calc_state.specs.Lattice.{meet, hull, closure, contains, equal, disjoint, isempty, IsTold}
+use Rattle.calc_state.specs.Affine.{embed, project, concat, elapse, image, preimage, remove, IsEmbedded, IsRemoved, IsImageBy, IsPreimageBy}
 use Rattle.calc_state.specs.Step.{Reply, Answered, Refused, Overflows, IsAccepted, PutsProper, after}
 use Rattle.calc_state.specs.Line.{Step, Accepts, Unspelled}
 use Rattle.calc_state.specs.Laws.{KeepsNamesDistinct}
 use Rattle.script_text.specs.Line.{Spells}
 use Rattle.polycalc.specs.Replies.{is_answer}
 use Rattle.polycalc.specs.Runs.{Run}
-use Rattle.polycalc.specs.Sets.{AreAccepted, IsMade, IsCut, sets, Gives, IsSetOf, with_name, less_name, names_of}
+use Rattle.polycalc.specs.Sets.{AreAccepted, IsMade, IsCut, IsMadeOfOne, IsMadeOfTwo, IsOfAlike, sets, Gives, IsSetOf, with_name, less_name, names_of}
 use Rattle.polycalc.specs.Laws.{IsUnder, AreAsCommanded}
 use Rattle.polycalc.proofs.StepLaws.{refused_unchanged}
 use Rattle.polycalc.proofs.TableLaws.{entry_of-put, entry_of-without, distinct_keys, names-put, names-put_there, names-without}
-use Rattle.polycalc.proofs.OneSet.{OneForm, set_proper, one_set}
+use Rattle.polycalc.proofs.Operands.{put_alike}
+use Rattle.polycalc.proofs.OneForm.{OneForm}
+use Rattle.polycalc.proofs.OneSet.{set_proper, one_set}
 
 -- the polyhedron is such a one, and there is none exactly where there is no such one
 abbrev pub Stands : Option Polyhedron → (Polyhedron → Type 0) → Type 0
@@ -157,6 +166,23 @@ addgen_follows old new earlier out text part (Some q) a s e p =
     (λ r is. record { old = q; was = s; made = is })
     (λ x. names-put_there old out x (entry.Poly q) (entry_there (entry_of old out) q e) ∙ a.names)
 
+-- a command that makes its result of one operand
+one_follows : (old new : Table) (earlier : List Command) (c : Command) (out name text : List ℕ) (m : Polyhedron → Meaning) (Is : Polyhedron → Polyhedron → Type 0) (o : Option Polyhedron) → Agrees old earlier → Stands o (IsSetOf earlier name) →
+    ((n : List ℕ) → sets c n ≡ bytes_eq n out) → ((r : Polyhedron) → IsMadeOfOne (IsSetOf earlier name) Is r → Gives c (IsSetOf earlier) r) → ((e : Entry) → keys_of (put old out e) ≡ names_of (c ∷ earlier)) →
+    ((x : Polyhedron) (change : Change) → Passes (m x).conditions → (m x).does change → IsPut out (Is x) change) → IsAccepted (on_one o m) old text new → Follows new earlier c
+one_follows old new earlier c out name text m Is None a s own gives names puts p = absurd p.does
+one_follows old new earlier c out name text m Is (Some q) a s own gives names puts p =
+    put_follows old new earlier c out (Is q) p.change a (puts q p.change p.passes p.does) p.proper p.table own (λ r made. gives r (record { operand = q; was = s; made = made })) names
+
+-- of two operands
+two_follows : (old new : Table) (earlier : List Command) (c : Command) (out name other text : List ℕ) (m : Polyhedron → Polyhedron → Meaning) (Is : Polyhedron → Polyhedron → Polyhedron → Type 0) (o u : Option Polyhedron) → Agrees old earlier → Stands o (IsSetOf earlier name) → Stands u (IsSetOf earlier other) →
+    ((n : List ℕ) → sets c n ≡ bytes_eq n out) → ((r : Polyhedron) → IsMadeOfTwo (IsSetOf earlier name) (IsSetOf earlier other) Is r → Gives c (IsSetOf earlier) r) → ((e : Entry) → keys_of (put old out e) ≡ names_of (c ∷ earlier)) →
+    ((x y : Polyhedron) (change : Change) → Passes (m x y).conditions → (m x y).does change → IsPut out (Is x y) change) → IsAccepted (on_two o u m) old text new → Follows new earlier c
+two_follows old new earlier c out name other text m Is None u a s t own gives names puts p = absurd p.does
+two_follows old new earlier c out name other text m Is (Some q) None a s t own gives names puts p = absurd p.does
+two_follows old new earlier c out name other text m Is (Some q) (Some r) a s t own gives names puts p =
+    put_follows old new earlier c out (Is q r) p.change a (puts q r p.change p.passes p.does) p.proper p.table own (λ x made. gives x (record { first = q; second = r; was_first = s; was_second = t; made = made })) names
+
 -- the change only says something
 record OnlySays (change : Change) : Type 0 where
   lines : List ℕ
@@ -173,6 +199,24 @@ size_says (Some q) change h = record { lines = line (size_text q); said = h }
 print_says : (side : Bool) (o : Option Polyhedron) (change : Change) → (on_one o (print side)).does change → OnlySays change
 print_says side None change h = absurd h
 print_says side (Some q) change h = record { lines = line (side_text side q); said = h }
+
+two_say : (m : Polyhedron → Polyhedron → Meaning) (o u : Option Polyhedron) (change : Change) → ((x y : Polyhedron) → (m x y).does change → OnlySays change) → (on_two o u m).does change → OnlySays change
+two_say m None u change say h = absurd h
+two_say m (Some q) None change say h = absurd h
+two_say m (Some q) (Some r) change say h = say q r h
+
+told_says : (Statement : Type 0) (change : Change) → IsTold Statement change → OnlySays change
+told_says Statement change h = record { lines = answer_line h.holds; said = h.said }
+
+one_say : (m : Polyhedron → Meaning) (o : Option Polyhedron) (change : Change) → ((x : Polyhedron) → (m x).does change → OnlySays change) → (on_one o m).does change → OnlySays change
+one_say m None change say h = absurd h
+one_say m (Some q) change say h = say q h
+
+relation_says : (part : Part) (q : Polyhedron) (change : Change) → (relation part q).does change → OnlySays change
+relation_says part q change h = record { lines = line (relation_text h.holds.flags); said = h.holds.said }
+
+bound_says : (up : Bool) (part : Part) (q : Polyhedron) (change : Change) → (bound up part q).does change → OnlySays change
+bound_says up part q change h = record { lines = line (bound_text q.gens h.holds.bound); said = h.holds.said }
 
 -- what an accepted command leaves is what the commands give
 accepted_follows : (old new : Table) (earlier : List Command) (c : Command) (text : List ℕ) → Agrees old earlier → IsAccepted (meaning old c) old text new → Follows new earlier c
@@ -191,6 +235,43 @@ accepted_follows old new earlier (Has name part) text a p = (let s = has_says pa
 accepted_follows old new earlier (Size name) text a p = (let s = size_says (poly_of old name) p.change p.does in said_follows old new earlier (Size name) s.lines p.change a s.said p.table (λ n. refl) refl)
 accepted_follows old new earlier (Print side name) text a p = (let s = print_says side (poly_of old name) p.change p.does in said_follows old new earlier (Print side name) s.lines p.change a s.said p.table (λ n. refl) refl)
 accepted_follows old new earlier Names text a p = said_follows old new earlier Names (line (names_text old)) p.change a p.does p.table (λ name. refl) refl
+accepted_follows old new earlier (Meet out one other) text a p =
+    two_follows old new earlier (Meet out one other) out one other text (meet old out) (IsOfAlike IsMeet) (poly_of old one) (poly_of old other) a (a.sets one) (a.sets other) (λ name. refl) (λ r is. is) (new_name old earlier out a)
+    (λ x y change passes does. put_alike out x y (room old out) IsMeet change passes does) p
+accepted_follows old new earlier (Hull out one other) text a p =
+    two_follows old new earlier (Hull out one other) out one other text (hull old out) (IsOfAlike IsHull) (poly_of old one) (poly_of old other) a (a.sets one) (a.sets other) (λ name. refl) (λ r is. is) (new_name old earlier out a)
+    (λ x y change passes does. put_alike out x y (room old out) IsHull change passes does) p
+accepted_follows old new earlier (Closure out other) text a p =
+    one_follows old new earlier (Closure out other) out other text (closure old out) IsClosure (poly_of old other) a (a.sets other) (λ name. refl) (λ r is. is) (new_name old earlier out a) (λ x change passes does. does) p
+accepted_follows old new earlier (Contains one other) text a p =
+    (let s = two_say contains (poly_of old one) (poly_of old other) p.change (λ x y h. told_says (IsIncluded y x) p.change h.told) p.does in said_follows old new earlier (Contains one other) s.lines p.change a s.said p.table (λ n. refl) refl)
+accepted_follows old new earlier (Equal one other) text a p =
+    (let s = two_say equal (poly_of old one) (poly_of old other) p.change (λ x y h. told_says (HaveSamePoints x y) p.change h.told) p.does in said_follows old new earlier (Equal one other) s.lines p.change a s.said p.table (λ n. refl) refl)
+accepted_follows old new earlier (Disjoint one other) text a p =
+    (let s = two_say disjoint (poly_of old one) (poly_of old other) p.change (λ x y h. told_says (AreDisjoint x y) p.change h) p.does in said_follows old new earlier (Disjoint one other) s.lines p.change a s.said p.table (λ n. refl) refl)
+accepted_follows old new earlier (Isempty name) text a p =
+    (let s = one_say isempty (poly_of old name) p.change (λ x h. told_says (HasNoPoint x) p.change h) p.does in said_follows old new earlier (Isempty name) s.lines p.change a s.said p.table (λ n. refl) refl)
+accepted_follows old new earlier (Relation name part) text a p =
+    (let s = one_say (relation part) (poly_of old name) p.change (λ x h. relation_says part x p.change h) p.does in said_follows old new earlier (Relation name part) s.lines p.change a s.said p.table (λ n. refl) refl)
+accepted_follows old new earlier (Max name part) text a p =
+    (let s = one_say (bound true part) (poly_of old name) p.change (λ x h. bound_says true part x p.change h) p.does in said_follows old new earlier (Max name part) s.lines p.change a s.said p.table (λ n. refl) refl)
+accepted_follows old new earlier (Min name part) text a p =
+    (let s = one_say (bound false part) (poly_of old name) p.change (λ x h. bound_says false part x p.change h) p.does in said_follows old new earlier (Min name part) s.lines p.change a s.said p.table (λ n. refl) refl)
+accepted_follows old new earlier (Embed out other n) text a p =
+    one_follows old new earlier (Embed out other n) out other text (embed old out n) (IsEmbedded n) (poly_of old other) a (a.sets other) (λ name. refl) (λ r is. is) (new_name old earlier out a) (λ x change passes does. does) p
+accepted_follows old new earlier (Project out other n) text a p =
+    one_follows old new earlier (Project out other n) out other text (project old out n) (IsProjection n) (poly_of old other) a (a.sets other) (λ name. refl) (λ r is. is) (new_name old earlier out a) (λ x change passes does. does) p
+accepted_follows old new earlier (Image out other v part) text a p =
+    one_follows old new earlier (Image out other v part) out other text (image old out v part) (IsImageBy v part) (poly_of old other) a (a.sets other) (λ name. refl) (λ r is. is) (new_name old earlier out a) (λ x change passes does. does) p
+accepted_follows old new earlier (Preimage out other v part) text a p =
+    one_follows old new earlier (Preimage out other v part) out other text (preimage old out v part) (IsPreimageBy v part) (poly_of old other) a (a.sets other) (λ name. refl) (λ r is. is) (new_name old earlier out a) (λ x change passes does. does) p
+accepted_follows old new earlier (Remove out other vars) text a p =
+    one_follows old new earlier (Remove out other vars) out other text (remove old out vars) (IsRemoved vars) (poly_of old other) a (a.sets other) (λ name. refl) (λ r is. is) (new_name old earlier out a) (λ x change passes does. does) p
+accepted_follows old new earlier (Concat out one other) text a p =
+    two_follows old new earlier (Concat out one other) out one other text (concat old out) IsProduct (poly_of old one) (poly_of old other) a (a.sets one) (a.sets other) (λ name. refl) (λ r is. is) (new_name old earlier out a) (λ x y change passes does. does) p
+accepted_follows old new earlier (Elapse out one other) text a p =
+    two_follows old new earlier (Elapse out one other) out one other text (elapse old out) (IsOfAlike IsElapse) (poly_of old one) (poly_of old other) a (a.sets one) (a.sets other) (λ name. refl) (λ r is. is) (new_name old earlier out a)
+    (λ x y change passes does. put_alike out x y (room old out) IsElapse change passes does) p
 
 -- ---- runs
 -- the table and the commands before the first line

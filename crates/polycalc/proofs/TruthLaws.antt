@@ -1,37 +1,51 @@
 -- In each run the answers are true of the sets that the accepted commands give.
 use Rattle.std.proofs.Common.{◌≡◌, ℕ, List, [], ◌∷◌, ◌++◌, length, refl, ap, sym, ◌∙◌, subst, inl, inr, Bool, true, false}
-use Rattle.std.specs.Prelude.{Option, None, Some, codes, decimal}
+use Rattle.std.specs.Prelude.{Option, None, Some, Ok, ℤ, codes, decimal}
 use Rattle.std.specs.Map.{keys_of}
 use Rattle.std.proofs.lemmas.Map.Entries.{length-keys_of}
 use Rattle.expr_text.specs.Printed.{constraints_text, generators_text}
 use Rattle.expr_text.specs.ReadBack.{ConstraintsAreReadBack, GeneratorsAreReadBack}
 use Rattle.expr_text.specs.GeneratorSystems.{IsGens}
+use Rattle.optimum.specs.Laws.{GeneratorIsWitness}
+use Rattle.optimum.specs.Suprema.{SupAnswer}
+use Rattle.optimum.specs.declared.outcome.Sup.{Sup}
+use Rattle.optimum.specs.declared.outcome.Sup.TheVariants as sup
 use Rattle.poly_pair.specs.KeptLaws.{KeptIsPair}
-use Rattle.poly_pair.specs.Polyhedra.{Polyhedron, IsOfConstraints, IsOfGenerators, IsUniverse, IsEmpty}
+use Rattle.poly_pair.specs.Polyhedra.{Polyhedron, HasNoPoint, IsOfConstraints, IsOfGenerators, IsUniverse, IsEmpty}
+use Rattle.lattice_ops.specs.Sets.{IsMeet, IsHull, IsClosure, IsIncluded, HaveSamePoints, AreDisjoint}
+use Rattle.affine_ops.specs.Results.{IsProjection, IsProduct}
+use Rattle.elapse.specs.Elapses.{IsElapse}
 use Rattle.script_text.specs.declared.command.Part.{Part}
 use Rattle.script_text.specs.declared.command.Command.{Command}
-use Rattle.script_text.specs.declared.command.Command.TheVariants.{Nothing, Cons, Gens, Universe, Empty, Copy, Drop, Add, Addgen, Has, Size, Print, Names}
+use Rattle.script_text.specs.declared.command.Command.TheVariants.{Nothing, Cons, Gens, Universe, Empty, Copy, Drop, Add, Addgen, Has, Size, Print, Names, Meet, Hull, Closure, Contains, Equal, Disjoint, Isempty, Relation, Max, Min, Embed, Project, Concat, Elapse, Image, Preimage, Remove}
 use Rattle.calc_state.specs.declared.entry.Entry.{Entry}
 use Rattle.calc_state.specs.declared.change.Change.{Change}
 use Rattle.calc_state.specs.declared.change.Change.TheVariants.{Says, Puts, TakesOut}
 use Rattle.calc_state.specs.Table.{Table, entry_of, poly_of, HasDistinctNames}
-use Rattle.calc_state.specs.Meaning.{IsSaid, IsPut, IsTakenOut, on_one, answer_line}
+use Rattle.calc_state.specs.Order.{Passes}
+use Rattle.calc_state.specs.Meaning.{Meaning, IsSaid, IsPut, IsTakenOut, on_one, on_two, no_fault, answer_line}
 use Rattle.calc_state.specs.Meanings.{meaning, topology_of}
 use Rattle.calc_state.specs.Makers.{SaysConstraints, SaysGenerators, more_constraints, more_generators, copy, drop_of, add, addgen}
 use Rattle.calc_state.specs.Questions.{has, size, print, line, size_text, side_text, spaced, names_text}
+use Rattle.calc_state.specs.Optima.{relation, bound, relation_text, bound_text}
+use Rattle.calc_state.specs.Lattice.{meet, hull, closure, contains, equal, disjoint, isempty, IsTold}
+use Rattle.calc_state.specs.Affine.{embed, project, concat, elapse, image, preimage, remove, IsEmbedded, IsRemoved, IsImageBy, IsPreimageBy}
 use Rattle.calc_state.specs.Step.{Reply, Answered, Refused, Overflows, IsAccepted, IsProper, lines_of, ok_line}
 use Rattle.calc_state.specs.Laws.{KeepsNamesDistinct}
 use Rattle.polycalc.specs.Runs.{Run}
-use Rattle.polycalc.specs.Sets.{IsSetOf, names_of}
-use Rattle.polycalc.specs.Truth.{SaysWhether, IsTrueOf, SaysSide, IsTruthful, AreTruthful}
-use Rattle.polycalc.proofs.OneSet.{same_dims, set_proper}
+use Rattle.polycalc.specs.Sets.{IsSetOf, AreAlike, names_of}
+use Rattle.polycalc.specs.Truth.{SaysWhether, IsTrueOf, IsTrueOfTwo, SaysTruth, SaysHowItLies, IsShownBy, SaysExtremum, SaysSide, IsTruthful, AreTruthful}
+use Rattle.polycalc.proofs.OneForm.{same_dims}
+use Rattle.polycalc.proofs.Operands.{are_alike}
+use Rattle.polycalc.proofs.OneSet.{set_proper}
 use Rattle.polycalc.proofs.SetLaws.{Stands, Agrees, nothing_agrees, agrees_then, agrees_still, not_unspelled}
 
--- the laws that are cited: what is printed is read back, and both stored systems hold the same points
+-- the laws that are cited: what is printed is read back, both stored systems hold the same points, and the generator of a bound shows it
 pub record ReadBack : Type 0 where
   pub cons : ConstraintsAreReadBack
   pub gens : GeneratorsAreReadBack
   pub pair : KeptIsPair
+  pub witness : GeneratorIsWitness
 
 said_lines : (lines : List ℕ) (change : Change) → IsSaid lines change → lines_of change ≡ lines
 said_lines lines (Says text) h = h
@@ -76,6 +90,49 @@ names_true : (old : Table) (earlier : List Command) (text : List ℕ) → keys_o
 names_true old earlier text same e =
     e ∙ ap (λ (n : ℕ). names_line n (keys_of old)) (sym (length-keys_of old)) ∙ ap (λ (names : List (List ℕ)). names_line (length names) names) same
 
+-- ---- answers to questions on one operand or on two
+told_true : (Statement : Type 0) (change : Change) (text : List ℕ) → IsTold Statement change → text ≡ lines_of change → SaysTruth text Statement
+told_true Statement change text h e = record { holds = h.holds; said = e ∙ said_lines (answer_line h.holds) change h.said; true_of = h.true_of }
+
+one_true : (old new : Table) (earlier : List Command) (name text : List ℕ) (m : Polyhedron → Meaning) (SaysOf : Polyhedron → Type 0) (o : Option Polyhedron) → Stands o (IsSetOf earlier name) → ((x : Polyhedron) (change : Change) → (m x).does change → text ≡ lines_of change → SaysOf x) → IsAccepted (on_one o m) old text new → IsTrueOf earlier name SaysOf
+one_true old new earlier name text m SaysOf None s says p = absurd p.does
+one_true old new earlier name text m SaysOf (Some q) s says p = record { polyhedron = q; set = s; says = says q p.change p.does p.lines_are }
+
+two_true : (old new : Table) (earlier : List Command) (one other text : List ℕ) (m : Polyhedron → Polyhedron → Meaning) (SaysOf : Polyhedron → Polyhedron → Type 0) (o u : Option Polyhedron) → Stands o (IsSetOf earlier one) → Stands u (IsSetOf earlier other) →
+    ((x y : Polyhedron) → Passes (m x y).conditions → AreAlike x y) → ((x y : Polyhedron) (change : Change) → (m x y).does change → text ≡ lines_of change → SaysOf x y) → IsAccepted (on_two o u m) old text new → IsTrueOfTwo earlier one other SaysOf
+two_true old new earlier one other text m SaysOf None u s t like says p = absurd p.does
+two_true old new earlier one other text m SaysOf (Some q) None s t like says p = absurd p.does
+two_true old new earlier one other text m SaysOf (Some q) (Some r) s t like says p =
+    record { first = q; second = r; set_first = s; set_second = t; alike = like q r p.passes; says = says q r p.change p.does p.lines_are }
+
+relation_true : (part : Part) (q : Polyhedron) (change : Change) (text : List ℕ) → (relation part q).does change → text ≡ lines_of change → SaysHowItLies part text q
+relation_true part q change text h e =
+    let a = h.holds in record { row = h.row; kind = h.kind; read = h.read; flags = a.flags; said = e ∙ said_lines (line (relation_text a.flags)) change a.said; true_of = a.answer.1 }
+
+shown_by : GeneratorIsWitness → (up : Bool) (row : List ℤ) (q : Polyhedron) (b : Sup) → IsProper q → SupAnswer up row q.gens (Ok b) → IsShownBy up row q b
+shown_by law up row q sup.Empty proper answer = tt
+shown_by law up row q sup.Unbounded proper answer = tt
+shown_by law up row q (sup.At num den attained index) proper answer = law up row q num den attained index proper.kept proper.gens answer
+
+bound_true : ReadBack → (old new : Table) (earlier : List Command) (up : Bool) (name text : List ℕ) (part : Part) (o : Option Polyhedron) → Stands o (IsSetOf earlier name) → IsAccepted (on_one o (bound up part)) old text new → IsTrueOf earlier name (SaysExtremum up part text)
+bound_true laws old new earlier up name text part None s p = absurd p.does
+bound_true laws old new earlier up name text part (Some q) s p =
+    let h = p.does in
+    let a = h.holds in
+    record {
+      polyhedron = q;
+      set = s;
+      says = record {
+        row = h.row;
+        read = h.read;
+        bound = a.bound;
+        said = p.lines_are ∙ said_lines (line (bound_text q.gens a.bound)) p.change a.said;
+        true_of = a.true_of;
+        shown = shown_by laws.witness up h.row q a.bound (set_proper earlier name q s) a.answer;
+        first = a.answer;
+      };
+    }
+
 -- ---- commands that make, change or take out something
 put_ok : (out : List ℕ) (Is : Polyhedron → Type 0) (change : Change) → IsPut out Is change → lines_of change ≡ ok_line
 put_ok out Is (Puts name e) h = refl
@@ -87,21 +144,20 @@ taken_ok name (TakesOut taken) h = refl
 taken_ok name (Says text) h = absurd h
 taken_ok name (Puts out e) h = absurd h
 
-copy_ok : (old new : Table) (out text : List ℕ) (o : Option Polyhedron) → IsAccepted (on_one o (copy old out)) old text new → text ≡ ok_line
-copy_ok old new out text None p = absurd p.does
-copy_ok old new out text (Some q) p = p.lines_are ∙ put_ok out (λ r. r ≡ q) p.change p.does
+-- a result of one operand
+one_ok : (old new : Table) (out text : List ℕ) (m : Polyhedron → Meaning) (Is : Polyhedron → Polyhedron → Type 0) (o : Option Polyhedron) → ((x : Polyhedron) (change : Change) → (m x).does change → IsPut out (Is x) change) → IsAccepted (on_one o m) old text new → text ≡ ok_line
+one_ok old new out text m Is None puts p = absurd p.does
+one_ok old new out text m Is (Some q) puts p = p.lines_are ∙ put_ok out (Is q) p.change (puts q p.change p.does)
+
+-- of two
+two_ok : (old new : Table) (out text : List ℕ) (m : Polyhedron → Polyhedron → Meaning) (Is : Polyhedron → Polyhedron → Polyhedron → Type 0) (o u : Option Polyhedron) → ((x y : Polyhedron) (change : Change) → (m x y).does change → IsPut out (Is x y) change) → IsAccepted (on_two o u m) old text new → text ≡ ok_line
+two_ok old new out text m Is None u puts p = absurd p.does
+two_ok old new out text m Is (Some q) None puts p = absurd p.does
+two_ok old new out text m Is (Some q) (Some r) puts p = p.lines_are ∙ put_ok out (Is q r) p.change (puts q r p.change p.does)
 
 drop_ok : (old new : Table) (out text : List ℕ) (o : Option Entry) → IsAccepted (drop_of out o) old text new → text ≡ ok_line
 drop_ok old new out text None p = absurd p.does
 drop_ok old new out text (Some e) p = p.lines_are ∙ taken_ok out p.change p.does
-
-add_ok : (old new : Table) (out text : List ℕ) (part : Part) (o : Option Polyhedron) → IsAccepted (on_one o (add out part)) old text new → text ≡ ok_line
-add_ok old new out text part None p = absurd p.does
-add_ok old new out text part (Some q) p = p.lines_are ∙ put_ok out (λ r. SaysConstraints q.cons.dim part (λ cs. IsOfConstraints q.topology (more_constraints q.cons cs) r)) p.change p.does
-
-addgen_ok : (old new : Table) (out text : List ℕ) (part : Part) (o : Option Polyhedron) → IsAccepted (on_one o (addgen out part)) old text new → text ≡ ok_line
-addgen_ok old new out text part None p = absurd p.does
-addgen_ok old new out text part (Some q) p = p.lines_are ∙ put_ok out (λ r. SaysGenerators q.gens.dim part (λ gs. IsOfGenerators q.topology (more_generators q.gens gs) r)) p.change p.does
 
 accepted_true : ReadBack → (old new : Table) (earlier : List Command) (c : Command) (text : List ℕ) → Agrees old earlier → IsAccepted (meaning old c) old text new → IsTruthful earlier c text
 accepted_true laws old new earlier (Has name part) text g p = has_true old new earlier name text part (poly_of old name) (g.sets name) p
@@ -113,10 +169,30 @@ accepted_true laws old new earlier (Cons out top n part) text g p = p.lines_are 
 accepted_true laws old new earlier (Gens out top n part) text g p = p.lines_are ∙ put_ok out (λ r. SaysGenerators n part (λ gs. IsOfGenerators (topology_of top) gs r)) p.change p.does
 accepted_true laws old new earlier (Universe out top n) text g p = p.lines_are ∙ put_ok out (IsUniverse (topology_of top) n) p.change p.does
 accepted_true laws old new earlier (Empty out top n) text g p = p.lines_are ∙ put_ok out (IsEmpty (topology_of top) n) p.change p.does
-accepted_true laws old new earlier (Copy out other) text g p = copy_ok old new out text (poly_of old other) p
+accepted_true laws old new earlier (Copy out other) text g p = one_ok old new out text (copy old out) (λ q r. r ≡ q) (poly_of old other) (λ x change does. does) p
 accepted_true laws old new earlier (Drop out) text g p = drop_ok old new out text (entry_of old out) p
-accepted_true laws old new earlier (Add out part) text g p = add_ok old new out text part (poly_of old out) p
-accepted_true laws old new earlier (Addgen out part) text g p = addgen_ok old new out text part (poly_of old out) p
+accepted_true laws old new earlier (Add out part) text g p = one_ok old new out text (add out part) (λ q r. SaysConstraints q.cons.dim part (λ cs. IsOfConstraints q.topology (more_constraints q.cons cs) r)) (poly_of old out) (λ x change does. does) p
+accepted_true laws old new earlier (Addgen out part) text g p = one_ok old new out text (addgen out part) (λ q r. SaysGenerators q.gens.dim part (λ gs. IsOfGenerators q.topology (more_generators q.gens gs) r)) (poly_of old out) (λ x change does. does) p
+accepted_true laws old new earlier (Meet out one other) text g p = two_ok old new out text (meet old out) IsMeet (poly_of old one) (poly_of old other) (λ x y change does. does) p
+accepted_true laws old new earlier (Hull out one other) text g p = two_ok old new out text (hull old out) IsHull (poly_of old one) (poly_of old other) (λ x y change does. does) p
+accepted_true laws old new earlier (Closure out other) text g p = one_ok old new out text (closure old out) IsClosure (poly_of old other) (λ x change does. does) p
+accepted_true laws old new earlier (Contains one other) text g p =
+    two_true old new earlier one other text contains (λ x y. SaysTruth text (IsIncluded y x)) (poly_of old one) (poly_of old other) (g.sets one) (g.sets other) (λ x y passes. are_alike x y no_fault passes) (λ x y change does e. told_true (IsIncluded y x) change text does.told e) p
+accepted_true laws old new earlier (Equal one other) text g p =
+    two_true old new earlier one other text equal (λ x y. SaysTruth text (HaveSamePoints x y)) (poly_of old one) (poly_of old other) (g.sets one) (g.sets other) (λ x y passes. are_alike x y no_fault passes) (λ x y change does e. told_true (HaveSamePoints x y) change text does.told e) p
+accepted_true laws old new earlier (Disjoint one other) text g p =
+    two_true old new earlier one other text disjoint (λ x y. SaysTruth text (AreDisjoint x y)) (poly_of old one) (poly_of old other) (g.sets one) (g.sets other) (λ x y passes. are_alike x y no_fault passes) (λ x y change does e. told_true (AreDisjoint x y) change text does e) p
+accepted_true laws old new earlier (Isempty name) text g p = one_true old new earlier name text isempty (λ x. SaysTruth text (HasNoPoint x)) (poly_of old name) (g.sets name) (λ x change does e. told_true (HasNoPoint x) change text does e) p
+accepted_true laws old new earlier (Relation name part) text g p = one_true old new earlier name text (relation part) (SaysHowItLies part text) (poly_of old name) (g.sets name) (λ x change does e. relation_true part x change text does e) p
+accepted_true laws old new earlier (Max name part) text g p = bound_true laws old new earlier true name text part (poly_of old name) (g.sets name) p
+accepted_true laws old new earlier (Min name part) text g p = bound_true laws old new earlier false name text part (poly_of old name) (g.sets name) p
+accepted_true laws old new earlier (Embed out other n) text g p = one_ok old new out text (embed old out n) (IsEmbedded n) (poly_of old other) (λ x change does. does) p
+accepted_true laws old new earlier (Project out other n) text g p = one_ok old new out text (project old out n) (IsProjection n) (poly_of old other) (λ x change does. does) p
+accepted_true laws old new earlier (Image out other v part) text g p = one_ok old new out text (image old out v part) (IsImageBy v part) (poly_of old other) (λ x change does. does) p
+accepted_true laws old new earlier (Preimage out other v part) text g p = one_ok old new out text (preimage old out v part) (IsPreimageBy v part) (poly_of old other) (λ x change does. does) p
+accepted_true laws old new earlier (Remove out other vars) text g p = one_ok old new out text (remove old out vars) (IsRemoved vars) (poly_of old other) (λ x change does. does) p
+accepted_true laws old new earlier (Concat out one other) text g p = two_ok old new out text (concat old out) IsProduct (poly_of old one) (poly_of old other) (λ x y change does. does) p
+accepted_true laws old new earlier (Elapse out one other) text g p = two_ok old new out text (elapse old out) IsElapse (poly_of old one) (poly_of old other) (λ x y change does. does) p
 
 pub run_truthful : KeepsNamesDistinct → ReadBack → (old : Table) (earlier : List Command) (lines : List (List ℕ)) (replies : List Reply) (new : Table) → Agrees old earlier → Run old lines replies new → AreTruthful earlier lines replies
 run_truthful keeps laws old earlier [] [] new g run = tt

@@ -6,7 +6,7 @@ use Rattle.poly_pair.specs.Polyhedra.{Polyhedron}
 use Rattle.poly_pair.specs.declared.topology.Topology.TheVariants.{Nnc}
 use Rattle.script_text.specs.Line.{Spells}
 use Rattle.script_text.specs.declared.command.Command.{Command}
-use Rattle.script_text.specs.declared.command.Command.TheVariants.{Size, Print}
+use Rattle.script_text.specs.declared.command.Command.TheVariants.{Size, Print, Max, Min}
 use Rattle.calc_state.specs.Table.{Table, poly_of}
 use Rattle.calc_state.specs.Step.{Reply, Answered, Refused, Overflows}
 use Rattle.polycalc.specs.Runs.{Run, IsComplete}
@@ -36,10 +36,12 @@ pub record IsNotClosed (commands : List Command) (name : List ℕ) : Type 0 wher
   pub set : IsSetOf commands name polyhedron
   pub topology : polyhedron.topology ≡ Nnc
 
--- the command shows the systems that are stored of such a polyhedron
+-- the command shows the systems, or a generator, that are stored of such a polyhedron
 abbrev pub ShowsStored : List Command → Command → Type 0
 ShowsStored earlier (Size name) = IsNotClosed earlier name
 ShowsStored earlier (Print side name) = IsNotClosed earlier name
+ShowsStored earlier (Max name part) = IsNotClosed earlier name
+ShowsStored earlier (Min name part) = IsNotClosed earlier name
 ShowsStored earlier other = ⊥
 
 -- behind these accepted commands each line has the same answer twice, but where stored systems are shown that the points

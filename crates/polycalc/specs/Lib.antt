@@ -1,6 +1,7 @@
 pub mod Words
 pub mod Replies
 pub mod Runs
+pub mod Conversions
 pub mod Outcomes
 pub mod Statuses
 pub mod Sets

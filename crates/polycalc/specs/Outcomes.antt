@@ -1,10 +1,15 @@
-use Rattle.std.specs.Prelude.{◌≡◌, ℕ, ◌+◌, ◌^◌, ◌<◌, ◌≤◌, List, [], ◌∷◌, ◌++◌, length, take, Option, Some, Bool, true, false, if◌then◌else◌}
+use Rattle.std.specs.Prelude.{◌≡◌, ◌⊎◌, ℕ, ◌+◌, ◌^◌, ◌<◌, ◌≤◌, List, [], ◌∷◌, ◌++◌, length, take, Option, Some, Bool, true, false, if◌then◌else◌}
 use Rattle.std.specs.Io.KnownBytes.{append_known, prepend_known, IsAtEnd}
 use Rattle.std.specs.Str.Lines.{lines}
 use Rattle.calc_state.specs.Table.{Table}
 use Rattle.calc_state.specs.Step.{Reply}
-use Rattle.polycalc.specs.Replies.{replies_bytes, is_clean}
+use Rattle.cdd_text.specs.declared.format.Format.{Format}
+use Rattle.polycalc.specs.Words.{words_of}
+use Rattle.polycalc.specs.Replies.{reply_bytes, replies_bytes, is_answer, is_clean}
+use Rattle.polycalc.specs.Conversions.{ConvertsTo, MustConvert}
 use Rattle.polycalc.specs.Runs.{Run, IsComplete}
+use Rattle.polycalc.specs.declared.job.Job.{Job}
+use Rattle.polycalc.specs.declared.job.Job.TheVariants as job
 use Rattle.polycalc.specs.declared.status.Status.{Status}
 use Rattle.polycalc.specs.declared.status.Status.TheVariants.{Done, Refused, Usage, ReadFault, WriteFault, Memory, InputTooLong}
 
@@ -15,10 +20,6 @@ pub record Completes (script : List ℕ) (clean : Bool) (old new : Option (List 
   pub run : Run [] (lines script) replies table
   pub held : new ≡ append_known old (replies_bytes replies)
   pub verdict : is_clean replies ≡ clean
-
--- the source gave a script and has nothing left, and the script is completed
-abbrev pub Ends : Option (List ℕ) → Option (List ℕ) → Option (List ℕ) → Option (List ℕ) → Bool → Type 0
-Ends left left_now old new clean = (script : List ℕ) × (left ≡ prepend_known script left_now) × IsAtEnd left_now × Completes script clean old new
 
 -- what was held, and behind it a front of the replies of a run over the first lines of the script
 pub record WritesPrefix (script : List ℕ) (old new : Option (List ℕ)) : Type 0 where
@@ -50,22 +51,89 @@ pub record AnswersEarlier (script : List ℕ) (old new : Option (List ℕ)) : Ty
   pub few : length last ≤ 2 ^ 16
   pub answers : AnswersWhole earlier old new
 
--- what came of the word run, after the source gave these bytes and now has those left
-abbrev pub Outcome : List ℕ → Option (List ℕ) → Option (List ℕ) → Option (List ℕ) → Status → Type 0
-Outcome given left old new Done = (length given ≤ 2 ^ 26) × IsAtEnd left × Completes given true old new
-Outcome given left old new Refused = (length given ≤ 2 ^ 26) × IsAtEnd left × Completes given false old new
-Outcome given left old new ReadFault = (length given ≤ 2 ^ 26) × AnswersWhole given old new
-Outcome given left old new WriteFault = (length given ≤ 2 ^ 26) × WritesPrefix given old new
-Outcome given left old new Memory = (length given ≤ 2 ^ 26) × WritesPrefix given old new
-Outcome given left old new InputTooLong = (2 ^ 26 < length given) × (length given ≤ 2 ^ 26 + 2 ^ 16) × WritesPrefix given old new × AnswersEarlier given old new
-Outcome given left old new Usage = ⊥
+-- ---- files that are converted
+-- what was held, and behind it the reply to the file; whether it is no fault and no overflow is told
+pub record Converts (want : Format) (file : List ℕ) (clean : Bool) (old new : Option (List ℕ)) : Type 0 where
+  pub reply : Reply
+  pub converts : ConvertsTo want file reply
+  pub held : new ≡ append_known old (reply_bytes reply)
+  pub verdict : is_answer reply ≡ clean
+
+-- what was held, and behind it a front of the reply to the file
+pub record ConvertsPrefix (want : Format) (file : List ℕ) (old new : Option (List ℕ)) : Type 0 where
+  pub reply : Reply
+  pub converts : ConvertsTo want file reply
+  pub count : ℕ
+  pub held : new ≡ append_known old (take count (reply_bytes reply))
+
+-- ---- each job
+-- all replies to the bytes that the source gave are written
+abbrev pub Finishes : Job → List ℕ → Bool → Option (List ℕ) → Option (List ℕ) → Type 0
+Finishes job.Run script clean old new = Completes script clean old new
+Finishes (job.Convert want) file clean old new = Converts want file clean old new
+
+-- a front of them is written, or none
+abbrev pub WritesFront : Job → List ℕ → Option (List ℕ) → Option (List ℕ) → Type 0
+WritesFront job.Run script old new = WritesPrefix script old new
+WritesFront (job.Convert want) file old new = (new ≡ old) ⊎ ConvertsPrefix want file old new
+
+-- what is written where the source gave these bytes and not its last: the replies to whole lines, and of a file nothing
+abbrev pub AnswersRead : Job → List ℕ → Option (List ℕ) → Option (List ℕ) → Type 0
+AnswersRead job.Run script old new = AnswersWhole script old new
+AnswersRead (job.Convert want) file old new = new ≡ old
+
+-- likewise, but for the bytes of one read
+abbrev pub AnswersFront : Job → List ℕ → Option (List ℕ) → Option (List ℕ) → Type 0
+AnswersFront job.Run script old new = AnswersEarlier script old new
+AnswersFront (job.Convert want) file old new = new ≡ old
+
+-- what came of a job, after the source gave these bytes and now has those left
+abbrev pub Outcome : Job → List ℕ → Option (List ℕ) → Option (List ℕ) → Option (List ℕ) → Status → Type 0
+Outcome task given left old new Done = (length given ≤ 2 ^ 26) × IsAtEnd left × Finishes task given true old new
+Outcome task given left old new Refused = (length given ≤ 2 ^ 26) × IsAtEnd left × Finishes task given false old new
+Outcome task given left old new ReadFault = (length given ≤ 2 ^ 26) × AnswersRead task given old new
+Outcome task given left old new WriteFault = (length given ≤ 2 ^ 26) × WritesFront task given old new
+Outcome task given left old new Memory = (length given ≤ 2 ^ 26) × WritesFront task given old new
+Outcome task given left old new InputTooLong = (2 ^ 26 < length given) × (length given ≤ 2 ^ 26 + 2 ^ 16) × WritesFront task given old new × AnswersFront task given old new
+Outcome task given left old new Usage = ⊥
+
+-- ---- what the top call promises of the job that the words ask for
+-- the source gave all that it had, and all replies are written
+pub record Ends (words : List (List ℕ)) (left left_now old new : Option (List ℕ)) (clean : Bool) : Type 0 where
+  pub job : Job
+  pub words_are : words ≡ words_of job
+  pub given : List ℕ
+  pub gave : left ≡ prepend_known given left_now
+  pub at_end : IsAtEnd left_now
+  pub finishes : Finishes job given clean old new
+
+-- the source gave some bytes, and this is written
+pub record Stops (words : List (List ℕ)) (left left_now old new : Option (List ℕ)) (Writes : Job → List ℕ → Option (List ℕ) → Option (List ℕ) → Type 0) : Type 0 where
+  pub job : Job
+  pub words_are : words ≡ words_of job
+  pub given : List ℕ
+  pub gave : left ≡ prepend_known given left_now
+  pub writes : Writes job given old new
 
 -- the script is answered: behind what was held stand the replies of a run over its lines, from the table without names;
 -- each line that must succeed is answered, and the status tells whether some reply is a fault or an overflow
-pub record IsAnswered (script before : List ℕ) (held : Option (List ℕ)) (status : Status) : Type 0 where
+pub record IsRunAnswered (script before : List ℕ) (held : Option (List ℕ)) (status : Status) : Type 0 where
   pub table : Table
   pub replies : List Reply
   pub run : Run [] (lines script) replies table
   pub complete : IsComplete [] (lines script) replies table run
   pub held_now : held ≡ Some (before ++ replies_bytes replies)
   pub verdict : status ≡ (if is_clean replies then Done else Refused)
+
+-- the file is answered: behind what was held stands the reply to it, which is the other file where the file must be
+-- converted, and the status tells whether the reply is a fault or an overflow
+pub record IsFileAnswered (want : Format) (file before : List ℕ) (held : Option (List ℕ)) (status : Status) : Type 0 where
+  pub reply : Reply
+  pub converts : ConvertsTo want file reply
+  pub complete : MustConvert want file → is_answer reply ≡ true
+  pub held_now : held ≡ Some (before ++ reply_bytes reply)
+  pub verdict : status ≡ (if is_answer reply then Done else Refused)
+
+abbrev pub IsAnswered : Job → List ℕ → List ℕ → Option (List ℕ) → Status → Type 0
+IsAnswered job.Run script before held status = IsRunAnswered script before held status
+IsAnswered (job.Convert want) file before held status = IsFileAnswered want file before held status

@@ -1,23 +1,32 @@
 -- When the answers of a run are true of the sets that the accepted commands give.
-use Rattle.std.specs.Prelude.{◌≡◌, ◌↔◌, ℕ, ℤ, length, List, [], ◌∷◌, ◌++◌, Bool, true, false, IsTrue, codes, decimal}
+use Rattle.std.specs.Prelude.{◌≡◌, ◌↔◌, ℕ, ℤ, length, List, [], ◌∷◌, ◌++◌, Bool, true, false, IsTrue, Ok, codes, decimal}
 use Rattle.row_core.specs.Points.{IsPoint as IsPointRow}
 use Rattle.cons_sys.specs.Constraints.{Constraints, In}
-use Rattle.gens_sys.specs.Generators.{Generators}
+use Rattle.cons_sys.specs.declared.kind.ConKind.{ConKind}
+use Rattle.gens_sys.specs.Generators.{Generators, row_at}
 use Rattle.gens_sys.specs.Spans.{Span}
-use Rattle.term_text.specs.Texts.{IsPoint}
-use Rattle.term_text.specs.Systems.{IsCons}
+use Rattle.term_text.specs.Texts.{IsPoint, IsExpr}
+use Rattle.term_text.specs.Systems.{IsCon, IsCons}
 use Rattle.expr_text.specs.GeneratorSystems.{IsGens}
 use Rattle.expr_text.specs.Printed.{constraints_text, generators_text}
 use Rattle.pair_laws.specs.PointSets.{HoldSame}
-use Rattle.poly_pair.specs.Polyhedra.{Polyhedron}
+use Rattle.poly_pair.specs.Polyhedra.{Polyhedron, HasNoPoint}
+use Rattle.lattice_ops.specs.Sets.{IsIncluded, HaveSamePoints, AreDisjoint}
+use Rattle.optimum.specs.Relations.{IsRelation}
+use Rattle.optimum.specs.Suprema.{SupAnswer, IsTrueSup}
+use Rattle.optimum.specs.Laws.{IsWitness}
+use Rattle.optimum.specs.declared.outcome.Relation.{Relation as Flags}
+use Rattle.optimum.specs.declared.outcome.Sup.{Sup}
+use Rattle.optimum.specs.declared.outcome.Sup.TheVariants as sup
 use Rattle.script_text.specs.Line.{Spells}
 use Rattle.script_text.specs.declared.command.Part.{Part}
 use Rattle.script_text.specs.declared.command.Command.{Command}
-use Rattle.script_text.specs.declared.command.Command.TheVariants.{Nothing, Has, Size, Print, Names}
+use Rattle.script_text.specs.declared.command.Command.TheVariants.{Nothing, Has, Size, Print, Names, Contains, Equal, Disjoint, Isempty, Relation, Max, Min}
 use Rattle.calc_state.specs.Meaning.{answer_line}
 use Rattle.calc_state.specs.Questions.{line, size_text, spaced}
+use Rattle.calc_state.specs.Optima.{relation_text, bound_text}
 use Rattle.calc_state.specs.Step.{Reply, Answered, Refused, Overflows, ok_line}
-use Rattle.polycalc.specs.Sets.{IsSetOf, names_of}
+use Rattle.polycalc.specs.Sets.{IsSetOf, AreAlike, names_of}
 
 -- the reply says whether the point of the text is in the polyhedron
 pub record SaysWhether (part : Part) (reply : List ℕ) (p : Polyhedron) : Type 0 where
@@ -53,6 +62,46 @@ pub record IsTrueOf (commands : List Command) (name : List ℕ) (Says : Polyhedr
   pub set : IsSetOf commands name polyhedron
   pub says : Says polyhedron
 
+-- the reply is true of the polyhedra of two names, which are alike
+pub record IsTrueOfTwo (commands : List Command) (one other : List ℕ) (Says : Polyhedron → Polyhedron → Type 0) : Type 0 where
+  pub first : Polyhedron
+  pub second : Polyhedron
+  pub set_first : IsSetOf commands one first
+  pub set_second : IsSetOf commands other second
+  pub alike : AreAlike first second
+  pub says : Says first second
+
+-- the reply says whether the statement is true
+pub record SaysTruth (reply : List ℕ) (Statement : Type 0) : Type 0 where
+  pub holds : Bool
+  pub said : reply ≡ answer_line holds
+  pub true_of : IsTrue holds ↔ Statement
+
+-- the reply says how the points of the polyhedron lie to the constraint of the text
+pub record SaysHowItLies (part : Part) (reply : List ℕ) (p : Polyhedron) : Type 0 where
+  pub row : List ℤ
+  pub kind : ConKind
+  pub read : IsCon p.cons.dim part.text row kind
+  pub flags : Flags
+  pub said : reply ≡ line (relation_text flags)
+  pub true_of : IsRelation p.cons row kind flags
+
+-- the generator that a bound numbers lies in the closure of the set, and in the set exactly where the bound is attained, and has the bound as its value
+abbrev pub IsShownBy : Bool → List ℤ → Polyhedron → Sup → Type 0
+IsShownBy up row p sup.Empty = Unit {0}
+IsShownBy up row p sup.Unbounded = Unit {0}
+IsShownBy up row p (sup.At num den attained index) = IsWitness up row p num den attained (row_at p.gens.list index)
+
+-- the reply says the bound of the expression of the text on the points of the polyhedron, and the first stored generator that shows it, a point before a closure point
+pub record SaysExtremum (up : Bool) (part : Part) (reply : List ℕ) (p : Polyhedron) : Type 0 where
+  pub row : List ℤ
+  pub read : IsExpr p.cons.dim part.text row
+  pub bound : Sup
+  pub said : reply ≡ line (bound_text p.gens bound)
+  pub true_of : IsTrueSup up row p bound
+  pub shown : IsShownBy up row p bound
+  pub first : SupAnswer up row p.gens (Ok bound)
+
 -- each constraint, or each generator, that is stored is said
 abbrev pub SaysSide : Bool → List ℕ → Polyhedron → Type 0
 SaysSide false reply p = SaysSystem reply p
@@ -66,6 +115,13 @@ IsTruthful earlier (Has name part) reply = IsTrueOf earlier name (SaysWhether pa
 IsTruthful earlier (Size name) reply = IsTrueOf earlier name (λ p. reply ≡ line (size_text p))
 IsTruthful earlier (Print side name) reply = IsTrueOf earlier name (SaysSide side reply)
 IsTruthful earlier Names reply = reply ≡ line (codes "names " ++ decimal (length (names_of earlier)) ++ spaced (names_of earlier))
+IsTruthful earlier (Contains one other) reply = IsTrueOfTwo earlier one other (λ p q. SaysTruth reply (IsIncluded q p))
+IsTruthful earlier (Equal one other) reply = IsTrueOfTwo earlier one other (λ p q. SaysTruth reply (HaveSamePoints p q))
+IsTruthful earlier (Disjoint one other) reply = IsTrueOfTwo earlier one other (λ p q. SaysTruth reply (AreDisjoint p q))
+IsTruthful earlier (Isempty name) reply = IsTrueOf earlier name (λ p. SaysTruth reply (HasNoPoint p))
+IsTruthful earlier (Relation name part) reply = IsTrueOf earlier name (SaysHowItLies part reply)
+IsTruthful earlier (Max name part) reply = IsTrueOf earlier name (SaysExtremum true part reply)
+IsTruthful earlier (Min name part) reply = IsTrueOf earlier name (SaysExtremum false part reply)
 IsTruthful earlier Nothing reply = reply ≡ []
 IsTruthful earlier other reply = reply ≡ ok_line
 

@@ -9,10 +9,11 @@ ghost use Rattle.polycalc.specs.Laws.{AcceptedLinesDecide, SetsAreAsCommanded, S
 
 use calc_state::{names_stay_distinct, one_first};
 use expr_text::{constraints_are_read_back, generators_are_read_back, one_answer};
-use joined_sets::joined_sets_are_same;
+use optimum::laws::{generator_is_witness, one_sup};
 use pair_laws::stored_systems::stored_is_unique;
 use poly_pair::laws::{kept_is_empty, kept_is_pair};
 use script_text::{one_command, reads_once};
+use set_laws::joined::joined_sets_are_same;
 
 /// After each run the table has under each name a polyhedron that the accepted lines give it, by the
 /// commands' definitions in order; its constraints and its generators hold the same points. And the
@@ -34,7 +35,8 @@ pub fn sets_are_as_commanded()
 /// In each run every answer is true of the sets that the accepted lines before it give: `has` says
 /// whether the point is in the set, what `print` says is read back as the stored constraints or
 /// generators, which hold at or generate exactly these points, `size` counts them, and `names` says
-/// the names that there are.
+/// the names that there are. `isempty`, `contains`, `equal`, `disjoint` and `relation` say how the sets
+/// lie, and `max` and `min` what the bound is, whether a point has it, and a generator that shows it.
 pub fn answers_are_true()
     ensures { AnswersAreTrue }
 {
@@ -42,11 +44,13 @@ pub fn answers_are_true()
     constraints_are_read_back();
     generators_are_read_back();
     kept_is_pair();
+    generator_is_witness();
 }
 
 /// Two runs that accept the same lines come to the same names and sets, and give the same answers, byte
 /// for byte, whatever other lines they refuse. Only of a polyhedron that needn't be closed the stored
-/// systems may differ, and with them the answers to `print` and `size`.
+/// systems may differ, and with them the answers to `print` and `size` and the generator that `max` and
+/// `min` show.
 pub fn accepted_lines_decide()
     ensures { AcceptedLinesDecide }
 {
@@ -59,6 +63,8 @@ pub fn accepted_lines_decide()
     kept_is_pair();
     kept_is_empty();
     joined_sets_are_same();
+    one_sup();
+    generator_is_witness();
 }
 
 /// In each run every line that must succeed is answered.

@@ -1,10 +1,12 @@
 //! The calculator of convex polyhedra as a program: it reads a script from standard input and
-//! writes the replies to standard output.
+//! writes the replies to standard output, or converts a file of constraints or of generators.
 #![tactic(auto)]
 
 ghost use Rattle.std.specs.Prelude.{◌≡◌, ◌<◌};
 
 mod arguments;
+mod conversions;
+mod job;
 mod laws;
 mod replies;
 mod runs;

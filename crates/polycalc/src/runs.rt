@@ -6,6 +6,7 @@ ghost use Rattle.calc_state.specs.Step.{Reply};
 ghost use Rattle.calc_state.specs.Line.{Step};
 ghost use Rattle.polycalc.specs.Replies.{with_reply};
 ghost use Rattle.polycalc.specs.Outcomes.{Outcome};
+ghost use Rattle.polycalc.specs.declared.job.Job.TheVariants as job;
 
 use crate::replies::Replies;
 use crate::status::Status;
@@ -23,7 +24,7 @@ pub fn run_lines<S: Source, W: Sink, L: Ledger>(
     steps: &mut Steps<L>,
 ) -> Status
     ensures outcome { (given : List ℕ) × (S.left source.old ≡ prepend_known given (S.left source.new))
-        × Outcome given (S.left source.new) (W.held sink.old) (W.held sink.new) result }
+        × Outcome job.Run given (S.left source.new) (W.held sink.old) (W.held sink.new) result }
     ensures read_fault { result ≡ Status.ReadFault → HasRisen (S.faults source.old) (S.faults source.new) }
     ensures write_fault { result ≡ Status.WriteFault → HasRisen (W.faults sink.old) (W.faults sink.new) }
 {

@@ -66,7 +66,7 @@ fn call<L: Ledger>(
 }
 
 // Scripts, each with its status and its replies.
-const SCRIPTS: [(&str, Status, &str); 15] = [
+const SCRIPTS: [(&str, Status, &str); 19] = [
     // The first run.
     (
         "cons a closed 2 : A >= 0, B >= 0, A + B <= 4\n\
@@ -253,6 +253,176 @@ const SCRIPTS: [(&str, Status, &str); 15] = [
          names 2 b a\n\
          fault 2 UnknownName\n",
     ),
+    // Meet, hull, and how two sets lie.
+    (
+        "cons s closed 2 : A >= 0, A <= 1, B >= 0, B <= 1\n\
+         gens t closed 2 : p(2*A)\n\
+         hull h s t\n\
+         print cons h\n\
+         print gens h\n\
+         contains h s\n\
+         contains s h\n\
+         equal s h\n\
+         disjoint s t\n\
+         add s : A + B <= 1\n\
+         cons w closed 2 : A >= B\n\
+         meet m s w\n\
+         print cons m\n\
+         isempty m\n\
+         meet m m t\n\
+         isempty m\n\
+         print cons m\n\
+         contains t m\n\
+         copy c w\n\
+         equal c w\n\
+         names\n",
+        Status::Done,
+        "ok\n\
+         ok\n\
+         ok\n\
+         A >= 0, B >= 0, -B >= -1, -A - B >= -2\n\
+         p(2*A), p(A + B), p(B), p(0)\n\
+         yes\n\
+         no\n\
+         no\n\
+         yes\n\
+         ok\n\
+         ok\n\
+         ok\n\
+         A - B >= 0, B >= 0, -A - B >= -1\n\
+         no\n\
+         ok\n\
+         yes\n\
+         false\n\
+         yes\n\
+         ok\n\
+         yes\n\
+         names 6 s t h w m c\n",
+    ),
+    // The same of sets that needn't be closed, and closures.
+    (
+        "cons a nnc 1 : A > 0, A <= 1\n\
+         closure b a\n\
+         print cons b\n\
+         print gens b\n\
+         contains a b\n\
+         contains b a\n\
+         equal a a\n\
+         equal a b\n\
+         gens a nnc 1 : p(0)\n\
+         cons b nnc 1 : A > 1, A < 2\n\
+         hull h a b\n\
+         print cons h\n\
+         disjoint a b\n\
+         meet h h b\n\
+         equal b h\n\
+         cons k nnc 2 : 170141183460469231731687303715884105727*A + 170141183460469231731687303715884105727*B >= 1\n\
+         gens g nnc 2 : p(A + B)\n\
+         contains k g\n\
+         equal k g\n\
+         equal g k\n",
+        Status::Refused,
+        "ok\n\
+         ok\n\
+         A >= 0, -A >= -1\n\
+         p(A), p(0)\n\
+         no\n\
+         yes\n\
+         yes\n\
+         no\n\
+         ok\n\
+         ok\n\
+         ok\n\
+         A >= 0, -A > -2\n\
+         yes\n\
+         ok\n\
+         yes\n\
+         ok\n\
+         ok\n\
+         overflow dot step 0 column 2 left 170141183460469231731687303715884105727 170141183460469231731687303715884105727 -1 right 1 1 1\n\
+         overflow dot step 0 column 2 left 170141183460469231731687303715884105727 170141183460469231731687303715884105727 -1 right 1 1 1\n\
+         no\n",
+    ),
+    // Bounds, and how a set lies to a constraint.
+    (
+        "cons a closed 2 : 2*A >= 1, B >= 0, A + B <= 1\n\
+         min a : A + B\n\
+         cons a closed 1 : A >= 1, A <= 0\n\
+         max a : A\n\
+         relation a : A >= 0\n\
+         cons a nnc 1 : A > 0, A < 1\n\
+         max a : A\n\
+         relation a : A > 0\n\
+         cons b closed 1 : A >= 0\n\
+         max b : A\n\
+         min b : A\n\
+         max b : -2*A + 7\n\
+         cons c closed 1 : 2*A >= 1, A <= 1\n\
+         max c : 170141183460469231731687303715884105727*A\n\
+         max c : A + B\n\
+         min x : A\n\
+         max c : 170141183460469231731687303715884105728*A\n\
+         cons s closed 2 : A >= 0, A <= 1, B >= 0, B <= 1\n\
+         gens t closed 2 : p(2*A)\n\
+         hull h s t\n\
+         relation h : A + B >= 0\n\
+         relation h : A >= 2\n\
+         relation h : A > 2\n\
+         relation t : A = 2\n\
+         relation s : 170141183460469231731687303715884105727*A + 170141183460469231731687303715884105727*B >= 0\n",
+        Status::Refused,
+        "ok\n\
+         1/2 attained p((A)/2)\n\
+         ok\n\
+         empty\n\
+         disjoint included saturates\n\
+         ok\n\
+         1/1 not attained c(A)\n\
+         included\n\
+         ok\n\
+         unbounded\n\
+         0/1 attained p(0)\n\
+         7/1 attained p(0)\n\
+         ok\n\
+         overflow compare step 0 column 2 left 1 2 right 1 1\n\
+         fault 10 OutOfRange\n\
+         fault 2 UnknownName\n\
+         fault 8 NumberTooLarge\n\
+         ok\n\
+         ok\n\
+         ok\n\
+         included\n\
+         intersects\n\
+         disjoint\n\
+         included saturates\n\
+         overflow dot step 0 column 2 left 170141183460469231731687303715884105727 170141183460469231731687303715884105727 0 right 1 1 1\n",
+    ),
+    // The faults of two operands, in their order.
+    (
+        "universe u closed 31\n\
+         universe n nnc 31\n\
+         universe v closed 1\n\
+         meet m u x\n\
+         meet m u n\n\
+         contains n v\n\
+         hull m u v\n\
+         disjoint v u\n\
+         closure m x\n\
+         isempty m\n\
+         names\n",
+        Status::Refused,
+        "ok\n\
+         ok\n\
+         ok\n\
+         fault 2 UnknownName\n\
+         fault 3 TopologyMismatch\n\
+         fault 3 TopologyMismatch\n\
+         fault 4 DimMismatch\n\
+         fault 4 DimMismatch\n\
+         fault 2 UnknownName\n\
+         fault 2 UnknownName\n\
+         names 3 u n v\n",
+    ),
     // Strict constraints and closure points that are kept, and one that is spare.
     (
         "cons a nnc 1 : A > 0, A <= 1\n\
@@ -389,9 +559,384 @@ fn scripts_are_answered_line_by_line(rt: HostRuntime) -> Result<(), Fail> {
     Ok(())
 }
 
+// A square by its constraints, and by its generators.
+const SQUARE: &str =
+    "square\nH-representation\nbegin\n4 3 integer\n0 1 0\n0 0 1\n1 0 -1\n1 -1 0\nend\n";
+
+const CORNERS: &str = "V-representation\nbegin\n4 3 integer\n1 1 1\n1 1 0\n1 0 1\n1 0 0\nend\n";
+
+// Files with the words that convert them, each with its status and what is written.
+const FILES: [(&str, &str, Status, &str); 26] = [
+    ("ine2ext", SQUARE, Status::Done, CORNERS),
+    (
+        "ext2ine",
+        CORNERS,
+        Status::Done,
+        "H-representation\nbegin\n4 3 integer\n0 1 0\n0 0 1\n1 0 -1\n1 -1 0\nend\n",
+    ),
+    (
+        "ine2ext",
+        "H-representation\nlinearity 1 1\nbegin\n1 3 integer\n-1 1 1\nend\n",
+        Status::Done,
+        "V-representation\nlinearity 1 1\nbegin\n2 3 integer\n0 1 -1\n1 0 1\nend\n",
+    ),
+    (
+        "ext2ine",
+        "V-representation\nbegin\n2 3 integer\n0 1 0\n0 0 1\nend\n",
+        Status::Done,
+        "H-representation\nbegin\n2 3 integer\n0 1 0\n0 0 1\nend\n",
+    ),
+    (
+        "ext2ine",
+        "V-representation\nbegin\n0 3 integer\nend\n",
+        Status::Done,
+        "H-representation\nbegin\n1 3 integer\n-1 0 0\nend\n",
+    ),
+    (
+        "ine2ext",
+        "H-representation\nbegin\n1 3 integer\n-1 0 0\nend\n",
+        Status::Done,
+        "V-representation\nbegin\n0 3 integer\nend\n",
+    ),
+    // Carriage returns, one line behind `begin`, no kind, and options behind the file.
+    (
+        "ine2ext",
+        "* a square\r\nH-representation\r\nbegin\r\n4 3 integer\r\n0 1 0\r\n0 0 1\r\n1 0 -1\r\n1 -1 0\r\nend\r\n",
+        Status::Done,
+        CORNERS,
+    ),
+    (
+        "ine2ext",
+        "begin\n4 3 integer 0 1 0 0 0 1 1 0 -1 1 -1 0\nend\nmaximize 0 1 1\nend\n",
+        Status::Done,
+        CORNERS,
+    ),
+    (
+        "ine2ext",
+        "begin\n1\n2\ninteger\n+3 -6\n  end  ",
+        Status::Refused,
+        "fault 19 NotIntegral\n",
+    ),
+    // Each fault.
+    (
+        "ine2ext",
+        "H-representation\nbegin\n4 3 integer\n0 1 0\n0 0 1\n1 0 -1\n1 -1 0\n",
+        Status::Refused,
+        "fault 24 Truncated\n",
+    ),
+    ("ext2ine", "", Status::Refused, "fault 24 Truncated\n"),
+    (
+        "ine2ext",
+        "H-representation\nbegin\n4 3 real\n0 1 0\n0 0 1\n1 0 -1\n1 -1 0\nend\n",
+        Status::Refused,
+        "fault 18 NumberType\n",
+    ),
+    (
+        "ine2ext",
+        "square\nH-representation\nbegin\n4 3 integer\n0 1 0\n0 0 1\n1 0 -1\nend\n",
+        Status::Refused,
+        "fault 16 CddSyntax 8\n",
+    ),
+    (
+        "ine2ext",
+        "H-representation\nlinearity 1 5\nbegin\n4 3 integer\n0 1 0\n0 0 1\n1 0 -1\n1 -1 0\nend\n",
+        Status::Refused,
+        "fault 20 LinearityIndex\n",
+    ),
+    (
+        "ine2ext",
+        "H-representation\nbegin\n4 3 integer\n0 1 0\n0 0 1\n1 0 -1\n1 -1 0\nend\nlinearity 1 1\n",
+        Status::Refused,
+        "fault 22 LinearityAfterEnd\n",
+    ),
+    ("ext2ine", SQUARE, Status::Refused, "fault 17 WrongKind\n"),
+    (
+        "ine2ext",
+        "begin\n3 3 integer\n-1 2 0\n0 0 1\n1 -1 -1\nend\n",
+        Status::Refused,
+        "fault 19 NotIntegral\n",
+    ),
+    (
+        "ext2ine",
+        "linearity 1 1\nbegin\n1 2 integer\n1 0\nend\n",
+        Status::Refused,
+        "fault 21 LinearityOnVertex\n",
+    ),
+    (
+        "ext2ine",
+        "begin\n1 2 integer\n-1 0\nend\n",
+        Status::Refused,
+        "fault 23 NegativeFirst\n",
+    ),
+    (
+        "ext2ine",
+        "begin\n1 2 integer\n0 0\nend\n",
+        Status::Refused,
+        "fault 15 ZeroVector\n",
+    ),
+    (
+        "ine2ext",
+        "begin\n0 33 integer\nend\nlinearity\n",
+        Status::Refused,
+        "fault 5 TooManyDims\n",
+    ),
+    (
+        "ine2ext",
+        "begin\n1 2 integer\n170141183460469231731687303715884105728 1\nend\n",
+        Status::Refused,
+        "fault 8 NumberTooLarge\n",
+    ),
+    // A conversion that leaves the range, and a fault before it.
+    (
+        "ine2ext",
+        "begin\n2 3 integer\n0 170141183460469231731687303715884105727 2\n0 1 3\nend\n",
+        Status::Refused,
+        "overflow dot step 2 column 2 left 2 -170141183460469231731687303715884105727 0 right 1 3 0\n",
+    ),
+    (
+        "ine2ext",
+        "begin\n2 3 integer\n0 170141183460469231731687303715884105727 2\n0 1 3\nend\nlinearity",
+        Status::Refused,
+        "fault 22 LinearityAfterEnd\n",
+    ),
+    // A pyramid and a cone.
+    (
+        "ine2ext",
+        "begin\n5 4 integer\n0 0 0 1\n1 1 0 -1\n1 -1 0 -1\n1 0 1 -1\n1 0 -1 -1\nend\n",
+        Status::Done,
+        "V-representation\nbegin\n5 4 integer\n1 1 1 0\n1 1 -1 0\n1 0 0 1\n1 -1 1 0\n1 -1 -1 0\nend\n",
+    ),
+    (
+        "ine2ext",
+        "begin\n3 4 integer\n0 1 0 0\n0 0 1 0\n0 -1 -1 1\nend\n",
+        Status::Done,
+        "V-representation\nbegin\n4 4 integer\n0 1 0 1\n0 0 1 1\n0 0 0 1\n1 0 0 0\nend\n",
+    ),
+];
+
+// What ends a file, and what can't stand before its numbers.
+const CUT_FILES: [(&str, &str, Status, &str); 15] = [
+    ("ine2ext", "", Status::Refused, "fault 24 Truncated\n"),
+    (
+        "ine2ext",
+        "begin\n1 2 integer\n1 2\n",
+        Status::Refused,
+        "fault 24 Truncated\n",
+    ),
+    (
+        "ine2ext",
+        "begin\n0 1 integer\nend x\n",
+        Status::Refused,
+        "fault 24 Truncated\n",
+    ),
+    ("ine2ext", "end", Status::Refused, "fault 16 CddSyntax 1\n"),
+    (
+        "ine2ext",
+        "x\nbegin x\nend\n",
+        Status::Refused,
+        "fault 16 CddSyntax 3\n",
+    ),
+    (
+        "ine2ext",
+        "H-representation\n\nH-representation\nbegin\n0 1 integer\nend",
+        Status::Refused,
+        "fault 16 CddSyntax 3\n",
+    ),
+    (
+        "ine2ext",
+        "linearity 2 1\nbegin\n0 1 integer\nend",
+        Status::Refused,
+        "fault 16 CddSyntax 1\n",
+    ),
+    (
+        "ine2ext",
+        "linearity 0\nlinearity 0\nbegin\n0 1 integer\nend",
+        Status::Refused,
+        "fault 16 CddSyntax 2\n",
+    ),
+    (
+        "ine2ext",
+        "\nlinearity 999999999999999999999999999999999999999999999999999999999999 1\nbegin\n0 1 integer\nend",
+        Status::Refused,
+        "fault 16 CddSyntax 2\n",
+    ),
+    (
+        "ine2ext",
+        "begin\n-1 1 integer\nend",
+        Status::Refused,
+        "fault 16 CddSyntax 2\n",
+    ),
+    (
+        "ine2ext",
+        "begin\n0 0 integer\nend",
+        Status::Refused,
+        "fault 16 CddSyntax 2\n",
+    ),
+    (
+        "ine2ext",
+        "begin\n0\n1\nint\nend",
+        Status::Refused,
+        "fault 16 CddSyntax 4\n",
+    ),
+    (
+        "ine2ext",
+        "begin\n0 1\nend",
+        Status::Refused,
+        "fault 16 CddSyntax 3\n",
+    ),
+    (
+        "ine2ext",
+        "begin\n0 1 real x\nend",
+        Status::Refused,
+        "fault 18 NumberType\n",
+    ),
+    (
+        "ine2ext",
+        "V-representation\nbegin\n9 9 rational\nend",
+        Status::Refused,
+        "fault 18 NumberType\n",
+    ),
+];
+
+// Numbers that can't stand, and the first of several faults.
+const WRONG_FILES: [(&str, &str, Status, &str); 16] = [
+    (
+        "ine2ext",
+        "begin\n1 2 integer\n1\n1.5\nend",
+        Status::Refused,
+        "fault 16 CddSyntax 4\n",
+    ),
+    (
+        "ine2ext",
+        "begin\n1 2 integer 1 2\n3\nend",
+        Status::Refused,
+        "fault 16 CddSyntax 3\n",
+    ),
+    (
+        "ine2ext",
+        "begin\n4 3 integer\n0 1 0\n0 0 1\n1 0 -1\nend\n",
+        Status::Refused,
+        "fault 16 CddSyntax 6\n",
+    ),
+    (
+        "ine2ext",
+        "begin\n4294967296 4294967297 integer\n1\nend",
+        Status::Refused,
+        "fault 16 CddSyntax 4\n",
+    ),
+    (
+        "ine2ext",
+        "begin\n999999999999999999999999999999999999999999999999999999999999 2 integer\n1 2\nend",
+        Status::Refused,
+        "fault 16 CddSyntax 4\n",
+    ),
+    (
+        "ine2ext",
+        "V-representation\nbegin\n0 33 integer\nend",
+        Status::Refused,
+        "fault 17 WrongKind\n",
+    ),
+    (
+        "ine2ext",
+        "begin\n0 999999999999999999999999999999999999999999999999999999999999 integer\nend",
+        Status::Refused,
+        "fault 5 TooManyDims\n",
+    ),
+    (
+        "ine2ext",
+        "linearity 1 0\nbegin\n1 1 integer\n170141183460469231731687303715884105728\nend",
+        Status::Refused,
+        "fault 8 NumberTooLarge\n",
+    ),
+    (
+        "ine2ext",
+        "linearity 1 0\nbegin\n1 1 integer\n1\nend",
+        Status::Refused,
+        "fault 20 LinearityIndex\n",
+    ),
+    (
+        "ine2ext",
+        "linearity 1 5\nbegin\n4 1 integer\n1 1 1 1\nend",
+        Status::Refused,
+        "fault 20 LinearityIndex\n",
+    ),
+    (
+        "ine2ext",
+        "linearity 1 999999999999999999999999999999999999999999999999999999999999\nbegin\n1 1 integer\n1\nend",
+        Status::Refused,
+        "fault 20 LinearityIndex\n",
+    ),
+    (
+        "ext2ine",
+        "linearity 1 2\nbegin\n1 2 integer\n-1 0\nend",
+        Status::Refused,
+        "fault 20 LinearityIndex\n",
+    ),
+    (
+        "ext2ine",
+        "linearity 1 1\nbegin\n1 2 integer\n-1 0\nend",
+        Status::Refused,
+        "fault 23 NegativeFirst\n",
+    ),
+    (
+        "ext2ine",
+        "linearity 1 1\nbegin\n1 2 integer\n1 0\nend",
+        Status::Refused,
+        "fault 21 LinearityOnVertex\n",
+    ),
+    (
+        "ext2ine",
+        "begin\n2 2 integer\n0 0 -1 0\nend",
+        Status::Refused,
+        "fault 15 ZeroVector\n",
+    ),
+    (
+        "ext2ine",
+        "linearity 1 1\nbegin\n3 2 integer\n0 1 -1 0 0 0\nend",
+        Status::Refused,
+        "fault 23 NegativeFirst\n",
+    ),
+];
+
+#[test]
+fn files_are_converted(rt: HostRuntime) -> Result<(), Fail> {
+    for (words, file, status, written) in FILES {
+        let mut trial = trial_of(file.as_bytes(), 7);
+        trial.words = words;
+        let (got, held) = outcome_of(rt.alloc(), &trial)?;
+        assert_eq!(rt; held.as_slice(), written.as_bytes(), "{file}");
+        assert_eq!(rt; got, status, "{file}");
+    }
+    Ok(())
+}
+
+#[test]
+fn cut_files_are_refused(rt: HostRuntime) -> Result<(), Fail> {
+    for (words, file, status, written) in CUT_FILES {
+        let mut trial = trial_of(file.as_bytes(), 7);
+        trial.words = words;
+        let (got, held) = outcome_of(rt.alloc(), &trial)?;
+        assert_eq!(rt; held.as_slice(), written.as_bytes(), "{file}");
+        assert_eq!(rt; got, status, "{file}");
+    }
+    Ok(())
+}
+
+#[test]
+fn wrong_files_are_refused(rt: HostRuntime) -> Result<(), Fail> {
+    for (words, file, status, written) in WRONG_FILES {
+        let mut trial = trial_of(file.as_bytes(), 7);
+        trial.words = words;
+        let (got, held) = outcome_of(rt.alloc(), &trial)?;
+        assert_eq!(rt; held.as_slice(), written.as_bytes(), "{file}");
+        assert_eq!(rt; got, status, "{file}");
+    }
+    Ok(())
+}
+
 #[test]
 fn other_words_have_no_meaning(rt: HostRuntime) -> Result<(), Fail> {
-    for words in ["", "run x", "Run", "sample 1"] {
+    for words in ["", "run x", "Run", "sample 1", "ine2ext x", "ext2in"] {
         let mut trial = trial_of(FIRST, 7);
         trial.words = words;
         let (status, held) = outcome_of(rt.alloc(), &trial)?;

@@ -1,7 +1,10 @@
 //! The words of a command line.
-ghost use Rattle.std.specs.Prelude.{◌≡◌, ℕ, ◌<◌, ◌==◌, ◌↔◌, List, [], ◌∷◌, ◌++◌, length, slice_index_or, IsTrue, OnOk, OnErr};
-ghost use Rattle.polycalc.specs.Words.{run_words};
+ghost use Rattle.std.specs.Prelude.{◌≡◌, ℕ, ◌<◌, ◌==◌, ◌↔◌, List, [], ◌∷◌, ◌++◌, length, slice_index_or, IsTrue, OnOk, OnErr, MatchOption};
+ghost use Rattle.polycalc.specs.Words.{words_of};
+ghost use Rattle.polycalc.specs.declared.job.Job.{Job};
 
+use crate::job::Job;
+use file_poly::Format;
 use row_core::Memory;
 use std::alloc::Global;
 use std::marker::Model;
@@ -63,10 +66,25 @@ impl Words {
         self.words[i].as_slice()
     }
 
-    /// Whether the words are the one word `run`.
-    pub fn is_run(&self) -> bool
-        ensures { IsTrue result ↔ (self.now ≡ run_words) }
+    // Whether the words are this one word.
+    fn is_only(&self, word: &[u8]) -> bool
+        ensures { IsTrue result ↔ (self.now ≡ word.now ∷ []) }
     {
-        self.len() == 1 && self.word(0) == b"run".as_slice()
+        self.len() == 1 && self.word(0) == word
+    }
+
+    /// What the words ask for.
+    pub fn job(&self) -> Option<Job>
+        ensures { MatchOption result ((job : Job) → ¬ (self.now ≡ words_of job)) (λ job. self.now ≡ words_of job) }
+    {
+        if self.is_only(b"run") {
+            Some(Job::Run)
+        } else if self.is_only(b"ine2ext") {
+            Some(Job::Convert(Format::Ine))
+        } else if self.is_only(b"ext2ine") {
+            Some(Job::Convert(Format::Ext))
+        } else {
+            None
+        }
     }
 }

@@ -1,4 +1,4 @@
-use Rattle.polycalc.proofs.OneSet.{OneForm}
+use Rattle.polycalc.proofs.OneForm.{OneForm}
 use Rattle.polycalc.proofs.AcceptedLaws.{accepted_decide}
 use Rattle.polycalc.proofs.TruthLaws.{ReadBack}
 use Rattle.polycalc.proofs.laws.accepted_lines_decide.Goals as goal
@@ -8,10 +8,11 @@ returns c =
     let form : OneForm = record {
       cons = c.one_answer.ensures.cons;
       gens = c.one_answer.ensures.gens;
+      frac = c.one_answer.ensures.frac;
       stored = c.stored_is_unique.ensures;
       pair = c.kept_is_pair.ensures;
       empty = c.kept_is_empty.ensures;
       joined = c.joined_sets_are_same.ensures;
     } in
-    let read : ReadBack = record { cons = c.constraints_are_read_back.ensures; gens = c.generators_are_read_back.ensures; pair = c.kept_is_pair.ensures } in
-    accepted_decide c.names_stay_distinct.ensures.step c.names_stay_distinct.ensures.empty (record { spells = c.one_command.ensures; point = c.one_answer.ensures.point; form = form }) read
+    let read : ReadBack = record { cons = c.constraints_are_read_back.ensures; gens = c.generators_are_read_back.ensures; pair = c.kept_is_pair.ensures; witness = c.generator_is_witness.ensures } in
+    accepted_decide c.names_stay_distinct.ensures.step c.names_stay_distinct.ensures.empty (record { spells = c.one_command.ensures; point = c.one_answer.ensures.point; constraint = c.one_answer.ensures.con; expression = c.one_answer.ensures.expr; bound = c.one_sup.ensures; form = form }) read

@@ -6,6 +6,7 @@ pub returns-clause-sets : goal.returns-clause-sets
 returns-clause-sets c = as_commanded c.names_stay_distinct.ensures.step c.names_stay_distinct.ensures.empty (record {
   cons = c.one_answer.ensures.cons;
   gens = c.one_answer.ensures.gens;
+  frac = c.one_answer.ensures.frac;
   stored = c.stored_is_unique.ensures;
   pair = c.kept_is_pair.ensures;
   empty = c.kept_is_empty.ensures;
@@ -16,6 +17,7 @@ pub returns-clause-unique : goal.returns-clause-unique
 returns-clause-unique c = one_set (record {
   cons = c.one_answer.ensures.cons;
   gens = c.one_answer.ensures.gens;
+  frac = c.one_answer.ensures.frac;
   stored = c.stored_is_unique.ensures;
   pair = c.kept_is_pair.ensures;
   empty = c.kept_is_empty.ensures;

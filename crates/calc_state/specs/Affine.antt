@@ -1,0 +1,122 @@
+-- What the commands mean that map polyhedra, and those that change the dimension.
+use Rattle.std.specs.Prelude.{◌≡◌, ◌≢◌, ◌⊎◌, ℕ, ◌+◌, ◌<◌, ◌≤◌, List, length, ℤ, All}
+use Rattle.row_core.specs.declared.errors.Overflow.{Overflow}
+use Rattle.reply_text.specs.declared.faults.Fault.TheVariants as fault
+use Rattle.term_text.specs.declared.terms.ValueErr.TheVariants as value
+use Rattle.term_text.specs.Texts.{IsFrac, IsFracFault}
+use Rattle.poly_pair.specs.Polyhedra.{Polyhedron}
+use Rattle.affine_ops.specs.Maps.{substituted, pulled_back, with_zeros, without, remaining, kept_variables}
+use Rattle.affine_ops.specs.Results.{IsImage, IsPreimage, IsProjection, IsProduct}
+use Rattle.affine_ops.specs.Refusals.{SomeLeavesInImage, SomeLeavesInPullback, LeavesOnMapped, LeavesOnPulled, LeavesOnJoined}
+use Rattle.elapse.specs.Elapses.{IsElapse, LeavesOnElapse}
+use Rattle.script_text.specs.declared.command.Part.{Part}
+use Rattle.calc_state.specs.Table.{Table}
+use Rattle.calc_state.specs.Order.{Conditions, NoneOf}
+use Rattle.calc_state.specs.Meaning.{Meaning, room, small, alike, IsPut}
+use Rattle.calc_state.specs.Texts.{text_order, with_text}
+
+-- ---- the dimension
+-- the points that are in the polyhedron without their last n variables
+abbrev pub IsEmbedded : ℕ → Polyhedron → Polyhedron → Type 0
+IsEmbedded n p r = IsPreimage (without p.cons.dim (p.cons.dim + n)) (p.cons.dim + n) p r
+
+-- embed OUT P N
+abbrev pub embed : Table → List ℕ → ℕ → Polyhedron → Meaning
+embed table out n p = record {
+  conditions = small (p.cons.dim + n) (room table out);
+  overflows = LeavesOnPulled (with_zeros p.cons.dim n) (p.cons.dim + n) p;
+  does = IsPut out (IsEmbedded n p);
+}
+
+-- project OUT P N
+abbrev pub project : Table → List ℕ → ℕ → Polyhedron → Meaning
+project table out n p = record {
+  conditions = small (p.cons.dim + n) (room table out);
+  overflows = LeavesOnMapped (with_zeros p.cons.dim n) (p.cons.dim + n) p;
+  does = IsPut out (IsProjection n p);
+}
+
+-- some variable of a list isn't below the dimension
+abbrev pub variables_fault : ℕ → List ℕ → Conditions
+variables_fault dim vars fault.OutOfRange = ¬ (All (λ (i : ℕ). i < dim) vars)
+variables_fault dim vars other = ⊥
+
+-- the points of the polyhedron without these variables
+abbrev pub IsRemoved : List ℕ → Polyhedron → Polyhedron → Type 0
+IsRemoved vars p r = IsImage (remaining p.cons.dim vars) (length (kept_variables p.cons.dim vars)) p r
+
+-- remove OUT P : VARS
+abbrev pub remove : Table → List ℕ → List ℕ → Polyhedron → Meaning
+remove table out vars p = record {
+  conditions = with_text (variables_fault p.cons.dim vars) (room table out);
+  overflows = LeavesOnMapped (remaining p.cons.dim vars) (length (kept_variables p.cons.dim vars)) p;
+  does = IsPut out (IsRemoved vars p);
+}
+
+-- ---- two operands
+-- two operands have one topology
+abbrev pub of_one_topology : Polyhedron → Polyhedron → Conditions → Conditions
+of_one_topology p q others fault.TopologyMismatch = p.topology ≢ q.topology
+of_one_topology p q others other = others other
+
+-- concat OUT P Q
+abbrev pub concat : Table → List ℕ → Polyhedron → Polyhedron → Meaning
+concat table out p q = record {
+  conditions = of_one_topology p q (small (p.cons.dim + q.cons.dim) (room table out));
+  overflows = LeavesOnJoined p q;
+  does = IsPut out (IsProduct p q);
+}
+
+-- elapse OUT P Q
+abbrev pub elapse : Table → List ℕ → Polyhedron → Polyhedron → Meaning
+elapse table out p q = record {
+  conditions = alike p q (room table out);
+  overflows = LeavesOnElapse p q;
+  does = IsPut out (IsElapse p q);
+}
+
+-- ---- maps
+-- the variable is below the dimension, and the text says an expression with a divisor, which have this property
+pub record SaysReplacement (dim v : ℕ) (part : Part) (P : List ℤ → ℤ → Type 0) : Type 0 where
+  pub expr : List ℤ
+  pub divisor : ℤ
+  pub within : v < dim
+  pub read : IsFrac dim part.text expr divisor
+  pub holds : P expr divisor
+
+-- of a variable that is replaced, and the text of the expression with a divisor that replaces it
+abbrev pub fraction_fault : ℕ → ℕ → Part → Conditions
+fraction_fault dim v part fault.OutOfRange = (dim ≤ v) ⊎ IsFracFault dim part.text value.OutOfRange
+fraction_fault dim v part fault.NumberTooLarge = IsFracFault dim part.text value.TooLarge
+fraction_fault dim v part fault.ZeroDivisor = IsFracFault dim part.text value.ZeroDivisor
+fraction_fault dim v part other = ⊥
+
+-- the variable is below the dimension, and the text has no fault and says this expression with this divisor
+pub record ReadsFraction (dim v : ℕ) (part : Part) (expr : List ℤ) (divisor : ℤ) : Type 0 where
+  pub faultless : NoneOf text_order (fraction_fault dim v part)
+  pub within : v < dim
+  pub read : IsFrac dim part.text expr divisor
+
+-- the points that those of the polyhedron become where the text replaces the variable
+abbrev pub IsImageBy : ℕ → Part → Polyhedron → Polyhedron → Type 0
+IsImageBy v part p r = SaysReplacement p.cons.dim v part (λ expr den. IsImage (substituted v expr den) p.cons.dim p r)
+
+-- the points that become points of the polyhedron
+abbrev pub IsPreimageBy : ℕ → Part → Polyhedron → Polyhedron → Type 0
+IsPreimageBy v part p r = SaysReplacement p.cons.dim v part (λ expr den. IsPreimage (substituted v expr den) p.cons.dim p r)
+
+-- image OUT P V : FRAC
+abbrev pub image : Table → List ℕ → ℕ → Part → Polyhedron → Meaning
+image table out v part p = record {
+  conditions = with_text (fraction_fault p.cons.dim v part) (room table out);
+  overflows = λ over. SaysReplacement p.cons.dim v part (λ expr den. SomeLeavesInImage v expr den p.gens.list over ⊎ LeavesOnMapped (substituted v expr den) p.cons.dim p over);
+  does = IsPut out (IsImageBy v part p);
+}
+
+-- preimage OUT P V : FRAC
+abbrev pub preimage : Table → List ℕ → ℕ → Part → Polyhedron → Meaning
+preimage table out v part p = record {
+  conditions = with_text (fraction_fault p.cons.dim v part) (room table out);
+  overflows = λ over. SaysReplacement p.cons.dim v part (λ expr den. SomeLeavesInPullback v expr den p.cons.list over ⊎ LeavesOnPulled (pulled_back v expr den) p.cons.dim p over);
+  does = IsPut out (IsPreimageBy v part p);
+}

@@ -1,0 +1,254 @@
+//! The commands that map polyhedra, and those that change the dimension.
+ghost use Rattle.std.specs.Prelude.{◌≡◌, ◌≢◌, ℕ, ◌+◌, ◌<◌, ◌≤◌, All, MatchBool, MatchOption, MatchResult};
+ghost use Rattle.std.specs.Option.{option_copied};
+ghost use Rattle.grammar.specs.Form.{Matches};
+ghost use Rattle.grammar.specs.Grammar.{alone};
+ghost use Rattle.grammar.specs.Cases.{frac_cases};
+ghost use Rattle.poly_pair.specs.declared.topology.TheConstants.{MAX_DIM};
+ghost use Rattle.calc_state.specs.Meaning.{on_one, on_two};
+ghost use Rattle.calc_state.specs.Affine.{embed as make_embed, project as make_project, remove as make_removed, concat as make_concat, elapse as make_elapse, image as make_image, preimage as make_preimage, variables_fault};
+ghost use Rattle.calc_state.specs.Texts.{IsTextRefusal};
+ghost use Rattle.calc_state.specs.Step.{IsPerformed};
+
+use crate::change::Change;
+use crate::entry::Entry;
+use crate::names::Names;
+use crate::refusal::StepErr;
+use crate::texts::fraction_of;
+use poly_pair::{MAX_DIM, Poly};
+use reply_text::{Fault, Text};
+use row_core::Steps;
+use script_text::{Part, VarList};
+use std::alloc::Global;
+use std::sync::ledger::Ledger;
+
+/// The number of further variables, where the dimension with them is within the limit.
+fn more_dims(dim: usize, n: u64) -> Option<usize>
+    requires { dim ≤ MAX_DIM }
+    ensures { MatchOption result (31 < dim + n) (λ count. (count ≡ n) × (dim + count ≤ MAX_DIM)) }
+{
+    if n > (MAX_DIM - dim) as u64 {
+        return None;
+    }
+    Some(n as usize)
+}
+
+/// The points that are in the polyhedron without their last variables, which are free.
+pub fn embed<L: Ledger>(
+    alloc: Global,
+    names: &Names,
+    out: Text,
+    p: Option<&Poly>,
+    n: u64,
+    steps: &mut Steps<L>,
+) -> Result<Change, StepErr>
+    ensures { IsPerformed (on_one (option_copied p.entry) (make_embed names.now out n)) result }
+{
+    let Some(p) = p else {
+        return Err(StepErr::Input(Fault::UnknownName));
+    };
+    let Some(count) = more_dims(p.dim(), n) else {
+        return Err(StepErr::Input(Fault::TooManyDims));
+    };
+    if names.has_no_room(out.bytes()) {
+        return Err(StepErr::Input(Fault::TooManyNames));
+    }
+    match affine_ops::embed(alloc, p, count, steps) {
+        Ok(made) => Ok(Change::Puts(out, Entry::Poly(made))),
+        Err(cause) => Err(StepErr::from(cause)),
+    }
+}
+
+/// The points of the polyhedron with further variables behind, all 0.
+pub fn project<L: Ledger>(
+    alloc: Global,
+    names: &Names,
+    out: Text,
+    p: Option<&Poly>,
+    n: u64,
+    steps: &mut Steps<L>,
+) -> Result<Change, StepErr>
+    ensures { IsPerformed (on_one (option_copied p.entry) (make_project names.now out n)) result }
+{
+    let Some(p) = p else {
+        return Err(StepErr::Input(Fault::UnknownName));
+    };
+    let Some(count) = more_dims(p.dim(), n) else {
+        return Err(StepErr::Input(Fault::TooManyDims));
+    };
+    if names.has_no_room(out.bytes()) {
+        return Err(StepErr::Input(Fault::TooManyNames));
+    }
+    match affine_ops::project(alloc, p, count, steps) {
+        Ok(made) => Ok(Change::Puts(out, Entry::Poly(made))),
+        Err(cause) => Err(StepErr::from(cause)),
+    }
+}
+
+/// Whether two operands have one topology.
+fn have_one_topology(p: &Poly, q: &Poly) -> bool
+    ensures { MatchBool result (p.now.topology ≡ q.now.topology) (p.now.topology ≢ q.now.topology) }
+{
+    p.topology() == q.topology()
+}
+
+/// The product of two polyhedra.
+pub fn concat<L: Ledger>(
+    alloc: Global,
+    names: &Names,
+    out: Text,
+    p: Option<&Poly>,
+    q: Option<&Poly>,
+    steps: &mut Steps<L>,
+) -> Result<Change, StepErr>
+    ensures { IsPerformed (on_two (option_copied p.entry) (option_copied q.entry) (make_concat names.now out)) result }
+{
+    let (Some(p), Some(q)) = (p, q) else {
+        return Err(StepErr::Input(Fault::UnknownName));
+    };
+    if !have_one_topology(p, q) {
+        return Err(StepErr::Input(Fault::TopologyMismatch));
+    }
+    if p.dim() + q.dim() > MAX_DIM {
+        return Err(StepErr::Input(Fault::TooManyDims));
+    }
+    if names.has_no_room(out.bytes()) {
+        return Err(StepErr::Input(Fault::TooManyNames));
+    }
+    match affine_ops::concat(alloc, p, q, steps) {
+        Ok(made) => Ok(Change::Puts(out, Entry::Poly(made))),
+        Err(cause) => Err(StepErr::from(cause)),
+    }
+}
+
+/// The time elapse of the first by the second.
+pub fn elapse<L: Ledger>(
+    alloc: Global,
+    names: &Names,
+    out: Text,
+    p: Option<&Poly>,
+    q: Option<&Poly>,
+    steps: &mut Steps<L>,
+) -> Result<Change, StepErr>
+    ensures { IsPerformed (on_two (option_copied p.entry) (option_copied q.entry) (make_elapse names.now out)) result }
+{
+    let (Some(p), Some(q)) = (p, q) else {
+        return Err(StepErr::Input(Fault::UnknownName));
+    };
+    if !have_one_topology(p, q) {
+        return Err(StepErr::Input(Fault::TopologyMismatch));
+    }
+    if p.dim() != q.dim() {
+        return Err(StepErr::Input(Fault::DimMismatch));
+    }
+    if names.has_no_room(out.bytes()) {
+        return Err(StepErr::Input(Fault::TooManyNames));
+    }
+    match elapse::time_elapse(alloc, p, q, steps) {
+        Ok(made) => Ok(Change::Puts(out, Entry::Poly(made))),
+        Err(cause) => Err(StepErr::from(cause)),
+    }
+}
+
+/// The points that those of the polyhedron become where the variable is replaced by the fraction.
+pub fn image<L: Ledger>(
+    alloc: Global,
+    names: &Names,
+    out: Text,
+    p: Option<&Poly>,
+    v: u64,
+    part: &Part,
+    steps: &mut Steps<L>,
+) -> Result<Change, StepErr>
+    requires form { Matches (alone frac_cases) part.now.text }
+    ensures { IsPerformed (on_one (option_copied p.entry) (make_image names.now out v part.now)) result }
+{
+    let Some(p) = p else {
+        return Err(StepErr::Input(Fault::UnknownName));
+    };
+    let frac = match fraction_of(alloc, part, v, p.dim()) {
+        Ok(frac) => frac,
+        Err(cause) => return Err(cause),
+    };
+    if names.has_no_room(out.bytes()) {
+        return Err(StepErr::Input(Fault::TooManyNames));
+    }
+    match affine_ops::image(alloc, p, v as usize, frac.expr.cells(), frac.den, steps) {
+        Ok(made) => Ok(Change::Puts(out, Entry::Poly(made))),
+        Err(cause) => Err(StepErr::from(cause)),
+    }
+}
+
+/// The points that are in the polyhedron once the variable is replaced by the fraction.
+pub fn preimage<L: Ledger>(
+    alloc: Global,
+    names: &Names,
+    out: Text,
+    p: Option<&Poly>,
+    v: u64,
+    part: &Part,
+    steps: &mut Steps<L>,
+) -> Result<Change, StepErr>
+    requires form { Matches (alone frac_cases) part.now.text }
+    ensures { IsPerformed (on_one (option_copied p.entry) (make_preimage names.now out v part.now)) result }
+{
+    let Some(p) = p else {
+        return Err(StepErr::Input(Fault::UnknownName));
+    };
+    let frac = match fraction_of(alloc, part, v, p.dim()) {
+        Ok(frac) => frac,
+        Err(cause) => return Err(cause),
+    };
+    if names.has_no_room(out.bytes()) {
+        return Err(StepErr::Input(Fault::TooManyNames));
+    }
+    match affine_ops::preimage(alloc, p, v as usize, frac.expr.cells(), frac.den, steps) {
+        Ok(made) => Ok(Change::Puts(out, Entry::Poly(made))),
+        Err(cause) => Err(StepErr::from(cause)),
+    }
+}
+
+/// The variables of a list as columns, each of them below the dimension.
+fn columns_of(alloc: Global, dim: usize, vars: &VarList) -> Result<Vec<usize>, StepErr>
+    ensures { MatchResult result (λ columns. (columns.items ≡ vars.now) × All (λ (i : ℕ). i < dim) vars.now) (IsTextRefusal (variables_fault dim vars.now)) }
+{
+    let mut columns = Vec::new(alloc);
+    for index in 0..vars.len() {
+        let number = vars.get(index);
+        if number >= dim as u64 {
+            return Err(StepErr::Input(Fault::OutOfRange));
+        }
+        match columns.push(number as usize) {
+            Ok(()) => (),
+            Err(_) => return Err(StepErr::Memory),
+        }
+    }
+    Ok(columns)
+}
+
+/// The points that those of the polyhedron become without the variables of the list.
+pub fn remove<L: Ledger>(
+    alloc: Global,
+    names: &Names,
+    out: Text,
+    p: Option<&Poly>,
+    vars: &VarList,
+    steps: &mut Steps<L>,
+) -> Result<Change, StepErr>
+    ensures { IsPerformed (on_one (option_copied p.entry) (make_removed names.now out vars.now)) result }
+{
+    let Some(p) = p else {
+        return Err(StepErr::Input(Fault::UnknownName));
+    };
+    let columns = match columns_of(alloc, p.dim(), vars) {
+        Ok(columns) => columns,
+        Err(cause) => return Err(cause),
+    };
+    if names.has_no_room(out.bytes()) {
+        return Err(StepErr::Input(Fault::TooManyNames));
+    }
+    match affine_ops::remove_dims(alloc, p, columns.as_slice(), steps) {
+        Ok(made) => Ok(Change::Puts(out, Entry::Poly(made))),
+        Err(cause) => Err(StepErr::from(cause)),
+    }
+}

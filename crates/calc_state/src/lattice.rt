@@ -1,0 +1,190 @@
+//! The commands that make the meet, the hull or the closure, and those that ask how two polyhedra lie.
+ghost use Rattle.std.specs.Prelude.{◌≡◌, ◌<◌, length, IfOk};
+ghost use Rattle.std.specs.Option.{option_copied};
+ghost use Rattle.calc_state.specs.Meaning.{on_one, on_two};
+ghost use Rattle.calc_state.specs.Lattice.{meet as make_meet, hull as make_hull, closure as make_closure, contains as ask_contains, equal as ask_equal, disjoint as ask_disjoint, isempty as ask_empty, shown_rows};
+ghost use Rattle.calc_state.specs.Step.{IsPerformed};
+
+use crate::change::Change;
+use crate::entry::Entry;
+use crate::names::Names;
+use crate::questions::answer;
+use crate::refusal::StepErr;
+use cons_sys::ConsSys;
+use gens_sys::GensSys;
+use poly_pair::Poly;
+use reply_text::{Fault, Text};
+use row_core::{Memory, Overflow, PairOver, RowBuf, Steps};
+use std::alloc::Global;
+use std::sync::ledger::Ledger;
+
+/// The points that are in both.
+pub fn meet<L: Ledger>(
+    alloc: Global,
+    names: &Names,
+    out: Text,
+    p: Option<&Poly>,
+    q: Option<&Poly>,
+    steps: &mut Steps<L>,
+) -> Result<Change, StepErr>
+    ensures { IsPerformed (on_two (option_copied p.entry) (option_copied q.entry) (make_meet names.now out)) result }
+{
+    let (Some(p), Some(q)) = (p, q) else {
+        return Err(StepErr::Input(Fault::UnknownName));
+    };
+    if p.topology() != q.topology() {
+        return Err(StepErr::Input(Fault::TopologyMismatch));
+    }
+    if p.dim() != q.dim() {
+        return Err(StepErr::Input(Fault::DimMismatch));
+    }
+    if names.has_no_room(out.bytes()) {
+        return Err(StepErr::Input(Fault::TooManyNames));
+    }
+    match lattice_ops::meet(alloc, p, q, steps) {
+        Ok(made) => Ok(Change::Puts(out, Entry::Poly(made))),
+        Err(cause) => Err(StepErr::from(cause)),
+    }
+}
+
+/// The smallest polyhedron that includes both.
+pub fn hull<L: Ledger>(
+    alloc: Global,
+    names: &Names,
+    out: Text,
+    p: Option<&Poly>,
+    q: Option<&Poly>,
+    steps: &mut Steps<L>,
+) -> Result<Change, StepErr>
+    ensures { IsPerformed (on_two (option_copied p.entry) (option_copied q.entry) (make_hull names.now out)) result }
+{
+    let (Some(p), Some(q)) = (p, q) else {
+        return Err(StepErr::Input(Fault::UnknownName));
+    };
+    if p.topology() != q.topology() {
+        return Err(StepErr::Input(Fault::TopologyMismatch));
+    }
+    if p.dim() != q.dim() {
+        return Err(StepErr::Input(Fault::DimMismatch));
+    }
+    if names.has_no_room(out.bytes()) {
+        return Err(StepErr::Input(Fault::TooManyNames));
+    }
+    match lattice_ops::hull(alloc, p, q, steps) {
+        Ok(made) => Ok(Change::Puts(out, Entry::Poly(made))),
+        Err(cause) => Err(StepErr::from(cause)),
+    }
+}
+
+/// The smallest closed set that includes the polyhedron, in its topology.
+pub fn closure<L: Ledger>(
+    alloc: Global,
+    names: &Names,
+    out: Text,
+    p: Option<&Poly>,
+    steps: &mut Steps<L>,
+) -> Result<Change, StepErr>
+    ensures { IsPerformed (on_one (option_copied p.entry) (make_closure names.now out)) result }
+{
+    let Some(p) = p else {
+        return Err(StepErr::Input(Fault::UnknownName));
+    };
+    if names.has_no_room(out.bytes()) {
+        return Err(StepErr::Input(Fault::TooManyNames));
+    }
+    match lattice_ops::closure(alloc, p, steps) {
+        Ok(made) => Ok(Change::Puts(out, Entry::Poly(made))),
+        Err(cause) => Err(StepErr::from(cause)),
+    }
+}
+
+/// Whether each point of the second is in the first.
+pub fn contains(alloc: Global, p: Option<&Poly>, q: Option<&Poly>) -> Result<Change, StepErr>
+    ensures { IsPerformed (on_two (option_copied p.entry) (option_copied q.entry) ask_contains) result }
+{
+    let (Some(p), Some(q)) = (p, q) else {
+        return Err(StepErr::Input(Fault::UnknownName));
+    };
+    if p.topology() != q.topology() {
+        return Err(StepErr::Input(Fault::TopologyMismatch));
+    }
+    if p.dim() != q.dim() {
+        return Err(StepErr::Input(Fault::DimMismatch));
+    }
+    match lattice_ops::contains(p, q) {
+        Ok(holds) => Ok(Change::Says(answer(alloc, holds)?)),
+        Err(pair) => Err(StepErr::Overflow(shown(alloc, p.cons(), q.gens(), pair)?)),
+    }
+}
+
+/// Whether both have the same points.
+pub fn equal(alloc: Global, p: Option<&Poly>, q: Option<&Poly>) -> Result<Change, StepErr>
+    ensures { IsPerformed (on_two (option_copied p.entry) (option_copied q.entry) ask_equal) result }
+{
+    let (Some(p), Some(q)) = (p, q) else {
+        return Err(StepErr::Input(Fault::UnknownName));
+    };
+    if p.topology() != q.topology() {
+        return Err(StepErr::Input(Fault::TopologyMismatch));
+    }
+    if p.dim() != q.dim() {
+        return Err(StepErr::Input(Fault::DimMismatch));
+    }
+    match lattice_ops::equal(p, q) {
+        Ok(holds) => Ok(Change::Says(answer(alloc, holds)?)),
+        Err(pair) if pair.turned => Err(StepErr::Overflow(shown(alloc, q.cons(), p.gens(), pair)?)),
+        Err(pair) => Err(StepErr::Overflow(shown(alloc, p.cons(), q.gens(), pair)?)),
+    }
+}
+
+/// The rows of a pair that leaves the range.
+fn shown(alloc: Global, cons: &ConsSys, gens: &GensSys, pair: PairOver) -> Result<Overflow, Memory>
+    requires left { pair.left < length cons.now.list }
+    requires right { pair.right < length gens.now.list }
+    ensures { IfOk result (λ over. over ≡ shown_rows cons.now gens.now pair) }
+{
+    let left = RowBuf::new(alloc, cons.row(pair.left))?;
+    let right = RowBuf::new(alloc, gens.row(pair.right))?;
+    Ok(Overflow {
+        kind: pair.kind,
+        step: 0,
+        left,
+        right,
+        column: pair.column,
+    })
+}
+
+/// Whether no point is in both.
+pub fn disjoint<L: Ledger>(
+    alloc: Global,
+    p: Option<&Poly>,
+    q: Option<&Poly>,
+    steps: &mut Steps<L>,
+) -> Result<Change, StepErr>
+    ensures { IsPerformed (on_two (option_copied p.entry) (option_copied q.entry) ask_disjoint) result }
+{
+    let (Some(p), Some(q)) = (p, q) else {
+        return Err(StepErr::Input(Fault::UnknownName));
+    };
+    if p.topology() != q.topology() {
+        return Err(StepErr::Input(Fault::TopologyMismatch));
+    }
+    if p.dim() != q.dim() {
+        return Err(StepErr::Input(Fault::DimMismatch));
+    }
+    match lattice_ops::disjoint(alloc, p, q, steps) {
+        Ok(holds) => Ok(Change::Says(answer(alloc, holds)?)),
+        Err(cause) => Err(StepErr::from(cause)),
+    }
+}
+
+/// Whether there is no point.
+pub fn isempty(alloc: Global, p: Option<&Poly>) -> Result<Change, StepErr>
+    ensures { IsPerformed (on_one (option_copied p.entry) ask_empty) result }
+{
+    let Some(p) = p else {
+        return Err(StepErr::Input(Fault::UnknownName));
+    };
+    let text = answer(alloc, p.is_empty())?;
+    Ok(Change::Says(text))
+}

@@ -1,0 +1,59 @@
+use Rattle.std.proofs.Common.{◌≡◌, ◌∙◌, sym, subst, List, ℕ}
+use Rattle.std.specs.Prelude.{Option}
+use Rattle.polycalc.specs.Outcomes.{Outcome, IsAnswered}
+use Rattle.polycalc.specs.declared.job.Job.{Job}
+use Rattle.polycalc.proofs.JobLaws.{one_job, answered, when_done, when_refused, when_unread, when_too_long, when_cut, never_usage, size_told}
+use Rattle.polycalc.proofs.top.polycalc.Goals as goal
+
+pub returns-in-Some-clause-answered : goal.returns-in-Some-clause-answered
+returns-in-Some-clause-answered g c = λ task script before words left held few read write memory.
+    let o = c.do_job.ensures.outcome in
+    let now = g.S.Source.left c.do_job.new.source in
+    let new = g.W.Sink.held c.do_job.new.sink in
+    let same : c.in-Some.job ≡ task = one_job c.in-Some.job task (sym c.in-Some.ensures ∙ words) in
+    subst (λ (t : Job). IsAnswered t script before new c.do_job.result) same
+    (answered c.runs_are_complete.ensures c.in-Some.job script before o.0 now new c.do_job.result (sym left ∙ o.1) few
+    (subst (λ (h : Option (List ℕ)). Outcome c.in-Some.job o.0 now h new c.do_job.result) held o.2) (λ e. read (c.do_job.ensures.read_fault e)) (λ e. write (c.do_job.ensures.write_fault e)) memory)
+
+pub returns-in-Some-clause-done : goal.returns-in-Some-clause-done
+returns-in-Some-clause-done g c =
+    let o = c.do_job.ensures.outcome in
+    when_done c.args.words.now c.in-Some.job o.0 (g.S.Source.left c.args.source.now) (g.S.Source.left c.do_job.new.source) (g.W.Sink.held c.args.sink.now) (g.W.Sink.held c.do_job.new.sink) c.do_job.result c.in-Some.ensures o.1 o.2
+
+pub returns-in-Some-clause-refused : goal.returns-in-Some-clause-refused
+returns-in-Some-clause-refused g c =
+    let o = c.do_job.ensures.outcome in
+    when_refused c.args.words.now c.in-Some.job o.0 (g.S.Source.left c.args.source.now) (g.S.Source.left c.do_job.new.source) (g.W.Sink.held c.args.sink.now) (g.W.Sink.held c.do_job.new.sink) c.do_job.result c.in-Some.ensures o.1 o.2
+
+pub returns-in-Some-clause-whole_lines : goal.returns-in-Some-clause-whole_lines
+returns-in-Some-clause-whole_lines g c =
+    let o = c.do_job.ensures.outcome in
+    when_unread c.args.words.now c.in-Some.job o.0 (g.S.Source.left c.args.source.now) (g.S.Source.left c.do_job.new.source) (g.W.Sink.held c.args.sink.now) (g.W.Sink.held c.do_job.new.sink) c.do_job.result c.in-Some.ensures o.1 o.2
+
+pub returns-in-Some-clause-earlier_lines : goal.returns-in-Some-clause-earlier_lines
+returns-in-Some-clause-earlier_lines g c =
+    let o = c.do_job.ensures.outcome in
+    when_too_long c.args.words.now c.in-Some.job o.0 (g.S.Source.left c.args.source.now) (g.S.Source.left c.do_job.new.source) (g.W.Sink.held c.args.sink.now) (g.W.Sink.held c.do_job.new.sink) c.do_job.result c.in-Some.ensures o.1 o.2
+
+pub returns-in-Some-clause-partly : goal.returns-in-Some-clause-partly
+returns-in-Some-clause-partly g c =
+    let o = c.do_job.ensures.outcome in
+    when_cut c.args.words.now c.in-Some.job o.0 (g.S.Source.left c.args.source.now) (g.S.Source.left c.do_job.new.source) (g.W.Sink.held c.args.sink.now) (g.W.Sink.held c.do_job.new.sink) c.do_job.result c.in-Some.ensures o.1 o.2
+
+pub returns-in-Some-clause-usage : goal.returns-in-Some-clause-usage
+returns-in-Some-clause-usage g c =
+    let o = c.do_job.ensures.outcome in (
+      λ e. absurd (never_usage c.in-Some.job o.0 (g.S.Source.left c.do_job.new.source) (g.W.Sink.held c.args.sink.now) (g.W.Sink.held c.do_job.new.sink) c.do_job.result o.2 e),
+      λ none. absurd (none c.in-Some.job c.in-Some.ensures),
+    )
+
+pub returns-in-Some-clause-untouched : goal.returns-in-Some-clause-untouched
+returns-in-Some-clause-untouched g c = λ e.
+    let o = c.do_job.ensures.outcome in
+    absurd (never_usage c.in-Some.job o.0 (g.S.Source.left c.do_job.new.source) (g.W.Sink.held c.args.sink.now) (g.W.Sink.held c.do_job.new.sink) c.do_job.result o.2 e)
+
+pub returns-in-Some-clause-too_long : goal.returns-in-Some-clause-too_long
+returns-in-Some-clause-too_long g c =
+    let o = c.do_job.ensures.outcome in
+    let told = size_told c.in-Some.job o.0 (g.S.Source.left c.do_job.new.source) (g.W.Sink.held c.args.sink.now) (g.W.Sink.held c.do_job.new.sink) c.do_job.result o.2 in
+    (o.0, o.1, told.0, told.1)

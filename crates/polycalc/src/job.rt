@@ -1,0 +1,11 @@
+//! What the words of a command line ask for.
+use file_poly::Format;
+
+/// What the words ask for.
+#[derive(Clone, Copy, Debug, PartialEq, Eq)]
+pub enum Job {
+    /// A script is run.
+    Run,
+    /// A file that holds this list is converted into the file of the other.
+    Convert(Format),
+}
