@@ -32,6 +32,7 @@ pub mod UniqueLines
 pub mod UniqueRays
 pub mod UniqueSystems
 pub mod Rearranging
+pub mod TurnedOrder
 pub mod PrimitiveSteps
 pub mod NextSystems
 pub mod PrimitivePart
