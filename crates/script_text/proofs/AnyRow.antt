@@ -37,6 +37,9 @@ row_in row.Project = (26, omega arith, refl)
 row_in row.Remove = (27, omega arith, refl)
 row_in row.Concat = (28, omega arith, refl)
 row_in row.Elapse = (29, omega arith, refl)
+row_in row.Widen = (30, omega arith, refl)
+row_in row.Read = (31, omega arith, refl)
+row_in row.Write = (32, omega arith, refl)
 
 head_or_tail : (x : Row) (xs : List Row) (r : Row) → Contains (x ∷ xs) r → (x ≡ r) ⊎ Contains xs r
 head_or_tail x xs r (zero, h, e) = inl e

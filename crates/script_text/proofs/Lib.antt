@@ -4,6 +4,7 @@ mod AnyRow
 mod ColumnLaws
 mod ConsTable
 pub mod EdgeLemmas
+mod FileTable
 mod GensTable
 mod HasTable
 mod ImageTable

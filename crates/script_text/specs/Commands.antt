@@ -68,3 +68,6 @@ command_of row.Project f = command.Project f.first f.second (number_of f.third)
 command_of row.Remove f = command.Remove f.first f.second (variables_of f.part)
 command_of row.Concat f = command.Concat f.first f.second f.third
 command_of row.Elapse f = command.Elapse f.first f.second f.third
+command_of row.Widen f = command.Widen f.first f.second f.third
+command_of row.Read f = command.Read f.first (is_word f.second (codes "ext"))
+command_of row.Write f = command.Write f.first (is_word f.second (codes "ext"))

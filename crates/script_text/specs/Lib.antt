@@ -1,5 +1,6 @@
 pub mod Commands
 pub mod Fields
+pub mod Kinds
 pub mod Laws
 pub mod Line
 pub mod Rows

@@ -3,7 +3,7 @@ use Rattle.std.specs.Prelude.{◌≡◌, ℕ, List, [], ◌∷◌, Option, Some,
 use Rattle.grammar.specs.Form.{Form, word}
 use Rattle.grammar.specs.Grammar.{◌·◌, ◌∣◌, symbol, blanks, gap, perhaps, alone, comment, name, nat, var, vars, expr, frac, con, cons, point, gens}
 use Rattle.script_text.specs.declared.row.Row.{Row}
-use Rattle.script_text.specs.declared.row.Row.TheVariants.{Nothing, Cons, Gens, Universe, Empty, Copy, Drop, Add, Addgen, Has, Size, Print, Names, Meet, Hull, Closure, Contains, Equal, Disjoint, Isempty, Relation, Max, Min, Image, Preimage, Embed, Project, Remove, Concat, Elapse}
+use Rattle.script_text.specs.declared.row.Row.TheVariants.{Nothing, Cons, Gens, Universe, Empty, Copy, Drop, Add, Addgen, Has, Size, Print, Names, Meet, Hull, Closure, Contains, Equal, Disjoint, Isempty, Relation, Max, Min, Image, Preimage, Embed, Project, Remove, Concat, Elapse, Widen, Read, Write}
 
 -- a line: its command word, what each word behind it may be, and the part behind a colon
 pub record Shape : Type 0 where
@@ -40,6 +40,10 @@ top = word (codes "closed") ∣ word (codes "nnc")
 -- which of the two stored lists
 abbrev pub side : Form
 side = word (codes "cons") ∣ word (codes "gens")
+
+-- which of the two kinds of files
+abbrev pub format : Form
+format = word (codes "ine") ∣ word (codes "ext")
 
 -- a command word and words behind it
 abbrev pub plain : List ℕ → List Form → Shape
@@ -81,6 +85,9 @@ shape_of Project = plain (codes "project") (name ∷ name ∷ nat ∷ [])
 shape_of Remove = with_part (codes "remove") (name ∷ name ∷ []) vars
 shape_of Concat = plain (codes "concat") (name ∷ name ∷ name ∷ [])
 shape_of Elapse = plain (codes "elapse") (name ∷ name ∷ name ∷ [])
+shape_of Widen = plain (codes "widen") (name ∷ name ∷ name ∷ [])
+shape_of Read = plain (codes "read") (name ∷ format ∷ [])
+shape_of Write = plain (codes "write") (name ∷ format ∷ [])
 
 -- the word is the row's command word; a blank line has none
 abbrev pub IsCommandWord : Row → List ℕ → Type 0
@@ -94,4 +101,4 @@ row_form row = line_form (shape_of row)
 
 -- all rows
 abbrev pub rows : List Row
-rows = Nothing ∷ Cons ∷ Gens ∷ Universe ∷ Empty ∷ Copy ∷ Drop ∷ Add ∷ Addgen ∷ Has ∷ Size ∷ Print ∷ Names ∷ Meet ∷ Hull ∷ Closure ∷ Contains ∷ Equal ∷ Disjoint ∷ Isempty ∷ Relation ∷ Max ∷ Min ∷ Image ∷ Preimage ∷ Embed ∷ Project ∷ Remove ∷ Concat ∷ Elapse ∷ []
+rows = Nothing ∷ Cons ∷ Gens ∷ Universe ∷ Empty ∷ Copy ∷ Drop ∷ Add ∷ Addgen ∷ Has ∷ Size ∷ Print ∷ Names ∷ Meet ∷ Hull ∷ Closure ∷ Contains ∷ Equal ∷ Disjoint ∷ Isempty ∷ Relation ∷ Max ∷ Min ∷ Image ∷ Preimage ∷ Embed ∷ Project ∷ Remove ∷ Concat ∷ Elapse ∷ Widen ∷ Read ∷ Write ∷ []

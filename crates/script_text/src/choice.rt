@@ -10,7 +10,7 @@ use crate::shapes::{nothing_verdict, rest_verdict};
 use grammar::{Verdict, column_of};
 use std::alloc::{AllocError, Global};
 
-pub const ROWS: [Row; 30] = [
+pub const ROWS: [Row; 33] = [
     Row::Nothing,
     Row::Cons,
     Row::Gens,
@@ -41,6 +41,9 @@ pub const ROWS: [Row; 30] = [
     Row::Remove,
     Row::Concat,
     Row::Elapse,
+    Row::Widen,
+    Row::Read,
+    Row::Write,
 ];
 
 /// The row that the command word names.
@@ -77,6 +80,9 @@ fn named(word: &[u8]) -> Option<Row>
         b"remove" => Some(Row::Remove),
         b"concat" => Some(Row::Concat),
         b"elapse" => Some(Row::Elapse),
+        b"widen" => Some(Row::Widen),
+        b"read" => Some(Row::Read),
+        b"write" => Some(Row::Write),
         _ => None,
     }
 }

@@ -172,4 +172,20 @@ pub enum Command {
         p: Text,
         q: Text,
     },
+    /// `widen OUT P Q`
+    Widen {
+        out: Text,
+        p: Text,
+        q: Text,
+    },
+    /// `read OUT FORM`; `form` is whether the file lists generators.
+    Read {
+        out: Text,
+        form: bool,
+    },
+    /// `write P FORM`
+    Write {
+        p: Text,
+        form: bool,
+    },
 }

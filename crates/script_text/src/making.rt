@@ -3,6 +3,7 @@ ghost use Rattle.std.specs.Prelude.{◌≡◌, ℕ, List, ◌∷◌, length, tak
 ghost use Rattle.term_text.specs.Reading.{is_digit, is_upper};
 ghost use Rattle.script_text.specs.Commands.{command_of, number_of, is_word, is_strict, begins_strict, part_from};
 ghost use Rattle.script_text.specs.Fields.{fields_in};
+ghost use Rattle.script_text.specs.Kinds.{IsOneName, IsNameAndPart, IsTwoNames, IsThreeNames, IsSpace, IsSpaceAndPart, IsTwoNamesNumber, IsTwoNamesVariable, IsNameFormat};
 ghost use Rattle.script_text.specs.Variables.{variable_of, variables_of};
 ghost use Rattle.script_text.specs.Words.{part_of};
 ghost use Rattle.script_text.specs.declared.row.Row.TheVariants as row;
@@ -10,7 +11,7 @@ ghost use Rattle.script_text.specs.declared.row.Row.TheVariants as row;
 use crate::command::{Command, Part};
 use crate::row::Row;
 use crate::variables::VarList;
-use crate::words::{part_of, split_word};
+use crate::words::{part_of, split_word, three_words, two_words};
 use reply_text::Text;
 use row_core::Memory;
 use std::alloc::Global;
@@ -118,361 +119,205 @@ fn variables(alloc: Global, text: &[u8]) -> Result<VarList, Memory>
     Ok(numbers)
 }
 
+/// The command of a row with one name.
+fn of_one_name(alloc: Global, row: Row, rest: &[u8]) -> Result<Command, Memory>
+    requires { IsOneName row }
+    ensures { IfOk result (λ c. c ≡ command_of row (fields_in rest.now)) }
+{
+    let (first, _) = split_word(rest);
+    let p = text(alloc, first)?;
+    Ok(match row {
+        Row::Drop => Command::Drop { name: p },
+        Row::Size => Command::Size { p },
+        _ => Command::Isempty { p },
+    })
+}
+
+/// The command of a row with a name and a part.
+fn of_name_part(alloc: Global, row: Row, rest: &[u8]) -> Result<Command, Memory>
+    requires { IsNameAndPart row }
+    ensures { IfOk result (λ c. c ≡ command_of row (fields_in rest.now)) }
+{
+    let (first, _) = split_word(rest);
+    let p = text(alloc, first)?;
+    let part = part(alloc, rest)?;
+    Ok(match row {
+        Row::Add => Command::Add { p, cons: part },
+        Row::Addgen => Command::Addgen { p, gens: part },
+        Row::Has => Command::Has { p, point: part },
+        Row::Relation => Command::Relation { p, con: part },
+        Row::Max => Command::Max { p, expr: part },
+        _ => Command::Min { p, expr: part },
+    })
+}
+
+/// The command of a row with two names.
+fn of_two_names(alloc: Global, row: Row, rest: &[u8]) -> Result<Command, Memory>
+    requires { IsTwoNames row }
+    ensures { IfOk result (λ c. c ≡ command_of row (fields_in rest.now)) }
+{
+    let (first, second) = two_words(rest);
+    let p = text(alloc, first)?;
+    let q = text(alloc, second)?;
+    Ok(match row {
+        Row::Copy => Command::Copy { out: p, p: q },
+        Row::Closure => Command::Closure { out: p, p: q },
+        Row::Contains => Command::Contains { p, q },
+        Row::Equal => Command::Equal { p, q },
+        _ => Command::Disjoint { p, q },
+    })
+}
+
+/// The command of a row with three names.
+fn of_three_names(alloc: Global, row: Row, rest: &[u8]) -> Result<Command, Memory>
+    requires { IsThreeNames row }
+    ensures { IfOk result (λ c. c ≡ command_of row (fields_in rest.now)) }
+{
+    let (first, second, third) = three_words(rest);
+    let out = text(alloc, first)?;
+    let p = text(alloc, second)?;
+    let q = text(alloc, third)?;
+    Ok(match row {
+        Row::Meet => Command::Meet { out, p, q },
+        Row::Hull => Command::Hull { out, p, q },
+        Row::Concat => Command::Concat { out, p, q },
+        Row::Elapse => Command::Elapse { out, p, q },
+        _ => Command::Widen { out, p, q },
+    })
+}
+
+/// The command of a row with a name, a topology and a number.
+fn of_space(alloc: Global, row: Row, rest: &[u8]) -> Result<Command, Memory>
+    requires { IsSpace row }
+    ensures { IfOk result (λ c. c ≡ command_of row (fields_in rest.now)) }
+{
+    let (first, second, third) = three_words(rest);
+    let out = text(alloc, first)?;
+    let top = is_word(second, b"nnc");
+    let n = number(third);
+    Ok(match row {
+        Row::Universe => Command::Universe { out, top, n },
+        _ => Command::Empty { out, top, n },
+    })
+}
+
+/// The command of a row with a name, a topology, a number and a part.
+fn of_space_part(alloc: Global, row: Row, rest: &[u8]) -> Result<Command, Memory>
+    requires { IsSpaceAndPart row }
+    ensures { IfOk result (λ c. c ≡ command_of row (fields_in rest.now)) }
+{
+    let (first, second, third) = three_words(rest);
+    let out = text(alloc, first)?;
+    let top = is_word(second, b"nnc");
+    let n = number(third);
+    let part = part(alloc, rest)?;
+    Ok(match row {
+        Row::Cons => Command::Cons {
+            out,
+            top,
+            n,
+            cons: part,
+        },
+        _ => Command::Gens {
+            out,
+            top,
+            n,
+            gens: part,
+        },
+    })
+}
+
+/// The command of a row with two names and a number.
+fn of_two_names_number(alloc: Global, row: Row, rest: &[u8]) -> Result<Command, Memory>
+    requires { IsTwoNamesNumber row }
+    ensures { IfOk result (λ c. c ≡ command_of row (fields_in rest.now)) }
+{
+    let (first, second, third) = three_words(rest);
+    let out = text(alloc, first)?;
+    let p = text(alloc, second)?;
+    let n = number(third);
+    Ok(match row {
+        Row::Embed => Command::Embed { out, p, n },
+        _ => Command::Project { out, p, n },
+    })
+}
+
+/// The command of a row with two names, a variable and a part.
+fn of_two_names_variable(alloc: Global, row: Row, rest: &[u8]) -> Result<Command, Memory>
+    requires { IsTwoNamesVariable row }
+    ensures { IfOk result (λ c. c ≡ command_of row (fields_in rest.now)) }
+{
+    let (first, second, third) = three_words(rest);
+    let out = text(alloc, first)?;
+    let p = text(alloc, second)?;
+    let v = variable(third);
+    let frac = part(alloc, rest)?;
+    Ok(match row {
+        Row::Image => Command::Image { out, p, v, frac },
+        _ => Command::Preimage { out, p, v, frac },
+    })
+}
+
+/// The command of a row with a name and the kind of a file.
+fn of_name_format(alloc: Global, row: Row, rest: &[u8]) -> Result<Command, Memory>
+    requires { IsNameFormat row }
+    ensures { IfOk result (λ c. c ≡ command_of row (fields_in rest.now)) }
+{
+    let (first, second) = two_words(rest);
+    let name = text(alloc, first)?;
+    let form = is_word(second, b"ext");
+    Ok(match row {
+        Row::Read => Command::Read { out: name, form },
+        _ => Command::Write { p: name, form },
+    })
+}
+
+/// `print`, with a side and a name.
+fn print_command(alloc: Global, rest: &[u8]) -> Result<Command, Memory>
+    ensures { IfOk result (λ c. c ≡ command_of row.Print (fields_in rest.now)) }
+{
+    let (first, second) = two_words(rest);
+    Ok(Command::Print {
+        side: is_word(first, b"gens"),
+        p: text(alloc, second)?,
+    })
+}
+
+/// `remove`, with two names and the variables of its part.
+fn remove_command(alloc: Global, rest: &[u8]) -> Result<Command, Memory>
+    ensures { IfOk result (λ c. c ≡ command_of row.Remove (fields_in rest.now)) }
+{
+    let (first, second) = two_words(rest);
+    Ok(Command::Remove {
+        out: text(alloc, first)?,
+        p: text(alloc, second)?,
+        vars: variables(alloc, part_of(rest))?,
+    })
+}
+
 /// The command of a line of the row, from what stands behind its word.
 pub fn command_of(alloc: Global, row: Row, rest: &[u8]) -> Result<Command, Memory>
     ensures { IfOk result (λ c. c ≡ command_of row (fields_in rest.now)) }
 {
     match row {
         Row::Nothing => Ok(Command::Nothing),
-        Row::Cons => cons_command(alloc, rest),
-        Row::Gens => gens_command(alloc, rest),
-        Row::Universe => universe_command(alloc, rest),
-        Row::Empty => empty_command(alloc, rest),
-        Row::Copy => copy_command(alloc, rest),
-        Row::Drop => drop_command(alloc, rest),
-        Row::Add => add_command(alloc, rest),
-        Row::Addgen => addgen_command(alloc, rest),
-        Row::Has => has_command(alloc, rest),
-        Row::Size => size_command(alloc, rest),
-        Row::Print => print_command(alloc, rest),
         Row::Names => Ok(Command::Names),
-        Row::Meet => meet_command(alloc, rest),
-        Row::Hull => hull_command(alloc, rest),
-        Row::Closure => closure_command(alloc, rest),
-        Row::Contains => contains_command(alloc, rest),
-        Row::Equal => equal_command(alloc, rest),
-        Row::Disjoint => disjoint_command(alloc, rest),
-        Row::Isempty => isempty_command(alloc, rest),
-        Row::Relation => relation_command(alloc, rest),
-        Row::Max => max_command(alloc, rest),
-        Row::Min => min_command(alloc, rest),
-        Row::Image => image_command(alloc, rest),
-        Row::Preimage => preimage_command(alloc, rest),
-        Row::Embed => embed_command(alloc, rest),
-        Row::Project => project_command(alloc, rest),
+        Row::Drop | Row::Size | Row::Isempty => of_one_name(alloc, row, rest),
+        Row::Add | Row::Addgen | Row::Has | Row::Relation | Row::Max | Row::Min => of_name_part(
+            alloc, row, rest,
+        ),
+        Row::Copy | Row::Closure | Row::Contains | Row::Equal | Row::Disjoint => of_two_names(
+            alloc, row, rest,
+        ),
+        Row::Meet | Row::Hull | Row::Concat | Row::Elapse | Row::Widen => of_three_names(
+            alloc, row, rest,
+        ),
+        Row::Universe | Row::Empty => of_space(alloc, row, rest),
+        Row::Cons | Row::Gens => of_space_part(alloc, row, rest),
+        Row::Embed | Row::Project => of_two_names_number(alloc, row, rest),
+        Row::Image | Row::Preimage => of_two_names_variable(alloc, row, rest),
+        Row::Read | Row::Write => of_name_format(alloc, row, rest),
+        Row::Print => print_command(alloc, rest),
         Row::Remove => remove_command(alloc, rest),
-        Row::Concat => concat_command(alloc, rest),
-        Row::Elapse => elapse_command(alloc, rest),
     }
-}
-
-fn cons_command(alloc: Global, rest: &[u8]) -> Result<Command, Memory>
-    ensures { IfOk result (λ c. c ≡ command_of row.Cons (fields_in rest.now)) }
-{
-    let (out, behind) = split_word(rest);
-    let (top, behind) = split_word(behind);
-    let (n, _) = split_word(behind);
-    Ok(Command::Cons {
-        out: text(alloc, out)?,
-        top: is_word(top, b"nnc"),
-        n: number(n),
-        cons: part(alloc, rest)?,
-    })
-}
-
-fn gens_command(alloc: Global, rest: &[u8]) -> Result<Command, Memory>
-    ensures { IfOk result (λ c. c ≡ command_of row.Gens (fields_in rest.now)) }
-{
-    let (out, behind) = split_word(rest);
-    let (top, behind) = split_word(behind);
-    let (n, _) = split_word(behind);
-    Ok(Command::Gens {
-        out: text(alloc, out)?,
-        top: is_word(top, b"nnc"),
-        n: number(n),
-        gens: part(alloc, rest)?,
-    })
-}
-
-fn universe_command(alloc: Global, rest: &[u8]) -> Result<Command, Memory>
-    ensures { IfOk result (λ c. c ≡ command_of row.Universe (fields_in rest.now)) }
-{
-    let (out, behind) = split_word(rest);
-    let (top, behind) = split_word(behind);
-    let (n, _) = split_word(behind);
-    Ok(Command::Universe {
-        out: text(alloc, out)?,
-        top: is_word(top, b"nnc"),
-        n: number(n),
-    })
-}
-
-fn empty_command(alloc: Global, rest: &[u8]) -> Result<Command, Memory>
-    ensures { IfOk result (λ c. c ≡ command_of row.Empty (fields_in rest.now)) }
-{
-    let (out, behind) = split_word(rest);
-    let (top, behind) = split_word(behind);
-    let (n, _) = split_word(behind);
-    Ok(Command::Empty {
-        out: text(alloc, out)?,
-        top: is_word(top, b"nnc"),
-        n: number(n),
-    })
-}
-
-fn copy_command(alloc: Global, rest: &[u8]) -> Result<Command, Memory>
-    ensures { IfOk result (λ c. c ≡ command_of row.Copy (fields_in rest.now)) }
-{
-    let (out, behind) = split_word(rest);
-    let (p, _) = split_word(behind);
-    Ok(Command::Copy {
-        out: text(alloc, out)?,
-        p: text(alloc, p)?,
-    })
-}
-
-fn drop_command(alloc: Global, rest: &[u8]) -> Result<Command, Memory>
-    ensures { IfOk result (λ c. c ≡ command_of row.Drop (fields_in rest.now)) }
-{
-    let (name, _) = split_word(rest);
-    Ok(Command::Drop {
-        name: text(alloc, name)?,
-    })
-}
-
-fn add_command(alloc: Global, rest: &[u8]) -> Result<Command, Memory>
-    ensures { IfOk result (λ c. c ≡ command_of row.Add (fields_in rest.now)) }
-{
-    let (p, _) = split_word(rest);
-    Ok(Command::Add {
-        p: text(alloc, p)?,
-        cons: part(alloc, rest)?,
-    })
-}
-
-fn addgen_command(alloc: Global, rest: &[u8]) -> Result<Command, Memory>
-    ensures { IfOk result (λ c. c ≡ command_of row.Addgen (fields_in rest.now)) }
-{
-    let (p, _) = split_word(rest);
-    Ok(Command::Addgen {
-        p: text(alloc, p)?,
-        gens: part(alloc, rest)?,
-    })
-}
-
-fn has_command(alloc: Global, rest: &[u8]) -> Result<Command, Memory>
-    ensures { IfOk result (λ c. c ≡ command_of row.Has (fields_in rest.now)) }
-{
-    let (p, _) = split_word(rest);
-    Ok(Command::Has {
-        p: text(alloc, p)?,
-        point: part(alloc, rest)?,
-    })
-}
-
-fn size_command(alloc: Global, rest: &[u8]) -> Result<Command, Memory>
-    ensures { IfOk result (λ c. c ≡ command_of row.Size (fields_in rest.now)) }
-{
-    let (p, _) = split_word(rest);
-    Ok(Command::Size { p: text(alloc, p)? })
-}
-
-fn print_command(alloc: Global, rest: &[u8]) -> Result<Command, Memory>
-    ensures { IfOk result (λ c. c ≡ command_of row.Print (fields_in rest.now)) }
-{
-    let (side, behind) = split_word(rest);
-    let (p, _) = split_word(behind);
-    Ok(Command::Print {
-        side: is_word(side, b"gens"),
-        p: text(alloc, p)?,
-    })
-}
-
-fn meet_command(alloc: Global, rest: &[u8]) -> Result<Command, Memory>
-    ensures { IfOk result (λ c. c ≡ command_of row.Meet (fields_in rest.now)) }
-{
-    let (out, behind) = split_word(rest);
-    let (p, behind) = split_word(behind);
-    let (q, _) = split_word(behind);
-    Ok(Command::Meet {
-        out: text(alloc, out)?,
-        p: text(alloc, p)?,
-        q: text(alloc, q)?,
-    })
-}
-
-fn hull_command(alloc: Global, rest: &[u8]) -> Result<Command, Memory>
-    ensures { IfOk result (λ c. c ≡ command_of row.Hull (fields_in rest.now)) }
-{
-    let (out, behind) = split_word(rest);
-    let (p, behind) = split_word(behind);
-    let (q, _) = split_word(behind);
-    Ok(Command::Hull {
-        out: text(alloc, out)?,
-        p: text(alloc, p)?,
-        q: text(alloc, q)?,
-    })
-}
-
-fn closure_command(alloc: Global, rest: &[u8]) -> Result<Command, Memory>
-    ensures { IfOk result (λ c. c ≡ command_of row.Closure (fields_in rest.now)) }
-{
-    let (out, behind) = split_word(rest);
-    let (p, _) = split_word(behind);
-    Ok(Command::Closure {
-        out: text(alloc, out)?,
-        p: text(alloc, p)?,
-    })
-}
-
-fn contains_command(alloc: Global, rest: &[u8]) -> Result<Command, Memory>
-    ensures { IfOk result (λ c. c ≡ command_of row.Contains (fields_in rest.now)) }
-{
-    let (p, behind) = split_word(rest);
-    let (q, _) = split_word(behind);
-    Ok(Command::Contains {
-        p: text(alloc, p)?,
-        q: text(alloc, q)?,
-    })
-}
-
-fn equal_command(alloc: Global, rest: &[u8]) -> Result<Command, Memory>
-    ensures { IfOk result (λ c. c ≡ command_of row.Equal (fields_in rest.now)) }
-{
-    let (p, behind) = split_word(rest);
-    let (q, _) = split_word(behind);
-    Ok(Command::Equal {
-        p: text(alloc, p)?,
-        q: text(alloc, q)?,
-    })
-}
-
-fn disjoint_command(alloc: Global, rest: &[u8]) -> Result<Command, Memory>
-    ensures { IfOk result (λ c. c ≡ command_of row.Disjoint (fields_in rest.now)) }
-{
-    let (p, behind) = split_word(rest);
-    let (q, _) = split_word(behind);
-    Ok(Command::Disjoint {
-        p: text(alloc, p)?,
-        q: text(alloc, q)?,
-    })
-}
-
-fn isempty_command(alloc: Global, rest: &[u8]) -> Result<Command, Memory>
-    ensures { IfOk result (λ c. c ≡ command_of row.Isempty (fields_in rest.now)) }
-{
-    let (p, _) = split_word(rest);
-    Ok(Command::Isempty { p: text(alloc, p)? })
-}
-
-fn relation_command(alloc: Global, rest: &[u8]) -> Result<Command, Memory>
-    ensures { IfOk result (λ c. c ≡ command_of row.Relation (fields_in rest.now)) }
-{
-    let (p, _) = split_word(rest);
-    Ok(Command::Relation {
-        p: text(alloc, p)?,
-        con: part(alloc, rest)?,
-    })
-}
-
-fn max_command(alloc: Global, rest: &[u8]) -> Result<Command, Memory>
-    ensures { IfOk result (λ c. c ≡ command_of row.Max (fields_in rest.now)) }
-{
-    let (p, _) = split_word(rest);
-    Ok(Command::Max {
-        p: text(alloc, p)?,
-        expr: part(alloc, rest)?,
-    })
-}
-
-fn min_command(alloc: Global, rest: &[u8]) -> Result<Command, Memory>
-    ensures { IfOk result (λ c. c ≡ command_of row.Min (fields_in rest.now)) }
-{
-    let (p, _) = split_word(rest);
-    Ok(Command::Min {
-        p: text(alloc, p)?,
-        expr: part(alloc, rest)?,
-    })
-}
-
-fn image_command(alloc: Global, rest: &[u8]) -> Result<Command, Memory>
-    ensures { IfOk result (λ c. c ≡ command_of row.Image (fields_in rest.now)) }
-{
-    let (out, behind) = split_word(rest);
-    let (p, behind) = split_word(behind);
-    let (v, _) = split_word(behind);
-    Ok(Command::Image {
-        out: text(alloc, out)?,
-        p: text(alloc, p)?,
-        v: variable(v),
-        frac: part(alloc, rest)?,
-    })
-}
-
-fn preimage_command(alloc: Global, rest: &[u8]) -> Result<Command, Memory>
-    ensures { IfOk result (λ c. c ≡ command_of row.Preimage (fields_in rest.now)) }
-{
-    let (out, behind) = split_word(rest);
-    let (p, behind) = split_word(behind);
-    let (v, _) = split_word(behind);
-    Ok(Command::Preimage {
-        out: text(alloc, out)?,
-        p: text(alloc, p)?,
-        v: variable(v),
-        frac: part(alloc, rest)?,
-    })
-}
-
-fn embed_command(alloc: Global, rest: &[u8]) -> Result<Command, Memory>
-    ensures { IfOk result (λ c. c ≡ command_of row.Embed (fields_in rest.now)) }
-{
-    let (out, behind) = split_word(rest);
-    let (p, behind) = split_word(behind);
-    let (n, _) = split_word(behind);
-    Ok(Command::Embed {
-        out: text(alloc, out)?,
-        p: text(alloc, p)?,
-        n: number(n),
-    })
-}
-
-fn project_command(alloc: Global, rest: &[u8]) -> Result<Command, Memory>
-    ensures { IfOk result (λ c. c ≡ command_of row.Project (fields_in rest.now)) }
-{
-    let (out, behind) = split_word(rest);
-    let (p, behind) = split_word(behind);
-    let (n, _) = split_word(behind);
-    Ok(Command::Project {
-        out: text(alloc, out)?,
-        p: text(alloc, p)?,
-        n: number(n),
-    })
-}
-
-fn remove_command(alloc: Global, rest: &[u8]) -> Result<Command, Memory>
-    ensures { IfOk result (λ c. c ≡ command_of row.Remove (fields_in rest.now)) }
-{
-    let (out, behind) = split_word(rest);
-    let (p, _) = split_word(behind);
-    Ok(Command::Remove {
-        out: text(alloc, out)?,
-        p: text(alloc, p)?,
-        vars: variables(alloc, part_of(rest))?,
-    })
-}
-
-fn concat_command(alloc: Global, rest: &[u8]) -> Result<Command, Memory>
-    ensures { IfOk result (λ c. c ≡ command_of row.Concat (fields_in rest.now)) }
-{
-    let (out, behind) = split_word(rest);
-    let (p, behind) = split_word(behind);
-    let (q, _) = split_word(behind);
-    Ok(Command::Concat {
-        out: text(alloc, out)?,
-        p: text(alloc, p)?,
-        q: text(alloc, q)?,
-    })
-}
-
-fn elapse_command(alloc: Global, rest: &[u8]) -> Result<Command, Memory>
-    ensures { IfOk result (λ c. c ≡ command_of row.Elapse (fields_in rest.now)) }
-{
-    let (out, behind) = split_word(rest);
-    let (p, behind) = split_word(behind);
-    let (q, _) = split_word(behind);
-    Ok(Command::Elapse {
-        out: text(alloc, out)?,
-        p: text(alloc, p)?,
-        q: text(alloc, q)?,
-    })
 }

@@ -63,4 +63,10 @@ pub enum Row {
     Concat,
     /// `elapse`
     Elapse,
+    /// `widen`
+    Widen,
+    /// `read`
+    Read,
+    /// `write`
+    Write,
 }

@@ -4,8 +4,8 @@ ghost use Rattle.script_text.specs.Rows.{nothing_form, rest_form, shape_of};
 
 use crate::row::Row;
 use crate::tables::{
-    ADD, ADDGEN, CONS, GENS, HAS, IMAGE, NO_WORDS, NOTHING, ONE_NAME, OPTIMUM, PRINT, RELATION,
-    REMOVE, SPACE, THREE_NAMES, TWO_NAMES, TWO_NAMES_NAT,
+    ADD, ADDGEN, CONS, FILE, GENS, HAS, IMAGE, NO_WORDS, NOTHING, ONE_NAME, OPTIMUM, PRINT,
+    RELATION, REMOVE, SPACE, THREE_NAMES, TWO_NAMES, TWO_NAMES_NAT,
 };
 use grammar::Verdict;
 
@@ -45,6 +45,9 @@ pub fn rest_verdict(row: Row, rest: &[u8]) -> Verdict
         Row::Remove => REMOVE.column(rest),
         Row::Concat => THREE_NAMES.column(rest),
         Row::Elapse => THREE_NAMES.column(rest),
+        Row::Widen => THREE_NAMES.column(rest),
+        Row::Read => FILE.column(rest),
+        Row::Write => FILE.column(rest),
     }
 }
 

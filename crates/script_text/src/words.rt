@@ -1,6 +1,6 @@
 //! The words of a line.
 ghost use Rattle.std.specs.Prelude.{◌≡◌, length, take_while, reverse};
-ghost use Rattle.script_text.specs.Words.{is_blank, is_in_word, is_before_colon, is_before_comment, past_blanks, before_blanks, word_of, behind_word, before_comment, behind_colon, part_of};
+ghost use Rattle.script_text.specs.Words.{is_blank, is_in_word, is_before_colon, is_before_comment, past_blanks, before_blanks, word_of, behind_word, nth_word, before_comment, behind_colon, part_of};
 
 /// How many blanks stand in front.
 fn blanks_in_front(text: &[u8]) -> usize
@@ -51,6 +51,28 @@ pub fn split_word(text: &[u8]) -> (&[u8], &[u8])
 {
     let text = past_blanks(text);
     text.split_at(word_len(text))
+}
+
+/// The first two words of a text.
+pub fn two_words(text: &[u8]) -> (&[u8], &[u8])
+    ensures first { result.0.now ≡ nth_word 0 text.now }
+    ensures second { result.1.now ≡ nth_word 1 text.now }
+{
+    let (first, behind) = split_word(text);
+    let (second, _) = split_word(behind);
+    (first, second)
+}
+
+/// The first three words of a text.
+pub fn three_words(text: &[u8]) -> (&[u8], &[u8], &[u8])
+    ensures first { result.0.now ≡ nth_word 0 text.now }
+    ensures second { result.1.now ≡ nth_word 1 text.now }
+    ensures third { result.2.now ≡ nth_word 2 text.now }
+{
+    let (first, behind) = split_word(text);
+    let (second, behind) = split_word(behind);
+    let (third, _) = split_word(behind);
+    (first, second, third)
 }
 
 /// How many bytes stand before a comment.

@@ -1,5 +1,5 @@
 use Rattle.script_text.specs.Rows.{rest_form, shape_of}
-use Rattle.script_text.specs.declared.row.Row.TheVariants.{Nothing, Cons, Gens, Universe, Empty, Copy, Drop, Add, Addgen, Has, Size, Print, Names, Meet, Hull, Closure, Contains, Equal, Disjoint, Isempty, Relation, Max, Min, Image, Preimage, Embed, Project, Remove, Concat, Elapse}
+use Rattle.script_text.specs.declared.row.Row.TheVariants.{Nothing, Cons, Gens, Universe, Empty, Copy, Drop, Add, Addgen, Has, Size, Print, Names, Meet, Hull, Closure, Contains, Equal, Disjoint, Isempty, Relation, Max, Min, Image, Preimage, Embed, Project, Remove, Concat, Elapse, Widen, Read, Write}
 use Rattle.script_text.proofs.AddTable.{add_decides}
 use Rattle.script_text.proofs.AddgenTable.{addgen_decides}
 use Rattle.script_text.proofs.ConsTable.{cons_decides}
@@ -16,6 +16,7 @@ use Rattle.script_text.proofs.OptimumTable.{optimum_decides}
 use Rattle.script_text.proofs.ImageTable.{image_decides}
 use Rattle.script_text.proofs.TwoNamesNatTable.{two_names_nat_decides}
 use Rattle.script_text.proofs.RemoveTable.{remove_decides}
+use Rattle.script_text.proofs.FileTable.{file_decides}
 use Rattle.script_text.proofs.shapes.rest_verdict.Goals as goal
 
 pub returns-in-Nothing : goal.returns-in-Nothing
@@ -107,3 +108,12 @@ returns-in-Concat c = rw c.in-Concat.is (c.column-in-Concat.ensures (rest_form (
 
 pub returns-in-Elapse : goal.returns-in-Elapse
 returns-in-Elapse c = rw c.in-Elapse.is (c.column-in-Elapse.ensures (rest_form (shape_of Elapse)) three_names_decides)
+
+pub returns-in-Widen : goal.returns-in-Widen
+returns-in-Widen c = rw c.in-Widen.is (c.column-in-Widen.ensures (rest_form (shape_of Widen)) three_names_decides)
+
+pub returns-in-Read : goal.returns-in-Read
+returns-in-Read c = rw c.in-Read.is (c.column-in-Read.ensures (rest_form (shape_of Read)) file_decides)
+
+pub returns-in-Write : goal.returns-in-Write
+returns-in-Write c = rw c.in-Write.is (c.column-in-Write.ensures (rest_form (shape_of Write)) file_decides)
