@@ -1,17 +1,22 @@
 -- No two entries of the table have the same name.
-use Rattle.std.proofs.Common.{◌≡◌, ℕ, List, [], ◌∷◌, Bool, true, false, cond, refl, sym, ◌∙◌, subst, inl, inr, arith}
+use Rattle.std.proofs.Common.{◌≡◌, ℕ, List, [], ◌∷◌, Bool, true, false, cond, refl, ap, sym, ◌∙◌, subst, inl, inr, arith}
+use Rattle.std.specs.Prelude.{Option, Some, None}
 use Rattle.std.specs.List.{AllByRecursion, IsDistinct}
 use Rattle.std.specs.Str.{bytes_eq}
 use Rattle.std.specs.Map.{keys_of}
 use Rattle.std.proofs.lemmas.Slice.Eq.{bytes_eq-Decides}
 use Rattle.std.proofs.lemmas.Map.Made.{AllPairs-from_IsDistinct, IsDistinct-from_AllPairs}
 use Rattle.calc_state.specs.declared.entry.Entry.{Entry}
+use Rattle.calc_state.specs.declared.entry.Entry.TheVariants as entry
 use Rattle.calc_state.specs.declared.change.Change.{Change}
 use Rattle.calc_state.specs.declared.change.Change.TheVariants.{Says, Puts, TakesOut}
 use Rattle.calc_state.specs.Table.{Table, put, without, HasDistinctNames}
 use Rattle.calc_state.specs.Meaning.{Meaning}
 use Rattle.calc_state.specs.Meanings.{meaning}
 use Rattle.calc_state.specs.Step.{Reply, Answered, Refused, Overflows, Means, after}
+use Rattle.calc_state.specs.State.{State, OpenFile, with_line}
+use Rattle.calc_state.specs.Reading.{Reads}
+use Rattle.calc_state.specs.Line.{StepFrom}
 use Rattle.calc_state.specs.Laws.{KeepsNamesDistinct}
 
 -- ---- an entry is put in
@@ -86,6 +91,16 @@ means_distinct m old new (Answered lines) h p = subst HasDistinctNames (sym p.ta
 means_distinct m old new (Refused fault) h p = kept old new p.1 h
 means_distinct m old new (Overflows over) h p = kept old new p.2 h
 
+read_distinct : (names : Table) (file : OpenFile) (reply : Reply) (new : Table) → HasDistinctNames names → Reads names file reply new → HasDistinctNames new
+read_distinct names file (Answered lines) new h p = subst HasDistinctNames (sym p.table) (by_names names (put names file.name (entry.Poly p.polyhedron)) (IsDistinct-put names file.name (entry.Poly p.polyhedron)) h)
+read_distinct names file (Refused fault) new h p = kept names new p.1 h
+read_distinct names file (Overflows over) new h p = kept names new p.2 h
+
+step_distinct_from : (old : Table) (file : Option OpenFile) (new : State) (line : List ℕ) (reply : Reply) → HasDistinctNames old → StepFrom old file line reply new → HasDistinctNames new.names
+step_distinct_from old None new line reply h (inl a) = means_distinct (meaning old a.command) old new.names reply h a.performed
+step_distinct_from old None new line reply h (inr b) = kept old new.names (ap (λ (s : State). s.names) b.unchanged) h
+step_distinct_from old (Some file) new line reply h (inl a) = kept old new.names (ap (λ (s : State). s.names) a.added) h
+step_distinct_from old (Some file) new line reply h (inr b) = read_distinct old (with_line file line) reply new.names h b.read
+
 pub step_distinct : KeepsNamesDistinct
-step_distinct old new line reply h (inl a) = means_distinct (meaning old a.command) old new reply h a.performed
-step_distinct old new line reply h (inr b) = kept old new b.unchanged h
+step_distinct old new line reply h step = step_distinct_from old.names old.file new line reply h step

@@ -1,7 +1,7 @@
 -- The first fault of a command, from the faults before, of and behind its text.
 use Rattle.std.proofs.Common.{List, [], ◌∷◌, ◌++◌, Err, inl, inr}
 use Rattle.reply_text.specs.declared.faults.Fault.{Fault}
-use Rattle.reply_text.specs.declared.faults.Fault.TheVariants.{UnknownName, TopologyMismatch, NotClosed, DimMismatch, TooManyDims, NoPoint, NotIntegral, TooManyNames}
+use Rattle.reply_text.specs.declared.faults.Fault.TheVariants.{UnknownName, TopologyMismatch, NotClosed, DimMismatch, TooManyDims, NoPoint, NotIntegral, TooManyNames, NotNested}
 use Rattle.calc_state.specs.declared.refusal.StepErr.{StepErr}
 use Rattle.calc_state.specs.declared.refusal.StepErr.TheVariants as err
 use Rattle.calc_state.specs.Order.{Conditions, IsFirstOf, NoneOf, IsFirst, Passes}
@@ -28,7 +28,7 @@ abbrev pub early : List Fault
 early = UnknownName ∷ TopologyMismatch ∷ NotClosed ∷ DimMismatch ∷ TooManyDims ∷ []
 
 abbrev pub late : List Fault
-late = NoPoint ∷ NotIntegral ∷ TooManyNames ∷ []
+late = NoPoint ∷ NotIntegral ∷ TooManyNames ∷ NotNested ∷ []
 
 -- the text is refused
 pub refused_by_text : (m : Meaning) (e : StepErr) → NoneOf early m.conditions → IsTextRefusal m.conditions e → IsPerformed m (Err e)

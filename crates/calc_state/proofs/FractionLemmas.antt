@@ -1,10 +1,9 @@
 -- What came of the commands that replace a variable by an expression with a divisor.
 use Rattle.std.proofs.Common.{◌≡◌, ◌⊎◌, ℕ, ◌+◌, ◌<◌, ◌≤◌, List, Err, Ok, refl, sym, subst, inl, inr, arith}
-use Rattle.std.specs.Prelude.{ℤ, pos, ◌<ℤ◌, ◌^◌, length, unsigned_abs}
+use Rattle.std.specs.Prelude.{ℤ, pos, ◌<ℤ◌, length}
 use Rattle.std.proofs.lemmas.Int.{ints}
 use Rattle.grammar.specs.Cases.{frac_cases}
 use Rattle.row_core.specs.Range.{InRange}
-use Rattle.row_core.specs.declared.errors.Overflow.{Overflow}
 use Rattle.row_core.specs.declared.errors.ConvErr.{ConvErr}
 use Rattle.row_core.specs.declared.errors.ConvErr.TheVariants as conversion
 use Rattle.reply_text.specs.declared.faults.Fault.{Fault}
@@ -26,11 +25,11 @@ use Rattle.calc_state.specs.declared.change.Change.TheVariants.{Puts}
 use Rattle.calc_state.specs.Table.{Table, HasNoRoom}
 use Rattle.calc_state.specs.Order.{NoneOf, IsFirst, Passes}
 use Rattle.calc_state.specs.Refusals.{refusal_of_conversion, refusal_of_text}
-use Rattle.calc_state.specs.Texts.{IsTextRefusal, with_text}
+use Rattle.calc_state.specs.Texts.{IsTextRefusal}
 use Rattle.calc_state.specs.Meaning.{room}
-use Rattle.calc_state.specs.Affine.{SaysReplacement, fraction_fault, ReadsFraction, image, preimage}
+use Rattle.calc_state.specs.Affine.{fraction_fault, ReadsFraction, image, preimage}
 use Rattle.calc_state.specs.Step.{IsPerformed}
-use Rattle.calc_state.proofs.FaultOrder.{early, late, refused_by_text, refused_late, all_pass}
+use Rattle.calc_state.proofs.FaultOrder.{early, refused_by_text, refused_late, all_pass}
 
 -- ---- the text
 apart : (dim : ℕ) (text : List ℕ) (d e : Fault) → FracHasOneAnswer → IsTextFault frac_cases text (IsValueFault (IsFracFault dim text)) d → IsTextFault frac_cases text (IsValueFault (IsFracFault dim text)) e → d ≡ e
@@ -88,7 +87,7 @@ module _ (table : Table) (out : List ℕ) (v : ℕ) (part : Part) (p : Polyhedro
     replacement_full full = refused_late (image table out v part p).conditions TooManyNames none_early read.faultless (inr (λ k. k, inr (λ k. k, inl (full, refl))))
 
     passes : ¬ (HasNoRoom table out) → Passes (image table out v part p).conditions
-    passes room = all_pass (image table out v part p).conditions none_early read.faultless (λ k. k, (λ k. k, (room, tt)))
+    passes room = all_pass (image table out v part p).conditions none_early read.faultless (λ k. k, (λ k. k, (room, (λ k. k, tt))))
 
     pub image_made : (r : Polyhedron) → ¬ (HasNoRoom table out) → IsImage (substituted v expr den) p.cons.dim p r → IsPerformed (image table out v part p) (Ok (Puts out (entry.Poly r)))
     image_made r room is = (passes room, (refl, record { expr = expr; divisor = den; within = read.within; read = read.read; holds = is }))

@@ -4,15 +4,17 @@ mod FaultOrder
 mod FractionLemmas
 mod LatticeLemmas
 mod LatticeOnce
-mod LineLemmas
+pub mod LineLemmas
 mod MakerLemmas
 mod OptimaLemmas
 mod OptimaOnce
 mod MapLemmas
 mod PointLemmas
 mod QuestionLemmas
+mod ReadingLemmas
 mod SaysOnce
 pub mod StepLemmas
 mod StrictTexts
 mod TableLemmas
+mod WideningLemmas
 mod TextFaults

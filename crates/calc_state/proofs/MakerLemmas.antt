@@ -65,7 +65,7 @@ cons_full table out t n part system small read full =
 
 cons_passes : (table : Table) (out : List ℕ) (t : Topology) (n : ℕ) (part : Part) (system : Constraints) → n ≤ 31 → ReadsConstraints t n part system → ¬ (HasNoRoom table out) → Passes (cons table out t n part).conditions
 cons_passes table out t n part system small read room =
-    all_pass (cons table out t n part).conditions (cons_early table out t n part small) read.faultless (λ k. k, (λ k. k, (room, tt)))
+    all_pass (cons table out t n part).conditions (cons_early table out t n part small) read.faultless (λ k. k, (λ k. k, (room, (λ k. k, tt))))
 
 pub cons_made : (table : Table) (out : List ℕ) (t : Topology) (n : ℕ) (part : Part) (system : Constraints) (p : Polyhedron) → n ≤ 31 → ReadsConstraints t n part system → ¬ (HasNoRoom table out) → IsOfConstraints t system p → IsPerformed (cons table out t n part) (Ok (Puts out (entry.Poly p)))
 cons_made table out t n part system p small read room is =
@@ -96,7 +96,7 @@ gens_full table out t n part system law small read has full =
 
 gens_passes : (table : Table) (out : List ℕ) (t : Topology) (n : ℕ) (part : Part) (system : Generators) → GensHasOneAnswer → n ≤ 31 → ReadsGenerators t n part system → ¬ (LacksPoint system.list) → ¬ (HasNoRoom table out) → Passes (gens table out t n part).conditions
 gens_passes table out t n part system law small read has room =
-    all_pass (gens table out t n part).conditions (gens_early table out t n part small) read.faultless (none_lacks t n part system (λ (gs : Generators). LacksPoint gs.list) law read has, (λ k. k, (room, tt)))
+    all_pass (gens table out t n part).conditions (gens_early table out t n part small) read.faultless (none_lacks t n part system (λ (gs : Generators). LacksPoint gs.list) law read has, (λ k. k, (room, (λ k. k, tt))))
 
 pub gens_made : (table : Table) (out : List ℕ) (t : Topology) (n : ℕ) (part : Part) (system : Generators) (p : Polyhedron) → GensHasOneAnswer → n ≤ 31 → ReadsGenerators t n part system → ¬ (LacksPoint system.list) → ¬ (HasNoRoom table out) → IsOfGenerators t system p → IsPerformed (gens table out t n part) (Ok (Puts out (entry.Poly p)))
 gens_made table out t n part system p law small read has room is =
@@ -126,7 +126,7 @@ pub add_refused : (name : List ℕ) (part : Part) (p : Polyhedron) (e : StepErr)
 add_refused name part p e is = refused_by_text (add name part p) e (add_early name part p) is
 
 add_passes : (name : List ℕ) (part : Part) (p : Polyhedron) (new : Constraints) → ReadsConstraints p.topology p.cons.dim part new → Passes (add name part p).conditions
-add_passes name part p new read = all_pass (add name part p).conditions (add_early name part p) read.faultless (λ k. k, (λ k. k, (λ k. k, tt)))
+add_passes name part p new read = all_pass (add name part p).conditions (add_early name part p) read.faultless (λ k. k, (λ k. k, (λ k. k, (λ k. k, tt))))
 
 -- the joined system, by its dimension and its list
 abbrev constraints_over : ℕ → List Constraint → Constraints
@@ -168,7 +168,7 @@ addgen_refused name part p e is = refused_by_text (addgen name part p) e (addgen
 
 addgen_passes : (name : List ℕ) (part : Part) (p : Polyhedron) (new : Generators) → GensHasOneAnswer → ReadsGenerators p.topology p.gens.dim part new → ¬ (LacksPoint (p.gens.list ++ new.list)) → Passes (addgen name part p).conditions
 addgen_passes name part p new law read has =
-    all_pass (addgen name part p).conditions (addgen_early name part p) read.faultless (none_lacks p.topology p.gens.dim part new (λ (gs : Generators). LacksPoint (p.gens.list ++ gs.list)) law read has, (λ k. k, (λ k. k, tt)))
+    all_pass (addgen name part p).conditions (addgen_early name part p) read.faultless (none_lacks p.topology p.gens.dim part new (λ (gs : Generators). LacksPoint (p.gens.list ++ gs.list)) law read has, (λ k. k, (λ k. k, (λ k. k, tt))))
 
 abbrev generators_over : ℕ → List Generator → Generators
 generators_over dim list = record { dim = dim; list = list }

@@ -27,11 +27,11 @@ map_leaves m conversion.Memory passes is = tt
 -- ---- two operands
 pub concat_passes : (table : Table) (out : List ℕ) (p q : Polyhedron) → ¬ (p.topology ≢ q.topology) → p.cons.dim + q.cons.dim ≤ 31 → ¬ (HasNoRoom table out) → Passes (concat table out p q).conditions
 concat_passes table out p q same narrow room =
-    (λ k. k, (same, (λ k. k, (λ k. k, (λ (k : 31 < p.cons.dim + q.cons.dim). omega (arith, k, narrow), (λ k. k, (λ k. k, (λ k. k, (λ k. k, (λ k. k, (λ k. k, (λ k. k, (room, tt)))))))))))))
+    (λ k. k, (same, (λ k. k, (λ k. k, (λ (k : 31 < p.cons.dim + q.cons.dim). omega (arith, k, narrow), (λ k. k, (λ k. k, (λ k. k, (λ k. k, (λ k. k, (λ k. k, (λ k. k, (room, (λ k. k, tt))))))))))))))
 
 pub elapse_passes : (table : Table) (out : List ℕ) (p q : Polyhedron) → ¬ (p.topology ≢ q.topology) → p.cons.dim ≡ q.cons.dim → ¬ (HasNoRoom table out) → Passes (elapse table out p q).conditions
 elapse_passes table out p q same dim room =
-    (λ k. k, (same, (λ k. k, (λ k. k dim, (λ k. k, (λ k. k, (λ k. k, (λ k. k, (λ k. k, (λ k. k, (λ k. k, (λ k. k, (room, tt)))))))))))))
+    (λ k. k, (same, (λ k. k, (λ k. k dim, (λ k. k, (λ k. k, (λ k. k, (λ k. k, (λ k. k, (λ k. k, (λ k. k, (λ k. k, (room, (λ k. k, tt))))))))))))))
 
 pub elapse_leaves : (table : Table) (out : List ℕ) (p q : Polyhedron) (cause : ConvErr) → Passes (elapse table out p q).conditions → IsElapseOverflow p q cause → IsPerformed (elapse table out p q) (Err (refusal_of_conversion cause))
 elapse_leaves table out p q (conversion.Overflow over) passes is = (passes, is)
@@ -55,7 +55,7 @@ module _ (table : Table) (out vars : List ℕ) (p : Polyhedron) where
   remove_full below full = refused_late (remove table out vars p).conditions TooManyNames none_early (none_of_text below) (inr (λ k. k, inr (λ k. k, inl (full, refl))))
 
   remove_passes : AreBelow p.cons.dim vars → ¬ (HasNoRoom table out) → Passes (remove table out vars p).conditions
-  remove_passes below room = all_pass (remove table out vars p).conditions none_early (none_of_text below) (λ k. k, (λ k. k, (room, tt)))
+  remove_passes below room = all_pass (remove table out vars p).conditions none_early (none_of_text below) (λ k. k, (λ k. k, (room, (λ k. k, tt))))
 
   pub remove_made : (r : Polyhedron) → AreBelow p.cons.dim vars → ¬ (HasNoRoom table out) → IsRemoved vars p r → IsPerformed (remove table out vars p) (Ok (Puts out (entry.Poly r)))
   remove_made r below room is = (remove_passes below room, (refl, is))

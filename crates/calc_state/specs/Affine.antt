@@ -1,6 +1,5 @@
 -- What the commands mean that map polyhedra, and those that change the dimension.
-use Rattle.std.specs.Prelude.{◌≡◌, ◌≢◌, ◌⊎◌, ℕ, ◌+◌, ◌<◌, ◌≤◌, List, length, ℤ, All}
-use Rattle.row_core.specs.declared.errors.Overflow.{Overflow}
+use Rattle.std.specs.Prelude.{◌≢◌, ◌⊎◌, ℕ, ◌+◌, ◌<◌, ◌≤◌, List, length, ℤ, All}
 use Rattle.reply_text.specs.declared.faults.Fault.TheVariants as fault
 use Rattle.term_text.specs.declared.terms.ValueErr.TheVariants as value
 use Rattle.term_text.specs.Texts.{IsFrac, IsFracFault}

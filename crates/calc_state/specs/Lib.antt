@@ -8,7 +8,11 @@ pub mod Questions
 pub mod Lattice
 pub mod Optima
 pub mod Affine
+pub mod Widening
+pub mod Files
 pub mod Meanings
+pub mod State
 pub mod Step
+pub mod Reading
 pub mod Line
 pub mod Laws

@@ -3,13 +3,15 @@ use Rattle.std.specs.Prelude.{[], Bool, true, false}
 use Rattle.poly_pair.specs.declared.topology.Topology.{Topology}
 use Rattle.poly_pair.specs.declared.topology.Topology.TheVariants.{Closed, Nnc}
 use Rattle.script_text.specs.declared.command.Command.{Command}
-use Rattle.script_text.specs.declared.command.Command.TheVariants.{Nothing, Cons, Gens, Universe, Empty, Copy, Drop, Add, Addgen, Has, Size, Print, Names, Meet, Hull, Closure, Contains, Equal, Disjoint, Isempty, Relation, Max, Min, Embed, Project, Concat, Elapse, Image, Preimage, Remove}
+use Rattle.script_text.specs.declared.command.Command.TheVariants.{Nothing, Cons, Gens, Universe, Empty, Copy, Drop, Add, Addgen, Has, Size, Print, Names, Meet, Hull, Closure, Contains, Equal, Disjoint, Isempty, Relation, Max, Min, Embed, Project, Concat, Elapse, Image, Preimage, Remove, Widen, Read, Write}
 use Rattle.calc_state.specs.Table.{Table, entry_of, poly_of}
-use Rattle.calc_state.specs.Meaning.{Meaning, unknown, on_one, on_two}
+use Rattle.calc_state.specs.Meaning.{Meaning, on_one, on_two}
 use Rattle.calc_state.specs.Makers.{cons, gens, universe, empty, copy, drop_of, add, addgen}
 use Rattle.calc_state.specs.Questions.{says, has, size, print, names}
 use Rattle.calc_state.specs.Optima.{relation, bound}
 use Rattle.calc_state.specs.Lattice.{meet, hull, closure, contains, equal, disjoint, isempty}
+use Rattle.calc_state.specs.Widening.{widen}
+use Rattle.calc_state.specs.Files.{write}
 use Rattle.calc_state.specs.Affine.{embed, project, concat, elapse, image, preimage, remove}
 
 -- the topology of a line, by whether its word is nnc
@@ -49,3 +51,6 @@ meaning table (Elapse out p q) = on_two (poly_of table p) (poly_of table q) (ela
 meaning table (Image out p v part) = on_one (poly_of table p) (image table out v part)
 meaning table (Preimage out p v part) = on_one (poly_of table p) (preimage table out v part)
 meaning table (Remove out p vars) = on_one (poly_of table p) (remove table out vars)
+meaning table (Widen out p q) = on_two (poly_of table p) (poly_of table q) (widen table out)
+meaning table (Read out form) = says []
+meaning table (Write p form) = on_one (poly_of table p) (write form)

@@ -7,7 +7,7 @@ use Rattle.gens_sys.specs.Generators as gens
 use Rattle.poly_pair.specs.Polyhedra.{Polyhedron, IsKept}
 use Rattle.reply_text.specs.declared.faults.Fault.{Fault}
 use Rattle.script_text.specs.declared.command.Command.{Command}
-use Rattle.script_text.specs.declared.command.Command.TheVariants.{Has, Size, Print, Names, Contains, Equal, Isempty, Relation, Max, Min}
+use Rattle.script_text.specs.declared.command.Command.TheVariants.{Has, Size, Print, Names, Contains, Equal, Isempty, Relation, Max, Min, Write}
 use Rattle.calc_state.specs.declared.entry.Entry.TheVariants as entry
 use Rattle.calc_state.specs.declared.change.Change.{Change}
 use Rattle.calc_state.specs.declared.change.Change.TheVariants.{Says, Puts, TakesOut}
@@ -140,6 +140,7 @@ IsQuestion (Isempty p) = Unit {0}
 IsQuestion (Relation p part) = Unit {0}
 IsQuestion (Max p part) = Unit {0}
 IsQuestion (Min p part) = Unit {0}
+IsQuestion (Write p form) = Unit {0}
 IsQuestion other = ⊥
 
 -- the reply is what was given, or memory ran out

@@ -138,7 +138,12 @@ pub fn equal(alloc: Global, p: Option<&Poly>, q: Option<&Poly>) -> Result<Change
 }
 
 /// The rows of a pair that leaves the range.
-fn shown(alloc: Global, cons: &ConsSys, gens: &GensSys, pair: PairOver) -> Result<Overflow, Memory>
+pub(crate) fn shown(
+    alloc: Global,
+    cons: &ConsSys,
+    gens: &GensSys,
+    pair: PairOver,
+) -> Result<Overflow, Memory>
     requires left { pair.left < length cons.now.list }
     requires right { pair.right < length gens.now.list }
     ensures { IfOk result (λ over. over ≡ shown_rows cons.now gens.now pair) }

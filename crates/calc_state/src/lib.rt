@@ -1,6 +1,6 @@
 //! The calculator's table of names, and the step of one line.
 //!
-//! - [`Calc`] is the calculator, and [`Calc::step`] takes a line.
+//! - [`Calc`] is the calculator, and [`Calc::step`] takes a line, and [`Calc::finish`] ends a script.
 //! - [`StepErr`] says why a line was not accepted.
 //! - [`one_first`], [`one_reply`] and [`names_stay_distinct`] are laws of the definitions that the
 //!   contracts cite.
@@ -10,6 +10,7 @@ mod affine;
 mod calc;
 mod change;
 mod entry;
+mod files;
 mod lattice;
 mod laws;
 mod makers;
@@ -17,8 +18,10 @@ mod names;
 mod optima;
 mod perform;
 mod questions;
+mod reading;
 mod refusal;
 mod texts;
+mod widenings;
 
 pub use calc::Calc;
 pub use laws::{names_stay_distinct, one_first, one_reply};

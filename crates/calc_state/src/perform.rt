@@ -6,12 +6,14 @@ ghost use Rattle.calc_state.specs.Step.{IsPerformed};
 
 use crate::affine::{concat, elapse, embed, image, preimage, project, remove};
 use crate::change::Change;
+use crate::files::write;
 use crate::lattice::{closure, contains, disjoint, equal, hull, isempty, meet};
 use crate::makers::{add, addgen, cons, copy, drop_name, empty, gens, universe};
 use crate::names::Names;
 use crate::optima::{bound, relation};
 use crate::questions::{has, name_list, print, size};
 use crate::refusal::StepErr;
+use crate::widenings::widen;
 use poly_pair::Topology;
 use reply_text::{Fault, Text};
 use row_core::Steps;
@@ -119,6 +121,12 @@ pub fn perform<L: Ledger>(
         }
         Command::Remove { out, p, vars } => {
             remove(alloc, names, out, names.poly(p.bytes()), &vars, steps)
+        }
+        Command::Read { .. } => Ok(Change::Says(Text::new(alloc))),
+        Command::Write { p, form } => write(alloc, form, names.poly(p.bytes())),
+        Command::Widen { out, p, q } => {
+            let (one, other) = (names.poly(p.bytes()), names.poly(q.bytes()));
+            widen(alloc, names, out, one, other, steps)
         }
     }
 }

@@ -1,4 +1,4 @@
-use Rattle.std.proofs.Common.{◌≡◌, ◌≢◌, ◌≤◌, ◌+◌, List, ℕ, Option, Some, Err, IsTrue, ◌↔◌, sym, ap, subst, arith}
+use Rattle.std.proofs.Common.{◌≡◌, ◌≢◌, List, ℕ, Option, Some, Err, IsTrue, ◌↔◌, sym, ap, subst, arith}
 use Rattle.std.specs.Option.{option_copied}
 use Rattle.poly_pair.specs.Polyhedra.{Polyhedron}
 use Rattle.calc_state.specs.Table.{HasNoRoom}

@@ -1,0 +1,36 @@
+//! The commands of files.
+ghost use Rattle.std.specs.Prelude.{◌≡◌};
+ghost use Rattle.std.specs.Option.{option_copied};
+ghost use Rattle.calc_state.specs.Meaning.{on_one};
+ghost use Rattle.calc_state.specs.Files.{format_of as named_format, write as write_of};
+ghost use Rattle.calc_state.specs.Step.{IsPerformed};
+
+use crate::change::Change;
+use crate::refusal::StepErr;
+use file_poly::{Format, write_file};
+use poly_pair::{Poly, Topology};
+use reply_text::Fault;
+use std::alloc::Global;
+
+/// The list of a line's file, by whether its word is `ext`.
+pub fn format_of(ext: bool) -> Format
+    ensures { result ≡ named_format ext }
+{
+    if ext { Format::Ext } else { Format::Ine }
+}
+
+/// Writes the file of the constraints, or of the generators.
+pub fn write(alloc: Global, ext: bool, p: Option<&Poly>) -> Result<Change, StepErr>
+    ensures { IsPerformed (on_one (option_copied p.entry) (write_of ext)) result }
+{
+    let Some(p) = p else {
+        return Err(StepErr::Input(Fault::UnknownName));
+    };
+    if p.topology() != Topology::Closed {
+        return Err(StepErr::Input(Fault::NotClosed));
+    }
+    match write_file(alloc, format_of(ext), p) {
+        Ok(text) => Ok(Change::Says(text)),
+        Err(cause) => Err(StepErr::from(cause)),
+    }
+}
