@@ -1,6 +1,6 @@
--- Two runs that accept the same lines come to the same sets, with the same answers.
+-- Two runs that accept the same commands and files come to the same sets, with the same answers.
 use Rattle.std.proofs.Common.{◌≡◌, ◌⊎◌, inl, inr, ℕ, ◌<◌, List, [], ◌∷◌, refl, ap, sym, ◌∙◌, subst, arith, Bool, true, false, codes}
-use Rattle.std.specs.Prelude.{◌↔◌, IsTrue, ℤ, pos, ◌<ℤ◌, Ok, Result}
+use Rattle.std.specs.Prelude.{◌↔◌, IsTrue, ℤ, pos, ◌<ℤ◌, Ok, Result, None}
 use Rattle.std.proofs.lemmas.Int.{ints}
 use Rattle.row_core.specs.Points.{IsPoint as IsPointRow}
 use Rattle.row_core.specs.Vectors.{cell}
@@ -24,25 +24,28 @@ use Rattle.optimum.specs.declared.outcome.Relation.{Relation as Flags}
 use Rattle.optimum.specs.declared.outcome.Sup.{Sup}
 use Rattle.script_text.specs.declared.command.Part.{Part}
 use Rattle.script_text.specs.declared.command.Command.{Command}
-use Rattle.script_text.specs.declared.command.Command.TheVariants.{Nothing, Cons, Gens, Universe, Empty, Copy, Drop, Add, Addgen, Has, Size, Print, Names, Meet, Hull, Closure, Contains, Equal, Disjoint, Isempty, Relation, Max, Min, Embed, Project, Concat, Elapse, Image, Preimage, Remove}
-use Rattle.script_text.specs.Line.{Spells, SpellsOne}
+use Rattle.script_text.specs.declared.command.Command.TheVariants.{Nothing, Cons, Gens, Universe, Empty, Copy, Drop, Add, Addgen, Has, Size, Print, Names, Meet, Hull, Closure, Contains, Equal, Disjoint, Isempty, Relation, Max, Min, Embed, Project, Concat, Elapse, Image, Preimage, Remove, Read, Write, Widen}
+use Rattle.script_text.specs.Line.{SpellsOne}
 use Rattle.calc_state.specs.Table.{HasDistinctNames}
 use Rattle.calc_state.specs.Meaning.{answer_line}
 use Rattle.calc_state.specs.Questions.{line, size_text, side_text}
 use Rattle.calc_state.specs.Optima.{with_word, relation_text, bound_text}
-use Rattle.calc_state.specs.Step.{Reply, Answered, Refused, Overflows, IsProper}
+use Rattle.calc_state.specs.Files.{file_of}
+use Rattle.calc_state.specs.Step.{IsProper}
 use Rattle.calc_state.specs.Laws.{KeepsNamesDistinct}
 use Rattle.expr_text.specs.Printed.{constraints_text, generators_text}
-use Rattle.polycalc.specs.Sets.{AreAccepted, IsSetOf, AreAlike}
+use Rattle.polycalc.specs.Acts.{Act, Did, Took, Accepted, acts}
+use Rattle.polycalc.specs.Sets.{IsSetOf, AreAlike}
 use Rattle.polycalc.specs.Sameness.{AreSamePolyhedra}
-use Rattle.polycalc.specs.Truth.{SaysWhether, IsTrueOf, IsTrueOfTwo, SaysTruth, SaysHowItLies, SaysExtremum, SaysSide, IsTruthful, AreTruthful}
-use Rattle.polycalc.specs.Laws.{accepted_lines, answers, IsNotClosed, ShowsStored, AreSameAnswers, AcceptedLinesDecide}
+use Rattle.polycalc.specs.Truth.{SaysWhether, IsTrueOf, IsTrueOfTwo, SaysTruth, SaysHowItLies, SaysExtremum, SaysSide, IsTruthful, IsTrueAnswer, AreTruthful}
+use Rattle.polycalc.specs.Laws.{IsNotClosed, ShowsStored, AreSameAnswers, AcceptedDecide}
 use Rattle.polycalc.proofs.OneForm.{OneForm}
 use Rattle.polycalc.proofs.OneResult.{same_back, included_same, equal_same, disjoint_same, empty_same, throughout_same, nowhere_same, both_same}
 use Rattle.polycalc.proofs.OneSet.{one_set, set_proper}
-use Rattle.polycalc.proofs.SetLaws.{Agrees, nothing_agrees, run_told}
+use Rattle.polycalc.proofs.AcceptedRuns.{accepted_once}
+use Rattle.polycalc.proofs.SetLaws.{Agrees}
 use Rattle.polycalc.proofs.SameTables.{agreeing_same}
-use Rattle.polycalc.proofs.TruthLaws.{ReadBack, answers_true}
+use Rattle.polycalc.proofs.TruthLaws.{ReadBack, IsToldTruly, run_truthful}
 
 -- the laws that are cited: a line spells one command, a text says one thing, the generators of a polyhedron give one bound, and commands give a name one set
 pub record OneMeaning : Type 0 where
@@ -53,26 +56,7 @@ pub record OneMeaning : Type 0 where
   pub bound : HasOneSup
   pub form : OneForm
 
--- ---- the commands of accepted lines
--- behind the earlier commands the lines spell these
-abbrev AreSpelled : List Command → List (List ℕ) → List Command → Type 0
-AreSpelled earlier [] commands = commands ≡ earlier
-AreSpelled earlier (line ∷ lines) commands = (c : Command) × Spells line c × AreSpelled (c ∷ earlier) lines commands
-
-accepted_spelled : (earlier : List Command) (lines : List (List ℕ)) (replies : List Reply) (commands : List Command) → AreAccepted earlier lines replies commands → AreSpelled earlier (accepted_lines lines replies) commands
-accepted_spelled earlier [] [] commands a = a
-accepted_spelled earlier (line ∷ lines) (Answered text ∷ replies) commands (c, spelled, a) = (c, spelled, accepted_spelled (c ∷ earlier) lines replies commands a)
-accepted_spelled earlier (line ∷ lines) (Refused fault ∷ replies) commands a = accepted_spelled earlier lines replies commands a
-accepted_spelled earlier (line ∷ lines) (Overflows over ∷ replies) commands a = accepted_spelled earlier lines replies commands a
-accepted_spelled earlier [] (reply ∷ replies) commands a = absurd a
-accepted_spelled earlier (line ∷ lines) [] commands a = absurd a
-
-spelled_once : SpellsOne → (earlier : List Command) (lines : List (List ℕ)) (commands others : List Command) → AreSpelled earlier lines commands → AreSpelled earlier lines others → commands ≡ others
-spelled_once one earlier [] commands others a b = a ∙ sym b
-spelled_once one earlier (line ∷ lines) commands others (c, s, a) (d, t, b) =
-    spelled_once one (c ∷ earlier) lines commands others a (subst (λ (x : Command). AreSpelled (x ∷ earlier) lines others) (one line d c t s) b)
-
--- ---- one answer to an accepted line
+-- ---- one answer to what is accepted
 same_bool : (b c : Bool) (P Q : Type 0) → P ↔ Q → IsTrue b ↔ P → IsTrue c ↔ Q → b ≡ c
 same_bool true true P Q e h k = refl
 same_bool false false P Q e h k = refl
@@ -136,15 +120,15 @@ bound_said_once one law up part text other p proper a b =
     a.said ∙ ap (λ (x : Sup). line (bound_text p.gens x)) bounds ∙ sym b.said
 
 -- the topology of a set is closed, or stored systems are shown
-by_topology : (commands : List Command) (name : List ℕ) (p : Polyhedron) (t : Topology) (E : Type 0) → IsSetOf commands name p → p.topology ≡ t → (p.topology ≡ Closed → E) → IsNotClosed commands name ⊎ E
-by_topology commands name p Closed E s e f = inr (f e)
-by_topology commands name p Nnc E s e f = inl (record { polyhedron = p; set = s; topology = e })
+by_topology : (all : List Act) (name : List ℕ) (p : Polyhedron) (t : Topology) (E : Type 0) → IsSetOf all name p → p.topology ≡ t → (p.topology ≡ Closed → E) → IsNotClosed all name ⊎ E
+by_topology all name p Closed E s e f = inr (f e)
+by_topology all name p Nnc E s e f = inl (record { polyhedron = p; set = s; topology = e })
 
 said_side : (side : Bool) (text : List ℕ) (p : Polyhedron) → SaysSide side text p → text ≡ line (side_text side p)
 said_side false text p a = a.said ∙ ap line (a.printed ∙ ap constraints_text a.stored)
 said_side true text p a = a.said ∙ ap line (a.printed ∙ ap generators_text a.stored)
 
-module _ (laws : OneMeaning) (earlier : List Command) where
+module _ (laws : OneMeaning) (earlier : List Act) where
   one_of : (name : List ℕ) (p q : Polyhedron) → IsSetOf earlier name p → IsSetOf earlier name q → AreSamePolyhedra p q
   one_of name p q h k = one_set laws.form earlier name p q h k
 
@@ -180,7 +164,7 @@ module _ (laws : OneMeaning) (earlier : List Command) where
       (λ c. bound_said_once laws.expression laws.bound up part text other a.polyhedron (set_proper earlier name a.polyhedron a.set) a.says (subst (SaysExtremum up part other) (sym (same.closed c)) b.says))
 
   -- of one command
-  answered_once : (c : Command) (text other : List ℕ) → IsTruthful earlier c text → IsTruthful earlier c other → ShowsStored earlier c ⊎ (text ≡ other)
+  answered_once : (c : Command) (text other : List ℕ) → IsTruthful earlier c text → IsTruthful earlier c other → ShowsStored earlier (Did c) ⊎ (text ≡ other)
   answered_once (Has name part) text other a b = inr (told_once laws.point part text other a.polyhedron b.polyhedron (one_of name a.polyhedron b.polyhedron a.set b.set) a.says b.says)
   answered_once (Size name) text other a b = sized_once name text other a b
   answered_once (Print side name) text other a b = printed_once side name text other a b
@@ -211,45 +195,41 @@ module _ (laws : OneMeaning) (earlier : List Command) where
   answered_once (Image out name v part) text other a b = inr (a ∙ sym b)
   answered_once (Preimage out name v part) text other a b = inr (a ∙ sym b)
   answered_once (Remove out name vars) text other a b = inr (a ∙ sym b)
+  answered_once (Widen out x y) text other a b = inr (a ∙ sym b)
+  answered_once (Read out form) text other a b = inr (a ∙ sym b)
+  answered_once (Write name form) text other a b =
+      let same = one_of name a.polyhedron b.polyhedron a.set b.set in
+      inr (a.says.1 ∙ ap (file_of form) (same.closed a.says.0) ∙ sym b.says.1)
 
--- ---- the answers to the accepted lines
--- each line spells a command, and its answer is true
-abbrev AreTrue : List Command → List (List ℕ) → List (List ℕ) → Type 0
-AreTrue earlier [] [] = Unit {0}
-AreTrue earlier (line ∷ lines) (text ∷ texts) = (c : Command) × Spells line c × IsTruthful earlier c text × AreTrue (c ∷ earlier) lines texts
-AreTrue earlier [] (text ∷ texts) = ⊥
-AreTrue earlier (line ∷ lines) [] = ⊥
+  -- of one command or file
+  accepted_answered : (act : Act) (text other : List ℕ) → IsTrueAnswer earlier act text → IsTrueAnswer earlier act other → ShowsStored earlier act ⊎ (text ≡ other)
+  accepted_answered (Did c) text other a b = answered_once c text other a b
+  accepted_answered (Took file) text other a b = inr (a ∙ sym b)
 
-only_answers : (earlier : List Command) (lines : List (List ℕ)) (replies : List Reply) → AreTruthful earlier lines replies → AreTrue earlier (accepted_lines lines replies) (answers replies)
-only_answers earlier [] [] t = tt
-only_answers earlier (line ∷ lines) (Answered text ∷ replies) (c, spelled, is, t) = (c, spelled, is, only_answers (c ∷ earlier) lines replies t)
-only_answers earlier (line ∷ lines) (Refused fault ∷ replies) t = only_answers earlier lines replies t
-only_answers earlier (line ∷ lines) (Overflows over ∷ replies) t = only_answers earlier lines replies t
-only_answers earlier [] (reply ∷ replies) t = absurd t
-only_answers earlier (line ∷ lines) [] t = absurd t
+-- ---- the answers to what is accepted
+abbrev first_act : Act → List Act → Act
+first_act none [] = none
+first_act none (a ∷ rest) = a
 
-same_answers : OneMeaning → (earlier : List Command) (lines texts others : List (List ℕ)) → AreTrue earlier lines texts → AreTrue earlier lines others → AreSameAnswers earlier lines texts others
-same_answers laws earlier [] [] [] a b = tt
-same_answers laws earlier (line ∷ lines) (text ∷ texts) (other ∷ others) (c, s, is, a) (d, t, is2, b) =
-    let same : d ≡ c = laws.spells line d c t s in (
-      c,
-      s,
-      answered_once laws earlier c text other is (subst (λ (x : Command). IsTruthful earlier x other) same is2),
-      same_answers laws (c ∷ earlier) lines texts others a (subst (λ (x : Command). AreTrue (x ∷ earlier) lines others) same b),
-    )
-same_answers laws earlier [] (text ∷ texts) others a b = absurd a
-same_answers laws earlier [] [] (other ∷ others) a b = absurd b
-same_answers laws earlier (line ∷ lines) [] others a b = absurd a
-same_answers laws earlier (line ∷ lines) (text ∷ texts) [] a b = absurd b
+abbrev other_acts : List Act → List Act
+other_acts [] = []
+other_acts (a ∷ rest) = rest
+
+same_answers : OneMeaning → (all rest : List Accepted) → acts all ≡ acts rest → AreTruthful all → AreTruthful rest → AreSameAnswers all rest
+same_answers laws [] [] e t u = tt
+same_answers laws [] (b ∷ rest) e t u = cc
+same_answers laws (a ∷ all) [] e t u = cc
+same_answers laws (a ∷ all) (b ∷ rest) e t u =
+    let act : a.act ≡ b.act = ap (first_act a.act) e in
+    let others : acts all ≡ acts rest = ap other_acts e in
+    let there : IsTrueAnswer (acts all) a.act b.answer = subst (λ (x : Act). IsTrueAnswer (acts all) x b.answer) (sym act) (subst (λ (l : List Act). IsTrueAnswer l b.act b.answer) (sym others) u.0) in
+    (accepted_answered laws (acts all) a.act a.answer b.answer t.0 there, same_answers laws all rest others t.1 u.1)
 
 -- ---- runs
-pub accepted_decide : KeepsNamesDistinct → HasDistinctNames [] → OneMeaning → ReadBack → AcceptedLinesDecide
-accepted_decide keeps empty laws read lines others r s new other run next same =
-    let t = run_told keeps [] [] lines r new (nothing_agrees empty) run in
-    let u = run_told keeps [] [] others s other (nothing_agrees empty) next in
-    let one : t.commands ≡ u.commands = spelled_once laws.spells [] (accepted_lines others s) t.commands u.commands
-    (subst (λ (ls : List (List ℕ)). AreSpelled [] ls t.commands) same (accepted_spelled [] lines r t.commands t.accepted)) (accepted_spelled [] others s u.commands u.accepted) in (
-      agreeing_same laws.form new other u.commands (subst (Agrees new) one t.agrees) u.agrees,
-      same_answers laws [] (accepted_lines lines r) (answers r) (answers s) (only_answers [] lines r (answers_true keeps empty read lines r new run))
-          (subst (λ (ls : List (List ℕ)). AreTrue [] ls (answers s)) (sym same) (only_answers [] others s (answers_true keeps empty read others s other next))),
-    )
+pub accepted_decide : KeepsNamesDistinct → HasDistinctNames [] → OneMeaning → ReadBack → AcceptedDecide
+accepted_decide keeps empty laws read lines others r s new other all rest run next a b same =
+    let t = run_truthful keeps empty read lines r new run in
+    let u = run_truthful keeps empty read others s other next in
+    let mine : IsToldTruly new.names all = subst (IsToldTruly new.names) (accepted_once laws.spells None [] lines r t.all all t.accepted a) t.holds in
+    let theirs : IsToldTruly other.names rest = subst (IsToldTruly other.names) (accepted_once laws.spells None [] others s u.all rest u.accepted b) u.holds in
+    (agreeing_same laws.form new.names other.names (acts rest) (subst (Agrees new.names) same mine.0) theirs.0, same_answers laws all rest same mine.1 theirs.1)

@@ -1,12 +1,12 @@
 -- Runs over lines that were cut behind the limit of a line's length.
 use Rattle.std.proofs.Common.{◌≡◌, ℕ, List, [], ◌∷◌, ◌++◌, map, take, refl, ap, subst, sym, ◌∙◌}
-use Rattle.calc_state.specs.Table.{Table}
+use Rattle.calc_state.specs.State.{State, closed}
 use Rattle.calc_state.specs.Step.{Reply}
 use Rattle.calc_state.proofs.CutLines.{step_of_cut}
 use Rattle.polycalc.specs.Runs.{Run}
 
 -- a run over lines that were cut is a run over the lines
-pub run_of_cut : (old : Table) (whole : List (List ℕ)) (replies : List Reply) (new : Table) → Run old (map (take 65536) whole) replies new → Run old whole replies new
+pub run_of_cut : (old : State) (whole : List (List ℕ)) (replies : List Reply) (new : State) → Run old (map (take 65536) whole) replies new → Run old whole replies new
 run_of_cut old [] [] new r = r
 run_of_cut old (line ∷ others) (reply ∷ replies) new (mid, step, run) = (mid, step_of_cut old line reply mid step, run_of_cut mid others replies new run)
 run_of_cut old [] (reply ∷ replies) new r = absurd r
@@ -48,5 +48,5 @@ one_of_cut (line ∷ []) x e = record { line = line; is = refl }
 one_of_cut (line ∷ (other ∷ others)) x e = cc
 
 -- the run over the first of two parts
-pub run_of_part : (whole front back : List (List ℕ)) (replies : List Reply) (new : Table) (p : Parts whole front back) → Run [] front replies new → Run [] p.first replies new
-run_of_part whole front back replies new p r = run_of_cut [] p.first replies new (subst (λ (t : List (List ℕ)). Run [] t replies new) (sym p.first_cut) r)
+pub run_of_part : (whole front back : List (List ℕ)) (replies : List Reply) (new : State) (p : Parts whole front back) → Run (closed []) front replies new → Run (closed []) p.first replies new
+run_of_part whole front back replies new p r = run_of_cut (closed []) p.first replies new (subst (λ (t : List (List ℕ)). Run (closed []) t replies new) (sym p.first_cut) r)

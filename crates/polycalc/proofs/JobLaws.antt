@@ -1,38 +1,53 @@
 -- What the top call promises, by what came of a job.
-use Rattle.std.proofs.Common.{◌≡◌, ◌⊎◌, ℕ, ◌+◌, ◌^◌, ◌<◌, ◌≤◌, List, [], ◌∷◌, ◌++◌, length, length-append, refl, sym, ap, ◌∙◌, subst, inl, inr, Bool, true, false, cond, codes, arith}
-use Rattle.std.specs.Prelude.{Option, None, Some, ◌↔◌, if◌then◌else◌}
+use Rattle.std.proofs.Common.{◌≡◌, ◌⊎◌, ℕ, ◌+◌, ◌^◌, ◌<◌, ◌≤◌, List, [], ◌∷◌, ◌++◌, length, length-append, refl, sym, ap, ◌∙◌, subst, inl, inr, Bool, true, false, arith}
+use Rattle.std.specs.Prelude.{Option, None, Some, ◌↔◌, if◌then◌else◌, codes}
 use Rattle.std.proofs.lemmas.List.{append-nil}
 use Rattle.std.specs.Str.Lines.{lines}
-use Rattle.std.specs.Io.KnownBytes.{append_known, prepend_known, IsAtEnd}
+use Rattle.std.specs.Io.KnownBytes.{prepend_known, IsAtEnd}
 use Rattle.cdd_text.specs.declared.format.Format.TheVariants.{Ine, Ext}
-use Rattle.calc_state.specs.Step.{Reply}
-use Rattle.polycalc.specs.Words.{words_of}
-use Rattle.polycalc.specs.Runs.{Run}
-use Rattle.polycalc.specs.Conversions.{ConvertsTo}
+use Rattle.calc_state.specs.State.{closed}
+use Rattle.cdd_text.specs.Tokens.{number}
+use Rattle.cdd_text.specs.declared.format.Format.{Format}
+use Rattle.polycalc.specs.Words.{IsAskedBy, SpellsSize}
 use Rattle.polycalc.specs.Laws.{RunsAreComplete}
-use Rattle.polycalc.specs.Outcomes.{Completes, Finishes, WritesFront, AnswersRead, AnswersFront, Outcome, Ends, Stops, IsAnswered}
+use Rattle.polycalc.specs.Outcomes.{Completes, Converts, Samples, IsReadOut, Finishes, WritesFront, AnswersRead, AnswersFront, Outcome, Ends, Stops, IsRunAnswered, IsFileAnswered, IsSampleAnswered, IsAnswered}
 use Rattle.polycalc.specs.declared.job.Job.{Job}
 use Rattle.polycalc.specs.declared.job.Job.TheVariants as job
 use Rattle.polycalc.specs.declared.status.Status.{Status}
 use Rattle.polycalc.specs.declared.status.Status.TheVariants.{Done, Refused, Usage, ReadFault, WriteFault, Memory, InputTooLong}
 use Rattle.polycalc.proofs.ConversionLaws.{must_convert}
+use Rattle.polycalc.proofs.SampleLaws.{must_sample}
+use Rattle.polycalc.proofs.SampleWords.{second}
 
 abbrev first_byte : List (List ℕ) → ℕ
 first_byte ((b ∷ word) ∷ words) = b
 first_byte ([] ∷ words) = 0
 first_byte [] = 0
 
+-- one number is spelled by one word
+same_size : (words : List (List ℕ)) (first u v : List ℕ) (n m : ℕ) → words ≡ first ∷ u ∷ [] → words ≡ first ∷ v ∷ [] → SpellsSize u n → SpellsSize v m → job.Sample n ≡ job.Sample m
+same_size words first u v n m e f s t =
+    let same : u ≡ v = ap second (sym e ∙ f) in
+    ap job.Sample (s.value ∙ ap number same ∙ sym t.value)
+
 -- words ask for one job
-pub one_job : (a b : Job) → words_of a ≡ words_of b → a ≡ b
-one_job job.Run job.Run e = refl
-one_job (job.Convert Ine) (job.Convert Ine) e = refl
-one_job (job.Convert Ext) (job.Convert Ext) e = refl
-one_job job.Run (job.Convert Ine) e = cc
-one_job job.Run (job.Convert Ext) e = cc
-one_job (job.Convert Ine) job.Run e = cc
-one_job (job.Convert Ine) (job.Convert Ext) e = let same : 105 ≡ 101 = ap first_byte e in absurd (omega (arith, same))
-one_job (job.Convert Ext) job.Run e = cc
-one_job (job.Convert Ext) (job.Convert Ine) e = let same : 101 ≡ 105 = ap first_byte e in absurd (omega (arith, same))
+pub one_job : (words : List (List ℕ)) (a b : Job) → IsAskedBy words a → IsAskedBy words b → a ≡ b
+one_job words job.Run job.Run e f = refl
+one_job words (job.Convert Ine) (job.Convert Ine) e f = refl
+one_job words (job.Convert Ext) (job.Convert Ext) e f = refl
+one_job words (job.Sample n) (job.Sample m) e f = same_size words (codes "sample") e.0 f.0 n m e.1 f.1 e.2 f.2
+one_job words job.Run (job.Convert Ine) e f = let same : 114 ≡ 105 = ap first_byte (sym e ∙ f) in absurd (omega (arith, same))
+one_job words job.Run (job.Convert Ext) e f = let same : 114 ≡ 101 = ap first_byte (sym e ∙ f) in absurd (omega (arith, same))
+one_job words job.Run (job.Sample n) e f = let same : 114 ≡ 115 = ap first_byte (sym e ∙ f.1) in absurd (omega (arith, same))
+one_job words (job.Convert Ine) job.Run e f = let same : 105 ≡ 114 = ap first_byte (sym e ∙ f) in absurd (omega (arith, same))
+one_job words (job.Convert Ine) (job.Convert Ext) e f = let same : 105 ≡ 101 = ap first_byte (sym e ∙ f) in absurd (omega (arith, same))
+one_job words (job.Convert Ine) (job.Sample n) e f = let same : 105 ≡ 115 = ap first_byte (sym e ∙ f.1) in absurd (omega (arith, same))
+one_job words (job.Convert Ext) job.Run e f = let same : 101 ≡ 114 = ap first_byte (sym e ∙ f) in absurd (omega (arith, same))
+one_job words (job.Convert Ext) (job.Convert Ine) e f = let same : 101 ≡ 105 = ap first_byte (sym e ∙ f) in absurd (omega (arith, same))
+one_job words (job.Convert Ext) (job.Sample n) e f = let same : 101 ≡ 115 = ap first_byte (sym e ∙ f.1) in absurd (omega (arith, same))
+one_job words (job.Sample n) job.Run e f = let same : 115 ≡ 114 = ap first_byte (sym e.1 ∙ f) in absurd (omega (arith, same))
+one_job words (job.Sample n) (job.Convert Ine) e f = let same : 115 ≡ 105 = ap first_byte (sym e.1 ∙ f) in absurd (omega (arith, same))
+one_job words (job.Sample n) (job.Convert Ext) e f = let same : 115 ≡ 101 = ap first_byte (sym e.1 ∙ f) in absurd (omega (arith, same))
 
 -- ---- the bytes that the source gave
 all_given : (script given : List ℕ) (left : Option (List ℕ)) → Some script ≡ prepend_known given left → IsAtEnd left → given ≡ script
@@ -47,17 +62,28 @@ few_given script given (Some rest) e =
     let same : script ≡ given ++ rest = cc in
     omega (arith, ap (λ (x : List ℕ). length x) same, length-append given rest)
 
--- ---- an answered script or file
-finished : RunsAreComplete → (task : Job) (script before : List ℕ) (held : Option (List ℕ)) (clean : Bool) → Finishes task script clean (Some before) held → IsAnswered task script before held (if clean then Done else Refused)
-finished complete job.Run script before held clean f = record {
-  table = f.table;
-  replies = f.replies;
-  run = f.run;
-  complete = complete [] (lines script) f.replies f.table f.run;
+-- ---- an answered script, file or number
+sample_finished : (n : ℕ) (before : List ℕ) (held : Option (List ℕ)) (clean : Bool) → Samples n clean (Some before) held → IsSampleAnswered n before held (if clean then Done else Refused)
+sample_finished n before held clean f = record {
+  reply = f.reply;
+  samples = f.samples;
+  complete = must_sample n f.reply f.samples;
   held_now = f.held;
   verdict = ap (λ (b : Bool). if b then Done else Refused) (sym f.verdict);
 }
-finished complete (job.Convert want) file before held clean f = record {
+
+run_finished : RunsAreComplete → (script before : List ℕ) (held : Option (List ℕ)) (clean : Bool) → Completes script clean (Some before) held → IsRunAnswered script before held (if clean then Done else Refused)
+run_finished complete script before held clean f = record {
+  state = f.state;
+  replies = f.replies;
+  run = f.run;
+  complete = complete (closed []) (lines script) f.replies f.state f.run;
+  held_now = f.held;
+  verdict = ap (λ (b : Bool). if b then Done else Refused) (sym f.verdict);
+}
+
+file_finished : (want : Format) (file before : List ℕ) (held : Option (List ℕ)) (clean : Bool) → Converts want file clean (Some before) held → IsFileAnswered want file before held (if clean then Done else Refused)
+file_finished want file before held clean f = record {
   reply = f.reply;
   converts = f.converts;
   complete = must_convert want file f.reply f.converts;
@@ -65,29 +91,49 @@ finished complete (job.Convert want) file before held clean f = record {
   verdict = ap (λ (b : Bool). if b then Done else Refused) (sym f.verdict);
 }
 
+finished : RunsAreComplete → (task : Job) (script before given : List ℕ) (left held : Option (List ℕ)) (clean : Bool) → Some script ≡ prepend_known given left → IsReadOut task given left → Finishes task given clean (Some before) held
+    → IsAnswered task script before held (if clean then Done else Refused)
+finished complete job.Run script before given left held clean e out f = run_finished complete script before held clean (subst (λ (x : List ℕ). Completes x clean (Some before) held) (all_given script given left e out) f)
+finished complete (job.Convert want) script before given left held clean e out f = file_finished want script before held clean (subst (λ (x : List ℕ). Converts want x clean (Some before) held) (all_given script given left e out) f)
+finished complete (job.Sample n) script before given left held clean e out f = sample_finished n before held clean f
+
 pub answered : RunsAreComplete → (task : Job) (script before given : List ℕ) (left held : Option (List ℕ)) (status : Status) → Some script ≡ prepend_known given left → length script ≤ 2 ^ 26 → Outcome task given left (Some before) held status →
     ¬ (status ≡ ReadFault) → ¬ (status ≡ WriteFault) → ¬ (status ≡ Memory) → IsAnswered task script before held status
-answered complete task script before given left held Done e few o read write memory = finished complete task script before held true (subst (λ (x : List ℕ). Finishes task x true (Some before) held) (all_given script given left e o.1) o.2)
-answered complete task script before given left held Refused e few o read write memory = finished complete task script before held false (subst (λ (x : List ℕ). Finishes task x false (Some before) held) (all_given script given left e o.1) o.2)
+answered complete task script before given left held Done e few o read write memory = finished complete task script before given left held true e o.1 o.2
+answered complete task script before given left held Refused e few o read write memory = finished complete task script before given left held false e o.1 o.2
 answered complete task script before given left held ReadFault e few o read write memory = absurd (read refl)
 answered complete task script before given left held WriteFault e few o read write memory = absurd (write refl)
 answered complete task script before given left held Memory e few o read write memory = absurd (memory refl)
 answered complete task script before given left held InputTooLong e few o read write memory = absurd (omega (arith, few_given script given left e, few, o.0))
 answered complete task script before given left held Usage e few o read write memory = absurd o
 
+-- of a sample nothing is asked of the source
+pub sampled : (n : ℕ) (before given : List ℕ) (left held : Option (List ℕ)) (status : Status) → Outcome (job.Sample n) given left (Some before) held status → ¬ (status ≡ WriteFault) → ¬ (status ≡ Memory) → IsSampleAnswered n before held status
+sampled n before given left held Done o write memory = sample_finished n before held true o.2
+sampled n before given left held Refused o write memory = sample_finished n before held false o.2
+sampled n before given left held ReadFault o write memory = absurd o.1
+sampled n before given left held WriteFault o write memory = absurd (write refl)
+sampled n before given left held Memory o write memory = absurd (memory refl)
+sampled n before given left held InputTooLong o write memory = absurd o.3
+sampled n before given left held Usage o write memory = absurd o
+
+-- and no read of it can fail
+pub never_reads : (n : ℕ) (given : List ℕ) (left old new : Option (List ℕ)) (status : Status) → Outcome (job.Sample n) given left old new status → status ≡ ReadFault → ⊥
+never_reads n given left old new status o e = (subst (λ (s : Status). Outcome (job.Sample n) given left old new s) e o).1
+
 -- ---- the other promises, by the status
-module _ (words : List (List ℕ)) (task : Job) (given : List ℕ) (left now old new : Option (List ℕ)) (status : Status) (asked : words ≡ words_of task) (gave : left ≡ prepend_known given now) (outcome : Outcome task given now old new status) where
+module _ (words : List (List ℕ)) (task : Job) (given : List ℕ) (left now old new : Option (List ℕ)) (status : Status) (asked : IsAskedBy words task) (gave : left ≡ prepend_known given now) (outcome : Outcome task given now old new status) where
   at : (s : Status) → status ≡ s → Outcome task given now old new s
   at s e = subst (λ (x : Status). Outcome task given now old new x) e outcome
 
   pub when_done : status ≡ Done → Ends words left now old new true
-  when_done e = let o = at Done e in record { job = task; words_are = asked; given = given; gave = gave; at_end = o.1; finishes = o.2 }
+  when_done e = let o = at Done e in record { job = task; asked = asked; given = given; gave = gave; read_out = o.1; finishes = o.2 }
 
   pub when_refused : status ≡ Refused → Ends words left now old new false
-  when_refused e = let o = at Refused e in record { job = task; words_are = asked; given = given; gave = gave; at_end = o.1; finishes = o.2 }
+  when_refused e = let o = at Refused e in record { job = task; asked = asked; given = given; gave = gave; read_out = o.1; finishes = o.2 }
 
   stops : (Writes : Job → List ℕ → Option (List ℕ) → Option (List ℕ) → Type 0) → Writes task given old new → Stops words left now old new Writes
-  stops Writes w = record { job = task; words_are = asked; given = given; gave = gave; writes = w }
+  stops Writes w = record { job = task; asked = asked; given = given; gave = gave; writes = w }
 
   pub when_unread : status ≡ ReadFault → Stops words left now old new AnswersRead
   when_unread e = stops AnswersRead (at ReadFault e).1

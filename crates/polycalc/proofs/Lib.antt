@@ -3,6 +3,7 @@ pub mod RunLaws
 pub mod StepLaws
 pub mod CutRuns
 pub mod StreamLaws
+pub mod EndLaws
 pub mod DistinctNames
 pub mod TableLaws
 pub mod OneForm
@@ -10,9 +11,13 @@ pub mod OneResult
 pub mod OneMap
 pub mod OneSet
 pub mod Operands
+pub mod AcceptedRuns
 pub mod SetLaws
 pub mod TruthLaws
 pub mod SameTables
 pub mod AcceptedLaws
 pub mod ConversionLaws
+pub mod SampleLaws
+pub mod DigitLaws
+pub mod SampleWords
 pub mod JobLaws

@@ -7,6 +7,8 @@ use Rattle.gens_sys.specs.declared.kind.GenKind.{GenKind}
 use Rattle.gens_sys.specs.declared.kind.GenKind.TheVariants.{Line, Ray, Point, ClosurePoint}
 use Rattle.gens_sys.specs.Generators.{Generator, Generators, kind_at}
 use Rattle.expr_text.specs.OneAnswer.{ConsHasOneAnswer, GensHasOneAnswer, FracHasOneAnswer}
+use Rattle.widening.specs.WideningLaws.{OneWidening}
+use Rattle.cdd_text.specs.OneAnswer.{HasOneIne, HasOneExt}
 use Rattle.pair_laws.specs.PointSets.{HoldSame}
 use Rattle.pair_laws.specs.StoredLaws.{StoredIsUnique, AreSameSystems}
 use Rattle.nnc_enc.specs.EncodedGenerators.{HasPoint}
@@ -19,7 +21,7 @@ use Rattle.calc_state.specs.Step.{IsProper}
 use Rattle.polycalc.specs.Sameness.{AreSamePolyhedra}
 
 -- the laws that are cited: a text says one system; a closed set is stored in one way; both systems of a polyhedron hold
--- the same points, and there is no generator where there is none; what is joined to generators adds to their points alone
+-- the same points, and there is no generator where there is none; what is joined to generators adds to their points alone; there is one widening; a file holds one list
 pub record OneForm : Type 0 where
   pub cons : ConsHasOneAnswer
   pub gens : GensHasOneAnswer
@@ -28,6 +30,9 @@ pub record OneForm : Type 0 where
   pub pair : KeptIsPair
   pub empty : KeptIsEmpty
   pub joined : JoinedSetsAreSame
+  pub widening : OneWidening
+  pub ine : HasOneIne
+  pub ext : HasOneExt
 
 -- ---- both systems
 -- both systems have one dimension

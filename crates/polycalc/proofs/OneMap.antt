@@ -1,12 +1,11 @@
 -- Operands that are the same give the same images, preimages, products and time elapses.
 use Rattle.std.proofs.Common.{◌≡◌, ℕ, zero, suc, ◌+◌, ◌<◌, ◌≤◌, List, [], ◌∷◌, drop, length, refl, ap, sym, ◌∙◌, subst, arith}
 use Rattle.std.specs.Prelude.{◌↔◌, ℤ, pos, ◌<ℤ◌}
-use Rattle.std.proofs.Math.IntN.{◌*ℤ◌}
 use Rattle.std.proofs.lemmas.Int.{ints}
 use Rattle.row_core.specs.Vectors.{cell}
 use Rattle.row_core.proofs.Ring.{mul-positive}
 use Rattle.row_core.specs.Points.{IsPoint}
-use Rattle.cons_sys.specs.Constraints.{Constraint, Constraints, In, Satisfies}
+use Rattle.cons_sys.specs.Constraints.{In}
 use Rattle.term_text.specs.Texts.{IsFrac}
 use Rattle.pair_laws.specs.PointSets.{IsWithin}
 use Rattle.poly_pair.specs.Polyhedra.{Polyhedron}
@@ -16,7 +15,7 @@ use Rattle.affine_ops.specs.Maps.{substituted, without, remaining, kept_variable
 use Rattle.affine_ops.specs.Results.{IsOfSource, IsImage, IsPreimage, IsPadded, IsProjection, IsOfBoth, IsProduct}
 use Rattle.affine_ops.proofs.ColumnLemmas.{length-without}
 use Rattle.affine_ops.proofs.LinearMaps.{IsLinearMap, substitution_linear}
-use Rattle.elapse.specs.ElapsedPoints.{IsMoved, IsElapsed, IsTrueElapsed, IsInElapse}
+use Rattle.elapse.specs.ElapsedPoints.{IsMoved, IsElapsed, IsInElapse}
 use Rattle.elapse.specs.Elapses.{IsElapse}
 use Rattle.script_text.specs.declared.command.Part.{Part}
 use Rattle.calc_state.specs.Affine.{SaysReplacement, IsEmbedded, IsRemoved, IsImageBy, IsPreimageBy}
@@ -24,7 +23,7 @@ use Rattle.calc_state.specs.Step.{IsProper}
 use Rattle.polycalc.specs.Sets.{IsOfAlike}
 use Rattle.polycalc.specs.Sameness.{AreSamePolyhedra}
 use Rattle.polycalc.proofs.OneForm.{OneForm}
-use Rattle.polycalc.proofs.OneResult.{same_back, same_at, one_of_same}
+use Rattle.polycalc.proofs.OneResult.{same_back, one_of_same}
 
 -- ---- points that lose variables
 cell_dropped : (n j m : ℕ) (v : List ℤ) → m ≡ n + j → cell (drop n v) j ≡ cell v m

@@ -1,5 +1,5 @@
 -- Operands that are the same give the same results.
-use Rattle.std.proofs.Common.{◌≡◌, ℕ, List, sym, ◌∙◌, subst}
+use Rattle.std.proofs.Common.{◌≡◌, ℕ, List, refl, sym, ◌∙◌, subst}
 use Rattle.std.specs.Prelude.{◌↔◌, ℤ}
 use Rattle.row_core.specs.Points.{IsPoint}
 use Rattle.cons_sys.specs.Constraints.{Constraint, In, Satisfies}
@@ -8,9 +8,10 @@ use Rattle.poly_pair.specs.declared.topology.Topology.{Topology}
 use Rattle.poly_pair.specs.declared.topology.Topology.TheVariants.{Closed}
 use Rattle.pair_laws.specs.PointSets.{IsWithin}
 use Rattle.optimum.specs.Relations.{HoldsThroughout, HoldsNowhere, HoldsSomewhere, FailsSomewhere}
+use Rattle.widening.specs.Widenings.{IsWidening}
 use Rattle.lattice_ops.specs.Sets.{IsConstraintFor, IsValidOn, IsMeet, IsHull, IsClosure, IsIncluded, HaveSamePoints, AreDisjoint}
 use Rattle.calc_state.specs.Step.{IsProper}
-use Rattle.polycalc.specs.Sets.{IsMadeOfOne, IsMadeOfTwo, IsOfAlike}
+use Rattle.polycalc.specs.Sets.{IsMadeOfOne, IsMadeOfTwo, IsOfAlike, IsOfNested}
 use Rattle.polycalc.specs.Sameness.{AreSamePolyhedra}
 use Rattle.polycalc.proofs.OneForm.{OneForm, one_of_points}
 
@@ -82,6 +83,14 @@ one_closure laws x y r s same a b h k =
 
     closure_same : (f g : Polyhedron) (p : List ℤ) → AreSamePolyhedra f g → InClosure f p → InClosure g p
     closure_same f g p e each c fits valid = each c (subst (λ (n : ℕ). IsConstraintFor Closed n c) (sym e.dim) fits) (valid_same g f c (same_back f g e) valid)
+
+-- ---- the widening
+pub one_widened : OneForm → (x y v w r s : Polyhedron) → IsProper x → AreSamePolyhedra x y → AreSamePolyhedra v w → IsProper r → IsProper s → IsOfNested x v r → IsOfNested y w s → AreSamePolyhedra r s
+one_widened laws x y v w r s proper same others a b h k =
+    let there : IsWidening x v s = subst (λ (z : Polyhedron). IsWidening x z s) (sym (others.closed (sym h.alike.topology ∙ h.closed))) (subst (λ (z : Polyhedron). IsWidening z w s) (sym (same.closed h.closed)) k.is) in
+    let hold = laws.widening x v r s (record { kept = proper.kept; closed = h.closed; same_dim = refl }) h.is there in
+    one_of_points laws Closed x.cons.dim (In s.cons) r s a b h.is.over there.over
+    (λ p is. (let i = hold p (subst (λ (n : ℕ). IsPoint n p) (sym h.is.over.same_dim) is) in (i.1, i.0))) (λ p is. (λ z. z, λ z. z))
 
 -- ---- how two sets lie
 pub included_same : (x y v w : Polyhedron) → AreSamePolyhedra x y → AreSamePolyhedra v w → x.cons.dim ≡ v.cons.dim → IsIncluded x v → IsIncluded y w

@@ -1,6 +1,7 @@
--- Accepted commands give a name one set at most.
+-- What is accepted gives a name one set at most.
 use Rattle.std.proofs.Common.{◌≡◌, ℕ, List, [], ◌∷◌, refl, sym, ◌∙◌, subst, Bool, true, false}
 use Rattle.std.specs.Prelude.{◌↔◌, MatchBool, ℤ}
+use Rattle.std.specs.Str.{bytes_eq}
 use Rattle.row_core.specs.Points.{IsPoint}
 use Rattle.cons_sys.specs.Constraints.{Constraints, In}
 use Rattle.gens_sys.specs.Generators.{Generators}
@@ -10,20 +11,28 @@ use Rattle.expr_text.specs.GeneratorSystems.{IsGens}
 use Rattle.set_laws.specs.JoinedSets.{GenerateSame}
 use Rattle.poly_pair.specs.Polyhedra.{Polyhedron, IsOver, IsOfConstraints, IsOfGenerators, IsUniverse, IsEmpty}
 use Rattle.poly_pair.specs.declared.topology.Topology.{Topology}
+use Rattle.poly_pair.specs.declared.topology.Topology.TheVariants.{Closed}
 use Rattle.lattice_ops.specs.Sets.{IsMeet, IsHull, IsClosure}
 use Rattle.affine_ops.specs.Results.{IsProjection, IsProduct}
 use Rattle.elapse.specs.Elapses.{IsElapse}
+use Rattle.cdd_text.specs.declared.format.Format.{Format}
+use Rattle.cdd_text.specs.declared.format.Format.TheVariants.{Ine, Ext}
+use Rattle.file_poly.specs.Files.{IsListOf, IsOfList, IsOfFile}
+use Rattle.file_poly.specs.declared.listed.Listed.{Listed}
+use Rattle.file_poly.specs.declared.listed.Listed.TheVariants as listed
 use Rattle.script_text.specs.declared.command.Part.{Part}
 use Rattle.script_text.specs.declared.command.Command.{Command}
-use Rattle.script_text.specs.declared.command.Command.TheVariants.{Cons, Gens, Universe, Empty, Copy, Add, Addgen, Meet, Hull, Closure, Embed, Project, Concat, Elapse, Image, Preimage, Remove}
+use Rattle.script_text.specs.declared.command.Command.TheVariants.{Cons, Gens, Universe, Empty, Copy, Add, Addgen, Meet, Hull, Closure, Embed, Project, Concat, Elapse, Image, Preimage, Remove, Widen}
 use Rattle.calc_state.specs.Makers.{SaysConstraints, SaysGenerators, more_generators}
 use Rattle.calc_state.specs.Affine.{IsEmbedded, IsRemoved, IsImageBy, IsPreimageBy}
 use Rattle.calc_state.specs.Meanings.{topology_of}
+use Rattle.calc_state.specs.Files.{format_of}
 use Rattle.calc_state.specs.Step.{IsProper}
+use Rattle.polycalc.specs.Acts.{Act, Did, Took}
 use Rattle.polycalc.specs.Sets.{IsMade, IsCut, IsAdded, IsJoined, IsOfAlike, sets, Gives, IsSetOf}
 use Rattle.polycalc.specs.Sameness.{AreSamePolyhedra}
 use Rattle.polycalc.proofs.OneForm.{OneForm, same_dims, of_set, one_of_points}
-use Rattle.polycalc.proofs.OneResult.{one_of_one, one_of_two, one_meet, one_hull, one_closure}
+use Rattle.polycalc.proofs.OneResult.{one_of_one, one_of_two, one_meet, one_hull, one_closure, one_widened}
 use Rattle.polycalc.proofs.OneMap.{one_embedded, one_projection, one_product, one_elapse, one_image_by, one_preimage_by, one_removed}
 
 -- ---- what each set keeps
@@ -45,6 +54,7 @@ given_proper (Elapse out one other) Had p kept h = h.made.proper
 given_proper (Image out other v part) Had p kept h = h.made.proper
 given_proper (Preimage out other v part) Had p kept h = h.made.proper
 given_proper (Remove out other vars) Had p kept h = h.made.proper
+given_proper (Widen out one other) Had p kept h = h.made.proper
 given_proper other Had p kept h = absurd h
 
 one_case : (b : Bool) (A B E : Type 0) → (A → E) → (B → E) → MatchBool b A B → E
@@ -52,9 +62,10 @@ one_case true A B E f g h = f h
 one_case false A B E f g h = g h
 
 -- the polyhedron of a name is kept as its set is stored
-pub set_proper : (commands : List Command) (name : List ℕ) (p : Polyhedron) → IsSetOf commands name p → IsProper p
+pub set_proper : (all : List Act) (name : List ℕ) (p : Polyhedron) → IsSetOf all name p → IsProper p
 set_proper [] name p h = absurd h
-set_proper (c ∷ earlier) name p h = one_case (sets c name) (Gives c (IsSetOf earlier) p) (IsSetOf earlier name p) (IsProper p) (given_proper c (IsSetOf earlier) p (set_proper earlier)) (set_proper earlier name p) h
+set_proper (Did c ∷ earlier) name p h = one_case (sets c name) (Gives c (IsSetOf earlier) p) (IsSetOf earlier name p) (IsProper p) (given_proper c (IsSetOf earlier) p (set_proper earlier)) (set_proper earlier name p) h
+set_proper (Took file ∷ earlier) name p h = one_case (bytes_eq name file.name) (IsMade (IsOfFile (format_of file.ext) file.text) p) (IsSetOf earlier name p) (IsProper p) (λ m. m.proper) (set_proper earlier name p) h
 
 -- ---- one set of points
 one_of_constraints : OneForm → (t : Topology) (cs : Constraints) (p q : Polyhedron) → IsProper p → IsProper q → IsOfConstraints t cs p → IsOfConstraints t cs q → AreSamePolyhedra p q
@@ -153,6 +164,18 @@ one_joined laws Was part p q kept one h k =
     (same_dims h.old a ∙ same.dim ∙ sym (same_dims k.old b))
     (λ gs x y. one_joined_set laws h.old k.old same a b gs p q h.made.proper k.made.proper x y) h.made.is k.made.is
 
+-- a file holds one list
+one_list : OneForm → (want : Format) (bytes : List ℕ) (k l : Listed) (p q : Polyhedron) → IsProper p → IsProper q → IsListOf want bytes k → IsListOf want bytes l → IsOfList k p → IsOfList l q → AreSamePolyhedra p q
+one_list laws Ine bytes (listed.Cons cs) (listed.Cons ds) p q a b h k x y = one_of_constraints laws Closed ds p q a b (subst (λ (c : Constraints). IsOfConstraints Closed c p) (laws.ine bytes cs ds h k) x) y
+one_list laws Ext bytes (listed.Gens gs) (listed.Gens hs) p q a b h k x y = one_of_generators laws Closed hs p q a b (subst (λ (g : Generators). IsOfGenerators Closed g p) (laws.ext bytes gs hs h k) x) y
+one_list laws Ine bytes (listed.Gens gs) l p q a b h k x y = absurd h
+one_list laws Ine bytes (listed.Cons cs) (listed.Gens gs) p q a b h k x y = absurd k
+one_list laws Ext bytes (listed.Cons cs) l p q a b h k x y = absurd h
+one_list laws Ext bytes (listed.Gens gs) (listed.Cons cs) p q a b h k x y = absurd k
+
+one_file : OneForm → (want : Format) (bytes : List ℕ) (p q : Polyhedron) → IsMade (IsOfFile want bytes) p → IsMade (IsOfFile want bytes) q → AreSamePolyhedra p q
+one_file laws want bytes p q h k = one_list laws want bytes h.is.list k.is.list p q h.proper k.proper h.is.read k.is.read h.is.set k.is.set
+
 one_given : OneForm → (c : Command) (Had : List ℕ → Polyhedron → Type 0) (p q : Polyhedron) → ((name : List ℕ) (x : Polyhedron) → Had name x → IsProper x) → ((name : List ℕ) (x y : Polyhedron) → Had name x → Had name y → AreSamePolyhedra x y) → Gives c Had p → Gives c Had q → AreSamePolyhedra p q
 one_given laws (Cons out top n part) Had p q kept one h k = one_made_of_constraints laws (topology_of top) n part p q h k
 one_given laws (Gens out top n part) Had p q kept one h k = one_made_of_generators laws (topology_of top) n part p q h k
@@ -171,10 +194,15 @@ one_given laws (Elapse out name other) Had p q kept one h k = one_of_two (Had na
 one_given laws (Image out other v part) Had p q kept one h k = one_of_one (Had other) (IsImageBy v part) p q (one other) (one_image_by laws v part) h k
 one_given laws (Preimage out other v part) Had p q kept one h k = one_of_one (Had other) (IsPreimageBy v part) p q (one other) (one_preimage_by laws v part) h k
 one_given laws (Remove out other vars) Had p q kept one h k = one_of_one (Had other) (IsRemoved vars) p q (one other) (one_removed laws vars) h k
+one_given laws (Widen out name other) Had p q kept one h k =
+    one_widened laws h.first k.first h.second k.second p q (kept name h.first h.was_first) (one name h.first k.first h.was_first k.was_first) (one other h.second k.second h.was_second k.was_second) h.made.proper k.made.proper h.made.is k.made.is
 one_given laws other Had p q kept one h k = absurd h
 
-pub one_set : OneForm → (commands : List Command) (name : List ℕ) (p q : Polyhedron) → IsSetOf commands name p → IsSetOf commands name q → AreSamePolyhedra p q
+pub one_set : OneForm → (all : List Act) (name : List ℕ) (p q : Polyhedron) → IsSetOf all name p → IsSetOf all name q → AreSamePolyhedra p q
 one_set laws [] name p q h k = absurd h
-one_set laws (c ∷ earlier) name p q h k =
+one_set laws (Did c ∷ earlier) name p q h k =
     same_case (sets c name) (Gives c (IsSetOf earlier) p) (IsSetOf earlier name p) (Gives c (IsSetOf earlier) q) (IsSetOf earlier name q) (AreSamePolyhedra p q)
     (one_given laws c (IsSetOf earlier) p q (set_proper earlier) (one_set laws earlier)) (one_set laws earlier name p q) h k
+one_set laws (Took file ∷ earlier) name p q h k =
+    same_case (bytes_eq name file.name) (IsMade (IsOfFile (format_of file.ext) file.text) p) (IsSetOf earlier name p) (IsMade (IsOfFile (format_of file.ext) file.text) q) (IsSetOf earlier name q) (AreSamePolyhedra p q)
+    (one_file laws (format_of file.ext) file.text p q) (one_set laws earlier name p q) h k

@@ -5,15 +5,15 @@ use Rattle.std.specs.List.{flat_map, list_all}
 use Rattle.std.proofs.lemmas.Grind.{flat_map-append}
 use Rattle.std.proofs.lemmas.List.Folds.{list_all-append}
 use Rattle.std.proofs.lemmas.List.{append-nil}
-use Rattle.calc_state.specs.Table.{Table}
+use Rattle.calc_state.specs.State.{State}
 use Rattle.calc_state.specs.Step.{Reply}
 use Rattle.calc_state.specs.Line.{Step}
 use Rattle.polycalc.specs.Replies.{Written, written, with_reply, reply_bytes, is_answer}
 use Rattle.polycalc.specs.Runs.{Run}
 
 -- a run goes on by one step
-pub Run-then : (old : Table) (lines : List (List ℕ)) (replies : List Reply) (mid : Table) (line : List ℕ) (reply : Reply) (new : Table) → Run old lines replies mid → Step mid line reply new → Run old (lines ++ line ∷ []) (replies ++ reply ∷ []) new
-Run-then old [] [] mid line reply new r s = (new, subst (λ (t : Table). Step t line reply new) r s, refl)
+pub Run-then : (old : State) (lines : List (List ℕ)) (replies : List Reply) (mid : State) (line : List ℕ) (reply : Reply) (new : State) → Run old lines replies mid → Step mid line reply new → Run old (lines ++ line ∷ []) (replies ++ reply ∷ []) new
+Run-then old [] [] mid line reply new r s = (new, subst (λ (t : State). Step t line reply new) r s, refl)
 Run-then old (l ∷ lines) (r ∷ replies) mid line reply new (between, step, run) s = (between, step, Run-then between lines replies mid line reply new run s)
 Run-then old [] (r ∷ replies) mid line reply new h s = absurd h
 Run-then old (l ∷ lines) [] mid line reply new h s = absurd h

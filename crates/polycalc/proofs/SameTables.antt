@@ -1,4 +1,4 @@
--- Tables that agree with the same accepted commands are the same.
+-- Tables that agree with the same accepted commands and files are the same.
 use Rattle.std.proofs.Common.{◌≡◌, ℕ, List, [], ◌∷◌, refl, ap, sym, ◌∙◌, subst, Bool, true, false, cond}
 use Rattle.std.specs.Prelude.{Option, None, Some}
 use Rattle.std.specs.Str.{bytes_eq}
@@ -6,10 +6,10 @@ use Rattle.std.specs.Map.{keys_of}
 use Rattle.std.specs.List.{AllByRecursion, IsDistinct}
 use Rattle.std.proofs.lemmas.Slice.Eq.{bytes_eq-Decides}
 use Rattle.poly_pair.specs.Polyhedra.{Polyhedron}
-use Rattle.script_text.specs.declared.command.Command.{Command}
 use Rattle.calc_state.specs.declared.entry.Entry.{Entry}
 use Rattle.calc_state.specs.declared.entry.Entry.TheVariants as entry
 use Rattle.calc_state.specs.Table.{Table, entry_of, as_poly}
+use Rattle.polycalc.specs.Acts.{Act}
 use Rattle.polycalc.specs.Sets.{IsSetOf}
 use Rattle.polycalc.specs.Sameness.{AreSamePolyhedra, AreSameEntries, AreSameTables}
 use Rattle.polycalc.proofs.TableLaws.{distinct_keys, none_there}
@@ -83,8 +83,8 @@ tables_same (e ∷ table) (f ∷ others) d k h = (
   tables_same table others d.1 (ap rest_of k) (later_same e.0 f.0 e.1 f.1 table others (ap (head_of []) k) (ap rest_of k) h d.0),
 )
 
--- two tables that have what the same commands give
-pub agreeing_same : OneForm → (table others : Table) (commands : List Command) → Agrees table commands → Agrees others commands → AreSameTables table others
-agreeing_same laws table others commands a b =
+-- two tables that have what the same commands and files give
+pub agreeing_same : OneForm → (table others : Table) (all : List Act) → Agrees table all → Agrees others all → AreSameTables table others
+agreeing_same laws table others all a b =
     tables_same table others (distinct_keys table a.distinct) (a.names ∙ sym b.names)
-    (λ name. both_stand (IsSetOf commands name) (entry_of table name) (entry_of others name) (one_set laws commands name) (a.sets name) (b.sets name))
+    (λ name. both_stand (IsSetOf all name) (entry_of table name) (entry_of others name) (one_set laws all name) (a.sets name) (b.sets name))

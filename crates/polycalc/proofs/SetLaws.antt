@@ -1,5 +1,5 @@
 -- After a run the table has the polyhedra and the names that the accepted commands give.
-use Rattle.std.proofs.Common.{◌≡◌, ℕ, List, [], ◌∷◌, refl, ap, sym, ◌∙◌, subst, inl, inr, Bool, true, false, cond}
+use Rattle.std.proofs.Common.{◌≡◌, ℕ, List, [], ◌∷◌, refl, ap, sym, ◌∙◌, subst, Bool, true, false, cond}
 use Rattle.std.specs.Prelude.{Option, None, Some, MatchBool}
 use Rattle.std.specs.Str.{bytes_eq}
 use Rattle.std.specs.Map.{keys_of}
@@ -12,7 +12,7 @@ use Rattle.affine_ops.specs.Results.{IsProjection, IsProduct}
 use Rattle.elapse.specs.Elapses.{IsElapse}
 use Rattle.script_text.specs.declared.command.Part.{Part}
 use Rattle.script_text.specs.declared.command.Command.{Command}
-use Rattle.script_text.specs.declared.command.Command.TheVariants.{Nothing, Cons, Gens, Universe, Empty, Copy, Drop, Add, Addgen, Has, Size, Print, Names, Meet, Hull, Closure, Contains, Equal, Disjoint, Isempty, Relation, Max, Min, Embed, Project, Concat, Elapse, Image, Preimage, Remove}
+use Rattle.script_text.specs.declared.command.Command.TheVariants.{Nothing, Cons, Gens, Universe, Empty, Copy, Drop, Add, Addgen, Has, Size, Print, Names, Meet, Hull, Closure, Contains, Equal, Disjoint, Isempty, Relation, Max, Min, Embed, Project, Concat, Elapse, Image, Preimage, Remove, Read, Write, Widen}
 use Rattle.calc_state.specs.declared.entry.Entry.{Entry}
 use Rattle.calc_state.specs.declared.entry.Entry.TheVariants as entry
 use Rattle.calc_state.specs.declared.change.Change.{Change}
@@ -26,17 +26,20 @@ use Rattle.calc_state.specs.Questions.{has, size, print, line, size_text, side_t
 use Rattle.calc_state.specs.Optima.{relation, bound, relation_text, bound_text}
 use Rattle.calc_state.specs.Lattice.{meet, hull, closure, contains, equal, disjoint, isempty, IsTold}
 use Rattle.calc_state.specs.Affine.{embed, project, concat, elapse, image, preimage, remove, IsEmbedded, IsRemoved, IsImageBy, IsPreimageBy}
-use Rattle.calc_state.specs.Step.{Reply, Answered, Refused, Overflows, IsAccepted, PutsProper, after}
-use Rattle.calc_state.specs.Line.{Step, Accepts, Unspelled}
+use Rattle.calc_state.specs.Widening.{widen}
+use Rattle.calc_state.specs.Files.{write, file_of, format_of}
+use Rattle.calc_state.specs.State.{State, OpenFile, closed}
+use Rattle.calc_state.specs.Reading.{IsRead}
+use Rattle.calc_state.specs.Step.{Reply, IsAccepted, PutsProper, after}
 use Rattle.calc_state.specs.Laws.{KeepsNamesDistinct}
-use Rattle.script_text.specs.Line.{Spells}
-use Rattle.polycalc.specs.Replies.{is_answer}
+use Rattle.file_poly.specs.Files.{IsOfFile}
 use Rattle.polycalc.specs.Runs.{Run}
-use Rattle.polycalc.specs.Sets.{AreAccepted, IsMade, IsCut, IsMadeOfOne, IsMadeOfTwo, IsOfAlike, sets, Gives, IsSetOf, with_name, less_name, names_of}
+use Rattle.polycalc.specs.Acts.{Act, Did, Took, Accepted, acts}
+use Rattle.polycalc.specs.Sets.{IsMade, IsCut, IsMadeOfOne, IsMadeOfTwo, IsOfAlike, IsOfNested, sets, Gives, IsSetOf, with_name, less_name, names_of}
 use Rattle.polycalc.specs.Laws.{IsUnder, AreAsCommanded}
-use Rattle.polycalc.proofs.StepLaws.{refused_unchanged}
+use Rattle.polycalc.proofs.AcceptedRuns.{Steps, run_told}
 use Rattle.polycalc.proofs.TableLaws.{entry_of-put, entry_of-without, distinct_keys, names-put, names-put_there, names-without}
-use Rattle.polycalc.proofs.Operands.{put_alike}
+use Rattle.polycalc.proofs.Operands.{put_alike, put_nested}
 use Rattle.polycalc.proofs.OneForm.{OneForm}
 use Rattle.polycalc.proofs.OneSet.{set_proper, one_set}
 
@@ -46,15 +49,15 @@ Stands None Is = (p : Polyhedron) → Is p → ⊥
 Stands (Some p) Is = Is p
 
 -- the table has what the commands give
-pub record Agrees (table : Table) (commands : List Command) : Type 0 where
+pub record Agrees (table : Table) (commands : List Act) : Type 0 where
   pub distinct : HasDistinctNames table
   pub sets : (name : List ℕ) → Stands (poly_of table name) (IsSetOf commands name)
   pub names : keys_of table ≡ names_of commands
 
 -- the same, but for the distinct names, after one command more
-record Follows (table : Table) (earlier : List Command) (c : Command) : Type 0 where
-  sets : (name : List ℕ) → Stands (poly_of table name) (IsSetOf (c ∷ earlier) name)
-  names : keys_of table ≡ names_of (c ∷ earlier)
+record Follows (table : Table) (earlier : List Act) (act : Act) : Type 0 where
+  sets : (name : List ℕ) → Stands (poly_of table name) (IsSetOf (act ∷ earlier) name)
+  names : keys_of table ≡ names_of (act ∷ earlier)
 
 -- ---- what a change does to the polyhedra of the names
 put_stands : (b : Bool) (r : Polyhedron) (o : Option Entry) (M E : Polyhedron → Type 0) → M r → Stands (as_poly o) E → Stands (as_poly (cond b (Some (entry.Poly r)) o)) (λ p. MatchBool b (M p) (E p))
@@ -76,20 +79,20 @@ put_made out Is (Puts name (entry.Poly r)) h proper = record { made = r; is = re
 put_made out Is (Says text) h proper = absurd h
 put_made out Is (TakesOut name) h proper = absurd h
 
-put_sets : (old : Table) (earlier : List Command) (c : Command) (out name : List ℕ) (r : Polyhedron) → Stands (poly_of old name) (IsSetOf earlier name) → sets c name ≡ bytes_eq name out → Gives c (IsSetOf earlier) r →
-    Stands (poly_of (put old out (entry.Poly r)) name) (IsSetOf (c ∷ earlier) name)
+put_sets : (old : Table) (earlier : List Act) (c : Command) (out name : List ℕ) (r : Polyhedron) → Stands (poly_of old name) (IsSetOf earlier name) → sets c name ≡ bytes_eq name out → Gives c (IsSetOf earlier) r →
+    Stands (poly_of (put old out (entry.Poly r)) name) (IsSetOf (Did c ∷ earlier) name)
 put_sets old earlier c out name r a e given =
     subst (λ (b : Bool). Stands (poly_of (put old out (entry.Poly r)) name) (λ p. MatchBool b (Gives c (IsSetOf earlier) p) (IsSetOf earlier name p))) (sym e)
     (subst (λ (o : Option Entry). Stands (as_poly o) (λ p. MatchBool (bytes_eq name out) (Gives c (IsSetOf earlier) p) (IsSetOf earlier name p))) (sym (entry_of-put old out name (entry.Poly r)))
     (put_stands (bytes_eq name out) r (entry_of old name) (Gives c (IsSetOf earlier)) (IsSetOf earlier name) given a))
 
 -- a command that puts a polyhedron under its name
-put_follows : (old new : Table) (earlier : List Command) (c : Command) (out : List ℕ) (Is : Polyhedron → Type 0) (change : Change) → Agrees old earlier → IsPut out Is change → PutsProper change → new ≡ after old change →
-    ((name : List ℕ) → sets c name ≡ bytes_eq name out) → ((r : Polyhedron) → IsMade Is r → Gives c (IsSetOf earlier) r) → ((e : Entry) → keys_of (put old out e) ≡ names_of (c ∷ earlier)) → Follows new earlier c
+put_follows : (old new : Table) (earlier : List Act) (c : Command) (out : List ℕ) (Is : Polyhedron → Type 0) (change : Change) → Agrees old earlier → IsPut out Is change → PutsProper change → new ≡ after old change →
+    ((name : List ℕ) → sets c name ≡ bytes_eq name out) → ((r : Polyhedron) → IsMade Is r → Gives c (IsSetOf earlier) r) → ((e : Entry) → keys_of (put old out e) ≡ names_of (Did c ∷ earlier)) → Follows new earlier (Did c)
 put_follows old new earlier c out Is change a does proper table own gives names =
     let p = put_made out Is change does proper in
     let now : new ≡ put old out (entry.Poly p.made) = table ∙ ap (after old) p.change_is in
-    subst (λ (t : Table). Follows t earlier c) (sym now) (record {
+    subst (λ (t : Table). Follows t earlier (Did c)) (sym now) (record {
       sets = λ name. put_sets old earlier c out name p.made (a.sets name) (own name) (gives p.made p.is);
       names = names (entry.Poly p.made);
     })
@@ -100,9 +103,9 @@ said_table old lines (Puts name e) h = absurd h
 said_table old lines (TakesOut name) h = absurd h
 
 -- a command that only says something
-said_follows : (old new : Table) (earlier : List Command) (c : Command) (lines : List ℕ) (change : Change) → Agrees old earlier → IsSaid lines change → new ≡ after old change → ((name : List ℕ) → sets c name ≡ false) → names_of (c ∷ earlier) ≡ names_of earlier → Follows new earlier c
+said_follows : (old new : Table) (earlier : List Act) (c : Command) (lines : List ℕ) (change : Change) → Agrees old earlier → IsSaid lines change → new ≡ after old change → ((name : List ℕ) → sets c name ≡ false) → names_of (Did c ∷ earlier) ≡ names_of earlier → Follows new earlier (Did c)
 said_follows old new earlier c lines change a does table own names =
-    subst (λ (t : Table). Follows t earlier c) (sym (table ∙ said_table old lines change does)) (record {
+    subst (λ (t : Table). Follows t earlier (Did c)) (sym (table ∙ said_table old lines change does)) (record {
       sets = λ name. subst (λ (b : Bool). Stands (poly_of old name) (λ p. MatchBool b (Gives c (IsSetOf earlier) p) (IsSetOf earlier name p))) (sym (own name)) (a.sets name);
       names = a.names ∙ sym names;
     })
@@ -113,17 +116,17 @@ taken_change name (Says text) h = absurd h
 taken_change name (Puts n e) h = absurd h
 
 -- a name is taken out
-taken_follows : (old new : Table) (earlier : List Command) (out : List ℕ) (change : Change) → Agrees old earlier → IsTakenOut out change → new ≡ after old change → Follows new earlier (Drop out)
+taken_follows : (old new : Table) (earlier : List Act) (out : List ℕ) (change : Change) → Agrees old earlier → IsTakenOut out change → new ≡ after old change → Follows new earlier (Did (Drop out))
 taken_follows old new earlier out change a does table =
     let distinct = distinct_keys old a.distinct in
-    subst (λ (t : Table). Follows t earlier (Drop out)) (sym (table ∙ ap (after old) (taken_change out change does))) (record {
+    subst (λ (t : Table). Follows t earlier (Did (Drop out))) (sym (table ∙ ap (after old) (taken_change out change does))) (record {
       sets = λ name. subst (λ (o : Option Entry). Stands (as_poly o) (λ p. MatchBool (bytes_eq name out) ⊥ (IsSetOf earlier name p))) (sym (entry_of-without old out name distinct))
           (taken_stands (bytes_eq name out) (entry_of old name) (IsSetOf earlier name) (a.sets name));
       names = names-without old out distinct ∙ ap (less_name out) a.names;
     })
 
 -- ---- each accepted command
-new_name : (old : Table) (earlier : List Command) (out : List ℕ) → Agrees old earlier → (e : Entry) → keys_of (put old out e) ≡ with_name out (names_of earlier)
+new_name : (old : Table) (earlier : List Act) (out : List ℕ) → Agrees old earlier → (e : Entry) → keys_of (put old out e) ≡ with_name out (names_of earlier)
 new_name old earlier out a e = names-put old out e ∙ ap (with_name out) a.names
 
 abbrev poly_entry : Option Polyhedron → Option Entry
@@ -134,12 +137,12 @@ entry_there : (o : Option Entry) (p : Polyhedron) → as_poly o ≡ Some p → o
 entry_there None p h = cc
 entry_there (Some (entry.Poly q)) p h = ap poly_entry h
 
-copy_follows : (old new : Table) (earlier : List Command) (out other text : List ℕ) (o : Option Polyhedron) → Agrees old earlier → Stands o (IsSetOf earlier other) → IsAccepted (on_one o (copy old out)) old text new → Follows new earlier (Copy out other)
+copy_follows : (old new : Table) (earlier : List Act) (out other text : List ℕ) (o : Option Polyhedron) → Agrees old earlier → Stands o (IsSetOf earlier other) → IsAccepted (on_one o (copy old out)) old text new → Follows new earlier (Did (Copy out other))
 copy_follows old new earlier out other text None a s p = absurd p.does
 copy_follows old new earlier out other text (Some q) a s p =
     put_follows old new earlier (Copy out other) out (λ r. r ≡ q) p.change a p.does p.proper p.table (λ name. refl) (λ r is. subst (IsSetOf earlier other) (sym is.is) s) (new_name old earlier out a)
 
-drop_follows : (old new : Table) (earlier : List Command) (out text : List ℕ) (o : Option Entry) → Agrees old earlier → IsAccepted (drop_of out o) old text new → Follows new earlier (Drop out)
+drop_follows : (old new : Table) (earlier : List Act) (out text : List ℕ) (o : Option Entry) → Agrees old earlier → IsAccepted (drop_of out o) old text new → Follows new earlier (Did (Drop out))
 drop_follows old new earlier out text None a p = absurd p.does
 drop_follows old new earlier out text (Some e) a p = taken_follows old new earlier out p.change a p.does p.table
 
@@ -152,14 +155,14 @@ cut_of q cs r h = record {
   );
 }
 
-add_follows : (old new : Table) (earlier : List Command) (out text : List ℕ) (part : Part) (o : Option Polyhedron) → Agrees old earlier → Stands o (IsSetOf earlier out) → poly_of old out ≡ o → IsAccepted (on_one o (add out part)) old text new → Follows new earlier (Add out part)
+add_follows : (old new : Table) (earlier : List Act) (out text : List ℕ) (part : Part) (o : Option Polyhedron) → Agrees old earlier → Stands o (IsSetOf earlier out) → poly_of old out ≡ o → IsAccepted (on_one o (add out part)) old text new → Follows new earlier (Did (Add out part))
 add_follows old new earlier out text part None a s e p = absurd p.does
 add_follows old new earlier out text part (Some q) a s e p =
     put_follows old new earlier (Add out part) out (λ r. SaysConstraints q.cons.dim part (λ cs. IsOfConstraints q.topology (more_constraints q.cons cs) r)) p.change a p.does p.proper p.table (λ name. refl)
     (λ r is. record { old = q; was = s; made = record { proper = is.proper; is = record { system = is.is.system; read = is.is.read; holds = cut_of q is.is.system r is.is.holds } } })
     (λ x. names-put_there old out x (entry.Poly q) (entry_there (entry_of old out) q e) ∙ a.names)
 
-addgen_follows : (old new : Table) (earlier : List Command) (out text : List ℕ) (part : Part) (o : Option Polyhedron) → Agrees old earlier → Stands o (IsSetOf earlier out) → poly_of old out ≡ o → IsAccepted (on_one o (addgen out part)) old text new → Follows new earlier (Addgen out part)
+addgen_follows : (old new : Table) (earlier : List Act) (out text : List ℕ) (part : Part) (o : Option Polyhedron) → Agrees old earlier → Stands o (IsSetOf earlier out) → poly_of old out ≡ o → IsAccepted (on_one o (addgen out part)) old text new → Follows new earlier (Did (Addgen out part))
 addgen_follows old new earlier out text part None a s e p = absurd p.does
 addgen_follows old new earlier out text part (Some q) a s e p =
     put_follows old new earlier (Addgen out part) out (λ r. SaysGenerators q.gens.dim part (λ gs. IsOfGenerators q.topology (more_generators q.gens gs) r)) p.change a p.does p.proper p.table (λ name. refl)
@@ -167,17 +170,17 @@ addgen_follows old new earlier out text part (Some q) a s e p =
     (λ x. names-put_there old out x (entry.Poly q) (entry_there (entry_of old out) q e) ∙ a.names)
 
 -- a command that makes its result of one operand
-one_follows : (old new : Table) (earlier : List Command) (c : Command) (out name text : List ℕ) (m : Polyhedron → Meaning) (Is : Polyhedron → Polyhedron → Type 0) (o : Option Polyhedron) → Agrees old earlier → Stands o (IsSetOf earlier name) →
-    ((n : List ℕ) → sets c n ≡ bytes_eq n out) → ((r : Polyhedron) → IsMadeOfOne (IsSetOf earlier name) Is r → Gives c (IsSetOf earlier) r) → ((e : Entry) → keys_of (put old out e) ≡ names_of (c ∷ earlier)) →
-    ((x : Polyhedron) (change : Change) → Passes (m x).conditions → (m x).does change → IsPut out (Is x) change) → IsAccepted (on_one o m) old text new → Follows new earlier c
+one_follows : (old new : Table) (earlier : List Act) (c : Command) (out name text : List ℕ) (m : Polyhedron → Meaning) (Is : Polyhedron → Polyhedron → Type 0) (o : Option Polyhedron) → Agrees old earlier → Stands o (IsSetOf earlier name) →
+    ((n : List ℕ) → sets c n ≡ bytes_eq n out) → ((r : Polyhedron) → IsMadeOfOne (IsSetOf earlier name) Is r → Gives c (IsSetOf earlier) r) → ((e : Entry) → keys_of (put old out e) ≡ names_of (Did c ∷ earlier)) →
+    ((x : Polyhedron) (change : Change) → Passes (m x).conditions → (m x).does change → IsPut out (Is x) change) → IsAccepted (on_one o m) old text new → Follows new earlier (Did c)
 one_follows old new earlier c out name text m Is None a s own gives names puts p = absurd p.does
 one_follows old new earlier c out name text m Is (Some q) a s own gives names puts p =
     put_follows old new earlier c out (Is q) p.change a (puts q p.change p.passes p.does) p.proper p.table own (λ r made. gives r (record { operand = q; was = s; made = made })) names
 
 -- of two operands
-two_follows : (old new : Table) (earlier : List Command) (c : Command) (out name other text : List ℕ) (m : Polyhedron → Polyhedron → Meaning) (Is : Polyhedron → Polyhedron → Polyhedron → Type 0) (o u : Option Polyhedron) → Agrees old earlier → Stands o (IsSetOf earlier name) → Stands u (IsSetOf earlier other) →
-    ((n : List ℕ) → sets c n ≡ bytes_eq n out) → ((r : Polyhedron) → IsMadeOfTwo (IsSetOf earlier name) (IsSetOf earlier other) Is r → Gives c (IsSetOf earlier) r) → ((e : Entry) → keys_of (put old out e) ≡ names_of (c ∷ earlier)) →
-    ((x y : Polyhedron) (change : Change) → Passes (m x y).conditions → (m x y).does change → IsPut out (Is x y) change) → IsAccepted (on_two o u m) old text new → Follows new earlier c
+two_follows : (old new : Table) (earlier : List Act) (c : Command) (out name other text : List ℕ) (m : Polyhedron → Polyhedron → Meaning) (Is : Polyhedron → Polyhedron → Polyhedron → Type 0) (o u : Option Polyhedron) → Agrees old earlier → Stands o (IsSetOf earlier name) → Stands u (IsSetOf earlier other) →
+    ((n : List ℕ) → sets c n ≡ bytes_eq n out) → ((r : Polyhedron) → IsMadeOfTwo (IsSetOf earlier name) (IsSetOf earlier other) Is r → Gives c (IsSetOf earlier) r) → ((e : Entry) → keys_of (put old out e) ≡ names_of (Did c ∷ earlier)) →
+    ((x y : Polyhedron) (change : Change) → Passes (m x y).conditions → (m x y).does change → IsPut out (Is x y) change) → IsAccepted (on_two o u m) old text new → Follows new earlier (Did c)
 two_follows old new earlier c out name other text m Is None u a s t own gives names puts p = absurd p.does
 two_follows old new earlier c out name other text m Is (Some q) None a s t own gives names puts p = absurd p.does
 two_follows old new earlier c out name other text m Is (Some q) (Some r) a s t own gives names puts p =
@@ -219,7 +222,7 @@ bound_says : (up : Bool) (part : Part) (q : Polyhedron) (change : Change) → (b
 bound_says up part q change h = record { lines = line (bound_text q.gens h.holds.bound); said = h.holds.said }
 
 -- what an accepted command leaves is what the commands give
-accepted_follows : (old new : Table) (earlier : List Command) (c : Command) (text : List ℕ) → Agrees old earlier → IsAccepted (meaning old c) old text new → Follows new earlier c
+accepted_follows : (old new : Table) (earlier : List Act) (c : Command) (text : List ℕ) → Agrees old earlier → IsAccepted (meaning old c) old text new → Follows new earlier (Did c)
 accepted_follows old new earlier Nothing text a p = said_follows old new earlier Nothing [] p.change a p.does p.table (λ name. refl) refl
 accepted_follows old new earlier (Cons out top n part) text a p =
     put_follows old new earlier (Cons out top n part) out (λ r. SaysConstraints n part (λ cs. IsOfConstraints (topology_of top) cs r)) p.change a p.does p.proper p.table (λ name. refl) (λ r is. is) (new_name old earlier out a)
@@ -234,6 +237,12 @@ accepted_follows old new earlier (Addgen out part) text a p = addgen_follows old
 accepted_follows old new earlier (Has name part) text a p = (let s = has_says part (poly_of old name) p.change p.does in said_follows old new earlier (Has name part) s.lines p.change a s.said p.table (λ n. refl) refl)
 accepted_follows old new earlier (Size name) text a p = (let s = size_says (poly_of old name) p.change p.does in said_follows old new earlier (Size name) s.lines p.change a s.said p.table (λ n. refl) refl)
 accepted_follows old new earlier (Print side name) text a p = (let s = print_says side (poly_of old name) p.change p.does in said_follows old new earlier (Print side name) s.lines p.change a s.said p.table (λ n. refl) refl)
+accepted_follows old new earlier (Widen out one other) text a p =
+    two_follows old new earlier (Widen out one other) out one other text (widen old out) IsOfNested (poly_of old one) (poly_of old other) a (a.sets one) (a.sets other) (λ name. refl) (λ r is. is) (new_name old earlier out a)
+    (λ x y change passes does. put_nested out x y (room old out) change passes does) p
+accepted_follows old new earlier (Read out form) text a p = said_follows old new earlier (Read out form) [] p.change a p.does p.table (λ name. refl) refl
+accepted_follows old new earlier (Write name form) text a p =
+    (let s = one_say (write form) (poly_of old name) p.change (λ x h. record { lines = file_of form x; said = h }) p.does in said_follows old new earlier (Write name form) s.lines p.change a s.said p.table (λ n. refl) refl)
 accepted_follows old new earlier Names text a p = said_follows old new earlier Names (line (names_text old)) p.change a p.does p.table (λ name. refl) refl
 accepted_follows old new earlier (Meet out one other) text a p =
     two_follows old new earlier (Meet out one other) out one other text (meet old out) (IsOfAlike IsMeet) (poly_of old one) (poly_of old other) a (a.sets one) (a.sets other) (λ name. refl) (λ r is. is) (new_name old earlier out a)
@@ -273,61 +282,51 @@ accepted_follows old new earlier (Elapse out one other) text a p =
     two_follows old new earlier (Elapse out one other) out one other text (elapse old out) (IsOfAlike IsElapse) (poly_of old one) (poly_of old other) a (a.sets one) (a.sets other) (λ name. refl) (λ r is. is) (new_name old earlier out a)
     (λ x y change passes does. put_alike out x y (room old out) IsElapse change passes does) p
 
+-- a file that was read
+read_follows : (old new : Table) (earlier : List Act) (file : OpenFile) (text : List ℕ) → Agrees old earlier → IsRead old file text new → Follows new earlier (Took file)
+read_follows old new earlier file text a p =
+    let made : IsMade (IsOfFile (format_of file.ext) file.text) p.polyhedron = record { proper = p.proper; is = p.set } in
+    subst (λ (t : Table). Follows t earlier (Took file)) (sym p.table) (record {
+      sets = λ name. subst (λ (o : Option Entry). Stands (as_poly o) (λ q. MatchBool (bytes_eq name file.name) (IsMade (IsOfFile (format_of file.ext) file.text) q) (IsSetOf earlier name q))) (sym (entry_of-put old file.name name (entry.Poly p.polyhedron)))
+          (put_stands (bytes_eq name file.name) p.polyhedron (entry_of old name) (IsMade (IsOfFile (format_of file.ext) file.text)) (IsSetOf earlier name) made (a.sets name));
+      names = new_name old earlier file.name a (entry.Poly p.polyhedron);
+    })
+
 -- ---- runs
--- the table and the commands before the first line
+-- the table before the first line
 pub nothing_agrees : HasDistinctNames [] → Agrees [] []
 nothing_agrees distinct = record { distinct = distinct; sets = λ name p h. h; names = refl }
 
--- a line that is accepted
-pub agrees_then : KeepsNamesDistinct → (old new : Table) (earlier : List Command) (line text : List ℕ) (a : Accepts old line (Answered text) new) → Agrees old earlier → Agrees new (a.command ∷ earlier)
-agrees_then keeps old new earlier line text a g =
-    let f = accepted_follows old new earlier a.command text g a.performed in
-    record { distinct = keeps old new line (Answered text) g.distinct (inl a); sets = f.sets; names = f.names }
+pub agrees_command : (old new : Table) (earlier : List Act) (c : Command) (text : List ℕ) → Agrees old earlier → HasDistinctNames new → IsAccepted (meaning old c) old text new → Agrees new (Did c ∷ earlier)
+agrees_command old new earlier c text g distinct p = (let f = accepted_follows old new earlier c text g p in record { distinct = distinct; sets = f.sets; names = f.names })
 
--- a line that is refused
-pub agrees_still : (old new : Table) (earlier : List Command) (line : List ℕ) (reply : Reply) → Step old line reply new → is_answer reply ≡ false → Agrees old earlier → Agrees new earlier
-agrees_still old new earlier line reply step f g = subst (λ (t : Table). Agrees t earlier) (sym (refused_unchanged old line reply new step f)) g
+pub agrees_file : (old new : Table) (earlier : List Act) (file : OpenFile) (text : List ℕ) → Agrees old earlier → HasDistinctNames new → IsRead old file text new → Agrees new (Took file ∷ earlier)
+agrees_file old new earlier file text g distinct p = (let f = read_follows old new earlier file text g p in record { distinct = distinct; sets = f.sets; names = f.names })
 
--- an unspelled line isn't answered
-pub not_unspelled : (old new : Table) (line text : List ℕ) → Unspelled old line (Answered text) new → ⊥
-not_unspelled old new line text u = let no : Answered text ≡ Refused u.fault = u.shown in cc
+abbrev pub AgreesAll : Table → List Accepted → Type 0
+AgreesAll table all = Agrees table (acts all)
 
--- the accepted commands of a run, which the table agrees with
-pub record Told (earlier : List Command) (lines : List (List ℕ)) (replies : List Reply) (table : Table) : Type 0 where
-  pub commands : List Command
-  pub accepted : AreAccepted earlier lines replies commands
-  pub agrees : Agrees table commands
-
-told_then : (earlier : List Command) (line text : List ℕ) (lines : List (List ℕ)) (replies : List Reply) (table : Table) (c : Command) → Spells line c → Told (c ∷ earlier) lines replies table → Told earlier (line ∷ lines) (Answered text ∷ replies) table
-told_then earlier line text lines replies table c s t = record { commands = t.commands; accepted = (c, s, t.accepted); agrees = t.agrees }
-
-pub run_told : KeepsNamesDistinct → (old : Table) (earlier : List Command) (lines : List (List ℕ)) (replies : List Reply) (new : Table) → Agrees old earlier → Run old lines replies new → Told earlier lines replies new
-run_told keeps old earlier [] [] new g run = record { commands = earlier; accepted = refl; agrees = subst (λ (t : Table). Agrees t earlier) (sym run) g }
-run_told keeps old earlier (line ∷ lines) (Answered text ∷ replies) new g (mid, inl a, run) =
-    told_then earlier line text lines replies new a.command a.spelled (run_told keeps mid (a.command ∷ earlier) lines replies new (agrees_then keeps old mid earlier line text a g) run)
-run_told keeps old earlier (line ∷ lines) (Answered text ∷ replies) new g (mid, inr u, run) = absurd (not_unspelled old mid line text u)
-run_told keeps old earlier (line ∷ lines) (Refused fault ∷ replies) new g (mid, step, run) =
-    let t = run_told keeps mid earlier lines replies new (agrees_still old mid earlier line (Refused fault) step refl g) run in record { commands = t.commands; accepted = t.accepted; agrees = t.agrees }
-run_told keeps old earlier (line ∷ lines) (Overflows over ∷ replies) new g (mid, step, run) =
-    let t = run_told keeps mid earlier lines replies new (agrees_still old mid earlier line (Overflows over) step refl g) run in record { commands = t.commands; accepted = t.accepted; agrees = t.agrees }
-run_told keeps old earlier [] (reply ∷ replies) new g run = absurd run
-run_told keeps old earlier (line ∷ lines) [] new g run = absurd run
+agreeing : Steps AgreesAll
+agreeing = record {
+  command = λ old new earlier c text g distinct p. agrees_command old new (acts earlier) c text g distinct p;
+  file = λ old new earlier file text g distinct p. agrees_file old new (acts earlier) file text g distinct p;
+}
 
 -- what stands under a name, where such a polyhedron is given
-there_of : (table : Table) (commands : List Command) (name : List ℕ) (p : Polyhedron) (o : Option Polyhedron) → OneForm → poly_of table name ≡ o → Stands o (IsSetOf commands name) → IsSetOf commands name p → IsUnder table name p
-there_of table commands name p None laws e s h = absurd (s p h)
-there_of table commands name p (Some q) laws e s h = record { kept = q; there = e; same = one_set laws commands name p q h s }
+there_of : (table : Table) (all : List Act) (name : List ℕ) (p : Polyhedron) (o : Option Polyhedron) → OneForm → poly_of table name ≡ o → Stands o (IsSetOf all name) → IsSetOf all name p → IsUnder table name p
+there_of table all name p None laws e s h = absurd (s p h)
+there_of table all name p (Some q) laws e s h = record { kept = q; there = e; same = one_set laws all name p q h s }
 
--- the table has under each name what the accepted commands give it
-pub as_commanded : KeepsNamesDistinct → HasDistinctNames [] → OneForm → (lines : List (List ℕ)) (replies : List Reply) (table : Table) → Run [] lines replies table → AreAsCommanded lines replies table
-as_commanded keeps empty laws lines replies table run =
-    let t = run_told keeps [] [] lines replies table (nothing_agrees empty) run in
-    let given : (name : List ℕ) (p : Polyhedron) → poly_of table name ≡ Some p → IsSetOf t.commands name p = λ name p e. subst (λ (o : Option Polyhedron). Stands o (IsSetOf t.commands name)) e (t.agrees.sets name) in
+-- the table has under each name what was accepted gives it
+pub as_commanded : KeepsNamesDistinct → HasDistinctNames [] → OneForm → (lines : List (List ℕ)) (replies : List Reply) (new : State) → Run (closed []) lines replies new → AreAsCommanded lines replies new.names
+as_commanded keeps empty laws lines replies new run =
+    let t = run_told AgreesAll keeps agreeing (closed []) [] lines replies new empty (nothing_agrees empty) run in
+    let given : (name : List ℕ) (p : Polyhedron) → poly_of new.names name ≡ Some p → IsSetOf (acts t.all) name p = λ name p e. subst (λ (o : Option Polyhedron). Stands o (IsSetOf (acts t.all) name)) e (t.holds.sets name) in
     record {
-      commands = t.commands;
+      all = t.all;
       accepted = t.accepted;
       given = given;
-      there = λ name p h. there_of table t.commands name p (poly_of table name) laws refl (t.agrees.sets name) h;
-      pairs = λ name p e. laws.pair p (set_proper t.commands name p (given name p e)).kept;
-      names = t.agrees.names;
+      there = λ name p h. there_of new.names (acts t.all) name p (poly_of new.names name) laws refl (t.holds.sets name) h;
+      pairs = λ name p e. laws.pair p (set_proper (acts t.all) name p (given name p e)).kept;
+      names = t.holds.names;
     }

@@ -1,9 +1,11 @@
 -- A run over the lines of a source, as they come.
-use Rattle.std.proofs.Common.{◌≡◌, ℕ, ◌+◌, ◌<◌, ◌≤◌, ◌⊎◌, List, [], ◌∷◌, ◌++◌, length, take, drop, refl, ap, subst, ◌∙◌, sym, append_assoc, length-append, Bool, true, false, inl, inr, arith}
+use Rattle.std.proofs.Common.{◌≡◌, ℕ, ◌+◌, ◌^◌, ◌<◌, ◌≤◌, ◌⊎◌, List, [], ◌∷◌, ◌++◌, length, take, drop, refl, ap, subst, ◌∙◌, sym, append_assoc, length-append, Bool, true, false, inl, inr, arith}
 use Rattle.std.specs.Prelude.{Option, Contains, ◌&&◌, ◌↔◌, MatchBool}
 use Rattle.std.proofs.lemmas.Bool.{cases_lt}
 use Rattle.std.specs.Str.Lines.{lines, strip_carriage_return}
-use Rattle.std.specs.Io.KnownBytes.{append_known}
+use Rattle.std.specs.Io.KnownBytes.{append_known, IsAtEnd}
+use Rattle.std.proofs.lemmas.Grind.{flat_map-append}
+use Rattle.std.proofs.lemmas.List.Folds.{list_all-append}
 use Rattle.std.proofs.lemmas.List.{append-nil}
 use Rattle.std.proofs.lemmas.List.Elements.{All-append}
 use Rattle.std.proofs.Math.Seq.{take-add, drop-append_seam, take-append_seam}
@@ -12,21 +14,25 @@ use Rattle.poly_io.specs.LineReading.{Reading, Answers, EndsInOneRead}
 use Rattle.poly_io.specs.declared.line_reader.LineAns.TheVariants.{Line, End, Failed, TooLong}
 use Rattle.poly_io.proofs.CutLaws.{cut_at}
 use Rattle.poly_io.proofs.Known.{append_known-append, append_known-nil}
-use Rattle.calc_state.specs.Table.{Table}
+use Rattle.calc_state.specs.State.{State, closed}
 use Rattle.calc_state.specs.Step.{Reply}
 use Rattle.calc_state.specs.Line.{Step}
 use Rattle.polycalc.specs.Replies.{Written, written, with_reply, reply_bytes, replies_bytes, is_answer, is_clean}
-use Rattle.polycalc.specs.Runs.{Run}
-use Rattle.polycalc.specs.Outcomes.{Completes, WritesPrefix, AnswersWhole, AnswersEarlier}
+use Rattle.polycalc.specs.Runs.{Run, at_end}
+use Rattle.polycalc.specs.Outcomes.{Completes, WritesPrefix, AnswersWhole, AnswersEarlier, Outcome}
+use Rattle.polycalc.specs.Endings.{Closes, done, refused, unwritten, unmade}
+use Rattle.polycalc.specs.declared.job.Job.TheVariants as job
+use Rattle.polycalc.specs.declared.status.Status.{Status}
+use Rattle.polycalc.specs.declared.status.Status.TheVariants.{Done, Refused, Usage, ReadFault, WriteFault, Memory, InputTooLong}
 use Rattle.polycalc.proofs.RunLaws.{Run-then, written-more}
 use Rattle.polycalc.proofs.CutRuns.{run_of_cut, parts_of_cut, one_of_cut, run_of_part}
 
 -- where a run stands: the bytes given so far are cut into the lines answered and what is pending, and the replies are
 -- those that were written and those that are gathered
-pub record Goes (given : List ℕ) (old now : Option (List ℕ)) (table : Table) (reader : Reading) (w : Written) : Type 0 where
+pub record Goes (given : List ℕ) (old now : Option (List ℕ)) (state : State) (reader : Reading) (w : Written) : Type 0 where
   pub done : List (List ℕ)
   pub replies : List Reply
-  pub run : Run [] done replies table
+  pub run : Run (closed []) done replies state
   pub cuts : (later : List ℕ) → (reader.ended ≡ true → later ≡ []) → cut (given ++ later) ≡ done ++ cut (reader.pending ++ later)
   pub flushed : List ℕ
   pub held : now ≡ append_known old flushed
@@ -41,7 +47,7 @@ IsReady reader w = (w.bytes ≡ []) ⊎ Contains reader.pending 10
 abbrev pub start_reading : Reading
 start_reading = record { pending = []; taken = 0; ended = false; line = [] }
 
-pub goes_start : (held : Option (List ℕ)) (reader : Reading) → reader ≡ start_reading → Goes [] held held [] reader (written [])
+pub goes_start : (held : Option (List ℕ)) (reader : Reading) → reader ≡ start_reading → Goes [] held held (closed []) reader (written [])
 goes_start held reader e = record {
   done = [];
   replies = [];
@@ -66,12 +72,12 @@ nothing_more : (given later : List ℕ) (old new : Reading) → new.taken ≡ ol
 nothing_more given later old new t s h e = ap (λ (g : List ℕ). g ++ later) (none_given given old new t s e) ∙ h (s e).0
 
 -- a line more, and its reply
-pub goes_line : (given more : List ℕ) (old now : Option (List ℕ)) (table after : Table) (reader new : Reading) (w v : Written) (reply : Reply) → Goes given old now table reader w →
-    new.taken ≡ reader.taken + length more → IsStill more reader new → Answers more reader new Line → Step table new.line reply after → v ≡ with_reply w reply → Goes (given ++ more) old now after new v
-goes_line given more old now table after reader new w v reply g t s a step e = record {
+pub goes_line : (given more : List ℕ) (old now : Option (List ℕ)) (state after : State) (reader new : Reading) (w v : Written) (reply : Reply) → Goes given old now state reader w →
+    new.taken ≡ reader.taken + length more → IsStill more reader new → Answers more reader new Line → Step state new.line reply after → v ≡ with_reply w reply → Goes (given ++ more) old now after new v
+goes_line given more old now state after reader new w v reply g t s a step e = record {
   done = g.done ++ new.line ∷ [];
   replies = g.replies ++ reply ∷ [];
-  run = Run-then [] g.done g.replies table new.line reply after g.run step;
+  run = Run-then (closed []) g.done g.replies state new.line reply after g.run step;
   cuts = λ (later : List ℕ) (h : new.ended ≡ true → later ≡ []).
       (ap cut (append_assoc given more later) ∙ g.cuts (more ++ later) (nothing_more more later reader new t s h)
       ∙ ap (λ (x : List (List ℕ)). g.done ++ x) (a.0 later h) ∙ sym (append_assoc g.done (new.line ∷ []) (cut (new.pending ++ later))));
@@ -84,9 +90,9 @@ goes_line given more old now table after reader new w v reply g t s a step e = r
 }
 
 -- the gathered replies are written
-pub goes_written : (given : List ℕ) (old now later : Option (List ℕ)) (table : Table) (reader : Reading) (w v : Written) → Goes given old now table reader w →
-    later ≡ append_known now w.bytes → v.bytes ≡ [] → v.clean ≡ w.clean → Goes given old later table reader v
-goes_written given old now later table reader w v g h b c = record {
+pub goes_written : (given : List ℕ) (old now later : Option (List ℕ)) (state : State) (reader : Reading) (w v : Written) → Goes given old now state reader w →
+    later ≡ append_known now w.bytes → v.bytes ≡ [] → v.clean ≡ w.clean → Goes given old later state reader v
+goes_written given old now later state reader w v g h b c = record {
   done = g.done;
   replies = g.replies;
   run = g.run;
@@ -112,116 +118,164 @@ empty_lacks [] e (k, h, i) = omega arith
 empty_lacks (b ∷ p) e h = cc
 
 -- the first lines of some bytes are answered, and a front of the replies is written
-prefix_of_cut : (all : List ℕ) (answered others : List (List ℕ)) (old new : Option (List ℕ)) (table : Table) (replies : List Reply) (n : ℕ) → cut all ≡ answered ++ others →
-    Run [] answered replies table → new ≡ append_known old (take n (replies_bytes replies)) → WritesPrefix all old new
-prefix_of_cut all answered others old new table replies n e r h =
+prefix_of_cut : (all : List ℕ) (answered others : List (List ℕ)) (old new : Option (List ℕ)) (state : State) (replies : List Reply) (n : ℕ) → cut all ≡ answered ++ others →
+    Run (closed []) answered replies state → new ≡ append_known old (take n (replies_bytes replies)) → WritesPrefix all old new
+prefix_of_cut all answered others old new state replies n e r h =
     let p = parts_of_cut (lines all) answered others e in
     record {
       answered = p.first;
       others = p.second;
       cut = p.both;
-      table = table;
+      state = state;
       replies = replies;
-      run = run_of_part (lines all) answered others replies table p r;
+      run = run_of_part (lines all) answered others replies state p r;
+      further = [];
+      is_end = inl refl;
       count = n;
-      held = h;
+      held = h ∙ ap (λ (rs : List Reply). append_known old (take n (replies_bytes rs))) (sym (append-nil replies));
     }
 
 -- all whole lines of some bytes are answered
-whole_of_cut : (all : List ℕ) (answered : List (List ℕ)) (last : List ℕ) (old new : Option (List ℕ)) (table : Table) (replies : List Reply) → cut (all ++ 10 ∷ []) ≡ answered ++ last ∷ [] →
-    Run [] answered replies table → new ≡ append_known old (replies_bytes replies) → AnswersWhole all old new
-whole_of_cut all answered last old new table replies e r h =
+whole_of_cut : (all : List ℕ) (answered : List (List ℕ)) (last : List ℕ) (old new : Option (List ℕ)) (state : State) (replies : List Reply) → cut (all ++ 10 ∷ []) ≡ answered ++ last ∷ [] →
+    Run (closed []) answered replies state → new ≡ append_known old (replies_bytes replies) → AnswersWhole all old new
+whole_of_cut all answered last old new state replies e r h =
     let p = parts_of_cut (lines (all ++ 10 ∷ [])) answered (last ∷ []) e in
     let o = one_of_cut p.second last p.second_cut in
     record {
       whole = p.first;
       last = o.line;
       cut = p.both ∙ ap (λ (t : List (List ℕ)). p.first ++ t) o.is;
-      table = table;
+      state = state;
       replies = replies;
-      run = run_of_part (lines (all ++ 10 ∷ [])) answered (last ∷ []) replies table p r;
+      run = run_of_part (lines (all ++ 10 ∷ [])) answered (last ∷ []) replies state p r;
       held = h;
     }
 
 -- a front of what was gathered is written
-pub front_of_goes : (given : List ℕ) (old now later : Option (List ℕ)) (table : Table) (reader : Reading) (w : Written) (n : ℕ) → Goes given old now table reader w →
+pub front_of_goes : (given : List ℕ) (old now later : Option (List ℕ)) (state : State) (reader : Reading) (w : Written) (n : ℕ) → Goes given old now state reader w →
     later ≡ append_known now (take n w.bytes) → WritesPrefix given old later
-front_of_goes given old now later table reader w n g h =
-    prefix_of_cut given g.done (cut (reader.pending ++ [])) old later table g.replies (length g.flushed + n)
+front_of_goes given old now later state reader w n g h =
+    prefix_of_cut given g.done (cut (reader.pending ++ [])) old later state g.replies (length g.flushed + n)
     (ap cut (sym (append-nil given)) ∙ g.cuts [] (λ (e : reader.ended ≡ true). refl)) g.run
     (h ∙ ap (λ (k : Option (List ℕ)). append_known k (take n w.bytes)) g.held ∙ sym (append_known-append old g.flushed (take n w.bytes))
     ∙ ap (λ (x : List ℕ). append_known old x) (sym (front g.flushed w.bytes n) ∙ ap (take (length g.flushed + n)) g.bytes))
 
 -- all that was gathered is written
-all_written : (given : List ℕ) (old now : Option (List ℕ)) (table : Table) (reader : Reading) (w : Written) (g : Goes given old now table reader w) → w.bytes ≡ [] → now ≡ append_known old (replies_bytes g.replies)
-all_written given old now table reader w g all = g.held ∙ ap (append_known old) (sym (append-nil g.flushed) ∙ ap (λ (x : List ℕ). g.flushed ++ x) (sym all) ∙ g.bytes)
+all_written : (given : List ℕ) (old now : Option (List ℕ)) (state : State) (reader : Reading) (w : Written) (g : Goes given old now state reader w) → w.bytes ≡ [] → now ≡ append_known old (replies_bytes g.replies)
+all_written given old now state reader w g all = g.held ∙ ap (append_known old) (sym (append-nil g.flushed) ∙ ap (λ (x : List ℕ). g.flushed ++ x) (sym all) ∙ g.bytes)
 
 -- nothing that was gathered is written
-none_written : (given : List ℕ) (old now : Option (List ℕ)) (table : Table) (reader : Reading) (w : Written) (g : Goes given old now table reader w) →
+none_written : (given : List ℕ) (old now : Option (List ℕ)) (state : State) (reader : Reading) (w : Written) (g : Goes given old now state reader w) →
     now ≡ append_known old (take (length g.flushed + 0) (replies_bytes g.replies))
-none_written given old now table reader w g = g.held ∙ ap (append_known old) (sym (append-nil g.flushed) ∙ sym (front g.flushed w.bytes 0) ∙ ap (take (length g.flushed + 0)) g.bytes)
+none_written given old now state reader w g = g.held ∙ ap (append_known old) (sym (append-nil g.flushed) ∙ sym (front g.flushed w.bytes 0) ∙ ap (take (length g.flushed + 0)) g.bytes)
 
--- the input has ended
-pub goes_end : (given more : List ℕ) (old now : Option (List ℕ)) (table : Table) (reader new : Reading) (w : Written) → Goes given old now table reader w → IsReady reader w →
-    new.taken ≡ reader.taken + length more → IsStill more reader new → Answers more reader new End → Completes (given ++ more) w.clean old now
-goes_end given more old now table reader new w g r t s a =
+-- the input has ended: all lines are answered, and all replies written
+pub record HasEnded (all : List ℕ) (old now : Option (List ℕ)) (state : State) (w : Written) : Type 0 where
+  pub replies : List Reply
+  pub run : Run (closed []) (lines all) replies state
+  pub held : now ≡ append_known old (replies_bytes replies)
+  pub clean : w.clean ≡ is_clean replies
+
+pub written_at_end : (more : List ℕ) (reader new : Reading) (w : Written) → IsReady reader w → Answers more reader new End → w.bytes ≡ []
+written_at_end more reader new w r a =
     let none = parts_empty reader.pending more a.1 in
-    let all : w.bytes ≡ [] = (elim r [ inl x ↦ x | inr y ↦ absurd (empty_lacks reader.pending none.0 y) ]) in
+    elim r [ inl x ↦ x | inr y ↦ absurd (empty_lacks reader.pending none.0 y) ]
+
+pub goes_end : (given more : List ℕ) (old now : Option (List ℕ)) (state : State) (reader new : Reading) (w : Written) → Goes given old now state reader w → IsReady reader w →
+    new.taken ≡ reader.taken + length more → IsStill more reader new → Answers more reader new End → HasEnded (given ++ more) old now state w
+goes_end given more old now state reader new w g r t s a =
+    let none = parts_empty reader.pending more a.1 in
     let done : cut (given ++ more) ≡ g.done =
     (ap cut (sym (append-nil (given ++ more)) ∙ append_assoc given more []) ∙ g.cuts (more ++ []) (λ (e : reader.ended ≡ true). (append-nil more ∙ none.1))
     ∙ ap (λ (x : List ℕ). g.done ++ cut (reader.pending ++ x)) (append-nil more) ∙ ap (λ (x : List ℕ). g.done ++ cut x) a.1 ∙ append-nil g.done) in
     record {
-      table = table;
       replies = g.replies;
-      run = run_of_cut [] (lines (given ++ more)) g.replies table (subst (λ (x : List (List ℕ)). Run [] x g.replies table) (sym done) g.run);
-      held = all_written given old now table reader w g all;
-      verdict = sym g.clean;
+      run = run_of_cut (closed []) (lines (given ++ more)) g.replies state (subst (λ (x : List (List ℕ)). Run (closed []) x g.replies state) (sym done) g.run);
+      held = all_written given old now state reader w g (written_at_end more reader new w r a);
+      clean = g.clean;
     }
 
+both_bytes : (replies further : List Reply) → replies_bytes (replies ++ further) ≡ replies_bytes replies ++ replies_bytes further
+both_bytes replies further = flat_map-append reply_bytes replies further
+
+completes : (all : List ℕ) (old now later : Option (List ℕ)) (state : State) (w : Written) (clean : Bool) → HasEnded all old now state w → (w.clean && is_clean (at_end state)) ≡ clean → later ≡ append_known now (replies_bytes (at_end state)) → Completes all clean old later
+completes all old now later state w clean h verdict held = record {
+  state = state;
+  replies = h.replies;
+  run = h.run;
+  held = held ∙ ap (λ (k : Option (List ℕ)). append_known k (replies_bytes (at_end state))) h.held ∙ sym (append_known-append old (replies_bytes h.replies) (replies_bytes (at_end state))) ∙ ap (append_known old) (sym (both_bytes h.replies (at_end state)));
+  verdict = list_all-append is_answer h.replies (at_end state) ∙ ap (λ (b : Bool). b && is_clean (at_end state)) (sym h.clean) ∙ verdict;
+}
+
+cut_short : (all : List ℕ) (old now later : Option (List ℕ)) (state : State) (w : Written) (n : ℕ) → HasEnded all old now state w → later ≡ append_known now (take n (replies_bytes (at_end state))) → WritesPrefix all old later
+cut_short all old now later state w n h held = record {
+  answered = lines all;
+  others = [];
+  cut = sym (append-nil (lines all));
+  state = state;
+  replies = h.replies;
+  run = h.run;
+  further = at_end state;
+  is_end = inr (refl, refl);
+  count = length (replies_bytes h.replies) + n;
+  held = held ∙ ap (λ (k : Option (List ℕ)). append_known k (take n (replies_bytes (at_end state)))) h.held ∙ sym (append_known-append old (replies_bytes h.replies) (take n (replies_bytes (at_end state))))
+      ∙ ap (append_known old) (sym (front (replies_bytes h.replies) (replies_bytes (at_end state)) n) ∙ ap (take (length (replies_bytes h.replies) + n)) (sym (both_bytes h.replies (at_end state))));
+}
+
+-- the outcome of a script that has ended
+pub ends_script : (all : List ℕ) (left old now later : Option (List ℕ)) (state : State) (w : Written) (status : Status) → length all ≤ 2 ^ 26 → IsAtEnd left → HasEnded all old now state w → Closes (at_end state) w.clean now later status → Outcome job.Run all left old later status
+ends_script all left old now later state w Done few last h (done verdict held) = (few, last, completes all old now later state w true h verdict held)
+ends_script all left old now later state w Refused few last h (refused verdict held) = (few, last, completes all old now later state w false h verdict held)
+ends_script all left old now later state w WriteFault few last h (unwritten n held) = (few, cut_short all old now later state w n h held)
+ends_script all left old now later state w Memory few last h (unmade n held) = (few, cut_short all old now later state w n h held)
+ends_script all left old now later state w Usage few last h closes = elim closes [ ]
+ends_script all left old now later state w ReadFault few last h closes = elim closes [ ]
+ends_script all left old now later state w InputTooLong few last h closes = elim closes [ ]
+
 -- a read failed
-pub goes_failed : (given more : List ℕ) (old now : Option (List ℕ)) (table : Table) (reader new : Reading) (w : Written) → Goes given old now table reader w → w.bytes ≡ [] →
+pub goes_failed : (given more : List ℕ) (old now : Option (List ℕ)) (state : State) (reader new : Reading) (w : Written) → Goes given old now state reader w → w.bytes ≡ [] →
     new.taken ≡ reader.taken + length more → IsStill more reader new → new.ended ≡ false → Answers more reader new Failed → AnswersWhole (given ++ more) old now
-goes_failed given more old now table reader new w g all t s going a =
+goes_failed given more old now state reader new w g all t s going a =
     let open_reader : reader.ended ≡ true → ⊥ = λ (e : reader.ended ≡ true). (let no : true ≡ false = sym (s e).0 ∙ going in cc) in
-    whole_of_cut (given ++ more) g.done (take 65536 (strip_carriage_return new.pending)) old now table g.replies
+    whole_of_cut (given ++ more) g.done (take 65536 (strip_carriage_return new.pending)) old now state g.replies
     (ap cut (append_assoc given more (10 ∷ [])) ∙ g.cuts (more ++ 10 ∷ []) (λ (e : reader.ended ≡ true). absurd (open_reader e))
     ∙ ap (λ (x : List (List ℕ)). g.done ++ x) (a.0 (10 ∷ []) ∙ cut_at new.pending [] a.1))
-    g.run (all_written given old now table reader w g all)
+    g.run (all_written given old now state reader w g all)
 
 -- too many bytes were given
-pub goes_too_long : (given more : List ℕ) (old now : Option (List ℕ)) (table : Table) (reader new : Reading) (w : Written) → Goes given old now table reader w →
+pub goes_too_long : (given more : List ℕ) (old now : Option (List ℕ)) (state : State) (reader new : Reading) (w : Written) → Goes given old now state reader w →
     new.taken ≡ reader.taken + length more → IsStill more reader new → Answers more reader new TooLong → WritesPrefix (given ++ more) old now
-goes_too_long given more old now table reader new w g t s a =
-    prefix_of_cut (given ++ more) g.done (cut (new.pending ++ [])) old now table g.replies (length g.flushed + 0)
+goes_too_long given more old now state reader new w g t s a =
+    prefix_of_cut (given ++ more) g.done (cut (new.pending ++ [])) old now state g.replies (length g.flushed + 0)
     (ap cut (sym (append-nil (given ++ more)) ∙ append_assoc given more [])
     ∙ g.cuts (more ++ []) (nothing_more more [] reader new t s (λ (e : new.ended ≡ true). refl)) ∙ ap (λ (x : List (List ℕ)). g.done ++ x) (a.0 []))
-    g.run (none_written given old now table reader w g)
+    g.run (none_written given old now state reader w g)
 
 -- and all whole lines that were given before the last read are answered
-pub goes_earlier : (given more : List ℕ) (old now : Option (List ℕ)) (table : Table) (reader : Reading) (w : Written) → Goes given old now table reader w → w.bytes ≡ [] →
+pub goes_earlier : (given more : List ℕ) (old now : Option (List ℕ)) (state : State) (reader : Reading) (w : Written) → Goes given old now state reader w → w.bytes ≡ [] →
     (reader.ended ≡ true → ⊥) → LacksFeed reader.pending → EndsInOneRead more → AnswersEarlier (given ++ more) old now
-goes_earlier given more old now table reader w g all going lacks q =
+goes_earlier given more old now state reader w g all going lacks q =
     let line = reader.pending ++ q.quiet in
     record {
       earlier = given ++ q.quiet;
       last = q.last;
       parts = ap (λ (x : List ℕ). given ++ x) q.parts ∙ sym (append_assoc given q.quiet q.last);
       few = q.few;
-      answers = whole_of_cut (given ++ q.quiet) g.done (take 65536 (strip_carriage_return line)) old now table g.replies
+      answers = whole_of_cut (given ++ q.quiet) g.done (take 65536 (strip_carriage_return line)) old now state g.replies
           (ap cut (append_assoc given q.quiet (10 ∷ [])) ∙ g.cuts (q.quiet ++ 10 ∷ []) (λ (e : reader.ended ≡ true). absurd (going e))
           ∙ ap (λ (x : List (List ℕ)). g.done ++ x)
           (ap cut (sym (append_assoc reader.pending q.quiet (10 ∷ []))) ∙ cut_at line [] (All-append (λ (b : ℕ). is_feed b ≡ false) reader.pending q.quiet lacks q.lacks)))
-          g.run (all_written given old now table reader w g all);
+          g.run (all_written given old now state reader w g all);
     }
 
 -- a line was taken, and its reply wasn't had
-pub goes_unanswered : (given more : List ℕ) (old now : Option (List ℕ)) (table : Table) (reader new : Reading) (w : Written) → Goes given old now table reader w →
+pub goes_unanswered : (given more : List ℕ) (old now : Option (List ℕ)) (state : State) (reader new : Reading) (w : Written) → Goes given old now state reader w →
     new.taken ≡ reader.taken + length more → IsStill more reader new → Answers more reader new Line → WritesPrefix (given ++ more) old now
-goes_unanswered given more old now table reader new w g t s a =
-    prefix_of_cut (given ++ more) g.done (new.line ∷ cut (new.pending ++ [])) old now table g.replies (length g.flushed + 0)
+goes_unanswered given more old now state reader new w g t s a =
+    prefix_of_cut (given ++ more) g.done (new.line ∷ cut (new.pending ++ [])) old now state g.replies (length g.flushed + 0)
     (ap cut (sym (append-nil (given ++ more)) ∙ append_assoc given more [])
     ∙ g.cuts (more ++ []) (nothing_more more [] reader new t s (λ (e : new.ended ≡ true). refl)) ∙ ap (λ (x : List (List ℕ)). g.done ++ x) (a.0 [] (λ (e : new.ended ≡ true). refl)))
-    g.run (none_written given old now table reader w g)
+    g.run (none_written given old now state reader w g)
 
 -- nothing is a front of the replies to no line
 pub nothing_streamed : (held : Option (List ℕ)) → WritesPrefix [] held held
@@ -229,9 +283,11 @@ nothing_streamed held = record {
   answered = [];
   others = lines [];
   cut = refl;
-  table = [];
+  state = closed [];
   replies = [];
   run = refl;
+  further = [];
+  is_end = inl refl;
   count = 0;
   held = sym (append_known-nil held);
 }

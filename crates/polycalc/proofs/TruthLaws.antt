@@ -1,5 +1,5 @@
--- In each run the answers are true of the sets that the accepted commands give.
-use Rattle.std.proofs.Common.{◌≡◌, ℕ, List, [], ◌∷◌, ◌++◌, length, refl, ap, sym, ◌∙◌, subst, inl, inr, Bool, true, false}
+-- In each run the answers are true of the sets that accepted commands and files give.
+use Rattle.std.proofs.Common.{◌≡◌, ℕ, List, [], ◌++◌, length, refl, ap, sym, ◌∙◌, subst, Bool, true, false}
 use Rattle.std.specs.Prelude.{Option, None, Some, Ok, ℤ, codes, decimal}
 use Rattle.std.specs.Map.{keys_of}
 use Rattle.std.proofs.lemmas.Map.Entries.{length-keys_of}
@@ -11,13 +11,14 @@ use Rattle.optimum.specs.Suprema.{SupAnswer}
 use Rattle.optimum.specs.declared.outcome.Sup.{Sup}
 use Rattle.optimum.specs.declared.outcome.Sup.TheVariants as sup
 use Rattle.poly_pair.specs.KeptLaws.{KeptIsPair}
+use Rattle.poly_pair.specs.declared.topology.Topology.TheVariants.{Closed}
 use Rattle.poly_pair.specs.Polyhedra.{Polyhedron, HasNoPoint, IsOfConstraints, IsOfGenerators, IsUniverse, IsEmpty}
 use Rattle.lattice_ops.specs.Sets.{IsMeet, IsHull, IsClosure, IsIncluded, HaveSamePoints, AreDisjoint}
 use Rattle.affine_ops.specs.Results.{IsProjection, IsProduct}
 use Rattle.elapse.specs.Elapses.{IsElapse}
 use Rattle.script_text.specs.declared.command.Part.{Part}
 use Rattle.script_text.specs.declared.command.Command.{Command}
-use Rattle.script_text.specs.declared.command.Command.TheVariants.{Nothing, Cons, Gens, Universe, Empty, Copy, Drop, Add, Addgen, Has, Size, Print, Names, Meet, Hull, Closure, Contains, Equal, Disjoint, Isempty, Relation, Max, Min, Embed, Project, Concat, Elapse, Image, Preimage, Remove}
+use Rattle.script_text.specs.declared.command.Command.TheVariants.{Nothing, Cons, Gens, Universe, Empty, Copy, Drop, Add, Addgen, Has, Size, Print, Names, Meet, Hull, Closure, Contains, Equal, Disjoint, Isempty, Relation, Max, Min, Embed, Project, Concat, Elapse, Image, Preimage, Remove, Read, Write, Widen}
 use Rattle.calc_state.specs.declared.entry.Entry.{Entry}
 use Rattle.calc_state.specs.declared.change.Change.{Change}
 use Rattle.calc_state.specs.declared.change.Change.TheVariants.{Says, Puts, TakesOut}
@@ -30,15 +31,22 @@ use Rattle.calc_state.specs.Questions.{has, size, print, line, size_text, side_t
 use Rattle.calc_state.specs.Optima.{relation, bound, relation_text, bound_text}
 use Rattle.calc_state.specs.Lattice.{meet, hull, closure, contains, equal, disjoint, isempty, IsTold}
 use Rattle.calc_state.specs.Affine.{embed, project, concat, elapse, image, preimage, remove, IsEmbedded, IsRemoved, IsImageBy, IsPreimageBy}
-use Rattle.calc_state.specs.Step.{Reply, Answered, Refused, Overflows, IsAccepted, IsProper, lines_of, ok_line}
+use Rattle.calc_state.specs.Step.{Reply, IsAccepted, IsProper, lines_of, ok_line}
+use Rattle.widening.specs.Widenings.{IsWidening}
+use Rattle.calc_state.specs.Widening.{widen}
+use Rattle.calc_state.specs.Files.{write, file_of}
+use Rattle.calc_state.specs.State.{State, closed}
 use Rattle.calc_state.specs.Laws.{KeepsNamesDistinct}
 use Rattle.polycalc.specs.Runs.{Run}
+use Rattle.polycalc.specs.Acts.{Act, Accepted, acts}
 use Rattle.polycalc.specs.Sets.{IsSetOf, AreAlike, names_of}
+use Rattle.polycalc.specs.Laws.{AnswersAreTrue}
 use Rattle.polycalc.specs.Truth.{SaysWhether, IsTrueOf, IsTrueOfTwo, SaysTruth, SaysHowItLies, IsShownBy, SaysExtremum, SaysSide, IsTruthful, AreTruthful}
 use Rattle.polycalc.proofs.OneForm.{same_dims}
-use Rattle.polycalc.proofs.Operands.{are_alike}
+use Rattle.polycalc.proofs.Operands.{are_alike, one_topology}
 use Rattle.polycalc.proofs.OneSet.{set_proper}
-use Rattle.polycalc.proofs.SetLaws.{Stands, Agrees, nothing_agrees, agrees_then, agrees_still, not_unspelled}
+use Rattle.polycalc.proofs.AcceptedRuns.{Steps, Told, run_told}
+use Rattle.polycalc.proofs.SetLaws.{Stands, Agrees, nothing_agrees, agrees_command, agrees_file}
 
 -- the laws that are cited: what is printed is read back, both stored systems hold the same points, and the generator of a bound shows it
 pub record ReadBack : Type 0 where
@@ -52,7 +60,7 @@ said_lines lines (Says text) h = h
 said_lines lines (Puts name e) h = absurd h
 said_lines lines (TakesOut name) h = absurd h
 
-has_true : (old new : Table) (earlier : List Command) (name text : List ℕ) (part : Part) (o : Option Polyhedron) → Stands o (IsSetOf earlier name) → IsAccepted (on_one o (has part)) old text new → IsTrueOf earlier name (SaysWhether part text)
+has_true : (old new : Table) (earlier : List Act) (name text : List ℕ) (part : Part) (o : Option Polyhedron) → Stands o (IsSetOf earlier name) → IsAccepted (on_one o (has part)) old text new → IsTrueOf earlier name (SaysWhether part text)
 has_true old new earlier name text part None s p = absurd p.does
 has_true old new earlier name text part (Some q) s p =
     let t = p.does.holds in
@@ -62,7 +70,7 @@ has_true old new earlier name text part (Some q) s p =
       says = record { point = p.does.point; read = p.does.read; holds = t.holds; said = p.lines_are ∙ said_lines (answer_line t.holds) p.change t.said; true_of_point = t.true_of_point };
     }
 
-size_true : (old new : Table) (earlier : List Command) (name text : List ℕ) (o : Option Polyhedron) → Stands o (IsSetOf earlier name) → IsAccepted (on_one o size) old text new → IsTrueOf earlier name (λ p. text ≡ line (size_text p))
+size_true : (old new : Table) (earlier : List Act) (name text : List ℕ) (o : Option Polyhedron) → Stands o (IsSetOf earlier name) → IsAccepted (on_one o size) old text new → IsTrueOf earlier name (λ p. text ≡ line (size_text p))
 size_true old new earlier name text None s p = absurd p.does
 size_true old new earlier name text (Some q) s p = record { polyhedron = q; set = s; says = p.lines_are ∙ said_lines (line (size_text q)) p.change p.does }
 
@@ -78,7 +86,7 @@ side_says laws true text q proper e = record {
   points = λ v is. ((laws.pair q proper.kept v is).1, (laws.pair q proper.kept v is).0);
 }
 
-print_true : ReadBack → (old new : Table) (earlier : List Command) (side : Bool) (name text : List ℕ) (o : Option Polyhedron) → Stands o (IsSetOf earlier name) → IsAccepted (on_one o (print side)) old text new → IsTrueOf earlier name (SaysSide side text)
+print_true : ReadBack → (old new : Table) (earlier : List Act) (side : Bool) (name text : List ℕ) (o : Option Polyhedron) → Stands o (IsSetOf earlier name) → IsAccepted (on_one o (print side)) old text new → IsTrueOf earlier name (SaysSide side text)
 print_true laws old new earlier side name text None s p = absurd p.does
 print_true laws old new earlier side name text (Some q) s p =
     record { polyhedron = q; set = s; says = side_says laws side text q (set_proper earlier name q s) (p.lines_are ∙ said_lines (line (side_text side q)) p.change p.does) }
@@ -86,7 +94,7 @@ print_true laws old new earlier side name text (Some q) s p =
 abbrev names_line : ℕ → List (List ℕ) → List ℕ
 names_line n names = line (codes "names " ++ decimal n ++ spaced names)
 
-names_true : (old : Table) (earlier : List Command) (text : List ℕ) → keys_of old ≡ names_of earlier → text ≡ line (names_text old) → text ≡ names_line (length (names_of earlier)) (names_of earlier)
+names_true : (old : Table) (earlier : List Act) (text : List ℕ) → keys_of old ≡ names_of earlier → text ≡ line (names_text old) → text ≡ names_line (length (names_of earlier)) (names_of earlier)
 names_true old earlier text same e =
     e ∙ ap (λ (n : ℕ). names_line n (keys_of old)) (sym (length-keys_of old)) ∙ ap (λ (names : List (List ℕ)). names_line (length names) names) same
 
@@ -94,11 +102,11 @@ names_true old earlier text same e =
 told_true : (Statement : Type 0) (change : Change) (text : List ℕ) → IsTold Statement change → text ≡ lines_of change → SaysTruth text Statement
 told_true Statement change text h e = record { holds = h.holds; said = e ∙ said_lines (answer_line h.holds) change h.said; true_of = h.true_of }
 
-one_true : (old new : Table) (earlier : List Command) (name text : List ℕ) (m : Polyhedron → Meaning) (SaysOf : Polyhedron → Type 0) (o : Option Polyhedron) → Stands o (IsSetOf earlier name) → ((x : Polyhedron) (change : Change) → (m x).does change → text ≡ lines_of change → SaysOf x) → IsAccepted (on_one o m) old text new → IsTrueOf earlier name SaysOf
+one_true : (old new : Table) (earlier : List Act) (name text : List ℕ) (m : Polyhedron → Meaning) (SaysOf : Polyhedron → Type 0) (o : Option Polyhedron) → Stands o (IsSetOf earlier name) → ((x : Polyhedron) (change : Change) → (m x).does change → text ≡ lines_of change → SaysOf x) → IsAccepted (on_one o m) old text new → IsTrueOf earlier name SaysOf
 one_true old new earlier name text m SaysOf None s says p = absurd p.does
 one_true old new earlier name text m SaysOf (Some q) s says p = record { polyhedron = q; set = s; says = says q p.change p.does p.lines_are }
 
-two_true : (old new : Table) (earlier : List Command) (one other text : List ℕ) (m : Polyhedron → Polyhedron → Meaning) (SaysOf : Polyhedron → Polyhedron → Type 0) (o u : Option Polyhedron) → Stands o (IsSetOf earlier one) → Stands u (IsSetOf earlier other) →
+two_true : (old new : Table) (earlier : List Act) (one other text : List ℕ) (m : Polyhedron → Polyhedron → Meaning) (SaysOf : Polyhedron → Polyhedron → Type 0) (o u : Option Polyhedron) → Stands o (IsSetOf earlier one) → Stands u (IsSetOf earlier other) →
     ((x y : Polyhedron) → Passes (m x y).conditions → AreAlike x y) → ((x y : Polyhedron) (change : Change) → (m x y).does change → text ≡ lines_of change → SaysOf x y) → IsAccepted (on_two o u m) old text new → IsTrueOfTwo earlier one other SaysOf
 two_true old new earlier one other text m SaysOf None u s t like says p = absurd p.does
 two_true old new earlier one other text m SaysOf (Some q) None s t like says p = absurd p.does
@@ -114,7 +122,7 @@ shown_by law up row q sup.Empty proper answer = tt
 shown_by law up row q sup.Unbounded proper answer = tt
 shown_by law up row q (sup.At num den attained index) proper answer = law up row q num den attained index proper.kept proper.gens answer
 
-bound_true : ReadBack → (old new : Table) (earlier : List Command) (up : Bool) (name text : List ℕ) (part : Part) (o : Option Polyhedron) → Stands o (IsSetOf earlier name) → IsAccepted (on_one o (bound up part)) old text new → IsTrueOf earlier name (SaysExtremum up part text)
+bound_true : ReadBack → (old new : Table) (earlier : List Act) (up : Bool) (name text : List ℕ) (part : Part) (o : Option Polyhedron) → Stands o (IsSetOf earlier name) → IsAccepted (on_one o (bound up part)) old text new → IsTrueOf earlier name (SaysExtremum up part text)
 bound_true laws old new earlier up name text part None s p = absurd p.does
 bound_true laws old new earlier up name text part (Some q) s p =
     let h = p.does in
@@ -159,11 +167,19 @@ drop_ok : (old new : Table) (out text : List ℕ) (o : Option Entry) → IsAccep
 drop_ok old new out text None p = absurd p.does
 drop_ok old new out text (Some e) p = p.lines_are ∙ taken_ok out p.change p.does
 
-accepted_true : ReadBack → (old new : Table) (earlier : List Command) (c : Command) (text : List ℕ) → Agrees old earlier → IsAccepted (meaning old c) old text new → IsTruthful earlier c text
+-- a closed polyhedron is written
+write_true : (old new : Table) (earlier : List Act) (form : Bool) (name text : List ℕ) (o : Option Polyhedron) → Stands o (IsSetOf earlier name) → IsAccepted (on_one o (write form)) old text new → IsTrueOf earlier name (λ q. (q.topology ≡ Closed) × (text ≡ file_of form q))
+write_true old new earlier form name text None s p = absurd p.does
+write_true old new earlier form name text (Some q) s p = record { polyhedron = q; set = s; says = (one_topology q.topology Closed p.passes.1.1.0, p.lines_are ∙ said_lines (file_of form q) p.change p.does) }
+
+accepted_true : ReadBack → (old new : Table) (earlier : List Act) (c : Command) (text : List ℕ) → Agrees old earlier → IsAccepted (meaning old c) old text new → IsTruthful earlier c text
 accepted_true laws old new earlier (Has name part) text g p = has_true old new earlier name text part (poly_of old name) (g.sets name) p
 accepted_true laws old new earlier (Size name) text g p = size_true old new earlier name text (poly_of old name) (g.sets name) p
 accepted_true laws old new earlier (Print side name) text g p = print_true laws old new earlier side name text (poly_of old name) (g.sets name) p
 accepted_true laws old new earlier Names text g p = names_true old earlier text g.names (p.lines_are ∙ said_lines (line (names_text old)) p.change p.does)
+accepted_true laws old new earlier (Widen out one other) text g p = two_ok old new out text (widen old out) IsWidening (poly_of old one) (poly_of old other) (λ x y change does. does.put) p
+accepted_true laws old new earlier (Read out form) text g p = p.lines_are ∙ said_lines [] p.change p.does
+accepted_true laws old new earlier (Write name form) text g p = write_true old new earlier form name text (poly_of old name) (g.sets name) p
 accepted_true laws old new earlier Nothing text g p = p.lines_are ∙ said_lines [] p.change p.does
 accepted_true laws old new earlier (Cons out top n part) text g p = p.lines_are ∙ put_ok out (λ r. SaysConstraints n part (λ cs. IsOfConstraints (topology_of top) cs r)) p.change p.does
 accepted_true laws old new earlier (Gens out top n part) text g p = p.lines_are ∙ put_ok out (λ r. SaysGenerators n part (λ gs. IsOfGenerators (topology_of top) gs r)) p.change p.does
@@ -194,16 +210,20 @@ accepted_true laws old new earlier (Remove out other vars) text g p = one_ok old
 accepted_true laws old new earlier (Concat out one other) text g p = two_ok old new out text (concat old out) IsProduct (poly_of old one) (poly_of old other) (λ x y change does. does) p
 accepted_true laws old new earlier (Elapse out one other) text g p = two_ok old new out text (elapse old out) IsElapse (poly_of old one) (poly_of old other) (λ x y change does. does) p
 
-pub run_truthful : KeepsNamesDistinct → ReadBack → (old : Table) (earlier : List Command) (lines : List (List ℕ)) (replies : List Reply) (new : Table) → Agrees old earlier → Run old lines replies new → AreTruthful earlier lines replies
-run_truthful keeps laws old earlier [] [] new g run = tt
-run_truthful keeps laws old earlier (line ∷ lines) (Answered text ∷ replies) new g (mid, inl a, run) =
-    (a.command, a.spelled, accepted_true laws old mid earlier a.command text g a.performed, run_truthful keeps laws mid (a.command ∷ earlier) lines replies new (agrees_then keeps old mid earlier line text a g) run)
-run_truthful keeps laws old earlier (line ∷ lines) (Answered text ∷ replies) new g (mid, inr u, run) = absurd (not_unspelled old mid line text u)
-run_truthful keeps laws old earlier (line ∷ lines) (Refused fault ∷ replies) new g (mid, step, run) = run_truthful keeps laws mid earlier lines replies new (agrees_still old mid earlier line (Refused fault) step refl g) run
-run_truthful keeps laws old earlier (line ∷ lines) (Overflows over ∷ replies) new g (mid, step, run) = run_truthful keeps laws mid earlier lines replies new (agrees_still old mid earlier line (Overflows over) step refl g) run
-run_truthful keeps laws old earlier [] (reply ∷ replies) new g run = absurd run
-run_truthful keeps laws old earlier (line ∷ lines) [] new g run = absurd run
+-- ---- runs
+abbrev pub IsToldTruly : Table → List Accepted → Type 0
+IsToldTruly table all = Agrees table (acts all) × AreTruthful all
 
--- nothing was accepted before the first line
-pub answers_true : KeepsNamesDistinct → HasDistinctNames [] → ReadBack → (lines : List (List ℕ)) (replies : List Reply) (table : Table) → Run [] lines replies table → AreTruthful [] lines replies
-answers_true keeps empty laws lines replies table run = run_truthful keeps laws [] [] lines replies table (nothing_agrees empty) run
+telling : ReadBack → Steps IsToldTruly
+telling laws = record {
+  command = λ old new earlier c text h distinct p. (agrees_command old new (acts earlier) c text h.0 distinct p, (accepted_true laws old new (acts earlier) c text h.0 p, h.1));
+  file = λ old new earlier file text h distinct p. (agrees_file old new (acts earlier) file text h.0 distinct p, (p.lines_are, h.1));
+}
+
+-- what a run accepts, with the table that agrees with it and true answers
+pub run_truthful : KeepsNamesDistinct → HasDistinctNames [] → ReadBack → (lines : List (List ℕ)) (replies : List Reply) (new : State) → Run (closed []) lines replies new → Told IsToldTruly None [] lines replies new
+run_truthful keeps empty laws lines replies new run = run_told IsToldTruly keeps (telling laws) (closed []) [] lines replies new empty (nothing_agrees empty, tt) run
+
+pub answers_true : KeepsNamesDistinct → HasDistinctNames [] → ReadBack → AnswersAreTrue
+answers_true keeps empty laws lines replies new run =
+    let t = run_truthful keeps empty laws lines replies new run in record { all = t.all; accepted = t.accepted; truthful = t.holds.1 }

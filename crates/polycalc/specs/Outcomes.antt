@@ -1,36 +1,43 @@
 use Rattle.std.specs.Prelude.{◌≡◌, ◌⊎◌, ℕ, ◌+◌, ◌^◌, ◌<◌, ◌≤◌, List, [], ◌∷◌, ◌++◌, length, take, Option, Some, Bool, true, false, if◌then◌else◌}
 use Rattle.std.specs.Io.KnownBytes.{append_known, prepend_known, IsAtEnd}
 use Rattle.std.specs.Str.Lines.{lines}
-use Rattle.calc_state.specs.Table.{Table}
+use Rattle.calc_state.specs.State.{State, closed}
 use Rattle.calc_state.specs.Step.{Reply}
 use Rattle.cdd_text.specs.declared.format.Format.{Format}
-use Rattle.polycalc.specs.Words.{words_of}
+use Rattle.polycalc.specs.Words.{IsAskedBy}
 use Rattle.polycalc.specs.Replies.{reply_bytes, replies_bytes, is_answer, is_clean}
 use Rattle.polycalc.specs.Conversions.{ConvertsTo, MustConvert}
-use Rattle.polycalc.specs.Runs.{Run, IsComplete}
+use Rattle.polycalc.specs.Samples.{SamplesTo, MustSample}
+use Rattle.polycalc.specs.Runs.{Run, IsComplete, at_end}
 use Rattle.polycalc.specs.declared.job.Job.{Job}
 use Rattle.polycalc.specs.declared.job.Job.TheVariants as job
 use Rattle.polycalc.specs.declared.status.Status.{Status}
 use Rattle.polycalc.specs.declared.status.Status.TheVariants.{Done, Refused, Usage, ReadFault, WriteFault, Memory, InputTooLong}
 
--- what was held, and behind it the replies of a run over the lines of the script; whether no reply is a fault or an overflow is told
+-- what was held, and behind it the replies of a run over the lines of the script, and that to its end; whether no reply is a fault or an overflow is told
 pub record Completes (script : List ℕ) (clean : Bool) (old new : Option (List ℕ)) : Type 0 where
-  pub table : Table
+  pub state : State
   pub replies : List Reply
-  pub run : Run [] (lines script) replies table
-  pub held : new ≡ append_known old (replies_bytes replies)
-  pub verdict : is_clean replies ≡ clean
+  pub run : Run (closed []) (lines script) replies state
+  pub held : new ≡ append_known old (replies_bytes (replies ++ at_end state))
+  pub verdict : is_clean (replies ++ at_end state) ≡ clean
 
--- what was held, and behind it a front of the replies of a run over the first lines of the script
+-- no reply, or behind the last line that to the end of the script
+abbrev pub IsEndReply : List (List ℕ) → State → List Reply → Type 0
+IsEndReply others state further = (further ≡ []) ⊎ ((others ≡ []) × (further ≡ at_end state))
+
+-- what was held, and behind it a front of the replies of a run over the first lines of the script, or over all and to its end
 pub record WritesPrefix (script : List ℕ) (old new : Option (List ℕ)) : Type 0 where
   pub answered : List (List ℕ)
   pub others : List (List ℕ)
   pub cut : lines script ≡ answered ++ others
-  pub table : Table
+  pub state : State
   pub replies : List Reply
-  pub run : Run [] answered replies table
+  pub run : Run (closed []) answered replies state
+  pub further : List Reply
+  pub is_end : IsEndReply others state further
   pub count : ℕ
-  pub held : new ≡ append_known old (take count (replies_bytes replies))
+  pub held : new ≡ append_known old (take count (replies_bytes (replies ++ further)))
 
 -- what was held, and behind it the replies of a run over the whole lines of the script: with a line feed behind the
 -- script, over all its lines but the last
@@ -38,9 +45,9 @@ pub record AnswersWhole (script : List ℕ) (old new : Option (List ℕ)) : Type
   pub whole : List (List ℕ)
   pub last : List ℕ
   pub cut : lines (script ++ 10 ∷ []) ≡ whole ++ last ∷ []
-  pub table : Table
+  pub state : State
   pub replies : List Reply
-  pub run : Run [] whole replies table
+  pub run : Run (closed []) whole replies state
   pub held : new ≡ append_known old (replies_bytes replies)
 
 -- what was held, and behind it the replies of a run over the whole lines of all bytes of the script but those of one read
@@ -66,31 +73,57 @@ pub record ConvertsPrefix (want : Format) (file : List ℕ) (old new : Option (L
   pub count : ℕ
   pub held : new ≡ append_known old (take count (reply_bytes reply))
 
+-- ---- samples
+-- what was held, and behind it the reply to the number of the sample; whether it is no overflow is told
+pub record Samples (n : ℕ) (clean : Bool) (old new : Option (List ℕ)) : Type 0 where
+  pub reply : Reply
+  pub samples : SamplesTo n reply
+  pub held : new ≡ append_known old (reply_bytes reply)
+  pub verdict : is_answer reply ≡ clean
+
+-- what was held, and behind it a front of that reply
+pub record SamplesPrefix (n : ℕ) (old new : Option (List ℕ)) : Type 0 where
+  pub reply : Reply
+  pub samples : SamplesTo n reply
+  pub count : ℕ
+  pub held : new ≡ append_known old (take count (reply_bytes reply))
+
 -- ---- each job
+-- the source gave all that the job reads of it: all that it had, or of a sample nothing
+abbrev pub IsReadOut : Job → List ℕ → Option (List ℕ) → Type 0
+IsReadOut job.Run given left = IsAtEnd left
+IsReadOut (job.Convert want) given left = IsAtEnd left
+IsReadOut (job.Sample n) given left = given ≡ []
+
 -- all replies to the bytes that the source gave are written
 abbrev pub Finishes : Job → List ℕ → Bool → Option (List ℕ) → Option (List ℕ) → Type 0
 Finishes job.Run script clean old new = Completes script clean old new
 Finishes (job.Convert want) file clean old new = Converts want file clean old new
+Finishes (job.Sample n) given clean old new = Samples n clean old new
 
 -- a front of them is written, or none
 abbrev pub WritesFront : Job → List ℕ → Option (List ℕ) → Option (List ℕ) → Type 0
 WritesFront job.Run script old new = WritesPrefix script old new
 WritesFront (job.Convert want) file old new = (new ≡ old) ⊎ ConvertsPrefix want file old new
+WritesFront (job.Sample n) given old new = (new ≡ old) ⊎ SamplesPrefix n old new
 
--- what is written where the source gave these bytes and not its last: the replies to whole lines, and of a file nothing
+-- what is written where the source gave these bytes and not its last: the replies to whole lines, and of a file nothing; for a
+-- sample it isn't read
 abbrev pub AnswersRead : Job → List ℕ → Option (List ℕ) → Option (List ℕ) → Type 0
 AnswersRead job.Run script old new = AnswersWhole script old new
 AnswersRead (job.Convert want) file old new = new ≡ old
+AnswersRead (job.Sample n) given old new = ⊥
 
 -- likewise, but for the bytes of one read
 abbrev pub AnswersFront : Job → List ℕ → Option (List ℕ) → Option (List ℕ) → Type 0
 AnswersFront job.Run script old new = AnswersEarlier script old new
 AnswersFront (job.Convert want) file old new = new ≡ old
+AnswersFront (job.Sample n) given old new = ⊥
 
 -- what came of a job, after the source gave these bytes and now has those left
 abbrev pub Outcome : Job → List ℕ → Option (List ℕ) → Option (List ℕ) → Option (List ℕ) → Status → Type 0
-Outcome task given left old new Done = (length given ≤ 2 ^ 26) × IsAtEnd left × Finishes task given true old new
-Outcome task given left old new Refused = (length given ≤ 2 ^ 26) × IsAtEnd left × Finishes task given false old new
+Outcome task given left old new Done = (length given ≤ 2 ^ 26) × IsReadOut task given left × Finishes task given true old new
+Outcome task given left old new Refused = (length given ≤ 2 ^ 26) × IsReadOut task given left × Finishes task given false old new
 Outcome task given left old new ReadFault = (length given ≤ 2 ^ 26) × AnswersRead task given old new
 Outcome task given left old new WriteFault = (length given ≤ 2 ^ 26) × WritesFront task given old new
 Outcome task given left old new Memory = (length given ≤ 2 ^ 26) × WritesFront task given old new
@@ -98,32 +131,32 @@ Outcome task given left old new InputTooLong = (2 ^ 26 < length given) × (lengt
 Outcome task given left old new Usage = ⊥
 
 -- ---- what the top call promises of the job that the words ask for
--- the source gave all that it had, and all replies are written
+-- the source gave all that the job reads, and all replies are written
 pub record Ends (words : List (List ℕ)) (left left_now old new : Option (List ℕ)) (clean : Bool) : Type 0 where
   pub job : Job
-  pub words_are : words ≡ words_of job
+  pub asked : IsAskedBy words job
   pub given : List ℕ
   pub gave : left ≡ prepend_known given left_now
-  pub at_end : IsAtEnd left_now
+  pub read_out : IsReadOut job given left_now
   pub finishes : Finishes job given clean old new
 
 -- the source gave some bytes, and this is written
 pub record Stops (words : List (List ℕ)) (left left_now old new : Option (List ℕ)) (Writes : Job → List ℕ → Option (List ℕ) → Option (List ℕ) → Type 0) : Type 0 where
   pub job : Job
-  pub words_are : words ≡ words_of job
+  pub asked : IsAskedBy words job
   pub given : List ℕ
   pub gave : left ≡ prepend_known given left_now
   pub writes : Writes job given old new
 
--- the script is answered: behind what was held stand the replies of a run over its lines, from the table without names;
--- each line that must succeed is answered, and the status tells whether some reply is a fault or an overflow
+-- the script is answered: behind what was held stand the replies of a run over its lines, from the state without names and
+-- without a file, and that to its end; each line that must succeed is answered, and the status tells whether some reply is a fault or an overflow
 pub record IsRunAnswered (script before : List ℕ) (held : Option (List ℕ)) (status : Status) : Type 0 where
-  pub table : Table
+  pub state : State
   pub replies : List Reply
-  pub run : Run [] (lines script) replies table
-  pub complete : IsComplete [] (lines script) replies table run
-  pub held_now : held ≡ Some (before ++ replies_bytes replies)
-  pub verdict : status ≡ (if is_clean replies then Done else Refused)
+  pub run : Run (closed []) (lines script) replies state
+  pub complete : IsComplete (closed []) (lines script) replies state run
+  pub held_now : held ≡ Some (before ++ replies_bytes (replies ++ at_end state))
+  pub verdict : status ≡ (if is_clean (replies ++ at_end state) then Done else Refused)
 
 -- the file is answered: behind what was held stands the reply to it, which is the other file where the file must be
 -- converted, and the status tells whether the reply is a fault or an overflow
@@ -134,6 +167,16 @@ pub record IsFileAnswered (want : Format) (file before : List ℕ) (held : Optio
   pub held_now : held ≡ Some (before ++ reply_bytes reply)
   pub verdict : status ≡ (if is_answer reply then Done else Refused)
 
+-- the number of a sample is answered: behind what was held stands its line, where neither the conversion nor the maximum has an
+-- overflow, and the status tells whether the reply is an overflow
+pub record IsSampleAnswered (n : ℕ) (before : List ℕ) (held : Option (List ℕ)) (status : Status) : Type 0 where
+  pub reply : Reply
+  pub samples : SamplesTo n reply
+  pub complete : MustSample n → is_answer reply ≡ true
+  pub held_now : held ≡ Some (before ++ reply_bytes reply)
+  pub verdict : status ≡ (if is_answer reply then Done else Refused)
+
 abbrev pub IsAnswered : Job → List ℕ → List ℕ → Option (List ℕ) → Status → Type 0
 IsAnswered job.Run script before held status = IsRunAnswered script before held status
 IsAnswered (job.Convert want) file before held status = IsFileAnswered want file before held status
+IsAnswered (job.Sample n) script before held status = IsSampleAnswered n before held status

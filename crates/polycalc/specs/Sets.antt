@@ -1,31 +1,25 @@
--- What the accepted commands give the names.
+-- What accepted commands and files give the names.
 use Rattle.std.specs.Prelude.{◌≡◌, ◌↔◌, ℕ, List, [], ◌∷◌, ◌++◌, filter, not, ℤ, Bool, false, MatchBool, if◌then◌else◌}
 use Rattle.std.specs.List.{list_any}
 use Rattle.std.specs.Str.{bytes_eq}
 use Rattle.row_core.specs.Points.{IsPoint}
 use Rattle.cons_sys.specs.Constraints.{Constraints, In}
 use Rattle.poly_pair.specs.Polyhedra.{Polyhedron, IsOver, IsOfConstraints, IsOfGenerators, IsUniverse, IsEmpty}
-use Rattle.lattice_ops.specs.Sets.{IsMeet, IsHull, IsClosure}
+use Rattle.poly_pair.specs.declared.topology.Topology.TheVariants.{Closed}
+use Rattle.lattice_ops.specs.Sets.{IsMeet, IsHull, IsClosure, IsIncluded}
+use Rattle.widening.specs.Widenings.{IsWidening}
 use Rattle.affine_ops.specs.Results.{IsProjection, IsProduct}
 use Rattle.elapse.specs.Elapses.{IsElapse}
-use Rattle.script_text.specs.Line.{Spells}
+use Rattle.file_poly.specs.Files.{IsOfFile}
 use Rattle.script_text.specs.declared.command.Part.{Part}
 use Rattle.script_text.specs.declared.command.Command.{Command}
-use Rattle.script_text.specs.declared.command.Command.TheVariants.{Cons, Gens, Universe, Empty, Copy, Drop, Add, Addgen, Meet, Hull, Closure, Embed, Project, Concat, Elapse, Image, Preimage, Remove}
+use Rattle.script_text.specs.declared.command.Command.TheVariants.{Cons, Gens, Universe, Empty, Copy, Drop, Add, Addgen, Meet, Hull, Closure, Embed, Project, Concat, Elapse, Image, Preimage, Remove, Widen}
 use Rattle.calc_state.specs.Makers.{SaysConstraints, SaysGenerators, more_generators}
 use Rattle.calc_state.specs.Affine.{IsEmbedded, IsRemoved, IsImageBy, IsPreimageBy}
 use Rattle.calc_state.specs.Meanings.{topology_of}
-use Rattle.calc_state.specs.Step.{Reply, Answered, Refused, Overflows, IsProper}
-
--- ---- the accepted commands of a run
--- the accepted commands, the last one first, are the earlier ones and then those of the answered lines
-abbrev pub AreAccepted : List Command → List (List ℕ) → List Reply → List Command → Type 0
-AreAccepted earlier [] [] commands = commands ≡ earlier
-AreAccepted earlier (line ∷ lines) (Answered text ∷ replies) commands = (c : Command) × Spells line c × AreAccepted (c ∷ earlier) lines replies commands
-AreAccepted earlier (line ∷ lines) (Refused fault ∷ replies) commands = AreAccepted earlier lines replies commands
-AreAccepted earlier (line ∷ lines) (Overflows over ∷ replies) commands = AreAccepted earlier lines replies commands
-AreAccepted earlier [] (reply ∷ replies) commands = ⊥
-AreAccepted earlier (line ∷ lines) [] commands = ⊥
+use Rattle.calc_state.specs.Files.{format_of}
+use Rattle.calc_state.specs.Step.{IsProper}
+use Rattle.polycalc.specs.Acts.{Act, Did, Took}
 
 -- ---- the polyhedron of a name
 -- a polyhedron with this property, by two systems that are stored of its set
@@ -74,6 +68,13 @@ pub record IsOfAlike (Is : Polyhedron → Polyhedron → Polyhedron → Type 0) 
   pub alike : AreAlike p q
   pub is : Is p q r
 
+-- the widening of a closed operand by one that includes it
+pub record IsOfNested (p q r : Polyhedron) : Type 0 where
+  pub alike : AreAlike p q
+  pub closed : p.topology ≡ Closed
+  pub nested : IsIncluded p q
+  pub is : IsWidening p q r
+
 -- whether the command makes, changes or takes out the polyhedron of the name
 abbrev pub sets : Command → List ℕ → Bool
 sets (Cons out top n part) name = bytes_eq name out
@@ -94,6 +95,7 @@ sets (Elapse out p q) name = bytes_eq name out
 sets (Image out p v part) name = bytes_eq name out
 sets (Preimage out p v part) name = bytes_eq name out
 sets (Remove out p vars) name = bytes_eq name out
+sets (Widen out p q) name = bytes_eq name out
 sets question name = false
 
 -- the polyhedron that the command gives its name, where the names had these
@@ -115,12 +117,14 @@ Gives (Elapse out one other) Had p = IsMadeOfTwo (Had one) (Had other) (IsOfAlik
 Gives (Image out other v part) Had p = IsMadeOfOne (Had other) (IsImageBy v part) p
 Gives (Preimage out other v part) Had p = IsMadeOfOne (Had other) (IsPreimageBy v part) p
 Gives (Remove out other vars) Had p = IsMadeOfOne (Had other) (IsRemoved vars) p
+Gives (Widen out one other) Had p = IsMadeOfTwo (Had one) (Had other) IsOfNested p
 Gives other Had p = ⊥
 
--- of the accepted commands, the last one first: the polyhedron that they give the name
-abbrev pub IsSetOf : List Command → List ℕ → Polyhedron → Type 0
+-- of what was accepted, the last first: the polyhedron that it gives the name
+abbrev pub IsSetOf : List Act → List ℕ → Polyhedron → Type 0
 IsSetOf [] name p = ⊥
-IsSetOf (c ∷ earlier) name p = MatchBool (sets c name) (Gives c (IsSetOf earlier) p) (IsSetOf earlier name p)
+IsSetOf (Did c ∷ earlier) name p = MatchBool (sets c name) (Gives c (IsSetOf earlier) p) (IsSetOf earlier name p)
+IsSetOf (Took file ∷ earlier) name p = MatchBool (bytes_eq name file.name) (IsMade (IsOfFile (format_of file.ext) file.text) p) (IsSetOf earlier name p)
 
 -- ---- the names
 -- a new name goes last
@@ -131,23 +135,29 @@ with_name name names = if list_any (bytes_eq name) names then names else names +
 abbrev pub less_name : List ℕ → List (List ℕ) → List (List ℕ)
 less_name name names = filter (λ n. not (bytes_eq name n)) names
 
--- of the accepted commands, the last one first: the names that they give, in the order in which they were made
-abbrev pub names_of : List Command → List (List ℕ)
+-- the names after a command
+abbrev pub names_after : Command → List (List ℕ) → List (List ℕ)
+names_after (Cons out top n part) names = with_name out names
+names_after (Gens out top n part) names = with_name out names
+names_after (Universe out top n) names = with_name out names
+names_after (Empty out top n) names = with_name out names
+names_after (Copy out other) names = with_name out names
+names_after (Meet out p q) names = with_name out names
+names_after (Hull out p q) names = with_name out names
+names_after (Closure out p) names = with_name out names
+names_after (Embed out p n) names = with_name out names
+names_after (Project out p n) names = with_name out names
+names_after (Concat out p q) names = with_name out names
+names_after (Elapse out p q) names = with_name out names
+names_after (Image out p v part) names = with_name out names
+names_after (Preimage out p v part) names = with_name out names
+names_after (Remove out p vars) names = with_name out names
+names_after (Widen out p q) names = with_name out names
+names_after (Drop out) names = less_name out names
+names_after unchanged names = names
+
+-- of what was accepted, the last first: the names that it gives, in the order in which they were made
+abbrev pub names_of : List Act → List (List ℕ)
 names_of [] = []
-names_of (Cons out top n part ∷ earlier) = with_name out (names_of earlier)
-names_of (Gens out top n part ∷ earlier) = with_name out (names_of earlier)
-names_of (Universe out top n ∷ earlier) = with_name out (names_of earlier)
-names_of (Empty out top n ∷ earlier) = with_name out (names_of earlier)
-names_of (Copy out other ∷ earlier) = with_name out (names_of earlier)
-names_of (Meet out p q ∷ earlier) = with_name out (names_of earlier)
-names_of (Hull out p q ∷ earlier) = with_name out (names_of earlier)
-names_of (Closure out p ∷ earlier) = with_name out (names_of earlier)
-names_of (Embed out p n ∷ earlier) = with_name out (names_of earlier)
-names_of (Project out p n ∷ earlier) = with_name out (names_of earlier)
-names_of (Concat out p q ∷ earlier) = with_name out (names_of earlier)
-names_of (Elapse out p q ∷ earlier) = with_name out (names_of earlier)
-names_of (Image out p v part ∷ earlier) = with_name out (names_of earlier)
-names_of (Preimage out p v part ∷ earlier) = with_name out (names_of earlier)
-names_of (Remove out p vars ∷ earlier) = with_name out (names_of earlier)
-names_of (Drop out ∷ earlier) = less_name out (names_of earlier)
-names_of (unchanged ∷ earlier) = names_of earlier
+names_of (Did c ∷ earlier) = names_after c (names_of earlier)
+names_of (Took file ∷ earlier) = with_name file.name (names_of earlier)

@@ -1,4 +1,4 @@
--- When the answers of a run are true of the sets that the accepted commands give.
+-- When the answers of a run are true of the sets that accepted commands and files give.
 use Rattle.std.specs.Prelude.{◌≡◌, ◌↔◌, ℕ, ℤ, length, List, [], ◌∷◌, ◌++◌, Bool, true, false, IsTrue, Ok, codes, decimal}
 use Rattle.row_core.specs.Points.{IsPoint as IsPointRow}
 use Rattle.cons_sys.specs.Constraints.{Constraints, In}
@@ -11,6 +11,7 @@ use Rattle.expr_text.specs.GeneratorSystems.{IsGens}
 use Rattle.expr_text.specs.Printed.{constraints_text, generators_text}
 use Rattle.pair_laws.specs.PointSets.{HoldSame}
 use Rattle.poly_pair.specs.Polyhedra.{Polyhedron, HasNoPoint}
+use Rattle.poly_pair.specs.declared.topology.Topology.TheVariants.{Closed}
 use Rattle.lattice_ops.specs.Sets.{IsIncluded, HaveSamePoints, AreDisjoint}
 use Rattle.optimum.specs.Relations.{IsRelation}
 use Rattle.optimum.specs.Suprema.{SupAnswer, IsTrueSup}
@@ -18,14 +19,15 @@ use Rattle.optimum.specs.Laws.{IsWitness}
 use Rattle.optimum.specs.declared.outcome.Relation.{Relation as Flags}
 use Rattle.optimum.specs.declared.outcome.Sup.{Sup}
 use Rattle.optimum.specs.declared.outcome.Sup.TheVariants as sup
-use Rattle.script_text.specs.Line.{Spells}
 use Rattle.script_text.specs.declared.command.Part.{Part}
 use Rattle.script_text.specs.declared.command.Command.{Command}
-use Rattle.script_text.specs.declared.command.Command.TheVariants.{Nothing, Has, Size, Print, Names, Contains, Equal, Disjoint, Isempty, Relation, Max, Min}
+use Rattle.script_text.specs.declared.command.Command.TheVariants.{Nothing, Has, Size, Print, Names, Contains, Equal, Disjoint, Isempty, Relation, Max, Min, Read, Write}
 use Rattle.calc_state.specs.Meaning.{answer_line}
 use Rattle.calc_state.specs.Questions.{line, size_text, spaced}
 use Rattle.calc_state.specs.Optima.{relation_text, bound_text}
-use Rattle.calc_state.specs.Step.{Reply, Answered, Refused, Overflows, ok_line}
+use Rattle.calc_state.specs.Files.{file_of}
+use Rattle.calc_state.specs.Step.{ok_line}
+use Rattle.polycalc.specs.Acts.{Act, Did, Took, Accepted, acts}
 use Rattle.polycalc.specs.Sets.{IsSetOf, AreAlike, names_of}
 
 -- the reply says whether the point of the text is in the polyhedron
@@ -57,13 +59,13 @@ pub record SaysGeneration (reply : List ℕ) (p : Polyhedron) : Type 0 where
   pub points : (v : List ℤ) → IsPointRow p.cons.dim v → Span system v ↔ In p.cons v
 
 -- the reply is true of the polyhedron of the name
-pub record IsTrueOf (commands : List Command) (name : List ℕ) (Says : Polyhedron → Type 0) : Type 0 where
+pub record IsTrueOf (commands : List Act) (name : List ℕ) (Says : Polyhedron → Type 0) : Type 0 where
   pub polyhedron : Polyhedron
   pub set : IsSetOf commands name polyhedron
   pub says : Says polyhedron
 
 -- the reply is true of the polyhedra of two names, which are alike
-pub record IsTrueOfTwo (commands : List Command) (one other : List ℕ) (Says : Polyhedron → Polyhedron → Type 0) : Type 0 where
+pub record IsTrueOfTwo (commands : List Act) (one other : List ℕ) (Says : Polyhedron → Polyhedron → Type 0) : Type 0 where
   pub first : Polyhedron
   pub second : Polyhedron
   pub set_first : IsSetOf commands one first
@@ -108,9 +110,10 @@ SaysSide false reply p = SaysSystem reply p
 SaysSide true reply p = SaysGeneration reply p
 
 -- after these accepted commands the answer to a question is true: to `size` it is the dimension and the numbers of
--- stored constraints and generators, and to `names` the number of names and the names; a line without a command is
--- answered by nothing, and each other command by `ok`
-abbrev pub IsTruthful : List Command → Command → List ℕ → Type 0
+-- stored constraints and generators, to `names` the number of names and the names, and to `write` the file of the stored
+-- constraints or generators of a closed set; a line without a command and one that opens a file are answered by nothing,
+-- and each other command by `ok`
+abbrev pub IsTruthful : List Act → Command → List ℕ → Type 0
 IsTruthful earlier (Has name part) reply = IsTrueOf earlier name (SaysWhether part reply)
 IsTruthful earlier (Size name) reply = IsTrueOf earlier name (λ p. reply ≡ line (size_text p))
 IsTruthful earlier (Print side name) reply = IsTrueOf earlier name (SaysSide side reply)
@@ -122,14 +125,17 @@ IsTruthful earlier (Isempty name) reply = IsTrueOf earlier name (λ p. SaysTruth
 IsTruthful earlier (Relation name part) reply = IsTrueOf earlier name (SaysHowItLies part reply)
 IsTruthful earlier (Max name part) reply = IsTrueOf earlier name (SaysExtremum true part reply)
 IsTruthful earlier (Min name part) reply = IsTrueOf earlier name (SaysExtremum false part reply)
+IsTruthful earlier (Write name form) reply = IsTrueOf earlier name (λ p. (p.topology ≡ Closed) × (reply ≡ file_of form p))
+IsTruthful earlier (Read out form) reply = reply ≡ []
 IsTruthful earlier Nothing reply = reply ≡ []
 IsTruthful earlier other reply = reply ≡ ok_line
 
--- each answered line spells a command, and each answer is true of what the accepted commands before it give
-abbrev pub AreTruthful : List Command → List (List ℕ) → List Reply → Type 0
-AreTruthful earlier [] [] = Unit {0}
-AreTruthful earlier (line ∷ lines) (Answered text ∷ replies) = (c : Command) × Spells line c × IsTruthful earlier c text × AreTruthful (c ∷ earlier) lines replies
-AreTruthful earlier (line ∷ lines) (Refused fault ∷ replies) = AreTruthful earlier lines replies
-AreTruthful earlier (line ∷ lines) (Overflows over ∷ replies) = AreTruthful earlier lines replies
-AreTruthful earlier [] (reply ∷ replies) = ⊥
-AreTruthful earlier (line ∷ lines) [] = ⊥
+-- the answer to a command is true of what was accepted before it; a file that was read is answered by `ok`
+abbrev pub IsTrueAnswer : List Act → Act → List ℕ → Type 0
+IsTrueAnswer earlier (Did c) reply = IsTruthful earlier c reply
+IsTrueAnswer earlier (Took file) reply = reply ≡ ok_line
+
+-- of what was accepted, the last first: each answer is true of what was accepted before it
+abbrev pub AreTruthful : List Accepted → Type 0
+AreTruthful [] = Unit {0}
+AreTruthful (a ∷ earlier) = IsTrueAnswer (acts earlier) a.act a.answer × AreTruthful earlier

@@ -1,10 +1,19 @@
-use Rattle.std.specs.Prelude.{ℕ, List, [], ◌∷◌, codes}
+use Rattle.std.specs.Prelude.{◌≡◌, ℕ, ◌≤◌, List, [], ◌∷◌, length, true, codes}
+use Rattle.cdd_text.specs.Tokens.{is_nat, number}
 use Rattle.cdd_text.specs.declared.format.Format.TheVariants.{Ine, Ext}
 use Rattle.polycalc.specs.declared.job.Job.{Job}
-use Rattle.polycalc.specs.declared.job.Job.TheVariants.{Run, Convert}
+use Rattle.polycalc.specs.declared.job.Job.TheVariants.{Run, Convert, Sample}
 
--- the words of each job
-abbrev pub words_of : Job → List (List ℕ)
-words_of Run = codes "run" ∷ []
-words_of (Convert Ine) = codes "ine2ext" ∷ []
-words_of (Convert Ext) = codes "ext2ine" ∷ []
+-- the word is one to four decimal digits, and spells this number, at most 1,000
+pub record SpellsSize (word : List ℕ) (n : ℕ) : Type 0 where
+  pub digits : is_nat word ≡ true
+  pub few : length word ≤ 4
+  pub value : n ≡ number word
+  pub small : n ≤ 1000
+
+-- the words ask for the job
+abbrev pub IsAskedBy : List (List ℕ) → Job → Type 0
+IsAskedBy words Run = words ≡ codes "run" ∷ []
+IsAskedBy words (Convert Ine) = words ≡ codes "ine2ext" ∷ []
+IsAskedBy words (Convert Ext) = words ≡ codes "ext2ine" ∷ []
+IsAskedBy words (Sample n) = (word : List ℕ) × (words ≡ codes "sample" ∷ word ∷ []) × SpellsSize word n

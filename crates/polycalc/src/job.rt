@@ -8,4 +8,6 @@ pub enum Job {
     Run,
     /// A file that holds this list is converted into the file of the other.
     Convert(Format),
+    /// The sample of so many rows is converted, and its line is written.
+    Sample(u32),
 }

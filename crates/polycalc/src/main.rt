@@ -1,5 +1,5 @@
 //! The calculator of convex polyhedra as a program: it reads a script from standard input and
-//! writes the replies to standard output, or converts a file of constraints or of generators.
+//! writes the replies to standard output, or converts a file of constraints or of generators, or a sample.
 #![tactic(auto)]
 
 ghost use Rattle.std.specs.Prelude.{◌≡◌, ◌<◌};
@@ -10,6 +10,7 @@ mod job;
 mod laws;
 mod replies;
 mod runs;
+mod samples;
 mod status;
 mod top;
 mod vocabulary;
@@ -17,11 +18,12 @@ mod vocabulary;
 use poly_io::{StdSink, StdSource};
 use row_core::Steps;
 use status::{Status, exit_code};
-use std::io::{Stdin, Stdout};
+use std::io::{Stderr, Stdin, Stdout, Write};
 use std::marker::Brand;
 use std::process::ExitCode;
 use std::sync::ledger::{Blank, Ledger};
 use top::polycalc;
+use usage_text::usage;
 use vocabulary::Words;
 
 fn main(rt: HostRuntime) -> ExitCode {
@@ -29,7 +31,17 @@ fn main(rt: HostRuntime) -> ExitCode {
         Ok(words) => on_standard_streams::<Brand>(&rt, &words, Blank::new(1)),
         Err(status) => status,
     };
+    if status == Status::Usage {
+        show_usage(&rt);
+    }
     exit_code(status)
+}
+
+// The usage text on standard error. Where it is refused, nothing follows from it.
+fn show_usage(rt: &HostRuntime) {
+    if let Ok(text) = usage(rt.alloc()) {
+        let _ = rt.stderr().write_all(text.bytes());
+    }
 }
 
 // The call over standard input and standard output.

@@ -1,10 +1,12 @@
 //! A run of the calculator over the lines of a source, as they come.
-ghost use Rattle.std.specs.Prelude.{◌≡◌, ℕ, List, OnOk};
+ghost use Rattle.std.specs.Prelude.{◌≡◌, ℕ, ◌≤◌, List, [], OnOk};
 ghost use Rattle.std.specs.Io.KnownBytes.{prepend_known};
 ghost use Rattle.poly_io.specs.Counts.{HasRisen};
 ghost use Rattle.calc_state.specs.Step.{Reply};
 ghost use Rattle.calc_state.specs.Line.{Step};
 ghost use Rattle.polycalc.specs.Replies.{with_reply};
+ghost use Rattle.polycalc.specs.Runs.{at_end};
+ghost use Rattle.polycalc.specs.Endings.{Closes};
 ghost use Rattle.polycalc.specs.Outcomes.{Outcome};
 ghost use Rattle.polycalc.specs.declared.job.Job.TheVariants as job;
 
@@ -36,8 +38,7 @@ pub fn run_lines<S: Source, W: Sink, L: Ledger>(
     loop {
         match reader.next(source) {
             LineAns::Line => (),
-            LineAns::End if replies.is_clean() => return Status::Done,
-            LineAns::End => return Status::Refused,
+            LineAns::End => return end_script(&mut calc, &mut replies, sink),
             LineAns::Failed => return Status::ReadFault,
             LineAns::TooLong => return Status::InputTooLong,
         }
@@ -51,6 +52,30 @@ pub fn run_lines<S: Source, W: Sink, L: Ledger>(
                 Err(WriteAllErr::Memory) => return Status::Memory,
             }
         }
+    }
+}
+
+// The end of the script, which cuts off a file that is open.
+fn end_script<W: Sink>(calc: &mut Calc, replies: &mut Replies, sink: &mut W) -> Status
+    requires { replies.old.bytes ≡ [] }
+    ensures closes { Closes (at_end calc.old) replies.old.clean (W.held sink.old) (W.held sink.new) result }
+    ensures no_fewer { W.faults sink.old ≤ W.faults sink.new }
+    ensures fault { result ≡ Status.WriteFault → HasRisen (W.faults sink.old) (W.faults sink.new) }
+{
+    let Err(fault) = calc.finish() else {
+        return if replies.is_clean() {
+            Status::Done
+        } else {
+            Status::Refused
+        };
+    };
+    let Ok(()) = replies.add_fault(&fault) else {
+        return Status::Memory;
+    };
+    match write_all(sink, replies.bytes()) {
+        Ok(()) => Status::Refused,
+        Err(WriteAllErr::Failed) => Status::WriteFault,
+        Err(WriteAllErr::Memory) => Status::Memory,
     }
 }
 

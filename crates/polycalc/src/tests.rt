@@ -935,8 +935,37 @@ fn wrong_files_are_refused(rt: HostRuntime) -> Result<(), Fail> {
 }
 
 #[test]
+fn samples_are_converted(rt: HostRuntime) -> Result<(), Fail> {
+    for (words, line) in [
+        ("sample 0", "sample 0 constraints 6 generators 8 max 10/1\n"),
+        (
+            "sample 0001",
+            "sample 1 constraints 7 generators 10 max 46/7\n",
+        ),
+    ] {
+        let mut trial = trial_of(FIRST, 7);
+        trial.words = words;
+        let (status, held) = outcome_of(rt.alloc(), &trial)?;
+        assert_eq!(rt; held.as_slice(), line.as_bytes());
+        assert_eq!(rt; status, Status::Done);
+    }
+    Ok(())
+}
+
+#[test]
 fn other_words_have_no_meaning(rt: HostRuntime) -> Result<(), Fail> {
-    for words in ["", "run x", "Run", "sample 1", "ine2ext x", "ext2in"] {
+    for words in [
+        "",
+        "run x",
+        "Run",
+        "sample",
+        "sample x",
+        "sample 1001",
+        "sample 00001",
+        "sample 1 1",
+        "ine2ext x",
+        "ext2in",
+    ] {
         let mut trial = trial_of(FIRST, 7);
         trial.words = words;
         let (status, held) = outcome_of(rt.alloc(), &trial)?;

@@ -2,14 +2,16 @@
 ghost use Rattle.std.specs.Prelude.{◌≡◌, ◌≢◌, ℕ, ◌+◌, ◌^◌, ◌<◌, ◌≤◌, ◌↔◌, ◌⊎◌, List, length, Some, true, false};
 ghost use Rattle.std.specs.Io.KnownBytes.{prepend_known};
 ghost use Rattle.poly_io.specs.Counts.{HasRisen};
-ghost use Rattle.polycalc.specs.Words.{words_of};
-ghost use Rattle.polycalc.specs.Outcomes.{Outcome, Ends, Stops, IsAnswered, WritesFront, AnswersRead, AnswersFront};
+ghost use Rattle.polycalc.specs.Words.{IsAskedBy};
+ghost use Rattle.polycalc.specs.Outcomes.{Outcome, Ends, Stops, IsAnswered, IsSampleAnswered, WritesFront, AnswersRead, AnswersFront};
 ghost use Rattle.polycalc.specs.declared.job.Job.{Job as AnyJob};
+ghost use Rattle.polycalc.specs.declared.job.Job.TheVariants.{Sample};
 
 use crate::conversions::convert_file;
 use crate::job::Job;
 use crate::laws::runs_are_complete;
 use crate::runs::run_lines;
+use crate::samples::write_sample;
 use crate::status::Status;
 use crate::vocabulary::Words;
 use poly_io::{Sink, Source};
@@ -25,6 +27,9 @@ use std::sync::ledger::Ledger;
 /// - `ine2ext` reads a file of constraints in the format of cdd and lrs and writes that of the generators
 ///   of the same points, and `ext2ine` the other way round. Where a file is refused, or its conversion
 ///   leaves the range, the one line of the fault or the overflow is written.
+/// - `sample` and a number of one to four digits, at most 1,000, converts the sample of so many rows and writes how many
+///   constraints and generators are stored of it, and the maximum of `B - A`, or the one line of an overflow.
+///   The source isn't read.
 pub fn polycalc<S: Source, W: Sink, L: Ledger>(
     alloc: Global,
     words: &Words,
@@ -36,14 +41,19 @@ pub fn polycalc<S: Source, W: Sink, L: Ledger>(
     // holds what it held and then the replies: of a run over the lines of all bytes, in which each
     // line that must succeed is answered, or to the file that all bytes are, which is converted where
     // it must be.
-    ensures answered { (job : AnyJob) (script before : List ℕ) → words.now ≡ words_of job → S.left source.old ≡ Some script → W.held sink.old ≡ Some before
+    ensures answered { (job : AnyJob) (script before : List ℕ) → IsAskedBy words.now job → S.left source.old ≡ Some script → W.held sink.old ≡ Some before
         → length script ≤ 2 ^ 26 → ¬ (HasRisen (S.faults source.old) (S.faults source.new)) → ¬ (HasRisen (W.faults sink.old) (W.faults sink.new))
         → result ≢ Status.Memory → IsAnswered job script before (W.held sink.new) result }
-    // The input was read to its end and all replies were written; whether one of them is a fault or
+    // A sample asks only of the sink: it holds what it held and then the line of the sample, where it must
+    // be answered, and nothing is read.
+    ensures sampled { (n : ℕ) (before : List ℕ) → IsAskedBy words.now (Sample n) → W.held sink.old ≡ Some before
+        → ¬ (HasRisen (W.faults sink.old) (W.faults sink.new)) → result ≢ Status.Memory → IsSampleAnswered n before (W.held sink.new) result }
+    ensures unread { (n : ℕ) → IsAskedBy words.now (Sample n) → source.new ≡ source.old }
+    // What the job reads was read to its end and all replies were written; whether one of them is a fault or
     // an overflow.
     ensures done { result ≡ Status.Done → Ends words.now (S.left source.old) (S.left source.new) (W.held sink.old) (W.held sink.new) true }
     ensures refused { result ≡ Status.Refused → Ends words.now (S.left source.old) (S.left source.new) (W.held sink.old) (W.held sink.new) false }
-    ensures usage { (result ≡ Status.Usage) ↔ ((job : AnyJob) → words.now ≢ words_of job) }
+    ensures usage { (result ≡ Status.Usage) ↔ ((job : AnyJob) → ¬ (IsAskedBy words.now job)) }
     ensures untouched { result ≡ Status.Usage → (source.new ≡ source.old) × (sink.new ≡ sink.old) }
     ensures read_fault { result ≡ Status.ReadFault → HasRisen (S.faults source.old) (S.faults source.new) }
     ensures write_fault { result ≡ Status.WriteFault → HasRisen (W.faults sink.old) (W.faults sink.new) }
@@ -76,10 +86,12 @@ fn do_job<S: Source, W: Sink, L: Ledger>(
     ensures outcome { (given : List ℕ) × (S.left source.old ≡ prepend_known given (S.left source.new))
         × Outcome job given (S.left source.new) (W.held sink.old) (W.held sink.new) result }
     ensures read_fault { result ≡ Status.ReadFault → HasRisen (S.faults source.old) (S.faults source.new) }
+    ensures unread { (n : ℕ) → job ≡ Sample n → source.new ≡ source.old }
     ensures write_fault { result ≡ Status.WriteFault → HasRisen (W.faults sink.old) (W.faults sink.new) }
 {
     match job {
         Job::Run => run_lines(alloc, source, sink, steps),
         Job::Convert(want) => convert_file(alloc, want, source, sink, steps),
+        Job::Sample(n) => write_sample(alloc, n, sink, steps),
     }
 }

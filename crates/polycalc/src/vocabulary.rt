@@ -1,13 +1,18 @@
 //! The words of a command line.
-ghost use Rattle.std.specs.Prelude.{◌≡◌, ℕ, ◌<◌, ◌==◌, ◌↔◌, List, [], ◌∷◌, ◌++◌, length, slice_index_or, IsTrue, OnOk, OnErr, MatchOption};
-ghost use Rattle.polycalc.specs.Words.{words_of};
+ghost use Rattle.std.specs.Prelude.{◌≡◌, ℕ, ◌-◌, ◌^◌, ◌<◌, ◌==◌, ◌↔◌, min, List, [], ◌∷◌, ◌++◌, length, slice_index_or, IsTrue, OnOk, OnErr, MatchOption};
+ghost use Rattle.cdd_text.specs.Tokens.{is_nat, number};
+ghost use Rattle.polycalc.specs.Words.{IsAskedBy, SpellsSize};
 ghost use Rattle.polycalc.specs.declared.job.Job.{Job};
+ghost use Rattle.polycalc.specs.declared.job.Job.TheVariants.{Sample};
 
 use crate::job::Job;
 use file_poly::Format;
 use row_core::Memory;
 use std::alloc::Global;
 use std::marker::Model;
+
+/// The most rows of a sample.
+const MOST_ROWS: u32 = 1_000;
 
 /// Words, each of any bytes.
 #[derive(Drop)]
@@ -73,9 +78,26 @@ impl Words {
         self.len() == 1 && self.word(0) == word
     }
 
+    // Whether the words are this one and one more.
+    fn is_with_one(&self, word: &[u8]) -> bool
+        ensures { IsTrue result ↔ (length self.now ≡ 2) × (slice_index_or self.now 0 [] ≡ word.now) }
+    {
+        self.len() == 2 && self.word(0) == word
+    }
+
+    // The number of the sample that the words ask for.
+    fn sample(&self) -> Option<u32>
+        ensures { MatchOption result ((n : ℕ) → ¬ (IsAskedBy self.now (Sample n))) (λ n. IsAskedBy self.now (Sample n)) }
+    {
+        if self.is_with_one(b"sample") {
+            return size_of(self.word(1));
+        }
+        None
+    }
+
     /// What the words ask for.
     pub fn job(&self) -> Option<Job>
-        ensures { MatchOption result ((job : Job) → ¬ (self.now ≡ words_of job)) (λ job. self.now ≡ words_of job) }
+        ensures { MatchOption result ((job : Job) → ¬ (IsAskedBy self.now job)) (IsAskedBy self.now) }
     {
         if self.is_only(b"run") {
             Some(Job::Run)
@@ -84,7 +106,48 @@ impl Words {
         } else if self.is_only(b"ext2ine") {
             Some(Job::Convert(Format::Ext))
         } else {
-            None
+            match self.sample() {
+                Some(n) => Some(Job::Sample(n)),
+                None => None,
+            }
         }
     }
+}
+
+// Whether the word is one or more digits.
+fn is_digits(word: &[u8]) -> bool
+    ensures { result ≡ is_nat word.now }
+{
+    for byte in word {
+        if *byte < b'0' || b'9' < *byte {
+            return false;
+        }
+    }
+    !word.is_empty()
+}
+
+// The number that digits spell; `u32::MAX` stands for all greater ones too.
+fn number_of(word: &[u8]) -> u32
+    ensures { result ≡ min (number word.now) (2 ^ 32 - 1) }
+{
+    let mut number: u32 = 0;
+    for byte in word {
+        let digit = u32::from(byte.saturating_sub(b'0'));
+        number = number.saturating_mul(10).saturating_add(digit);
+    }
+    number
+}
+
+// The number of rows that the word spells.
+fn size_of(word: &[u8]) -> Option<u32>
+    ensures { MatchOption result ((n : ℕ) → ¬ (SpellsSize word.now n)) (λ n. SpellsSize word.now n) }
+{
+    if word.len() > 4 || !is_digits(word) {
+        return None;
+    }
+    let number = number_of(word);
+    if number > MOST_ROWS {
+        return None;
+    }
+    Some(number)
 }

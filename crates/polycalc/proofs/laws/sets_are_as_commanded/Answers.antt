@@ -11,6 +11,9 @@ returns-clause-sets c = as_commanded c.names_stay_distinct.ensures.step c.names_
   pair = c.kept_is_pair.ensures;
   empty = c.kept_is_empty.ensures;
   joined = c.joined_sets_are_same.ensures;
+  widening = c.one_widening.ensures;
+  ine = c.one_answer-2.ensures.constraints;
+  ext = c.one_answer-2.ensures.generators;
 })
 
 pub returns-clause-unique : goal.returns-clause-unique
@@ -22,4 +25,7 @@ returns-clause-unique c = one_set (record {
   pair = c.kept_is_pair.ensures;
   empty = c.kept_is_empty.ensures;
   joined = c.joined_sets_are_same.ensures;
+  widening = c.one_widening.ensures;
+  ine = c.one_answer-2.ensures.constraints;
+  ext = c.one_answer-2.ensures.generators;
 })

@@ -1,4 +1,4 @@
-use Rattle.std.proofs.Common.{◌≡◌, ℕ, List, ◌++◌, [], take, Bool, true, false, ap, sym, refl, subst, ◌∙◌, arith, inl, inr}
+use Rattle.std.proofs.Common.{◌≡◌, ℕ, List, ◌++◌, [], take, true, false, ap, sym, refl, subst, ◌∙◌, arith, inl, inr}
 use Rattle.std.specs.Prelude.{Contains}
 use Rattle.poly_io.specs.Cut.{LacksFeed}
 use Rattle.std.specs.Io.KnownBytes.{append_known, prepend_known}
@@ -7,23 +7,24 @@ use Rattle.poly_io.specs.declared.line_reader.LineAns.TheVariants.{Line, End, Fa
 use Rattle.poly_io.proofs.CutLaws.{lacks_unless}
 use Rattle.poly_io.proofs.Known.{prepend_known-then, prepend_known-nil}
 use Rattle.calc_state.specs.Line.{Step}
-use Rattle.calc_state.specs.Table.{Table}
+use Rattle.calc_state.specs.State.{State}
 use Rattle.polycalc.specs.Replies.{Written, written}
-use Rattle.polycalc.specs.Outcomes.{Completes}
-use Rattle.polycalc.proofs.StreamLaws.{Goes, start_reading, goes_start, goes_line, goes_written, front_of_goes, goes_end, goes_failed, goes_too_long, goes_earlier, goes_unanswered, nothing_streamed, few_taken, size_given, match_true}
+use Rattle.polycalc.proofs.StreamLaws.{Goes, start_reading, goes_start, goes_line, goes_written, front_of_goes, goes_end, written_at_end, ends_script, goes_failed, goes_too_long, goes_earlier, goes_unanswered, nothing_streamed, few_taken, size_given, match_true}
+use Rattle.polycalc.specs.Runs.{at_end}
+use Rattle.polycalc.proofs.EndLaws.{never_unread}
 use Rattle.polycalc.proofs.runs.run_lines.Goals as goal
 
 pub returns-in_default-clause-outcome : goal.returns-in_default-clause-outcome
 returns-in_default-clause-outcome g c =
     ([], sym (prepend_known-nil (g.S.Source.left c.args.source.now)), (omega arith, nothing_streamed (g.W.Sink.held c.args.sink.now)))
 
-pub loop-replies-init : goal.loop-replies-init
-loop-replies-init g c =
+pub loop-calc-init : goal.loop-calc-init
+loop-calc-init g c =
     let fresh : c.in-Ok.reader ≡ start_reading = c.in-Ok.ensures in
     let held = g.W.Sink.held c.args.sink.now in
     let fresh_goes : Goes [] held held c.new-calc.result c.in-Ok.reader c.new-replies.result =
     subst (λ (w : Written). Goes [] held held c.new-calc.result c.in-Ok.reader w) (sym c.new-replies.ensures)
-    (subst (λ (t : Table). Goes [] held held t c.in-Ok.reader (written [])) (sym c.new-calc.ensures) (goes_start held c.in-Ok.reader fresh)) in (
+    (subst (λ (t : State). Goes [] held held t c.in-Ok.reader (written [])) (sym c.new-calc.ensures) (goes_start held c.in-Ok.reader fresh)) in (
       [],
       sym (prepend_known-nil (g.S.Source.left c.args.source.now)),
       fresh_goes,
@@ -34,105 +35,85 @@ loop-replies-init g c =
       omega (arith, ap (λ (r : Reading). r.taken) fresh),
     )
 
+pub end_script-requires : goal.end_script-requires
+end_script-requires g c = (let h = c.loop-calc.invariant in written_at_end c.in-End.ensures.given.0 c.loop-calc.reader c.next.new.self c.loop-calc.replies h.3 c.in-End.ensures.given.3)
+
 pub returns-in-End-clause-outcome : goal.returns-in-End-clause-outcome
 returns-in-End-clause-outcome g c =
-    let h = c.loop-replies.invariant in
+    let h = c.loop-calc.invariant in
     let e = c.in-End.ensures in
     let a = e.given in
     let left = g.S.Source.left in
     let held = g.W.Sink.held in
     let few = few_taken (End ≡ TooLong) c.next.new.self.taken e.too_long (λ (i : End ≡ TooLong). cc) in
-    let size = size_given h.0 a.0 c.loop-replies.reader c.next.new.self h.2.size a.2 in (
+    let size = size_given h.0 a.0 c.loop-calc.reader c.next.new.self h.2.size a.2 in (
       h.0 ++ a.0,
-      prepend_known-then h.0 a.0 (left c.args.source.now) (left c.loop-replies.source) (left c.next.new.source) h.1 a.1,
-      (
-        omega (arith, few, size),
-        e.ended a.3.0,
-        subst (λ (b : Bool). Completes (h.0 ++ a.0) b (held c.args.sink.now) (held c.loop-replies.sink)) (sym c.is_clean.ensures ∙ c.if-is_clean.true)
-            (goes_end h.0 a.0 (held c.args.sink.now) (held c.loop-replies.sink) c.loop-replies.calc c.loop-replies.reader c.next.new.self c.loop-replies.replies h.2 h.3 a.2 e.still a.3),
-      ),
-    )
-
-pub returns-in-End-2-clause-outcome : goal.returns-in-End-2-clause-outcome
-returns-in-End-2-clause-outcome g c =
-    let h = c.loop-replies.invariant in
-    let e = c.in-End-2.ensures in
-    let a = e.given in
-    let left = g.S.Source.left in
-    let held = g.W.Sink.held in
-    let few = few_taken (End ≡ TooLong) c.next.new.self.taken e.too_long (λ (i : End ≡ TooLong). cc) in
-    let size = size_given h.0 a.0 c.loop-replies.reader c.next.new.self h.2.size a.2 in (
-      h.0 ++ a.0,
-      prepend_known-then h.0 a.0 (left c.args.source.now) (left c.loop-replies.source) (left c.next.new.source) h.1 a.1,
-      (
-        omega (arith, few, size),
-        e.ended a.3.0,
-        subst (λ (b : Bool). Completes (h.0 ++ a.0) b (held c.args.sink.now) (held c.loop-replies.sink)) (sym c.is_clean.ensures ∙ c.if-is_clean.false)
-            (goes_end h.0 a.0 (held c.args.sink.now) (held c.loop-replies.sink) c.loop-replies.calc c.loop-replies.reader c.next.new.self c.loop-replies.replies h.2 h.3 a.2 e.still a.3),
-      ),
+      prepend_known-then h.0 a.0 (left c.args.source.now) (left c.loop-calc.source) (left c.next.new.source) h.1 a.1,
+      ends_script (h.0 ++ a.0) (left c.next.new.source) (held c.args.sink.now) (held c.loop-calc.sink) (held c.end_script.new.sink) c.loop-calc.calc c.loop-calc.replies c.end_script.result (omega (arith, few, size)) (e.ended a.3.0)
+          (goes_end h.0 a.0 (held c.args.sink.now) (held c.loop-calc.sink) c.loop-calc.calc c.loop-calc.reader c.next.new.self c.loop-calc.replies h.2 h.3 a.2 e.still a.3) c.end_script.ensures.closes,
     )
 
 pub returns-in-Failed-clause-outcome : goal.returns-in-Failed-clause-outcome
 returns-in-Failed-clause-outcome g c =
-    let h = c.loop-replies.invariant in
+    let h = c.loop-calc.invariant in
     let e = c.in-Failed.ensures in
     let a = e.given in
     let left = g.S.Source.left in
     let held = g.W.Sink.held in
     let few = few_taken (Failed ≡ TooLong) c.next.new.self.taken e.too_long (λ (i : Failed ≡ TooLong). cc) in
-    let size = size_given h.0 a.0 c.loop-replies.reader c.next.new.self h.2.size a.2 in
-    let written : c.loop-replies.replies.bytes ≡ [] = (elim h.3 [ inl x ↦ x | inr y ↦ (let no : Failed ≡ Line = (e.unread h.7 y).0 in cc) ]) in (
+    let size = size_given h.0 a.0 c.loop-calc.reader c.next.new.self h.2.size a.2 in
+    let written : c.loop-calc.replies.bytes ≡ [] = (elim h.3 [ inl x ↦ x | inr y ↦ (let no : Failed ≡ Line = (e.unread h.7 y).0 in cc) ]) in (
       h.0 ++ a.0,
-      prepend_known-then h.0 a.0 (left c.args.source.now) (left c.loop-replies.source) (left c.next.new.source) h.1 a.1,
+      prepend_known-then h.0 a.0 (left c.args.source.now) (left c.loop-calc.source) (left c.next.new.source) h.1 a.1,
       (
         omega (arith, few, size),
-        goes_failed h.0 a.0 (held c.args.sink.now) (held c.loop-replies.sink) c.loop-replies.calc c.loop-replies.reader c.next.new.self c.loop-replies.replies h.2 written a.2 e.still (e.going refl) a.3,
+        goes_failed h.0 a.0 (held c.args.sink.now) (held c.loop-calc.sink) c.loop-calc.calc c.loop-calc.reader c.next.new.self c.loop-calc.replies h.2 written a.2 e.still (e.going refl) a.3,
       ),
     )
 
 pub returns-in-TooLong-clause-outcome : goal.returns-in-TooLong-clause-outcome
 returns-in-TooLong-clause-outcome g c =
-    let h = c.loop-replies.invariant in
+    let h = c.loop-calc.invariant in
     let e = c.in-TooLong.ensures in
     let a = e.given in
     let left = g.S.Source.left in
     let held = g.W.Sink.held in
     let many = e.too_long.0 refl in
-    let no_line : Contains c.loop-replies.reader.pending 10 → ⊥ = λ (y : Contains c.loop-replies.reader.pending 10). (let no : TooLong ≡ Line = (e.unread h.7 y).0 in cc) in
-    let going : c.loop-replies.reader.ended ≡ true → ⊥ = λ (t : c.loop-replies.reader.ended ≡ true). (let same = (e.still t).1 in omega (arith, same, many, h.7)) in
-    let written : c.loop-replies.replies.bytes ≡ [] = (elim h.3 [ inl x ↦ x | inr y ↦ absurd (no_line y) ]) in
-    let size = size_given h.0 a.0 c.loop-replies.reader c.next.new.self h.2.size a.2 in (
+    let no_line : Contains c.loop-calc.reader.pending 10 → ⊥ = λ (y : Contains c.loop-calc.reader.pending 10). (let no : TooLong ≡ Line = (e.unread h.7 y).0 in cc) in
+    let going : c.loop-calc.reader.ended ≡ true → ⊥ = λ (t : c.loop-calc.reader.ended ≡ true). (let same = (e.still t).1 in omega (arith, same, many, h.7)) in
+    let written : c.loop-calc.replies.bytes ≡ [] = (elim h.3 [ inl x ↦ x | inr y ↦ absurd (no_line y) ]) in
+    let size = size_given h.0 a.0 c.loop-calc.reader c.next.new.self h.2.size a.2 in (
       h.0 ++ a.0,
-      prepend_known-then h.0 a.0 (left c.args.source.now) (left c.loop-replies.source) (left c.next.new.source) h.1 a.1,
+      prepend_known-then h.0 a.0 (left c.args.source.now) (left c.loop-calc.source) (left c.next.new.source) h.1 a.1,
       (
         omega (arith, many, size),
         omega (arith, e.bounded, size),
-        goes_too_long h.0 a.0 (held c.args.sink.now) (held c.loop-replies.sink) c.loop-replies.calc c.loop-replies.reader c.next.new.self c.loop-replies.replies h.2 a.2 e.still a.3,
-        goes_earlier h.0 a.0 (held c.args.sink.now) (held c.loop-replies.sink) c.loop-replies.calc c.loop-replies.reader c.loop-replies.replies h.2 written going
-            (lacks_unless c.loop-replies.reader.pending no_line) a.3.1,
+        goes_too_long h.0 a.0 (held c.args.sink.now) (held c.loop-calc.sink) c.loop-calc.calc c.loop-calc.reader c.next.new.self c.loop-calc.replies h.2 a.2 e.still a.3,
+        goes_earlier h.0 a.0 (held c.args.sink.now) (held c.loop-calc.sink) c.loop-calc.calc c.loop-calc.reader c.loop-calc.replies h.2 written going
+            (lacks_unless c.loop-calc.reader.pending no_line) a.3.1,
       ),
     )
 
 pub returns-in_default-reply_to-clause-outcome : goal.returns-in_default-reply_to-clause-outcome
 returns-in_default-reply_to-clause-outcome g c =
-    let h = c.loop-replies.invariant in
+    let h = c.loop-calc.invariant in
     let e = c.in-Line.ensures in
     let a = e.given in
     let left = g.S.Source.left in
     let held = g.W.Sink.held in
     let few = few_taken (Line ≡ TooLong) c.next.new.self.taken e.too_long (λ (i : Line ≡ TooLong). cc) in
-    let size = size_given h.0 a.0 c.loop-replies.reader c.next.new.self h.2.size a.2 in (
+    let size = size_given h.0 a.0 c.loop-calc.reader c.next.new.self h.2.size a.2 in (
       h.0 ++ a.0,
-      prepend_known-then h.0 a.0 (left c.args.source.now) (left c.loop-replies.source) (left c.next.new.source) h.1 a.1,
+      prepend_known-then h.0 a.0 (left c.args.source.now) (left c.loop-calc.source) (left c.next.new.source) h.1 a.1,
       (
         omega (arith, few, size),
-        goes_unanswered h.0 a.0 (held c.args.sink.now) (held c.loop-replies.sink) c.loop-replies.calc c.loop-replies.reader c.next.new.self c.loop-replies.replies h.2 a.2 e.still a.3,
+        goes_unanswered h.0 a.0 (held c.args.sink.now) (held c.loop-calc.sink) c.loop-calc.calc c.loop-calc.reader c.next.new.self c.loop-calc.replies h.2 a.2 e.still a.3,
       ),
     )
 
-pub loop-replies-preserved-in-Ok-write_all : goal.loop-replies-preserved-in-Ok-write_all
-loop-replies-preserved-in-Ok-write_all g c =
-    let h = c.loop-replies.invariant in
+pub loop-calc-preserved-in-Ok-write_all : goal.loop-calc-preserved-in-Ok-write_all
+loop-calc-preserved-in-Ok-write_all g c =
+    let h = c.loop-calc.invariant in
     let e = c.in-Line.ensures in
     let a = e.given in
     let left = g.S.Source.left in
@@ -140,17 +121,17 @@ loop-replies-preserved-in-Ok-write_all g c =
     let new = c.next.new.self in
     let s = c.in-Ok-reply_to.ensures in
     let few = few_taken (Line ≡ TooLong) new.taken e.too_long (λ (i : Line ≡ TooLong). cc) in
-    let size = size_given h.0 a.0 c.loop-replies.reader new h.2.size a.2 in
-    let step : Step c.loop-replies.calc new.line s.0 c.reply_to.new.calc = subst (λ (x : List ℕ). Step c.loop-replies.calc x s.0 c.reply_to.new.calc) c.line.ensures s.1 in
-    let more = goes_line h.0 a.0 (held c.args.sink.now) (held c.loop-replies.sink) c.loop-replies.calc c.reply_to.new.calc c.loop-replies.reader new c.loop-replies.replies c.reply_to.new.replies s.0
+    let size = size_given h.0 a.0 c.loop-calc.reader new h.2.size a.2 in
+    let step : Step c.loop-calc.calc new.line s.0 c.reply_to.new.calc = subst (λ (x : List ℕ). Step c.loop-calc.calc x s.0 c.reply_to.new.calc) c.line.ensures s.1 in
+    let more = goes_line h.0 a.0 (held c.args.sink.now) (held c.loop-calc.sink) c.loop-calc.calc c.reply_to.new.calc c.loop-calc.reader new c.loop-calc.replies c.reply_to.new.replies s.0
     h.2 a.2 e.still a.3 step s.2 in
     let given : left c.args.source.now ≡ prepend_known (h.0 ++ a.0) (left c.next.new.source) =
-    prepend_known-then h.0 a.0 (left c.args.source.now) (left c.loop-replies.source) (left c.next.new.source) h.1 a.1 in
+    prepend_known-then h.0 a.0 (left c.args.source.now) (left c.loop-calc.source) (left c.next.new.source) h.1 a.1 in
     let none : c.clear.new.self.bytes ≡ [] = ap (λ (w : Written). w.bytes) c.clear.ensures in (
       h.0 ++ a.0,
       given,
-      goes_written (h.0 ++ a.0) (held c.args.sink.now) (held c.loop-replies.sink) (held c.write_all.new.sink) c.reply_to.new.calc new c.reply_to.new.replies c.clear.new.self more
-          (c.in-Ok-write_all.ensures.written ∙ ap (append_known (held c.loop-replies.sink)) c.bytes.ensures) none (ap (λ (w : Written). w.clean) c.clear.ensures),
+      goes_written (h.0 ++ a.0) (held c.args.sink.now) (held c.loop-calc.sink) (held c.write_all.new.sink) c.reply_to.new.calc new c.reply_to.new.replies c.clear.new.self more
+          (c.in-Ok-write_all.ensures.written ∙ ap (append_known (held c.loop-calc.sink)) c.bytes.ensures) none (ap (λ (w : Written). w.clean) c.clear.ensures),
       inl none,
       e.ended,
       omega (arith, h.5, e.counted),
@@ -160,7 +141,7 @@ loop-replies-preserved-in-Ok-write_all g c =
 
 pub returns-in-Err-Failed-clause-outcome : goal.returns-in-Err-Failed-clause-outcome
 returns-in-Err-Failed-clause-outcome g c =
-    let h = c.loop-replies.invariant in
+    let h = c.loop-calc.invariant in
     let e = c.in-Line.ensures in
     let a = e.given in
     let left = g.S.Source.left in
@@ -168,25 +149,25 @@ returns-in-Err-Failed-clause-outcome g c =
     let new = c.next.new.self in
     let s = c.in-Ok-reply_to.ensures in
     let few = few_taken (Line ≡ TooLong) new.taken e.too_long (λ (i : Line ≡ TooLong). cc) in
-    let size = size_given h.0 a.0 c.loop-replies.reader new h.2.size a.2 in
-    let step : Step c.loop-replies.calc new.line s.0 c.reply_to.new.calc = subst (λ (x : List ℕ). Step c.loop-replies.calc x s.0 c.reply_to.new.calc) c.line.ensures s.1 in
-    let more = goes_line h.0 a.0 (held c.args.sink.now) (held c.loop-replies.sink) c.loop-replies.calc c.reply_to.new.calc c.loop-replies.reader new c.loop-replies.replies c.reply_to.new.replies s.0
+    let size = size_given h.0 a.0 c.loop-calc.reader new h.2.size a.2 in
+    let step : Step c.loop-calc.calc new.line s.0 c.reply_to.new.calc = subst (λ (x : List ℕ). Step c.loop-calc.calc x s.0 c.reply_to.new.calc) c.line.ensures s.1 in
+    let more = goes_line h.0 a.0 (held c.args.sink.now) (held c.loop-calc.sink) c.loop-calc.calc c.reply_to.new.calc c.loop-calc.reader new c.loop-calc.replies c.reply_to.new.replies s.0
     h.2 a.2 e.still a.3 step s.2 in
     let given : left c.args.source.now ≡ prepend_known (h.0 ++ a.0) (left c.next.new.source) =
-    prepend_known-then h.0 a.0 (left c.args.source.now) (left c.loop-replies.source) (left c.next.new.source) h.1 a.1 in
+    prepend_known-then h.0 a.0 (left c.args.source.now) (left c.loop-calc.source) (left c.next.new.source) h.1 a.1 in
     let p = c.in-Err-Failed.ensures.partly in (
       h.0 ++ a.0,
       given,
       (
         omega (arith, few, size),
-        front_of_goes (h.0 ++ a.0) (held c.args.sink.now) (held c.loop-replies.sink) (held c.write_all.new.sink) c.reply_to.new.calc new c.reply_to.new.replies p.0 more
-            (p.1 ∙ ap (λ (x : List ℕ). append_known (held c.loop-replies.sink) (take p.0 x)) c.bytes.ensures),
+        front_of_goes (h.0 ++ a.0) (held c.args.sink.now) (held c.loop-calc.sink) (held c.write_all.new.sink) c.reply_to.new.calc new c.reply_to.new.replies p.0 more
+            (p.1 ∙ ap (λ (x : List ℕ). append_known (held c.loop-calc.sink) (take p.0 x)) c.bytes.ensures),
       ),
     )
 
 pub returns-in-Err-Memory-clause-outcome : goal.returns-in-Err-Memory-clause-outcome
 returns-in-Err-Memory-clause-outcome g c =
-    let h = c.loop-replies.invariant in
+    let h = c.loop-calc.invariant in
     let e = c.in-Line.ensures in
     let a = e.given in
     let left = g.S.Source.left in
@@ -194,25 +175,25 @@ returns-in-Err-Memory-clause-outcome g c =
     let new = c.next.new.self in
     let s = c.in-Ok-reply_to.ensures in
     let few = few_taken (Line ≡ TooLong) new.taken e.too_long (λ (i : Line ≡ TooLong). cc) in
-    let size = size_given h.0 a.0 c.loop-replies.reader new h.2.size a.2 in
-    let step : Step c.loop-replies.calc new.line s.0 c.reply_to.new.calc = subst (λ (x : List ℕ). Step c.loop-replies.calc x s.0 c.reply_to.new.calc) c.line.ensures s.1 in
-    let more = goes_line h.0 a.0 (held c.args.sink.now) (held c.loop-replies.sink) c.loop-replies.calc c.reply_to.new.calc c.loop-replies.reader new c.loop-replies.replies c.reply_to.new.replies s.0
+    let size = size_given h.0 a.0 c.loop-calc.reader new h.2.size a.2 in
+    let step : Step c.loop-calc.calc new.line s.0 c.reply_to.new.calc = subst (λ (x : List ℕ). Step c.loop-calc.calc x s.0 c.reply_to.new.calc) c.line.ensures s.1 in
+    let more = goes_line h.0 a.0 (held c.args.sink.now) (held c.loop-calc.sink) c.loop-calc.calc c.reply_to.new.calc c.loop-calc.reader new c.loop-calc.replies c.reply_to.new.replies s.0
     h.2 a.2 e.still a.3 step s.2 in
     let given : left c.args.source.now ≡ prepend_known (h.0 ++ a.0) (left c.next.new.source) =
-    prepend_known-then h.0 a.0 (left c.args.source.now) (left c.loop-replies.source) (left c.next.new.source) h.1 a.1 in
+    prepend_known-then h.0 a.0 (left c.args.source.now) (left c.loop-calc.source) (left c.next.new.source) h.1 a.1 in
     let p = c.in-Err-Memory.ensures.partly in (
       h.0 ++ a.0,
       given,
       (
         omega (arith, few, size),
-        front_of_goes (h.0 ++ a.0) (held c.args.sink.now) (held c.loop-replies.sink) (held c.write_all.new.sink) c.reply_to.new.calc new c.reply_to.new.replies p.0 more
-            (p.1 ∙ ap (λ (x : List ℕ). append_known (held c.loop-replies.sink) (take p.0 x)) c.bytes.ensures),
+        front_of_goes (h.0 ++ a.0) (held c.args.sink.now) (held c.loop-calc.sink) (held c.write_all.new.sink) c.reply_to.new.calc new c.reply_to.new.replies p.0 more
+            (p.1 ∙ ap (λ (x : List ℕ). append_known (held c.loop-calc.sink) (take p.0 x)) c.bytes.ensures),
       ),
     )
 
-pub loop-replies-preserved : goal.loop-replies-preserved
-loop-replies-preserved g c =
-    let h = c.loop-replies.invariant in
+pub loop-calc-preserved : goal.loop-calc-preserved
+loop-calc-preserved g c =
+    let h = c.loop-calc.invariant in
     let e = c.in-Line.ensures in
     let a = e.given in
     let left = g.S.Source.left in
@@ -220,12 +201,12 @@ loop-replies-preserved g c =
     let new = c.next.new.self in
     let s = c.in-Ok-reply_to.ensures in
     let few = few_taken (Line ≡ TooLong) new.taken e.too_long (λ (i : Line ≡ TooLong). cc) in
-    let size = size_given h.0 a.0 c.loop-replies.reader new h.2.size a.2 in
-    let step : Step c.loop-replies.calc new.line s.0 c.reply_to.new.calc = subst (λ (x : List ℕ). Step c.loop-replies.calc x s.0 c.reply_to.new.calc) c.line.ensures s.1 in
-    let more = goes_line h.0 a.0 (held c.args.sink.now) (held c.loop-replies.sink) c.loop-replies.calc c.reply_to.new.calc c.loop-replies.reader new c.loop-replies.replies c.reply_to.new.replies s.0
+    let size = size_given h.0 a.0 c.loop-calc.reader new h.2.size a.2 in
+    let step : Step c.loop-calc.calc new.line s.0 c.reply_to.new.calc = subst (λ (x : List ℕ). Step c.loop-calc.calc x s.0 c.reply_to.new.calc) c.line.ensures s.1 in
+    let more = goes_line h.0 a.0 (held c.args.sink.now) (held c.loop-calc.sink) c.loop-calc.calc c.reply_to.new.calc c.loop-calc.reader new c.loop-calc.replies c.reply_to.new.replies s.0
     h.2 a.2 e.still a.3 step s.2 in
     let given : left c.args.source.now ≡ prepend_known (h.0 ++ a.0) (left c.next.new.source) =
-    prepend_known-then h.0 a.0 (left c.args.source.now) (left c.loop-replies.source) (left c.next.new.source) h.1 a.1 in (
+    prepend_known-then h.0 a.0 (left c.args.source.now) (left c.loop-calc.source) (left c.next.new.source) h.1 a.1 in (
       h.0 ++ a.0,
       given,
       more,
@@ -235,3 +216,7 @@ loop-replies-preserved g c =
       h.6,
       few,
     )
+
+pub returns-in-End-clause-read_fault : goal.returns-in-End-clause-read_fault
+returns-in-End-clause-read_fault g c =
+    λ e. absurd (never_unread (at_end c.loop-calc.calc) c.loop-calc.replies.clean (g.W.Sink.held c.loop-calc.sink) (g.W.Sink.held c.end_script.new.sink) c.end_script.result c.end_script.ensures.closes e)

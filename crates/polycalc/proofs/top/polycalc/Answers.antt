@@ -1,8 +1,9 @@
 use Rattle.std.proofs.Common.{◌≡◌, ◌∙◌, sym, subst, List, ℕ}
-use Rattle.std.specs.Prelude.{Option}
+use Rattle.std.specs.Prelude.{Option, Some}
 use Rattle.polycalc.specs.Outcomes.{Outcome, IsAnswered}
+use Rattle.polycalc.specs.declared.job.Job.TheVariants as job
 use Rattle.polycalc.specs.declared.job.Job.{Job}
-use Rattle.polycalc.proofs.JobLaws.{one_job, answered, when_done, when_refused, when_unread, when_too_long, when_cut, never_usage, size_told}
+use Rattle.polycalc.proofs.JobLaws.{one_job, answered, sampled, when_done, when_refused, when_unread, when_too_long, when_cut, never_usage, size_told}
 use Rattle.polycalc.proofs.top.polycalc.Goals as goal
 
 pub returns-in-Some-clause-answered : goal.returns-in-Some-clause-answered
@@ -10,10 +11,25 @@ returns-in-Some-clause-answered g c = λ task script before words left held few 
     let o = c.do_job.ensures.outcome in
     let now = g.S.Source.left c.do_job.new.source in
     let new = g.W.Sink.held c.do_job.new.sink in
-    let same : c.in-Some.job ≡ task = one_job c.in-Some.job task (sym c.in-Some.ensures ∙ words) in
+    let same : c.in-Some.job ≡ task = one_job c.args.words.now c.in-Some.job task c.in-Some.ensures words in
     subst (λ (t : Job). IsAnswered t script before new c.do_job.result) same
     (answered c.runs_are_complete.ensures c.in-Some.job script before o.0 now new c.do_job.result (sym left ∙ o.1) few
     (subst (λ (h : Option (List ℕ)). Outcome c.in-Some.job o.0 now h new c.do_job.result) held o.2) (λ e. read (c.do_job.ensures.read_fault e)) (λ e. write (c.do_job.ensures.write_fault e)) memory)
+
+pub returns-in-Some-clause-sampled : goal.returns-in-Some-clause-sampled
+returns-in-Some-clause-sampled g c = λ n before words held write memory.
+    let o = c.do_job.ensures.outcome in
+    let now = g.S.Source.left c.do_job.new.source in
+    let new = g.W.Sink.held c.do_job.new.sink in
+    let same : c.in-Some.job ≡ job.Sample n = one_job c.args.words.now c.in-Some.job (job.Sample n) c.in-Some.ensures words in
+    sampled n before o.0 now new c.do_job.result
+    (subst (λ (t : Job). Outcome t o.0 now (Some before) new c.do_job.result) same (subst (λ (h : Option (List ℕ)). Outcome c.in-Some.job o.0 now h new c.do_job.result) held o.2)) (λ e. write (c.do_job.ensures.write_fault e)) memory
+
+pub returns-in-None-clause-sampled : goal.returns-in-None-clause-sampled
+returns-in-None-clause-sampled g c = λ n before words held write memory. absurd (c.in-None.ensures (job.Sample n) words)
+
+pub returns-in-Some-clause-unread : goal.returns-in-Some-clause-unread
+returns-in-Some-clause-unread g c = λ n words. c.do_job.ensures.unread n (one_job c.args.words.now c.in-Some.job (job.Sample n) c.in-Some.ensures words)
 
 pub returns-in-Some-clause-done : goal.returns-in-Some-clause-done
 returns-in-Some-clause-done g c =

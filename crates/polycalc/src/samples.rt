@@ -1,0 +1,141 @@
+//! The sample of a number of rows.
+ghost use Rattle.std.specs.Prelude.{◌≡◌, ◌+◌, ◌<◌, List, ℕ, [], length, Option, true, IfOk, OnOk};
+ghost use Rattle.row_core.specs.Range.{AllInRange};
+ghost use Rattle.poly_io.specs.Counts.{HasRisen};
+ghost use Rattle.poly_pair.specs.Polyhedra.{Polyhedron};
+ghost use Rattle.optimum.specs.Suprema.{SupAnswer};
+ghost use Rattle.calc_state.specs.Optima.{shown_values};
+ghost use Rattle.calc_state.specs.Questions.{line};
+ghost use Rattle.calc_state.specs.Step.{Reply};
+ghost use Rattle.polycalc.specs.Samples.{SamplesTo, GivesSample, difference, sample_text, maximum_text};
+ghost use Rattle.polycalc.specs.Replies.{with_reply};
+ghost use Rattle.polycalc.specs.Outcomes.{Outcome};
+ghost use Rattle.polycalc.specs.declared.job.Job.TheVariants as job;
+
+use crate::replies::Replies;
+use crate::status::Status;
+use gens_sys::GensSys;
+use optimum::{Sup, sup};
+use poly_io::{Sink, WriteAllErr, write_all};
+use poly_pair::laws::kept_is_pair;
+use poly_pair::{Poly, Topology};
+use reply_text::Text;
+use row_core::{ConvErr, Memory, OverKind, Overflow, PairOver, RowBuf, Steps};
+use sample_rows::sample_constraints;
+use std::alloc::Global;
+use std::sync::ledger::Ledger;
+
+/// The expression `B - A`, whose maximum is asked for.
+const DIFFERENCE: [i128; 4] = [-1, 1, 0, 0];
+
+/// Converts the sample of `n` rows, and writes its line, or that of an overflow.
+pub fn write_sample<W: Sink, L: Ledger>(
+    alloc: Global,
+    n: u32,
+    sink: &mut W,
+    steps: &mut Steps<L>,
+) -> Status
+    ensures outcome { (left : Option (List ℕ)) → Outcome (job.Sample n) [] left (W.held sink.old) (W.held sink.new) result }
+    ensures write_fault { result ≡ Status.WriteFault → HasRisen (W.faults sink.old) (W.faults sink.new) }
+{
+    let mut replies = Replies::new(alloc);
+    let Ok(()) = reply_to(alloc, n, steps, &mut replies) else {
+        return Status::Memory;
+    };
+    match write_all(sink, replies.bytes()) {
+        Ok(()) if replies.is_clean() => Status::Done,
+        Ok(()) => Status::Refused,
+        Err(WriteAllErr::Failed) => Status::WriteFault,
+        Err(WriteAllErr::Memory) => Status::Memory,
+    }
+}
+
+// The reply to the number of a sample.
+fn reply_to<L: Ledger>(
+    alloc: Global,
+    n: u32,
+    steps: &mut Steps<L>,
+    replies: &mut Replies,
+) -> Result<(), Memory>
+    ensures { OnOk result ((reply : Reply) × SamplesTo n reply × (replies.new ≡ with_reply replies.old reply)) }
+{
+    match sampled(alloc, n, steps) {
+        Ok(text) => replies.add_answer(&text),
+        Err(ConvErr::Overflow(over)) => replies.add_overflow(&over),
+        Err(ConvErr::Memory) => Err(Memory),
+    }
+}
+
+// The line of a sample.
+fn sampled<L: Ledger>(alloc: Global, n: u32, steps: &mut Steps<L>) -> Result<Text, ConvErr>
+    ensures { GivesSample n result }
+{
+    kept_is_pair();
+    let Ok(system) = sample_constraints(alloc, n as usize) else {
+        return Err(ConvErr::Memory);
+    };
+    let made = match Poly::from_cons(alloc, Topology::Closed, &system, steps) {
+        Ok(made) => made,
+        Err(cause) => return Err(cause),
+    };
+    let _ = (made.dim(), made.cons().dim(), made.gens().dim());
+    match sup(&made, &DIFFERENCE) {
+        Ok(maximum) => Ok(sample_line(alloc, n, &made, maximum)?),
+        Err(pair) => Err(ConvErr::Overflow(shown(alloc, &DIFFERENCE, made.gens(), pair)?)),
+    }
+}
+
+// The line of a sample whose polyhedron and maximum are found.
+fn sample_line(alloc: Global, n: u32, made: &Poly, maximum: Sup) -> Result<Text, Memory>
+    ensures { IfOk result (λ text. text ≡ line (sample_text n (length made.now.cons.list) (length made.now.gens.list) maximum)) }
+{
+    let mut text = Text::new(alloc);
+    text.push(b"sample ")?;
+    text.push_unsigned(n as u64)?;
+    text.push(b" constraints ")?;
+    text.push_unsigned(made.cons().len() as u64)?;
+    text.push(b" generators ")?;
+    text.push_unsigned(made.gens().len() as u64)?;
+    text.push(b" max ")?;
+    text.push(maximum_text(alloc, maximum)?.bytes())?;
+    text.push(b"\n")?;
+    Ok(text)
+}
+
+// A maximum.
+fn maximum_text(alloc: Global, maximum: Sup) -> Result<Text, Memory>
+    ensures { IfOk result (λ text. text ≡ maximum_text maximum) }
+{
+    let mut text = Text::new(alloc);
+    match maximum {
+        Sup::Empty => text.push(b"empty")?,
+        Sup::Unbounded => text.push(b"unbounded")?,
+        Sup::At { num, den, .. } => {
+            text.push_signed(num)?;
+            text.push(b"/")?;
+            text.push_signed(den)?;
+        }
+    }
+    Ok(text)
+}
+
+// The rows of a pair that leaves the range: the expression and a generator, or two generators.
+fn shown(alloc: Global, row: &[i128], gens: &GensSys, pair: PairOver) -> Result<Overflow, Memory>
+    requires in_range { AllInRange row.now }
+    requires narrow { length row.now ≡ 4 }
+    requires leaves { SupAnswer true row.now gens.now (Err pair) }
+    ensures { IfOk result (λ over. over ≡ shown_values row.now gens.now pair) }
+{
+    let right = RowBuf::new(alloc, gens.row(pair.right))?;
+    let left = match pair.kind {
+        OverKind::Compare => RowBuf::new(alloc, gens.row(pair.left))?,
+        OverKind::Dot | OverKind::Combine | OverKind::Scale => RowBuf::new(alloc, row)?,
+    };
+    Ok(Overflow {
+        kind: pair.kind,
+        step: 0,
+        left,
+        right,
+        column: pair.column,
+    })
+}
