@@ -40,6 +40,10 @@ row_in row.Elapse = (29, omega arith, refl)
 row_in row.Widen = (30, omega arith, refl)
 row_in row.Read = (31, omega arith, refl)
 row_in row.Write = (32, omega arith, refl)
+row_in row.System = (33, omega arith, refl)
+row_in row.Init = (34, omega arith, refl)
+row_in row.Trans = (35, omega arith, refl)
+row_in row.Fixpoint = (36, omega arith, refl)
 
 head_or_tail : (x : Row) (xs : List Row) (r : Row) → Contains (x ∷ xs) r → (x ≡ r) ⊎ Contains xs r
 head_or_tail x xs r (zero, h, e) = inl e

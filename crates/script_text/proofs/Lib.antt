@@ -8,6 +8,10 @@ mod FileTable
 mod GensTable
 mod HasTable
 mod ImageTable
+mod NameNatNameTable
+mod NameNatNatNameTable
+mod NameNatNatTable
+mod NameNatPrefixTable
 mod NoWordsTable
 mod NothingTable
 mod NumberLemmas

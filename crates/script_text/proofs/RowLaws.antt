@@ -8,7 +8,7 @@ use Rattle.script_text.specs.Rows.{shape_of, row_form}
 use Rattle.script_text.specs.Words.{word_of}
 use Rattle.script_text.specs.Laws.{IsRowRead}
 use Rattle.script_text.specs.declared.row.Row.{Row}
-use Rattle.script_text.specs.declared.row.Row.TheVariants.{Nothing, Cons, Gens, Universe, Empty, Copy, Drop, Add, Addgen, Has, Size, Print, Names, Meet, Hull, Closure, Contains, Equal, Disjoint, Isempty, Relation, Max, Min, Image, Preimage, Embed, Project, Remove, Concat, Elapse, Widen, Read, Write}
+use Rattle.script_text.specs.declared.row.Row.TheVariants.{Nothing, Cons, Gens, Universe, Empty, Copy, Drop, Add, Addgen, Has, Size, Print, Names, Meet, Hull, Closure, Contains, Equal, Disjoint, Isempty, Relation, Max, Min, Image, Preimage, Embed, Project, Remove, Concat, Elapse, Widen, Read, Write, System, Init, Trans, Fixpoint}
 use Rattle.script_text.proofs.RestLaws.{is_good, good, fields_law, first_law, nothing_law}
 
 abbrev pub IsGoodRow : Row → Type 0
@@ -36,6 +36,7 @@ row_named w =
     else if bytes_eq w (codes "max") then Max else if bytes_eq w (codes "min") then Min else if bytes_eq w (codes "image") then Image else if bytes_eq w (codes "preimage") then Preimage
     else if bytes_eq w (codes "embed") then Embed else if bytes_eq w (codes "project") then Project else if bytes_eq w (codes "remove") then Remove else if bytes_eq w (codes "concat") then Concat
     else if bytes_eq w (codes "elapse") then Elapse else if bytes_eq w (codes "widen") then Widen else if bytes_eq w (codes "read") then Read else if bytes_eq w (codes "write") then Write
+    else if bytes_eq w (codes "system") then System else if bytes_eq w (codes "init") then Init else if bytes_eq w (codes "trans") then Trans else if bytes_eq w (codes "fixpoint") then Fixpoint
     else Nothing
 
 pub named_right : (row : Row) → row_named (shape_of row).command ≡ row

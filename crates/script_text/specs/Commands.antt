@@ -71,3 +71,7 @@ command_of row.Elapse f = command.Elapse f.first f.second f.third
 command_of row.Widen f = command.Widen f.first f.second f.third
 command_of row.Read f = command.Read f.first (is_word f.second (codes "ext"))
 command_of row.Write f = command.Write f.first (is_word f.second (codes "ext"))
+command_of row.System f = command.System f.first (number_of f.second) (number_of f.third)
+command_of row.Init f = command.Init f.first (number_of f.second) f.third
+command_of row.Trans f = command.Trans f.first (number_of f.second) (number_of f.third) f.fourth
+command_of row.Fixpoint f = command.Fixpoint f.first (number_of f.second) f.third

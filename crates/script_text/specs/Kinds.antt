@@ -1,6 +1,6 @@
 -- The rows by what stands behind their command words.
 use Rattle.script_text.specs.declared.row.Row.{Row}
-use Rattle.script_text.specs.declared.row.Row.TheVariants.{Drop, Size, Isempty, Add, Addgen, Has, Relation, Max, Min, Copy, Closure, Contains, Equal, Disjoint, Meet, Hull, Concat, Elapse, Widen, Universe, Empty, Cons, Gens, Embed, Project, Image, Preimage, Read, Write}
+use Rattle.script_text.specs.declared.row.Row.TheVariants.{Drop, Size, Isempty, Add, Addgen, Has, Relation, Max, Min, Copy, Closure, Contains, Equal, Disjoint, Meet, Hull, Concat, Elapse, Widen, Universe, Empty, Cons, Gens, Embed, Project, Image, Preimage, Read, Write, Init, Fixpoint}
 
 -- one name stands behind the command word
 abbrev pub IsOneName : Row → Type 0
@@ -66,3 +66,9 @@ abbrev pub IsNameFormat : Row → Type 0
 IsNameFormat Read = Unit {0}
 IsNameFormat Write = Unit {0}
 IsNameFormat _ = ⊥
+
+-- a name, a number and a name stand behind it
+abbrev pub IsNameNumberName : Row → Type 0
+IsNameNumberName Init = Unit {0}
+IsNameNumberName Fixpoint = Unit {0}
+IsNameNumberName _ = ⊥

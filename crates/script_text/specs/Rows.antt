@@ -1,9 +1,9 @@
 -- The lines of the commands.
 use Rattle.std.specs.Prelude.{◌≡◌, ℕ, List, [], ◌∷◌, Option, Some, None, codes}
 use Rattle.grammar.specs.Form.{Form, word}
-use Rattle.grammar.specs.Grammar.{◌·◌, ◌∣◌, symbol, blanks, gap, perhaps, alone, comment, name, nat, var, vars, expr, frac, con, cons, point, gens}
+use Rattle.grammar.specs.Grammar.{◌·◌, ◌∣◌, symbol, blanks, gap, perhaps, alone, comment, name_of, name, nat, var, vars, expr, frac, con, cons, point, gens}
 use Rattle.script_text.specs.declared.row.Row.{Row}
-use Rattle.script_text.specs.declared.row.Row.TheVariants.{Nothing, Cons, Gens, Universe, Empty, Copy, Drop, Add, Addgen, Has, Size, Print, Names, Meet, Hull, Closure, Contains, Equal, Disjoint, Isempty, Relation, Max, Min, Image, Preimage, Embed, Project, Remove, Concat, Elapse, Widen, Read, Write}
+use Rattle.script_text.specs.declared.row.Row.TheVariants.{Nothing, Cons, Gens, Universe, Empty, Copy, Drop, Add, Addgen, Has, Size, Print, Names, Meet, Hull, Closure, Contains, Equal, Disjoint, Isempty, Relation, Max, Min, Image, Preimage, Embed, Project, Remove, Concat, Elapse, Widen, Read, Write, System, Init, Trans, Fixpoint}
 
 -- a line: its command word, what each word behind it may be, and the part behind a colon
 pub record Shape : Type 0 where
@@ -44,6 +44,10 @@ side = word (codes "cons") ∣ word (codes "gens")
 -- which of the two kinds of files
 abbrev pub format : Form
 format = word (codes "ine") ∣ word (codes "ext")
+
+-- a name of at most 30 bytes
+abbrev pub prefix : Form
+prefix = name_of 29
 
 -- a command word and words behind it
 abbrev pub plain : List ℕ → List Form → Shape
@@ -88,6 +92,10 @@ shape_of Elapse = plain (codes "elapse") (name ∷ name ∷ name ∷ [])
 shape_of Widen = plain (codes "widen") (name ∷ name ∷ name ∷ [])
 shape_of Read = plain (codes "read") (name ∷ format ∷ [])
 shape_of Write = plain (codes "write") (name ∷ format ∷ [])
+shape_of System = plain (codes "system") (name ∷ nat ∷ nat ∷ [])
+shape_of Init = plain (codes "init") (name ∷ nat ∷ name ∷ [])
+shape_of Trans = plain (codes "trans") (name ∷ nat ∷ nat ∷ name ∷ [])
+shape_of Fixpoint = plain (codes "fixpoint") (name ∷ nat ∷ prefix ∷ [])
 
 -- the word is the row's command word; a blank line has none
 abbrev pub IsCommandWord : Row → List ℕ → Type 0
@@ -101,4 +109,4 @@ row_form row = line_form (shape_of row)
 
 -- all rows
 abbrev pub rows : List Row
-rows = Nothing ∷ Cons ∷ Gens ∷ Universe ∷ Empty ∷ Copy ∷ Drop ∷ Add ∷ Addgen ∷ Has ∷ Size ∷ Print ∷ Names ∷ Meet ∷ Hull ∷ Closure ∷ Contains ∷ Equal ∷ Disjoint ∷ Isempty ∷ Relation ∷ Max ∷ Min ∷ Image ∷ Preimage ∷ Embed ∷ Project ∷ Remove ∷ Concat ∷ Elapse ∷ Widen ∷ Read ∷ Write ∷ []
+rows = Nothing ∷ Cons ∷ Gens ∷ Universe ∷ Empty ∷ Copy ∷ Drop ∷ Add ∷ Addgen ∷ Has ∷ Size ∷ Print ∷ Names ∷ Meet ∷ Hull ∷ Closure ∷ Contains ∷ Equal ∷ Disjoint ∷ Isempty ∷ Relation ∷ Max ∷ Min ∷ Image ∷ Preimage ∷ Embed ∷ Project ∷ Remove ∷ Concat ∷ Elapse ∷ Widen ∷ Read ∷ Write ∷ System ∷ Init ∷ Trans ∷ Fixpoint ∷ []

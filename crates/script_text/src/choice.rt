@@ -10,7 +10,7 @@ use crate::shapes::{nothing_verdict, rest_verdict};
 use grammar::{Verdict, column_of};
 use std::alloc::{AllocError, Global};
 
-pub const ROWS: [Row; 33] = [
+pub const ROWS: [Row; 37] = [
     Row::Nothing,
     Row::Cons,
     Row::Gens,
@@ -44,6 +44,10 @@ pub const ROWS: [Row; 33] = [
     Row::Widen,
     Row::Read,
     Row::Write,
+    Row::System,
+    Row::Init,
+    Row::Trans,
+    Row::Fixpoint,
 ];
 
 /// The row that the command word names.
@@ -83,6 +87,10 @@ fn named(word: &[u8]) -> Option<Row>
         b"widen" => Some(Row::Widen),
         b"read" => Some(Row::Read),
         b"write" => Some(Row::Write),
+        b"system" => Some(Row::System),
+        b"init" => Some(Row::Init),
+        b"trans" => Some(Row::Trans),
+        b"fixpoint" => Some(Row::Fixpoint),
         _ => None,
     }
 }

@@ -188,4 +188,29 @@ pub enum Command {
         p: Text,
         form: bool,
     },
+    /// `system OUT N L`
+    System {
+        out: Text,
+        n: u64,
+        l: u64,
+    },
+    /// `init S LOC P`
+    Init {
+        s: Text,
+        loc: u64,
+        p: Text,
+    },
+    /// `trans S LOC LOC2 R`
+    Trans {
+        s: Text,
+        loc: u64,
+        loc2: u64,
+        r: Text,
+    },
+    /// `fixpoint S DELAY PREFIX`
+    Fixpoint {
+        s: Text,
+        delay: u64,
+        prefix: Text,
+    },
 }

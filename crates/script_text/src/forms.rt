@@ -37,6 +37,15 @@ const SIDE: Re<'static> = Re::Or(&Re::Word(b"cons"), &Re::Word(b"gens"));
 
 const FORMAT: Re<'static> = Re::Or(&Re::Word(b"ine"), &Re::Word(b"ext"));
 
+const LOWER: Re<'static> = Re::Byte(b'a', b'z');
+
+const IN_NAME: Re<'static> = Re::Or(
+    &LOWER,
+    &Re::Or(&Re::Byte(b'0', b'9'), &Re::Byte(b'_', b'_')),
+);
+
+const PREFIX: Re<'static> = Re::Then(&LOWER, &Re::UpTo(29, &IN_NAME));
+
 const PERHAPS_COMMENT: Re<'static> = Re::Or(&Re::Word(b""), &Re::Named(Rule::Comment));
 
 const NOTHING_LINE: Re<'static> = seq!(BLANKS, PERHAPS_COMMENT);
@@ -105,6 +114,14 @@ const READ_LINE: Re<'static> = line!(b"read", NAME, FORMAT);
 
 const WRITE_LINE: Re<'static> = line!(b"write", NAME, FORMAT);
 
+const SYSTEM_LINE: Re<'static> = line!(b"system", NAME, NAT, NAT);
+
+const INIT_LINE: Re<'static> = line!(b"init", NAME, NAT, NAME);
+
+const TRANS_LINE: Re<'static> = line!(b"trans", NAME, NAT, NAT, NAME);
+
+const FIXPOINT_LINE: Re<'static> = line!(b"fixpoint", NAME, NAT, PREFIX);
+
 /// The form of the row's lines.
 pub fn form_of(row: Row) -> Re<'static>
     ensures { shape result ≡ row_form row }
@@ -143,5 +160,9 @@ pub fn form_of(row: Row) -> Re<'static>
         Row::Widen => WIDEN_LINE,
         Row::Read => READ_LINE,
         Row::Write => WRITE_LINE,
+        Row::System => SYSTEM_LINE,
+        Row::Init => INIT_LINE,
+        Row::Trans => TRANS_LINE,
+        Row::Fixpoint => FIXPOINT_LINE,
     }
 }

@@ -3,7 +3,7 @@ ghost use Rattle.std.specs.Prelude.{◌≡◌, ℕ, List, ◌∷◌, length, tak
 ghost use Rattle.term_text.specs.Reading.{is_digit, is_upper};
 ghost use Rattle.script_text.specs.Commands.{command_of, number_of, is_word, is_strict, begins_strict, part_from};
 ghost use Rattle.script_text.specs.Fields.{fields_in};
-ghost use Rattle.script_text.specs.Kinds.{IsOneName, IsNameAndPart, IsTwoNames, IsThreeNames, IsSpace, IsSpaceAndPart, IsTwoNamesNumber, IsTwoNamesVariable, IsNameFormat};
+ghost use Rattle.script_text.specs.Kinds.{IsOneName, IsNameAndPart, IsTwoNames, IsThreeNames, IsSpace, IsSpaceAndPart, IsTwoNamesNumber, IsTwoNamesVariable, IsNameFormat, IsNameNumberName};
 ghost use Rattle.script_text.specs.Variables.{variable_of, variables_of};
 ghost use Rattle.script_text.specs.Words.{part_of};
 ghost use Rattle.script_text.specs.declared.row.Row.TheVariants as row;
@@ -272,6 +272,25 @@ fn of_name_format(alloc: Global, row: Row, rest: &[u8]) -> Result<Command, Memor
     })
 }
 
+/// The command of a row with a name, a number and a name.
+fn of_name_number_name(alloc: Global, row: Row, rest: &[u8]) -> Result<Command, Memory>
+    requires { IsNameNumberName row }
+    ensures { IfOk result (λ c. c ≡ command_of row (fields_in rest.now)) }
+{
+    let (first, second, third) = three_words(rest);
+    let s = text(alloc, first)?;
+    let n = number(second);
+    let last = text(alloc, third)?;
+    Ok(match row {
+        Row::Init => Command::Init { s, loc: n, p: last },
+        _ => Command::Fixpoint {
+            s,
+            delay: n,
+            prefix: last,
+        },
+    })
+}
+
 /// `print`, with a side and a name.
 fn print_command(alloc: Global, rest: &[u8]) -> Result<Command, Memory>
     ensures { IfOk result (λ c. c ≡ command_of row.Print (fields_in rest.now)) }
@@ -292,6 +311,32 @@ fn remove_command(alloc: Global, rest: &[u8]) -> Result<Command, Memory>
         out: text(alloc, first)?,
         p: text(alloc, second)?,
         vars: variables(alloc, part_of(rest))?,
+    })
+}
+
+/// `system`, with a name and two numbers.
+fn system_command(alloc: Global, rest: &[u8]) -> Result<Command, Memory>
+    ensures { IfOk result (λ c. c ≡ command_of row.System (fields_in rest.now)) }
+{
+    let (first, second, third) = three_words(rest);
+    Ok(Command::System {
+        out: text(alloc, first)?,
+        n: number(second),
+        l: number(third),
+    })
+}
+
+/// `trans`, with a name, two numbers and a name.
+fn trans_command(alloc: Global, rest: &[u8]) -> Result<Command, Memory>
+    ensures { IfOk result (λ c. c ≡ command_of row.Trans (fields_in rest.now)) }
+{
+    let (first, behind) = split_word(rest);
+    let (second, third, fourth) = three_words(behind);
+    Ok(Command::Trans {
+        s: text(alloc, first)?,
+        loc: number(second),
+        loc2: number(third),
+        r: text(alloc, fourth)?,
     })
 }
 
@@ -317,7 +362,10 @@ pub fn command_of(alloc: Global, row: Row, rest: &[u8]) -> Result<Command, Memor
         Row::Embed | Row::Project => of_two_names_number(alloc, row, rest),
         Row::Image | Row::Preimage => of_two_names_variable(alloc, row, rest),
         Row::Read | Row::Write => of_name_format(alloc, row, rest),
+        Row::Init | Row::Fixpoint => of_name_number_name(alloc, row, rest),
         Row::Print => print_command(alloc, rest),
         Row::Remove => remove_command(alloc, rest),
+        Row::System => system_command(alloc, rest),
+        Row::Trans => trans_command(alloc, rest),
     }
 }

@@ -69,4 +69,12 @@ pub enum Row {
     Read,
     /// `write`
     Write,
+    /// `system`
+    System,
+    /// `init`
+    Init,
+    /// `trans`
+    Trans,
+    /// `fixpoint`
+    Fixpoint,
 }

@@ -4,8 +4,9 @@ ghost use Rattle.script_text.specs.Rows.{nothing_form, rest_form, shape_of};
 
 use crate::row::Row;
 use crate::tables::{
-    ADD, ADDGEN, CONS, FILE, GENS, HAS, IMAGE, NO_WORDS, NOTHING, ONE_NAME, OPTIMUM, PRINT,
-    RELATION, REMOVE, SPACE, THREE_NAMES, TWO_NAMES, TWO_NAMES_NAT,
+    ADD, ADDGEN, CONS, FILE, GENS, HAS, IMAGE, NAME_NAT_NAME, NAME_NAT_NAT, NAME_NAT_NAT_NAME,
+    NAME_NAT_PREFIX, NO_WORDS, NOTHING, ONE_NAME, OPTIMUM, PRINT, RELATION, REMOVE, SPACE,
+    THREE_NAMES, TWO_NAMES, TWO_NAMES_NAT,
 };
 use grammar::Verdict;
 
@@ -48,6 +49,10 @@ pub fn rest_verdict(row: Row, rest: &[u8]) -> Verdict
         Row::Widen => THREE_NAMES.column(rest),
         Row::Read => FILE.column(rest),
         Row::Write => FILE.column(rest),
+        Row::System => NAME_NAT_NAT.column(rest),
+        Row::Init => NAME_NAT_NAME.column(rest),
+        Row::Trans => NAME_NAT_NAT_NAME.column(rest),
+        Row::Fixpoint => NAME_NAT_PREFIX.column(rest),
     }
 }
 

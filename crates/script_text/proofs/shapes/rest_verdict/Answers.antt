@@ -1,5 +1,5 @@
 use Rattle.script_text.specs.Rows.{rest_form, shape_of}
-use Rattle.script_text.specs.declared.row.Row.TheVariants.{Nothing, Cons, Gens, Universe, Empty, Copy, Drop, Add, Addgen, Has, Size, Print, Names, Meet, Hull, Closure, Contains, Equal, Disjoint, Isempty, Relation, Max, Min, Image, Preimage, Embed, Project, Remove, Concat, Elapse, Widen, Read, Write}
+use Rattle.script_text.specs.declared.row.Row.TheVariants.{Nothing, Cons, Gens, Universe, Empty, Copy, Drop, Add, Addgen, Has, Size, Print, Names, Meet, Hull, Closure, Contains, Equal, Disjoint, Isempty, Relation, Max, Min, Image, Preimage, Embed, Project, Remove, Concat, Elapse, Widen, Read, Write, System, Init, Trans, Fixpoint}
 use Rattle.script_text.proofs.AddTable.{add_decides}
 use Rattle.script_text.proofs.AddgenTable.{addgen_decides}
 use Rattle.script_text.proofs.ConsTable.{cons_decides}
@@ -17,6 +17,10 @@ use Rattle.script_text.proofs.ImageTable.{image_decides}
 use Rattle.script_text.proofs.TwoNamesNatTable.{two_names_nat_decides}
 use Rattle.script_text.proofs.RemoveTable.{remove_decides}
 use Rattle.script_text.proofs.FileTable.{file_decides}
+use Rattle.script_text.proofs.NameNatNatTable.{name_nat_nat_decides}
+use Rattle.script_text.proofs.NameNatNameTable.{name_nat_name_decides}
+use Rattle.script_text.proofs.NameNatNatNameTable.{name_nat_nat_name_decides}
+use Rattle.script_text.proofs.NameNatPrefixTable.{name_nat_prefix_decides}
 use Rattle.script_text.proofs.shapes.rest_verdict.Goals as goal
 
 pub returns-in-Nothing : goal.returns-in-Nothing
@@ -117,3 +121,15 @@ returns-in-Read c = rw c.in-Read.is (c.column-in-Read.ensures (rest_form (shape_
 
 pub returns-in-Write : goal.returns-in-Write
 returns-in-Write c = rw c.in-Write.is (c.column-in-Write.ensures (rest_form (shape_of Write)) file_decides)
+
+pub returns-in-System : goal.returns-in-System
+returns-in-System c = rw c.in-System.is (c.column-in-System.ensures (rest_form (shape_of System)) name_nat_nat_decides)
+
+pub returns-in-Init : goal.returns-in-Init
+returns-in-Init c = rw c.in-Init.is (c.column-in-Init.ensures (rest_form (shape_of Init)) name_nat_name_decides)
+
+pub returns-in-Trans : goal.returns-in-Trans
+returns-in-Trans c = rw c.in-Trans.is (c.column-in-Trans.ensures (rest_form (shape_of Trans)) name_nat_nat_name_decides)
+
+pub returns-in-Fixpoint : goal.returns-in-Fixpoint
+returns-in-Fixpoint c = rw c.in-Fixpoint.is (c.column-in-Fixpoint.ensures (rest_form (shape_of Fixpoint)) name_nat_prefix_decides)
