@@ -15,6 +15,7 @@ mod ReadingLemmas
 mod SaysOnce
 pub mod StepLemmas
 mod StrictTexts
+mod SystemLemmas
 mod TableLemmas
 mod WideningLemmas
 mod TextFaults

@@ -10,6 +10,8 @@ pub mod Optima
 pub mod Affine
 pub mod Widening
 pub mod Files
+pub mod Systems
+pub mod Changes
 pub mod Meanings
 pub mod State
 pub mod Step

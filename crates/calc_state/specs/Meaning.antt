@@ -3,9 +3,10 @@ use Rattle.std.specs.Prelude.{◌≡◌, ◌≢◌, ℕ, ◌<◌, List, Bool, Op
 use Rattle.row_core.specs.declared.errors.Overflow.{Overflow}
 use Rattle.reply_text.specs.declared.faults.Fault.TheVariants as fault
 use Rattle.poly_pair.specs.Polyhedra.{Polyhedron}
+use Rattle.trans_sys.specs.Systems.{TransitionSystem}
 use Rattle.calc_state.specs.declared.entry.Entry.TheVariants as entry
 use Rattle.calc_state.specs.declared.change.Change.{Change}
-use Rattle.calc_state.specs.declared.change.Change.TheVariants.{Says, Puts, TakesOut}
+use Rattle.calc_state.specs.declared.change.Change.TheVariants.{Says, Puts, PutsAll, TakesOut}
 use Rattle.calc_state.specs.Table.{Table, HasNoRoom}
 use Rattle.calc_state.specs.Order.{Conditions}
 
@@ -44,6 +45,11 @@ on_two None q meaning = unknown
 on_two (Some p) None meaning = unknown
 on_two (Some p) (Some q) meaning = meaning p q
 
+-- the command reads a transition system
+abbrev pub on_system : Option TransitionSystem → (TransitionSystem → Meaning) → Meaning
+on_system None meaning = unknown
+on_system (Some s) meaning = meaning s
+
 -- two operands have one topology and one dimension
 abbrev pub alike : Polyhedron → Polyhedron → Conditions → Conditions
 alike p q others fault.TopologyMismatch = p.topology ≢ q.topology
@@ -70,6 +76,16 @@ IsSaid lines other = ⊥
 abbrev pub IsPut : List ℕ → (Polyhedron → Type 0) → Change → Type 0
 IsPut out Is (Puts name (entry.Poly r)) = (name ≡ out) × Is r
 IsPut out Is other = ⊥
+
+-- a transition system with this property is put under the name
+abbrev pub IsSystemPut : List ℕ → (TransitionSystem → Type 0) → Change → Type 0
+IsSystemPut out Is (Puts name (entry.System s)) = (name ≡ out) × Is s
+IsSystemPut out Is other = ⊥
+
+-- polyhedra with this property are put under the numbered names
+abbrev pub AreAllPut : List ℕ → (List Polyhedron → Type 0) → Change → Type 0
+AreAllPut out Are (PutsAll prefix sets) = (prefix ≡ out) × Are sets.items
+AreAllPut out Are other = ⊥
 
 -- this name is taken out
 abbrev pub IsTakenOut : List ℕ → Change → Type 0

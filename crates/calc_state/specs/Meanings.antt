@@ -3,15 +3,16 @@ use Rattle.std.specs.Prelude.{[], Bool, true, false}
 use Rattle.poly_pair.specs.declared.topology.Topology.{Topology}
 use Rattle.poly_pair.specs.declared.topology.Topology.TheVariants.{Closed, Nnc}
 use Rattle.script_text.specs.declared.command.Command.{Command}
-use Rattle.script_text.specs.declared.command.Command.TheVariants.{Nothing, Cons, Gens, Universe, Empty, Copy, Drop, Add, Addgen, Has, Size, Print, Names, Meet, Hull, Closure, Contains, Equal, Disjoint, Isempty, Relation, Max, Min, Embed, Project, Concat, Elapse, Image, Preimage, Remove, Widen, Read, Write}
-use Rattle.calc_state.specs.Table.{Table, entry_of, poly_of}
-use Rattle.calc_state.specs.Meaning.{Meaning, on_one, on_two}
+use Rattle.script_text.specs.declared.command.Command.TheVariants.{Nothing, Cons, Gens, Universe, Empty, Copy, Drop, Add, Addgen, Has, Size, Print, Names, Meet, Hull, Closure, Contains, Equal, Disjoint, Isempty, Relation, Max, Min, Embed, Project, Concat, Elapse, Image, Preimage, Remove, Widen, Read, Write, System, Init, Trans, Fixpoint}
+use Rattle.calc_state.specs.Table.{Table, entry_of, poly_of, system_of}
+use Rattle.calc_state.specs.Meaning.{Meaning, on_one, on_two, on_system}
 use Rattle.calc_state.specs.Makers.{cons, gens, universe, empty, copy, drop_of, add, addgen}
 use Rattle.calc_state.specs.Questions.{says, has, size, print, names}
 use Rattle.calc_state.specs.Optima.{relation, bound}
 use Rattle.calc_state.specs.Lattice.{meet, hull, closure, contains, equal, disjoint, isempty}
 use Rattle.calc_state.specs.Widening.{widen}
 use Rattle.calc_state.specs.Files.{write}
+use Rattle.calc_state.specs.Systems.{system, init, trans, fixpoint}
 use Rattle.calc_state.specs.Affine.{embed, project, concat, elapse, image, preimage, remove}
 
 -- the topology of a line, by whether its word is nnc
@@ -54,3 +55,7 @@ meaning table (Remove out p vars) = on_one (poly_of table p) (remove table out v
 meaning table (Widen out p q) = on_two (poly_of table p) (poly_of table q) (widen table out)
 meaning table (Read out form) = says []
 meaning table (Write p form) = on_one (poly_of table p) (write form)
+meaning table (System out n l) = system table out n l
+meaning table (Init s location p) = on_system (system_of table s) (λ found. on_one (poly_of table p) (init s location found))
+meaning table (Trans s source target r) = on_system (system_of table s) (λ found. on_one (poly_of table r) (trans s source target found))
+meaning table (Fixpoint s delay prefix) = on_system (system_of table s) (fixpoint table delay prefix)

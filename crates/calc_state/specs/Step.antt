@@ -1,19 +1,20 @@
 -- The steps of the calculator.
-use Rattle.std.specs.Prelude.{◌≡◌, ℕ, List, [], ◌∷◌, ◌++◌, Result, Ok, Err, codes}
+use Rattle.std.specs.Prelude.{◌≡◌, ℕ, List, [], ◌∷◌, ◌++◌, Result, Ok, Err, All, codes}
 use Rattle.row_core.specs.declared.errors.Overflow.{Overflow}
 use Rattle.row_core.specs.declared.errors.Memory.{Memory}
 use Rattle.cons_sys.specs.Constraints as cons
 use Rattle.gens_sys.specs.Generators as gens
 use Rattle.poly_pair.specs.Polyhedra.{Polyhedron, IsKept}
+use Rattle.trans_sys.specs.Systems.{IsKeptSystem}
 use Rattle.reply_text.specs.declared.faults.Fault.{Fault}
 use Rattle.script_text.specs.declared.command.Command.{Command}
 use Rattle.script_text.specs.declared.command.Command.TheVariants.{Has, Size, Print, Names, Contains, Equal, Isempty, Relation, Max, Min, Write}
 use Rattle.calc_state.specs.declared.entry.Entry.TheVariants as entry
 use Rattle.calc_state.specs.declared.change.Change.{Change}
-use Rattle.calc_state.specs.declared.change.Change.TheVariants.{Says, Puts, TakesOut}
+use Rattle.calc_state.specs.declared.change.Change.TheVariants.{Says, Puts, PutsAll, TakesOut}
 use Rattle.calc_state.specs.declared.refusal.StepErr.{StepErr}
 use Rattle.calc_state.specs.declared.refusal.StepErr.TheVariants as err
-use Rattle.calc_state.specs.Table.{Table, put, without}
+use Rattle.calc_state.specs.Table.{Table, put, put_each, numbered_sets, without}
 use Rattle.calc_state.specs.Order.{IsFirst, Passes}
 use Rattle.calc_state.specs.Meaning.{Meaning}
 use Rattle.calc_state.specs.Meanings.{meaning}
@@ -47,6 +48,7 @@ lines_of other = ok_line
 abbrev pub after : Table → Change → Table
 after table (Says text) = table
 after table (Puts name e) = put table name e
+after table (PutsAll prefix sets) = put_each table (numbered_sets prefix 0 sets.items)
 after table (TakesOut name) = without table name
 
 -- the change is made and its lines are given, or memory ran out and the table is as before
@@ -60,9 +62,11 @@ pub record IsProper (p : Polyhedron) : Type 0 where
   pub cons : cons.FitDimension p.cons
   pub gens : gens.FitDimension p.gens
 
--- the polyhedron that a change puts is such a one
+-- each polyhedron that a change puts is such a one, and a transition system keeps what each keeps
 abbrev pub PutsProper : Change → Type 0
 PutsProper (Puts name (entry.Poly p)) = IsProper p
+PutsProper (Puts name (entry.System s)) = IsKeptSystem s
+PutsProper (PutsAll prefix sets) = All IsProper sets.items
 PutsProper other = Unit {0}
 
 -- the command is accepted: it does what it means, and these are its lines and the table after it
@@ -85,11 +89,15 @@ abbrev pub Performs : Table → Command → Reply → Table → Type 0
 Performs old command reply new = Means (meaning old command) old reply new
 
 -- what was given is such a reply with such a table after it, or memory ran out and the table is as before
+abbrev pub IsDone : Meaning → Table → Result (List ℕ) StepErr → Table → Type 0
+IsDone m old (Ok lines) new = Means m old (Answered lines) new
+IsDone m old (Err (err.Input fault)) new = Means m old (Refused fault) new
+IsDone m old (Err (err.Overflow over)) new = Means m old (Overflows over) new
+IsDone m old (Err err.Memory) new = new ≡ old
+
+-- the same of a command
 abbrev pub GivesCommand : Table → Command → Result (List ℕ) StepErr → Table → Type 0
-GivesCommand old command (Ok lines) new = Performs old command (Answered lines) new
-GivesCommand old command (Err (err.Input fault)) new = Performs old command (Refused fault) new
-GivesCommand old command (Err (err.Overflow over)) new = Performs old command (Overflows over) new
-GivesCommand old command (Err err.Memory) new = new ≡ old
+GivesCommand old command result new = IsDone (meaning old command) old result new
 
 -- the line is refused for this fault, or memory ran out
 abbrev pub IsRefusedFor : Fault → Result (List ℕ) StepErr → Type 0

@@ -20,6 +20,7 @@ mod perform;
 mod questions;
 mod reading;
 mod refusal;
+mod systems;
 mod texts;
 mod widenings;
 

@@ -3,6 +3,7 @@ ghost use Rattle.std.specs.Prelude.{◌≡◌};
 ghost use Rattle.script_text.specs.Line.{PartsMatch, PartsTold};
 ghost use Rattle.calc_state.specs.Meanings.{topology_of as named_topology, meaning};
 ghost use Rattle.calc_state.specs.Step.{IsPerformed};
+ghost use Rattle.calc_state.specs.Changes.{ChangesSystem};
 
 use crate::affine::{concat, elapse, embed, image, preimage, project, remove};
 use crate::change::Change;
@@ -13,6 +14,7 @@ use crate::names::Names;
 use crate::optima::{bound, relation};
 use crate::questions::{has, name_list, print, size};
 use crate::refusal::StepErr;
+use crate::systems::{fixpoint, system};
 use crate::widenings::widen;
 use poly_pair::Topology;
 use reply_text::{Fault, Text};
@@ -29,7 +31,7 @@ fn topology_of(nnc: bool) -> Topology
 }
 
 /// What a command does, or why it is refused.
-pub fn perform<L: Ledger>(
+pub fn change_of<L: Ledger>(
     alloc: Global,
     names: &Names,
     command: Command,
@@ -37,6 +39,7 @@ pub fn perform<L: Ledger>(
 ) -> Result<Change, StepErr>
     requires forms { PartsMatch command }
     requires told { PartsTold command }
+    requires whole { ¬ (ChangesSystem command) }
     ensures { IsPerformed (meaning names.now command) result }
 {
     match command {
@@ -128,5 +131,10 @@ pub fn perform<L: Ledger>(
             let (one, other) = (names.poly(p.bytes()), names.poly(q.bytes()));
             widen(alloc, names, out, one, other, steps)
         }
+        Command::System { out, n, l } => system(alloc, names, out, n, l),
+        Command::Fixpoint { s, delay, prefix } => {
+            fixpoint(alloc, names, names.system(s.bytes()), delay, prefix, steps)
+        }
+        Command::Init { .. } | Command::Trans { .. } => unreachable!(),
     }
 }

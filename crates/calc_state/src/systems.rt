@@ -1,0 +1,155 @@
+//! The commands that make and change transition systems, and the one that runs them.
+ghost use Rattle.std.specs.Prelude.{◌≡◌, ℕ, ◌*◌, ◌<◌, ◌≤◌, List, length, MatchBool, IfOk, OnOk, OnErr};
+ghost use Rattle.std.specs.Option.{option_copied};
+ghost use Rattle.poly_pair.specs.Polyhedra.{Polyhedron};
+ghost use Rattle.trans_sys.specs.Systems.{IsKeptSystem};
+ghost use Rattle.calc_state.specs.Meaning.{on_one, on_system};
+ghost use Rattle.calc_state.specs.Systems.{system as make_system, init, trans, fixpoint as run_system};
+ghost use Rattle.calc_state.specs.Changes.{changed, Fits, IsTested};
+ghost use Rattle.calc_state.specs.Step.{IsPerformed};
+
+use crate::change::Change;
+use crate::entry::Entry;
+use crate::names::Names;
+use crate::refusal::StepErr;
+use fixpoint::run;
+use poly_pair::{Poly, Topology};
+use reply_text::{Fault, Text};
+use row_core::{Memory, Steps};
+use std::alloc::Global;
+use std::sync::ledger::Ledger;
+use trans_sys::{MAX_LOCATIONS, System};
+
+/// The most variables of a state.
+const MAX_STATE_DIM: u64 = 15;
+
+/// The largest delay.
+const MAX_DELAY: u64 = 1_000_000;
+
+/// A change of a transition system.
+#[derive(Debug, Drop)]
+pub enum SystemChange {
+    /// The initial states of a location are replaced.
+    Initial(usize, Poly),
+    /// A transition is appended: its source, its target and its relation.
+    Transition(usize, usize, Poly),
+}
+
+impl SystemChange {
+    /// Makes the change. After want of memory the system is as before.
+    pub fn apply(self, system: &mut System) -> Result<(), Memory>
+        requires { Fits system.old self }
+        ensures ok { OnOk result (system.new ≡ changed system.old self) }
+        ensures kept { IsKeptSystem system.new }
+        ensures err { OnErr result (system.new ≡ system.old) }
+    {
+        let made = match self {
+            SystemChange::Initial(location, p) => {
+                system.set_init(location, p);
+                Ok(())
+            }
+            SystemChange::Transition(source, target, relation) => {
+                system.push_trans(source, target, relation)
+            }
+        };
+        let _ = system.dim();
+        made
+    }
+}
+
+/// The transition system in which no location has an initial state, without transitions.
+pub fn system(
+    alloc: Global,
+    names: &Names,
+    out: Text,
+    n: u64,
+    locations: u64,
+) -> Result<Change, StepErr>
+    ensures { IsPerformed (make_system names.now out n locations) result }
+{
+    if n > MAX_STATE_DIM {
+        return Err(StepErr::Input(Fault::TooManyDims));
+    }
+    if locations == 0 || locations > MAX_LOCATIONS as u64 {
+        return Err(StepErr::Input(Fault::OutOfRange));
+    }
+    if names.has_no_room(out.bytes()) {
+        return Err(StepErr::Input(Fault::TooManyNames));
+    }
+    let made = System::new(alloc, n as usize, locations as usize)?;
+    Ok(Change::Puts(out, Entry::System(made)))
+}
+
+/// Replaces the initial states of a location by those of a polyhedron.
+pub fn replaced_initial(
+    system: Option<&System>,
+    location: u64,
+    p: Option<&Poly>,
+) -> Result<SystemChange, StepErr>
+    ensures { (name : List ℕ) → IsTested (on_system (option_copied system.entry) (λ s. on_one (option_copied p.entry) (init name location s))) (option_copied system.entry) name result }
+{
+    let (Some(system), Some(p)) = (system, p) else {
+        return Err(StepErr::Input(Fault::UnknownName));
+    };
+    if p.topology() != Topology::Closed {
+        return Err(StepErr::Input(Fault::NotClosed));
+    }
+    if p.dim() != system.dim() {
+        return Err(StepErr::Input(Fault::DimMismatch));
+    }
+    if location >= system.locs() as u64 {
+        return Err(StepErr::Input(Fault::OutOfRange));
+    }
+    Ok(SystemChange::Initial(location as usize, p.try_copy()?))
+}
+
+/// Appends a transition between two locations, whose relation is a polyhedron.
+pub fn added_transition(
+    system: Option<&System>,
+    source: u64,
+    target: u64,
+    relation: Option<&Poly>,
+) -> Result<SystemChange, StepErr>
+    ensures { (name : List ℕ) → IsTested (on_system (option_copied system.entry) (λ s. on_one (option_copied relation.entry) (trans name source target s))) (option_copied system.entry) name result }
+{
+    let (Some(system), Some(relation)) = (system, relation) else {
+        return Err(StepErr::Input(Fault::UnknownName));
+    };
+    if relation.topology() != Topology::Closed {
+        return Err(StepErr::Input(Fault::NotClosed));
+    }
+    if relation.dim() != 2 * system.dim() {
+        return Err(StepErr::Input(Fault::DimMismatch));
+    }
+    if source >= system.locs() as u64 || target >= system.locs() as u64 {
+        return Err(StepErr::Input(Fault::OutOfRange));
+    }
+    let copy = relation.try_copy()?;
+    Ok(SystemChange::Transition(source as usize, target as usize, copy))
+}
+
+/// Puts the set of each location in the limit of the system's rounds under a numbered name.
+pub fn fixpoint<L: Ledger>(
+    alloc: Global,
+    names: &Names,
+    system: Option<&System>,
+    delay: u64,
+    prefix: Text,
+    steps: &mut Steps<L>,
+) -> Result<Change, StepErr>
+    ensures { IsPerformed (on_system (option_copied system.entry) (run_system names.now delay prefix)) result }
+{
+    let Some(system) = system else {
+        return Err(StepErr::Input(Fault::UnknownName));
+    };
+    if delay > MAX_DELAY {
+        return Err(StepErr::Input(Fault::OutOfRange));
+    }
+    if names.has_no_room_for_all(prefix.bytes(), system.locs())? {
+        return Err(StepErr::Input(Fault::TooManyNames));
+    }
+    match run(alloc, system, delay as u32, steps) {
+        Ok(sets) => Ok(Change::PutsAll(prefix, sets)),
+        Err(cause) => Err(StepErr::from(cause)),
+    }
+}
