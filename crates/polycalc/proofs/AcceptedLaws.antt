@@ -24,7 +24,7 @@ use Rattle.optimum.specs.declared.outcome.Relation.{Relation as Flags}
 use Rattle.optimum.specs.declared.outcome.Sup.{Sup}
 use Rattle.script_text.specs.declared.command.Part.{Part}
 use Rattle.script_text.specs.declared.command.Command.{Command}
-use Rattle.script_text.specs.declared.command.Command.TheVariants.{Nothing, Cons, Gens, Universe, Empty, Copy, Drop, Add, Addgen, Has, Size, Print, Names, Meet, Hull, Closure, Contains, Equal, Disjoint, Isempty, Relation, Max, Min, Embed, Project, Concat, Elapse, Image, Preimage, Remove, Read, Write, Widen}
+use Rattle.script_text.specs.declared.command.Command.TheVariants.{Nothing, Cons, Gens, Universe, Empty, Copy, Drop, Add, Addgen, Has, Size, Print, Names, Meet, Hull, Closure, Contains, Equal, Disjoint, Isempty, Relation, Max, Min, Embed, Project, Concat, Elapse, Image, Preimage, Remove, Read, Write, Widen, System, Init, Trans, Fixpoint}
 use Rattle.script_text.specs.Line.{SpellsOne}
 use Rattle.calc_state.specs.Table.{HasDistinctNames}
 use Rattle.calc_state.specs.Meaning.{answer_line}
@@ -196,6 +196,10 @@ module _ (laws : OneMeaning) (earlier : List Act) where
   answered_once (Preimage out name v part) text other a b = inr (a ∙ sym b)
   answered_once (Remove out name vars) text other a b = inr (a ∙ sym b)
   answered_once (Widen out x y) text other a b = inr (a ∙ sym b)
+  answered_once (System out n locations) text other a b = inr (a ∙ sym b)
+  answered_once (Init out location name) text other a b = inr (a ∙ sym b)
+  answered_once (Trans out source target name) text other a b = inr (a ∙ sym b)
+  answered_once (Fixpoint name delay prefix) text other a b = inr (a ∙ sym b)
   answered_once (Read out form) text other a b = inr (a ∙ sym b)
   answered_once (Write name form) text other a b =
       let same = one_of name a.polyhedron b.polyhedron a.set b.set in

@@ -9,9 +9,11 @@ pub mod TableLaws
 pub mod OneForm
 pub mod OneResult
 pub mod OneMap
+pub mod OneSystem
 pub mod OneSet
 pub mod Operands
 pub mod AcceptedRuns
+pub mod NumberedLaws
 pub mod SetLaws
 pub mod TruthLaws
 pub mod SameTables

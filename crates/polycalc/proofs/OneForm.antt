@@ -8,20 +8,21 @@ use Rattle.gens_sys.specs.declared.kind.GenKind.TheVariants.{Line, Ray, Point, C
 use Rattle.gens_sys.specs.Generators.{Generator, Generators, kind_at}
 use Rattle.expr_text.specs.OneAnswer.{ConsHasOneAnswer, GensHasOneAnswer, FracHasOneAnswer}
 use Rattle.widening.specs.WideningLaws.{OneWidening}
+use Rattle.fixpoint.specs.RunLaws.{HasOneLimit}
 use Rattle.cdd_text.specs.OneAnswer.{HasOneIne, HasOneExt}
 use Rattle.pair_laws.specs.PointSets.{HoldSame}
 use Rattle.pair_laws.specs.StoredLaws.{StoredIsUnique, AreSameSystems}
 use Rattle.nnc_enc.specs.EncodedGenerators.{HasPoint}
 use Rattle.set_laws.specs.JoinedSets.{AreOfSet, JoinedSetsAreSame}
 use Rattle.poly_pair.specs.KeptLaws.{KeptIsPair, KeptIsEmpty}
-use Rattle.poly_pair.specs.Polyhedra.{Polyhedron, IsStoredAs, HasNoPoint, IsOver}
+use Rattle.poly_pair.specs.Polyhedra.{Polyhedron, IsStoredAs, IsKept, HasNoPoint, IsOver}
 use Rattle.poly_pair.specs.declared.topology.Topology.{Topology}
 use Rattle.poly_pair.specs.declared.topology.Topology.TheVariants.{Closed, Nnc}
 use Rattle.calc_state.specs.Step.{IsProper}
 use Rattle.polycalc.specs.Sameness.{AreSamePolyhedra}
 
 -- the laws that are cited: a text says one system; a closed set is stored in one way; both systems of a polyhedron hold
--- the same points, and there is no generator where there is none; what is joined to generators adds to their points alone; there is one widening; a file holds one list
+-- the same points, and there is no generator where there is none; what is joined to generators adds to their points alone; there is one widening, and one limit of a system; a file holds one list
 pub record OneForm : Type 0 where
   pub cons : ConsHasOneAnswer
   pub gens : GensHasOneAnswer
@@ -31,6 +32,7 @@ pub record OneForm : Type 0 where
   pub empty : KeptIsEmpty
   pub joined : JoinedSetsAreSame
   pub widening : OneWidening
+  pub limit : HasOneLimit
   pub ine : HasOneIne
   pub ext : HasOneExt
 
@@ -83,6 +85,13 @@ of_parts t cs gs = record { topology = t; cons = cs; gens = gs }
 same_parts : (p q : Polyhedron) → p.topology ≡ q.topology → p.cons ≡ q.cons → p.gens ≡ q.gens → p ≡ q
 same_parts p q t c g = ap (λ (x : Topology). of_parts x p.cons p.gens) t ∙ ap (λ (x : Constraints). of_parts q.topology x p.gens) c ∙ ap (λ (x : Generators). of_parts q.topology q.cons x) g
 
+-- a closed set is stored in one way
+pub one_closed : OneForm → (p q : Polyhedron) → IsKept p → IsKept q → p.topology ≡ Closed → p.topology ≡ q.topology → p.cons.dim ≡ q.cons.dim → HoldSame p.cons q.cons → p ≡ q
+one_closed laws p q a b c t d points =
+    let forms : AreSameSystems p.cons q.cons p.gens q.gens =
+    (laws.stored p.cons q.cons p.gens q.gens d (subst (λ (s : Topology). IsStoredAs s p.cons p.gens) c a.stored) (subst (λ (s : Topology). IsStoredAs s q.cons q.gens) (sym t ∙ c) b.stored)).0 points in
+    same_parts p q t forms.cons forms.gens
+
 -- two polyhedra of one topology and dimension that hold at the same points
 pub one_of_points : OneForm → (t : Topology) (dim : ℕ) (Has : List ℤ → Type 0) (p q : Polyhedron) → IsProper p → IsProper q → IsOver t dim p → IsOver t dim q →
     ((v : List ℤ) → IsPoint dim v → Has v ↔ In p.cons v) → ((v : List ℤ) → IsPoint dim v → Has v ↔ In q.cons v) → AreSamePolyhedra p q
@@ -90,14 +99,8 @@ one_of_points laws t dim Has p q a b d e h k = record {
   topology = d.same_topology ∙ sym e.same_topology;
   dim = d.same_dim ∙ sym e.same_dim;
   points = points;
-  closed = λ c. same_parts p q (d.same_topology ∙ sym e.same_topology) (forms c).cons (forms c).gens;
+  closed = λ c. one_closed laws p q a.kept b.kept c (d.same_topology ∙ sym e.same_topology) (d.same_dim ∙ sym e.same_dim) points;
 }
   where
     points : HoldSame p.cons q.cons
     points v is = let at = subst (λ (n : ℕ). IsPoint n v) d.same_dim is in (λ x. (k v at).0 ((h v at).1 x), λ x. (h v at).0 ((k v at).1 x))
-
-    forms : p.topology ≡ Closed → AreSameSystems p.cons q.cons p.gens q.gens
-    forms c =
-        (laws.stored p.cons q.cons p.gens q.gens (d.same_dim ∙ sym e.same_dim)
-        (subst (λ (s : Topology). IsStoredAs s p.cons p.gens) c a.kept.stored)
-        (subst (λ (s : Topology). IsStoredAs s q.cons q.gens) (e.same_topology ∙ sym d.same_topology ∙ c) b.kept.stored)).0 points

@@ -1,4 +1,4 @@
--- What is accepted gives a name one set at most.
+-- What is accepted gives a name one set or one transition system at most.
 use Rattle.std.proofs.Common.{◌≡◌, ℕ, List, [], ◌∷◌, refl, sym, ◌∙◌, subst, Bool, true, false}
 use Rattle.std.specs.Prelude.{◌↔◌, MatchBool, ℤ}
 use Rattle.std.specs.Str.{bytes_eq}
@@ -22,17 +22,22 @@ use Rattle.file_poly.specs.declared.listed.Listed.{Listed}
 use Rattle.file_poly.specs.declared.listed.Listed.TheVariants as listed
 use Rattle.script_text.specs.declared.command.Part.{Part}
 use Rattle.script_text.specs.declared.command.Command.{Command}
-use Rattle.script_text.specs.declared.command.Command.TheVariants.{Cons, Gens, Universe, Empty, Copy, Add, Addgen, Meet, Hull, Closure, Embed, Project, Concat, Elapse, Image, Preimage, Remove, Widen}
+use Rattle.script_text.specs.declared.command.Command.TheVariants.{Cons, Gens, Universe, Empty, Copy, Add, Addgen, Meet, Hull, Closure, Embed, Project, Concat, Elapse, Image, Preimage, Remove, Widen, System, Init, Trans, Fixpoint}
+use Rattle.calc_state.specs.declared.entry.Entry.{Entry}
+use Rattle.calc_state.specs.declared.entry.Entry.TheVariants as entry
+use Rattle.trans_sys.specs.Systems.{TransitionSystem, IsKeptSystem, with_initial, with_transition}
+use Rattle.calc_state.specs.State.{OpenFile}
 use Rattle.calc_state.specs.Makers.{SaysConstraints, SaysGenerators, more_generators}
 use Rattle.calc_state.specs.Affine.{IsEmbedded, IsRemoved, IsImageBy, IsPreimageBy}
 use Rattle.calc_state.specs.Meanings.{topology_of}
 use Rattle.calc_state.specs.Files.{format_of}
 use Rattle.calc_state.specs.Step.{IsProper}
 use Rattle.polycalc.specs.Acts.{Act, Did, Took}
-use Rattle.polycalc.specs.Sets.{IsMade, IsCut, IsAdded, IsJoined, IsOfAlike, sets, Gives, IsSetOf}
-use Rattle.polycalc.specs.Sameness.{AreSamePolyhedra}
+use Rattle.polycalc.specs.Sets.{IsMade, IsCut, IsAdded, IsJoined, IsOfAlike, sets, Gives, GivesSet, GivesSystem, GivesEntry, GivesFile, IsEntryOf, IsSetOf}
+use Rattle.polycalc.specs.Sameness.{AreSamePolyhedra, AreSameEntries}
 use Rattle.polycalc.proofs.OneForm.{OneForm, same_dims, of_set, one_of_points}
 use Rattle.polycalc.proofs.OneResult.{one_of_one, one_of_two, one_meet, one_hull, one_closure, one_widened}
+use Rattle.polycalc.proofs.OneSystem.{one_reached, one_changed, one_empty_system}
 use Rattle.polycalc.proofs.OneMap.{one_embedded, one_projection, one_product, one_elapse, one_image_by, one_preimage_by, one_removed}
 
 -- ---- what each set keeps
@@ -61,11 +66,37 @@ one_case : (b : Bool) (A B E : Type 0) → (A → E) → (B → E) → MatchBool
 one_case true A B E f g h = f h
 one_case false A B E f g h = g h
 
+-- what each entry keeps
+abbrev pub KeepsEntry : Entry → Type 0
+KeepsEntry (entry.Poly p) = IsProper p
+KeepsEntry (entry.System s) = IsKeptSystem s
+
+set_kept : (c : Command) (Had : List ℕ → Entry → Type 0) (name : List ℕ) (p : Polyhedron) → ((n : List ℕ) (e : Entry) → Had n e → KeepsEntry e) → GivesSet c Had name p → IsProper p
+set_kept (Fixpoint s delay prefix) Had name p kept h = h.proper
+set_kept c Had name p kept h = given_proper c (λ n q. Had n (entry.Poly q)) p (λ n q had. kept n (entry.Poly q) had) h
+
+system_kept : (c : Command) (Had : List ℕ → Entry → Type 0) (s : TransitionSystem) → GivesSystem c Had s → IsKeptSystem s
+system_kept (System out n locations) Had s h = h.kept
+system_kept (Init out location p) Had s h = h.made.kept
+system_kept (Trans out source target r) Had s h = h.made.kept
+system_kept other Had s h = absurd h
+
+given_kept : (c : Command) (Had : List ℕ → Entry → Type 0) (name : List ℕ) (e : Entry) → ((n : List ℕ) (x : Entry) → Had n x → KeepsEntry x) → GivesEntry c Had name e → KeepsEntry e
+given_kept c Had name (entry.Poly p) kept h = set_kept c Had name p kept h
+given_kept c Had name (entry.System s) kept h = system_kept c Had s h
+
+file_kept : (file : OpenFile) (e : Entry) → GivesFile file e → KeepsEntry e
+file_kept file (entry.Poly p) h = h.proper
+file_kept file (entry.System s) h = absurd h
+
+pub entry_kept : (all : List Act) (name : List ℕ) (e : Entry) → IsEntryOf all name e → KeepsEntry e
+entry_kept [] name e h = absurd h
+entry_kept (Did c ∷ earlier) name e h = one_case (sets earlier c name) (GivesEntry c (IsEntryOf earlier) name e) (IsEntryOf earlier name e) (KeepsEntry e) (given_kept c (IsEntryOf earlier) name e (entry_kept earlier)) (entry_kept earlier name e) h
+entry_kept (Took file ∷ earlier) name e h = one_case (bytes_eq name file.name) (GivesFile file e) (IsEntryOf earlier name e) (KeepsEntry e) (file_kept file e) (entry_kept earlier name e) h
+
 -- the polyhedron of a name is kept as its set is stored
 pub set_proper : (all : List Act) (name : List ℕ) (p : Polyhedron) → IsSetOf all name p → IsProper p
-set_proper [] name p h = absurd h
-set_proper (Did c ∷ earlier) name p h = one_case (sets c name) (Gives c (IsSetOf earlier) p) (IsSetOf earlier name p) (IsProper p) (given_proper c (IsSetOf earlier) p (set_proper earlier)) (set_proper earlier name p) h
-set_proper (Took file ∷ earlier) name p h = one_case (bytes_eq name file.name) (IsMade (IsOfFile (format_of file.ext) file.text) p) (IsSetOf earlier name p) (IsProper p) (λ m. m.proper) (set_proper earlier name p) h
+set_proper all name p h = entry_kept all name (entry.Poly p) h
 
 -- ---- one set of points
 one_of_constraints : OneForm → (t : Topology) (cs : Constraints) (p q : Polyhedron) → IsProper p → IsProper q → IsOfConstraints t cs p → IsOfConstraints t cs q → AreSamePolyhedra p q
@@ -198,11 +229,48 @@ one_given laws (Widen out name other) Had p q kept one h k =
     one_widened laws h.first k.first h.second k.second p q (kept name h.first h.was_first) (one name h.first k.first h.was_first k.was_first) (one other h.second k.second h.was_second k.was_second) h.made.proper k.made.proper h.made.is k.made.is
 one_given laws other Had p q kept one h k = absurd h
 
+-- ---- one entry of a name
+one_file_entry : OneForm → (file : OpenFile) (e f : Entry) → GivesFile file e → GivesFile file f → AreSameEntries e f
+one_file_entry laws file (entry.Poly p) (entry.Poly q) h k = one_file laws (format_of file.ext) file.text p q h k
+one_file_entry laws file (entry.System s) f h k = absurd h
+one_file_entry laws file (entry.Poly p) (entry.System t) h k = absurd k
+
+module _ (laws : OneForm) (Had : List ℕ → Entry → Type 0) (kept : (name : List ℕ) (x : Entry) → Had name x → KeepsEntry x) (one : (name : List ℕ) (x y : Entry) → Had name x → Had name y → AreSameEntries x y) where
+  one_given_set : (c : Command) (name : List ℕ) (p q : Polyhedron) → GivesSet c Had name p → GivesSet c Had name q → AreSamePolyhedra p q
+  one_given_set (Fixpoint s delay prefix) name p q h k =
+      one_reached laws (λ system. Had s (entry.System system)) delay prefix name p q (λ x had. kept s (entry.System x) had) (λ x y u v. one s (entry.System x) (entry.System y) u v) h k
+  one_given_set c name p q h k =
+      one_given laws c (λ n x. Had n (entry.Poly x)) p q (λ n x had. kept n (entry.Poly x) had) (λ n x y u v. one n (entry.Poly x) (entry.Poly y) u v) h k
+
+  one_given_system : (c : Command) (s t : TransitionSystem) → GivesSystem c Had s → GivesSystem c Had t → s ≡ t
+  one_given_system (System out n locations) s t h k = one_empty_system laws n locations s t h k
+  one_given_system (Init out location p) s t h k =
+      one_changed (λ old. Had out (entry.System old)) (λ q. Had p (entry.Poly q)) (λ old q. with_initial old location q) s t (λ x y u v. one out (entry.System x) (entry.System y) u v) (λ x y u v. one p (entry.Poly x) (entry.Poly y) u v) h k
+  one_given_system (Trans out source target r) s t h k =
+      one_changed (λ old. Had out (entry.System old)) (λ q. Had r (entry.Poly q)) (λ old q. with_transition old (record { source = source; target = target; relation = q })) s t (λ x y u v. one out (entry.System x) (entry.System y) u v)
+      (λ x y u v. one r (entry.Poly x) (entry.Poly y) u v) h k
+  one_given_system other s t h k = absurd h
+
+  -- no command gives both a polyhedron and a system
+  one_kind : (c : Command) (name : List ℕ) (p : Polyhedron) (s : TransitionSystem) → GivesSet c Had name p → GivesSystem c Had s → ⊥
+  one_kind (System out n locations) name p s h k = h
+  one_kind (Init out location q) name p s h k = h
+  one_kind (Trans out source target r) name p s h k = h
+  one_kind other name p s h k = k
+
+  one_given_entry : (c : Command) (name : List ℕ) (e f : Entry) → GivesEntry c Had name e → GivesEntry c Had name f → AreSameEntries e f
+  one_given_entry c name (entry.Poly p) (entry.Poly q) h k = one_given_set c name p q h k
+  one_given_entry c name (entry.System s) (entry.System t) h k = one_given_system c s t h k
+  one_given_entry c name (entry.Poly p) (entry.System t) h k = one_kind c name p t h k
+  one_given_entry c name (entry.System s) (entry.Poly q) h k = one_kind c name q s k h
+
+pub one_entry : OneForm → (all : List Act) (name : List ℕ) (e f : Entry) → IsEntryOf all name e → IsEntryOf all name f → AreSameEntries e f
+one_entry laws [] name e f h k = absurd h
+one_entry laws (Did c ∷ earlier) name e f h k =
+    same_case (sets earlier c name) (GivesEntry c (IsEntryOf earlier) name e) (IsEntryOf earlier name e) (GivesEntry c (IsEntryOf earlier) name f) (IsEntryOf earlier name f) (AreSameEntries e f)
+    (one_given_entry laws (IsEntryOf earlier) (entry_kept earlier) (one_entry laws earlier) c name e f) (one_entry laws earlier name e f) h k
+one_entry laws (Took file ∷ earlier) name e f h k =
+    same_case (bytes_eq name file.name) (GivesFile file e) (IsEntryOf earlier name e) (GivesFile file f) (IsEntryOf earlier name f) (AreSameEntries e f) (one_file_entry laws file e f) (one_entry laws earlier name e f) h k
+
 pub one_set : OneForm → (all : List Act) (name : List ℕ) (p q : Polyhedron) → IsSetOf all name p → IsSetOf all name q → AreSamePolyhedra p q
-one_set laws [] name p q h k = absurd h
-one_set laws (Did c ∷ earlier) name p q h k =
-    same_case (sets c name) (Gives c (IsSetOf earlier) p) (IsSetOf earlier name p) (Gives c (IsSetOf earlier) q) (IsSetOf earlier name q) (AreSamePolyhedra p q)
-    (one_given laws c (IsSetOf earlier) p q (set_proper earlier) (one_set laws earlier)) (one_set laws earlier name p q) h k
-one_set laws (Took file ∷ earlier) name p q h k =
-    same_case (bytes_eq name file.name) (IsMade (IsOfFile (format_of file.ext) file.text) p) (IsSetOf earlier name p) (IsMade (IsOfFile (format_of file.ext) file.text) q) (IsSetOf earlier name q) (AreSamePolyhedra p q)
-    (one_file laws (format_of file.ext) file.text p q) (one_set laws earlier name p q) h k
+one_set laws all name p q h k = one_entry laws all name (entry.Poly p) (entry.Poly q) h k

@@ -6,7 +6,7 @@ use Rattle.poly_pair.specs.declared.topology.Topology.{Topology}
 use Rattle.poly_pair.specs.declared.topology.Topology.TheVariants.{Closed, Nnc}
 use Rattle.calc_state.specs.declared.entry.Entry.TheVariants as entry
 use Rattle.calc_state.specs.declared.change.Change.{Change}
-use Rattle.calc_state.specs.declared.change.Change.TheVariants.{Says, Puts, TakesOut}
+use Rattle.calc_state.specs.declared.change.Change.TheVariants.{Says, Puts, PutsAll, TakesOut}
 use Rattle.calc_state.specs.Order.{Conditions, Passes}
 use Rattle.calc_state.specs.Meaning.{IsPut, alike}
 use Rattle.widening.specs.Widenings.{IsWidening}
@@ -17,6 +17,8 @@ use Rattle.polycalc.specs.Sets.{AreAlike, IsOfAlike, IsOfNested}
 pub put_more : (out : List ℕ) (Is Has : Polyhedron → Type 0) (change : Change) → ((r : Polyhedron) → Is r → Has r) → IsPut out Is change → IsPut out Has change
 put_more out Is Has (Puts name (entry.Poly r)) more h = (h.0, more r h.1)
 put_more out Is Has (Says text) more h = absurd h
+put_more out Is Has (Puts name (entry.System s)) more h = absurd h
+put_more out Is Has (PutsAll prefix sets) more h = absurd h
 put_more out Is Has (TakesOut name) more h = absurd h
 
 pub one_topology : (s t : Topology) → ¬ (s ≢ t) → s ≡ t

@@ -5,30 +5,28 @@ use Rattle.std.specs.Str.{bytes_eq}
 use Rattle.std.specs.Map.{keys_of}
 use Rattle.std.specs.List.{AllByRecursion, IsDistinct}
 use Rattle.std.proofs.lemmas.Slice.Eq.{bytes_eq-Decides}
-use Rattle.poly_pair.specs.Polyhedra.{Polyhedron}
 use Rattle.calc_state.specs.declared.entry.Entry.{Entry}
-use Rattle.calc_state.specs.declared.entry.Entry.TheVariants as entry
-use Rattle.calc_state.specs.Table.{Table, entry_of, as_poly}
+use Rattle.calc_state.specs.Table.{Table, entry_of}
 use Rattle.polycalc.specs.Acts.{Act}
-use Rattle.polycalc.specs.Sets.{IsSetOf}
-use Rattle.polycalc.specs.Sameness.{AreSamePolyhedra, AreSameEntries, AreSameTables}
+use Rattle.polycalc.specs.Sets.{IsEntryOf}
+use Rattle.polycalc.specs.Sameness.{AreSameEntries, AreSameTables}
 use Rattle.polycalc.proofs.TableLaws.{distinct_keys, none_there}
 use Rattle.polycalc.proofs.OneForm.{OneForm}
-use Rattle.polycalc.proofs.OneSet.{one_set}
-use Rattle.polycalc.proofs.SetLaws.{Stands, Agrees}
+use Rattle.polycalc.proofs.OneSet.{one_entry}
+use Rattle.polycalc.proofs.SetLaws.{StandsAlone, Agrees}
 
--- both are nothing, or both the same polyhedron
+-- both are nothing, or both the same
 abbrev BothSame : Option Entry → Option Entry → Type 0
 BothSame None None = Unit {0}
 BothSame (Some e) (Some f) = AreSameEntries e f
 BothSame None (Some f) = ⊥
 BothSame (Some e) None = ⊥
 
-both_stand : (E : Polyhedron → Type 0) (o u : Option Entry) → ((x y : Polyhedron) → E x → E y → AreSamePolyhedra x y) → Stands (as_poly o) E → Stands (as_poly u) E → BothSame o u
+both_stand : (E : Entry → Type 0) (o u : Option Entry) → ((x y : Entry) → E x → E y → AreSameEntries x y) → StandsAlone o E → StandsAlone u E → BothSame o u
 both_stand E None None one a b = tt
-both_stand E (Some (entry.Poly p)) (Some (entry.Poly q)) one a b = one p q a b
-both_stand E None (Some (entry.Poly q)) one a b = a q b
-both_stand E (Some (entry.Poly p)) None one a b = b p a
+both_stand E (Some e) (Some f) one a b = one e f a b
+both_stand E None (Some f) one a b = a f b
+both_stand E (Some e) None one a b = b e a
 
 same_name : (name : List ℕ) → bytes_eq name name ≡ true
 same_name name = (bytes_eq-Decides name name).1 refl
@@ -87,4 +85,4 @@ tables_same (e ∷ table) (f ∷ others) d k h = (
 pub agreeing_same : OneForm → (table others : Table) (all : List Act) → Agrees table all → Agrees others all → AreSameTables table others
 agreeing_same laws table others all a b =
     tables_same table others (distinct_keys table a.distinct) (a.names ∙ sym b.names)
-    (λ name. both_stand (IsSetOf all name) (entry_of table name) (entry_of others name) (one_set laws all name) (a.sets name) (b.sets name))
+    (λ name. both_stand (IsEntryOf all name) (entry_of table name) (entry_of others name) (one_entry laws all name) (a.sets name) (b.sets name))

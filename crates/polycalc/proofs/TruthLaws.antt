@@ -18,13 +18,13 @@ use Rattle.affine_ops.specs.Results.{IsProjection, IsProduct}
 use Rattle.elapse.specs.Elapses.{IsElapse}
 use Rattle.script_text.specs.declared.command.Part.{Part}
 use Rattle.script_text.specs.declared.command.Command.{Command}
-use Rattle.script_text.specs.declared.command.Command.TheVariants.{Nothing, Cons, Gens, Universe, Empty, Copy, Drop, Add, Addgen, Has, Size, Print, Names, Meet, Hull, Closure, Contains, Equal, Disjoint, Isempty, Relation, Max, Min, Embed, Project, Concat, Elapse, Image, Preimage, Remove, Read, Write, Widen}
+use Rattle.script_text.specs.declared.command.Command.TheVariants.{Nothing, Cons, Gens, Universe, Empty, Copy, Drop, Add, Addgen, Has, Size, Print, Names, Meet, Hull, Closure, Contains, Equal, Disjoint, Isempty, Relation, Max, Min, Embed, Project, Concat, Elapse, Image, Preimage, Remove, Read, Write, Widen, System, Init, Trans, Fixpoint}
 use Rattle.calc_state.specs.declared.entry.Entry.{Entry}
 use Rattle.calc_state.specs.declared.change.Change.{Change}
-use Rattle.calc_state.specs.declared.change.Change.TheVariants.{Says, Puts, TakesOut}
-use Rattle.calc_state.specs.Table.{Table, entry_of, poly_of, HasDistinctNames}
+use Rattle.calc_state.specs.declared.change.Change.TheVariants.{Says, Puts, PutsAll, TakesOut}
+use Rattle.calc_state.specs.Table.{Table, entry_of, poly_of, system_of, HasDistinctNames}
 use Rattle.calc_state.specs.Order.{Passes}
-use Rattle.calc_state.specs.Meaning.{Meaning, IsSaid, IsPut, IsTakenOut, on_one, on_two, no_fault, answer_line}
+use Rattle.calc_state.specs.Meaning.{Meaning, IsSaid, IsPut, IsSystemPut, AreAllPut, IsTakenOut, on_one, on_two, on_system, no_fault, answer_line}
 use Rattle.calc_state.specs.Meanings.{meaning, topology_of}
 use Rattle.calc_state.specs.Makers.{SaysConstraints, SaysGenerators, more_constraints, more_generators, copy, drop_of, add, addgen}
 use Rattle.calc_state.specs.Questions.{has, size, print, line, size_text, side_text, spaced, names_text}
@@ -34,6 +34,8 @@ use Rattle.calc_state.specs.Affine.{embed, project, concat, elapse, image, preim
 use Rattle.calc_state.specs.Step.{Reply, IsAccepted, IsProper, lines_of, ok_line}
 use Rattle.widening.specs.Widenings.{IsWidening}
 use Rattle.calc_state.specs.Widening.{widen}
+use Rattle.calc_state.specs.Systems.{IsEmptySystem, AreReached, init, trans, fixpoint}
+use Rattle.trans_sys.specs.Systems.{TransitionSystem, with_initial, with_transition}
 use Rattle.calc_state.specs.Files.{write, file_of}
 use Rattle.calc_state.specs.State.{State, closed}
 use Rattle.calc_state.specs.Laws.{KeepsNamesDistinct}
@@ -46,7 +48,7 @@ use Rattle.polycalc.proofs.OneForm.{same_dims}
 use Rattle.polycalc.proofs.Operands.{are_alike, one_topology}
 use Rattle.polycalc.proofs.OneSet.{set_proper}
 use Rattle.polycalc.proofs.AcceptedRuns.{Steps, Told, run_told}
-use Rattle.polycalc.proofs.SetLaws.{Stands, Agrees, nothing_agrees, agrees_command, agrees_file}
+use Rattle.polycalc.proofs.SetLaws.{Stands, Agrees, poly_at, nothing_agrees, agrees_command, agrees_file}
 
 -- the laws that are cited: what is printed is read back, both stored systems hold the same points, and the generator of a bound shows it
 pub record ReadBack : Type 0 where
@@ -58,6 +60,7 @@ pub record ReadBack : Type 0 where
 said_lines : (lines : List ℕ) (change : Change) → IsSaid lines change → lines_of change ≡ lines
 said_lines lines (Says text) h = h
 said_lines lines (Puts name e) h = absurd h
+said_lines lines (PutsAll prefix sets) h = absurd h
 said_lines lines (TakesOut name) h = absurd h
 
 has_true : (old new : Table) (earlier : List Act) (name text : List ℕ) (part : Part) (o : Option Polyhedron) → Stands o (IsSetOf earlier name) → IsAccepted (on_one o (has part)) old text new → IsTrueOf earlier name (SaysWhether part text)
@@ -145,12 +148,26 @@ bound_true laws old new earlier up name text part (Some q) s p =
 put_ok : (out : List ℕ) (Is : Polyhedron → Type 0) (change : Change) → IsPut out Is change → lines_of change ≡ ok_line
 put_ok out Is (Puts name e) h = refl
 put_ok out Is (Says text) h = absurd h
+put_ok out Is (PutsAll prefix sets) h = absurd h
 put_ok out Is (TakesOut name) h = absurd h
+
+system_ok : (out : List ℕ) (Is : TransitionSystem → Type 0) (change : Change) → IsSystemPut out Is change → lines_of change ≡ ok_line
+system_ok out Is (Puts name e) h = refl
+system_ok out Is (Says text) h = absurd h
+system_ok out Is (PutsAll prefix sets) h = absurd h
+system_ok out Is (TakesOut name) h = absurd h
+
+all_ok : (prefix : List ℕ) (Are : List Polyhedron → Type 0) (change : Change) → AreAllPut prefix Are change → lines_of change ≡ ok_line
+all_ok prefix Are (PutsAll out sets) h = refl
+all_ok prefix Are (Says text) h = absurd h
+all_ok prefix Are (Puts name e) h = absurd h
+all_ok prefix Are (TakesOut name) h = absurd h
 
 taken_ok : (name : List ℕ) (change : Change) → IsTakenOut name change → lines_of change ≡ ok_line
 taken_ok name (TakesOut taken) h = refl
 taken_ok name (Says text) h = absurd h
 taken_ok name (Puts out e) h = absurd h
+taken_ok name (PutsAll prefix sets) h = absurd h
 
 -- a result of one operand
 one_ok : (old new : Table) (out text : List ℕ) (m : Polyhedron → Meaning) (Is : Polyhedron → Polyhedron → Type 0) (o : Option Polyhedron) → ((x : Polyhedron) (change : Change) → (m x).does change → IsPut out (Is x) change) → IsAccepted (on_one o m) old text new → text ≡ ok_line
@@ -167,19 +184,30 @@ drop_ok : (old new : Table) (out text : List ℕ) (o : Option Entry) → IsAccep
 drop_ok old new out text None p = absurd p.does
 drop_ok old new out text (Some e) p = p.lines_are ∙ taken_ok out p.change p.does
 
+-- a transition system that is changed, or run
+changed_ok : (old new : Table) (out text : List ℕ) (m : TransitionSystem → Polyhedron → Meaning) (Is : TransitionSystem → Polyhedron → TransitionSystem → Type 0) (u : Option TransitionSystem) (o : Option Polyhedron) →
+    ((s : TransitionSystem) (q : Polyhedron) (change : Change) → (m s q).does change → IsSystemPut out (Is s q) change) → IsAccepted (on_system u (λ s. on_one o (m s))) old text new → text ≡ ok_line
+changed_ok old new out text m Is None o puts p = absurd p.does
+changed_ok old new out text m Is (Some s) None puts p = absurd p.does
+changed_ok old new out text m Is (Some s) (Some q) puts p = p.lines_are ∙ system_ok out (Is s q) p.change (puts s q p.change p.does)
+
+run_ok : (old new : Table) (prefix text : List ℕ) (delay : ℕ) (u : Option TransitionSystem) → IsAccepted (on_system u (fixpoint old delay prefix)) old text new → text ≡ ok_line
+run_ok old new prefix text delay None p = absurd p.does
+run_ok old new prefix text delay (Some s) p = p.lines_are ∙ all_ok prefix (AreReached s delay) p.change p.does
+
 -- a closed polyhedron is written
 write_true : (old new : Table) (earlier : List Act) (form : Bool) (name text : List ℕ) (o : Option Polyhedron) → Stands o (IsSetOf earlier name) → IsAccepted (on_one o (write form)) old text new → IsTrueOf earlier name (λ q. (q.topology ≡ Closed) × (text ≡ file_of form q))
 write_true old new earlier form name text None s p = absurd p.does
 write_true old new earlier form name text (Some q) s p = record { polyhedron = q; set = s; says = (one_topology q.topology Closed p.passes.1.1.0, p.lines_are ∙ said_lines (file_of form q) p.change p.does) }
 
 accepted_true : ReadBack → (old new : Table) (earlier : List Act) (c : Command) (text : List ℕ) → Agrees old earlier → IsAccepted (meaning old c) old text new → IsTruthful earlier c text
-accepted_true laws old new earlier (Has name part) text g p = has_true old new earlier name text part (poly_of old name) (g.sets name) p
-accepted_true laws old new earlier (Size name) text g p = size_true old new earlier name text (poly_of old name) (g.sets name) p
-accepted_true laws old new earlier (Print side name) text g p = print_true laws old new earlier side name text (poly_of old name) (g.sets name) p
+accepted_true laws old new earlier (Has name part) text g p = has_true old new earlier name text part (poly_of old name) (poly_at old earlier g name) p
+accepted_true laws old new earlier (Size name) text g p = size_true old new earlier name text (poly_of old name) (poly_at old earlier g name) p
+accepted_true laws old new earlier (Print side name) text g p = print_true laws old new earlier side name text (poly_of old name) (poly_at old earlier g name) p
 accepted_true laws old new earlier Names text g p = names_true old earlier text g.names (p.lines_are ∙ said_lines (line (names_text old)) p.change p.does)
 accepted_true laws old new earlier (Widen out one other) text g p = two_ok old new out text (widen old out) IsWidening (poly_of old one) (poly_of old other) (λ x y change does. does.put) p
 accepted_true laws old new earlier (Read out form) text g p = p.lines_are ∙ said_lines [] p.change p.does
-accepted_true laws old new earlier (Write name form) text g p = write_true old new earlier form name text (poly_of old name) (g.sets name) p
+accepted_true laws old new earlier (Write name form) text g p = write_true old new earlier form name text (poly_of old name) (poly_at old earlier g name) p
 accepted_true laws old new earlier Nothing text g p = p.lines_are ∙ said_lines [] p.change p.does
 accepted_true laws old new earlier (Cons out top n part) text g p = p.lines_are ∙ put_ok out (λ r. SaysConstraints n part (λ cs. IsOfConstraints (topology_of top) cs r)) p.change p.does
 accepted_true laws old new earlier (Gens out top n part) text g p = p.lines_are ∙ put_ok out (λ r. SaysGenerators n part (λ gs. IsOfGenerators (topology_of top) gs r)) p.change p.does
@@ -193,15 +221,15 @@ accepted_true laws old new earlier (Meet out one other) text g p = two_ok old ne
 accepted_true laws old new earlier (Hull out one other) text g p = two_ok old new out text (hull old out) IsHull (poly_of old one) (poly_of old other) (λ x y change does. does) p
 accepted_true laws old new earlier (Closure out other) text g p = one_ok old new out text (closure old out) IsClosure (poly_of old other) (λ x change does. does) p
 accepted_true laws old new earlier (Contains one other) text g p =
-    two_true old new earlier one other text contains (λ x y. SaysTruth text (IsIncluded y x)) (poly_of old one) (poly_of old other) (g.sets one) (g.sets other) (λ x y passes. are_alike x y no_fault passes) (λ x y change does e. told_true (IsIncluded y x) change text does.told e) p
+    two_true old new earlier one other text contains (λ x y. SaysTruth text (IsIncluded y x)) (poly_of old one) (poly_of old other) (poly_at old earlier g one) (poly_at old earlier g other) (λ x y passes. are_alike x y no_fault passes) (λ x y change does e. told_true (IsIncluded y x) change text does.told e) p
 accepted_true laws old new earlier (Equal one other) text g p =
-    two_true old new earlier one other text equal (λ x y. SaysTruth text (HaveSamePoints x y)) (poly_of old one) (poly_of old other) (g.sets one) (g.sets other) (λ x y passes. are_alike x y no_fault passes) (λ x y change does e. told_true (HaveSamePoints x y) change text does.told e) p
+    two_true old new earlier one other text equal (λ x y. SaysTruth text (HaveSamePoints x y)) (poly_of old one) (poly_of old other) (poly_at old earlier g one) (poly_at old earlier g other) (λ x y passes. are_alike x y no_fault passes) (λ x y change does e. told_true (HaveSamePoints x y) change text does.told e) p
 accepted_true laws old new earlier (Disjoint one other) text g p =
-    two_true old new earlier one other text disjoint (λ x y. SaysTruth text (AreDisjoint x y)) (poly_of old one) (poly_of old other) (g.sets one) (g.sets other) (λ x y passes. are_alike x y no_fault passes) (λ x y change does e. told_true (AreDisjoint x y) change text does e) p
-accepted_true laws old new earlier (Isempty name) text g p = one_true old new earlier name text isempty (λ x. SaysTruth text (HasNoPoint x)) (poly_of old name) (g.sets name) (λ x change does e. told_true (HasNoPoint x) change text does e) p
-accepted_true laws old new earlier (Relation name part) text g p = one_true old new earlier name text (relation part) (SaysHowItLies part text) (poly_of old name) (g.sets name) (λ x change does e. relation_true part x change text does e) p
-accepted_true laws old new earlier (Max name part) text g p = bound_true laws old new earlier true name text part (poly_of old name) (g.sets name) p
-accepted_true laws old new earlier (Min name part) text g p = bound_true laws old new earlier false name text part (poly_of old name) (g.sets name) p
+    two_true old new earlier one other text disjoint (λ x y. SaysTruth text (AreDisjoint x y)) (poly_of old one) (poly_of old other) (poly_at old earlier g one) (poly_at old earlier g other) (λ x y passes. are_alike x y no_fault passes) (λ x y change does e. told_true (AreDisjoint x y) change text does e) p
+accepted_true laws old new earlier (Isempty name) text g p = one_true old new earlier name text isempty (λ x. SaysTruth text (HasNoPoint x)) (poly_of old name) (poly_at old earlier g name) (λ x change does e. told_true (HasNoPoint x) change text does e) p
+accepted_true laws old new earlier (Relation name part) text g p = one_true old new earlier name text (relation part) (SaysHowItLies part text) (poly_of old name) (poly_at old earlier g name) (λ x change does e. relation_true part x change text does e) p
+accepted_true laws old new earlier (Max name part) text g p = bound_true laws old new earlier true name text part (poly_of old name) (poly_at old earlier g name) p
+accepted_true laws old new earlier (Min name part) text g p = bound_true laws old new earlier false name text part (poly_of old name) (poly_at old earlier g name) p
 accepted_true laws old new earlier (Embed out other n) text g p = one_ok old new out text (embed old out n) (IsEmbedded n) (poly_of old other) (λ x change does. does) p
 accepted_true laws old new earlier (Project out other n) text g p = one_ok old new out text (project old out n) (IsProjection n) (poly_of old other) (λ x change does. does) p
 accepted_true laws old new earlier (Image out other v part) text g p = one_ok old new out text (image old out v part) (IsImageBy v part) (poly_of old other) (λ x change does. does) p
@@ -209,6 +237,11 @@ accepted_true laws old new earlier (Preimage out other v part) text g p = one_ok
 accepted_true laws old new earlier (Remove out other vars) text g p = one_ok old new out text (remove old out vars) (IsRemoved vars) (poly_of old other) (λ x change does. does) p
 accepted_true laws old new earlier (Concat out one other) text g p = two_ok old new out text (concat old out) IsProduct (poly_of old one) (poly_of old other) (λ x y change does. does) p
 accepted_true laws old new earlier (Elapse out one other) text g p = two_ok old new out text (elapse old out) IsElapse (poly_of old one) (poly_of old other) (λ x y change does. does) p
+accepted_true laws old new earlier (System out n locations) text g p = p.lines_are ∙ system_ok out (IsEmptySystem n locations) p.change p.does
+accepted_true laws old new earlier (Init out location other) text g p = changed_ok old new out text (init out location) (λ s q r. r ≡ with_initial s location q) (system_of old out) (poly_of old other) (λ s q change does. does) p
+accepted_true laws old new earlier (Trans out source target other) text g p =
+    changed_ok old new out text (trans out source target) (λ s q r. r ≡ with_transition s (record { source = source; target = target; relation = q })) (system_of old out) (poly_of old other) (λ s q change does. does) p
+accepted_true laws old new earlier (Fixpoint s delay prefix) text g p = run_ok old new prefix text delay (system_of old s) p
 
 -- ---- runs
 abbrev pub IsToldTruly : Table → List Accepted → Type 0

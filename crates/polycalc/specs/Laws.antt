@@ -5,13 +5,14 @@ use Rattle.pair_laws.specs.StoredLaws.{IsPair}
 use Rattle.poly_pair.specs.Polyhedra.{Polyhedron}
 use Rattle.poly_pair.specs.declared.topology.Topology.TheVariants.{Nnc}
 use Rattle.script_text.specs.declared.command.Command.TheVariants.{Size, Print, Max, Min}
-use Rattle.calc_state.specs.Table.{Table, poly_of}
+use Rattle.calc_state.specs.declared.entry.Entry.{Entry}
+use Rattle.calc_state.specs.Table.{Table, entry_of, poly_of}
 use Rattle.calc_state.specs.State.{State, closed}
 use Rattle.calc_state.specs.Step.{Reply}
 use Rattle.polycalc.specs.Acts.{Act, Did, Accepted, acts, AreAccepted}
 use Rattle.polycalc.specs.Runs.{Run, IsComplete}
-use Rattle.polycalc.specs.Sets.{IsSetOf, names_of}
-use Rattle.polycalc.specs.Sameness.{AreSamePolyhedra, AreSameTables}
+use Rattle.polycalc.specs.Sets.{IsEntryOf, IsSetOf, names_of}
+use Rattle.polycalc.specs.Sameness.{AreSameEntries, AreSameTables}
 use Rattle.polycalc.specs.Truth.{AreTruthful}
 
 -- ---- what is accepted decides
@@ -40,28 +41,28 @@ abbrev pub AcceptedDecide : Type 0
 AcceptedDecide = (lines others : List (List ℕ)) (r s : List Reply) (new other : State) (all rest : List Accepted) → Run (closed []) lines r new → Run (closed []) others s other → AreAccepted None [] lines r all → AreAccepted None [] others s rest → acts all ≡ acts rest → AreSameTables new.names other.names × AreSameAnswers all rest
 
 -- ---- the sets of the names
--- the table has this polyhedron under the name, but for systems that the points don't decide
-pub record IsUnder (table : Table) (name : List ℕ) (p : Polyhedron) : Type 0 where
-  pub kept : Polyhedron
-  pub there : poly_of table name ≡ Some kept
-  pub same : AreSamePolyhedra p kept
+-- the table has this under the name, but for systems of a polyhedron that the points don't decide
+pub record IsUnder (table : Table) (name : List ℕ) (e : Entry) : Type 0 where
+  pub kept : Entry
+  pub there : entry_of table name ≡ Some kept
+  pub same : AreSameEntries e kept
 
 -- what the table has under a name is what was accepted gives it, and what this gives a name is there; the constraints and
--- the generators of each hold the same points; and the table has the names that are given
+-- the generators of each polyhedron hold the same points; and the table has the names that are given
 pub record AreAsCommanded (lines : List (List ℕ)) (replies : List Reply) (table : Table) : Type 0 where
   pub all : List Accepted
   pub accepted : AreAccepted None [] lines replies all
-  pub given : (name : List ℕ) (p : Polyhedron) → poly_of table name ≡ Some p → IsSetOf (acts all) name p
-  pub there : (name : List ℕ) (p : Polyhedron) → IsSetOf (acts all) name p → IsUnder table name p
+  pub given : (name : List ℕ) (e : Entry) → entry_of table name ≡ Some e → IsEntryOf (acts all) name e
+  pub there : (name : List ℕ) (e : Entry) → IsEntryOf (acts all) name e → IsUnder table name e
   pub pairs : (name : List ℕ) (p : Polyhedron) → poly_of table name ≡ Some p → IsPair p.cons p.gens
   pub names : keys_of table ≡ names_of (acts all)
 
 abbrev pub SetsAreAsCommanded : Type 0
 SetsAreAsCommanded = (lines : List (List ℕ)) (replies : List Reply) (new : State) → Run (closed []) lines replies new → AreAsCommanded lines replies new.names
 
--- what is accepted gives a name one set at most
+-- what is accepted gives a name one set or one transition system at most
 abbrev pub SetsAreUnique : Type 0
-SetsAreUnique = (all : List Act) (name : List ℕ) (p q : Polyhedron) → IsSetOf all name p → IsSetOf all name q → AreSamePolyhedra p q
+SetsAreUnique = (all : List Act) (name : List ℕ) (e f : Entry) → IsEntryOf all name e → IsEntryOf all name f → AreSameEntries e f
 
 -- the answers of a run to what it accepts are true
 pub record AnswersTruly (lines : List (List ℕ)) (replies : List Reply) : Type 0 where

@@ -1,4 +1,4 @@
--- When two polyhedra are the same set, and two tables have the same sets.
+-- When two polyhedra are the same set, and two tables have the same sets and systems.
 use Rattle.std.specs.Prelude.{◌≡◌, [], ◌∷◌}
 use Rattle.pair_laws.specs.PointSets.{HoldSame}
 use Rattle.poly_pair.specs.Polyhedra.{Polyhedron}
@@ -14,10 +14,14 @@ pub record AreSamePolyhedra (p q : Polyhedron) : Type 0 where
   pub points : HoldSame p.cons q.cons
   pub closed : p.topology ≡ Closed → p ≡ q
 
+-- the same polyhedron, or one transition system
 abbrev pub AreSameEntries : Entry → Entry → Type 0
 AreSameEntries (entry.Poly p) (entry.Poly q) = AreSamePolyhedra p q
+AreSameEntries (entry.System s) (entry.System t) = s ≡ t
+AreSameEntries (entry.Poly p) (entry.System t) = ⊥
+AreSameEntries (entry.System s) (entry.Poly q) = ⊥
 
--- the same names in the same order, and under each the same polyhedron
+-- the same names in the same order, and under each the same
 abbrev pub AreSameTables : Table → Table → Type 0
 AreSameTables [] [] = Unit {0}
 AreSameTables (e ∷ table) (f ∷ others) = (e.0 ≡ f.0) × AreSameEntries e.1 f.1 × AreSameTables table others

@@ -1,5 +1,5 @@
 -- What accepted commands and files give the names.
-use Rattle.std.specs.Prelude.{◌≡◌, ◌↔◌, ℕ, List, [], ◌∷◌, ◌++◌, filter, not, ℤ, Bool, false, MatchBool, if◌then◌else◌}
+use Rattle.std.specs.Prelude.{◌≡◌, ◌↔◌, ℕ, zero, suc, ◌+◌, List, [], ◌∷◌, ◌++◌, filter, not, ◌||◌, ℤ, Bool, false, MatchBool, if◌then◌else◌, Some, slice_get}
 use Rattle.std.specs.List.{list_any}
 use Rattle.std.specs.Str.{bytes_eq}
 use Rattle.row_core.specs.Points.{IsPoint}
@@ -11,13 +11,19 @@ use Rattle.widening.specs.Widenings.{IsWidening}
 use Rattle.affine_ops.specs.Results.{IsProjection, IsProduct}
 use Rattle.elapse.specs.Elapses.{IsElapse}
 use Rattle.file_poly.specs.Files.{IsOfFile}
+use Rattle.trans_sys.specs.Systems.{TransitionSystem, IsKeptSystem, with_initial, with_transition}
 use Rattle.script_text.specs.declared.command.Part.{Part}
 use Rattle.script_text.specs.declared.command.Command.{Command}
-use Rattle.script_text.specs.declared.command.Command.TheVariants.{Cons, Gens, Universe, Empty, Copy, Drop, Add, Addgen, Meet, Hull, Closure, Embed, Project, Concat, Elapse, Image, Preimage, Remove, Widen}
+use Rattle.script_text.specs.declared.command.Command.TheVariants.{Cons, Gens, Universe, Empty, Copy, Drop, Add, Addgen, Meet, Hull, Closure, Embed, Project, Concat, Elapse, Image, Preimage, Remove, Widen, System, Init, Trans, Fixpoint}
+use Rattle.calc_state.specs.declared.entry.Entry.{Entry}
+use Rattle.calc_state.specs.declared.entry.Entry.TheVariants as entry
+use Rattle.calc_state.specs.Table.{numbered}
 use Rattle.calc_state.specs.Makers.{SaysConstraints, SaysGenerators, more_generators}
 use Rattle.calc_state.specs.Affine.{IsEmbedded, IsRemoved, IsImageBy, IsPreimageBy}
+use Rattle.calc_state.specs.Systems.{IsEmptySystem, AreReached}
 use Rattle.calc_state.specs.Meanings.{topology_of}
 use Rattle.calc_state.specs.Files.{format_of}
+use Rattle.calc_state.specs.State.{OpenFile}
 use Rattle.calc_state.specs.Step.{IsProper}
 use Rattle.polycalc.specs.Acts.{Act, Did, Took}
 
@@ -75,28 +81,70 @@ pub record IsOfNested (p q r : Polyhedron) : Type 0 where
   pub nested : IsIncluded p q
   pub is : IsWidening p q r
 
--- whether the command makes, changes or takes out the polyhedron of the name
-abbrev pub sets : Command → List ℕ → Bool
-sets (Cons out top n part) name = bytes_eq name out
-sets (Gens out top n part) name = bytes_eq name out
-sets (Universe out top n) name = bytes_eq name out
-sets (Empty out top n) name = bytes_eq name out
-sets (Copy out other) name = bytes_eq name out
-sets (Drop out) name = bytes_eq name out
-sets (Add out part) name = bytes_eq name out
-sets (Addgen out part) name = bytes_eq name out
-sets (Meet out p q) name = bytes_eq name out
-sets (Hull out p q) name = bytes_eq name out
-sets (Closure out p) name = bytes_eq name out
-sets (Embed out p n) name = bytes_eq name out
-sets (Project out p n) name = bytes_eq name out
-sets (Concat out p q) name = bytes_eq name out
-sets (Elapse out p q) name = bytes_eq name out
-sets (Image out p v part) name = bytes_eq name out
-sets (Preimage out p v part) name = bytes_eq name out
-sets (Remove out p vars) name = bytes_eq name out
-sets (Widen out p q) name = bytes_eq name out
-sets question name = false
+-- ---- the transition system of a name
+-- a transition system with this property, with what each keeps
+pub record IsMadeSystem (Is : TransitionSystem → Type 0) (s : TransitionSystem) : Type 0 where
+  pub kept : IsKeptSystem s
+  pub is : Is s
+
+-- what there was under a name, changed by a closed polyhedron
+pub record IsChangedBy (Was : TransitionSystem → Type 0) (WasPart : Polyhedron → Type 0) (changed : TransitionSystem → Polyhedron → TransitionSystem) (s : TransitionSystem) : Type 0 where
+  pub old : TransitionSystem
+  pub part : Polyhedron
+  pub was : Was old
+  pub was_part : WasPart part
+  pub closed : part.topology ≡ Closed
+  pub made : IsMadeSystem (λ r. r ≡ changed old part) s
+
+-- the set of a location in the limit of the rounds of what there was under a name, where this name is numbered as the location
+pub record IsReachedSet (Was : TransitionSystem → Type 0) (delay : ℕ) (prefix name : List ℕ) (p : Polyhedron) : Type 0 where
+  pub proper : IsProper p
+  pub system : TransitionSystem
+  pub was : Was system
+  pub sets : List Polyhedron
+  pub reached : AreReached system delay sets
+  pub location : ℕ
+  pub there : slice_get sets location ≡ Some p
+  pub name_is : name ≡ numbered prefix location
+
+-- of what was accepted, the last first: the number of locations of the last system that was made under the name
+abbrev pub locations_of : List Act → List ℕ → ℕ
+locations_of [] name = 0
+locations_of (Did (System out n locations) ∷ earlier) name = if bytes_eq name out then locations else locations_of earlier name
+locations_of (act ∷ earlier) name = locations_of earlier name
+
+-- the name is the prefix with one of so many numbers from this one on
+abbrev pub is_numbered : List ℕ → ℕ → ℕ → List ℕ → Bool
+is_numbered prefix n zero name = false
+is_numbered prefix n (suc count) name = bytes_eq name (numbered prefix n) || is_numbered prefix (n + 1) count name
+
+-- ---- what a name is given
+-- whether the command makes, changes or takes out what is under the name
+abbrev pub sets : List Act → Command → List ℕ → Bool
+sets earlier (Cons out top n part) name = bytes_eq name out
+sets earlier (Gens out top n part) name = bytes_eq name out
+sets earlier (Universe out top n) name = bytes_eq name out
+sets earlier (Empty out top n) name = bytes_eq name out
+sets earlier (Copy out other) name = bytes_eq name out
+sets earlier (Drop out) name = bytes_eq name out
+sets earlier (Add out part) name = bytes_eq name out
+sets earlier (Addgen out part) name = bytes_eq name out
+sets earlier (Meet out p q) name = bytes_eq name out
+sets earlier (Hull out p q) name = bytes_eq name out
+sets earlier (Closure out p) name = bytes_eq name out
+sets earlier (Embed out p n) name = bytes_eq name out
+sets earlier (Project out p n) name = bytes_eq name out
+sets earlier (Concat out p q) name = bytes_eq name out
+sets earlier (Elapse out p q) name = bytes_eq name out
+sets earlier (Image out p v part) name = bytes_eq name out
+sets earlier (Preimage out p v part) name = bytes_eq name out
+sets earlier (Remove out p vars) name = bytes_eq name out
+sets earlier (Widen out p q) name = bytes_eq name out
+sets earlier (System out n locations) name = bytes_eq name out
+sets earlier (Init out location p) name = bytes_eq name out
+sets earlier (Trans out source target r) name = bytes_eq name out
+sets earlier (Fixpoint s delay prefix) name = is_numbered prefix 0 (locations_of earlier s) name
+sets earlier question name = false
 
 -- the polyhedron that the command gives its name, where the names had these
 abbrev pub Gives : Command → (List ℕ → Polyhedron → Type 0) → Polyhedron → Type 0
@@ -120,11 +168,37 @@ Gives (Remove out other vars) Had p = IsMadeOfOne (Had other) (IsRemoved vars) p
 Gives (Widen out one other) Had p = IsMadeOfTwo (Had one) (Had other) IsOfNested p
 Gives other Had p = ⊥
 
--- of what was accepted, the last first: the polyhedron that it gives the name
+-- likewise a polyhedron for each location
+abbrev pub GivesSet : Command → (List ℕ → Entry → Type 0) → List ℕ → Polyhedron → Type 0
+GivesSet (Fixpoint s delay prefix) Had name p = IsReachedSet (λ system. Had s (entry.System system)) delay prefix name p
+GivesSet c Had name p = Gives c (λ n q. Had n (entry.Poly q)) p
+
+-- the transition system that the command gives its name
+abbrev pub GivesSystem : Command → (List ℕ → Entry → Type 0) → TransitionSystem → Type 0
+GivesSystem (System out n locations) Had s = IsMadeSystem (IsEmptySystem n locations) s
+GivesSystem (Init out location p) Had s = IsChangedBy (λ old. Had out (entry.System old)) (λ q. Had p (entry.Poly q)) (λ old q. with_initial old location q) s
+GivesSystem (Trans out source target r) Had s = IsChangedBy (λ old. Had out (entry.System old)) (λ q. Had r (entry.Poly q)) (λ old q. with_transition old (record { source = source; target = target; relation = q })) s
+GivesSystem other Had s = ⊥
+
+-- what the command gives the name
+abbrev pub GivesEntry : Command → (List ℕ → Entry → Type 0) → List ℕ → Entry → Type 0
+GivesEntry c Had name (entry.Poly p) = GivesSet c Had name p
+GivesEntry c Had name (entry.System s) = GivesSystem c Had s
+
+-- the polyhedron of a file
+abbrev pub GivesFile : OpenFile → Entry → Type 0
+GivesFile file (entry.Poly p) = IsMade (IsOfFile (format_of file.ext) file.text) p
+GivesFile file (entry.System s) = ⊥
+
+-- of what was accepted, the last first: what it gives the name
+abbrev pub IsEntryOf : List Act → List ℕ → Entry → Type 0
+IsEntryOf [] name e = ⊥
+IsEntryOf (Did c ∷ earlier) name e = MatchBool (sets earlier c name) (GivesEntry c (IsEntryOf earlier) name e) (IsEntryOf earlier name e)
+IsEntryOf (Took file ∷ earlier) name e = MatchBool (bytes_eq name file.name) (GivesFile file e) (IsEntryOf earlier name e)
+
+-- the polyhedron that it gives the name
 abbrev pub IsSetOf : List Act → List ℕ → Polyhedron → Type 0
-IsSetOf [] name p = ⊥
-IsSetOf (Did c ∷ earlier) name p = MatchBool (sets c name) (Gives c (IsSetOf earlier) p) (IsSetOf earlier name p)
-IsSetOf (Took file ∷ earlier) name p = MatchBool (bytes_eq name file.name) (IsMade (IsOfFile (format_of file.ext) file.text) p) (IsSetOf earlier name p)
+IsSetOf all name p = IsEntryOf all name (entry.Poly p)
 
 -- ---- the names
 -- a new name goes last
@@ -135,29 +209,36 @@ with_name name names = if list_any (bytes_eq name) names then names else names +
 abbrev pub less_name : List ℕ → List (List ℕ) → List (List ℕ)
 less_name name names = filter (λ n. not (bytes_eq name n)) names
 
+-- each of so many numbered names, in order
+abbrev pub with_numbered : List ℕ → ℕ → ℕ → List (List ℕ) → List (List ℕ)
+with_numbered prefix n zero names = names
+with_numbered prefix n (suc count) names = with_numbered prefix (n + 1) count (with_name (numbered prefix n) names)
+
 -- the names after a command
-abbrev pub names_after : Command → List (List ℕ) → List (List ℕ)
-names_after (Cons out top n part) names = with_name out names
-names_after (Gens out top n part) names = with_name out names
-names_after (Universe out top n) names = with_name out names
-names_after (Empty out top n) names = with_name out names
-names_after (Copy out other) names = with_name out names
-names_after (Meet out p q) names = with_name out names
-names_after (Hull out p q) names = with_name out names
-names_after (Closure out p) names = with_name out names
-names_after (Embed out p n) names = with_name out names
-names_after (Project out p n) names = with_name out names
-names_after (Concat out p q) names = with_name out names
-names_after (Elapse out p q) names = with_name out names
-names_after (Image out p v part) names = with_name out names
-names_after (Preimage out p v part) names = with_name out names
-names_after (Remove out p vars) names = with_name out names
-names_after (Widen out p q) names = with_name out names
-names_after (Drop out) names = less_name out names
-names_after unchanged names = names
+abbrev pub names_after : List Act → Command → List (List ℕ) → List (List ℕ)
+names_after earlier (Cons out top n part) names = with_name out names
+names_after earlier (Gens out top n part) names = with_name out names
+names_after earlier (Universe out top n) names = with_name out names
+names_after earlier (Empty out top n) names = with_name out names
+names_after earlier (Copy out other) names = with_name out names
+names_after earlier (Meet out p q) names = with_name out names
+names_after earlier (Hull out p q) names = with_name out names
+names_after earlier (Closure out p) names = with_name out names
+names_after earlier (Embed out p n) names = with_name out names
+names_after earlier (Project out p n) names = with_name out names
+names_after earlier (Concat out p q) names = with_name out names
+names_after earlier (Elapse out p q) names = with_name out names
+names_after earlier (Image out p v part) names = with_name out names
+names_after earlier (Preimage out p v part) names = with_name out names
+names_after earlier (Remove out p vars) names = with_name out names
+names_after earlier (Widen out p q) names = with_name out names
+names_after earlier (Drop out) names = less_name out names
+names_after earlier (System out n locations) names = with_name out names
+names_after earlier (Fixpoint s delay prefix) names = with_numbered prefix 0 (locations_of earlier s) names
+names_after earlier unchanged names = names
 
 -- of what was accepted, the last first: the names that it gives, in the order in which they were made
 abbrev pub names_of : List Act → List (List ℕ)
 names_of [] = []
-names_of (Did c ∷ earlier) = names_after c (names_of earlier)
+names_of (Did c ∷ earlier) = names_after earlier c (names_of earlier)
 names_of (Took file ∷ earlier) = with_name file.name (names_of earlier)

@@ -10,6 +10,7 @@ ghost use Rattle.polycalc.specs.Laws.{AcceptedDecide, AcceptedIsUnique, SetsAreA
 
 use calc_state::names_stay_distinct;
 use expr_text::{constraints_are_read_back, generators_are_read_back, one_answer};
+use fixpoint::laws::one_limit;
 use optimum::laws::{generator_is_witness, one_sup};
 use pair_laws::stored_systems::stored_is_unique;
 use poly_pair::laws::{kept_is_empty, kept_is_pair};
@@ -17,10 +18,11 @@ use script_text::{one_command, reads_once};
 use set_laws::joined::joined_sets_are_same;
 use widening::laws::one_widening;
 
-/// After each run the table has under each name a polyhedron that the accepted commands and files give
-/// it, by the commands' definitions in order; its constraints and its generators hold the same points.
-/// And the table has the names that they give, in the order in which these were made. They give a name
-/// one topology, one dimension and one set of points, and where it is closed one pair of stored systems.
+/// After each run the table has under each name a polyhedron or a transition system that the accepted
+/// commands and files give it, by the commands' definitions in order; the constraints and the generators
+/// of a polyhedron hold the same points. And the table has the names that they give, in the order in
+/// which these were made. They give a name one transition system, or one topology, one dimension and one
+/// set of points, and where it is closed one pair of stored systems.
 pub fn sets_are_as_commanded()
     ensures sets { SetsAreAsCommanded }
     ensures unique { SetsAreUnique }
@@ -33,6 +35,7 @@ pub fn sets_are_as_commanded()
     kept_is_empty();
     joined_sets_are_same();
     one_widening();
+    one_limit();
 }
 
 /// In each run every answer is true of the sets that what was accepted before it gives: `has` says
@@ -69,6 +72,7 @@ pub fn accepted_decide()
     kept_is_empty();
     joined_sets_are_same();
     one_widening();
+    one_limit();
     one_sup();
     generator_is_witness();
 }

@@ -14,6 +14,7 @@ returns c =
       empty = c.kept_is_empty.ensures;
       joined = c.joined_sets_are_same.ensures;
       widening = c.one_widening.ensures;
+      limit = c.one_limit.ensures;
       ine = c.one_answer-2.ensures.constraints;
       ext = c.one_answer-2.ensures.generators;
     } in

@@ -1,4 +1,4 @@
-use Rattle.polycalc.proofs.OneSet.{one_set}
+use Rattle.polycalc.proofs.OneSet.{one_entry}
 use Rattle.polycalc.proofs.SetLaws.{as_commanded}
 use Rattle.polycalc.proofs.laws.sets_are_as_commanded.Goals as goal
 
@@ -12,12 +12,13 @@ returns-clause-sets c = as_commanded c.names_stay_distinct.ensures.step c.names_
   empty = c.kept_is_empty.ensures;
   joined = c.joined_sets_are_same.ensures;
   widening = c.one_widening.ensures;
+  limit = c.one_limit.ensures;
   ine = c.one_answer-2.ensures.constraints;
   ext = c.one_answer-2.ensures.generators;
 })
 
 pub returns-clause-unique : goal.returns-clause-unique
-returns-clause-unique c = one_set (record {
+returns-clause-unique c = one_entry (record {
   cons = c.one_answer.ensures.cons;
   gens = c.one_answer.ensures.gens;
   frac = c.one_answer.ensures.frac;
@@ -26,6 +27,7 @@ returns-clause-unique c = one_set (record {
   empty = c.kept_is_empty.ensures;
   joined = c.joined_sets_are_same.ensures;
   widening = c.one_widening.ensures;
+  limit = c.one_limit.ensures;
   ine = c.one_answer-2.ensures.constraints;
   ext = c.one_answer-2.ensures.generators;
 })
