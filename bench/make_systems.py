@@ -12,14 +12,14 @@ import sys
 LETTERS = "ABCDEFGHIJKLMNOPQRSTUVWXYZ"
 
 
-def relation(choose, dim):
+def relation(choose, dim, kinds):
     """The constraints between a state and its successor."""
     before = LETTERS[:dim]
     after = LETTERS[dim:2 * dim]
     one, other = choose.sample(range(dim), 2)
     bound = choose.randint(1, 20)
     change = {}
-    kind = choose.choice(["add", "add", "reset", "move"])
+    kind = choose.choice(kinds)
     if kind == "add":
         rows = [f"{before[one]} <= {bound}"]
         change[one] = f"{before[one]} + {choose.randint(1, 3)}"
@@ -43,10 +43,10 @@ def main():
     print(f"cons start closed {dim} : " + ", ".join(f"{x} = 0" for x in LETTERS[:dim]))
     print("init s 0 start")
     for k in range(transitions):
-        # the first ones make a ring, so that each location is reached
+        # the first ones make a ring and can be taken at the start, so that each location is reached
         source = k % locations if k < locations else choose.randrange(locations)
         target = (k + 1) % locations if k < locations else choose.randrange(locations)
-        print(f"cons r closed {2 * dim} : " + ", ".join(relation(choose, dim)))
+        print(f"cons r closed {2 * dim} : " + ", ".join(relation(choose, dim, ["add"] if k < locations else ["add", "add", "reset", "move"])))
         print(f"trans s {source} {target} r")
     if "made" not in sys.argv[6:]:
         print(f"fixpoint s {delay} q")
