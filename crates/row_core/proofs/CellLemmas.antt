@@ -48,6 +48,10 @@ combination_from_cells d u v s t e f cells =
     (e ∙ f ∙ sym (length-scale t v) ∙ sym (length-add (scale s u) (scale t v) (length-scale s u ∙ (f ∙ sym (length-scale t v)))))
     (λ k h. cells k h ∙ (ap (λ (a : ℤ). a +ℤ t *ℤ cell v k) (sym (cell-scale s u k)) ∙ (ap (λ (b : ℤ). cell (scale s u) k +ℤ b) (sym (cell-scale t v k)) ∙ sym (cell-add (scale s u) (scale t v) k))))
 
+-- a row with the scaled cells of another is that row scaled
+pub scale_from_cells : (d v : List ℤ) (s : ℤ) → length d ≡ length v → ((k : ℕ) → k < length d → cell d k ≡ s *ℤ cell v k) → d ≡ scale s v
+scale_from_cells d v s e cells = ext_get_or (pos 0) d (scale s v) (e ∙ sym (length-scale s v)) (λ k h. cells k h ∙ sym (cell-scale s v k))
+
 -- after a write at column j, what held of each column below j, and holds of what was written, holds up to j
 pub written_more : (P : ℕ → ℤ → Type 0) (d : List ℤ) (j : ℕ) (x : ℤ) → j < length d → ((k : ℕ) → k < j → P k (cell d k)) → P j x → (k : ℕ) → k < j + 1 → P k (cell (set d j x) k)
 written_more P d j x h before here =

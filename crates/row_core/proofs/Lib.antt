@@ -1,9 +1,11 @@
 pub mod Ring
 pub mod RowListLemmas
 pub mod DotLemmas
+pub mod NarrowLemmas
 pub mod ColumnLemmas
 pub mod CellLemmas
 pub mod ContentLemmas
 pub mod OnePrimitive
 pub mod SamenessLemmas
 pub mod Flat
+pub mod SpanLemmas

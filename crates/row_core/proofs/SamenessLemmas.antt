@@ -1,11 +1,10 @@
-use Rattle.std.specs.Prelude.{◌≡◌, ℕ, List, ℤ, Bool, ◌&&◌, map, nat_eq, Decides}
+use Rattle.std.specs.Prelude.{◌≡◌, ℕ, ◌+◌, ◌<◌, List, [], ◌∷◌, length, ℤ, Bool, true, false, ◌&&◌, nat_eq, Decides, slice_index_or}
 use Rattle.std.specs.Bool.{beq}
 use Rattle.std.specs.Ordering.{int_eq}
 use Rattle.std.specs.Cmp.{unsigned_Decides, booleans_Decides}
 use Rattle.std.specs.Cmp.Lexicographic.{pointwise}
 use Rattle.std.specs.Cmp.Rules.{signed_items}
-use Rattle.std.specs.Cmp.Derive.Mapped.{pointwise-map}
-use Rattle.std.proofs.Common.{refl, ap, sym, ◌∙◌}
+use Rattle.std.proofs.Common.{suc, zero, refl, ap, sym, ◌∙◌, arith, below_more}
 use Rattle.std.proofs.lemmas.Bool.Decides.{Decides-and}
 use Rattle.std.proofs.lemmas.Slice.Eq.{slice_eq-Decides}
 use Rattle.row_core.specs.Lists.{Row, Rows}
@@ -27,11 +26,33 @@ is_same_list-Decides a b =
       λ e. both.1 (ap (λ (l : Rows). l.width) e, ap (λ (l : Rows). l.rows) e),
     )
 
--- a test of what the rows of two lists are made of
-pub same_marked-map : {X M : Type 0} (h : X → List ℤ × M) (E : M → M → Bool) (xs ys : List X) (us vs : List (List ℤ × M)) (r : Bool) → map h xs ≡ us → map h ys ≡ vs → r ≡ pointwise (λ x y. is_same_marked E (h x) (h y)) xs ys → r ≡ pointwise (is_same_marked E) us vs
-same_marked-map {X} {M} h E xs ys us vs r f g same =
-    same ∙ (sym (pointwise-map h (is_same_marked E) xs ys)
-    ∙ (ap (λ (l : List (List ℤ × M)). pointwise (is_same_marked E) l (map h ys)) f ∙ ap (λ (l : List (List ℤ × M)). pointwise (is_same_marked E) us l) g))
+-- the test holds of the first elements of two lists
+abbrev pub SameBelow : {A : Type 0} → (A → A → Bool) → List A → List A → ℕ → Type 0
+SameBelow {A} E xs ys n = (k : ℕ) → k < n → (d : A) → E (slice_index_or xs k d) (slice_index_or ys k d) ≡ true
+
+and-false : (b : Bool) → (b && false) ≡ false
+and-false true = refl
+and-false false = refl
+
+-- the test holds of one element more
+pub same_more : {A : Type 0} (E : A → A → Bool) (xs ys : List A) (i : ℕ) (r : Bool) → SameBelow E xs ys i → ((d : A) → r ≡ E (slice_index_or xs i d) (slice_index_or ys i d)) → r ≡ true → SameBelow E xs ys (i + 1)
+same_more {A} E xs ys i r so_far tested found =
+    below_more (λ k. (d : A) → E (slice_index_or xs k d) (slice_index_or ys k d) ≡ true) i so_far (λ d. sym (tested d) ∙ found)
+
+-- lists that differ at one place are told apart
+pub differ_at : {A : Type 0} (E : A → A → Bool) (xs ys : List A) (i : ℕ) (r : Bool) → i < length xs → ((d : A) → r ≡ E (slice_index_or xs i d) (slice_index_or ys i d)) → r ≡ false → pointwise E xs ys ≡ false
+differ_at E [] ys i r h tested other = absurd (omega (arith, h))
+differ_at E (x ∷ xs) [] i r h tested other = refl
+differ_at E (x ∷ xs) (y ∷ ys) zero r h tested other = ap (λ (b : Bool). b && pointwise E xs ys) (sym (tested x) ∙ other)
+differ_at E (x ∷ xs) (y ∷ ys) (suc i) r h tested other = ap (λ (b : Bool). E x y && b) (differ_at E xs ys i r (omega (arith, h)) (λ d. tested d) other) ∙ and-false (E x y)
+
+-- lists as long, whose elements are found the same at each place, are found the same
+pub same_at_each : {A : Type 0} (E : A → A → Bool) (xs ys : List A) → length xs ≡ length ys → SameBelow E xs ys (length xs) → pointwise E xs ys ≡ true
+same_at_each E [] [] long same = refl
+same_at_each E [] (y ∷ ys) long same = absurd (omega (arith, long))
+same_at_each E (x ∷ xs) [] long same = absurd (omega (arith, long))
+same_at_each E (x ∷ xs) (y ∷ ys) long same =
+    ap (λ (b : Bool). b && pointwise E xs ys) (same 0 (omega arith) x) ∙ same_at_each E xs ys (omega (arith, long)) (λ k h d. same (suc k) (omega (arith, h)) d)
 
 -- a test of the rows of two lists, where their widths agree
 pub is_same_list-rows : (a b : ℕ) (us vs : List Row) (l m : Rows) (r : Bool) → record { width = a; rows = us } ≡ l → record { width = b; rows = vs } ≡ m → a ≡ b → r ≡ pointwise (is_same_marked beq) us vs → r ≡ is_same_list l m

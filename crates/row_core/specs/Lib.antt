@@ -1,8 +1,10 @@
 pub mod Vectors
 pub mod Range
+pub mod Narrow
 pub mod Content
 pub mod Points
 pub mod Lists
 pub mod Laws
 pub mod Sameness
 pub mod Flat
+pub mod Spans

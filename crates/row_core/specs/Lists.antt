@@ -1,5 +1,6 @@
-use Rattle.std.specs.Prelude.{◌≡◌, ℕ, ◌^◌, ◌<◌, List, [], ◌++◌, length, map, ℤ, Bool, true, false, slice_index_or, All}
+use Rattle.std.specs.Prelude.{◌≡◌, ℕ, ◌^◌, ◌<◌, List, [], ◌∷◌, ◌++◌, length, map, ℤ, Bool, true, false, slice_index_or, All}
 use Rattle.row_core.specs.Range.{AllInRange}
+use Rattle.row_core.specs.Content.{IsPrimitiveOf}
 
 -- a row, and whether it is an equality
 abbrev pub Row : Type 0
@@ -44,3 +45,11 @@ pub record IsRow (width : ℕ) (row : Row) : Type 0 where
 pub record FitWidth (list : Rows) : Type 0 where
   pub each : All (IsRow list.width) list.rows
   pub narrow : list.width < 2 ^ 32
+
+-- the list gained the row, made primitive, with its mark
+pub record GainsPrimitive {M : Type 0} (old new : List (List ℤ × M)) (row : List ℤ) (mark : M) : Type 0 where
+  pub stored : List ℤ
+  pub primitive : IsPrimitiveOf row stored
+  pub in_range : AllInRange stored
+  pub wide : length stored ≡ length row
+  pub list : new ≡ old ++ (stored, mark) ∷ []

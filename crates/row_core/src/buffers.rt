@@ -139,7 +139,6 @@ impl Clone for RowBuf {
 /// Rows of one width, each marked as an equality or an inequality.
 #[derive(Debug, Drop)]
 pub struct RowList {
-    alloc: Global,
     width: usize,
     marked: MarkedRows<bool>,
 }
@@ -160,7 +159,6 @@ impl RowList {
         ensures empty { result.rows ≡ [] }
     {
         RowList {
-            alloc,
             width,
             marked: MarkedRows::new(alloc),
         }
@@ -173,11 +171,11 @@ impl RowList {
         ensures width { self.new.width ≡ self.old.width }
         ensures rows { MatchResult result (λ _. self.new.rows ≡ self.old.rows ++ (row.now, eq) ∷ []) (λ _. self.new.rows ≡ self.old.rows) }
     {
-        let row = RowBuf::new(self.alloc, row)?;
-        self.push_row(row, eq)
+        self.marked.push_copy(row, eq)?;
+        Ok(())
     }
 
-    /// Appends a row without a copy. After want of memory the list is as before, and the row is dropped.
+    /// Appends a row. After want of memory the list is as before, and the row is dropped.
     pub fn push_row(&mut self, row: RowBuf, eq: bool) -> Result<(), Memory>
         requires { length row ≡ self.old.width }
         ensures width { self.new.width ≡ self.old.width }
@@ -247,7 +245,6 @@ impl Clone for RowList {
 
     fn clone(&self) -> Result<RowList, AllocError> {
         Ok(RowList {
-            alloc: self.alloc,
             width: self.width,
             marked: self.marked.clone()?,
         })

@@ -2,9 +2,11 @@
 ghost use Rattle.std.specs.Prelude.{◌≡◌, ℕ, ◌+◌, ◌^◌, ◌<◌, length, MatchResult, OnOk};
 ghost use Rattle.row_core.specs.Vectors.{scale, add};
 ghost use Rattle.row_core.specs.Range.{AllInRange, CombineStays, IsFirstToLeave, AllStay};
+ghost use Rattle.row_core.specs.Narrow.{IsNarrow, AllNarrow};
 
 use crate::counting::Steps;
 use crate::linear::{check_combination, combined};
+use crate::narrow::{both_narrow, narrow_combined, rows_narrow};
 use std::sync::ledger::Ledger;
 
 /// Writes `s * dst + t * v` over `dst`.
@@ -16,6 +18,21 @@ fn write_onto(dst: &mut [i128], s: i128, v: &[i128], t: i128)
 {
     for j in 0..dst.len() {
         dst[j] = combined(s, dst[j], t, v[j]);
+    }
+}
+
+/// Writes `s * dst + t * v` over `dst`, where all are narrow.
+fn narrow_onto(dst: &mut [i128], s: i128, v: &[i128], t: i128)
+    requires same_width { length dst.old ≡ length v.now }
+    requires factors { IsNarrow s × IsNarrow t }
+    requires left { AllNarrow dst.old }
+    requires right { AllNarrow v.now }
+    ensures combined { dst.new ≡ add (scale s dst.old) (scale t v.now) }
+    ensures stays { AllStay (CombineStays dst.old s v.now t) (length dst.old) }
+    ensures in_range { AllInRange dst.new }
+{
+    for j in 0..dst.len() {
+        dst[j] = narrow_combined(s, dst[j], t, v[j]);
     }
 }
 
@@ -39,6 +56,10 @@ pub fn combine_onto<L: Ledger>(
     ensures in_range { OnOk result (AllInRange dst.new) }
 {
     steps.tick();
+    if both_narrow(s, t) && rows_narrow(dst, v) {
+        narrow_onto(dst, s, v, t);
+        return Ok(());
+    }
     check_combination(dst, s, v, t)?;
     write_onto(dst, s, v, t);
     Ok(())

@@ -6,6 +6,7 @@
 //! - [`Steps`] counts combinations of two rows.
 //! - [`dot`], [`combine_into`] and [`combine_onto`] give the exact numbers, or the first column that
 //!   leaves the range.
+//! - [`narrow_dot`] needs no such test, where [`all_narrow`] told that all numbers are small.
 //! - [`gcd`] and [`make_primitive`] divide a row by the greatest common divisor of its entries.
 //! - [`one_primitive`] is a law of primitive rows.
 #![tactic(auto)]
@@ -17,6 +18,7 @@ mod in_place;
 mod laws;
 mod linear;
 mod marked;
+mod narrow;
 mod primitive;
 
 pub use buffers::{RowBuf, RowList};
@@ -26,6 +28,7 @@ pub use in_place::combine_onto;
 pub use laws::one_primitive;
 pub use linear::{combine_into, dot};
 pub use marked::{Iter, MarkedRows};
+pub use narrow::{all_narrow, narrow_dot};
 pub use primitive::{gcd, make_primitive};
 
 #[cfg(test)]

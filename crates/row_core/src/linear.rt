@@ -4,6 +4,7 @@ ghost use Rattle.row_core.specs.Vectors.{dot, scale, add};
 ghost use Rattle.row_core.specs.Range.{InRange, AllInRange, ColumnStays, DotStays, CombineStays, IsFirstToLeave, AllStay};
 
 use crate::counting::Steps;
+use crate::narrow::{both_narrow, narrow_combination, narrow_dot, narrow_product, rows_narrow};
 use std::sync::ledger::Ledger;
 
 /// The one `i128` outside the range.
@@ -14,6 +15,9 @@ const OUTSIDE: i128 = i128::MIN;
 fn product(a: i128, b: i128) -> Option<i128>
     ensures { SomeIff result (InRange (a *ℤ b)) (a *ℤ b) }
 {
+    if both_narrow(a, b) {
+        return Some(narrow_product(a, b));
+    }
     match a.checked_mul(b) {
         Some(product) if product != OUTSIDE => Some(product),
         _ => None,
@@ -49,12 +53,8 @@ fn combination(s: i128, x: i128, t: i128, y: i128) -> Option<i128>
     sum(left, right)
 }
 
-/// The sum of the products of equal columns of two rows of one width.
-///
-/// # Errors
-///
-/// The first column at which a product or a partial sum leaves the range.
-pub fn dot(u: &[i128], v: &[i128]) -> Result<i128, u32>
+/// The sum of the products of equal columns, with each product and each partial sum tested.
+fn checked_dot(u: &[i128], v: &[i128]) -> Result<i128, u32>
     requires same_width { length u.now ≡ length v.now }
     requires narrow { length u.now < 2 ^ 32 }
     ensures exact { MatchResult result (λ d. (d ≡ dot u.now v.now) × AllStay (DotStays u.now v.now) (length u.now)) (IsFirstToLeave (DotStays u.now v.now) (length u.now)) }
@@ -68,6 +68,23 @@ pub fn dot(u: &[i128], v: &[i128]) -> Result<i128, u32>
         total = next;
     }
     Ok(total)
+}
+
+/// The sum of the products of equal columns of two rows of one width.
+///
+/// # Errors
+///
+/// The first column at which a product or a partial sum leaves the range.
+pub fn dot(u: &[i128], v: &[i128]) -> Result<i128, u32>
+    requires same_width { length u.now ≡ length v.now }
+    requires narrow { length u.now < 2 ^ 32 }
+    ensures exact { MatchResult result (λ d. (d ≡ dot u.now v.now) × AllStay (DotStays u.now v.now) (length u.now)) (IsFirstToLeave (DotStays u.now v.now) (length u.now)) }
+    ensures in_range { IfOk result InRange }
+{
+    if rows_narrow(u, v) {
+        return Ok(narrow_dot(u, v));
+    }
+    checked_dot(u, v)
 }
 
 /// Whether `s * u + t * v` and all products in it are in the range.
@@ -133,6 +150,10 @@ pub fn combine_into<L: Ledger>(
     ensures in_range { OnOk result (AllInRange dst.new) }
 {
     steps.tick();
+    if both_narrow(s, t) && rows_narrow(u, v) {
+        narrow_combination(dst, u, s, v, t);
+        return Ok(());
+    }
     check_combination(u, s, v, t)?;
     write_combination(dst, u, s, v, t);
     Ok(())

@@ -6,8 +6,13 @@ ghost use Rattle.row_core.specs.Vectors.{scale};
 ghost use Rattle.row_core.specs.Range.{InRange, AllInRange};
 ghost use Rattle.row_core.specs.Content.{DividesAll, IsPrimitive, IsMultipleOf};
 
-/// The greatest common divisor, by Euclid's algorithm. That of 0 and 0 is 0.
-pub fn gcd(a: u128, b: u128) -> u128
+use crate::narrow::both_narrow;
+
+/// The greatest number of one word.
+const WORD: u128 = 0xffff_ffff_ffff_ffff;
+
+/// The greatest common divisor of words, by Euclid's algorithm. That of 0 and 0 is 0.
+fn word_gcd(a: u64, b: u64) -> u64
     ensures { IsGcd a b result }
 {
     let mut x = a;
@@ -20,6 +25,41 @@ pub fn gcd(a: u128, b: u128) -> u128
     x
 }
 
+/// The greatest common divisor of numbers of two words, by Euclid's algorithm. That of 0 and 0 is 0.
+fn wide_gcd(a: u128, b: u128) -> u128
+    ensures { IsGcd a b result }
+{
+    let mut x = a;
+    let mut y = b;
+    while y != 0 {
+        let rest = x % y;
+        x = y;
+        y = rest;
+    }
+    x
+}
+
+/// The greatest common divisor, by Euclid's algorithm. That of 0 and 0 is 0.
+pub fn gcd(a: u128, b: u128) -> u128
+    ensures { IsGcd a b result }
+{
+    if a <= WORD && b <= WORD {
+        return u128::from(word_gcd(a as u64, b as u64));
+    }
+    wide_gcd(a, b)
+}
+
+/// The greatest common divisor of that of the entries before and one entry more.
+#[inline]
+fn divisor_with(divisor: u128, entry: u128) -> u128
+    ensures { IsGcd divisor entry result }
+{
+    if entry == 0 {
+        return divisor;
+    }
+    gcd(entry, divisor)
+}
+
 /// The greatest common divisor of the entries, and 0 where all are 0.
 fn content(row: &[i128]) -> u128
     requires { AllInRange row.now }
@@ -29,7 +69,7 @@ fn content(row: &[i128]) -> u128
 {
     let mut divisor = 0;
     for j in 0..row.len() {
-        divisor = gcd(divisor, row[j].unsigned_abs());
+        divisor = divisor_with(divisor, row[j].unsigned_abs());
         if divisor == 1 {
             return 1;
         }
@@ -46,6 +86,9 @@ fn quotient(x: i128, divisor: i128) -> i128
     ensures value { x ≡ divisor *ℤ result }
     ensures in_range { InRange result }
 {
+    if both_narrow(x, divisor) {
+        return i128::from(x as i64 / divisor as i64);
+    }
     x / divisor
 }
 

@@ -8,6 +8,9 @@ use std::test::Fail;
 
 const K: i128 = i128::MAX;
 
+/// The limit of narrow entries.
+const N: i128 = 1 << 47;
+
 #[test]
 fn dots(rt: HostRuntime) -> Result<(), Fail> {
     assert_eq!(rt; dot(&[1, -2, 3], &[4, 5, 6]), Ok(12));
@@ -28,6 +31,24 @@ fn dots(rt: HostRuntime) -> Result<(), Fail> {
         Err(1),
         "the least i128 is below the range"
     );
+    Ok(())
+}
+
+#[test]
+fn narrow_and_wide_dots(rt: HostRuntime) -> Result<(), Fail> {
+    let square = N * N;
+    assert_eq!(rt;
+        dot(&[N - 1, -N, 1 - N], &[1 - N, N - 1, -N]),
+        Ok(-(N - 1) * (N - 1))
+    );
+    assert_eq!(rt; dot(&[-N, -N, -N], &[-N, -N, -N]), Ok(3 * square));
+    assert_eq!(rt; dot(&[N, -N - 1], &[N, N]), Ok(-N));
+    assert_eq!(rt;
+        dot(&[1, 2, K], &[3, 4, 1]),
+        Err(2),
+        "the last entry is wide"
+    );
+    assert_eq!(rt; dot(&[1, 2, 1 - K], &[3, 4, 1]), Ok(12 - K));
     Ok(())
 }
 
@@ -56,6 +77,13 @@ fn check_combinations<L: Ledger>(rt: &impl Abort, blank: Blank)
     assert_eq!(rt; row, [1, 13]);
     assert_eq!(rt; combine_onto(&mut row, 1, &[1, K], 1, &mut steps), Err(1));
     assert_eq!(rt; row, [1, 13], "a refused combination keeps its row");
+    assert_eq!(rt;
+        combine_into(&mut row, &[N - 1, -N], N - 1, &[N, 1], -N, &mut steps),
+        Ok(())
+    );
+    assert_eq!(rt; row, [1 - 2 * N, -N * N]);
+    assert_eq!(rt; combine_onto(&mut row, 1, &[1, N], N, &mut steps), Ok(()));
+    assert_eq!(rt; row, [1 - N, 0]);
 }
 
 #[test]
@@ -69,6 +97,8 @@ fn divisors(rt: HostRuntime) -> Result<(), Fail> {
     assert_eq!(rt; gcd(0, 7), 7);
     assert_eq!(rt; gcd(0, 0), 0);
     assert_eq!(rt; gcd(1 << 127, 3 << 100), 1 << 100);
+    assert_eq!(rt; gcd((1 << 64) - 1, 5 << 64), 5);
+    assert_eq!(rt; gcd((1 << 64) - 1, 35), 5);
     Ok(())
 }
 
@@ -83,6 +113,9 @@ fn primitive_rows(rt: HostRuntime) -> Result<(), Fail> {
     let mut single = [-K];
     make_primitive(&mut single);
     assert_eq!(rt; single, [-1]);
+    let mut wide = [0, 1 << 100, -(3 << 60), 0];
+    make_primitive(&mut wide);
+    assert_eq!(rt; wide, [0, 1 << 40, -3, 0]);
     Ok(())
 }
 
@@ -96,6 +129,21 @@ fn kept_rows(rt: HostRuntime) -> Result<(), Fail> {
     assert_eq!(rt; list.len(), 2);
     assert_eq!(rt; list.row(1), [-3, 4].as_slice());
     assert!(rt; list.is_eq(0) && !list.is_eq(1));
+    Ok(())
+}
+
+#[test]
+fn marked_rows(rt: HostRuntime) -> Result<(), Fail> {
+    let mut rows = MarkedRows::new(rt.alloc());
+    rows.push_copy(&[7], true)?;
+    rows.push_primitive(&[4, -6], false)?;
+    let both = rows.followed_by(&rows)?;
+    assert_eq!(rt; both.len(), 4);
+    assert_eq!(rt; both.row(2), [7].as_slice());
+    assert_eq!(rt; both.row(3), [2, -3].as_slice());
+    assert!(rt; both.mark(2) && !both.mark(3));
+    let copy = rows.clone()?;
+    assert!(rt; copy == rows && copy != both);
     Ok(())
 }
 

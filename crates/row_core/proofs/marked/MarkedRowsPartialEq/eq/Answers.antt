@@ -1,6 +1,23 @@
-use Rattle.row_core.proofs.SamenessLemmas.{same_marked-map}
+use Rattle.std.specs.Prelude.{◌≡◌, ◌<◌, length}
+use Rattle.std.proofs.Common.{sym, ap, ◌∙◌, arith}
+use Rattle.std.proofs.lemmas.List.{length-map}
+use Rattle.row_core.specs.Sameness.{is_same_marked}
+use Rattle.row_core.proofs.SamenessLemmas.{same_more, differ_at, same_at_each}
 use Rattle.row_core.proofs.marked.MarkedRowsPartialEq.eq.Goals as goal
+
+pub returns-then-not-is_same_at : goal.returns-then-not-is_same_at
+returns-then-not-is_same_at g c =
+    let long : length c.args.self.now ≡ length c.self.inside.spans.items = sym (ap length c.self.view_is) ∙ length-map c.self.inside.spans.items _ in
+    let below : c.loop-i.i < length c.args.self.now = omega (arith, c.self.inside.spans.ok.0) in
+    sym (differ_at _ c.args.self.now c.args.other.now c.loop-i.i c.is_same_at.result below c.is_same_at.ensures c.if-not-is_same_at.true)
+
+pub loop-i-preserved : goal.loop-i-preserved
+loop-i-preserved g c =
+    same_more (is_same_marked g.M.PartialEq.eq) c.args.self.now c.args.other.now c.loop-i.i c.is_same_at.result c.loop-i.invariant c.is_same_at.ensures c.if-not-is_same_at.false
 
 pub returns : goal.returns
 returns g c =
-    same_marked-map (λ m. (m.row, m.mark)) g.M.PartialEq.eq c.self.inside.marked.items c.other.inside.marked.items c.args.self.now c.args.other.now c.eq.result c.self.view_is c.other.view_is c.eq.ensures
+    let left : length c.args.self.now ≡ length c.self.inside.spans.items = sym (ap length c.self.view_is) ∙ length-map c.self.inside.spans.items _ in
+    let right : length c.args.other.now ≡ length c.other.inside.spans.items = sym (ap length c.other.view_is) ∙ length-map c.other.inside.spans.items _ in
+    let long : length c.args.self.now ≡ length c.args.other.now = omega (arith, c.self.inside.spans.ok.0, c.other.inside.spans.ok.0) in
+    sym (same_at_each _ c.args.self.now c.args.other.now long (λ k h d. c.loop-i.invariant k (omega (arith, c.self.inside.spans.ok.0)) d))

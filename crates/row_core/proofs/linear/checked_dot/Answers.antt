@@ -5,7 +5,7 @@ use Rattle.std.proofs.lemmas.Int.{to_z-of_z, fits_signed_from_abs}
 use mir.Val.{SFits, to_z}
 use Rattle.row_core.specs.Range.{InRange, DotStays}
 use Rattle.row_core.proofs.ColumnLemmas.{total_more, stays_then, stays_more}
-use Rattle.row_core.proofs.linear.dot.Goals as goal
+use Rattle.row_core.proofs.linear.checked_dot.Goals as goal
 
 pub returns-in_default-clause-exact : goal.returns-in_default-clause-exact
 returns-in_default-clause-exact c =

@@ -1,7 +1,7 @@
 use Rattle.std.specs.Prelude.{◌≡◌, take}
 use Rattle.row_core.specs.Vectors.{dot}
 use Rattle.row_core.specs.Range.{InRange, DotStays, AllStay}
-use Rattle.row_core.proofs.linear.dot.Given as goal
+use Rattle.row_core.proofs.linear.checked_dot.Given as goal
 
 abbrev pub invariant-loop-j : goal.invariant-loop-j
 invariant-loop-j l = record {
