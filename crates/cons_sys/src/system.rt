@@ -54,12 +54,12 @@ impl ConsSys {
         ensures dim { self.new.dim ≡ self.old.dim }
         ensures list { MatchResult result (λ _. Gains self.old.list self.new.list row.now kind) (λ _. self.new.list ≡ self.old.list) }
     {
-        let row = RowBuf::new(self.alloc, row)?;
-        self.push_row(row, kind)
+        self.rows.push_primitive(row, kind)?;
+        Ok(())
     }
 
-    /// Appends the constraint without a copy, its row made primitive. After want of memory the list is
-    /// as before, and the row is dropped.
+    /// Appends the constraint, its row made primitive; that of the first one is taken over without a
+    /// copy. After want of memory the list is as before, and the row is dropped.
     pub fn push_row(&mut self, row: RowBuf, kind: ConKind) -> Result<(), Memory>
         requires { length row ≡ self.old.dim + 1 }
         ensures dim { self.new.dim ≡ self.old.dim }

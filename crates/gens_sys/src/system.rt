@@ -61,12 +61,11 @@ impl GensSys {
         ensures list { MatchResult result (λ _. Gains self.old.list self.new.list row.now kind) (λ _. self.new.list ≡ self.old.list) }
     {
         self.check(row, kind)?;
-        let row = RowBuf::new(self.alloc, row)?;
         self.store(row, kind)?;
         Ok(())
     }
 
-    /// Appends the vector without a copy, made primitive.
+    /// Appends the vector, made primitive; the first one is taken over without a copy.
     ///
     /// # Errors
     ///
@@ -79,7 +78,7 @@ impl GensSys {
         ensures list { MatchResult result (λ _. Gains self.old.list self.new.list row kind) (λ _. self.new.list ≡ self.old.list) }
     {
         self.check(row.cells(), kind)?;
-        self.store(row, kind)?;
+        self.store_row(row, kind)?;
         Ok(())
     }
 
@@ -97,8 +96,8 @@ impl GensSys {
         Ok(())
     }
 
-    /// Appends a vector that may be kept.
-    fn store(&mut self, row: RowBuf, kind: GenKind) -> Result<(), Memory>
+    /// Appends a vector that may be kept, made primitive.
+    fn store_row(&mut self, row: RowBuf, kind: GenKind) -> Result<(), Memory>
         requires wide { length row ≡ self.old.dim + 1 }
         requires divisor { ¬ (HasBadDivisor kind (cell row self.old.dim)) }
         requires nonzero { ¬ (IsZeroDirection kind row) }
@@ -107,6 +106,19 @@ impl GensSys {
     {
         let row = row.into_primitive();
         self.rows.push(row, kind)?;
+        Ok(())
+    }
+
+    /// Appends a copy of a vector that may be kept, made primitive.
+    fn store(&mut self, row: &[i128], kind: GenKind) -> Result<(), Memory>
+        requires wide { length row.now ≡ self.old.dim + 1 }
+        requires in_range { AllInRange row.now }
+        requires divisor { ¬ (HasBadDivisor kind (cell row.now self.old.dim)) }
+        requires nonzero { ¬ (IsZeroDirection kind row.now) }
+        ensures dim { self.new.dim ≡ self.old.dim }
+        ensures list { MatchResult result (λ _. Gains self.old.list self.new.list row.now kind) (λ _. self.new.list ≡ self.old.list) }
+    {
+        self.rows.push_primitive(row, kind)?;
         Ok(())
     }
 

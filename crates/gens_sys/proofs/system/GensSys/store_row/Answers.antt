@@ -1,0 +1,23 @@
+use Rattle.std.specs.Prelude.{◌≡◌, ℕ}
+use Rattle.std.proofs.Common.{arith, ap, subst}
+use Rattle.row_core.specs.Vectors.{cell}
+use Rattle.gens_sys.specs.Kinds.{HasBadDivisor}
+use Rattle.gens_sys.specs.Generators.{Generators}
+use Rattle.gens_sys.proofs.SystemLemmas.{FitDimension-push}
+use Rattle.gens_sys.proofs.MultipleLemmas.{HasBadDivisor-multiple, IsZeroDirection-multiple}
+use Rattle.gens_sys.proofs.system.GensSys.store_row.Goals as goal
+
+pub invariant_of-self-2 : goal.invariant_of-self-2
+invariant_of-self-2 c =
+    let multiple = c.into_primitive-row.ensures.primitive.multiple in
+    let stored = c.into_primitive-row.result in
+    let same_dim : c.self.inside.dim ≡ c.args.self.now.dim = ap (λ (gs : Generators). gs.dim) c.self.view_is in
+    rw c.in_ok-push.ensures
+    (FitDimension-push c.self.inside.dim _ (c.into_primitive-row.result, c.args.kind) c.self.invariant
+    (record {
+      wide = omega (arith, c.into_primitive-row.ensures.width, c.requires.wide, same_dim);
+      in_range = c.into_primitive-row.ensures.in_range;
+      primitive = c.into_primitive-row.ensures.primitive.primitive;
+      divisor = λ bad. c.requires.divisor (subst (λ (d : ℕ). HasBadDivisor c.args.kind (cell c.args.row d)) same_dim (HasBadDivisor-multiple c.args.kind c.args.row stored c.self.inside.dim multiple bad));
+      nonzero = λ zero. c.requires.nonzero (IsZeroDirection-multiple c.args.kind c.args.row stored multiple zero);
+    }))
