@@ -1,5 +1,6 @@
 //! How many places are true.
-ghost use Rattle.std.specs.Prelude.{◌≡◌, ◌*◌, ◌^◌, ◌<◌, ◌&&◌, length};
+ghost use Rattle.std.specs.Prelude.{◌≡◌, ◌*◌, ◌^◌, ◌<◌, ◌&&◌, length, bit_and};
+ghost use Rattle.std.specs.Int.RustNames.{count_ones};
 ghost use Rattle.std.specs.List.{range_with_len, count_by};
 ghost use Rattle.sat_bits.specs.Places.{place};
 
@@ -15,12 +16,23 @@ pub fn count(a: &[u64]) -> usize
     total
 }
 
+/// The number of bits that two words share.
+#[inline]
+fn shared_bits(a: u64, b: u64) -> usize
+    ensures { result ≡ count_ones (bit_and a b) }
+{
+    (a & b).count_ones() as usize
+}
+
 /// The number of places that are true in both rows.
 pub fn count_and(a: &[u64], b: &[u64]) -> usize
     requires few { count_by (λ i. place a.now i && place b.now i) (range_with_len 0 (length a.now * 64)) < 2 ^ 64 }
     requires second { length b.now ≡ length a.now }
     ensures { result ≡ count_by (λ i. place a.now i && place b.now i) (range_with_len 0 (length a.now * 64)) }
 {
+    if a.len() == 1 {
+        return shared_bits(a[0], b[0]);
+    }
     let mut total = 0;
     for word in 0..a.len() {
         total += (a[word] & b[word]).count_ones() as usize;

@@ -50,12 +50,30 @@ pub fn and_into(dst: &mut [u64], a: &[u64], b: &[u64])
     }
 }
 
+/// Whether each place that is true in both `a` and `b` is true in `c`, word by word.
+#[inline]
+fn is_subset_by_words(a: &[u64], b: &[u64], c: &[u64]) -> bool
+    requires second { length b.now ≡ length a.now }
+    requires third { length c.now ≡ length a.now }
+    ensures { IsTrue result ↔ IsSubsetOfAnd a.now b.now c.now }
+{
+    for word in 0..a.len() {
+        if !is_word_covered(a[word], b[word], c[word]) {
+            return false;
+        }
+    }
+    true
+}
+
 /// Whether each place that is true in both `a` and `b` is true in `c`.
 pub fn is_subset_of_and(a: &[u64], b: &[u64], c: &[u64]) -> bool
     requires second { length b.now ≡ length a.now }
     requires third { length c.now ≡ length a.now }
     ensures { IsTrue result ↔ IsSubsetOfAnd a.now b.now c.now }
 {
+    if a.len() < 8 {
+        return is_subset_by_words(a, b, c);
+    }
     let (a_blocks, a_rest) = a.as_chunks::<8>();
     let (b_blocks, b_rest) = b.as_chunks::<8>();
     let (c_blocks, c_rest) = c.as_chunks::<8>();

@@ -2,3 +2,5 @@ pub mod WordRows
 pub mod BitRows
 pub mod WrittenRows
 pub mod Counting
+pub mod SingleWords
+pub mod CopiedRows

@@ -1,13 +1,17 @@
-use Rattle.std.specs.Prelude.{◌≡◌, ◌≢◌, ℕ, ◌*◌, ◌≤◌, Bool, false, List, [], ◌∷◌, All, map, length, bit_and}
+use Rattle.std.specs.Prelude.{◌≡◌, ◌≢◌, ℕ, ◌*◌, ◌<◌, ◌≤◌, Bool, false, List, [], ◌∷◌, All, map, length, slice_index_or, bit_and}
 use Rattle.std.specs.List.{range_with_len}
-use Rattle.sat_bits.specs.Places.{place}
-use Rattle.row_core.specs.Flat.{Flat}
+use Rattle.sat_bits.specs.Places.{place, IsNoneMissing, IsSubsetOfAnd}
+use Rattle.row_core.specs.Flat.{Flat, entries_at}
 
 -- the conjunctions of two rows, word by word
 abbrev pub and_words : List ℕ → List ℕ → List ℕ
 and_words [] ys = []
 and_words (x ∷ xs) [] = []
 and_words (x ∷ xs) (y ∷ ys) = bit_and x y ∷ and_words xs ys
+
+-- the first words of a row, and words of 0 past its end
+abbrev pub fitted : ℕ → List ℕ → List ℕ
+fitted width words = map (λ k. slice_index_or words k 0) (range_with_len 0 width)
 
 -- the second row differs from the first at one place alone
 pub record IsPlaceSet (i : ℕ) (bit : Bool) (old new : List ℕ) : Type 0 where
@@ -27,3 +31,25 @@ IsPadded columns words = (c : ℕ) → columns ≤ c → place words c ≡ false
 pub record IsTable (columns : ℕ) (words : Flat ℕ) : Type 0 where
   pub within : columns ≤ words.width * 64
   pub padded : All (IsPadded columns) words.rows
+
+-- word k is at another place than i and j, and has each bit that both of these have
+pub record IsThirdWord (words : List ℕ) (i j k : ℕ) : Type 0 where
+  pub inside : k < length words
+  pub not_first : k ≢ i
+  pub not_second : k ≢ j
+  pub covers : IsNoneMissing (slice_index_or words i 0) (slice_index_or words j 0) (slice_index_or words k 0)
+
+-- some word at another place than i and j has each bit that both of these have
+abbrev pub HasThirdWord : List ℕ → ℕ → ℕ → Type 0
+HasThirdWord words i j = (k : ℕ) × IsThirdWord words i j k
+
+-- row k is another row than i and j, and has each bit that both have
+pub record IsThirdRow (words : Flat ℕ) (i j k : ℕ) : Type 0 where
+  pub row : k < length words.rows
+  pub not_first : k ≢ i
+  pub not_second : k ≢ j
+  pub covers : IsSubsetOfAnd (entries_at words.rows i) (entries_at words.rows j) (entries_at words.rows k)
+
+-- some row other than i and j has each bit that both have
+abbrev pub HasThirdRow : Flat ℕ → ℕ → ℕ → Type 0
+HasThirdRow words i j = (k : ℕ) × IsThirdRow words i j k

@@ -133,6 +133,18 @@ impl SatMatrix {
         self.words.push_and(i, j);
     }
 
+    /// Appends a copy of row `i` of another table with as many columns.
+    pub fn push_row_of(&mut self, other: &SatMatrix, i: usize)
+        requires spare { 0 < self.old.spare }
+        requires columns { other.now.columns ≡ self.old.columns }
+        requires row { i < length other.now.rows }
+        ensures columns { self.new.columns ≡ self.old.columns }
+        ensures rows { self.new.rows ≡ self.old.rows ++ bits_of other.now.rows i ∷ [] }
+        ensures spare { self.new.spare + 1 ≡ self.old.spare }
+    {
+        self.words.push_row_of(&other.words, i);
+    }
+
     /// Appends a column of false. Afterwards nothing is reserved. After want of memory the table is
     /// as before.
     pub fn add_column(&mut self) -> Result<(), Memory>
@@ -231,6 +243,9 @@ impl SatMatrix {
         requires second { j < length self.now.rows }
         ensures { IsTrue result ↔ HasThird self.now i j }
     {
+        if self.words.width() == 1 {
+            return self.words.has_third_word(i, j);
+        }
         for k in 0..self.len() {
             if k != i && k != j && self.covers(i, j, k) {
                 return true;

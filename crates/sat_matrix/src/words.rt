@@ -1,7 +1,7 @@
 //! Rows of words in one buffer.
-ghost use Rattle.std.specs.Prelude.{◌≡◌, ℕ, ◌+◌, ◌*◌, ◌<◌, ◌≤◌, Bool, List, [], ◌∷◌, ◌++◌, length, map, max, replicate, take, drop, vec_len, vec_capacity, slice_set, OnOk, OnErr, IfOk};
+ghost use Rattle.std.specs.Prelude.{◌≡◌, ◌↔◌, ℕ, ◌+◌, ◌*◌, ◌^◌, ◌<◌, ◌≤◌, IsTrue, Bool, List, [], ◌∷◌, ◌++◌, length, map, max, replicate, take, drop, vec_len, vec_capacity, slice_index_or, slice_set, OnOk, OnErr, IfOk};
 ghost use Rattle.row_core.specs.Flat.{Flat, entries_at, rows_of, IsLaidOut, HasOneWidth, marked};
-ghost use Rattle.sat_matrix.specs.Words.{and_words};
+ghost use Rattle.sat_matrix.specs.Words.{and_words, fitted, HasThirdWord, HasThirdRow};
 
 use row_core::Memory;
 use std::alloc::Global;
@@ -68,6 +68,18 @@ impl WordRows {
         &self.cells[start..start + self.width]
     }
 
+    /// Whether some row other than `i` and `j` has each bit that both have, where each row is one
+    /// word.
+    #[inline]
+    pub fn has_third_word(&self, i: usize, j: usize) -> bool
+        requires single { self.now.width ≡ 1 }
+        requires first { i < length self.now.rows }
+        requires second { j < length self.now.rows }
+        ensures { IsTrue result ↔ HasThirdRow self.now i j }
+    {
+        some_other_covers(&self.cells, i, j)
+    }
+
     /// Writes a word.
     #[inline]
     pub fn put(&mut self, row: usize, column: usize, word: u64)
@@ -119,6 +131,20 @@ impl WordRows {
     {
         let width = self.width;
         append_and(&mut self.cells, i * width, j * width, width);
+        self.count += 1;
+        self.spare -= 1;
+    }
+
+    /// Appends a copy of row `i` of other rows, cut or followed by words of 0 to the width.
+    pub fn push_row_of(&mut self, other: &WordRows, i: usize)
+        requires spare { 0 < self.old.spare }
+        requires row { i < length other.now.rows }
+        ensures width { self.new.width ≡ self.old.width }
+        ensures rows { self.new.rows ≡ self.old.rows ++ fitted self.old.width (entries_at other.now.rows i) ∷ [] }
+        ensures spare { self.new.spare + 1 ≡ self.old.spare }
+    {
+        let width = self.width;
+        append_fitted(&mut self.cells, other.row(i), width);
         self.count += 1;
         self.spare -= 1;
     }
@@ -195,6 +221,22 @@ impl WordRows {
     }
 }
 
+// Whether some word at another place than `i` and `j` has each bit that both of these have.
+fn some_other_covers(words: &[u64], i: usize, j: usize) -> bool
+    requires first { i < length words.now }
+    requires second { j < length words.now }
+    ensures fit { (k : ℕ) → slice_index_or words.now k 0 < 2 ^ 64 }
+    ensures third { IsTrue result ↔ HasThirdWord words.now i j }
+{
+    let both = words[i] & words[j];
+    for k in 0..words.len() {
+        if both & !words[k] == 0 && k != i && k != j {
+            return true;
+        }
+    }
+    false
+}
+
 // Appends as many words that are 0, for which there is room.
 fn append_zeros(cells: &mut Vec<u64>, count: usize)
     requires { vec_len cells.old + count ≤ vec_capacity cells.old }
@@ -234,4 +276,24 @@ fn append_longer(cells: &mut Vec<u64>, row: &[u64])
         cells.push_reserved(*word);
     }
     cells.push_reserved(0);
+}
+
+// A word of a row, or 0 past its end.
+#[inline]
+fn word_or_zero(row: &[u64], word: usize) -> u64
+    ensures { result ≡ slice_index_or row.now word 0 }
+{
+    if word < row.len() { row[word] } else { 0 }
+}
+
+// Appends the first words of a row, and words of 0 past its end, for which there is room.
+fn append_fitted(cells: &mut Vec<u64>, row: &[u64], width: usize)
+    requires { vec_len cells.old + width ≤ vec_capacity cells.old }
+    ensures items { cells.new.items ≡ cells.old.items ++ fitted width row.now }
+    ensures len { vec_len cells.new ≡ vec_len cells.old + width }
+    ensures capacity { vec_capacity cells.new ≡ vec_capacity cells.old }
+{
+    for word in 0..width {
+        cells.push_reserved(word_or_zero(row, word));
+    }
 }

@@ -69,3 +69,22 @@ fn rows_of_several_words(rt: HostRuntime) -> Result<(), Fail> {
     assert!(rt; table.get(0, 64) && !table.get(0, 63));
     Ok(())
 }
+
+#[test]
+fn row_of_another_table(rt: HostRuntime) -> Result<(), Fail> {
+    let mut grown = SatMatrix::new(rt.alloc(), 63);
+    grown.add_column()?;
+    grown.reserve(3)?;
+    grown.push_reserved(false);
+    grown.push_reserved(true);
+    grown.set(1, 5, false);
+    let mut new = SatMatrix::new(rt.alloc(), 64);
+    new.reserve(1)?;
+    new.push_row_of(&grown, 1);
+    assert_eq!(rt; new.ones(0), 63);
+    assert!(rt; new.get(0, 63) && !new.get(0, 5));
+    assert!(rt; !grown.third_between(1, 1));
+    grown.push_row_of(&new, 0);
+    assert!(rt; grown.third_between(1, 1));
+    Ok(())
+}

@@ -1,4 +1,4 @@
-use Rattle.std.proofs.Common.{◌≡◌, length, arith, sym, ◌∙◌}
+use Rattle.std.proofs.Common.{arith, sym, ◌∙◌}
 use Rattle.sat_matrix.specs.Tables.{bits_of}
 use Rattle.sat_matrix.proofs.Counting.{shared_seen, shared-le}
 use Rattle.sat_matrix.proofs.matrix.SatMatrix.shared.Goals as goal

@@ -1,0 +1,52 @@
+-- Copies of rows of words.
+use Rattle.std.proofs.Common.{◌≡◌, ℕ, ◌+◌, ◌*◌, ◌/◌, ◌%◌, ◌<◌, ◌≤◌, ◌⊎◌, inl, inr, Bool, false, List, [], ◌∷◌, ◌++◌, length, get_or, map, sym, ap, ◌∙◌, arith}
+use Rattle.std.proofs.lemmas.Bool.{cases_lt}
+use Rattle.std.proofs.lemmas.List.{ext_get_or, get_or_past, map-append, append_assoc}
+use Rattle.std.proofs.lemmas.List.FromFn.{length-map-range_with_len, get_or-map-range_with_len, map-range_with_len_more}
+use Rattle.sat_bits.specs.Places.{place, bit_in}
+use Rattle.row_core.specs.Flat.{Flat, entries_at}
+use Rattle.sat_matrix.specs.Tables.{Table, bits_of}
+use Rattle.sat_matrix.specs.Words.{bits_in, fitted, IsPadded}
+use Rattle.sat_matrix.proofs.BitRows.{seen_bits, seen_in, length-bits_in, bit_is, none_in_zeros}
+
+pub length-fitted : (width : ℕ) (row : List ℕ) → length (fitted width row) ≡ width
+length-fitted width row = length-map-range_with_len (λ k. get_or row k 0) 0 width
+
+-- one word more
+pub fitted_more : (k : ℕ) (old cells row : List ℕ) (word : ℕ) → cells ≡ old ++ fitted k row → word ≡ get_or row k 0 → cells ++ word ∷ [] ≡ old ++ fitted (k + 1) row
+fitted_more k old cells row word so is =
+    let step : fitted (k + 1) row ≡ fitted k row ++ get_or row k 0 ∷ [] = map-range_with_len_more (λ i. get_or row i 0) 0 k k (omega arith) in
+    ap (λ (zs : List ℕ). zs ++ word ∷ []) so ∙ append_assoc old (fitted k row) (word ∷ [])
+    ∙ ap (λ (w : ℕ). old ++ (fitted k row ++ w ∷ [])) is ∙ ap (λ (zs : List ℕ). old ++ zs) (sym step)
+
+place_within : (width c : ℕ) (row : List ℕ) → c / 64 < width → place (fitted width row) c ≡ place row c
+place_within width c row h = ap (λ (w : ℕ). bit_in w (c % 64)) (get_or-map-range_with_len (λ k. get_or row k 0) 0 width (c / 64) (c / 64) 0 h (omega arith))
+
+place_past : (width c : ℕ) (row : List ℕ) → width ≤ c / 64 → place (fitted width row) c ≡ false
+place_past width c row h = ap (λ (w : ℕ). bit_in w (c % 64)) (get_or_past (fitted width row) (c / 64) 0 (omega (arith, h, length-fitted width row))) ∙ none_in_zeros 0 c
+
+pub padded_fitted : (columns width : ℕ) (row : List ℕ) → IsPadded columns row → IsPadded columns (fitted width row)
+padded_fitted columns width row padded c past = by_order (cases_lt (c / 64) width)
+  where
+    by_order : (c / 64 < width) ⊎ (width ≤ c / 64) → place (fitted width row) c ≡ false
+    by_order (inl h) = place_within width c row h ∙ padded c past
+    by_order (inr h) = place_past width c row h
+
+bits_in_fitted : (columns width : ℕ) (row : List ℕ) → columns ≤ width * 64 → bits_in columns (fitted width row) ≡ bits_in columns row
+bits_in_fitted columns width row within =
+    ext_get_or false (bits_in columns (fitted width row)) (bits_in columns row) (length-bits_in columns (fitted width row) ∙ sym (length-bits_in columns row))
+    (λ k h. let l : k < columns = omega (arith, h, length-bits_in columns (fitted width row)) in
+    bit_is columns (fitted width row) k l ∙ place_within width k row (omega (arith, l, within)) ∙ sym (bit_is columns row k l))
+
+-- a copy of a row of another table with as many columns
+pub copy_seen : (columns others : ℕ) (words new other : Flat ℕ) (t u : Table) (i : ℕ) → columns ≤ words.width * 64 → seen_bits columns words ≡ t → seen_bits others other ≡ u → u.columns ≡ t.columns → i < length u.rows → new.rows ≡ words.rows ++ fitted words.width (entries_at other.rows i) ∷ []
+    → map (bits_in columns) new.rows ≡ t.rows ++ bits_of u.rows i ∷ []
+copy_seen columns others words new other t u i within e f same in_i rows =
+    let s = seen_in columns words t e in
+    let k = seen_in others other u f in
+    let row : List ℕ = entries_at other.rows i in
+    let as_many : columns ≡ others = omega (arith, s.wide, k.wide, same) in
+    ap (λ (rs : List (List ℕ)). map (bits_in columns) rs) rows
+    ∙ map-append (bits_in columns) words.rows (fitted words.width row ∷ [])
+    ∙ ap (λ (v : Table). v.rows ++ bits_in columns (fitted words.width row) ∷ []) e
+    ∙ ap (λ (r : List Bool). t.rows ++ r ∷ []) (bits_in_fitted columns words.width row within ∙ ap (λ (n : ℕ). bits_in n row) as_many ∙ sym (k.row i (omega (arith, k.count, in_i))))
