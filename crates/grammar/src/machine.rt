@@ -8,6 +8,9 @@ const WIDTH: usize = 32;
 /// The state from which no text of the form is reached.
 const DEAD: u8 = 255;
 
+/// The most steps of a table that has none for the dead state.
+const MOST_STEPS: usize = 8_160;
+
 /// A deterministic machine as a table. It begins in state 0.
 #[derive(Clone, Copy)]
 pub struct Machine<'a> {
@@ -20,13 +23,40 @@ pub struct Machine<'a> {
 }
 
 impl Machine<'_> {
-    ghost use Rattle.std.specs.Prelude.{◌≡◌, slice_index_or, false};
-    ghost use Rattle.grammar.specs.Form.{Form};
+    ghost use Rattle.std.specs.Prelude.{◌≡◌, slice_index_or, false, IsTrue};
+    ghost use Rattle.grammar.specs.Form.{Form, Matches};
     ghost use Rattle.grammar.specs.Machine.{next, Decides};
     ghost use Rattle.grammar.specs.Verdict.{IsVerdict};
 
     /// Whether the text has the form that the machine decides. Linear in the length, and without memory.
     pub fn column(&self, text: &[u8]) -> Verdict
+        ensures { (form : Form) → Decides self.now.classes.now self.now.steps.now self.now.ends.now form → IsVerdict form text.now result }
+    {
+        if self.accepts(text) {
+            return Verdict::Accepted;
+        }
+        self.column_by_byte(text)
+    }
+
+    // Whether the text is known to have the form, from the state behind all of it: no step leads out of the dead one.
+    fn accepts(&self, text: &[u8]) -> bool
+        ensures { (form : Form) → Decides self.now.classes.now self.now.steps.now self.now.ends.now form → IsTrue result → Matches form text.now }
+    {
+        if self.steps.len() > MOST_STEPS {
+            return false;
+        }
+        let mut state = 0;
+        for byte in text {
+            state = self.state_after(state, *byte);
+        }
+        if state == DEAD {
+            return false;
+        }
+        self.may_end(state)
+    }
+
+    // The verdict, up to the byte at which the dead state is reached.
+    fn column_by_byte(&self, text: &[u8]) -> Verdict
         ensures { (form : Form) → Decides self.now.classes.now self.now.steps.now self.now.ends.now form → IsVerdict form text.now result }
     {
         let mut state = 0;

@@ -1,6 +1,7 @@
 //! The command of a row and its fields.
-ghost use Rattle.std.specs.Prelude.{◌≡◌, ℕ, List, ◌∷◌, length, take_while, IfOk};
+ghost use Rattle.std.specs.Prelude.{◌≡◌, ℕ, List, ◌∷◌, length, take_while, IfOk, MatchResult};
 ghost use Rattle.term_text.specs.Reading.{is_digit, is_upper};
+ghost use Rattle.reply_text.specs.declared.faults.ReadErr.TheVariants as read_err;
 ghost use Rattle.script_text.specs.Commands.{command_of, number_of, is_word, is_strict, begins_strict, part_from};
 ghost use Rattle.script_text.specs.Fields.{fields_in};
 ghost use Rattle.script_text.specs.Kinds.{IsOneName, IsNameAndPart, IsTwoNames, IsThreeNames, IsSpace, IsSpaceAndPart, IsTwoNamesNumber, IsTwoNamesVariable, IsNameFormat, IsNameNumberName};
@@ -12,7 +13,7 @@ use crate::command::{Command, Part};
 use crate::row::Row;
 use crate::variables::VarList;
 use crate::words::{part_of, split_word, three_words, two_words};
-use reply_text::Text;
+use reply_text::{ReadErr, Text};
 use row_core::Memory;
 use std::alloc::Global;
 
@@ -120,9 +121,9 @@ fn variables(alloc: Global, text: &[u8]) -> Result<VarList, Memory>
 }
 
 /// The command of a row with one name.
-fn of_one_name(alloc: Global, row: Row, rest: &[u8]) -> Result<Command, Memory>
+fn of_one_name(alloc: Global, row: Row, rest: &[u8]) -> Result<Command, ReadErr>
     requires { IsOneName row }
-    ensures { IfOk result (λ c. c ≡ command_of row (fields_in rest.now)) }
+    ensures { MatchResult result (λ c. c ≡ command_of row (fields_in rest.now)) (λ e. e ≡ read_err.Memory) }
 {
     let (first, _) = split_word(rest);
     let p = text(alloc, first)?;
@@ -134,9 +135,9 @@ fn of_one_name(alloc: Global, row: Row, rest: &[u8]) -> Result<Command, Memory>
 }
 
 /// The command of a row with a name and a part.
-fn of_name_part(alloc: Global, row: Row, rest: &[u8]) -> Result<Command, Memory>
+fn of_name_part(alloc: Global, row: Row, rest: &[u8]) -> Result<Command, ReadErr>
     requires { IsNameAndPart row }
-    ensures { IfOk result (λ c. c ≡ command_of row (fields_in rest.now)) }
+    ensures { MatchResult result (λ c. c ≡ command_of row (fields_in rest.now)) (λ e. e ≡ read_err.Memory) }
 {
     let (first, _) = split_word(rest);
     let p = text(alloc, first)?;
@@ -152,9 +153,9 @@ fn of_name_part(alloc: Global, row: Row, rest: &[u8]) -> Result<Command, Memory>
 }
 
 /// The command of a row with two names.
-fn of_two_names(alloc: Global, row: Row, rest: &[u8]) -> Result<Command, Memory>
+fn of_two_names(alloc: Global, row: Row, rest: &[u8]) -> Result<Command, ReadErr>
     requires { IsTwoNames row }
-    ensures { IfOk result (λ c. c ≡ command_of row (fields_in rest.now)) }
+    ensures { MatchResult result (λ c. c ≡ command_of row (fields_in rest.now)) (λ e. e ≡ read_err.Memory) }
 {
     let (first, second) = two_words(rest);
     let p = text(alloc, first)?;
@@ -169,9 +170,9 @@ fn of_two_names(alloc: Global, row: Row, rest: &[u8]) -> Result<Command, Memory>
 }
 
 /// The command of a row with three names.
-fn of_three_names(alloc: Global, row: Row, rest: &[u8]) -> Result<Command, Memory>
+fn of_three_names(alloc: Global, row: Row, rest: &[u8]) -> Result<Command, ReadErr>
     requires { IsThreeNames row }
-    ensures { IfOk result (λ c. c ≡ command_of row (fields_in rest.now)) }
+    ensures { MatchResult result (λ c. c ≡ command_of row (fields_in rest.now)) (λ e. e ≡ read_err.Memory) }
 {
     let (first, second, third) = three_words(rest);
     let out = text(alloc, first)?;
@@ -187,9 +188,9 @@ fn of_three_names(alloc: Global, row: Row, rest: &[u8]) -> Result<Command, Memor
 }
 
 /// The command of a row with a name, a topology and a number.
-fn of_space(alloc: Global, row: Row, rest: &[u8]) -> Result<Command, Memory>
+fn of_space(alloc: Global, row: Row, rest: &[u8]) -> Result<Command, ReadErr>
     requires { IsSpace row }
-    ensures { IfOk result (λ c. c ≡ command_of row (fields_in rest.now)) }
+    ensures { MatchResult result (λ c. c ≡ command_of row (fields_in rest.now)) (λ e. e ≡ read_err.Memory) }
 {
     let (first, second, third) = three_words(rest);
     let out = text(alloc, first)?;
@@ -202,9 +203,9 @@ fn of_space(alloc: Global, row: Row, rest: &[u8]) -> Result<Command, Memory>
 }
 
 /// The command of a row with a name, a topology, a number and a part.
-fn of_space_part(alloc: Global, row: Row, rest: &[u8]) -> Result<Command, Memory>
+fn of_space_part(alloc: Global, row: Row, rest: &[u8]) -> Result<Command, ReadErr>
     requires { IsSpaceAndPart row }
-    ensures { IfOk result (λ c. c ≡ command_of row (fields_in rest.now)) }
+    ensures { MatchResult result (λ c. c ≡ command_of row (fields_in rest.now)) (λ e. e ≡ read_err.Memory) }
 {
     let (first, second, third) = three_words(rest);
     let out = text(alloc, first)?;
@@ -228,9 +229,9 @@ fn of_space_part(alloc: Global, row: Row, rest: &[u8]) -> Result<Command, Memory
 }
 
 /// The command of a row with two names and a number.
-fn of_two_names_number(alloc: Global, row: Row, rest: &[u8]) -> Result<Command, Memory>
+fn of_two_names_number(alloc: Global, row: Row, rest: &[u8]) -> Result<Command, ReadErr>
     requires { IsTwoNamesNumber row }
-    ensures { IfOk result (λ c. c ≡ command_of row (fields_in rest.now)) }
+    ensures { MatchResult result (λ c. c ≡ command_of row (fields_in rest.now)) (λ e. e ≡ read_err.Memory) }
 {
     let (first, second, third) = three_words(rest);
     let out = text(alloc, first)?;
@@ -243,9 +244,9 @@ fn of_two_names_number(alloc: Global, row: Row, rest: &[u8]) -> Result<Command, 
 }
 
 /// The command of a row with two names, a variable and a part.
-fn of_two_names_variable(alloc: Global, row: Row, rest: &[u8]) -> Result<Command, Memory>
+fn of_two_names_variable(alloc: Global, row: Row, rest: &[u8]) -> Result<Command, ReadErr>
     requires { IsTwoNamesVariable row }
-    ensures { IfOk result (λ c. c ≡ command_of row (fields_in rest.now)) }
+    ensures { MatchResult result (λ c. c ≡ command_of row (fields_in rest.now)) (λ e. e ≡ read_err.Memory) }
 {
     let (first, second, third) = three_words(rest);
     let out = text(alloc, first)?;
@@ -259,9 +260,9 @@ fn of_two_names_variable(alloc: Global, row: Row, rest: &[u8]) -> Result<Command
 }
 
 /// The command of a row with a name and the kind of a file.
-fn of_name_format(alloc: Global, row: Row, rest: &[u8]) -> Result<Command, Memory>
+fn of_name_format(alloc: Global, row: Row, rest: &[u8]) -> Result<Command, ReadErr>
     requires { IsNameFormat row }
-    ensures { IfOk result (λ c. c ≡ command_of row (fields_in rest.now)) }
+    ensures { MatchResult result (λ c. c ≡ command_of row (fields_in rest.now)) (λ e. e ≡ read_err.Memory) }
 {
     let (first, second) = two_words(rest);
     let name = text(alloc, first)?;
@@ -273,9 +274,9 @@ fn of_name_format(alloc: Global, row: Row, rest: &[u8]) -> Result<Command, Memor
 }
 
 /// The command of a row with a name, a number and a name.
-fn of_name_number_name(alloc: Global, row: Row, rest: &[u8]) -> Result<Command, Memory>
+fn of_name_number_name(alloc: Global, row: Row, rest: &[u8]) -> Result<Command, ReadErr>
     requires { IsNameNumberName row }
-    ensures { IfOk result (λ c. c ≡ command_of row (fields_in rest.now)) }
+    ensures { MatchResult result (λ c. c ≡ command_of row (fields_in rest.now)) (λ e. e ≡ read_err.Memory) }
 {
     let (first, second, third) = three_words(rest);
     let s = text(alloc, first)?;
@@ -292,8 +293,8 @@ fn of_name_number_name(alloc: Global, row: Row, rest: &[u8]) -> Result<Command, 
 }
 
 /// `print`, with a side and a name.
-fn print_command(alloc: Global, rest: &[u8]) -> Result<Command, Memory>
-    ensures { IfOk result (λ c. c ≡ command_of row.Print (fields_in rest.now)) }
+fn print_command(alloc: Global, rest: &[u8]) -> Result<Command, ReadErr>
+    ensures { MatchResult result (λ c. c ≡ command_of row.Print (fields_in rest.now)) (λ e. e ≡ read_err.Memory) }
 {
     let (first, second) = two_words(rest);
     Ok(Command::Print {
@@ -303,8 +304,8 @@ fn print_command(alloc: Global, rest: &[u8]) -> Result<Command, Memory>
 }
 
 /// `remove`, with two names and the variables of its part.
-fn remove_command(alloc: Global, rest: &[u8]) -> Result<Command, Memory>
-    ensures { IfOk result (λ c. c ≡ command_of row.Remove (fields_in rest.now)) }
+fn remove_command(alloc: Global, rest: &[u8]) -> Result<Command, ReadErr>
+    ensures { MatchResult result (λ c. c ≡ command_of row.Remove (fields_in rest.now)) (λ e. e ≡ read_err.Memory) }
 {
     let (first, second) = two_words(rest);
     Ok(Command::Remove {
@@ -315,8 +316,8 @@ fn remove_command(alloc: Global, rest: &[u8]) -> Result<Command, Memory>
 }
 
 /// `system`, with a name and two numbers.
-fn system_command(alloc: Global, rest: &[u8]) -> Result<Command, Memory>
-    ensures { IfOk result (λ c. c ≡ command_of row.System (fields_in rest.now)) }
+fn system_command(alloc: Global, rest: &[u8]) -> Result<Command, ReadErr>
+    ensures { MatchResult result (λ c. c ≡ command_of row.System (fields_in rest.now)) (λ e. e ≡ read_err.Memory) }
 {
     let (first, second, third) = three_words(rest);
     Ok(Command::System {
@@ -327,8 +328,8 @@ fn system_command(alloc: Global, rest: &[u8]) -> Result<Command, Memory>
 }
 
 /// `trans`, with a name, two numbers and a name.
-fn trans_command(alloc: Global, rest: &[u8]) -> Result<Command, Memory>
-    ensures { IfOk result (λ c. c ≡ command_of row.Trans (fields_in rest.now)) }
+fn trans_command(alloc: Global, rest: &[u8]) -> Result<Command, ReadErr>
+    ensures { MatchResult result (λ c. c ≡ command_of row.Trans (fields_in rest.now)) (λ e. e ≡ read_err.Memory) }
 {
     let (first, behind) = split_word(rest);
     let (second, third, fourth) = three_words(behind);
@@ -341,8 +342,8 @@ fn trans_command(alloc: Global, rest: &[u8]) -> Result<Command, Memory>
 }
 
 /// The command of a line of the row, from what stands behind its word.
-pub fn command_of(alloc: Global, row: Row, rest: &[u8]) -> Result<Command, Memory>
-    ensures { IfOk result (λ c. c ≡ command_of row (fields_in rest.now)) }
+pub fn command_of(alloc: Global, row: Row, rest: &[u8]) -> Result<Command, ReadErr>
+    ensures { MatchResult result (λ c. c ≡ command_of row (fields_in rest.now)) (λ e. e ≡ read_err.Memory) }
 {
     match row {
         Row::Nothing => Ok(Command::Nothing),

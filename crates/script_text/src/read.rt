@@ -28,7 +28,7 @@ pub fn read_command(alloc: Global, line: &[u8]) -> Result<Command, ReadErr>
     }
     let (word, rest) = split_word(line);
     match row_of(alloc, line, word, rest)? {
-        Ok(row) => Ok(command_of(alloc, row, rest)?),
+        Ok(row) => command_of(alloc, row, rest),
         Err(column) => Err(ReadErr::Input(Fault::Syntax(column as u64))),
     }
 }

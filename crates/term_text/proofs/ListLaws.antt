@@ -9,9 +9,9 @@ use Rattle.grammar.specs.Avoids.{avoids}
 use Rattle.grammar.proofs.AvoidedByte.{avoids_sound}
 use Rattle.std.proofs.lemmas.List.Splits.{slice_split_none, slice_split_at}
 use Rattle.grammar.specs.Form.{Form, Matches, Times}
-use Rattle.grammar.specs.Grammar.{◌·◌, ◌⋯◌, symbol, blanks, list_of, alone}
+use Rattle.grammar.specs.Grammar.{◌·◌, ◌⋯◌, symbol, blank, blanks, list_of, alone}
 use Rattle.grammar.specs.Cases.{con_cases, cons_cases}
-use Rattle.term_text.specs.Reading.{con_read, cons_read}
+use Rattle.term_text.specs.Reading.{is_blank, first_mark, con_read, cons_read}
 use Rattle.term_text.specs.Values.{Comparison, never, con_by, further_cons_by, cons_by, alone_by}
 use Rattle.term_text.proofs.Passes.{symbol_is}
 use Rattle.term_text.proofs.TextLaws.{same_alone, con_read-same, con_law}
@@ -89,8 +89,29 @@ or-false false = refl
 pub has_between : (c : ℕ) (w b x v z : List ℕ) → w ≡ b ++ x → x ≡ v ++ z → has c b ≡ false → has c z ≡ false → has c w ≡ has c v
 has_between c w b x v z e f before behind = rw (e, f) (list_any-append (λ y. eqb y c) b (v ++ z) ∙ ap (λ y. y || has c (v ++ z)) before ∙ list_any-append (λ y. eqb y c) v z ∙ ap (λ y. has c v || y) behind ∙ or-false (has c v))
 
-chosen : (w : List ℕ) (t f : Bool) → has 116 w ≡ t → has 102 w ≡ f → cons_read w ≡ (if t then [] else (if f then never ∷ [] else map con_read (parts w)))
-chosen w t f first second = ap (λ x. if x then [] else (if has 102 w then never ∷ [] else map con_read (parts w))) first ∙ ap (λ x. if t then [] else (if x then never ∷ [] else map con_read (parts w))) second
+blank_in_front : (u w : List ℕ) → Matches blank u → first_mark (u ++ w) ≡ first_mark w
+blank_in_front u w (inl space) = rw (symbol_is 32 u space) refl
+blank_in_front u w (inr tab) = rw (symbol_is 9 u tab) refl
+
+times_in_front : (n : ℕ) (u w : List ℕ) → Times (Matches blank) n u → first_mark (u ++ w) ≡ first_mark w
+times_in_front zero u w e = rw e refl
+times_in_front (suc n) u w (x, v, e, first, others) = ap (λ y. first_mark (y ++ w)) e ∙ ap first_mark (append_assoc x v w) ∙ blank_in_front x (v ++ w) first ∙ times_in_front n v w others
+
+-- what stands behind blanks
+blanks_in_front : (w u v z : List ℕ) (x : List ℕ) → w ≡ u ++ x → x ≡ v ++ z → Matches blanks u → first_mark w ≡ first_mark (v ++ z)
+blanks_in_front w u v z x e f (n, times) = ap first_mark (e ∙ ap (λ y. u ++ y) f) ∙ times_in_front n u (v ++ z) times
+
+other_mark_cases : (c b : ℕ) (w : List ℕ) (blank : Bool) → eqb b c ≡ false → eqb (first_mark w) c ≡ false → eqb (if blank then first_mark w else b) c ≡ false
+other_mark_cases c b w true here rest = rest
+other_mark_cases c b w false here rest = here
+
+-- a byte that doesn't stand in the text isn't its first one
+other_mark : (c : ℕ) (w : List ℕ) → eqb 0 c ≡ false → has c w ≡ false → eqb (first_mark w) c ≡ false
+other_mark c [] none e = none
+other_mark c (b ∷ w) none e = other_mark_cases c b w (is_blank b) (or-left (eqb b c) (has c w) e) (other_mark c w none (or-right (eqb b c) (has c w) e))
+
+chosen : (w : List ℕ) (t f : Bool) → eqb (first_mark w) 116 ≡ t → eqb (first_mark w) 102 ≡ f → cons_read w ≡ (if t then [] else (if f then never ∷ [] else map con_read (parts w)))
+chosen w t f first second = ap (λ x. if x then [] else (if eqb (first_mark w) 102 then never ∷ [] else map con_read (parts w))) first ∙ ap (λ x. if t then [] else (if x then never ∷ [] else map con_read (parts w))) second
 
 regroup_first : (b first rest z : List ℕ) → b ++ ((first ++ rest) ++ z) ≡ (b ++ first) ++ (rest ++ z)
 regroup_first b first rest z = simp append_assoc
@@ -98,15 +119,14 @@ regroup_first b first rest z = simp append_assoc
 -- a list of constraints with blanks around it
 pub alone_cons_law : (w : List ℕ) (m : Matches (alone cons_cases) w) → cons_read w ≡ alone_by cons_cases cons_by w m
 alone_cons_law w (b, x, e, before, (v, z, f, inl always, behind)) =
-    let t : has 116 w ≡ true = has_between 116 w b x v z e f (text_avoids 116 blanks refl b before) (text_avoids 116 blanks refl z behind) ∙ ap (has 116) always in
-    chosen w true (has 102 w) t refl
+    let t : eqb (first_mark w) 116 ≡ true = ap (λ y. eqb y 116) (blanks_in_front w b v z x e f before) ∙ ap (λ y. eqb (first_mark (y ++ z)) 116) always in
+    chosen w true (eqb (first_mark w) 102) t refl
 alone_cons_law w (b, x, e, before, (v, z, f, inr (inl empty), behind)) =
-    let t : has 116 w ≡ false = has_between 116 w b x v z e f (text_avoids 116 blanks refl b before) (text_avoids 116 blanks refl z behind) ∙ ap (has 116) empty in
-    let u : has 102 w ≡ true = has_between 102 w b x v z e f (text_avoids 102 blanks refl b before) (text_avoids 102 blanks refl z behind) ∙ ap (has 102) empty in
-    chosen w false true t u
+    let first : first_mark w ≡ 102 = blanks_in_front w b v z x e f before ∙ ap (λ y. first_mark (y ++ z)) empty in
+    chosen w false true (ap (λ y. eqb y 116) first) (ap (λ y. eqb y 102) first)
 alone_cons_law w (b, x, e, before, (v, z, f, inr (inr (first, rest, g, is_first, (n, others))), behind)) =
     let list : Matches (alone (list_of con_cases)) w = (b, x, e, before, (v, z, f, (first, rest, g, is_first, (n, others)), behind)) in
-    let t : has 116 w ≡ false = text_avoids 116 (alone (list_of con_cases)) refl w list in
-    let u : has 102 w ≡ false = text_avoids 102 (alone (list_of con_cases)) refl w list in
+    let t : eqb (first_mark w) 116 ≡ false = other_mark 116 w refl (text_avoids 116 (alone (list_of con_cases)) refl w list) in
+    let u : eqb (first_mark w) 102 ≡ false = other_mark 102 w refl (text_avoids 102 (alone (list_of con_cases)) refl w list) in
     let text : w ≡ (b ++ first) ++ (rest ++ z) = e ∙ ap (λ y. b ++ y) (f ∙ ap (λ y. y ++ z) g) ∙ regroup_first b first rest z in
     chosen w false false t u ∙ ap (λ y. map con_read (parts y)) text ∙ further_law n rest others (b ++ first) (con_by first is_first) (one_con b first before is_first) z behind

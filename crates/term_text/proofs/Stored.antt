@@ -1,7 +1,6 @@
 -- Constraints stored one after another.
 use Rattle.std.proofs.Common.{◌≡◌, ℕ, ◌+◌, ◌<◌, List, [], ◌∷◌, ◌++◌, map, length, take, get_or, refl, sym, ◌∙◌, ap, subst, arith, Bool, true, false, length-append}
 use Rattle.std.specs.Prelude.{◌==◌, ◌&&◌, Result, Ok, Err, MatchResult}
-use Rattle.std.specs.List.{list_any}
 use Rattle.std.proofs.lemmas.List.{take_more, map-append, get_or_push, get_or-map, length-map, take_all}
 use Rattle.std.proofs.lemmas.List.Elements.{All-push, All-get_or, All-nil, All-take}
 use Rattle.std.proofs.Math.Seq.{take-append_seam}
@@ -13,7 +12,7 @@ use Rattle.term_text.specs.declared.terms.Relation.TheVariants.{AtLeast}
 use Rattle.term_text.specs.Terms.{AreWithin, Stay}
 use Rattle.term_text.specs.Sums.{Sum, HasSummed, Gains}
 use Rattle.term_text.specs.Values.{Comparison, number_term, never}
-use Rattle.term_text.specs.Reading.{con_read, cons_read}
+use Rattle.term_text.specs.Reading.{first_mark, con_read, cons_read}
 use Rattle.term_text.specs.Systems.{IsStored, AreStored, AllStay, Adds, StopsAt, HaveRead, StopAt, IsConsOf, IsConsOfFault}
 
 -- the row of each constraint stays
@@ -104,11 +103,11 @@ pub read_one : (dim : ℕ) (list new : List Constraint) (c : Comparison) (r : Re
 read_one dim list new c (Ok added) e adds = have_read_more dim [] list new c true added (have_read_none dim list e) adds
 read_one dim list new c (Err fault) e stops = stop_one dim c fault stops
 
-cons_read-false : (w : List ℕ) → list_any (λ b. b == 116) w ≡ false → list_any (λ b. b == 102) w ≡ true → cons_read w ≡ never ∷ []
+cons_read-false : (w : List ℕ) → (first_mark w == 116) ≡ false → (first_mark w == 102) ≡ true → cons_read w ≡ never ∷ []
 cons_read-false w no_t an_f = rw (no_t, an_f) refl
 
 -- the text false
-pub read_false : (dim : ℕ) (w : List ℕ) (list new : List Constraint) (r : Result Bool ValueErr) → list ≡ [] → list_any (λ b. b == 116) w ≡ false → list_any (λ b. b == 102) w ≡ true → MatchResult r (Adds dim list new never) (StopsAt dim never) → MatchResult r (HaveRead dim (cons_read w) new) (StopAt dim (cons_read w))
+pub read_false : (dim : ℕ) (w : List ℕ) (list new : List Constraint) (r : Result Bool ValueErr) → list ≡ [] → (first_mark w == 116) ≡ false → (first_mark w == 102) ≡ true → MatchResult r (Adds dim list new never) (StopsAt dim never) → MatchResult r (HaveRead dim (cons_read w) new) (StopAt dim (cons_read w))
 read_false dim w list new r e no_t an_f one = subst (λ cs. MatchResult r (HaveRead dim cs new) (StopAt dim cs)) (sym (cons_read-false w no_t an_f)) (read_one dim list new never r e one)
 
 -- the system of constraints that were read

@@ -8,7 +8,7 @@ use Rattle.term_text.specs.declared.scan.Part.TheVariants.{Nothing, Number, Lett
 use Rattle.term_text.specs.declared.scan.Place.{Place}
 use Rattle.term_text.specs.declared.scan.Place.TheVariants.{Left, Right, Divisor}
 use Rattle.term_text.specs.declared.scan.State.{State}
-use Rattle.std.specs.List.{list_any, slice_split}
+use Rattle.std.specs.List.{slice_split}
 use Rattle.term_text.specs.Values.{Comparison, Ratio, never}
 
 -- the number with one more digit, where the greatest stands for all greater ones too
@@ -123,9 +123,18 @@ con_read w = record { terms = terms_read start w; relation = relation_at (final 
 abbrev pub ratio_read : List ℕ → Ratio
 ratio_read w = record { terms = terms_read start w; divisor = divisor_at (final start w).place (final start w).part }
 
--- a text read as a list of constraints: of its forms only `true` has a t, and of the others only `false` has an f
+-- a space or a tab
+abbrev pub is_blank : ℕ → Bool
+is_blank b = (b == 32) || (b == 9)
+
+-- the first byte that is no blank, and 0 where there is none
+abbrev pub first_mark : List ℕ → ℕ
+first_mark [] = 0
+first_mark (b ∷ w) = if is_blank b then first_mark w else b
+
+-- a text read as a list of constraints: of its forms only `true` begins with t, and only `false` with f
 abbrev pub cons_read : List ℕ → List Comparison
 cons_read w =
-    if list_any (λ b. b == 116) w then []
-    else (if list_any (λ b. b == 102) w then never ∷ []
+    if first_mark w == 116 then []
+    else (if first_mark w == 102 then never ∷ []
     else map con_read (slice_split (λ b. b == 44) w))

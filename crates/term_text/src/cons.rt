@@ -11,7 +11,7 @@ ghost use Rattle.term_text.specs.declared.terms.Term.{Term};
 ghost use Rattle.term_text.specs.declared.terms.ValueErr.TheVariants as ValueErr;
 ghost use Rattle.term_text.specs.Sums.{HasSummed};
 ghost use Rattle.term_text.specs.Values.{never};
-ghost use Rattle.term_text.specs.Reading.{con_read, cons_read};
+ghost use Rattle.term_text.specs.Reading.{is_blank, first_mark, con_read, cons_read};
 ghost use Rattle.term_text.specs.Texts.{turns, facing, IsConRow, IsRowOfFault};
 ghost use Rattle.term_text.specs.Systems.{kind_of, IsConOf, IsCon, IsConFault, IsConsOf, IsConsOfFault, IsCons, IsConsFault, Adds, StopsAt, HaveRead, StopAt};
 
@@ -155,16 +155,35 @@ fn add_list(alloc: Global, system: &mut ConsSys, text: &[u8]) -> Result<bool, Va
     Ok(fits)
 }
 
+fn is_blank(byte: u8) -> bool
+    ensures { result ≡ is_blank byte }
+{
+    byte == b' ' || byte == b'\t'
+}
+
+/// The first byte that is no blank, and 0 where there is none.
+fn first_mark(text: &[u8]) -> u8
+    ensures { result ≡ first_mark text.now }
+{
+    for byte in text {
+        if !is_blank(*byte) {
+            return *byte;
+        }
+    }
+    0
+}
+
 /// Stores the constraints of a text. The answer is false where a number leaves the range.
 fn add_cons(alloc: Global, system: &mut ConsSys, text: &[u8]) -> Result<bool, ValueErr>
     requires { system.old.list ≡ [] }
     ensures dim { system.new.dim ≡ system.old.dim }
     ensures value { MatchResult result (HaveRead system.old.dim (cons_read text.now) system.new.list) (StopAt system.old.dim (cons_read text.now)) }
 {
-    if text.contains(&b't') {
+    let first = first_mark(text);
+    if first == b't' {
         return Ok(true);
     }
-    if text.contains(&b'f') {
+    if first == b'f' {
         return add_never(alloc, system);
     }
     add_list(alloc, system, text)

@@ -1,12 +1,12 @@
 //! Rows of terms, exactly.
-ghost use Rattle.std.specs.Prelude.{◌≡◌, ℕ, ◌+◌, ◌-◌, ◌≤◌, ◌<◌, ◌^◌, ◌+ℤ◌, [], ◌∷◌, length, ◌↔◌, true, false, IsTrue, MatchOption, MatchResult};
+ghost use Rattle.std.specs.Prelude.{◌≡◌, ℕ, ◌+◌, ◌-◌, ◌≤◌, ◌<◌, ◌^◌, ◌+ℤ◌, [], ◌∷◌, length, replicate, pos, ◌↔◌, true, false, IsTrue, IfOk, MatchOption, MatchResult};
 ghost use Rattle.row_core.specs.Vectors.{cell};
 ghost use Rattle.row_core.specs.Range.{InRange, AllInRange};
 ghost use Rattle.term_text.specs.Terms.{IsWithin, column_of, value_of, part, FitsBehind};
 ghost use Rattle.term_text.specs.Sums.{Sum, HasSummed, Gains};
 
 use crate::terms::{Term, ValueErr};
-use std::alloc::Global;
+use std::alloc::{AllocError, Global};
 use std::marker::Model;
 
 impl Term {
@@ -78,6 +78,16 @@ impl Model for RowSum {
     ghost invariant = { λ s. (length s.cells.items ≡ s.dim + 1) × AllInRange s.cells.items × (s.dim < 2 ^ 32 - 2) };
 }
 
+/// Zeros, with room for as many again: a list that takes them over as its first row has room for a second.
+fn zeros(alloc: Global, width: usize) -> Result<Vec<i128>, AllocError>
+    requires { width < 2 ^ 32 }
+    ensures { IfOk result (λ v. v.items ≡ replicate width (pos 0)) }
+{
+    let mut cells = vec![in alloc; 0i128; 2 * width]?;
+    cells.truncate(width);
+    Ok(cells)
+}
+
 impl RowSum {
     /// The row of no term over `dim` variables.
     ///
@@ -87,7 +97,7 @@ impl RowSum {
         requires { dim < 2 ^ 32 - 2 }
         ensures { MatchResult result (λ sum. (sum.dim ≡ dim) × HasSummed [] sum) (λ e. e ≡ ValueErr.Memory) }
     {
-        let cells = vec![in alloc; 0i128; dim + 1]?;
+        let cells = zeros(alloc, dim + 1)?;
         Ok(RowSum {
             dim,
             cells,
