@@ -1,5 +1,5 @@
 -- How many combinations a conversion counts: at each step at most as many as the next system has vectors, also where the step stops early.
-use Rattle.std.specs.Prelude.{◌≡◌, ◌≢◌, ◌-◌, ℕ, ◌+◌, ◌<◌, ◌≤◌, List, [], ◌∷◌, ◌++◌, length, ℤ, pos}
+use Rattle.std.specs.Prelude.{◌≡◌, ◌≢◌, ◌-◌, ℕ, ◌+◌, ◌<◌, ◌≤◌, List, [], ◌∷◌, ◌++◌, length, slice_index_or, ℤ, pos}
 use Prim.Native.Nat.{suc, zero}
 use Rattle.std.proofs.Common.{refl, sym, ap, ◌∙◌, subst, arith, inl, inr}
 use Rattle.std.proofs.lemmas.List.{length_push, get_or_append_left, get_or_push}
@@ -18,7 +18,7 @@ use Rattle.chernikova.specs.Systems.{values_on}
 use Rattle.chernikova.specs.Changes.{AreAllCrosses}
 use Rattle.row_core.specs.declared.errors.ConvErr.{ConvErr}
 use Rattle.row_core.specs.declared.errors.ConvErr.TheVariants.{Overflow, Memory}
-use Rattle.chernikova.specs.Conversion.{IsCountedUpto, IsAtStep, IsCountedBefore}
+use Rattle.chernikova.specs.Conversion.{IsCountedUpto, IsCountedBetween, IsAtStep, IsCountedBeforeFrom}
 use Rattle.chernikova.proofs.VectorLemmas.{length-vectors}
 use Rattle.chernikova.proofs.StateLemmas.{crossing_from, cross_from}
 use Rattle.chernikova.proofs.NextStates.{row_is_at}
@@ -56,47 +56,66 @@ count_pairs width rows k lines rays a values table pairs number below s zeros e 
     }
 
 -- ---- all steps
-pub counted_none : (width : ℕ) (rows : List Row) (total : ℕ) → total ≡ 0 → IsCountedUpto width rows 0 total
-counted_none width rows total e = record { counts = []; as_many = refl; is_total = sym e; each = λ i h. absurd (omega (arith, h)) }
+pub counted_none : (width : ℕ) (rows : List Row) (from total : ℕ) → total ≡ 0 → IsCountedBetween width rows from from total
+counted_none width rows from total e = record { counts = []; as_many = omega arith; is_total = sym e; each = λ i h. absurd (omega (arith, h)) }
 
-pub counted_more : (width : ℕ) (rows : List Row) (k total count more : ℕ) → IsCountedUpto width rows k total → HasSystemOf width rows (k + 1) count → more ≡ total + count → IsCountedUpto width rows (k + 1) more
-counted_more width rows k total count more h next is = record {
+pub counted_more : (width : ℕ) (rows : List Row) (from k total count more : ℕ) → IsCountedBetween width rows from k total → HasSystemOf width rows (k + 1) count → more ≡ total + count → IsCountedBetween width rows from (k + 1) more
+counted_more width rows from k total count more h next is = record {
   counts = h.counts ++ count ∷ [];
   as_many = omega (arith, length_push h.counts count, h.as_many);
   is_total = sum_by_push (λ (n : ℕ). n) h.counts count ∙ ap (λ t. t + count) h.is_total ∙ sym is;
-  each = λ i below. elim (cases_lt i k) [
+  each = λ i below. elim (cases_lt (from + i) k) [
     | inl less ↦
-        let P : ℕ → Type 0 = λ c. HasSystemOf width rows (i + 1) c in
-        subst P (sym (get_or_append_left h.counts (count ∷ []) 0 i (omega (arith, h.as_many)))) (h.each i less)
+        let P : ℕ → Type 0 = λ c. HasSystemOf width rows (from + i + 1) c in
+        subst P (sym (get_or_append_left h.counts (count ∷ []) 0 i (omega (arith, h.as_many, less)))) (h.each i less)
     | inr at ↦
-        let here : i ≡ k = omega arith in
-        let P : ℕ → Type 0 = λ c. HasSystemOf width rows (i + 1) c in
+        let here : from + i ≡ k = omega (arith, at, below) in
+        let P : ℕ → Type 0 = λ c. HasSystemOf width rows (from + i + 1) c in
         let Q : ℕ → Type 0 = λ m. HasSystemOf width rows (m + 1) count in
-        subst P (sym (get_or_push h.counts count 0 i (omega (arith, h.as_many)))) (subst Q (sym here) next)
+        subst P (sym (get_or_push h.counts count 0 i (omega (arith, h.as_many, here)))) (subst Q (sym here) next)
   ];
 }
 
 -- nothing was counted at the further rows
-counted_further : (width : ℕ) (rows : List Row) (k further total : ℕ) → k + further ≤ length rows → IsCountedUpto width rows k total → IsCountedUpto width rows (k + further) total
-counted_further width rows k zero total below h = subst (λ (n : ℕ). IsCountedUpto width rows n total) (let e : k ≡ k + zero = omega arith in e) h
-counted_further width rows k (suc further) total below h =
-    subst (λ (n : ℕ). IsCountedUpto width rows n total) (let e : (k + further) + 1 ≡ k + suc further = omega arith in e)
-    (counted_more width rows (k + further) total 0 total (counted_further width rows k further total (omega arith) h) (count_none width rows (k + further) 0 (omega arith) refl) (omega arith))
+counted_further : (width : ℕ) (rows : List Row) (from k further total : ℕ) → k + further ≤ length rows → IsCountedBetween width rows from k total → IsCountedBetween width rows from (k + further) total
+counted_further width rows from k zero total below h = subst (λ (n : ℕ). IsCountedBetween width rows from n total) (let e : k ≡ k + zero = omega arith in e) h
+counted_further width rows from k (suc further) total below h =
+    subst (λ (n : ℕ). IsCountedBetween width rows from n total) (let e : (k + further) + 1 ≡ k + suc further = omega arith in e)
+    (counted_more width rows from (k + further) total 0 total (counted_further width rows from k further total (omega arith) h) (count_none width rows (k + further) 0 (omega arith) refl) (omega arith))
 
-pub counted_all : (width : ℕ) (rows : List Row) (k total : ℕ) → k ≤ length rows → IsCountedUpto width rows k total → IsCountedUpto width rows (length rows) total
-counted_all width rows k total below h =
-    subst (λ (n : ℕ). IsCountedUpto width rows n total) (let e : k + (length rows - k) ≡ length rows = omega arith in e)
-    (counted_further width rows k (length rows - k) total (omega arith) h)
+pub counted_all : (width : ℕ) (rows : List Row) (from k total : ℕ) → k ≤ length rows → IsCountedBetween width rows from k total → IsCountedBetween width rows from (length rows) total
+counted_all width rows from k total below h =
+    subst (λ (n : ℕ). IsCountedBetween width rows from n total) (let e : k + (length rows - k) ≡ length rows = omega arith in e)
+    (counted_further width rows from k (length rows - k) total (omega arith) h)
 
 -- no row was taken in
+pub counted_start_from : (width : ℕ) (rows : List Row) (from total : ℕ) → from ≤ length rows → total ≡ 0 → IsCountedBetween width rows from (length rows) total
+counted_start_from width rows from total below e = counted_all width rows from from total below (counted_none width rows from total e)
+
 pub counted_start : (width : ℕ) (rows : List Row) (total : ℕ) → total ≡ 0 → IsCountedUpto width rows (length rows) total
-counted_start width rows total e = counted_all width rows 0 total (omega arith) (counted_none width rows total e)
+counted_start width rows total e = counted_start_from width rows 0 total (omega arith) e
 
 -- row k was the last to be taken in
-pub counted_last : (width : ℕ) (rows : List Row) (k total count more : ℕ) → k < length rows → IsCountedUpto width rows k total → HasSystemOf width rows (k + 1) count → more ≡ total + count → IsCountedUpto width rows (length rows) more
-counted_last width rows k total count more below h next is = counted_all width rows (k + 1) more (omega arith) (counted_more width rows k total count more h next is)
+pub counted_last : (width : ℕ) (rows : List Row) (from k total count more : ℕ) → k < length rows → IsCountedBetween width rows from k total → HasSystemOf width rows (k + 1) count → more ≡ total + count → IsCountedBetween width rows from (length rows) more
+counted_last width rows from k total count more below h next is = counted_all width rows from (k + 1) more (omega arith) (counted_more width rows from k total count more h next is)
 
 -- what was counted up to an overflow at the step with row k
-pub counted_before : (width : ℕ) (rows : List Row) (k total : ℕ) (error : ConvErr) → IsAtStep k error → IsCountedUpto width rows (k + 1) total → IsCountedBefore width rows total error
-counted_before width rows k total (Overflow over) e h = subst (λ (n : ℕ). IsCountedUpto width rows (n + 1) total) (sym e) h
-counted_before width rows k total Memory e h = tt
+pub counted_before : (width : ℕ) (rows : List Row) (from k total : ℕ) (error : ConvErr) → IsAtStep k error → IsCountedBetween width rows from (k + 1) total → IsCountedBeforeFrom width rows from total error
+counted_before width rows from k total (Overflow over) e h = subst (λ (n : ℕ). IsCountedBetween width rows from (n + 1) total) (sym e) h
+counted_before width rows from k total Memory e h = tt
+
+-- ---- the rows before
+-- nothing was counted at the row before
+counted_earlier : (width : ℕ) (rows : List Row) (from k total : ℕ) → from < length rows → IsCountedBetween width rows (from + 1) k total → IsCountedBetween width rows from k total
+counted_earlier width rows from k total inside h = record { counts = 0 ∷ h.counts; as_many = omega (arith, h.as_many); is_total = h.is_total; each = each }
+  where
+    each : (i : ℕ) → from + i < k → HasSystemOf width rows (from + i + 1) (slice_index_or (0 ∷ h.counts) i 0)
+    each zero below = subst (λ (m : ℕ). HasSystemOf width rows m 0) (let e : from + 1 ≡ from + zero + 1 = omega arith in e) (count_none width rows from 0 inside refl)
+    each (suc i) below = subst (λ (m : ℕ). HasSystemOf width rows m (slice_index_or h.counts i 0)) (let e : from + 1 + i + 1 ≡ from + suc i + 1 = omega arith in e) (h.each i (omega (arith, below)))
+
+-- a total that was counted between two rows is counted up to the last of them
+pub counted_upto : (width : ℕ) (rows : List Row) (from k total : ℕ) → from ≤ length rows → IsCountedBetween width rows from k total → IsCountedUpto width rows k total
+counted_upto width rows zero k total inside h = h
+counted_upto width rows (suc from) k total inside h =
+    counted_upto width rows from k total (omega arith)
+    (counted_earlier width rows from k total (omega arith) (subst (λ (n : ℕ). IsCountedBetween width rows n k total) (let e : suc from ≡ from + 1 = omega arith in e) h))

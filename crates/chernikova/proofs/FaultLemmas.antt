@@ -1,5 +1,7 @@
-use Rattle.std.specs.Prelude.{◌≡◌, ℕ, ◌+◌, ◌<◌, List, length, ℤ, pos, slice_index_or}
-use Rattle.std.proofs.Common.{sym, ap, ◌∙◌, subst, arith}
+use Rattle.std.specs.Prelude.{◌≡◌, ℕ, ◌+◌, ◌<◌, List, [], ◌∷◌, length, ℤ, pos, slice_index_or, Contains}
+use Rattle.std.proofs.Common.{sym, ap, ◌∙◌, subst, arith, inl, inr}
+use Rattle.std.proofs.lemmas.List.Elements.{Contains-push_cases}
+use Rattle.row_core.specs.Lists.{Row, vectors}
 use Rattle.cone_laws.specs.Canon.{vector_at}
 use Rattle.cone_laws.specs.Leaves.{CombinationLeaves}
 use Rattle.chernikova.specs.declared.fault.Fault.{Fault}
@@ -7,7 +9,10 @@ use Rattle.chernikova.specs.declared.fault.Fault.TheVariants.{Memory, Dot, Combi
 use Rattle.chernikova.specs.declared.fault.Part.{Part}
 use Rattle.chernikova.specs.declared.fault.Part.TheVariants.{Lines, Rays}
 use Rattle.chernikova.specs.declared.fault.Place.{Place}
-use Rattle.chernikova.specs.Faults.{IsLowerFault, IsOtherFault, IsLineFault, part_of, part_values}
+use Rattle.chernikova.specs.Changes.{IsGrown}
+use Rattle.chernikova.specs.Faults.{IsLowerFault, IsOtherFault, IsLineFault, IsPairFault, part_of, part_values}
+use Rattle.chernikova.proofs.VectorLemmas.{vector_at-vectors}
+use Rattle.chernikova.proofs.ChangeLemmas.{row_at-grown}
 
 -- a fault below the index
 pub other_from_below : (u : ℤ) (index : ℕ) (line values : List ℤ) (vs : List (List ℤ)) (fault : Fault) → index < length vs → IsLowerFault u index line Lines 0 index values vs fault → IsOtherFault u index line values vs fault
@@ -41,3 +46,16 @@ line_fault_from_ray index line_values ray_values lines rays n (Combine left righ
     let P : Part → Type 0 = λ p. right.index < length (part_of lines rays p) in
     let Q : Part → Type 0 = λ p. CombinationLeaves (slice_index_or line_values index (pos 0)) (slice_index_or (part_values line_values ray_values p) right.index (pos 0)) (vector_at lines index) (vector_at (part_of lines rays p) right.index) column in
     (h.0, subst P (sym h.1) (omega (arith, h.3)), (λ e. different_part (sym h.1 ∙ ap (λ (p : Place). p.part) (e ∙ h.0))), subst Q (sym h.1) h.4)
+
+-- the fault of one pair of the rays that were there before
+pub pair_fault_before : (values : List ℤ) (pairs : List (ℕ × ℕ)) (pair : ℕ × ℕ) (old cur : List Row) (fault : Fault) → IsGrown old cur → Contains pairs pair → pair.0 < length old → pair.1 < length old → IsPairFault values (pair ∷ []) (vectors cur) fault → IsPairFault values pairs (vectors old) fault
+pair_fault_before values pairs pair old cur Memory grown held first second h = h
+pair_fault_before values pairs pair old cur (Dot vector column) grown held first second h = absurd h
+pair_fault_before values pairs pair old cur (Combine left right column) grown held first second h =
+    let here : pair ≡ (left.index, right.index) = elim (Contains-push_cases [] pair (left.index, right.index) h.0) [ inl none ↦ absurd (omega (arith, none.1)) | inr same ↦ same ] in
+    let at_left : left.index < length old = omega (arith, first, ap (λ (p : ℕ × ℕ). p.0) here) in
+    let at_right : right.index < length old = omega (arith, second, ap (λ (p : ℕ × ℕ). p.1) here) in
+    let vector_before : (i : ℕ) → i < length old → vector_at (vectors cur) i ≡ vector_at (vectors old) i = λ i b. vector_at-vectors cur i ∙ row_at-grown old cur i grown b ∙ sym (vector_at-vectors old i) in
+    let P : List ℤ → Type 0 = λ v. CombinationLeaves (slice_index_or values left.index (pos 0)) (slice_index_or values right.index (pos 0)) v (vector_at (vectors cur) right.index) column in
+    let Q : List ℤ → Type 0 = λ v. CombinationLeaves (slice_index_or values left.index (pos 0)) (slice_index_or values right.index (pos 0)) (vector_at (vectors old) left.index) v column in
+    (subst (Contains pairs) here held, h.1, h.2, subst Q (vector_before right.index at_right) (subst P (vector_before left.index at_left) h.3))

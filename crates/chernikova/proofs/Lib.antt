@@ -1,5 +1,5 @@
-pub mod FactorLemmas
 pub mod VectorLemmas
+pub mod MarkedVectors
 pub mod ChangeLemmas
 pub mod FaultLemmas
 pub mod TableLemmas
@@ -10,3 +10,4 @@ pub mod NextStates
 pub mod Counts
 pub mod Rankings
 pub mod CountLemmas
+pub mod Prefixes

@@ -14,7 +14,7 @@ use Rattle.cone_laws.specs.Canon.{vector_at, IsSystem}
 use Rattle.cone_laws.specs.Steps.{IsRowAt, AreUnits, stays, IsRayStep}
 use Rattle.cone_laws.proofs.UptoRows.{asks_least, both_zero}
 use Rattle.cone_laws.proofs.NextSystems.{units_system, line_step_system, ray_step_system}
-use Rattle.chernikova.specs.declared.cone.Cone.{Cone}
+use Rattle.chernikova.specs.declared.system.System.{System}
 use Rattle.chernikova.specs.Systems.{values_on}
 use Rattle.chernikova.specs.Tables.{HasLineStep, HasRayStep}
 use Rattle.chernikova.specs.Changes.{AreLists, AreAllCrosses, IsRayChange}
@@ -43,7 +43,7 @@ pub rays_wide : (width : ℕ) (rows : List Row) (k : ℕ) (lines : List (List �
 rays_wide width rows k lines rays system i inside =
     ap length (sym (vector_at-vectors rays i)) ∙ (system.generates.rays_within i [] (omega (arith, inside, length-vectors rays))).wide
 
-pub line_state : (width : ℕ) (rows : List Row) (k : ℕ) (cone : Cone) (lines rays : Rows) (sat : Table) → k < length rows → IsState width rows k cone → IsLineOutcome width (row_at rows k, is_eq_at rows k) cone lines rays → HasLineStep (is_eq_at rows k) cone.sat sat → IsState width rows (k + 1) (record { lines = lines; rays = rays; sat = sat })
+pub line_state : (width : ℕ) (rows : List Row) (k : ℕ) (cone : System) (lines rays : Rows) (sat : Table) → k < length rows → IsState width rows k cone → IsLineOutcome width (row_at rows k, is_eq_at rows k) cone lines rays → HasLineStep (is_eq_at rows k) cone.sat sat → IsState width rows (k + 1) (record { lines = lines; rays = rays; sat = sat })
 line_state width rows k cone lines rays sat below state outcome table = record {
   narrow = state.narrow;
   lists = outcome.lists;
@@ -51,7 +51,7 @@ line_state width rows k cone lines rays sat below state outcome table = record {
   zeros = zeros_after_line rows k (row_at rows k) (is_eq_at rows k) (vectors cone.lines.rows) (vectors cone.rays.rows) (vectors lines.rows) (vectors rays.rows) cone.sat sat refl (lines_flat width rows k (vectors cone.lines.rows) (vectors cone.rays.rows) state.system) state.zeros outcome.step table;
 }
 
-pub ray_state : (width : ℕ) (rows : List Row) (k : ℕ) (cone : Cone) (rays : Rows) (values : List ℤ) (marks : List Bool) (pairs : List (ℕ × ℕ)) (sat : Table) → k < length rows → IsState width rows k cone → IsRayOutcome width (row_at rows k, is_eq_at rows k) cone rays values marks pairs → HasRayStep values marks pairs cone.sat sat → IsState width rows (k + 1) (record { lines = cone.lines; rays = rays; sat = sat })
+pub ray_state : (width : ℕ) (rows : List Row) (k : ℕ) (cone : System) (rays : Rows) (values : List ℤ) (marks : List Bool) (pairs : List (ℕ × ℕ)) (sat : Table) → k < length rows → IsState width rows k cone → IsRayOutcome width (row_at rows k, is_eq_at rows k) cone rays values marks pairs → HasRayStep values marks pairs cone.sat sat → IsState width rows (k + 1) (record { lines = cone.lines; rays = rays; sat = sat })
 ray_state width rows k cone rays values marks pairs sat below state outcome table =
     let a : List ℤ = row_at rows k in
     let eq : Bool = is_eq_at rows k in
@@ -71,7 +71,7 @@ ray_state width rows k cone rays values marks pairs sat below state outcome tabl
     }
 
 -- an overflow at the step with row k
-pub leaves_from : (width : ℕ) (rows : List Row) (k : ℕ) (cone : Cone) (over : Overflow) → k < length rows → IsState width rows k cone → over.step ≡ k → Shows over.kind rows k (vectors cone.lines.rows) (vectors cone.rays.rows) over.left over.right over.column → Leaves width rows over
+pub leaves_from : (width : ℕ) (rows : List Row) (k : ℕ) (cone : System) (over : Overflow) → k < length rows → IsState width rows k cone → over.step ≡ k → Shows over.kind rows k (vectors cone.lines.rows) (vectors cone.rays.rows) over.left over.right over.column → Leaves width rows over
 leaves_from width rows k cone over below state at shown =
     let P : ℕ → Type 0 = λ n. n < length rows in
     let Q : ℕ → Type 0 = λ n. IsSystem (Upto width rows n) (vectors cone.lines.rows) (vectors cone.rays.rows) in

@@ -14,12 +14,12 @@ use Rattle.cone_laws.specs.Canon.{vector_at}
 use Rattle.cone_laws.specs.Steps.{sign, pair_at, IsPair}
 use Rattle.row_core.proofs.Ring.{ring, mul-zero, neg-mul, zero_of_mul, mul-at_least_zero, by_sign}
 use Rattle.cone_laws.proofs.UptoRows.{IsSumOf, dot_sum}
-use Rattle.chernikova.specs.Combinations.{IsCombined}
+use Rattle.cone_laws.specs.Combinations.{IsCombined}
 use Rattle.sat_matrix.specs.ZeroTables.{TellsZeros, IsZeroTable}
 use Rattle.chernikova.specs.Systems.{values_on}
 use Rattle.chernikova.specs.Tables.{HasRayStep}
 use Rattle.chernikova.specs.Changes.{value_at, AreAllCrosses, IsRayChange}
-use Rattle.chernikova.proofs.FactorLemmas.{combined_along, sign_above, magnitude-positive}
+use Rattle.cone_laws.proofs.FactorLemmas.{combined_along, sign_above, magnitude-positive}
 use Rattle.chernikova.proofs.VectorLemmas.{length-vectors, vector_at-vectors}
 use Rattle.chernikova.proofs.StateLemmas.{length-values_on, value_at-values_on, tells_more, pointwise_by_rows, pointwise_marked, marked_all, marked-append}
 

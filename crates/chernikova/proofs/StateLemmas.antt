@@ -12,13 +12,13 @@ use Rattle.cone_laws.specs.Canon.{vector_at}
 use Rattle.cone_laws.specs.Steps.{sign, pair_at, stays, IsLowered, IsLastCrossing, IsLineStep, IsMade, IsMadeOf, NoThird, IsCrossing, IsRayStep, upward}
 use Rattle.row_core.proofs.Ring.{ring, mul-zero, neg-mul, zero_of_mul}
 use Rattle.cone_laws.proofs.UptoRows.{IsSumOf, dot_sum}
-use Rattle.chernikova.specs.Combinations.{IsCombined}
+use Rattle.cone_laws.specs.Combinations.{IsCombined}
 use Rattle.sat_matrix.specs.ZeroTables.{TellsZeros, IsZeroTable}
 use Rattle.chernikova.specs.Systems.{values_on}
 use Rattle.cone_laws.proofs.Columns.{dot-scale}
 use Rattle.chernikova.specs.Tables.{HasLineStep}
 use Rattle.chernikova.specs.Changes.{value_at, AreLowered, AreOthersLowered, with_upward, IsLineChange, IsCross, AreAllCrosses, IsRayChange}
-use Rattle.chernikova.proofs.FactorLemmas.{combined_along, sign_above, magnitude-positive, magnitude_above, sign_times}
+use Rattle.cone_laws.proofs.FactorLemmas.{combined_along, sign_above, magnitude-positive, magnitude_above, sign_times}
 use Rattle.chernikova.proofs.VectorLemmas.{length-vectors, vector_at-vectors, vectors_push}
 
 -- ---- values

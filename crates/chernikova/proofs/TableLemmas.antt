@@ -28,10 +28,10 @@ column_start column old new e = record {
   left = λ i low h. ap (λ (t : Table). bits_of t.rows i) e ∙ get_or-map (λ (row : List Bool). row ++ false ∷ []) old.rows i [] [] h;
 }
 
-pub column_more : (column : List Bool) (old cur new : Table) (last row : ℕ) → IsRectangular old → last ≡ old.columns → row < length old.rows → IsColumnUpto column old cur last row → new ≡ record cur { rows = set cur.rows row (set (bits_of cur.rows row) last (get_or column row false)) } → IsColumnUpto column old new last (row + 1)
-column_more column old cur new last row wide at inside h e =
+pub column_more : (column : List Bool) (old cur new : Table) (last row : ℕ) (bit : Bool) → IsRectangular old → last ≡ old.columns → row < length old.rows → bit ≡ get_or column row false → IsColumnUpto column old cur last row → new ≡ record cur { rows = set cur.rows row (set (bits_of cur.rows row) last bit) } → IsColumnUpto column old new last (row + 1)
+column_more column old cur new last row bit wide at inside is_bit h e =
     let written : List Bool = set (bits_of cur.rows row) last (get_or column row false) in
-    let rows : new.rows ≡ set cur.rows row written = ap (λ (t : Table). t.rows) e in
+    let rows : new.rows ≡ set cur.rows row written = ap (λ (t : Table). t.rows) e ∙ ap (λ (b : Bool). set cur.rows row (set (bits_of cur.rows row) last b)) is_bit in
     let within : row < length cur.rows = omega (arith, h.as_many, inside) in
     let is : written ≡ bits_of old.rows row ++ get_or column row false ∷ [] =
     ap (λ (bits : List Bool). set bits last (get_or column row false)) (h.left row (omega arith) inside) ∙ set_at (bits_of old.rows row) false [] (get_or column row false) last (wide row inside ∙ sym at) in

@@ -1,10 +1,13 @@
-use Rattle.std.specs.Prelude.{◌≡◌, ◌≢◌, ℕ, ◌+◌, ◌-◌, ◌<◌, ◌≤◌, ◌⊎◌, Bool, true, false, ◌++◌, [], ◌∷◌, List, length, ℤ, pos, ◌<ℤ◌, slice_index_or, Contains}
+use Rattle.std.specs.Prelude.{◌≡◌, ◌≢◌, ℕ, ◌+◌, ◌-◌, ◌<◌, ◌≤◌, ◌⊎◌, Bool, true, false, ◌++◌, [], ◌∷◌, List, length, ℤ, pos, ◌<ℤ◌, int_lt, slice_index_or, Contains}
 use Rattle.row_core.specs.Vectors.{scale}
-use Rattle.row_core.specs.Lists.{Row, Rows, row_at, vectors, AreMarked}
+use Rattle.row_core.specs.Lists.{Row, row_at, vectors}
 use Rattle.sat_matrix.specs.Tables.{Table, HasThird}
 use Rattle.row_core.specs.Flat.{marked}
 use Rattle.cone_laws.specs.Steps.{sign, pair_at}
-use Rattle.chernikova.specs.Combinations.{IsCombined}
+use Rattle.cone_laws.specs.Combinations.{IsCombined}
+use Rattle.chernikova.specs.declared.ray_step.Side.{Side}
+use Rattle.chernikova.specs.declared.ray_step.Side.TheVariants.{Above, Below}
+pub use Rattle.cone_laws.specs.MarkedLists.{AreLists}
 
 -- value i
 abbrev pub value_at : List ℤ → ℕ → ℤ
@@ -15,13 +18,6 @@ pub record AreLowered (u : ℤ) (line : List ℤ) (values : List ℤ) (list : Li
   pub as_many : length new + from ≡ length old + to
   pub before : (i : ℕ) → i < length old → row_at new i ≡ row_at old i
   pub each : (i : ℕ) → from ≤ i → i < to → IsCombined u (value_at values i) line (row_at list i) (row_at new (length old + (i - from)))
-
--- two lists of the width, the lines marked as equalities and the rays as inequalities
-pub record AreLists (width : ℕ) (lines rays : Rows) : Type 0 where
-  pub lines_wide : lines.width ≡ width
-  pub rays_wide : rays.width ≡ width
-  pub lines_marked : AreMarked true lines.rows
-  pub rays_marked : AreMarked false rays.rows
 
 -- all vectors but that at the index, lowered by a line with the value u
 pub record AreOthersLowered (u : ℤ) (index : ℕ) (line : List ℤ) (values : List ℤ) (list new : List Row) : Type 0 where
@@ -53,20 +49,62 @@ pub record IsCross (values : List ℤ) (table : Table) (p n : ℕ) : Type 0 wher
   pub pair : IsPairAt values p n
   pub no_third : ¬ (HasThird table p n)
 
--- the pairs of which the first index is below the bound cross, and each such pair that crosses is one of them, once
-pub record IsCrossesBelow (values : List ℤ) (table : Table) (bound : ℕ) (pairs : List (ℕ × ℕ)) : Type 0 where
-  pub each : (i : ℕ) → i < length pairs → IsCross values table (pair_at pairs i).0 (pair_at pairs i).1
-  pub below : (i : ℕ) → i < length pairs → (pair_at pairs i).0 < bound
-  pub all : (p n : ℕ) → p < bound → IsCross values table p n → Contains pairs (p, n)
+-- whether a value is on the side
+abbrev pub is_on : Side → ℤ → Bool
+is_on Above value = int_lt (pos 0) value
+is_on Below value = int_lt value (pos 0)
+
+-- the pair of an index on the side and one on the other, with that above first
+abbrev pub pair_on : Side → ℕ → ℕ → ℕ × ℕ
+pair_on Above outer inner = (outer, inner)
+pair_on Below outer inner = (inner, outer)
+
+-- index q of a list
+abbrev pub index_at : List ℕ → ℕ → ℕ
+index_at indices q = slice_index_or indices q 0
+
+-- the indices rise, and are below the bound
+pub record AreRising (bound : ℕ) (indices : List ℕ) : Type 0 where
+  pub within : (q : ℕ) → q < length indices → index_at indices q < bound
+  pub increasing : (q r : ℕ) → q < r → r < length indices → index_at indices q < index_at indices r
+
+-- the indices below the bound of the values on the side, in order
+pub record AreOn (side : Side) (values : List ℤ) (bound : ℕ) (indices : List ℕ) : Type 0 where
+  pub rising : AreRising bound indices
+  pub on : (q : ℕ) → q < length indices → is_on side (value_at values (index_at indices q)) ≡ true
+  pub all : (n : ℕ) → n < bound → is_on side (value_at values n) ≡ true → (q : ℕ) × (q < length indices) × (index_at indices q ≡ n)
+
+-- no third row of the table is true wherever those of the pair are
+abbrev pub IsAdjacent : Table → ℕ × ℕ → Type 0
+IsAdjacent table pair = ¬ (HasThird table pair.0 pair.1)
+
+-- the pair at position p of the outer side and position q of the inner
+abbrev pub pair_of : Side → List ℕ → List ℕ → ℕ → ℕ → ℕ × ℕ
+pair_of side outer inner p q = pair_on side (index_at outer p) (index_at inner q)
+
+-- the loops come to positions p and q before they come to the bound and next
+abbrev pub IsBefore : ℕ → ℕ → ℕ → ℕ → Type 0
+IsBefore bound next p q = (p < bound) ⊎ ((p ≡ bound) × (q < next))
+
+-- the pair is adjacent, and at positions before the bound and next
+pub record IsFoundAt (side : Side) (table : Table) (outer inner : List ℕ) (bound next : ℕ) (pair : ℕ × ℕ) : Type 0 where
+  pub p : ℕ
+  pub q : ℕ
+  pub first : p < length outer
+  pub second : q < length inner
+  pub before : IsBefore bound next p q
+  pub same : pair_of side outer inner p q ≡ pair
+  pub adjacent : IsAdjacent table pair
+
+-- the adjacent pairs at positions before the bound and next, each once
+pub record AreFound (side : Side) (table : Table) (outer inner : List ℕ) (bound next : ℕ) (pairs : List (ℕ × ℕ)) : Type 0 where
+  pub each : (i : ℕ) → i < length pairs → IsFoundAt side table outer inner bound next (pair_at pairs i)
+  pub all : (p q : ℕ) → p < length outer → q < length inner → IsBefore bound next p q → IsAdjacent table (pair_of side outer inner p q) → Contains pairs (pair_of side outer inner p q)
   pub distinct : (i j : ℕ) → i < length pairs → j < length pairs → i ≢ j → pair_at pairs i ≢ pair_at pairs j
 
--- the pairs with a first index below the bound, and those with the bound itself as the first and a second index below the other bound
-pub record IsCrossesUpto (values : List ℤ) (table : Table) (bound next : ℕ) (pairs : List (ℕ × ℕ)) : Type 0 where
-  pub each : (i : ℕ) → i < length pairs → IsCross values table (pair_at pairs i).0 (pair_at pairs i).1
-  pub below : (i : ℕ) → i < length pairs → ((pair_at pairs i).0 < bound) ⊎ (((pair_at pairs i).0 ≡ bound) × ((pair_at pairs i).1 < next))
-  pub all : (p n : ℕ) → p < bound → IsCross values table p n → Contains pairs (p, n)
-  pub row : (n : ℕ) → n < next → IsCross values table bound n → Contains pairs (bound, n)
-  pub distinct : (i j : ℕ) → i < length pairs → j < length pairs → i ≢ j → pair_at pairs i ≢ pair_at pairs j
+-- all adjacent pairs of the two sides, found with either of them in the outer loop
+abbrev pub AreAllFound : Table → List ℕ → List ℕ → List (ℕ × ℕ) → Type 0
+AreAllFound table above below pairs = AreFound Above table above below (length above) 0 pairs ⊎ AreFound Below table below above (length below) 0 pairs
 
 -- all pairs that cross, each once
 pub record AreAllCrosses (values : List ℤ) (table : Table) (pairs : List (ℕ × ℕ)) : Type 0 where
@@ -92,6 +130,10 @@ pub record HasMade (values : List ℤ) (rays : List Row) (pairs : List (ℕ × �
   pub made : List Row
   pub is_made : AreMade values rays pairs made
   pub result : new ≡ old ++ made
+
+-- rows were appended
+abbrev pub IsGrown : List Row → List Row → Type 0
+IsGrown old new = (more : List Row) × (new ≡ old ++ more)
 
 -- the marked rays, and one ray of each pair
 pub record IsRayChange (values : List ℤ) (marks : List Bool) (pairs : List (ℕ × ℕ)) (rays new : List Row) : Type 0 where

@@ -1,6 +1,6 @@
-use Rattle.std.specs.Prelude.{◌≡◌, ℕ, ◌+◌, ◌^◌, ◌<◌, ⊤, Bool, List, length, map, sum, ℤ, pos, slice_index_or}
+use Rattle.std.specs.Prelude.{◌≡◌, ℕ, ◌+◌, ◌^◌, ◌<◌, ◌≤◌, ⊤, Bool, List, length, map, sum, ℤ, pos, slice_index_or}
 use Rattle.row_core.specs.Vectors.{dot}
-use Rattle.row_core.specs.Lists.{Row, Rows, vectors}
+use Rattle.row_core.specs.Lists.{Row, Rows, row_at, is_eq_at, vectors}
 use Rattle.row_core.specs.declared.errors.ConvErr.{ConvErr}
 use Rattle.row_core.specs.declared.errors.ConvErr.TheVariants.{Overflow, Memory}
 use Rattle.cone_laws.specs.Cones.{Upto}
@@ -8,7 +8,7 @@ use Rattle.cone_laws.specs.Canon.{vector_at, IsSystem}
 use Rattle.cone_laws.specs.Steps.{stays, IsLineStep}
 use Rattle.cone_laws.specs.SystemLaws.{HasSystemOf}
 use Rattle.cone_laws.specs.Leaves.{Leaves}
-use Rattle.chernikova.specs.declared.cone.Cone.{Cone}
+use Rattle.chernikova.specs.declared.system.System.{System}
 use Rattle.chernikova.specs.declared.step.Change.{Change}
 use Rattle.chernikova.specs.declared.step.Change.TheVariants as change
 use Rattle.sat_matrix.specs.ZeroTables.{IsZeroTable}
@@ -16,19 +16,19 @@ use Rattle.chernikova.specs.Systems.{values_on}
 use Rattle.chernikova.specs.Changes.{AreLists, AreAllCrosses, IsRayChange}
 
 -- the lines and rays are the system of the first k rows, and the table tells the rows on which each ray is 0
-pub record IsState (width : ℕ) (rows : List Row) (k : ℕ) (cone : Cone) : Type 0 where
+pub record IsState (width : ℕ) (rows : List Row) (k : ℕ) (cone : System) : Type 0 where
   pub narrow : width < 2 ^ 32
   pub lists : AreLists width cone.lines cone.rays
   pub system : IsSystem (Upto width rows k) (vectors cone.lines.rows) (vectors cone.rays.rows)
   pub zeros : IsZeroTable rows k (vectors cone.rays.rows) cone.sat
 
 -- a row that isn't 0 on some line: the lines and rays of the next system
-pub record IsLineOutcome (width : ℕ) (row : Row) (cone : Cone) (lines rays : Rows) : Type 0 where
+pub record IsLineOutcome (width : ℕ) (row : Row) (cone : System) (lines rays : Rows) : Type 0 where
   pub lists : AreLists width lines rays
   pub step : IsLineStep row (vectors cone.lines.rows) (vectors cone.rays.rows) (vectors lines.rows) (vectors rays.rows)
 
 -- a row that is 0 on all lines: the rays of the next system, the values of the old ones, which of them stay, and the pairs that were combined
-pub record IsRayOutcome (width : ℕ) (row : Row) (cone : Cone) (rays : Rows) (values : List ℤ) (marks : List Bool) (pairs : List (ℕ × ℕ)) : Type 0 where
+pub record IsRayOutcome (width : ℕ) (row : Row) (cone : System) (rays : Rows) (values : List ℤ) (marks : List Bool) (pairs : List (ℕ × ℕ)) : Type 0 where
   pub lists : AreLists width cone.lines rays
   pub flat : (i : ℕ) → i < length (vectors cone.lines.rows) → dot row.0 (vector_at (vectors cone.lines.rows) i) ≡ pos 0
   pub is_values : values ≡ values_on row.0 (vectors cone.rays.rows)
@@ -36,29 +36,46 @@ pub record IsRayOutcome (width : ℕ) (row : Row) (cone : Cone) (rays : Rows) (v
   pub crosses : AreAllCrosses values cone.sat pairs
   pub step : IsRayChange values marks pairs cone.rays.rows rays.rows
 
--- what a step with the row makes of a system
-abbrev pub IsOutcome : ℕ → Row → Cone → Change → Type 0
-IsOutcome width row cone (change.Line lines rays) = IsLineOutcome width row cone lines rays
-IsOutcome width row cone (change.Ray rays values marks pairs) = IsRayOutcome width row cone rays values.items marks.items pairs.items
+-- what a step with the row makes of a system, and the system that it leaves: the same, or that with the next rays
+abbrev pub IsOutcome : ℕ → Row → System → System → Change → Type 0
+IsOutcome width row cone left (change.Line lines rays) = (left ≡ cone) × IsLineOutcome width row cone lines rays
+IsOutcome width row cone left (change.Ray values marks pairs) = (left ≡ record cone { rays = left.rays }) × IsRayOutcome width row cone left.rays values.items marks.items pairs.items
 
--- the total is a sum of one number for each of the first k rows, and that of each row is at most the number of lines and rays of the system up to that row
-pub record IsCountedUpto (width : ℕ) (rows : List Row) (k : ℕ) (total : ℕ) : Type 0 where
+-- what a step with row k makes of the system of the rows before it, and the system that it leaves
+abbrev pub IsChanged : ℕ → List Row → ℕ → System → Change → Type 0
+IsChanged width rows k left change = (cone : System) × IsState width rows k cone × IsOutcome width (row_at rows k, is_eq_at rows k) cone left change
+
+-- the total is a sum of one number for each of the rows from one index up to another, and that of each row is at most the number of lines and rays of the system up to that row
+pub record IsCountedBetween (width : ℕ) (rows : List Row) (from to : ℕ) (total : ℕ) : Type 0 where
   pub counts : List ℕ
-  pub as_many : length counts ≡ k
+  pub as_many : from + length counts ≡ to
   pub is_total : sum counts ≡ total
-  pub each : (i : ℕ) → i < k → HasSystemOf width rows (i + 1) (slice_index_or counts i 0)
+  pub each : (i : ℕ) → from + i < to → HasSystemOf width rows (from + i + 1) (slice_index_or counts i 0)
+
+-- one number for each of the first k rows
+abbrev pub IsCountedUpto : ℕ → List Row → ℕ → ℕ → Type 0
+IsCountedUpto width rows k total = IsCountedBetween width rows 0 k total
 
 -- an overflow shows a number outside the range
 abbrev pub IsRealOverflow : ℕ → List Row → ConvErr → Type 0
 IsRealOverflow width rows (Overflow over) = Leaves width rows over
 IsRealOverflow width rows Memory = ⊤
 
+-- it shows such a number, at the step with one of the rows from an index on
+abbrev pub IsRealOverflowFrom : ℕ → List Row → ℕ → ConvErr → Type 0
+IsRealOverflowFrom width rows from (Overflow over) = Leaves width rows over × (from ≤ over.step)
+IsRealOverflowFrom width rows from Memory = ⊤
+
 -- the overflow is one of the step with row k
 abbrev pub IsAtStep : ℕ → ConvErr → Type 0
 IsAtStep k (Overflow over) = over.step ≡ k
 IsAtStep k Memory = ⊤
 
--- at an overflow the total is bounded by the systems of the rows up to that of its step
+-- at an overflow the total is bounded by the systems of the rows from an index up to that of its step
+abbrev pub IsCountedBeforeFrom : ℕ → List Row → ℕ → ℕ → ConvErr → Type 0
+IsCountedBeforeFrom width rows from total (Overflow over) = IsCountedBetween width rows from (over.step + 1) total
+IsCountedBeforeFrom width rows from total Memory = ⊤
+
+-- of all rows up to that of its step
 abbrev pub IsCountedBefore : ℕ → List Row → ℕ → ConvErr → Type 0
-IsCountedBefore width rows total (Overflow over) = IsCountedUpto width rows (over.step + 1) total
-IsCountedBefore width rows total Memory = ⊤
+IsCountedBefore width rows total error = IsCountedBeforeFrom width rows 0 total error

@@ -1,5 +1,5 @@
 pub mod Systems
-pub mod Combinations
+pub mod Vectors
 pub mod Faults
 pub mod Changes
 pub mod Tables

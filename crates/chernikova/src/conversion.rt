@@ -1,31 +1,35 @@
 //! The conversion.
-ghost use Rattle.std.specs.Prelude.{◌≡◌, ℕ, ◌+◌, ◌^◌, ◌-◌, ◌<◌, ◌≤◌, List, length, pos, true, IfOk, IfErr, MatchResult, OnErr};
+ghost use Rattle.std.specs.Prelude.{◌≡◌, ℕ, ◌+◌, ◌^◌, ◌-◌, ◌<◌, ◌≤◌, ◌++◌, List, length, pos, true, IfOk, IfErr, MatchResult, OnOk};
 ghost use Rattle.row_core.specs.Lists.{row_at, vectors, AreMarked};
 ghost use Rattle.cone_laws.specs.Cones.{Upto};
-ghost use Rattle.cone_laws.specs.Canon.{Canon};
+ghost use Rattle.cone_laws.specs.Canon.{Canon, IsSystem};
 ghost use Rattle.cone_laws.specs.Steps.{AreUnits};
 ghost use Rattle.cone_laws.specs.SystemLaws.{HasSystemOf};
 ghost use Rattle.row_core.specs.Range.{AllInRange};
 ghost use Rattle.sat_matrix.specs.ZeroTables.{IsZeroTable};
 ghost use Rattle.chernikova.specs.Changes.{AreLists};
-ghost use Rattle.chernikova.specs.Conversion.{IsState, IsAtStep, IsCountedUpto, IsCountedBefore, IsRealOverflow};
+ghost use Rattle.chernikova.specs.Conversion.{IsState, IsAtStep, IsCountedUpto, IsCountedBetween, IsCountedBefore, IsCountedBeforeFrom, IsRealOverflow, IsRealOverflowFrom};
 
 use crate::cone::Cone;
 use crate::fault::shown;
+use crate::lists::{joined, reopened};
 use crate::order::sorted;
-use crate::step::{changed, next_system};
+use crate::scratch::Scratch;
+use crate::step::{apply_change, next_system};
+use crate::system::System;
+use crate::vectors::VectorList;
 use row_core::{ConvErr, Memory, RowList, Steps};
 use sat_matrix::SatMatrix;
 use std::alloc::Global;
 use std::sync::ledger::Ledger;
 
 /// All unit vectors, as lines.
-fn units(alloc: Global, width: usize) -> Result<RowList, Memory>
+fn units(alloc: Global, width: usize) -> Result<VectorList, Memory>
     requires { width < 2 ^ 32 }
     ensures units { IfOk result (λ units. AreUnits width (vectors units.rows)) }
     ensures list { IfOk result (λ units. (units.width ≡ width) × AreMarked true units.rows) }
 {
-    let mut units = RowList::new(alloc, width);
+    let mut units = VectorList::with_room(alloc, width, width)?;
     let mut unit = vec![in alloc; 0i128; width]?;
     for column in 0..width {
         unit[column] = 1;
@@ -36,35 +40,59 @@ fn units(alloc: Global, width: usize) -> Result<RowList, Memory>
 }
 
 /// The system of no row.
-fn start(alloc: Global, width: usize, rows: &RowList) -> Result<Cone, Memory>
+fn start(alloc: Global, width: usize, rows: &RowList) -> Result<System, Memory>
     requires { width < 2 ^ 32 }
     ensures { IfOk result (IsState width rows.now.rows 0) }
 {
     let lines = units(alloc, width)?;
-    let rays = RowList::new(alloc, width);
+    let rays = VectorList::new(alloc, width);
     let sat = SatMatrix::new(alloc, 0);
-    Ok(Cone { lines, rays, sat })
+    Ok(System { lines, rays, sat })
 }
 
-/// The system after row `k`.
+/// Takes row `k` into the system.
 fn take_row<L: Ledger>(
     alloc: Global,
-    cone: Cone,
+    scratch: &mut Scratch,
+    cone: &mut System,
     rows: &RowList,
     k: usize,
     steps: &mut Steps<L>,
-) -> Result<Cone, ConvErr>
+) -> Result<(), ConvErr>
     requires row { k < length rows.now.rows }
-    requires state { IsState rows.now.width rows.now.rows k cone }
-    ensures state { MatchResult result (IsState rows.now.width rows.now.rows (k + 1)) (IsRealOverflow rows.now.width rows.now.rows) }
+    requires state { IsState rows.now.width rows.now.rows k cone.old }
+    ensures state { MatchResult result (λ _. IsState rows.now.width rows.now.rows (k + 1) cone.new) (IsRealOverflow rows.now.width rows.now.rows) }
     ensures step { IfErr result (IsAtStep k) }
     ensures no_fewer { steps.old ≤ steps.new }
     ensures counted { HasSystemOf rows.now.width rows.now.rows (k + 1) (steps.new - steps.old) }
 {
-    match next_system(alloc, &cone, rows, k, steps) {
-        Ok(change) => Ok(changed(alloc, cone, change, rows, k)?),
-        Err(fault) => Err(ConvErr::Overflow(shown(alloc, &cone, rows, k, fault)?)),
+    match next_system(alloc, scratch, cone, rows, k, steps) {
+        Ok(change) => Ok(apply_change(scratch, cone, change, rows, k)?),
+        Err(fault) => Err(ConvErr::Overflow(shown(alloc, cone, rows, k, fault)?)),
     }
+}
+
+/// Takes all further rows into the system of the first `from` of them.
+fn take_rows<L: Ledger>(
+    alloc: Global,
+    cone: &mut System,
+    rows: &RowList,
+    from: usize,
+    steps: &mut Steps<L>,
+) -> Result<(), ConvErr>
+    requires from { from ≤ length rows.now.rows }
+    requires state { IsState rows.now.width rows.now.rows from cone.old }
+    ensures state { OnOk result (IsState rows.now.width rows.now.rows (length rows.now.rows) cone.new) }
+    ensures overflow { IfErr result (IsRealOverflowFrom rows.now.width rows.now.rows from) }
+    ensures no_fewer { steps.old ≤ steps.new }
+    ensures counted { IsCountedBetween rows.now.width rows.now.rows from (length rows.now.rows) (steps.new - steps.old) }
+    ensures counted_before { IfErr result (IsCountedBeforeFrom rows.now.width rows.now.rows from (steps.new - steps.old)) }
+{
+    let mut scratch = Scratch::new(alloc);
+    for k in from..rows.len() {
+        take_row(alloc, &mut scratch, cone, rows, k, steps)?;
+    }
+    Ok(())
 }
 
 /// The canonical system of the cone of the rows: all vectors on which each equality is 0 and each
@@ -92,8 +120,37 @@ pub fn convert<L: Ledger>(
     ensures counted_before { IfErr result (IsCountedBefore width rows.now.rows (steps.new - steps.old)) }
 {
     let mut cone = start(alloc, width, rows)?;
-    for k in 0..rows.len() {
-        cone = take_row(alloc, cone, rows, k, steps)?;
-    }
+    take_rows(alloc, &mut cone, rows, 0, steps)?;
     Ok(sorted(alloc, cone)?)
+}
+
+/// What [`convert`] gives on the rows of `taken` and then those of `more`, from the system of the former
+/// with its table. The rays may stand in any order.
+///
+/// # Errors
+///
+/// Those of [`convert`] on all rows, at a row of `more`.
+pub fn add_rows<L: Ledger>(
+    alloc: Global,
+    cone: Cone,
+    taken: &RowList,
+    more: &RowList,
+    steps: &mut Steps<L>,
+) -> Result<Cone, ConvErr>
+    requires width { more.now.width ≡ taken.now.width }
+    requires system { IsSystem (Upto taken.now.width taken.now.rows (length taken.now.rows)) (vectors cone.lines.rows) (vectors cone.rays.rows) }
+    requires lists { AreLists taken.now.width cone.lines cone.rays }
+    requires sat { IsZeroTable taken.now.rows (length taken.now.rows) (vectors cone.rays.rows) cone.sat }
+    ensures canon { IfOk result (λ cone. Canon (Upto taken.now.width (taken.now.rows ++ more.now.rows) (length (taken.now.rows ++ more.now.rows))) (vectors cone.lines.rows) (vectors cone.rays.rows)) }
+    ensures lists { IfOk result (λ cone. AreLists taken.now.width cone.lines cone.rays) }
+    ensures sat { IfOk result (λ cone. IsZeroTable (taken.now.rows ++ more.now.rows) (length (taken.now.rows ++ more.now.rows)) (vectors cone.rays.rows) cone.sat) }
+    ensures overflow { IfErr result (IsRealOverflowFrom taken.now.width (taken.now.rows ++ more.now.rows) (length taken.now.rows)) }
+    ensures no_fewer { steps.old ≤ steps.new }
+    ensures counted { IsCountedBetween taken.now.width (taken.now.rows ++ more.now.rows) (length taken.now.rows) (length (taken.now.rows ++ more.now.rows)) (steps.new - steps.old) }
+    ensures counted_before { IfErr result (IsCountedBeforeFrom taken.now.width (taken.now.rows ++ more.now.rows) (length taken.now.rows) (steps.new - steps.old)) }
+{
+    let rows = joined(alloc, taken, more)?;
+    let mut system = reopened(alloc, cone)?;
+    take_rows(alloc, &mut system, &rows, taken.len(), steps)?;
+    Ok(sorted(alloc, system)?)
 }

@@ -6,7 +6,7 @@ ghost use Rattle.cone_laws.specs.Leaves.{Shows};
 ghost use Rattle.chernikova.specs.Faults.{is_lines, IsPlace, vector_of, IsFaultAt};
 ghost use Rattle.chernikova.specs.declared.fault.Fault.TheVariants as fault;
 
-use crate::cone::Cone;
+use crate::system::System;
 use row_core::{ConvErr, Memory, OverKind, Overflow, RowBuf, RowList};
 use std::alloc::{AllocError, AllocFailed, Global};
 
@@ -77,7 +77,7 @@ impl<T: Drop> From<AllocFailed<T>> for Fault {
     }
 }
 
-impl Cone {
+impl System {
     // Lends a vector.
     fn vector(&self, place: Place) -> &[i128]
         requires place { IsPlace (vectors self.now.lines.rows) (vectors self.now.rays.rows) place }
@@ -96,7 +96,7 @@ impl Cone {
 /// Copies the two rows that a fault names at the step with row `k`.
 pub(crate) fn shown(
     alloc: Global,
-    cone: &Cone,
+    cone: &System,
     rows: &RowList,
     k: usize,
     fault: Fault,

@@ -6,14 +6,16 @@ ghost use Rattle.row_core.specs.Content.{IsPrimitive};
 ghost use Rattle.row_core.specs.Lists.{row_at, vectors, AreMarked};
 ghost use Rattle.cone_laws.specs.Steps.{sign};
 ghost use Rattle.cone_laws.specs.Leaves.{CombinationLeaves};
-ghost use Rattle.chernikova.specs.Combinations.{IsCombined};
+ghost use Rattle.cone_laws.specs.Combinations.{IsCombined};
 ghost use Rattle.chernikova.specs.Changes.{value_at, AreLowered, AreOthersLowered, AreLists, with_upward, IsLineChange};
 ghost use Rattle.chernikova.specs.Faults.{IsLowerFault, IsOtherFault, IsLineFault, is_lines};
 
-use crate::combination::{combine, negated};
-use crate::cone::Cone;
 use crate::fault::{Fault, Part, Place};
-use row_core::{Memory, RowList, Steps};
+use crate::scratch::{Scratch, cells, no_vectors};
+use crate::system::System;
+use crate::vectors::VectorList;
+use cone_laws::combination::{combine, write_upward};
+use row_core::{Memory, Steps};
 use std::alloc::{AllocError, Global};
 use std::sync::ledger::Ledger;
 
@@ -54,10 +56,10 @@ fn lower<L: Ledger>(
 
 /// Appends the vectors from one index up to another, lowered by the line onto the row.
 fn lower_range<L: Ledger>(
-    into: &mut RowList,
+    into: &mut VectorList,
     scratch: &mut [i128],
     part: Part,
-    list: &RowList,
+    list: &VectorList,
     values: &[i128],
     from: usize,
     to: usize,
@@ -71,10 +73,11 @@ fn lower_range<L: Ledger>(
     requires in_range { All InRange values.now × InRange crossing.value }
     requires nonzero { crossing.value ≢ pos 0 }
     requires primitive { All IsPrimitive (vectors list.now.rows) }
+    requires marked { AreMarked (is_lines part) into.old.rows }
     ensures counted { (steps.old ≤ steps.new) × (steps.new + from ≤ steps.old + to) }
     ensures width { (into.new.width ≡ into.old.width) × (length scratch.new ≡ length scratch.old) }
     ensures lowered { MatchResult result (λ _. AreLowered crossing.entry.value crossing.entry.line.now values.now list.now.rows from to into.old.rows into.new.rows) (IsLowerFault crossing.entry.value crossing.entry.index crossing.entry.line.now part from to values.now (vectors list.now.rows)) }
-    ensures marked { OnOk result (AreMarked (is_lines part) into.old.rows → AreMarked (is_lines part) into.new.rows) }
+    ensures marked { OnOk result (AreMarked (is_lines part) into.new.rows) }
 {
     for index in from..to {
         let lowered = lower(
@@ -102,60 +105,39 @@ fn lower_range<L: Ledger>(
     Ok(())
 }
 
-/// The number times the sign of a value that isn't 0.
-fn turned(x: i128, value: i128) -> i128
-    requires in_range { InRange x }
-    requires nonzero { value ≢ pos 0 }
-    ensures value { result ≡ sign value *ℤ x }
-    ensures in_range { InRange result }
-{
-    if value > 0 { x } else { negated(x) }
-}
-
-/// The line with the sign with which the row is above 0 on it.
-fn upward(alloc: Global, line: &[i128], value: i128) -> Result<Vec<i128>, AllocError>
-    requires in_range { AllInRange line.now }
-    requires nonzero { value ≢ pos 0 }
-    ensures upward { IfOk result (λ v. v.items ≡ scale (sign value) line.now) }
-    ensures in_range { IfOk result (λ v. AllInRange v.items) }
-{
-    let mut upward = Vec::new(alloc);
-    for index in 0..line.len() {
-        upward.push(turned(line[index], value))?;
-    }
-    Ok(upward)
-}
-
 /// Appends the line with the sign with which the row is above 0 on it, if the row is an inequality.
 fn push_upward(
-    rays: &mut RowList,
-    alloc: Global,
+    rays: &mut VectorList,
+    scratch: &mut [i128],
     line: &[i128],
     value: i128,
     eq: bool,
 ) -> Result<(), Memory>
-    requires wide { length line.now ≡ rays.old.width }
+    requires wide { (length line.now ≡ rays.old.width) × (length scratch.old ≡ rays.old.width) }
     requires in_range { AllInRange line.now × InRange value }
     requires nonzero { value ≢ pos 0 }
+    requires marked { AreMarked false rays.old.rows }
     ensures width { rays.new.width ≡ rays.old.width }
     ensures rows { OnOk result (rays.new.rows ≡ with_upward eq value line.now rays.old.rows) }
 {
     if eq {
         return Ok(());
     }
-    let upward = upward(alloc, line, value)?;
-    rays.push(&upward, false)
+    write_upward(scratch, line, value);
+    rays.push(scratch, false)
 }
 
 /// The other lines, lowered onto the row.
 fn lowered_lines<L: Ledger>(
     alloc: Global,
-    lines: &RowList,
+    place: &mut VectorList,
+    scratch: &mut [i128],
+    lines: &VectorList,
     values: &[i128],
     crossing: Crossing,
     steps: &mut Steps<L>,
-) -> Result<RowList, Fault>
-    requires width { length crossing.line.now ≡ lines.now.width }
+) -> Result<VectorList, Fault>
+    requires width { (length crossing.line.now ≡ lines.now.width) × (length scratch.old ≡ lines.now.width) }
     requires index { crossing.index < length lines.now.rows }
     requires as_many { length values.now ≡ length lines.now.rows }
     requires in_range { All InRange values.now × InRange crossing.value }
@@ -164,13 +146,13 @@ fn lowered_lines<L: Ledger>(
     ensures counted { (steps.old ≤ steps.new) × (steps.new + 1 ≤ steps.old + length lines.now.rows) }
     ensures lowered { MatchResult result (λ new. AreOthersLowered crossing.entry.value crossing.entry.index crossing.entry.line.now values.now lines.now.rows new.rows) (IsOtherFault crossing.entry.value crossing.entry.index crossing.entry.line.now values.now (vectors lines.now.rows)) }
     ensures list { IfOk result (λ new. (new.width ≡ lines.now.width) × AreMarked true new.rows) }
+    ensures scratch { length scratch.new ≡ length scratch.old }
 {
-    let mut new = RowList::new(alloc, lines.width());
-    let mut scratch = vec![in alloc; 0; lines.width()]?;
+    let mut new = no_vectors(alloc, place, lines.width(), lines.len())?;
     let index = crossing.index;
     lower_range(
         &mut new,
-        &mut scratch,
+        scratch,
         Part::Lines,
         lines,
         values,
@@ -181,7 +163,7 @@ fn lowered_lines<L: Ledger>(
     )?;
     lower_range(
         &mut new,
-        &mut scratch,
+        scratch,
         Part::Lines,
         lines,
         values,
@@ -196,12 +178,14 @@ fn lowered_lines<L: Ledger>(
 /// The rays, lowered onto the row.
 fn lowered_rays<L: Ledger>(
     alloc: Global,
-    rays: &RowList,
+    place: &mut VectorList,
+    scratch: &mut [i128],
+    rays: &VectorList,
     values: &[i128],
     crossing: Crossing,
     steps: &mut Steps<L>,
-) -> Result<RowList, Fault>
-    requires width { length crossing.line.now ≡ rays.now.width }
+) -> Result<VectorList, Fault>
+    requires width { (length crossing.line.now ≡ rays.now.width) × (length scratch.old ≡ rays.now.width) }
     requires as_many { length values.now ≡ length rays.now.rows }
     requires in_range { All InRange values.now × InRange crossing.value }
     requires nonzero { crossing.value ≢ pos 0 }
@@ -210,11 +194,10 @@ fn lowered_rays<L: Ledger>(
     ensures lowered { MatchResult result (λ new. AreLowered crossing.entry.value crossing.entry.line.now values.now rays.now.rows 0 (length rays.now.rows) [] new.rows) (IsLowerFault crossing.entry.value crossing.entry.index crossing.entry.line.now Part.Rays 0 (length rays.now.rows) values.now (vectors rays.now.rows)) }
     ensures list { IfOk result (λ new. (new.width ≡ rays.now.width) × AreMarked false new.rows) }
 {
-    let mut new = RowList::new(alloc, rays.width());
-    let mut scratch = vec![in alloc; 0; rays.width()]?;
+    let mut new = no_vectors(alloc, place, rays.width(), rays.len().saturating_add(1))?;
     lower_range(
         &mut new,
-        &mut scratch,
+        scratch,
         Part::Rays,
         rays,
         values,
@@ -229,13 +212,14 @@ fn lowered_rays<L: Ledger>(
 /// The lines and rays after a row that isn't 0 on line `index`, and on no later line.
 pub(crate) fn line_step<L: Ledger>(
     alloc: Global,
-    cone: &Cone,
+    scratch: &mut Scratch,
+    cone: &System,
     line_values: &[i128],
     ray_values: &[i128],
     index: usize,
     eq: bool,
     steps: &mut Steps<L>,
-) -> Result<(RowList, RowList), Fault>
+) -> Result<(VectorList, VectorList), Fault>
     requires widths { cone.now.lines.width ≡ cone.now.rays.width }
     requires as_many { (length line_values.now ≡ length cone.now.lines.rows) × (length ray_values.now ≡ length cone.now.rays.rows) }
     requires in_range { All InRange line_values.now × All InRange ray_values.now }
@@ -250,8 +234,22 @@ pub(crate) fn line_step<L: Ledger>(
         line: cone.lines.row(index),
         value: line_values[index],
     };
-    let lines = lowered_lines(alloc, &cone.lines, line_values, crossing, steps)?;
-    let mut rays = lowered_rays(alloc, &cone.rays, ray_values, crossing, steps)?;
-    push_upward(&mut rays, alloc, crossing.line, crossing.value, eq)?;
+    let mut row = cells(alloc, &mut scratch.row, cone.lines.width())?;
+    let place = &mut scratch.lines;
+    let lines = lowered_lines(
+        alloc,
+        place,
+        &mut row,
+        &cone.lines,
+        line_values,
+        crossing,
+        steps,
+    )?;
+    let place = &mut scratch.rays;
+    let mut rays = lowered_rays(
+        alloc, place, &mut row, &cone.rays, ray_values, crossing, steps,
+    )?;
+    push_upward(&mut rays, &mut row, crossing.line, crossing.value, eq)?;
+    scratch.row = row;
     Ok((lines, rays))
 }

@@ -1,19 +1,50 @@
 //! The step with a row that is 0 on all lines.
-ghost use Rattle.std.specs.Prelude.{◌≡◌, ◌≢◌, ℕ, ◌+◌, ◌-◌, ◌^◌, ◌<◌, ◌≤◌, Bool, true, false, List, [], ◌∷◌, ◌++◌, length, All, pos, ◌<ℤ◌, ◌↔◌, IsTrue, MatchResult, IfOk, OnOk};
+ghost use Rattle.std.specs.Prelude.{◌≡◌, ◌≢◌, ℕ, ◌+◌, ◌-◌, ◌^◌, ◌<◌, ◌≤◌, Bool, true, false, List, [], ◌∷◌, ◌++◌, length, All, pos, ◌<ℤ◌, ◌↔◌, IsTrue, MatchResult, IfOk, OnOk, OnErr};
 ghost use Rattle.row_core.specs.Range.{InRange, AllInRange};
 ghost use Rattle.sat_matrix.specs.Tables.{HasThird};
-ghost use Rattle.row_core.specs.Flat.{marked};
 ghost use Rattle.row_core.specs.Lists.{vectors, AreMarked};
-ghost use Rattle.chernikova.specs.Changes.{value_at, AreAllCrosses, IsCross, IsCrossesBelow, IsPairAt, ArePairs, IsPairCombined, HasMade, IsRayChange};
+ghost use Rattle.chernikova.specs.Changes.{value_at, AreAllCrosses, AreRising, AreOn, AreFound, AreAllFound, is_on, pair_on, IsPairAt, ArePairs, IsPairCombined, HasMade, IsGrown, IsRayChange};
 ghost use Rattle.chernikova.specs.Faults.{IsPairFault};
 ghost use Rattle.chernikova.specs.CountTests.{CountsDecide};
 
-use crate::combination::combine;
 use crate::fault::{Fault, Part, Place};
-use row_core::{Memory, RowList, Steps};
+use crate::scratch::{Scratch, cells, emptied};
+use crate::vectors::VectorList;
+use crate::zeros::extended;
+use cone_laws::combination::combine;
+use row_core::Steps;
 use sat_matrix::SatMatrix;
 use std::alloc::{AllocError, Global};
 use std::sync::ledger::Ledger;
+
+/// A side of the row.
+#[derive(Clone, Copy)]
+pub(crate) enum Side {
+    Above,
+    Below,
+}
+
+impl Side {
+    /// Whether a value is on the side.
+    fn has(self, value: i128) -> bool
+        ensures { result ≡ is_on self value }
+    {
+        match self {
+            Side::Above => value > 0,
+            Side::Below => value < 0,
+        }
+    }
+
+    /// The pair of a ray on the side and one on the other, with the ray above first.
+    fn pair(self, outer: usize, inner: usize) -> (usize, usize)
+        ensures { result ≡ pair_on self outer inner }
+    {
+        match self {
+            Side::Above => (outer, inner),
+            Side::Below => (inner, outer),
+        }
+    }
+}
 
 /// The least number of rows of the system that two adjacent rays are both 0 on: with fewer, the vectors
 /// that are 0 on them have more dimensions than the lines and two rays span (H. Le Verge, 1992).
@@ -30,12 +61,31 @@ fn has_one_more(zeros: usize, shared: usize) -> bool
     zeros > shared && zeros - shared == 1
 }
 
+/// The indices of the values on the side.
+fn indices_on(
+    alloc: Global,
+    place: &mut Vec<usize>,
+    side: Side,
+    values: &[i128],
+) -> Result<Vec<usize>, AllocError>
+    requires in_range { All InRange values.now }
+    ensures { IfOk result (λ v. AreOn side values.now (length values.now) v.items) }
+{
+    let mut indices = emptied(alloc, place, values.len())?;
+    for index in 0..values.len() {
+        if side.has(values[index]) {
+            indices.push(index)?;
+        }
+    }
+    Ok(indices)
+}
+
 /// Whether two rays are adjacent: no third ray is 0 wherever both are. The numbers of their zeros
 /// decide most pairs: too few in common and there is a third ray, one more in either and there is none.
 fn adjacent(zeros: &SatMatrix, least: usize, first: usize, second: usize) -> bool
     requires first { first < length zeros.now.rows }
     requires second { second < length zeros.now.rows }
-    requires counts { CountsDecide least zeros.now }
+    requires decide { CountsDecide least zeros.now }
     ensures { IsTrue result ↔ ¬ (HasThird zeros.now first second) }
 {
     let shared = zeros.shared(first, second);
@@ -48,73 +98,108 @@ fn adjacent(zeros: &SatMatrix, least: usize, first: usize, second: usize) -> boo
     !zeros.third_between(first, second)
 }
 
-/// Whether a ray above 0 on the row and another one cross: the other is below 0, and they are adjacent.
-fn cross(values: &[i128], zeros: &SatMatrix, least: usize, above: usize, below: usize) -> bool
-    requires counts { CountsDecide least zeros.now }
-    requires as_many { length values.now ≡ length zeros.now.rows }
-    requires first { above < length values.now }
-    requires second { below < length values.now }
-    requires positive { pos 0 <ℤ value_at values.now above }
-    ensures { IsTrue result ↔ IsCross values.now zeros.now above below }
-{
-    values[below] < 0 && adjacent(zeros, least, above, below)
-}
-
-/// Appends the pairs of ray `above`, which is above 0 on the row, with each adjacent ray below 0.
-fn push_crossings(
+/// Appends the pairs of the ray at a position of the outer side with each adjacent ray of the inner side.
+fn push_pairs(
     pairs: &mut Vec<(usize, usize)>,
-    above: usize,
-    values: &[i128],
+    side: Side,
+    outer: &[usize],
+    position: usize,
+    inner: &[usize],
     zeros: &SatMatrix,
     least: usize,
 ) -> Result<(), AllocError>
-    requires counts { CountsDecide least zeros.now }
-    requires as_many { length values.now ≡ length zeros.now.rows }
-    requires first { above < length values.now }
-    requires positive { pos 0 <ℤ value_at values.now above }
-    requires before { IsCrossesBelow values.now zeros.now above pairs.old.items }
-    ensures { OnOk result (IsCrossesBelow values.now zeros.now (above + 1) pairs.new.items) }
+    requires decide { CountsDecide least zeros.now }
+    requires outer { AreRising (length zeros.now.rows) outer.now }
+    requires inner { AreRising (length zeros.now.rows) inner.now }
+    requires position { position < length outer.now }
+    requires before { AreFound side zeros.now outer.now inner.now position 0 pairs.old.items }
+    ensures { OnOk result (AreFound side zeros.now outer.now inner.now (position + 1) 0 pairs.new.items) }
 {
-    for below in 0..values.len() {
-        if cross(values, zeros, least, above, below) {
-            pairs.push((above, below))?;
+    let ray = outer[position];
+    for next in 0..inner.len() {
+        let pair = side.pair(ray, inner[next]);
+        if adjacent(zeros, least, pair.0, pair.1) {
+            pairs.push(pair)?;
         }
     }
     Ok(())
 }
 
+/// The pairs of adjacent rays, with that side in the outer loop.
+fn pairs_from(
+    alloc: Global,
+    place: &mut Vec<(usize, usize)>,
+    side: Side,
+    outer: &[usize],
+    inner: &[usize],
+    zeros: &SatMatrix,
+    least: usize,
+) -> Result<Vec<(usize, usize)>, AllocError>
+    requires decide { CountsDecide least zeros.now }
+    requires outer { AreRising (length zeros.now.rows) outer.now }
+    requires inner { AreRising (length zeros.now.rows) inner.now }
+    ensures { IfOk result (λ v. AreFound side zeros.now outer.now inner.now (length outer.now) 0 v.items) }
+{
+    let mut pairs = emptied(alloc, place, 0)?;
+    for position in 0..outer.len() {
+        push_pairs(&mut pairs, side, outer, position, inner, zeros, least)?;
+    }
+    Ok(pairs)
+}
+
+/// The pairs of adjacent rays of the two sides, with the smaller side in the outer loop.
+fn pairs_of(
+    alloc: Global,
+    place: &mut Vec<(usize, usize)>,
+    above: &[usize],
+    below: &[usize],
+    zeros: &SatMatrix,
+    least: usize,
+) -> Result<Vec<(usize, usize)>, AllocError>
+    requires decide { CountsDecide least zeros.now }
+    requires above { AreRising (length zeros.now.rows) above.now }
+    requires below { AreRising (length zeros.now.rows) below.now }
+    ensures { IfOk result (λ v. AreAllFound zeros.now above.now below.now v.items) }
+{
+    if above.len() <= below.len() {
+        return pairs_from(alloc, place, Side::Above, above, below, zeros, least);
+    }
+    pairs_from(alloc, place, Side::Below, below, above, zeros, least)
+}
+
 /// The pairs of adjacent rays of which the first is above and the second below 0 on the row.
 pub(crate) fn crossings(
     alloc: Global,
+    scratch: &mut Scratch,
     values: &[i128],
     zeros: &SatMatrix,
     least: usize,
 ) -> Result<Vec<(usize, usize)>, AllocError>
-    requires counts { CountsDecide least zeros.now }
+    requires decide { CountsDecide least zeros.now }
     requires as_many { length values.now ≡ length zeros.now.rows }
     requires in_range { All InRange values.now }
     ensures { IfOk result (λ v. AreAllCrosses values.now zeros.now v.items) }
 {
-    let mut pairs = Vec::new(alloc);
-    for above in 0..values.len() {
-        if values[above] > 0 {
-            push_crossings(&mut pairs, above, values, zeros, least)?;
-        }
-    }
+    let above = indices_on(alloc, &mut scratch.above, Side::Above, values)?;
+    let below = indices_on(alloc, &mut scratch.below, Side::Below, values)?;
+    let place = &mut scratch.pairs;
+    let pairs = pairs_of(alloc, place, &above, &below, zeros, least)?;
+    scratch.above = above;
+    scratch.below = below;
     Ok(pairs)
 }
 
 /// Writes over `dst` the ray of a pair that is 0 on the row.
 fn combine_pair<L: Ledger>(
     dst: &mut [i128],
-    rays: &RowList,
+    rays: &VectorList,
     values: &[i128],
     pair: (usize, usize),
     steps: &mut Steps<L>,
 ) -> Result<(), Fault>
     requires width { length dst.old ≡ rays.now.width }
     requires narrow { rays.now.width < 2 ^ 32 }
-    requires as_many { length values.now ≡ length rays.now.rows }
+    requires as_many { length values.now ≤ length rays.now.rows }
     requires in_range { All InRange values.now }
     requires opposite { IsPairAt values.now pair.0 pair.1 }
     ensures counted { (steps.old ≤ steps.new) × (steps.new ≤ steps.old + 1) }
@@ -151,62 +236,64 @@ fn combine_pair<L: Ledger>(
 
 /// Appends one ray for each pair, 0 on the row.
 fn push_made<L: Ledger>(
-    alloc: Global,
-    into: &mut RowList,
-    rays: &RowList,
+    scratch: &mut [i128],
+    rays: &mut VectorList,
     values: &[i128],
     pairs: &[(usize, usize)],
     steps: &mut Steps<L>,
 ) -> Result<(), Fault>
-    requires width { into.old.width ≡ rays.now.width }
-    requires as_many { length values.now ≡ length rays.now.rows }
+    requires width { length scratch.old ≡ rays.old.width }
+    requires narrow { rays.old.width < 2 ^ 32 }
+    requires as_many { length values.now ≡ length rays.old.rows }
     requires in_range { All InRange values.now }
     requires opposite { ArePairs values.now pairs.now }
+    requires marked { AreMarked false rays.old.rows }
     ensures counted { (steps.old ≤ steps.new) × (steps.new ≤ steps.old + length pairs.now) }
-    ensures width { into.new.width ≡ into.old.width }
-    ensures made { MatchResult result (λ _. HasMade values.now rays.now.rows pairs.now into.old.rows into.new.rows) (IsPairFault values.now pairs.now (vectors rays.now.rows)) }
-    ensures marked { OnOk result (AreMarked false into.old.rows → AreMarked false into.new.rows) }
+    ensures width { rays.new.width ≡ rays.old.width }
+    ensures grown { IsGrown rays.old.rows rays.new.rows }
+    ensures made { MatchResult result (λ _. HasMade values.now rays.old.rows pairs.now rays.old.rows rays.new.rows) (IsPairFault values.now pairs.now (vectors rays.old.rows)) }
+    ensures marked { AreMarked false rays.new.rows }
 {
-    let mut scratch = vec![in alloc; 0; rays.width()]?;
     for index in 0..pairs.len() {
-        combine_pair(&mut scratch, rays, values, pairs[index], steps)?;
-        into.push(&scratch, false)?;
+        combine_pair(scratch, rays, values, pairs[index], steps)?;
+        rays.push(scratch, false)?;
     }
     Ok(())
 }
 
-/// The marked rays, in order.
-fn kept(alloc: Global, rays: &RowList, marks: &[bool]) -> Result<RowList, Memory>
-    requires { length marks.now ≡ length rays.now.rows }
-    ensures rows { IfOk result (λ kept. vectors kept.rows ≡ marked marks.now (vectors rays.now.rows)) }
-    ensures list { IfOk result (λ kept. (kept.width ≡ rays.now.width) × AreMarked false kept.rows) }
-{
-    let mut kept = RowList::new(alloc, rays.width());
-    for index in 0..rays.len() {
-        if marks[index] {
-            kept.push(rays.row(index), false)?;
-        }
-    }
-    Ok(kept)
-}
-
-/// The marked rays, and one ray for each pair.
+/// Keeps the marked rays, and appends one ray for each pair. After a fault the rays are as before.
 pub(crate) fn ray_step<L: Ledger>(
     alloc: Global,
-    rays: &RowList,
+    scratch: &mut Scratch,
+    rays: &mut VectorList,
     values: &[i128],
     marks: &[bool],
     pairs: &[(usize, usize)],
     steps: &mut Steps<L>,
-) -> Result<RowList, Fault>
-    requires as_many { (length values.now ≡ length rays.now.rows) × (length marks.now ≡ length rays.now.rows) }
+) -> Result<(), Fault>
+    requires as_many { (length values.now ≡ length rays.old.rows) × (length marks.now ≡ length rays.old.rows) }
     requires in_range { All InRange values.now }
     requires opposite { ArePairs values.now pairs.now }
+    requires marked { AreMarked false rays.old.rows }
     ensures counted { (steps.old ≤ steps.new) × (steps.new ≤ steps.old + length pairs.now) }
-    ensures change { MatchResult result (λ new. IsRayChange values.now marks.now pairs.now rays.now.rows new.rows) (IsPairFault values.now pairs.now (vectors rays.now.rows)) }
-    ensures list { IfOk result (λ new. (new.width ≡ rays.now.width) × AreMarked false new.rows) }
+    ensures width { rays.new.width ≡ rays.old.width }
+    ensures change { MatchResult result (λ _. IsRayChange values.now marks.now pairs.now rays.old.rows rays.new.rows) (IsPairFault values.now pairs.now (vectors rays.old.rows)) }
+    ensures marked { AreMarked false rays.new.rows }
+    ensures same { OnErr result (rays.new ≡ rays.old) }
 {
-    let mut new = kept(alloc, rays, marks)?;
-    push_made(alloc, &mut new, rays, values, pairs, steps)?;
-    Ok(new)
+    let keep = extended(alloc, &mut scratch.keep, marks, pairs.len())?;
+    let mut row = cells(alloc, &mut scratch.row, rays.width())?;
+    let count = rays.len();
+    match push_made(&mut row, rays, values, pairs, steps) {
+        Ok(()) => {
+            rays.keep_rows(&keep);
+            scratch.keep = keep;
+            scratch.row = row;
+            Ok(())
+        }
+        Err(fault) => {
+            rays.truncate(count);
+            Err(fault)
+        }
+    }
 }

@@ -1,18 +1,21 @@
 //! One step: a row is taken in.
-ghost use Rattle.std.specs.Prelude.{◌≡◌, ℕ, ◌+◌, ◌-◌, ◌<◌, ◌≤◌, List, length, IfOk, MatchResult};
+ghost use Rattle.std.specs.Prelude.{◌≡◌, ℕ, ◌+◌, ◌-◌, ◌<◌, ◌≤◌, List, length, OnOk, OnErr, MatchResult};
 ghost use Rattle.row_core.specs.Lists.{row_at, is_eq_at, vectors};
 ghost use Rattle.cone_laws.specs.SystemLaws.{HasSystemOf};
 ghost use Rattle.chernikova.specs.Faults.{IsFaultAt};
-ghost use Rattle.chernikova.specs.Conversion.{IsState, IsOutcome};
+ghost use Rattle.chernikova.specs.Conversion.{IsState, IsOutcome, IsChanged};
 
-use crate::cone::Cone;
 use crate::fault::{Fault, Part};
 use crate::line_step::line_step;
 use crate::ray_step::{crossings, least_shared, ray_step};
+use crate::scratch::Scratch;
+use crate::system::System;
 use crate::values::{last_crossing, marks, values};
+use crate::vectors::VectorList;
 use crate::zeros::{after_line_step, after_ray_step};
-use row_core::{Memory, RowList, Steps};
+use row_core::{Memory, RowList, Steps, all_narrow};
 use std::alloc::Global;
+use std::mem;
 use std::sync::ledger::Ledger;
 
 /// What a step makes of a system.
@@ -20,88 +23,105 @@ use std::sync::ledger::Ledger;
 pub(crate) enum Change {
     /// The row isn't 0 on some line.
     Line {
-        lines: RowList,
-        rays: RowList,
+        lines: VectorList,
+        rays: VectorList,
     },
-    /// The row is 0 on all lines: the new rays, the values of the old ones, which of them stay, and
-    /// the pairs that were combined.
+    /// The row is 0 on all lines, and the rays are those of the next system: the values of the old ones,
+    /// which of them stayed, and the pairs that were combined.
     Ray {
-        rays: RowList,
         values: Vec<i128>,
         marks: Vec<bool>,
         pairs: Vec<(usize, usize)>,
     },
 }
 
-/// What row `k` makes of the system of the rows before it.
+/// What row `k` makes of the system of the rows before it. After a fault the system is as before.
 pub(crate) fn next_system<L: Ledger>(
     alloc: Global,
-    cone: &Cone,
+    scratch: &mut Scratch,
+    cone: &mut System,
     rows: &RowList,
     k: usize,
     steps: &mut Steps<L>,
 ) -> Result<Change, Fault>
     requires row { k < length rows.now.rows }
-    requires state { IsState rows.now.width rows.now.rows k cone.now }
-    ensures outcome { MatchResult result (IsOutcome rows.now.width (row_at rows.now.rows k, is_eq_at rows.now.rows k) cone.now) (IsFaultAt rows.now.rows k (vectors cone.now.lines.rows) (vectors cone.now.rays.rows)) }
+    requires state { IsState rows.now.width rows.now.rows k cone.old }
+    ensures outcome { MatchResult result (IsOutcome rows.now.width (row_at rows.now.rows k, is_eq_at rows.now.rows k) cone.old cone.new) (IsFaultAt rows.now.rows k (vectors cone.old.lines.rows) (vectors cone.old.rays.rows)) }
+    ensures same { OnErr result (cone.new ≡ cone.old) }
     ensures no_fewer { steps.old ≤ steps.new }
     ensures counted { HasSystemOf rows.now.width rows.now.rows (k + 1) (steps.new - steps.old) }
 {
     let row = rows.row(k);
     let eq = rows.is_eq(k);
-    let line_values = values(alloc, Part::Lines, &cone.lines, row)?;
-    let ray_values = values(alloc, Part::Rays, &cone.rays, row)?;
+    let narrow = all_narrow(row);
+    let lines_place = &mut scratch.line_values;
+    let line_values = values(alloc, lines_place, Part::Lines, &cone.lines, row, narrow)?;
+    let rays_place = &mut scratch.ray_values;
+    let ray_values = values(alloc, rays_place, Part::Rays, &cone.rays, row, narrow)?;
     if let Some(index) = last_crossing(&line_values) {
-        let (lines, rays) = line_step(alloc, cone, &line_values, &ray_values, index, eq, steps)?;
+        let (lines, rays) = line_step(
+            alloc,
+            scratch,
+            cone,
+            &line_values,
+            &ray_values,
+            index,
+            eq,
+            steps,
+        )?;
+        scratch.line_values = line_values;
+        scratch.ray_values = ray_values;
         return Ok(Change::Line { lines, rays });
     }
-    let marks = marks(alloc, eq, &ray_values)?;
+    let marks = marks(alloc, &mut scratch.marks, eq, &ray_values)?;
     let least = least_shared(rows.width(), cone.lines.len());
-    let pairs = crossings(alloc, &ray_values, &cone.sat, least)?;
-    let rays = ray_step(alloc, &cone.rays, &ray_values, &marks, &pairs, steps)?;
+    let pairs = crossings(alloc, scratch, &ray_values, &cone.sat, least)?;
+    ray_step(
+        alloc,
+        scratch,
+        &mut cone.rays,
+        &ray_values,
+        &marks,
+        &pairs,
+        steps,
+    )?;
+    scratch.line_values = line_values;
     Ok(Change::Ray {
-        rays,
         values: ray_values,
         marks,
         pairs,
     })
 }
 
-/// The system after a change, with its table.
-pub(crate) fn changed(
-    alloc: Global,
-    cone: Cone,
+/// Brings the system up to date with a change, and its table with it.
+pub(crate) fn apply_change(
+    scratch: &mut Scratch,
+    cone: &mut System,
     change: Change,
     rows: &RowList,
     k: usize,
-) -> Result<Cone, Memory>
+) -> Result<(), Memory>
     requires row { k < length rows.now.rows }
-    requires state { IsState rows.now.width rows.now.rows k cone }
-    requires outcome { IsOutcome rows.now.width (row_at rows.now.rows k, is_eq_at rows.now.rows k) cone change }
-    ensures { IfOk result (IsState rows.now.width rows.now.rows (k + 1)) }
+    requires outcome { IsChanged rows.now.width rows.now.rows k cone.old change }
+    ensures { OnOk result (IsState rows.now.width rows.now.rows (k + 1) cone.new) }
 {
-    let Cone {
-        lines: old,
-        rays: _,
-        mut sat,
-    } = cone;
     match change {
         Change::Line { lines, rays } => {
-            after_line_step(alloc, &mut sat, rows.is_eq(k))?;
-            Ok(Cone { lines, rays, sat })
+            after_line_step(&mut cone.sat, rows.is_eq(k))?;
+            scratch.lines = mem::replace(&mut cone.lines, lines);
+            scratch.rays = mem::replace(&mut cone.rays, rays);
+            Ok(())
         }
         Change::Ray {
-            rays,
             values,
-            marks,
+            mut marks,
             pairs,
         } => {
-            after_ray_step(alloc, &mut sat, &values, &marks, &pairs)?;
-            Ok(Cone {
-                lines: old,
-                rays,
-                sat,
-            })
+            after_ray_step(&mut cone.sat, &values, &mut marks, &pairs)?;
+            scratch.ray_values = values;
+            scratch.marks = marks;
+            scratch.pairs = pairs;
+            Ok(())
         }
     }
 }

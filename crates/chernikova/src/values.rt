@@ -1,29 +1,55 @@
 //! The values of vectors on a row.
-ghost use Rattle.std.specs.Prelude.{◌≡◌, ◌≢◌, ℕ, ◌^◌, ◌<◌, ◌≤◌, Bool, length, map, pos, All, MatchResult, MatchOption, IfOk, slice_index_or};
+ghost use Rattle.std.specs.Prelude.{◌≡◌, ◌≢◌, ℕ, ◌^◌, ◌<◌, ◌≤◌, Bool, [], length, map, pos, All, IsTrue, MatchResult, MatchOption, IfOk, OnOk, slice_index_or};
 ghost use Rattle.row_core.specs.Vectors.{dot};
 ghost use Rattle.row_core.specs.Range.{InRange};
+ghost use Rattle.row_core.specs.Narrow.{AllNarrow};
 ghost use Rattle.cone_laws.specs.Steps.{stays};
-ghost use Rattle.row_core.specs.Lists.{vectors};
+ghost use Rattle.row_core.specs.Lists.{row_at, vectors};
 ghost use Rattle.chernikova.specs.Systems.{values_on};
 ghost use Rattle.chernikova.specs.Faults.{IsValuesFault};
 
 use crate::fault::{Fault, Part, Place};
-use row_core::{RowList, dot};
+use crate::scratch::emptied;
+use crate::vectors::VectorList;
+use row_core::{dot, narrow_dot};
 use std::alloc::{AllocError, Global};
 
-/// The value of each vector on the row.
+/// Appends the values of narrow vectors on a narrow row to a list without elements.
+fn narrow_values(values: &mut Vec<i128>, list: &VectorList, row: &[i128]) -> Result<(), AllocError>
+    requires empty { values.old.items ≡ [] }
+    requires wide { length row.now ≡ list.now.width }
+    requires narrow { length row.now < 2 ^ 32 }
+    requires row { AllNarrow row.now }
+    requires vectors { (i : ℕ) → i < length list.now.rows → AllNarrow (row_at list.now.rows i) }
+    ensures values { OnOk result (values.new.items ≡ values_on row.now (vectors list.now.rows)) }
+    ensures in_range { OnOk result (All InRange values.new.items) }
+{
+    for index in 0..list.len() {
+        values.push(narrow_dot(row, list.row(index)))?;
+    }
+    Ok(())
+}
+
+/// The value of each vector on the row, in the list of that place. `narrow` tells of the row.
 pub(crate) fn values(
     alloc: Global,
+    place: &mut Vec<i128>,
     part: Part,
-    list: &RowList,
+    list: &VectorList,
     row: &[i128],
+    narrow: bool,
 ) -> Result<Vec<i128>, Fault>
     requires wide { length row.now ≡ list.now.width }
     requires narrow { length row.now < 2 ^ 32 }
+    requires row { IsTrue narrow → AllNarrow row.now }
     ensures values { MatchResult result (λ v. v.items ≡ values_on row.now (vectors list.now.rows)) (IsValuesFault row.now part (vectors list.now.rows)) }
     ensures in_range { IfOk result (λ v. All InRange v.items) }
 {
-    let mut values = Vec::new(alloc);
+    let mut values = emptied(alloc, place, list.len())?;
+    if narrow && list.is_narrow() {
+        narrow_values(&mut values, list, row)?;
+        return Ok(values);
+    }
     for index in 0..list.len() {
         match dot(row, list.row(index)) {
             Ok(value) => values.push(value)?,
@@ -58,10 +84,15 @@ fn meets(eq: bool, value: i128) -> bool
 }
 
 /// Which vectors meet the row, from their values on it.
-pub(crate) fn marks(alloc: Global, eq: bool, values: &[i128]) -> Result<Vec<bool>, AllocError>
+pub(crate) fn marks(
+    alloc: Global,
+    place: &mut Vec<bool>,
+    eq: bool,
+    values: &[i128],
+) -> Result<Vec<bool>, AllocError>
     ensures { IfOk result (λ v. v.items ≡ map (λ value. stays eq value) values.now) }
 {
-    let mut marks = Vec::new(alloc);
+    let mut marks = emptied(alloc, place, values.len())?;
     for value in values {
         marks.push(meets(eq, *value))?;
     }

@@ -6,19 +6,40 @@ ghost use Rattle.row_core.specs.Flat.{marked};
 ghost use Rattle.cone_laws.specs.Steps.{pair_at};
 ghost use Rattle.chernikova.specs.Tables.{HasColumn, HasPairs, HasLineStep, HasRayStep};
 
+use crate::scratch::emptied;
 use row_core::Memory;
 use sat_matrix::SatMatrix;
 use std::alloc::{AllocError, Global};
 
-/// Appends a column with these truth values.
-fn push_column(zeros: &mut SatMatrix, column: &[bool]) -> Result<(), Memory>
-    requires { length column.now ≡ length zeros.old.rows }
-    ensures { OnOk result (HasColumn column.now zeros.old zeros.new) }
+/// Whether a value is 0.
+#[inline]
+fn is_zero(value: i128) -> bool
+    ensures { result ≡ int_eq value (pos 0) }
+{
+    value == 0
+}
+
+/// Appends a column that is true where the values are 0.
+fn push_zeros(zeros: &mut SatMatrix, values: &[i128]) -> Result<(), Memory>
+    requires { length values.now ≡ length zeros.old.rows }
+    ensures { OnOk result (HasColumn (map (λ value. int_eq value (pos 0)) values.now) zeros.old zeros.new) }
 {
     let last = zeros.columns();
     zeros.add_column()?;
-    for row in 0..column.len() {
-        zeros.set(row, last, column[row]);
+    for row in 0..values.len() {
+        zeros.set(row, last, is_zero(values[row]));
+    }
+    Ok(())
+}
+
+/// Appends a column of true.
+fn push_full_column(zeros: &mut SatMatrix) -> Result<(), Memory>
+    ensures { OnOk result (HasColumn (replicate (length zeros.old.rows) true) zeros.old zeros.new) }
+{
+    let last = zeros.columns();
+    zeros.add_column()?;
+    for row in 0..zeros.len() {
+        zeros.set(row, last, true);
     }
     Ok(())
 }
@@ -38,10 +59,10 @@ fn push_upward(zeros: &mut SatMatrix) -> Result<(), Memory>
 }
 
 /// Brings the table up to date with a line step.
-pub(crate) fn after_line_step(alloc: Global, zeros: &mut SatMatrix, eq: bool) -> Result<(), Memory>
+pub(crate) fn after_line_step(zeros: &mut SatMatrix, eq: bool) -> Result<(), Memory>
     ensures { OnOk result (HasLineStep eq zeros.old zeros.new) }
 {
-    push_column(zeros, &vec![in alloc; true; zeros.len()]?)?;
+    push_full_column(zeros)?;
     if !eq {
         push_upward(zeros)?;
     }
@@ -64,43 +85,45 @@ fn push_pairs(zeros: &mut SatMatrix, pairs: &[(usize, usize)]) -> Result<(), Mem
     Ok(())
 }
 
-// The marks, and true for each row that follows.
-fn extended(alloc: Global, marks: &[bool], more: usize) -> Result<Vec<bool>, AllocError>
+/// Appends true for each row that follows.
+fn mark_more(marks: &mut Vec<bool>, more: usize) -> Result<(), AllocError>
+    ensures { OnOk result (marks.new.items ≡ marks.old.items ++ replicate more true) }
+{
+    for _row in 0..more {
+        marks.push(true)?;
+    }
+    Ok(())
+}
+
+/// The marks, and true for each row that follows.
+pub(crate) fn extended(
+    alloc: Global,
+    place: &mut Vec<bool>,
+    marks: &[bool],
+    more: usize,
+) -> Result<Vec<bool>, AllocError>
     ensures { IfOk result (λ v. v.items ≡ marks.now ++ replicate more true) }
 {
-    let mut extended = Vec::from_slice(alloc, marks)?;
-    for _row in 0..more {
-        extended.push(true)?;
-    }
+    let mut extended = emptied(alloc, place, marks.len())?;
+    extended.extend_from_slice(marks)?;
+    mark_more(&mut extended, more)?;
     Ok(extended)
 }
 
-// Which values are 0.
-fn are_zero(alloc: Global, values: &[i128]) -> Result<Vec<bool>, AllocError>
-    ensures { IfOk result (λ v. v.items ≡ map (λ value. int_eq value (pos 0)) values.now) }
-{
-    let mut zeros = Vec::new(alloc);
-    for value in values {
-        zeros.push(*value == 0)?;
-    }
-    Ok(zeros)
-}
-
-/// Brings the table up to date with a ray step.
+/// Brings the table up to date with a ray step, and marks the rows of the pairs too.
 pub(crate) fn after_ray_step(
-    alloc: Global,
     zeros: &mut SatMatrix,
     values: &[i128],
-    marks: &[bool],
+    marks: &mut Vec<bool>,
     pairs: &[(usize, usize)],
 ) -> Result<(), Memory>
-    requires as_many { (length values.now ≡ length zeros.old.rows) × (length marks.now ≡ length zeros.old.rows) }
+    requires as_many { (length values.now ≡ length zeros.old.rows) × (length marks.old.items ≡ length zeros.old.rows) }
     requires pairs { (i : ℕ) → i < length pairs.now → ((pair_at pairs.now i).0 < length zeros.old.rows) × ((pair_at pairs.now i).1 < length zeros.old.rows) }
-    ensures { OnOk result (HasRayStep values.now marks.now pairs.now zeros.old zeros.new) }
+    ensures { OnOk result (HasRayStep values.now marks.old.items pairs.now zeros.old zeros.new) }
 {
-    push_column(zeros, &are_zero(alloc, values)?)?;
+    push_zeros(zeros, values)?;
     push_pairs(zeros, pairs)?;
-    let keep = extended(alloc, marks, pairs.len())?;
-    zeros.keep_rows(&keep);
+    mark_more(marks, pairs.len())?;
+    zeros.keep_rows(marks);
     Ok(())
 }

@@ -47,3 +47,6 @@ pub mod ValidRows
 pub mod ExtremeRays
 pub mod LikeRays
 pub mod ZeroFaces
+pub mod FactorLemmas
+pub mod VectorLemmas
+pub mod Rankings

@@ -26,14 +26,14 @@ pub record HasPointwise {A B : Type 0} (R : A → B → Type 0) (xs : List A) : 
   pub list : List B
   pub related : Pointwise R xs list
 
-Pointwise-cons : {A B : Type 0} (R : A → B → Type 0) (x : A) (xs : List A) (y : B) (ys : List B) → R x y → Pointwise R xs ys → Pointwise R (x ∷ xs) (y ∷ ys)
+pub Pointwise-cons : {A B : Type 0} (R : A → B → Type 0) (x : A) (xs : List A) (y : B) (ys : List B) → R x y → Pointwise R xs ys → Pointwise R (x ∷ xs) (y ∷ ys)
 Pointwise-cons {A = A} {B = B} R x xs y ys r p = record { as_many = ap suc p.as_many; each = by_index }
   where
     by_index : (i : ℕ) (d : A) (e : B) → i < length (x ∷ xs) → R (slice_index_or (x ∷ xs) i d) (slice_index_or (y ∷ ys) i e)
     by_index zero d e h = r
     by_index (suc i) d e h = p.each i d e (omega arith)
 
-pointwise_exists : {A B : Type 0} (R : A → B → Type 0) (xs : List A) → All (HasRelated R) xs → HasPointwise R xs
+pub pointwise_exists : {A B : Type 0} (R : A → B → Type 0) (xs : List A) → All (HasRelated R) xs → HasPointwise R xs
 pointwise_exists R [] f = record { list = []; related = record { as_many = refl; each = λ i d e h. absurd (omega arith) } }
 pointwise_exists R (x ∷ xs) f =
     let first = All-head (HasRelated R) x xs f in

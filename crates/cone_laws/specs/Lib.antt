@@ -12,3 +12,6 @@ pub mod SystemLaws
 pub mod Members
 pub mod DualSystems
 pub mod ExtremeRays
+pub mod Combinations
+pub mod Orders
+pub mod MarkedLists

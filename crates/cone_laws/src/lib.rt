@@ -2,10 +2,12 @@
 #![tactic(auto)]
 
 pub mod adjacency;
+pub mod combination;
 pub mod duality;
 pub mod echelon;
 pub mod extreme_rays;
 pub mod members;
+pub mod order;
 pub mod steps;
 pub mod system_steps;
 pub mod uniqueness;

@@ -1,5 +1,6 @@
 -- A row that is changed in place.
 use Rattle.std.proofs.Common.{◌≡◌, ℕ, ◌+◌, ◌-◌, ◌*◌, ◌<◌, List, [], ◌∷◌, length, get_or, take, drop, ◌++◌, refl, sym, ap, inl, inr, subst, ◌∙◌, arith, ℤ, pos}
+use Rattle.std.specs.Prelude.{All}
 use Rattle.std.proofs.lemmas.List.Elements.{All-from_get_or}
 use Rattle.std.proofs.lemmas.Bool.{cases_lt}
 use Rattle.std.proofs.Math.IntN.{neg_ℤ, ◌*ℤ◌}
@@ -8,7 +9,6 @@ use Rattle.std.proofs.lemmas.List.{ext_get_or, take_at}
 use borrow.Rule.Slice.PartMut.{put_mid}
 use Rattle.row_core.specs.Vectors.{cell, scale}
 use Rattle.row_core.proofs.CellLemmas.{cell-scale, length-scale}
-use Rattle.row_core.specs.Range.{InRange, AllInRange}
 use Rattle.row_core.specs.Flat.{Flat, entries_at, rows_of, IsLaidOut}
 use Rattle.row_store.specs.Stores.{window, IsNegated, IsPartChanged, IsRowChanged}
 use Rattle.row_core.proofs.Flat.{row_end, entries_at-rows_of, seen_flat, seen, push_seen, length_row, IsCopied}
@@ -51,14 +51,14 @@ negated_is old new wide cells =
     ext_get_or (pos 0) new (scale (neg_ℤ (pos 1)) old) (wide ∙ sym (length-scale (neg_ℤ (pos 1)) old))
     (λ j h. cells j (omega (arith, h, wide)) ∙ negated_times (cell old j) ∙ sym (cell-scale (neg_ℤ (pos 1)) old j))
 
--- numbers of the range stay so where each was one before
-pub in_range_from : (xs ys : List ℤ) → AllInRange xs → ((k : ℕ) → k < length ys → (m : ℕ) × (m < length xs) × (get_or ys k (pos 0) ≡ get_or xs m (pos 0))) → AllInRange ys
-in_range_from xs ys all from = All-from_get_or InRange ys (pos 0) (λ k h. let f = from k h in let P : ℤ → Type 0 = λ z. InRange z in subst P (sym f.2) (all f.0 (pos 0) f.1))
+-- what holds of all numbers holds where each was one of them before
+all_from : (P : ℤ → Type 0) (xs ys : List ℤ) → All P xs → ((k : ℕ) → k < length ys → (m : ℕ) × (m < length xs) × (get_or ys k (pos 0) ≡ get_or xs m (pos 0))) → All P ys
+all_from P xs ys all from = All-from_get_or P ys (pos 0) (λ k h. let f = from k h in subst P (sym f.2) (all f.0 (pos 0) f.1))
 
 -- one row copied over another
-pub in_range_copied : (w n from to : ℕ) (xs ys : List ℤ) → from < n → to < n → length xs ≡ n * w → length ys ≡ n * w → IsCopied (pos 0) w from to xs ys → AllInRange xs → AllInRange ys
-in_range_copied w n from to xs ys in_from in_to wide still copy all =
-    in_range_from xs ys all (λ k h.
+pub all_copied : (P : ℤ → Type 0) (w n from to : ℕ) (xs ys : List ℤ) → from < n → to < n → length xs ≡ n * w → length ys ≡ n * w → IsCopied (pos 0) w from to xs ys → All P xs → All P ys
+all_copied P w n from to xs ys in_from in_to wide still copy all =
+    all_from P xs ys all (λ k h.
     elim (cases_lt k (to * w)) as (λ _. (m : ℕ) × (m < length xs) × (get_or ys k (pos 0) ≡ get_or xs m (pos 0))) [
       | inl before ↦ (k, omega (arith, h, wide, still), copy.below k before)
       | inr behind ↦ elim (cases_lt k (to * w + w)) as (λ _. (m : ℕ) × (m < length xs) × (get_or ys k (pos 0) ≡ get_or xs m (pos 0))) [

@@ -1,9 +1,7 @@
 -- Rows of one width in a buffer.
-use Rattle.std.proofs.Common.{◌≡◌, ◌≢◌, ℕ, suc, ◌+◌, ◌-◌, ◌*◌, ◌<◌, ◌≤◌, List, [], ◌∷◌, ◌++◌, length, get_or, set, take, drop, refl, sym, ap, inl, inr, ◌⊎◌, subst, ◌∙◌, arith, length-take, length-drop, length-append, ℤ}
-use Rattle.std.proofs.lemmas.List.{ext_get_or, drop_at, take-append-le, drop-append-le, get_or-set_same, get_or-set_other, length-set, drop-drop, append_assoc, take_all, take-append-drop, take_at}
-use Rattle.std.proofs.lemmas.List.FromFn.{length-map-range_with_len, get_or-map-range_with_len, map-range_with_len_more}
+use Rattle.std.proofs.Common.{◌≡◌, ◌≢◌, ℕ, ◌+◌, ◌-◌, ◌*◌, ◌<◌, ◌≤◌, List, [], ◌++◌, length, get_or, set, take, drop, refl, sym, ap, inl, inr, ◌⊎◌, subst, ◌∙◌, arith, length-take, length-drop, length-append, ℤ}
+use Rattle.std.proofs.lemmas.List.{ext_get_or, drop_at, take-append-le, drop-append-le, get_or-set_same, get_or-set_other, length-set, drop-drop, append_assoc, take-append-drop, take_at}
 use Rattle.std.proofs.lemmas.Bool.{cases_eq, cases_lt}
-use Rattle.std.proofs.Math.Nat.{mul-le-mul_right}
 use Rattle.std.proofs.lemmas.Slice.{put_mid-paste}
 use Rattle.std.proofs.lemmas.List.Edits.{paste_all}
 use borrow.Rule.Slice.PartMut.{put_mid}

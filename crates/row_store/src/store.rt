@@ -1,23 +1,25 @@
 //! The rows.
-ghost use Rattle.std.specs.Prelude.{◌≡◌, ◌≢◌, ℕ, ◌+◌, ◌*◌, ◌^◌, ◌<◌, ◌≤◌, List, [], ◌∷◌, ◌++◌, length, max, take, Bool, ℤ, slice_set, vec_len, vec_capacity, OnOk, OnErr, MatchResult};
+ghost use Rattle.std.specs.Prelude.{◌≡◌, ◌≢◌, ℕ, ◌+◌, ◌*◌, ◌^◌, ◌<◌, ◌≤◌, List, [], ◌∷◌, ◌++◌, length, max, take, Bool, ℤ, slice_set, vec_len, vec_capacity, OnOk, OnErr, MatchResult, IsTrue};
 ghost use Rattle.row_core.specs.Vectors.{scale, add};
 ghost use Rattle.row_core.specs.Content.{IsPrimitiveOf};
 ghost use Rattle.row_core.specs.Range.{AllInRange, CombineStays, IsFirstToLeave, AllStay};
+ghost use Rattle.row_core.specs.Narrow.{AllNarrow};
 ghost use Rattle.row_core.specs.Flat.{Flat, entries_at, rows_of, marked};
 ghost use Rattle.row_store.specs.Stores.{IsKept, IsNegated, IsRowChanged};
 
 use crate::windows::{append_part, append_row, combine_parts, make_part_primitive, negate_part};
-use row_core::{Memory, Steps};
+use row_core::{Memory, Steps, all_narrow};
 use std::alloc::Global;
 use std::marker::Model;
 use std::sync::ledger::Ledger;
 
-/// Rows of one width in one buffer.
+/// Rows of one width in one buffer, and a flag, which is set only while all their numbers are narrow.
 #[derive(Debug, Drop)]
 pub struct RowStore {
     width: usize,
     count: usize,
     spare: usize,
+    narrow: bool,
     cells: Vec<i128>,
 }
 
@@ -26,7 +28,7 @@ impl Model for RowStore {
 
     ghost view = { λ m. record { width = m.width; rows = rows_of m.width m.count m.cells.items; spare = m.spare } };
 
-    ghost invariant = { λ m. IsKept m.width m.count m.spare (vec_len m.cells) (vec_capacity m.cells) m.cells.items };
+    ghost invariant = { λ m. IsKept m.width m.count m.spare m.narrow (vec_len m.cells) (vec_capacity m.cells) m.cells.items };
 }
 
 impl RowStore {
@@ -41,8 +43,18 @@ impl RowStore {
             width,
             count: 0,
             spare: 0,
+            narrow: true,
             cells: Vec::new(alloc),
         }
+    }
+
+    /// The width of each row.
+    #[inline]
+    pub fn width(&self) -> usize
+        ensures value { result ≡ self.now.width }
+        ensures narrow { self.now.width < 2 ^ 32 }
+    {
+        self.width
     }
 
     /// The number of rows.
@@ -51,6 +63,14 @@ impl RowStore {
         ensures { result ≡ length self.now.rows }
     {
         self.count
+    }
+
+    /// Whether all numbers are known to be narrow.
+    #[inline]
+    pub fn is_narrow(&self) -> bool
+        ensures { IsTrue result → (i : ℕ) → i < length self.now.rows → AllNarrow (entries_at self.now.rows i) }
+    {
+        self.narrow
     }
 
     /// Makes room for `n` more rows. After want of memory the list is as before.
@@ -77,6 +97,7 @@ impl RowStore {
         ensures rows { self.new.rows ≡ self.old.rows ++ row.now ∷ [] }
         ensures spare { self.new.spare + 1 ≡ self.old.spare }
     {
+        self.narrow = self.narrow && all_narrow(row);
         append_row(&mut self.cells, row);
         self.count += 1;
         self.spare -= 1;
@@ -128,6 +149,7 @@ impl RowStore {
         ensures combined { MatchResult result (λ _. (self.new ≡ record self.old { rows = slice_set self.old.rows i (add (scale s (entries_at self.old.rows i)) (scale t (entries_at self.old.rows j))) }) × AllStay (CombineStays (entries_at self.old.rows i) s (entries_at self.old.rows j) t) self.old.width) (λ c. (self.new ≡ self.old) × IsFirstToLeave (CombineStays (entries_at self.old.rows i) s (entries_at self.old.rows j) t) self.old.width c) }
     {
         let (to, from) = (i * self.width, j * self.width);
+        self.narrow = false;
         combine_parts(self.cells.as_mut_slice(), self.width, to, s, from, t, steps)
     }
 
@@ -138,6 +160,7 @@ impl RowStore {
         ensures { IsRowChanged IsPrimitiveOf i self.old self.new }
     {
         let width = self.width;
+        self.narrow = false;
         make_part_primitive(self.cells.as_mut_slice(), i * width, width);
     }
 
@@ -147,6 +170,7 @@ impl RowStore {
         ensures { IsRowChanged IsNegated i self.old self.new }
     {
         let width = self.width;
+        self.narrow = false;
         negate_part(self.cells.as_mut_slice(), i * width, width);
     }
 
@@ -178,8 +202,8 @@ impl RowStore {
         self.cells.copy_within(start..start + width, to * width);
     }
 
-    // Keeps the first `count` rows.
-    fn truncate(&mut self, count: usize)
+    /// Keeps the first `count` rows.
+    pub fn truncate(&mut self, count: usize)
         requires { count ≤ length self.old.rows }
         ensures { self.new ≡ record self.old { rows = take count self.old.rows } }
     {

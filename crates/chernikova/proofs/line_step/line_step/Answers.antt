@@ -11,7 +11,7 @@ use Rattle.chernikova.specs.declared.fault.Part.TheVariants.{Rays}
 use Rattle.row_core.specs.Lists.{vectors}
 use Rattle.chernikova.specs.Changes.{value_at}
 use Rattle.chernikova.specs.Faults.{IsLowerFault}
-use Rattle.chernikova.proofs.FactorLemmas.{fits}
+use Rattle.cone_laws.proofs.FactorLemmas.{fits}
 use Rattle.chernikova.proofs.VectorLemmas.{vector_at-vectors, length-vectors}
 use Rattle.chernikova.proofs.FaultLemmas.{line_fault_from_ray}
 use Rattle.chernikova.proofs.ChangeLemmas.{marked_with_upward}

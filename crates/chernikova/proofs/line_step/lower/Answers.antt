@@ -1,7 +1,7 @@
 use Rattle.std.specs.Prelude.{◌≡◌, pos}
 use Rattle.std.specs.Int.{w128}
 use Rattle.std.proofs.Common.{sym, ap, ◌∙◌, to_z}
-use Rattle.chernikova.proofs.FactorLemmas.{back}
+use Rattle.cone_laws.proofs.FactorLemmas.{back}
 use Rattle.chernikova.proofs.ChangeLemmas.{combined_zero}
 use Rattle.chernikova.proofs.line_step.lower.Goals as goal
 

@@ -1,17 +1,16 @@
-use Rattle.std.specs.Prelude.{◌≡◌, ◌<◌, List, [], ℤ, pos}
+use Rattle.std.specs.Prelude.{◌<◌, Bool, List, [], ℤ, pos}
 use Rattle.std.specs.Int.{w128}
 use Rattle.std.proofs.Common.{◌∙◌, sym, subst, refl, get_or, arith, length}
 use Rattle.std.proofs.lemmas.Int.{to_z-of_z}
-use Rattle.std.proofs.lemmas.List.Elements.{All-get_or, All-push, All-same}
+use Rattle.std.proofs.lemmas.List.Elements.{All-get_or}
 use mir.Val.{SFits}
 use Rattle.row_core.specs.Range.{InRange, AllInRange}
 use Rattle.row_core.specs.Content.{IsPrimitive}
-use Rattle.row_core.specs.Lists.{Row}
+use Rattle.row_core.specs.Lists.{AreMarked}
 use Rattle.cone_laws.specs.Leaves.{CombinationLeaves}
-use Rattle.chernikova.specs.Combinations.{IsCombined}
-use Rattle.chernikova.specs.Faults.{is_lines}
+use Rattle.cone_laws.specs.Combinations.{IsCombined}
 use Rattle.chernikova.specs.Changes.{value_at}
-use Rattle.chernikova.proofs.FactorLemmas.{fits}
+use Rattle.cone_laws.proofs.FactorLemmas.{fits}
 use Rattle.chernikova.proofs.VectorLemmas.{vector_at-vectors, length-vectors}
 use Rattle.chernikova.proofs.ChangeLemmas.{lowered_more}
 use Rattle.chernikova.proofs.line_step.lower_range.Goals as goal
@@ -50,5 +49,8 @@ loop-index-preserved g c =
       no_fewer = omega (arith, inv.no_fewer, c.lower-lowered.ensures.counted);
       no_more = omega (arith, inv.no_more, c.lower-lowered.ensures.counted);
       lowered = rw c.in_ok-push.ensures.rows (lowered_more c.args.crossing.value c.args.crossing.line.now c.args.values.now c.args.list.now.rows c.args.from c.loop-index.index c.args.into.now.rows c.loop-index.into.rows c.lower-lowered.new.dst c.is_equality.result inv.above inv.lowered one);
-      marked = λ m. All-same (λ (row : Row). row.1 ≡ is_lines c.args.part) c.push.new.self.rows _ c.in_ok-push.ensures.rows (All-push (λ (row : Row). row.1 ≡ is_lines c.args.part) c.loop-index.into.rows (c.lower-lowered.new.dst, c.is_equality.result) (inv.marked m) c.is_equality.ensures);
+      marked = subst (λ (eq : Bool). AreMarked eq c.push.new.self.rows) c.is_equality.ensures c.in_ok-push.ensures.marked;
     }
+
+pub push-requires-clause-alike : goal.push-requires-clause-alike
+push-requires-clause-alike g c = subst (λ (eq : Bool). AreMarked eq c.loop-index.into.rows) (sym c.is_equality.ensures) c.loop-index.invariant.marked

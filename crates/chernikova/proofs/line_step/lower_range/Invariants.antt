@@ -12,5 +12,5 @@ invariant-loop-index g l = record {
   no_fewer : l.initial.steps ≤ l.steps;
   no_more : l.steps + l.from ≤ l.initial.steps + l.index;
   lowered : AreLowered l.crossing.value l.crossing.line.now l.values l.list.rows l.from l.index l.initial.into.rows l.into.rows;
-  marked : AreMarked (is_lines l.part) l.initial.into.rows → AreMarked (is_lines l.part) l.into.rows;
+  marked : AreMarked (is_lines l.part) l.into.rows;
 }

@@ -4,4 +4,4 @@ use Rattle.chernikova.proofs.line_step.push_upward.Goals as goal
 
 pub push-requires-clause-wide : goal.push-requires-clause-wide
 push-requires-clause-wide c =
-    ap length c.deref.ensures.value ∙ ap length c.in_ok-upward.ensures.upward ∙ length-scale _ c.args.line.now ∙ c.requires.wide
+    ap length c.write_upward.ensures.upward ∙ length-scale _ c.args.line.now ∙ c.requires.wide.0

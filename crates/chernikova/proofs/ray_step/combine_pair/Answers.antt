@@ -8,7 +8,7 @@ use Rattle.row_core.specs.Range.{InRange}
 use Rattle.cone_laws.specs.Canon.{vector_at}
 use Rattle.cone_laws.specs.Leaves.{CombinationLeaves}
 use Rattle.row_core.specs.Lists.{vectors}
-use Rattle.chernikova.proofs.FactorLemmas.{fits}
+use Rattle.cone_laws.proofs.FactorLemmas.{fits}
 use Rattle.chernikova.proofs.VectorLemmas.{vector_at-vectors}
 use Rattle.chernikova.proofs.ray_step.combine_pair.Goals as goal
 

@@ -1,40 +1,64 @@
-use Rattle.std.specs.Prelude.{◌≡◌, List, ℕ, ℤ, false}
-use Rattle.std.proofs.Common.{sym, subst, ◌∙◌, arith, rules, drop, take, length}
-use Rattle.std.proofs.lemmas.List.Elements.{All-same}
-use Rattle.std.proofs.lemmas.List.{take_at, take_all}
+use Rattle.std.specs.Prelude.{List, ℕ, false}
+use Rattle.std.proofs.Common.{sym, subst, ◌∙◌, arith, rules}
+use Rattle.std.proofs.lemmas.List.{take_all, length_push}
+use Rattle.std.proofs.lemmas.List.Elements.{Contains-get_or}
+use Rattle.std.proofs.lemmas.Result.{err_from_is_err_and}
 use Rattle.cone_laws.specs.Steps.{pair_at}
-use Rattle.row_core.specs.Lists.{Row}
-use Rattle.chernikova.specs.Changes.{IsPairCombined, HasMade}
-use Rattle.chernikova.proofs.ChangeLemmas.{has_made_none, has_made_more, marked_push}
+use Rattle.chernikova.specs.Changes.{HasMade}
+use Rattle.chernikova.proofs.ChangeLemmas.{has_made_none, has_made_more, pair_before}
+use Rattle.chernikova.proofs.FaultLemmas.{pair_fault_before}
 use Rattle.chernikova.proofs.ray_step.push_made.Goals as goal
 
 pub loop-index-init : goal.loop-index-init
 loop-index-init g c = record {
   width = search rules;
   scratch = search rules;
+  as_many = omega (arith, c.requires.as_many);
   no_fewer = omega arith;
   no_more = omega arith;
-  made = has_made_none c.args.values.now c.args.rays.now.rows c.args.into.now.rows;
-  marks = λ m. m;
+  made = has_made_none c.args.values.now c.args.rays.now.rows c.args.rays.now.rows;
+  marked = c.requires.marked;
 }
 
 pub loop-index-preserved : goal.loop-index-preserved
 loop-index-preserved g c =
     let inv = c.loop-index.invariant in
-    let one = c.in_ok-combine_pair.ensures.combined in
+    let old = c.args.rays.now.rows in
+    let cur = c.loop-index.rays.rows in
+    let pair = pair_at c.args.pairs.now c.loop-index.index in
+    let opposite = c.requires.opposite c.loop-index.index c.loop-index-test.true in
     let rows = c.in_ok-push.ensures.rows in
-    let written : c.deref.result.now ≡ c.combine_pair.new.dst = c.deref.ensures.value ∙ take_at c.combine_pair.new.dst (drop (length c.combine_pair.new.dst) c.loop-index.scratch.items) c.loop-index.scratch.len (omega (arith, c.combine_pair.ensures.width, c.deref_mut.ensures.len)) in
-    let P : List ℤ → Type 0 = λ r. IsPairCombined c.args.values.now c.args.rays.now.rows (pair_at c.args.pairs.now c.loop-index.index) r in
+    let one = pair_before c.args.values.now old cur pair c.combine_pair.new.dst (inv.made.made, inv.made.result) (omega (arith, opposite.first, c.requires.as_many)) (omega (arith, opposite.second, c.requires.as_many)) c.in_ok-combine_pair.ensures.combined in
     record {
       width = c.in_ok-push.ensures.width ∙ inv.width;
-      scratch = inv.scratch;
+      scratch = c.combine_pair.ensures.width ∙ inv.scratch ∙ sym c.in_ok-push.ensures.width;
+      as_many = rw rows (omega (arith, inv.as_many, length_push cur (c.combine_pair.new.dst, false)));
       no_fewer = omega (arith, inv.no_fewer, c.combine_pair.ensures.counted);
       no_more = omega (arith, inv.no_more, c.combine_pair.ensures.counted);
-      made = rw rows (has_made_more c.args.values.now c.args.rays.now.rows c.args.pairs.now c.loop-index.index c.args.into.now.rows c.loop-index.into.rows c.deref.result.now false c.loop-index-test.true inv.made (subst P (sym written) one));
-      marks = λ m. All-same (λ (row : Row). row.1 ≡ false) c.push.new.self.rows _ rows (marked_push false c.loop-index.into.rows _ (inv.marks m));
+      made = rw rows (has_made_more c.args.values.now old c.args.pairs.now c.loop-index.index old cur c.combine_pair.new.dst false c.loop-index-test.true inv.made one);
+      marked = c.in_ok-push.ensures.marked;
     }
+
+pub returns-in_err-combine_pair-clause-made : goal.returns-in_err-combine_pair-clause-made
+returns-in_err-combine_pair-clause-made g c =
+    let inv = c.loop-index.invariant in
+    let pair = pair_at c.args.pairs.now c.loop-index.index in
+    let opposite = c.requires.opposite c.loop-index.index c.loop-index-test.true in
+    let p = err_from_is_err_and c.from_residual.result c.from_residual.ensures.1 in
+    rw (p.1, p.2)
+    (pair_fault_before c.args.values.now c.args.pairs.now pair c.args.rays.now.rows c.loop-index.rays.rows c.in_err-combine_pair.field-0.0 (inv.made.made, inv.made.result)
+    (Contains-get_or c.args.pairs.now c.loop-index.index (0, 0) c.loop-index-test.true) (omega (arith, opposite.first, c.requires.as_many)) (omega (arith, opposite.second, c.requires.as_many)) c.in_err-combine_pair.ensures.combined)
+
+pub returns-in_err-combine_pair-clause-grown : goal.returns-in_err-combine_pair-clause-grown
+returns-in_err-combine_pair-clause-grown g c = (c.loop-index.invariant.made.made, c.loop-index.invariant.made.result)
+
+pub returns-in_err-push-clause-grown : goal.returns-in_err-push-clause-grown
+returns-in_err-push-clause-grown g c = (c.loop-index.invariant.made.made, c.in_err-push.ensures.rows ∙ c.loop-index.invariant.made.result)
+
+pub returns-clause-grown : goal.returns-clause-grown
+returns-clause-grown g c = (c.loop-index.invariant.made.made, c.loop-index.invariant.made.result)
 
 pub returns-clause-made : goal.returns-clause-made
 returns-clause-made g c =
-    let P : List (ℕ × ℕ) → Type 0 = λ pairs. HasMade c.args.values.now c.args.rays.now.rows pairs c.args.into.now.rows c.loop-index.into.rows in
+    let P : List (ℕ × ℕ) → Type 0 = λ pairs. HasMade c.args.values.now c.args.rays.now.rows pairs c.args.rays.now.rows c.loop-index.rays.rows in
     subst P (take_all c.loop-index.index c.args.pairs.now (omega arith)) c.loop-index.invariant.made

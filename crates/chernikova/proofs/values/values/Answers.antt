@@ -8,7 +8,7 @@ use Rattle.row_core.specs.Vectors.{dot}
 use Rattle.row_core.specs.Range.{InRange}
 use Rattle.row_core.specs.Lists.{vectors}
 use Rattle.chernikova.specs.Systems.{values_on}
-use Rattle.chernikova.proofs.FactorLemmas.{fits}
+use Rattle.cone_laws.proofs.FactorLemmas.{fits}
 use Rattle.chernikova.proofs.VectorLemmas.{values_on_more}
 use Rattle.chernikova.proofs.values.values.Goals as goal
 

@@ -1,6 +1,8 @@
 use Rattle.std.proofs.Common.{◌≡◌, ◌*◌, length, pos, arith, sym, ◌∙◌}
-use Rattle.row_core.proofs.Flat.{row_within, seen, copy_seen}
-use Rattle.row_store.proofs.ChangedRows.{in_range_copied}
+use Rattle.row_core.proofs.Flat.{row_within, seen, copy_seen, IsCopied}
+use Rattle.row_store.proofs.ChangedRows.{all_copied}
+use Rattle.row_core.specs.Range.{InRange}
+use Rattle.row_core.specs.Narrow.{IsNarrow}
 use Rattle.row_store.proofs.store.RowStore.copy_row.Goals as goal
 
 pub overflow_mul-start : goal.overflow_mul-start
@@ -23,6 +25,11 @@ invariant_of-self c =
     let k = seen _ _ _ _ _ c.self.view_is in
     let wide : length c.self.inside.cells.items ≡ c.self.inside.count * c.self.inside.width = sym c.self.inside.cells.ok.0 ∙ c.self.invariant.laid.taken in
     let still : length c.copy_within.new.self.items ≡ c.self.inside.count * c.self.inside.width = sym c.copy_within.new.self.ok.0 ∙ c.copy_within.ensures.len ∙ c.self.invariant.laid.taken in
+    let copied : IsCopied (pos 0) c.self.inside.width c.args.from c.args.to c.self.inside.cells.items c.copy_within.new.self.items = record {
+      copied = λ k from_start to_end. c.copy_within.ensures.by_index.0 k (pos 0) from_start (omega arith);
+      below = λ k before. c.copy_within.ensures.by_index.1 k (pos 0) before;
+      above = λ k after. c.copy_within.ensures.by_index.2 k (pos 0) (omega arith);
+    } in
     record {
       laid = record {
         taken = c.copy_within.ensures.len ∙ c.self.invariant.laid.taken;
@@ -30,11 +37,8 @@ invariant_of-self c =
         counted = c.self.invariant.laid.counted;
       };
       narrow = c.self.invariant.narrow;
-      in_range = in_range_copied c.self.inside.width c.self.inside.count c.args.from c.args.to c.self.inside.cells.items c.copy_within.new.self.items (omega (arith, k.count, c.requires.from)) (omega (arith, k.count, c.requires.to)) wide still (record {
-        copied = λ k from_start to_end. c.copy_within.ensures.by_index.0 k (pos 0) from_start (omega arith);
-        below = λ k before. c.copy_within.ensures.by_index.1 k (pos 0) before;
-        above = λ k after. c.copy_within.ensures.by_index.2 k (pos 0) (omega arith);
-      }) c.self.invariant.in_range;
+      in_range = all_copied InRange c.self.inside.width c.self.inside.count c.args.from c.args.to c.self.inside.cells.items c.copy_within.new.self.items (omega (arith, k.count, c.requires.from)) (omega (arith, k.count, c.requires.to)) wide still copied c.self.invariant.in_range;
+      all_narrow = λ flag. all_copied IsNarrow c.self.inside.width c.self.inside.count c.args.from c.args.to c.self.inside.cells.items c.copy_within.new.self.items (omega (arith, k.count, c.requires.from)) (omega (arith, k.count, c.requires.to)) wide still copied (c.self.invariant.all_narrow flag);
     }
 
 pub returns : goal.returns

@@ -1,6 +1,7 @@
 use Rattle.std.proofs.Common.{◌≡◌, ℕ, ◌+◌, ◌-◌, ◌*◌, List, ℤ, arith, sym, ap, subst}
 use Rattle.std.proofs.lemmas.List.Elements.{All-append, All-take, All-drop}
 use Rattle.row_core.specs.Range.{InRange, AllInRange}
+use Rattle.row_core.specs.Narrow.{IsNarrow, AllNarrow}
 use Rattle.row_core.specs.Flat.{Flat}
 use Rattle.row_store.specs.Stores.{window}
 use Rattle.row_core.proofs.Flat.{row_within}
@@ -28,6 +29,7 @@ invariant_of-self c =
       };
       narrow = c.self.invariant.narrow;
       in_range = subst AllInRange (sym c.append_part.ensures.items) (All-append InRange held (window (c.args.i * w) w held) all (All-take InRange w _ (All-drop InRange (c.args.i * w) held all)));
+      all_narrow = λ flag. subst AllNarrow (sym c.append_part.ensures.items) (All-append IsNarrow held (window (c.args.i * w) w held) (c.self.invariant.all_narrow flag) (All-take IsNarrow w _ (All-drop IsNarrow (c.args.i * w) held (c.self.invariant.all_narrow flag))));
     }
 
 pub returns-clause-rows : goal.returns-clause-rows

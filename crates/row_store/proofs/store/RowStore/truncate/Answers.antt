@@ -1,6 +1,7 @@
 use Rattle.std.proofs.Common.{◌≡◌, ◌*◌, ◌≤◌, vec_len, pos, arith, sym, subst}
 use Rattle.std.proofs.lemmas.List.Elements.{All-take}
 use Rattle.row_core.specs.Range.{InRange, AllInRange}
+use Rattle.row_core.specs.Narrow.{IsNarrow, AllNarrow}
 use Rattle.std.proofs.Math.Nat.{mul-le-mul_right}
 use Rattle.row_core.proofs.Flat.{seen, take_seen, laid_out-take}
 use Rattle.row_store.proofs.store.RowStore.truncate.Goals as goal
@@ -22,6 +23,7 @@ invariant_of-self c =
       laid = record { taken = len; room = omega (arith, laid.room, c.truncate.ensures.capacity); counted = laid.counted };
       narrow = c.self.invariant.narrow;
       in_range = subst AllInRange (sym c.truncate.ensures.items) (All-take InRange (c.args.count * c.self.inside.width) c.self.inside.cells.items c.self.invariant.in_range);
+      all_narrow = λ flag. subst AllNarrow (sym c.truncate.ensures.items) (All-take IsNarrow (c.args.count * c.self.inside.width) c.self.inside.cells.items (c.self.invariant.all_narrow flag));
     }
 
 pub returns : goal.returns

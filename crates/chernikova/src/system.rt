@@ -1,0 +1,12 @@
+//! The system of the rows that were taken in.
+use crate::vectors::VectorList;
+use sat_matrix::SatMatrix;
+
+/// Lines and rays, and a table with a row for each ray and a column for each row that was taken in, true
+/// exactly where the ray has the value 0 on that row.
+#[derive(Debug, Drop)]
+pub(crate) struct System {
+    pub(crate) lines: VectorList,
+    pub(crate) rays: VectorList,
+    pub(crate) sat: SatMatrix,
+}

@@ -1,0 +1,178 @@
+use Rattle.std.specs.Prelude.{◌≡◌, ◌≢◌, ℕ, zero, suc, ◌*◌, ◌^◌, ◌<◌, ◌+◌, List, [], ◌∷◌, ◌++◌, length, ℤ, pos, negsuc, neg_ℤ, ◌+ℤ◌, ◌-ℤ◌, ◌*ℤ◌, ◌<ℤ◌, unsigned_abs, int_lt, ltb, true, false}
+use mir.Val.{SFits}
+use Rattle.std.proofs.lemmas.Bool.{false≢true, ltb-false, ltb-true}
+use Rattle.std.specs.Int.{IsGcd, w128}
+use Rattle.row_core.specs.Range.{InRange}
+use Rattle.std.proofs.Common.{refl, sym, ap, ◌∙◌, subst, arith, to_z, of_z, take}
+use Rattle.std.proofs.Math.Nat.{eq-zero_of_zero-dvd}
+use Rattle.std.proofs.lemmas.Int.{unsigned_abs-mul, ints, to_z-of_z, to_z_pos, fits_signed_from_abs}
+use Rattle.cone_laws.specs.Leaves.{AreFactors}
+use Rattle.cone_laws.specs.Steps.{sign}
+use Rattle.row_core.proofs.Ring.{ring, mul_comm, mul_assoc, mul-zero, one-mul, neg-mul, mul-positive, zero_of_mul, square_positive}
+use Rattle.cone_laws.proofs.Columns.{cell-scale, cell-add}
+use Rattle.row_core.specs.Vectors.{cell, add, scale}
+use Rattle.row_core.specs.Content.{IsMultipleOf, IsPrimitive}
+use Rattle.cone_laws.specs.Combinations.{IsCombined}
+
+pub gcd_positive : (a b g : ℕ) → IsGcd a b g → 0 < a → 0 < g
+gcd_positive a b zero d above = absurd (let e : a ≡ 0 = eq-zero_of_zero-dvd d.0 in omega (arith, e))
+gcd_positive a b (suc g) d above = omega arith
+
+pub magnitude_above : (u : ℤ) → u ≢ pos 0 → 0 < unsigned_abs u
+magnitude_above (pos zero) ne = absurd (ne refl)
+magnitude_above (pos (suc n)) ne = omega arith
+magnitude_above (negsuc n) ne = omega arith
+
+pub magnitude-positive : (u : ℤ) → pos 0 <ℤ u → pos (unsigned_abs u) ≡ u
+magnitude-positive (pos n) h = refl
+magnitude-positive (negsuc n) h = absurd (omega (arith, ints, h))
+
+pub magnitude-negative : (u : ℤ) → u <ℤ pos 0 → pos (unsigned_abs u) ≡ neg_ℤ u
+magnitude-negative (pos n) h = absurd (omega (arith, ints, h))
+magnitude-negative (negsuc n) h = refl
+
+pub magnitude-neg : (u : ℤ) → unsigned_abs (neg_ℤ u) ≡ unsigned_abs u
+magnitude-neg (pos zero) = refl
+magnitude-neg (pos (suc n)) = refl
+magnitude-neg (negsuc n) = refl
+
+pub parts_cancel : (g l r : ℤ) → l *ℤ (g *ℤ r) +ℤ neg_ℤ r *ℤ (g *ℤ l) ≡ pos 0
+parts_cancel g l r = simp ring (omega (arith, ints))
+
+pub parts_cancel_below : (g l r : ℤ) → neg_ℤ l *ℤ (g *ℤ r) +ℤ r *ℤ (g *ℤ l) ≡ pos 0
+parts_cancel_below g l r = simp ring (omega (arith, ints))
+
+pub magnitude_of_part : (g r v : ℤ) → pos 0 <ℤ g → v ≡ g *ℤ r → unsigned_abs r * unsigned_abs g ≡ unsigned_abs v
+magnitude_of_part g r v above e = omega (arith, ap unsigned_abs e, unsigned_abs-mul g r)
+
+pub factors_above : (u v g l r : ℤ) → pos 0 <ℤ g → IsGcd (unsigned_abs u) (unsigned_abs v) (unsigned_abs g) → u ≡ g *ℤ l → v ≡ g *ℤ r → pos 0 <ℤ u → AreFactors u v l (neg_ℤ r)
+factors_above u v g l r above greatest is_u is_v positive = record {
+  divisor = unsigned_abs g;
+  greatest = greatest;
+  second_is = ap (λ x. l *ℤ x) (magnitude-positive g above) ∙ mul_comm l g ∙ sym is_u ∙ sym (magnitude-positive u positive);
+  first_is = ap (λ n. n * unsigned_abs g) (magnitude-neg r) ∙ magnitude_of_part g r v above is_v;
+  zero = ap (λ x. l *ℤ x +ℤ neg_ℤ r *ℤ u) is_v ∙ ap (λ x. l *ℤ (g *ℤ r) +ℤ neg_ℤ r *ℤ x) is_u ∙ parts_cancel g l r;
+}
+
+pub below_part : (g l u : ℤ) → u ≡ g *ℤ l → neg_ℤ l *ℤ g ≡ neg_ℤ u
+below_part g l u e = ap (λ x. x) (let f : neg_ℤ l *ℤ g ≡ neg_ℤ (g *ℤ l) = simp ring (omega (arith, ints)) in f ∙ ap neg_ℤ (sym e))
+
+pub factors_below : (u v g l r : ℤ) → pos 0 <ℤ g → IsGcd (unsigned_abs u) (unsigned_abs v) (unsigned_abs g) → u ≡ g *ℤ l → v ≡ g *ℤ r → u <ℤ pos 0 → AreFactors u v (neg_ℤ l) r
+factors_below u v g l r above greatest is_u is_v negative = record {
+  divisor = unsigned_abs g;
+  greatest = greatest;
+  second_is = ap (λ x. neg_ℤ l *ℤ x) (magnitude-positive g above) ∙ below_part g l u is_u ∙ sym (magnitude-negative u negative);
+  first_is = magnitude_of_part g r v above is_v;
+  zero = ap (λ x. neg_ℤ l *ℤ x +ℤ r *ℤ u) is_v ∙ ap (λ x. neg_ℤ l *ℤ (g *ℤ r) +ℤ r *ℤ x) is_u ∙ parts_cancel_below g l r;
+}
+
+-- a number of the range, as code passes it on
+pub back : (z : ℤ) → InRange z → to_z w128 (of_z w128 z) ≡ z
+back z h = to_z-of_z w128 z (fits_signed_from_abs w128 z h.size)
+
+-- a natural number below the range's end, as a signed one
+pub back_pos : (n : ℕ) → n < 2 ^ 127 → to_z w128 n ≡ pos n
+back_pos n h = to_z_pos w128 n h
+
+pub factors_again : (u v : ℤ) (l r l' r' : ℤ) → l' ≡ l → r' ≡ r → AreFactors u v l r → AreFactors u v l' r'
+factors_again u v l r l' r' e f h = let P : ℤ → Type 0 = λ x. AreFactors u v x r' in subst P (sym e) (let Q : ℤ → Type 0 = λ y. AreFactors u v l y in subst Q (sym f) h)
+
+pub sign_times : (u : ℤ) → sign u *ℤ u ≡ pos (unsigned_abs u)
+sign_times (pos zero) = refl
+sign_times (pos (suc n)) = omega (arith, ints)
+sign_times (negsuc n) = omega (arith, ints)
+
+cancel : (u x : ℤ) → u ≢ pos 0 → u *ℤ x ≡ pos 0 → x ≡ pos 0
+cancel u x ne e = zero_of_mul (u *ℤ u) x (square_positive u ne) (mul_assoc u u x ∙ ap (λ y. u *ℤ y) e ∙ mul-zero u)
+
+regroup : (g s v f u : ℤ) → g *ℤ (s *ℤ v +ℤ f *ℤ u) ≡ (s *ℤ g) *ℤ v +ℤ u *ℤ (g *ℤ f)
+regroup g s v f u = simp ring (omega (arith, ints))
+
+take_out : (s u v x : ℤ) → (s *ℤ u) *ℤ v +ℤ u *ℤ x ≡ u *ℤ (s *ℤ v +ℤ x)
+take_out s u v x = simp ring (omega (arith, ints))
+
+-- the factor of the first vector, times the divisor
+first_times : (u v second first : ℤ) (f : AreFactors u v second first) → u ≢ pos 0 → pos f.divisor *ℤ first ≡ neg_ℤ (sign u *ℤ v)
+first_times u v second first f ne =
+    let g : ℤ = pos f.divisor in
+    let whole : (second *ℤ g) *ℤ v +ℤ u *ℤ (g *ℤ first) ≡ pos 0 = sym (regroup g second v first u) ∙ ap (λ x. g *ℤ x) f.zero ∙ mul-zero g in
+    let sized : (sign u *ℤ u) *ℤ v +ℤ u *ℤ (g *ℤ first) ≡ pos 0 = ap (λ x. x *ℤ v +ℤ u *ℤ (g *ℤ first)) (sign_times u ∙ sym f.second_is) ∙ whole in
+    let rest : sign u *ℤ v +ℤ g *ℤ first ≡ pos 0 = cancel u (sign u *ℤ v +ℤ g *ℤ first) ne (sym (take_out (sign u) u v (g *ℤ first)) ∙ sized) in
+    omega (arith, ints, rest)
+
+spread : (g m x s r f l : ℤ) → m *ℤ x ≡ s *ℤ r +ℤ f *ℤ l → (g *ℤ m) *ℤ x ≡ (s *ℤ g) *ℤ r +ℤ (g *ℤ f) *ℤ l
+spread g m x s r f l e =
+    let left : (g *ℤ m) *ℤ x ≡ g *ℤ (m *ℤ x) = mul_assoc g m x in
+    let right : g *ℤ (s *ℤ r +ℤ f *ℤ l) ≡ (s *ℤ g) *ℤ r +ℤ (g *ℤ f) *ℤ l = simp ring (omega (arith, ints)) in
+    left ∙ ap (λ y. g *ℤ y) e ∙ right
+
+with_minus : (a r c l : ℤ) → a *ℤ r +ℤ neg_ℤ c *ℤ l ≡ a *ℤ r -ℤ c *ℤ l
+with_minus a r c l = let e : neg_ℤ c *ℤ l ≡ neg_ℤ (c *ℤ l) = neg-mul c l in omega (arith, ints, e)
+
+-- the combination that was written, made primitive
+pub combined_from_written : (u v second first : ℤ) (left right dst new : List ℤ) → AreFactors u v second first → u ≢ pos 0 → 0 < unsigned_abs u → dst ≡ add (scale second right) (scale first left) → length dst ≡ length right → length new ≡ length dst → IsMultipleOf dst new → IsPrimitive new → IsCombined u v left right new
+combined_from_written u v second first left right dst new f ne above is wide same multiple primitive = record {
+  times = pos f.divisor *ℤ pos multiple.times;
+  positive = mul-positive (pos f.divisor) (pos multiple.times) (omega (arith, ints, gcd_positive (unsigned_abs u) (unsigned_abs v) f.divisor f.greatest above)) (omega (arith, ints, multiple.positive));
+  same = λ j.
+      let at : pos multiple.times *ℤ cell new j ≡ second *ℤ cell right j +ℤ first *ℤ cell left j =
+      sym (cell-scale (pos multiple.times) new j) ∙ ap (λ w. cell w j) (sym multiple.same ∙ is) ∙ cell-add (scale second right) (scale first left) j ∙
+      ap (λ x. x +ℤ cell (scale first left) j) (cell-scale second right j) ∙ ap (λ x. second *ℤ cell right j +ℤ x) (cell-scale first left j) in
+      spread (pos f.divisor) (pos multiple.times) (cell new j) second (cell right j) first (cell left j) at ∙
+      ap (λ x. x *ℤ cell right j +ℤ (pos f.divisor *ℤ first) *ℤ cell left j) f.second_is ∙
+      ap (λ x. pos (unsigned_abs u) *ℤ cell right j +ℤ x *ℤ cell left j) (first_times u v second first f ne) ∙
+      with_minus (pos (unsigned_abs u)) (cell right j) (sign u *ℤ v) (cell left j);
+  wide = same ∙ wide;
+  primitive = primitive;
+}
+
+pub combined_along : (u v u' v' : ℤ) (left right new : List ℤ) → u' ≡ u → v' ≡ v → IsCombined u v left right new → IsCombined u' v' left right new
+combined_along u v u' v' left right new e f h = let P : ℤ → Type 0 = λ x. IsCombined x v' left right new in subst P (sym e) (let Q : ℤ → Type 0 = λ y. IsCombined u y left right new in subst Q (sym f) h)
+
+-- a number of the range is one of an i128
+pub fits : (z : ℤ) → InRange z → SFits w128 z
+fits z h = fits_signed_from_abs w128 z h.size
+
+pub above_zero : (u : ℤ) → int_lt (pos 0) u ≡ true → pos 0 <ℤ u
+above_zero (pos zero) e = absurd (let f : false ≡ true = e in false≢true f)
+above_zero (pos (suc n)) e = omega (arith, ints)
+above_zero (negsuc n) e = absurd (let f : false ≡ true = e in false≢true f)
+
+pub below_zero : (u : ℤ) → u ≢ pos 0 → int_lt (pos 0) u ≡ false → u <ℤ pos 0
+below_zero (pos zero) ne e = absurd (ne refl)
+below_zero (pos (suc n)) ne e = absurd (let f = ltb-false 0 (suc n) e in omega (arith, f))
+below_zero (negsuc n) ne e = omega (arith, ints)
+
+pub sign_above : (u x : ℤ) → pos 0 <ℤ u → x ≡ sign u *ℤ x
+sign_above (pos zero) x h = absurd (omega (arith, ints, h))
+sign_above (pos (suc n)) x h = sym (one-mul x)
+sign_above (negsuc n) x h = absurd (omega (arith, ints, h))
+
+minus_one : (x : ℤ) → neg_ℤ x ≡ neg_ℤ (pos 1) *ℤ x
+minus_one x = let e : neg_ℤ (pos 1) *ℤ x ≡ neg_ℤ (pos 1 *ℤ x) = neg-mul (pos 1) x in sym (e ∙ ap neg_ℤ (one-mul x))
+
+pub sign_below : (u x : ℤ) → u <ℤ pos 0 → neg_ℤ x ≡ sign u *ℤ x
+sign_below (pos zero) x h = absurd (omega (arith, ints, h))
+sign_below (pos (suc n)) x h = absurd (omega (arith, ints, h))
+sign_below (negsuc n) x h = minus_one x
+
+scale_step : (k x : ℤ) (v : List ℤ) (i : ℕ) → scale k (take (i + 1) v) ≡ scale k (take i v) ++ (k *ℤ cell v i) ∷ [] → scale k (take (suc i + 1) (x ∷ v)) ≡ (k *ℤ x) ∷ (scale k (take i v) ++ (k *ℤ cell v i) ∷ [])
+scale_step k x v i h = let number : suc i + 1 ≡ suc (i + 1) = omega arith in rw number (ap (λ zs. (k *ℤ x) ∷ zs) h)
+
+pub scale_more : (k : ℤ) (v : List ℤ) (i : ℕ) → i < length v → scale k (take (i + 1) v) ≡ scale k (take i v) ++ (k *ℤ cell v i) ∷ []
+scale_more k [] i h = absurd (omega (arith, h))
+scale_more k (x ∷ v) zero h = refl
+scale_more k (x ∷ v) (suc i) h = scale_step k x v i (scale_more k v i (omega (arith, h)))
+
+pub not_above : (u : ℤ) → int_lt (pos 0) u ≡ false → ¬ (pos 0 <ℤ u)
+not_above u e above =
+    let below : u <ℤ pos 0 = below_zero u (λ z. omega (arith, ints, above, z)) e in
+    omega (arith, ints, above, below)
+
+pub under_zero : (u : ℤ) → int_lt u (pos 0) ≡ true → u <ℤ pos 0
+under_zero (pos n) e = absurd (let f : ltb n 0 ≡ true = e in omega (arith, ltb-true n 0 f))
+under_zero (negsuc n) e = omega (arith, ints)
+
+pub not_under : (u : ℤ) → int_lt u (pos 0) ≡ false → ¬ (u <ℤ pos 0)
+not_under (pos n) e under = omega (arith, ints, under)
+not_under (negsuc n) e under = let f : true ≡ false = e in false≢true (sym f)
