@@ -41,7 +41,8 @@ mark_ges : (inequalities : List (List ℤ)) → map constraint_row (map (λ r. (
 mark_ges [] = refl
 mark_ges (r ∷ inequalities) = ap (λ (rs : List Row). (r, false) ∷ rs) (mark_ges inequalities)
 
-con_rows_plain : (equalities inequalities : List (List ℤ)) → map constraint_row (plain_cons equalities inequalities) ≡ system_rows equalities inequalities
+-- the rows of plain constraints, the equalities first
+pub con_rows_plain : (equalities inequalities : List (List ℤ)) → map constraint_row (plain_cons equalities inequalities) ≡ system_rows equalities inequalities
 con_rows_plain [] inequalities = mark_ges inequalities
 con_rows_plain (l ∷ equalities) inequalities = ap (λ (rs : List Row). (l, true) ∷ rs) (con_rows_plain equalities inequalities)
 

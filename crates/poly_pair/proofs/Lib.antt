@@ -10,5 +10,14 @@ mod Multiples
 mod StrongSystems
 mod EncodedLists
 mod OkLemmas
+mod SimplifiedSystems
 mod UniverseForms
 mod PairLemmas
+mod ZeroMarks
+mod Divisors
+mod StartSystems
+mod NeededDivisor
+mod Starts
+mod StartDots
+mod Additions
+mod GeneratorRefusals

@@ -8,3 +8,5 @@ pub mod Parts
 pub mod Refusals
 pub mod Entries
 pub mod Axes
+pub mod Starts
+pub mod Additions

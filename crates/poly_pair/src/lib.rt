@@ -9,6 +9,7 @@
 //! functions of `pair_laws`.
 #![tactic(auto)]
 
+mod adding;
 mod axes;
 mod errors;
 pub mod laws;
@@ -16,6 +17,7 @@ mod lists;
 mod making;
 mod pairing;
 mod poly;
+mod starting;
 mod storing;
 mod storing_generators;
 mod systems;
@@ -26,3 +28,6 @@ pub use lists::{constraint_list, generator_list};
 pub use making::has_point_kind;
 pub use poly::Poly;
 pub use topology::{MAX_DIM, Topology};
+
+#[cfg(test)]
+mod tests;

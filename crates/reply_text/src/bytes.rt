@@ -1,4 +1,4 @@
-//! Bytes on the heap.
+//! Texts of bytes.
 ghost use Rattle.std.specs.Prelude.{◌≡◌, ℕ, ◌==◌, nat_eq, List, [], ◌++◌, length, decimal, Decides, MatchResult};
 ghost use Rattle.std.specs.Cmp;
 ghost use Rattle.std.specs.Cmp.Lexicographic.{pointwise};
@@ -7,13 +7,14 @@ ghost use Rattle.std.specs.Fmt.{signed_decimal};
 
 use itoa::Buffer;
 use row_core::Memory;
+use smallvec::SmallVec;
 use std::alloc::{AllocError, Global};
 use std::marker::Model;
 
-/// A text, which grows at its end.
+/// A text, which grows at its end. One of at most 32 bytes takes no memory from the heap.
 #[derive(Debug, Drop)]
 pub struct Text {
-    bytes: Vec<u8>,
+    bytes: SmallVec<u8, 32>,
 }
 
 impl Model for Text {
@@ -28,7 +29,7 @@ impl Text {
         ensures { result ≡ [] }
     {
         Text {
-            bytes: Vec::new(alloc),
+            bytes: SmallVec::new(alloc),
         }
     }
 
@@ -85,7 +86,7 @@ impl Clone for Text {
 
     fn clone(&self) -> Result<Text, AllocError> {
         Ok(Text {
-            bytes: self.bytes.clone()?,
+            bytes: SmallVec::from_slice(*self.bytes.allocator(), self.bytes())?,
         })
     }
 }
@@ -99,7 +100,7 @@ impl PartialEq for Text {
         ensures value { result ≡ pointwise nat_eq self.now other.now }
         ensures same { Decides result (self.now ≡ other.now) }
     {
-        self.bytes == other.bytes
+        self.bytes() == other.bytes()
     }
 }
 

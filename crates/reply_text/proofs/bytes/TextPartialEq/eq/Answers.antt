@@ -6,6 +6,6 @@ use Rattle.reply_text.proofs.bytes.TextPartialEq.eq.Goals as goal
 
 pub returns-clause-same : goal.returns-clause-same
 returns-clause-same c =
-    subst (λ (v : List ℕ). Decides c.eq.result (v ≡ c.args.other.now)) c.self.view_is
-    (subst (λ (w : List ℕ). Decides c.eq.result (c.self.inside.bytes.items ≡ w)) c.other.view_is
-    (slice_eq-Decides unsigned_Decides c.self.inside.bytes.items c.other.inside.bytes.items c.eq.result c.eq.ensures))
+    subst (λ (v : List ℕ). Decides c.eq.result (v ≡ c.args.other.now)) c.bytes.ensures
+    (subst (λ (w : List ℕ). Decides c.eq.result (c.bytes.result.now ≡ w)) c.bytes-2.ensures
+    (slice_eq-Decides unsigned_Decides c.bytes.result.now c.bytes-2.result.now c.eq.result c.eq.ensures))

@@ -1,0 +1,29 @@
+use Rattle.std.specs.Prelude.{true}
+use Rattle.std.proofs.Common.{◌++◌, ◌∷◌, [], drop, ap, ◌∙◌, arith, append_assoc}
+use Rattle.std.proofs.lemmas.Result.{err_from_is_err_and}
+use Rattle.row_core.specs.Lists.{vectors}
+use Rattle.cone_laws.proofs.VectorLemmas.{length-vectors, vectors_push}
+use Rattle.minimise.proofs.ClearedRows.{taken_from}
+use Rattle.minimise.proofs.FaultCases.{new_apart, take_fault}
+use Rattle.minimise.proofs.bases.with_line.Goals as goal
+
+pub place_of-place-requires-clause-apart : goal.place_of-place-requires-clause-apart
+place_of-place-requires-clause-apart g c = λ i h. new_apart (vectors c.args.lines.now.rows) c.args.line.now c.args.pivot c.requires.line i (omega (arith, h, length-vectors c.args.lines.now.rows))
+
+pub cleared_before-requires-clause-end : goal.cleared_before-requires-clause-end
+cleared_before-requires-clause-end g c = omega (arith, c.place_of-place.ensures.within, length-vectors c.args.lines.now.rows)
+
+pub push_from-requires-clause-start : goal.push_from-requires-clause-start
+push_from-requires-clause-start g c = omega (arith, c.place_of-place.ensures.within, length-vectors c.args.lines.now.rows)
+
+pub returns-in_err-new-clause-taken : goal.returns-in_err-new-clause-taken
+returns-in_err-new-clause-taken g c =
+    let p = err_from_is_err_and c.from_residual.result c.from_residual.ensures.1 in
+    rw (p.1, p.2) (take_fault c.args.pivot (vectors c.args.lines.now.rows) c.args.line.now c.place_of-place.result _ c.place_of-place.ensures c.in_err-new.ensures.cleared)
+
+pub returns-clause-taken : goal.returns-clause-taken
+returns-clause-taken g c =
+    let lines = vectors c.args.lines.now.rows in
+    let front = c.in_ok-new.new.rows in
+    taken_from c.args.pivot lines c.args.line.now c.place_of-place.result (vectors front) (vectors c.push_from.new.into.rows) c.requires.echelon (λ i h. c.requires.primitive i [] h) c.requires.line.at c.place_of-place.ensures c.in_ok-new.ensures.cleared
+    (c.in_ok-push_from.ensures.rows ∙ ap (λ vs. vs ++ drop c.place_of-place.result (vectors c.args.lines.now.rows)) (ap vectors c.in_ok-push.ensures.rows ∙ vectors_push front c.args.line.now true) ∙ append_assoc (vectors front) (c.args.line.now ∷ []) (drop c.place_of-place.result (vectors c.args.lines.now.rows)))

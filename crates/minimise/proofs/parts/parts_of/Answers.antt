@@ -1,0 +1,91 @@
+use Rattle.std.specs.Prelude.{◌*◌, ◌<◌, ℕ, List, length, map, not, All}
+use Rattle.std.specs.List.{range_with_len}
+use Rattle.std.proofs.Common.{arith, sym, ap, subst}
+use Rattle.std.proofs.lemmas.Result.{err_from_is_err_and}
+use Rattle.std.proofs.lemmas.List.FromFn.{length-range_with_len}
+use Rattle.row_core.specs.Flat.{marked}
+use Rattle.row_core.specs.Lists.{row_at, vectors, Pointwise}
+use Rattle.cone_laws.proofs.VectorLemmas.{length-vectors}
+use Rattle.minimise.specs.Bases.{IsReduced}
+use Rattle.minimise.proofs.FacetLemmas.{length-both, greatest_within}
+use Rattle.minimise.proofs.FaultCases.{list_fault_of_row}
+use Rattle.minimise.proofs.Totals.{total_bound}
+use Rattle.minimise.proofs.parts.parts_of.Goals as goal
+
+pub reduced_rows-requires-clause-within : goal.reduced_rows-requires-clause-within
+reduced_rows-requires-clause-within g c =
+    let flat = c.args.flat.now in
+    let facets = c.in_ok-facets.facets in
+    subst (λ (is : List ℕ). All (λ i. i < length c.args.rows.now.rows) is) (sym c.deref.ensures.value)
+    (subst (λ (n : ℕ). All (λ i. i < n) c.in_ok-facets.facets.indices.items) c.requires.as_many.0
+    (greatest_within (map not flat) (length flat) (marked (map not flat) c.args.table.rows) facets.indices.items facets.zeros.rows c.in_ok-facets.ensures.greatest))
+
+pub reduced_rows-requires-clause-echelon : goal.reduced_rows-requires-clause-echelon
+reduced_rows-requires-clause-echelon g c = c.in_ok-equalities.ensures.basis.echelon
+
+pub returns-in_err-equalities-clause-counted : goal.returns-in_err-equalities-clause-counted
+returns-in_err-equalities-clause-counted g c =
+    let flat = c.args.flat.now in
+    let rows = c.args.rows.now.rows in
+    let width = c.args.rows.now.width in
+    let range = range_with_len 0 (length flat) in
+    let both = length-both flat (vectors rows) range (omega (arith, c.requires.as_many.0, length-vectors rows)) (sym (length-range_with_len 0 (length flat))) in
+    let most = total_bound (length (marked flat (vectors rows))) 0 width width (length rows) (omega arith) (omega (arith, both, length-vectors rows)) in
+    (omega (arith, c.basis.ensures.counted), omega (arith, c.basis.ensures.counted, most))
+
+pub returns-in_err-equalities-clause-parts : goal.returns-in_err-equalities-clause-parts
+returns-in_err-equalities-clause-parts g c =
+    let p = err_from_is_err_and c.from_residual.result c.from_residual.ensures.1 in
+    rw (p.1, p.2) c.in_err-equalities.ensures.basis
+
+pub returns-in_err-facets-clause-counted : goal.returns-in_err-facets-clause-counted
+returns-in_err-facets-clause-counted g c =
+    let flat = c.args.flat.now in
+    let rows = c.args.rows.now.rows in
+    let width = c.args.rows.now.width in
+    let range = range_with_len 0 (length flat) in
+    let both = length-both flat (vectors rows) range (omega (arith, c.requires.as_many.0, length-vectors rows)) (sym (length-range_with_len 0 (length flat))) in
+    let most = total_bound (length (marked flat (vectors rows))) 0 width width (length rows) (omega arith) (omega (arith, both, length-vectors rows)) in
+    (omega (arith, c.basis.ensures.counted), omega (arith, c.basis.ensures.counted, most))
+
+pub returns-in_err-reduced-clause-counted : goal.returns-in_err-reduced-clause-counted
+returns-in_err-reduced-clause-counted g c =
+    let flat = c.args.flat.now in
+    let rows = c.args.rows.now.rows in
+    let width = c.args.rows.now.width in
+    let range = range_with_len 0 (length flat) in
+    let kept = c.in_ok-facets.facets.indices.items in
+    let both = length-both flat (vectors rows) range (omega (arith, c.requires.as_many.0, length-vectors rows)) (sym (length-range_with_len 0 (length flat))) in
+    let most = total_bound (length (marked flat (vectors rows))) (length kept) width width (length rows) (omega arith) (omega (arith, both, length-vectors rows, c.in_ok-facets.ensures.greatest.fewer)) in
+    let size = ap (λ (is : List ℕ). length is * c.args.rows.now.width) c.deref.ensures.value in
+    (omega (arith, c.basis.ensures.counted, c.reduced_rows.ensures.counted), omega (arith, c.basis.ensures.counted, c.reduced_rows.ensures.counted, size, most))
+
+pub returns-in_err-reduced-clause-parts : goal.returns-in_err-reduced-clause-parts
+returns-in_err-reduced-clause-parts g c =
+    let p = err_from_is_err_and c.from_residual-in_err-reduced.result c.from_residual-in_err-reduced.ensures.1 in
+    rw (p.1, p.2) (list_fault_of_row c.args.rows.now.rows (marked c.args.flat.now (vectors c.args.rows.now.rows)) (vectors c.in_ok-equalities.equalities.rows) _ c.in_ok-equalities.ensures.basis c.in_err-reduced.ensures.reduced)
+
+pub returns-clause-counted : goal.returns-clause-counted
+returns-clause-counted g c =
+    let flat = c.args.flat.now in
+    let rows = c.args.rows.now.rows in
+    let width = c.args.rows.now.width in
+    let range = range_with_len 0 (length flat) in
+    let kept = c.in_ok-facets.facets.indices.items in
+    let both = length-both flat (vectors rows) range (omega (arith, c.requires.as_many.0, length-vectors rows)) (sym (length-range_with_len 0 (length flat))) in
+    let most = total_bound (length (marked flat (vectors rows))) (length kept) width width (length rows) (omega arith) (omega (arith, both, length-vectors rows, c.in_ok-facets.ensures.greatest.fewer)) in
+    let size = ap (λ (is : List ℕ). length is * c.args.rows.now.width) c.deref.ensures.value in
+    (omega (arith, c.basis.ensures.counted, c.reduced_rows.ensures.counted), omega (arith, c.basis.ensures.counted, c.reduced_rows.ensures.counted, size, most))
+
+pub returns-clause-parts : goal.returns-clause-parts
+returns-clause-parts g c = record {
+  rows_fit = c.width-width.ensures.rows;
+  basis = c.in_ok-equalities.ensures.basis;
+  equalities_fit = c.width-basis_width.ensures.rows;
+  equalities_width = c.in_ok-equalities.ensures.list.0;
+  equalities_marked = c.in_ok-equalities.ensures.list.1;
+  columns = c.in_ok-facets.ensures.columns;
+  greatest = c.in_ok-facets.ensures.greatest;
+  made = subst (λ (is : List ℕ). Pointwise (λ i r. IsReduced (vectors c.in_ok-equalities.equalities.rows) (row_at c.args.rows.now.rows i) r) is (vectors c.in_ok-reduced.reduced.rows)) c.deref.ensures.value c.in_ok-reduced.ensures.reduced;
+  reduced_width = c.in_ok-reduced.ensures.list.0;
+}

@@ -1,0 +1,67 @@
+use Rattle.std.specs.Prelude.{false}
+use Rattle.std.proofs.Common.{◌≡◌, ◌+◌, ◌≤◌, List, ℤ, ℕ, length, get_or, arith, sym, ap, ◌∙◌, subst}
+use Rattle.std.proofs.Math.Nat.{mul-le-mul_right}
+use Rattle.std.proofs.lemmas.Result.{err_from_is_err_and}
+use Rattle.std.proofs.lemmas.List.{take_all}
+use Rattle.std.proofs.lemmas.List.Elements.{All-same}
+use Rattle.row_core.specs.Range.{AllInRange}
+use Rattle.row_core.specs.Lists.{Row, row_at, vectors, Pointwise}
+use Rattle.cone_laws.proofs.VectorLemmas.{vectors_push, marked_push}
+use Rattle.minimise.specs.Bases.{IsReduced}
+use Rattle.minimise.proofs.Widths.{lines_narrow}
+use Rattle.minimise.proofs.PointwiseLists.{pointwise_more}
+use Rattle.minimise.proofs.FaultCases.{row_fault}
+use Rattle.minimise.proofs.parts.reduced_rows.Goals as goal
+
+pub row-requires : goal.row-requires
+row-requires g c = c.requires.within c.loop-index.index 0 c.loop-index-test.true
+
+pub reduce-requires-clause-wide : goal.reduce-requires-clause-wide
+reduce-requires-clause-wide g c = ap (λ (v : List ℤ). length v) c.row.ensures.value ∙ c.row.ensures.wide ∙ sym c.requires.width
+
+pub reduce-requires-clause-in_range : goal.reduce-requires-clause-in_range
+reduce-requires-clause-in_range g c = subst AllInRange (sym c.row.ensures.value) c.row.ensures.in_range
+
+pub returns-in_err-reduced-clause-reduced : goal.returns-in_err-reduced-clause-reduced
+returns-in_err-reduced-clause-reduced g c =
+    let rows = c.args.rows.now.rows in
+    let p = err_from_is_err_and c.from_residual.result c.from_residual.ensures.1 in
+    rw (p.1, p.2) (row_fault rows (vectors c.args.lines.now.rows) (get_or c.args.kept.now c.loop-index.index 0) c.row.result.now _ (c.requires.within c.loop-index.index 0 c.loop-index-test.true) c.row.ensures.value c.in_err-reduced.ensures.reduced)
+
+pub returns-in_err-reduced-clause-counted : goal.returns-in_err-reduced-clause-counted
+returns-in_err-reduced-clause-counted g c =
+    let inv = c.loop-index.invariant in
+    let narrow = lines_narrow c.args.lines.now c.width.ensures.rows c.requires.echelon in
+    let more : c.loop-index.index + 1 ≤ length c.args.kept.now = omega arith in
+    let most = mul-le-mul_right c.args.rows.now.width more in
+    (omega (arith, inv.no_fewer, c.reduce.ensures.counted), omega (arith, inv.no_more, c.reduce.ensures.counted, narrow, c.requires.width, most))
+
+pub returns-in_err-push_row-clause-counted : goal.returns-in_err-push_row-clause-counted
+returns-in_err-push_row-clause-counted g c =
+    let inv = c.loop-index.invariant in
+    let narrow = lines_narrow c.args.lines.now c.width.ensures.rows c.requires.echelon in
+    let more : c.loop-index.index + 1 ≤ length c.args.kept.now = omega arith in
+    let most = mul-le-mul_right c.args.rows.now.width more in
+    (omega (arith, inv.no_fewer, c.reduce.ensures.counted), omega (arith, inv.no_more, c.reduce.ensures.counted, narrow, c.requires.width, most))
+
+pub loop-index-preserved : goal.loop-index-preserved
+loop-index-preserved g c =
+    let inv = c.loop-index.invariant in
+    let pushed = c.in_ok-push_row.ensures.rows in
+    let index = c.loop-index.index in
+    let narrow = lines_narrow c.args.lines.now c.width.ensures.rows c.requires.echelon in
+    let made : IsReduced (vectors c.args.lines.now.rows) (row_at c.args.rows.now.rows (get_or c.args.kept.now c.loop-index.index 0)) c.from_vec.result =
+    subst (λ (v : List ℤ). IsReduced (vectors c.args.lines.now.rows) (row_at c.args.rows.now.rows (get_or c.args.kept.now c.loop-index.index 0)) v) (sym c.from_vec.ensures)
+    (subst (λ (v : List ℤ). IsReduced (vectors c.args.lines.now.rows) v c.in_ok-reduced.reduced.items) c.row.ensures.value c.in_ok-reduced.ensures.reduced) in
+    record {
+      width = c.in_ok-push_row.ensures.width ∙ inv.width;
+      no_fewer = omega (arith, inv.no_fewer, c.reduce.ensures.counted);
+      no_more = omega (arith, inv.no_more, c.reduce.ensures.counted, narrow, c.requires.width);
+      reduced = pointwise_more (λ (i : ℕ) (r : List ℤ). IsReduced (vectors c.args.lines.now.rows) (row_at c.args.rows.now.rows i) r) c.args.kept.now (vectors c.loop-index.new.rows) (vectors c.push_row.new.self.rows) index 0 c.from_vec.result c.loop-index-test.true inv.reduced made
+          (ap vectors pushed ∙ vectors_push c.loop-index.new.rows c.from_vec.result false);
+      marks = All-same (λ (row : Row). row.1 ≡ false) c.push_row.new.self.rows _ pushed (marked_push false c.loop-index.new.rows _ inv.marks);
+    }
+
+pub returns-clause-reduced : goal.returns-clause-reduced
+returns-clause-reduced g c =
+    subst (λ (is : List ℕ). Pointwise (λ (i : ℕ) (r : List ℤ). IsReduced (vectors c.args.lines.now.rows) (row_at c.args.rows.now.rows i) r) is (vectors c.loop-index.new.rows)) (take_all c.loop-index.index c.args.kept.now (omega arith)) c.loop-index.invariant.reduced

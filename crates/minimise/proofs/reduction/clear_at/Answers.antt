@@ -1,0 +1,34 @@
+use Rattle.std.specs.Prelude.{◌<◌, List, ℤ, pos, length}
+use Rattle.std.specs.Int.{w128}
+use Rattle.std.proofs.Common.{refl, sym, subst, get_or, arith}
+use Rattle.std.proofs.lemmas.Int.{to_z-of_z}
+use Rattle.std.proofs.lemmas.Result.{err_from_is_err_and}
+use Rattle.std.proofs.lemmas.List.Elements.{All-get_or}
+use mir.Val.{SFits}
+use Rattle.row_core.specs.Range.{InRange}
+use Rattle.cone_laws.proofs.FactorLemmas.{fits}
+use Rattle.minimise.specs.Bases.{IsCleared}
+use Rattle.minimise.proofs.ClearedRows.{cleared_from_combined}
+use Rattle.minimise.proofs.NarrowBases.{pivot_below}
+use Rattle.minimise.proofs.reduction.clear_at.Goals as goal
+
+pub returns-in_err-combine-clause-cleared : goal.returns-in_err-combine-clause-cleared
+returns-in_err-combine-clause-cleared g c =
+    let line = c.args.line.now in
+    let row = c.args.row.now in
+    let below : c.args.pivot < length c.args.line.now = pivot_below line c.args.pivot c.requires.line.1 in
+    let line_fits : SFits w128 (get_or c.args.line.now c.args.pivot (pos 0)) = fits (get_or line c.args.pivot (pos 0)) (All-get_or InRange line c.args.pivot (pos 0) below c.requires.line.0) in
+    let row_fits : SFits w128 (get_or c.args.row.now c.args.pivot (pos 0)) = fits (get_or row c.args.pivot (pos 0)) (All-get_or InRange row c.args.pivot (pos 0) (omega (arith, below, c.requires.same_width.0)) c.requires.row.0) in
+    let leaves = simp to_z-of_z at c.in_err-combine.ensures.combined in
+    let p = err_from_is_err_and c.from_residual.result c.from_residual.ensures.1 in
+    rw (p.1, p.2) (refl, leaves)
+
+pub returns-clause-cleared : goal.returns-clause-cleared
+returns-clause-cleared g c =
+    let line = c.args.line.now in
+    let row = c.args.row.now in
+    let below : c.args.pivot < length c.args.line.now = pivot_below line c.args.pivot c.requires.line.1 in
+    let line_fits : SFits w128 (get_or c.args.line.now c.args.pivot (pos 0)) = fits (get_or line c.args.pivot (pos 0)) (All-get_or InRange line c.args.pivot (pos 0) below c.requires.line.0) in
+    let row_fits : SFits w128 (get_or c.args.row.now c.args.pivot (pos 0)) = fits (get_or row c.args.pivot (pos 0)) (All-get_or InRange row c.args.pivot (pos 0) (omega (arith, below, c.requires.same_width.0)) c.requires.row.0) in
+    let combined = simp to_z-of_z at c.in_ok-combine.ensures.combined in
+    subst (λ (r : List ℤ). IsCleared c.args.pivot c.args.line.now c.args.row.now r) (sym c.copy_from_slice.ensures.after) (cleared_from_combined c.args.pivot line row c.combine.new.dst c.requires.line.1.positive combined)

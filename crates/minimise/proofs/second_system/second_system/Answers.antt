@@ -1,0 +1,40 @@
+use Rattle.std.specs.Prelude.{◌≡◌, Bool, List, ℕ, length}
+use Rattle.std.proofs.Common.{arith, sym, ap, ◌∙◌, subst}
+use Rattle.std.proofs.lemmas.Result.{err_from_is_err_and}
+use Rattle.row_core.specs.Lists.{vectors}
+use Rattle.sat_matrix.specs.Tables.{Table}
+use Rattle.cone_laws.proofs.VectorLemmas.{length-vectors}
+use Rattle.minimise.specs.Facets.{TellsFull}
+use Rattle.minimise.specs.Parts.{IsArranged}
+use Rattle.minimise.proofs.FacetLemmas.{TellsRows, turned_tells, flat_told}
+use Rattle.minimise.proofs.FaultCases.{left_fault}
+use Rattle.minimise.proofs.Simplifications.{done_from_arranged}
+use Rattle.minimise.proofs.second_system.second_system.Goals as goal
+
+pub parts_of-requires : goal.parts_of-requires
+parts_of-requires g c =
+    let size : length c.in_ok-table.table.rows ≡ length c.args.rows.now.rows = ap (λ (t : Table). length t.rows) c.in_ok-table.ensures ∙ (turned_tells c.args.rows.now.rows (vectors c.args.rays.now.rows) c.args.sat.now c.requires.sat).as_many in
+    record { as_many = (ap (λ (bs : List Bool). length bs) c.deref.ensures.value ∙ c.in_ok-flat.ensures.as_many ∙ size, size) }
+
+pub returns-in_err-parts-clause-simplified : goal.returns-in_err-parts-clause-simplified
+returns-in_err-parts-clause-simplified g c =
+    let rows = c.args.rows.now.rows in
+    let rays = vectors c.args.rays.now.rows in
+    let table = c.in_ok-table.table in
+    let tells : TellsRows c.args.rows.now.rows (vectors c.args.rays.now.rows) c.in_ok-table.table.rows =
+    subst (λ (bs : List (List Bool)). TellsRows c.args.rows.now.rows (vectors c.args.rays.now.rows) bs) (sym (ap (λ (t : Table). t.rows) c.in_ok-table.ensures)) (turned_tells rows rays c.args.sat.now c.requires.sat) in
+    let full : TellsFull c.in_ok-table.table.rows c.deref.result.now = subst (λ (bs : List Bool). TellsFull c.in_ok-table.table.rows bs) (sym c.deref.ensures.value) c.in_ok-flat.ensures in
+    let told = flat_told rows rays table.rows tells c.args.rows.now.width (vectors c.args.lines.now.rows) c.deref.result.now c.requires.system full in
+    let p = err_from_is_err_and c.from_residual-in_err-parts.result c.from_residual-in_err-parts.ensures.1 in
+    rw (p.1, p.2) (left_fault c.args.rows.now.width rows c.deref.result.now _ told c.in_err-parts.ensures.parts)
+
+pub arranged-requires : goal.arranged-requires
+arranged-requires g c =
+    let p = c.in_ok-parts.ensures.parts in
+    omega (arith, p.greatest.as_many, p.made.as_many, length-vectors c.in_ok-parts.parts.reduced.rows)
+
+pub returns-clause-simplified : goal.returns-clause-simplified
+returns-clause-simplified g c =
+    let full : TellsFull c.in_ok-table.table.rows c.deref.result.now = subst (λ (bs : List Bool). TellsFull c.in_ok-table.table.rows bs) (sym c.deref.ensures.value) c.in_ok-flat.ensures in
+    done_from_arranged c.args.rows.now c.args.lines.now c.args.rays.now c.args.sat.now c.in_ok-table.table c.deref.result.now c.in_ok-parts.parts c.in_ok-parts.ensures.parts c.requires.system c.requires.lists c.requires.sat c.in_ok-table.ensures full c.in_ok-arranged.field-0
+    (subst (λ (n : ℕ). IsArranged n c.in_ok-parts.parts c.in_ok-arranged.field-0) c.len.ensures c.in_ok-arranged.ensures)

@@ -1,0 +1,26 @@
+//! Laws of the second system.
+
+ghost use Rattle.minimise.specs.FlatRows.{FlatIsZeroOnRays};
+ghost use Rattle.minimise.specs.Bases.{EchelonIsNarrow, EchelonTakesLine};
+ghost use Rattle.minimise.specs.SecondSystems.{SimplifiedIsSystem};
+
+/// The rows that are 0 on the whole cone are those that are 0 on its rays.
+pub fn flat_rows()
+    ensures { FlatIsZeroOnRays }
+{}
+
+/// The basis of the rows that are 0 on the cone, and one reduced row for each greatest set of zeros of
+/// the others, are the system of the valid rows.
+pub fn simplified_is_system()
+    ensures { SimplifiedIsSystem }
+{}
+
+/// A list in reduced echelon form has at most as many lines as columns.
+pub fn echelon_is_narrow()
+    ensures { EchelonIsNarrow }
+{}
+
+/// A list in reduced echelon form takes in a line whose pivot is new.
+pub fn echelon_takes_line()
+    ensures { EchelonTakesLine }
+{}

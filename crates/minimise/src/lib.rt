@@ -1,0 +1,17 @@
+//! The second system of a cone, from its rows and the zeros of its rays.
+//!
+//! - [`simplify`] gives the canonical system of all rows that are valid on the cone, or the combination
+//!   that leaves the range; [`Simplified`] is its answer.
+#![tactic(auto)]
+
+mod bases;
+mod facets;
+mod fault;
+mod laws;
+mod parts;
+mod reduction;
+mod second_system;
+mod second_table;
+
+pub use laws::{echelon_is_narrow, echelon_takes_line, flat_rows, simplified_is_system};
+pub use second_system::{Simplified, simplify};

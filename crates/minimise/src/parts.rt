@@ -1,0 +1,73 @@
+//! The lines and rays of the second system, before the rays are sorted.
+ghost use Rattle.std.specs.Prelude.{◌≡◌, ◌+◌, ◌*◌, ◌<◌, ◌≤◌, [], false, length, All, IfOk, MatchResult};
+ghost use Rattle.row_core.specs.Flat.{marked};
+ghost use Rattle.row_core.specs.Lists.{row_at, vectors, AreMarked, Pointwise};
+ghost use Rattle.cone_laws.specs.Canon.{IsEchelon};
+ghost use Rattle.minimise.specs.Bases.{IsReduced};
+ghost use Rattle.minimise.specs.Faults.{IsRowFault, IsListFault};
+ghost use Rattle.minimise.specs.Parts.{AreParts};
+
+use crate::bases::basis;
+use crate::facets::{Facets, facets_of};
+use crate::fault::Fault;
+use crate::reduction::reduce;
+use row_core::{RowBuf, RowList, Steps};
+use sat_matrix::SatMatrix;
+use std::alloc::Global;
+use std::sync::ledger::Ledger;
+
+/// The basis of the rows that are 0 on the whole cone, and a reduced row for each of the facets.
+#[derive(Debug, Drop)]
+pub(crate) struct Parts {
+    pub(crate) equalities: RowList,
+    pub(crate) facets: Facets,
+    pub(crate) reduced: RowList,
+}
+
+/// The rows at the indices, each reduced by the lines.
+fn reduced_rows<L: Ledger>(
+    alloc: Global,
+    rows: &RowList,
+    kept: &[usize],
+    lines: &RowList,
+    steps: &mut Steps<L>,
+) -> Result<RowList, Fault>
+    requires width { lines.now.width ≡ rows.now.width }
+    requires within { All (λ i. i < length rows.now.rows) kept.now }
+    requires echelon { IsEchelon (vectors lines.now.rows) [] }
+    ensures counted { (steps.old ≤ steps.new) × (steps.new ≤ steps.old + length kept.now * rows.now.width) }
+    ensures reduced { MatchResult result (λ new. Pointwise (λ i r. IsReduced (vectors lines.now.rows) (row_at rows.now.rows i) r) kept.now (vectors new.rows)) (IsRowFault rows.now.rows (vectors lines.now.rows)) }
+    ensures list { IfOk result (λ new. (new.width ≡ rows.now.width) × AreMarked false new.rows) }
+{
+    let mut new = RowList::new(alloc, lines.width());
+    for index in 0..kept.len() {
+        let reduced = reduce(alloc, lines, rows.row(kept[index]), steps)?;
+        new.push_row(RowBuf::from_vec(reduced), false)?;
+    }
+    Ok(new)
+}
+
+/// The parts of the second system of the rows. The table has a row for each of them, true at the rays
+/// on which it is 0, and the marked ones are 0 on the whole cone.
+pub(crate) fn parts_of<L: Ledger>(
+    alloc: Global,
+    rows: &RowList,
+    table: SatMatrix,
+    flat: &[bool],
+    steps: &mut Steps<L>,
+) -> Result<Parts, Fault>
+    requires as_many { (length flat.now ≡ length rows.now.rows) × (length table.rows ≡ length rows.now.rows) }
+    ensures counted { (steps.old ≤ steps.new) × (steps.new ≤ steps.old + 2 * (length rows.now.rows * rows.now.width)) }
+    ensures parts { MatchResult result (AreParts rows.now table flat.now) (IsListFault rows.now.rows (marked flat.now (vectors rows.now.rows))) }
+{
+    let _width = rows.width();
+    let equalities = basis(alloc, rows, flat, steps)?;
+    let _basis_width = equalities.width();
+    let facets = facets_of(alloc, table, flat)?;
+    let reduced = reduced_rows(alloc, rows, &facets.indices, &equalities, steps)?;
+    Ok(Parts {
+        equalities,
+        facets,
+        reduced,
+    })
+}
