@@ -1,17 +1,16 @@
 -- What came of the commands that read the constraints or generators of a text.
 use Rattle.std.proofs.Common.{◌≡◌, ℕ, ◌<◌, ◌≤◌, List, [], ◌∷◌, ◌++◌, Err, Ok, Result, IsTrue, Bool, true, false, ◌↔◌, refl, sym, ◌∙◌, ap, subst, inl, inr, arith}
-use Rattle.std.specs.Prelude.{All}
-use Rattle.std.proofs.lemmas.List.Elements.{All-nil, All-cons, All-head, All-tail, All-append}
+use Rattle.row_core.specs.Lists.{Row}
 use Rattle.row_core.specs.declared.errors.Overflow.{Overflow}
 use Rattle.row_core.specs.declared.errors.ConvErr.{ConvErr}
 use Rattle.row_core.specs.declared.errors.ConvErr.TheVariants as conversion
-use Rattle.cons_sys.specs.Constraints.{Constraint, Constraints}
+use Rattle.cons_sys.specs.Constraints.{Constraints}
 use Rattle.gens_sys.specs.Generators.{Generator, Generators}
-use Rattle.pair_laws.specs.PointSets.{IsClosedKind, IsClosedGenKind, IsClosedGen}
-use Rattle.pair_laws.specs.StoredLaws.{StoredIsClosed}
-use Rattle.poly_pair.specs.Polyhedra.{Polyhedron, IsStoredAs, IsKept, IsOfConstraints, IsOfGenerators}
+use Rattle.pair_laws.specs.WorkLists.{LeavesOn}
+use Rattle.poly_pair.specs.Polyhedra.{Polyhedron, IsOfConstraints, IsOfGenerators}
+use Rattle.poly_pair.specs.Additions.{with_constraints, with_generators}
 use Rattle.poly_pair.specs.FirstLists.{LacksPoint}
-use Rattle.poly_pair.specs.TopologyLists.{AreConstraintsFor, AreGeneratorsFor, list_width, constraints_of, generators_of}
+use Rattle.poly_pair.specs.TopologyLists.{list_width, constraints_of, generators_of}
 use Rattle.poly_pair.specs.Refusals.{IsOverflowOn, IsGenOverflowOn}
 use Rattle.poly_pair.specs.declared.errors.GenErr.{GenErr}
 use Rattle.poly_pair.specs.declared.errors.GenErr.TheVariants as generators
@@ -28,15 +27,15 @@ use Rattle.calc_state.specs.Order.{NoneOf, IsFirst, Passes}
 use Rattle.calc_state.specs.Refusals.{refusal_of_conversion, refusal_of_generators}
 use Rattle.calc_state.specs.Texts.{constraints_fault, generators_fault, IsTextRefusal, ReadsConstraints, ReadsGenerators}
 use Rattle.calc_state.specs.Meaning.{Meaning}
-use Rattle.calc_state.specs.Makers.{SaysGenerators, LeavesOnConstraints, LeavesOnGenerators, more_constraints, more_generators, cons, gens, add, addgen}
+use Rattle.calc_state.specs.Makers.{SaysGenerators, LeavesOnGenerators, cons, gens, add, addgen}
 use Rattle.calc_state.specs.Step.{IsPerformed}
 use Rattle.calc_state.proofs.FaultOrder.{early, refused_by_text, refused_late, all_pass}
 
 -- ---- conversions
--- the conversion of constraints was refused
-pub refused_constraints : (m : Meaning) (t : Topology) (cs : Constraints) (cause : ConvErr) → Passes m.conditions → ((over : Overflow) → LeavesOnConstraints t cs over → m.overflows over) → IsOverflowOn (list_width t cs.dim) cs.dim (constraints_of t cs) cause → IsPerformed m (Err (refusal_of_conversion cause))
-refused_constraints m t cs (conversion.Overflow over) passes shown is = (passes, shown over is)
-refused_constraints m t cs conversion.Memory passes shown is = tt
+-- the conversion of a list was refused
+pub overflown : (m : Meaning) (width column : ℕ) (list : List Row) (cause : ConvErr) → Passes m.conditions → ((over : Overflow) → LeavesOn width column list over → m.overflows over) → IsOverflowOn width column list cause → IsPerformed m (Err (refusal_of_conversion cause))
+overflown m width column list (conversion.Overflow over) passes shown is = (passes, shown over is)
+overflown m width column list conversion.Memory passes shown is = tt
 
 -- a test that isn't true
 pub not_so : (b : Bool) (P : Type 0) → IsTrue b ↔ P → b ≡ false → ¬ P
@@ -73,7 +72,7 @@ cons_made table out t n part system p small read room is =
 
 pub cons_leaves : (table : Table) (out : List ℕ) (t : Topology) (n : ℕ) (part : Part) (system : Constraints) (cause : ConvErr) → n ≤ 31 → ReadsConstraints t n part system → ¬ (HasNoRoom table out) → IsOverflowOn (list_width t system.dim) system.dim (constraints_of t system) cause → IsPerformed (cons table out t n part) (Err (refusal_of_conversion cause))
 cons_leaves table out t n part system cause small read room is =
-    refused_constraints (cons table out t n part) t system cause (cons_passes table out t n part system small read room) (λ over leaves. record { system = system; read = read.read; holds = leaves }) is
+    overflown (cons table out t n part) (list_width t system.dim) system.dim (constraints_of t system) cause (cons_passes table out t n part system small read room) (λ over leaves. record { system = system; read = read.read; holds = leaves }) is
 
 -- ---- gens
 gens_early : (table : Table) (out : List ℕ) (t : Topology) (n : ℕ) (part : Part) → n ≤ 31 → NoneOf early (gens table out t n part).conditions
@@ -108,17 +107,6 @@ gens_leaves table out t n part system (generators.Overflow over) law small read 
 gens_leaves table out t n part system generators.Memory law small read has room lacks is = tt
 
 -- ---- add
-abbrev HasClosedKind : Constraint → Type 0
-HasClosedKind c = IsClosedKind c.1
-
-joined_kinds : (t : Topology) (cs : Constraints) (gs : Generators) (new joined : Constraints) → StoredIsClosed → IsStoredAs t cs gs → AreConstraintsFor t new → joined.list ≡ cs.list ++ new.list → AreConstraintsFor t joined
-joined_kinds Closed cs gs new joined law is kinds e = subst (λ (list : List Constraint). All HasClosedKind list) (sym e) (All-append HasClosedKind cs.list new.list (law cs gs is).cons kinds)
-joined_kinds Nnc cs gs new joined law is kinds e = tt
-
--- a polyhedron's constraints and those that are added to it are such as its topology has
-pub joined_constraints : (p : Polyhedron) (part : Part) (new joined : Constraints) → StoredIsClosed → IsKept p → ReadsConstraints p.topology p.cons.dim part new → joined.list ≡ p.cons.list ++ new.list → AreConstraintsFor p.topology joined
-joined_constraints p part new joined law kept read e = joined_kinds p.topology p.cons p.gens new joined law kept.stored read.kinds e
-
 add_early : (name : List ℕ) (part : Part) (p : Polyhedron) → NoneOf early (add name part p).conditions
 add_early name part p = (λ k. k, (λ k. k, (λ k. k, (λ k. k, (λ k. k, tt)))))
 
@@ -128,38 +116,14 @@ add_refused name part p e is = refused_by_text (add name part p) e (add_early na
 add_passes : (name : List ℕ) (part : Part) (p : Polyhedron) (new : Constraints) → ReadsConstraints p.topology p.cons.dim part new → Passes (add name part p).conditions
 add_passes name part p new read = all_pass (add name part p).conditions (add_early name part p) read.faultless (λ k. k, (λ k. k, (λ k. k, (λ k. k, tt))))
 
--- the joined system, by its dimension and its list
-abbrev constraints_over : ℕ → List Constraint → Constraints
-constraints_over dim list = record { dim = dim; list = list }
+pub add_made : (name : List ℕ) (part : Part) (p : Polyhedron) (new : Constraints) (r : Polyhedron) → ReadsConstraints p.topology p.cons.dim part new → IsOfConstraints p.topology (with_constraints p new) r → IsPerformed (add name part p) (Ok (Puts name (entry.Poly r)))
+add_made name part p new r read is = (add_passes name part p new read, (refl, record { system = new; read = read.read; holds = is }))
 
-same_constraints : (old new joined : Constraints) → joined.dim ≡ old.dim → joined.list ≡ old.list ++ new.list → joined ≡ more_constraints old new
-same_constraints old new joined e f = ap (λ (dim : ℕ). constraints_over dim joined.list) e ∙ ap (constraints_over old.dim) f
-
-pub add_made : (name : List ℕ) (part : Part) (p : Polyhedron) (new joined : Constraints) (r : Polyhedron) → ReadsConstraints p.topology p.cons.dim part new → joined.dim ≡ p.cons.dim → joined.list ≡ p.cons.list ++ new.list → IsOfConstraints p.topology joined r → IsPerformed (add name part p) (Ok (Puts name (entry.Poly r)))
-add_made name part p new joined r read e f is =
-    (add_passes name part p new read, (refl, record { system = new; read = read.read; holds = subst (λ (cs : Constraints). IsOfConstraints p.topology cs r) (same_constraints p.cons new joined e f) is }))
-
-pub add_leaves : (name : List ℕ) (part : Part) (p : Polyhedron) (new joined : Constraints) (cause : ConvErr) → ReadsConstraints p.topology p.cons.dim part new → joined.dim ≡ p.cons.dim → joined.list ≡ p.cons.list ++ new.list → IsOverflowOn (list_width p.topology joined.dim) joined.dim (constraints_of p.topology joined) cause → IsPerformed (add name part p) (Err (refusal_of_conversion cause))
-add_leaves name part p new joined cause read e f is =
-    refused_constraints (add name part p) p.topology (more_constraints p.cons new) cause (add_passes name part p new read) (λ over leaves. record { system = new; read = read.read; holds = leaves })
-    (subst (λ (cs : Constraints). IsOverflowOn (list_width p.topology cs.dim) cs.dim (constraints_of p.topology cs) cause) (same_constraints p.cons new joined e f) is)
+pub add_leaves : (name : List ℕ) (part : Part) (p : Polyhedron) (new : Constraints) (cause : ConvErr) → ReadsConstraints p.topology p.cons.dim part new → IsOverflowOn (list_width p.topology p.cons.dim) p.cons.dim (constraints_of p.topology (with_constraints p new)) cause → IsPerformed (add name part p) (Err (refusal_of_conversion cause))
+add_leaves name part p new cause read is =
+    overflown (add name part p) (list_width p.topology (with_constraints p new).dim) (with_constraints p new).dim (constraints_of p.topology (with_constraints p new)) cause (add_passes name part p new read) (λ over leaves. record { system = new; read = read.read; holds = leaves }) is
 
 -- ---- addgen
-abbrev HasClosedGenKind : Generator → Type 0
-HasClosedGenKind g = IsClosedGenKind g.1
-
-kinds_of : (dim : ℕ) (list : List Generator) → All (IsClosedGen dim) list → All HasClosedGenKind list
-kinds_of dim [] h = All-nil HasClosedGenKind
-kinds_of dim (g ∷ gs) h = All-cons HasClosedGenKind g gs ((All-head (IsClosedGen dim) g gs h).kind) (kinds_of dim gs (All-tail (IsClosedGen dim) g gs h))
-
-joined_gen_kinds : (t : Topology) (cs : Constraints) (gs new joined : Generators) → StoredIsClosed → IsStoredAs t cs gs → AreGeneratorsFor t new → joined.list ≡ gs.list ++ new.list → AreGeneratorsFor t joined
-joined_gen_kinds Closed cs gs new joined law is kinds e = subst (λ (list : List Generator). All HasClosedGenKind list) (sym e) (All-append HasClosedGenKind gs.list new.list (kinds_of gs.dim gs.list (law cs gs is).gens) kinds)
-joined_gen_kinds Nnc cs gs new joined law is kinds e = tt
-
--- a polyhedron's generators and those that are added to it are such as its topology has
-pub joined_generators : (p : Polyhedron) (part : Part) (new joined : Generators) → StoredIsClosed → IsKept p → ReadsGenerators p.topology p.gens.dim part new → joined.list ≡ p.gens.list ++ new.list → AreGeneratorsFor p.topology joined
-joined_generators p part new joined law kept read e = joined_gen_kinds p.topology p.cons p.gens new joined law kept.stored read.kinds e
-
 addgen_early : (name : List ℕ) (part : Part) (p : Polyhedron) → NoneOf early (addgen name part p).conditions
 addgen_early name part p = (λ k. k, (λ k. k, (λ k. k, (λ k. k, (λ k. k, tt)))))
 
@@ -170,21 +134,19 @@ addgen_passes : (name : List ℕ) (part : Part) (p : Polyhedron) (new : Generato
 addgen_passes name part p new law read has =
     all_pass (addgen name part p).conditions (addgen_early name part p) read.faultless (none_lacks p.topology p.gens.dim part new (λ (gs : Generators). LacksPoint (p.gens.list ++ gs.list)) law read has, (λ k. k, (λ k. k, (λ k. k, tt))))
 
+-- the generators over the one dimension or the other
 abbrev generators_over : ℕ → List Generator → Generators
 generators_over dim list = record { dim = dim; list = list }
 
-same_generators : (old new joined : Generators) → joined.dim ≡ old.dim → joined.list ≡ old.list ++ new.list → joined ≡ more_generators old new
-same_generators old new joined e f = ap (λ (dim : ℕ). generators_over dim joined.list) e ∙ ap (generators_over old.dim) f
+pub addgen_made : (name : List ℕ) (part : Part) (p : Polyhedron) (new : Generators) (r : Polyhedron) → GensHasOneAnswer → ReadsGenerators p.topology p.gens.dim part new → p.cons.dim ≡ p.gens.dim → (made r ≡ unmade generators.NoPoint) ↔ LacksPoint (p.gens.list ++ new.list) → IsOfGenerators p.topology (with_generators p new) r → IsPerformed (addgen name part p) (Ok (Puts name (entry.Poly r)))
+addgen_made name part p new r law read e lacks is =
+    let has = made_has_point r (LacksPoint (p.gens.list ++ new.list)) lacks in
+    (addgen_passes name part p new law read has, (refl, record { system = new; read = read.read; holds = subst (λ (dim : ℕ). IsOfGenerators p.topology (generators_over dim (p.gens.list ++ new.list)) r) e is }))
 
-pub addgen_made : (name : List ℕ) (part : Part) (p : Polyhedron) (new joined : Generators) (r : Polyhedron) → GensHasOneAnswer → ReadsGenerators p.topology p.gens.dim part new → joined.dim ≡ p.gens.dim → joined.list ≡ p.gens.list ++ new.list → (made r ≡ unmade generators.NoPoint) ↔ LacksPoint joined.list → IsOfGenerators p.topology joined r → IsPerformed (addgen name part p) (Ok (Puts name (entry.Poly r)))
-addgen_made name part p new joined r law read e f lacks is =
-    let has = made_has_point r (LacksPoint joined.list) lacks in
-    (addgen_passes name part p new law read (subst (λ (list : List Generator). ¬ (LacksPoint list)) f has), (refl, record { system = new; read = read.read; holds = subst (λ (gs : Generators). IsOfGenerators p.topology gs r) (same_generators p.gens new joined e f) is }))
-
-pub addgen_refuses : (name : List ℕ) (part : Part) (p : Polyhedron) (new joined : Generators) (cause : GenErr) → GensHasOneAnswer → ReadsGenerators p.topology p.gens.dim part new → joined.dim ≡ p.gens.dim → joined.list ≡ p.gens.list ++ new.list → (unmade cause ≡ unmade generators.NoPoint) ↔ LacksPoint joined.list → IsGenOverflowOn (list_width p.topology joined.dim) joined.dim (generators_of p.topology joined) cause → IsPerformed (addgen name part p) (Err (refusal_of_generators cause))
-addgen_refuses name part p new joined generators.NoPoint law read e f lacks is =
-    refused_late (addgen name part p).conditions NoPoint (addgen_early name part p) read.faultless (inl (record { system = new; read = read.read; holds = subst LacksPoint f (lacks.0 refl) }, refl))
-addgen_refuses name part p new joined (generators.Overflow over) law read e f lacks is =
-    let has : ¬ (LacksPoint joined.list) = λ (k : LacksPoint joined.list). let never : unmade (generators.Overflow over) ≡ unmade generators.NoPoint = lacks.1 k in cc in
-    (addgen_passes name part p new law read (subst (λ (list : List Generator). ¬ (LacksPoint list)) f has), record { system = new; read = read.read; holds = subst (λ (gs : Generators). LeavesOnGenerators p.topology gs over) (same_generators p.gens new joined e f) is })
-addgen_refuses name part p new joined generators.Memory law read e f lacks is = tt
+pub addgen_refuses : (name : List ℕ) (part : Part) (p : Polyhedron) (new : Generators) (cause : GenErr) → GensHasOneAnswer → ReadsGenerators p.topology p.gens.dim part new → p.cons.dim ≡ p.gens.dim → (unmade cause ≡ unmade generators.NoPoint) ↔ LacksPoint (p.gens.list ++ new.list) → IsGenOverflowOn (list_width p.topology p.cons.dim) p.cons.dim (generators_of p.topology (with_generators p new)) cause → IsPerformed (addgen name part p) (Err (refusal_of_generators cause))
+addgen_refuses name part p new generators.NoPoint law read e lacks is =
+    refused_late (addgen name part p).conditions NoPoint (addgen_early name part p) read.faultless (inl (record { system = new; read = read.read; holds = lacks.0 refl }, refl))
+addgen_refuses name part p new (generators.Overflow over) law read e lacks is =
+    let has : ¬ (LacksPoint (p.gens.list ++ new.list)) = λ (k : LacksPoint (p.gens.list ++ new.list)). let never : unmade (generators.Overflow over) ≡ unmade generators.NoPoint = lacks.1 k in cc in
+    (addgen_passes name part p new law read has, record { system = new; read = read.read; holds = subst (λ (dim : ℕ). LeavesOnGenerators p.topology (generators_over dim (p.gens.list ++ new.list)) over) e is })
+addgen_refuses name part p new generators.Memory law read e lacks is = tt

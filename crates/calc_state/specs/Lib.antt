@@ -12,6 +12,7 @@ pub mod Widening
 pub mod Files
 pub mod Systems
 pub mod Changes
+pub mod Families
 pub mod Meanings
 pub mod State
 pub mod Step

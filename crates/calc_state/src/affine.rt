@@ -86,7 +86,7 @@ pub fn project<L: Ledger>(
 }
 
 /// Whether two operands have one topology.
-fn have_one_topology(p: &Poly, q: &Poly) -> bool
+pub(crate) fn have_one_topology(p: &Poly, q: &Poly) -> bool
     ensures { MatchBool result (p.now.topology ≡ q.now.topology) (p.now.topology ≢ q.now.topology) }
 {
     p.topology() == q.topology()

@@ -5,6 +5,7 @@ ghost use Rattle.calc_state.specs.Meaning.{on_one, on_two};
 ghost use Rattle.calc_state.specs.Lattice.{meet as make_meet, hull as make_hull, closure as make_closure, contains as ask_contains, equal as ask_equal, disjoint as ask_disjoint, isempty as ask_empty, shown_rows};
 ghost use Rattle.calc_state.specs.Step.{IsPerformed};
 
+use crate::affine::have_one_topology;
 use crate::change::Change;
 use crate::entry::Entry;
 use crate::names::Names;
@@ -61,7 +62,7 @@ pub fn hull<L: Ledger>(
     let (Some(p), Some(q)) = (p, q) else {
         return Err(StepErr::Input(Fault::UnknownName));
     };
-    if p.topology() != q.topology() {
+    if !have_one_topology(p, q) {
         return Err(StepErr::Input(Fault::TopologyMismatch));
     }
     if p.dim() != q.dim() {

@@ -19,7 +19,6 @@ use crate::refusal::StepErr;
 use crate::texts::{constraints_of, generators_of};
 use expr_text::one_answer;
 use gens_sys::GensSys;
-use pair_laws::stored_systems::stored_is_closed;
 use poly_pair::{MAX_DIM, Poly, Topology, has_point_kind};
 use reply_text::{Fault, Text};
 use row_core::Steps;
@@ -184,7 +183,6 @@ pub fn add<L: Ledger>(
     requires told { part.now.strict ≡ is_strict part.now.text }
     ensures { IsPerformed (on_one (option_copied p.entry) (add_to name part.now)) result }
 {
-    stored_is_closed();
     let Some(p) = p else {
         return Err(StepErr::Input(Fault::UnknownName));
     };
@@ -193,8 +191,7 @@ pub fn add<L: Ledger>(
         Ok(more) => more,
         Err(cause) => return Err(cause),
     };
-    let all = p.cons().followed_by(alloc, &more)?;
-    match Poly::from_cons(alloc, topology, &all, steps) {
+    match p.add_cons(alloc, &more, steps) {
         Ok(made) => Ok(Change::Puts(name, Entry::Poly(made))),
         Err(cause) => Err(StepErr::from(cause)),
     }
@@ -213,7 +210,6 @@ pub fn addgen<L: Ledger>(
     ensures { IsPerformed (on_one (option_copied p.entry) (addgen_to name part.now)) result }
 {
     one_answer();
-    stored_is_closed();
     let Some(p) = p else {
         return Err(StepErr::Input(Fault::UnknownName));
     };
@@ -222,8 +218,7 @@ pub fn addgen<L: Ledger>(
         Ok(more) => more,
         Err(cause) => return Err(cause),
     };
-    let all = p.gens().followed_by(alloc, &more)?;
-    match Poly::from_gens(alloc, topology, &all, steps) {
+    match p.add_gens(alloc, &more, steps) {
         Ok(made) => Ok(Change::Puts(name, Entry::Poly(made))),
         Err(cause) => Err(StepErr::from(cause)),
     }

@@ -4,6 +4,7 @@ ghost use Rattle.script_text.specs.Line.{PartsMatch, PartsTold};
 ghost use Rattle.calc_state.specs.Meanings.{topology_of as named_topology, meaning};
 ghost use Rattle.calc_state.specs.Step.{IsPerformed};
 ghost use Rattle.calc_state.specs.Changes.{ChangesSystem};
+ghost use Rattle.calc_state.specs.Families.{Makes, Asks, Combines, Maps};
 
 use crate::affine::{concat, elapse, embed, image, preimage, project, remove};
 use crate::change::Change;
@@ -30,8 +31,8 @@ fn topology_of(nnc: bool) -> Topology
     if nnc { Topology::Nnc } else { Topology::Closed }
 }
 
-/// What a command does, or why it is refused.
-pub fn change_of<L: Ledger>(
+/// What a command that makes or changes a polyhedron by its words does, or why it is refused.
+fn made<L: Ledger>(
     alloc: Global,
     names: &Names,
     command: Command,
@@ -39,11 +40,10 @@ pub fn change_of<L: Ledger>(
 ) -> Result<Change, StepErr>
     requires forms { PartsMatch command }
     requires told { PartsTold command }
-    requires whole { ¬ (ChangesSystem command) }
+    requires family { Makes command }
     ensures { IsPerformed (meaning names.now command) result }
 {
     match command {
-        Command::Nothing => Ok(Change::Says(Text::new(alloc))),
         Command::Cons {
             out,
             top,
@@ -68,19 +68,27 @@ pub fn change_of<L: Ledger>(
             let found = names.poly(p.bytes());
             addgen(alloc, p, found, &part, steps)
         }
+        _ => unreachable!(),
+    }
+}
+
+/// What a question does, or why it is refused.
+fn asked<L: Ledger>(
+    alloc: Global,
+    names: &Names,
+    command: Command,
+    steps: &mut Steps<L>,
+) -> Result<Change, StepErr>
+    requires forms { PartsMatch command }
+    requires told { PartsTold command }
+    requires family { Asks command }
+    ensures { IsPerformed (meaning names.now command) result }
+{
+    match command {
         Command::Has { p, point: part } => has(alloc, names.poly(p.bytes()), &part),
         Command::Size { p } => size(alloc, names.poly(p.bytes())),
         Command::Print { side, p } => print(alloc, side, names.poly(p.bytes())),
         Command::Names => name_list(alloc, names),
-        Command::Meet { out, p, q } => {
-            let (one, other) = (names.poly(p.bytes()), names.poly(q.bytes()));
-            meet(alloc, names, out, one, other, steps)
-        }
-        Command::Hull { out, p, q } => {
-            let (one, other) = (names.poly(p.bytes()), names.poly(q.bytes()));
-            hull(alloc, names, out, one, other, steps)
-        }
-        Command::Closure { out, p } => closure(alloc, names, out, names.poly(p.bytes()), steps),
         Command::Contains { p, q } => {
             contains(alloc, names.poly(p.bytes()), names.poly(q.bytes()))
         }
@@ -92,10 +100,33 @@ pub fn change_of<L: Ledger>(
         Command::Relation { p, con: part } => relation(alloc, names.poly(p.bytes()), &part),
         Command::Max { p, expr: part } => bound(alloc, true, names.poly(p.bytes()), &part),
         Command::Min { p, expr: part } => bound(alloc, false, names.poly(p.bytes()), &part),
-        Command::Embed { out, p, n } => embed(alloc, names, out, names.poly(p.bytes()), n, steps),
-        Command::Project { out, p, n } => {
-            project(alloc, names, out, names.poly(p.bytes()), n, steps)
+        Command::Write { p, form } => write(alloc, form, names.poly(p.bytes())),
+        _ => unreachable!(),
+    }
+}
+
+/// What a command that puts a set made of one or two others does, or why it is refused.
+fn combined<L: Ledger>(
+    alloc: Global,
+    names: &Names,
+    command: Command,
+    steps: &mut Steps<L>,
+) -> Result<Change, StepErr>
+    requires forms { PartsMatch command }
+    requires told { PartsTold command }
+    requires family { Combines command }
+    ensures { IsPerformed (meaning names.now command) result }
+{
+    match command {
+        Command::Meet { out, p, q } => {
+            let (one, other) = (names.poly(p.bytes()), names.poly(q.bytes()));
+            meet(alloc, names, out, one, other, steps)
         }
+        Command::Hull { out, p, q } => {
+            let (one, other) = (names.poly(p.bytes()), names.poly(q.bytes()));
+            hull(alloc, names, out, one, other, steps)
+        }
+        Command::Closure { out, p } => closure(alloc, names, out, names.poly(p.bytes()), steps),
         Command::Concat { out, p, q } => {
             let (one, other) = (names.poly(p.bytes()), names.poly(q.bytes()));
             concat(alloc, names, out, one, other, steps)
@@ -103,6 +134,31 @@ pub fn change_of<L: Ledger>(
         Command::Elapse { out, p, q } => {
             let (one, other) = (names.poly(p.bytes()), names.poly(q.bytes()));
             elapse(alloc, names, out, one, other, steps)
+        }
+        Command::Widen { out, p, q } => {
+            let (one, other) = (names.poly(p.bytes()), names.poly(q.bytes()));
+            widen(alloc, names, out, one, other, steps)
+        }
+        _ => unreachable!(),
+    }
+}
+
+/// What a command that puts an image of a set does, or why it is refused.
+fn mapped<L: Ledger>(
+    alloc: Global,
+    names: &Names,
+    command: Command,
+    steps: &mut Steps<L>,
+) -> Result<Change, StepErr>
+    requires forms { PartsMatch command }
+    requires told { PartsTold command }
+    requires family { Maps command }
+    ensures { IsPerformed (meaning names.now command) result }
+{
+    match command {
+        Command::Embed { out, p, n } => embed(alloc, names, out, names.poly(p.bytes()), n, steps),
+        Command::Project { out, p, n } => {
+            project(alloc, names, out, names.poly(p.bytes()), n, steps)
         }
         Command::Image {
             out,
@@ -125,12 +181,55 @@ pub fn change_of<L: Ledger>(
         Command::Remove { out, p, vars } => {
             remove(alloc, names, out, names.poly(p.bytes()), &vars, steps)
         }
-        Command::Read { .. } => Ok(Change::Says(Text::new(alloc))),
-        Command::Write { p, form } => write(alloc, form, names.poly(p.bytes())),
-        Command::Widen { out, p, q } => {
-            let (one, other) = (names.poly(p.bytes()), names.poly(q.bytes()));
-            widen(alloc, names, out, one, other, steps)
-        }
+        _ => unreachable!(),
+    }
+}
+
+/// What a command does, or why it is refused.
+pub fn change_of<L: Ledger>(
+    alloc: Global,
+    names: &Names,
+    command: Command,
+    steps: &mut Steps<L>,
+) -> Result<Change, StepErr>
+    requires forms { PartsMatch command }
+    requires told { PartsTold command }
+    requires whole { ¬ (ChangesSystem command) }
+    ensures { IsPerformed (meaning names.now command) result }
+{
+    match command {
+        Command::Nothing | Command::Read { .. } => Ok(Change::Says(Text::new(alloc))),
+        Command::Cons { .. }
+        | Command::Gens { .. }
+        | Command::Universe { .. }
+        | Command::Empty { .. }
+        | Command::Copy { .. }
+        | Command::Drop { .. }
+        | Command::Add { .. }
+        | Command::Addgen { .. } => { made(alloc, names, command, steps) }
+        Command::Has { .. }
+        | Command::Size { .. }
+        | Command::Print { .. }
+        | Command::Names
+        | Command::Contains { .. }
+        | Command::Equal { .. }
+        | Command::Disjoint { .. }
+        | Command::Isempty { .. }
+        | Command::Relation { .. }
+        | Command::Max { .. }
+        | Command::Min { .. }
+        | Command::Write { .. } => { asked(alloc, names, command, steps) }
+        Command::Meet { .. }
+        | Command::Hull { .. }
+        | Command::Closure { .. }
+        | Command::Concat { .. }
+        | Command::Elapse { .. }
+        | Command::Widen { .. } => { combined(alloc, names, command, steps) }
+        Command::Embed { .. }
+        | Command::Project { .. }
+        | Command::Image { .. }
+        | Command::Preimage { .. }
+        | Command::Remove { .. } => { mapped(alloc, names, command, steps) }
         Command::System { out, n, l } => system(alloc, names, out, n, l),
         Command::Fixpoint { s, delay, prefix } => {
             fixpoint(alloc, names, names.system(s.bytes()), delay, prefix, steps)

@@ -4,7 +4,7 @@ use Rattle.script_text.specs.declared.command.Command.{Command}
 use Rattle.calc_state.specs.Makers.{cons, gens}
 use Rattle.calc_state.specs.Meanings.{meaning}
 use Rattle.calc_state.specs.Step.{IsPerformed}
-use Rattle.calc_state.proofs.perform.change_of.Goals as goal
+use Rattle.calc_state.proofs.perform.made.Goals as goal
 
 pub returns-in-Cons : goal.returns-in-Cons
 returns-in-Cons g c =
