@@ -42,15 +42,6 @@ changed_seen Related w n sp len room i cells new old laid long e in_i h =
     } in
     subst (λ (o : Flat ℤ). IsRowChanged Related i o (seen_flat w n sp new)) e whole
 
-negated_times : (x : ℤ) → neg_ℤ x ≡ neg_ℤ (pos 1) *ℤ x
-negated_times x = omega (arith, ints)
-
--- a row whose entries are those of another with their signs changed
-pub negated_is : (old new : List ℤ) → length new ≡ length old → ((j : ℕ) → j < length old → cell new j ≡ neg_ℤ (cell old j)) → IsNegated old new
-negated_is old new wide cells =
-    ext_get_or (pos 0) new (scale (neg_ℤ (pos 1)) old) (wide ∙ sym (length-scale (neg_ℤ (pos 1)) old))
-    (λ j h. cells j (omega (arith, h, wide)) ∙ negated_times (cell old j) ∙ sym (cell-scale (neg_ℤ (pos 1)) old j))
-
 -- what holds of all numbers holds where each was one of them before
 all_from : (P : ℤ → Type 0) (xs ys : List ℤ) → All P xs → ((k : ℕ) → k < length ys → (m : ℕ) × (m < length xs) × (get_or ys k (pos 0) ≡ get_or xs m (pos 0))) → All P ys
 all_from P xs ys all from = All-from_get_or P ys (pos 0) (λ k h. let f = from k h in subst P (sym f.2) (all f.0 (pos 0) f.1))
