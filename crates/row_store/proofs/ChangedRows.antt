@@ -3,14 +3,10 @@ use Rattle.std.proofs.Common.{◌≡◌, ℕ, ◌+◌, ◌-◌, ◌*◌, ◌<◌
 use Rattle.std.specs.Prelude.{All}
 use Rattle.std.proofs.lemmas.List.Elements.{All-from_get_or}
 use Rattle.std.proofs.lemmas.Bool.{cases_lt}
-use Rattle.std.proofs.Math.IntN.{neg_ℤ, ◌*ℤ◌}
-use Rattle.std.proofs.lemmas.Int.{ints}
-use Rattle.std.proofs.lemmas.List.{ext_get_or, take_at}
+use Rattle.std.proofs.lemmas.List.{take_at}
 use borrow.Rule.Slice.PartMut.{put_mid}
-use Rattle.row_core.specs.Vectors.{cell, scale}
-use Rattle.row_core.proofs.CellLemmas.{cell-scale, length-scale}
 use Rattle.row_core.specs.Flat.{Flat, entries_at, rows_of, IsLaidOut}
-use Rattle.row_store.specs.Stores.{window, IsNegated, IsPartChanged, IsRowChanged}
+use Rattle.row_store.specs.Stores.{window, IsPartChanged, IsRowChanged}
 use Rattle.row_core.proofs.Flat.{row_end, entries_at-rows_of, seen_flat, seen, push_seen, length_row, IsCopied}
 use Rattle.row_store.proofs.Parts.{rows_of-with_window, with_window_is}
 
