@@ -12,3 +12,4 @@ pub mod Entries
 pub mod Axes
 pub mod Starts
 pub mod Additions
+pub mod Spanning
