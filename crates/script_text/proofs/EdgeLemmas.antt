@@ -7,7 +7,7 @@ use Rattle.std.proofs.lemmas.Bool.Decides.{eqb_tells}
 use Rattle.grammar.specs.Form.{Form, word, byte, seq, alt, many, upto, Times, Matches}
 use Rattle.grammar.specs.Avoids.{avoids}
 use Rattle.grammar.proofs.AvoidedByte.{avoids_sound}
-use Rattle.script_text.specs.Words.{is_blank, is_in_word}
+use Rattle.script_text.specs.Words.{is_blank, is_sign, is_in_word, is_before_sign}
 use Rattle.script_text.proofs.WordLemmas.{Each, Stops, IsWord}
 
 -- no text of the form is empty
@@ -41,8 +41,14 @@ ends_other (upto k f) b = ends_other f b
 pub eqb-false_of : (a b : ℕ) → a ≢ b → eqb a b ≡ false
 eqb-false_of a b h = elim (eqb_tells a b) [ inl e ↦ absurd (h e.1) | inr e ↦ e.0 ]
 
-in_word : (b : ℕ) → b ≢ 32 → b ≢ 9 → b ≢ 58 → b ≢ 35 → is_in_word b ≡ true
-in_word b h k l m = rw (eqb-false_of b 32 h, eqb-false_of b 9 k, eqb-false_of b 58 l, eqb-false_of b 35 m)
+before_sign : (b : ℕ) → b ≢ 58 → b ≢ 60 → b ≢ 61 → b ≢ 62 → is_before_sign b ≡ true
+before_sign b h k l m = rw (eqb-false_of b 58 h, eqb-false_of b 60 k, eqb-false_of b 61 l, eqb-false_of b 62 m)
+
+none_of_four : (x y z s : Bool) → x ≡ false → y ≡ false → z ≡ false → not s ≡ true → not (((x || y) || z) || s) ≡ true
+none_of_four x y z s h k l m = rw (h, k, l) m
+
+in_word : (b : ℕ) → b ≢ 32 → b ≢ 9 → b ≢ 35 → is_before_sign b ≡ true → is_in_word b ≡ true
+in_word b h k l m = none_of_four (eqb b 32) (eqb b 9) (eqb b 35) (is_sign b) (eqb-false_of b 32 h) (eqb-false_of b 9 k) (eqb-false_of b 35 l) m
 
 not_blank : (b : ℕ) → b ≢ 32 → b ≢ 9 → is_blank b ≡ false
 not_blank b h k = rw (eqb-false_of b 32 h, eqb-false_of b 9 k)
@@ -53,11 +59,18 @@ there b w c (i, h, e) = (suc i, omega arith, e)
 here : (b : ℕ) (w : List ℕ) (c : ℕ) → b ≡ c → Contains (b ∷ w) c
 here b w c e = (zero, omega arith, e)
 
-each_in_word : (w : List ℕ) → (Contains w 32 → ⊥) → (Contains w 9 → ⊥) → (Contains w 58 → ⊥) → (Contains w 35 → ⊥) → Each is_in_word w
+each_before_sign : (w : List ℕ) → (Contains w 58 → ⊥) → (Contains w 60 → ⊥) → (Contains w 61 → ⊥) → (Contains w 62 → ⊥) → Each is_before_sign w
+each_before_sign [] h k l m = tt
+each_before_sign (b ∷ w) h k l m = (
+  before_sign b (λ e. h (here b w 58 e)) (λ e. k (here b w 60 e)) (λ e. l (here b w 61 e)) (λ e. m (here b w 62 e)),
+  each_before_sign w (λ c. h (there b w 58 c)) (λ c. k (there b w 60 c)) (λ c. l (there b w 61 c)) (λ c. m (there b w 62 c)),
+)
+
+each_in_word : (w : List ℕ) → (Contains w 32 → ⊥) → (Contains w 9 → ⊥) → (Contains w 35 → ⊥) → Each is_before_sign w → Each is_in_word w
 each_in_word [] h k l m = tt
 each_in_word (b ∷ w) h k l m = (
-  in_word b (λ e. h (here b w 32 e)) (λ e. k (here b w 9 e)) (λ e. l (here b w 58 e)) (λ e. m (here b w 35 e)),
-  each_in_word w (λ c. h (there b w 32 c)) (λ c. k (there b w 9 c)) (λ c. l (there b w 58 c)) (λ c. m (there b w 35 c)),
+  in_word b (λ e. h (here b w 32 e)) (λ e. k (here b w 9 e)) (λ e. l (here b w 35 e)) m.0,
+  each_in_word w (λ c. h (there b w 32 c)) (λ c. k (there b w 9 c)) (λ c. l (there b w 35 c)) m.1,
 )
 
 each_other : (w : List ℕ) (x : ℕ) → (Contains w x → ⊥) → Each (λ b. not (eqb b x)) w
@@ -67,6 +80,18 @@ each_other (b ∷ w) x h = (ap not (eqb-false_of b x (λ e. h (here b w x e))), 
 -- each byte of a text of the form is another one
 pub each_by : (f : Form) (w : List ℕ) (x : ℕ) → avoids f x ≡ true → Matches f w → Each (λ b. not (eqb b x)) w
 each_by f w x e m = each_other w x (avoids_sound f x w e m)
+
+-- no text of the form has a colon or a byte of a relation
+abbrev pub avoids_signs : Form → Bool
+avoids_signs f = avoids f 58 && (avoids f 60 && (avoids f 61 && avoids f 62))
+
+-- each byte of a text of such a form stands before a colon or relation
+pub before_sign_by : (f : Form) (w : List ℕ) → avoids_signs f ≡ true → Matches f w → Each is_before_sign w
+before_sign_by f w e m =
+    let p = and_parts (avoids f 58) (avoids f 60 && (avoids f 61 && avoids f 62)) e in
+    let q = and_parts (avoids f 60) (avoids f 61 && avoids f 62) p.1 in
+    let r = and_parts (avoids f 61) (avoids f 62) q.1 in
+    each_before_sign w (avoids_sound f 58 w p.0 m) (avoids_sound f 60 w q.0 m) (avoids_sound f 61 w r.0 m) (avoids_sound f 62 w r.1 m)
 
 or_parts : (x y : Bool) → (x || y) ≡ true → (x ≡ true) ⊎ (y ≡ true)
 or_parts true y e = inl refl
@@ -156,7 +181,7 @@ no_blank_first (b ∷ w) h k = not_blank b (λ e. h w (ap (λ (c : ℕ). c ∷ w
 
 -- each text of the form is a word
 abbrev pub word_good : Form → Bool
-word_good f = never_empty f && (avoids f 32 && (avoids f 9 && (avoids f 58 && avoids f 35)))
+word_good f = never_empty f && (avoids f 32 && (avoids f 9 && (avoids f 35 && avoids_signs f)))
 
 word_from : (w : List ℕ) → (w ≡ [] → ⊥) → Each is_in_word w → IsWord w
 word_from [] h e = absurd (h refl)
@@ -164,9 +189,9 @@ word_from (b ∷ w) h e = record { first = b; others = w; is = refl; each = e }
 
 pub good_word : (f : Form) (w : List ℕ) → word_good f ≡ true → Matches f w → IsWord w
 good_word f w e m =
-    let p = and_parts (never_empty f) (avoids f 32 && (avoids f 9 && (avoids f 58 && avoids f 35))) e in
-    let q = and_parts (avoids f 32) (avoids f 9 && (avoids f 58 && avoids f 35)) p.1 in
-    let r = and_parts (avoids f 9) (avoids f 58 && avoids f 35) q.1 in
-    let s = and_parts (avoids f 58) (avoids f 35) r.1 in
+    let p = and_parts (never_empty f) (avoids f 32 && (avoids f 9 && (avoids f 35 && avoids_signs f))) e in
+    let q = and_parts (avoids f 32) (avoids f 9 && (avoids f 35 && avoids_signs f)) p.1 in
+    let r = and_parts (avoids f 9) (avoids f 35 && avoids_signs f) q.1 in
+    let s = and_parts (avoids f 35) (avoids_signs f) r.1 in
     word_from w (λ h. not_empty f p.0 (subst (λ (x : List ℕ). Matches f x) h m))
-    (each_in_word w (avoids_sound f 32 w q.0 m) (avoids_sound f 9 w r.0 m) (avoids_sound f 58 w s.0 m) (avoids_sound f 35 w s.1 m))
+    (each_in_word w (avoids_sound f 32 w q.0 m) (avoids_sound f 9 w r.0 m) (avoids_sound f 35 w s.0 m) (before_sign_by f w s.1 m))

@@ -1,8 +1,8 @@
 -- The parts of a command have their forms.
-use Rattle.std.proofs.Common.{ℕ, List, [], Option, Some, None, refl, sym, append-nil}
+use Rattle.std.proofs.Common.{ℕ, List, [], Bool, true, false, Option, Some, None, refl, sym, append-nil}
 use Rattle.grammar.specs.Form.{Form, Matches}
 use Rattle.grammar.specs.Grammar.{alone, expr, vexpr, frac, vfrac, con, cons, point, gen, gens}
-use Rattle.script_text.specs.Rows.{Shape, shape_of, tail_form, line_form, row_form}
+use Rattle.script_text.specs.Rows.{Shape, shape_of, tail_of, line_form, row_form}
 use Rattle.script_text.specs.Fields.{Fields, part_by, fields_by, fields_of_row}
 use Rattle.script_text.specs.Commands.{command_of}
 use Rattle.script_text.specs.Line.{PartsMatch, PartsTold}
@@ -17,12 +17,13 @@ abbrev PartIs : Option Form → List ℕ → Type 0
 PartIs None u = Unit {0}
 PartIs (Some f) u = Matches (alone f) u
 
-tail_part : (o : Option Form) (t : List ℕ) (m : Matches (tail_form o) t) → PartIs o (part_by o t m)
-tail_part None t m = tt
-tail_part (Some f) t (b, x, e, before, (colon, y, e2, is_colon, (c, z, e3, behind, (u, d, e4, is, end)))) = alone_from f u is
+tail_part : (relates : Bool) (o : Option Form) (t : List ℕ) (m : Matches (tail_of relates o) t) → PartIs o (part_by relates o t m)
+tail_part relates None t m = tt
+tail_part true (Some f) t (b, x, e, before, (sign, y, e2, is_sign, (c, z, e3, behind, (u, d, e4, is, end)))) = alone_from f u is
+tail_part false (Some f) t (b, x, e, before, (colon, y, e2, is_colon, (c, z, e3, behind, (u, d, e4, is, end)))) = alone_from f u is
 
 line_part : (shape : Shape) (w : List ℕ) (m : Matches (line_form shape) w) → PartIs shape.part (fields_by shape w m).part
-line_part shape w (b, x, e, before, (named, rest, e2, is, (ws, y, e3, in_words, (t, c, e4, tail, commented)))) = tail_part shape.part t tail
+line_part shape w (b, x, e, before, (named, rest, e2, is, (ws, y, e3, in_words, (t, c, e4, tail, commented)))) = tail_part shape.relates shape.part t tail
 
 -- each part of the command of a line has its form
 pub parts_match : (row : Row) (w : List ℕ) (m : Matches (row_form row) w) → PartsMatch (command_of row (fields_of_row row w m))

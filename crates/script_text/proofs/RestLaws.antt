@@ -1,32 +1,33 @@
 -- The fields of what stands behind a command word are its words.
-use Rattle.std.proofs.Common.{◌≡◌, ℕ, ◌+◌, ◌-◌, ◌≤◌, List, [], ◌∷◌, ◌++◌, Bool, true, false, ◌&&◌, zero, suc, Option, Some, None, refl, ap, sym, ◌∙◌, arith, append_assoc, append-nil, subst, inl, inr, length, take, drop, reverse}
+use Rattle.std.proofs.Common.{◌≡◌, ℕ, ◌+◌, ◌-◌, ◌≤◌, ◌⊎◌, if◌then◌else◌, List, [], ◌∷◌, ◌++◌, Bool, true, false, ◌&&◌, zero, suc, Option, Some, None, refl, ap, sym, ◌∙◌, arith, append_assoc, append-nil, subst, inl, inr, length, take, drop, reverse}
 use Rattle.std.specs.List.{take_while}
 use Rattle.std.proofs.lemmas.Bool.{and_parts}
 use Rattle.std.proofs.lemmas.List.{reverse-append, length-reverse, length-append}
-use Rattle.std.proofs.Math.Seq.{take-append_seam}
+use Rattle.std.proofs.Math.Seq.{take-append_seam, drop-append_seam}
 use Rattle.grammar.specs.Form.{Form, word, Times, Matches}
-use Rattle.grammar.specs.Grammar.{◌·◌, blank, blanks, gap, perhaps, comment}
+use Rattle.grammar.specs.Grammar.{◌·◌, ◌∣◌, symbol, blank, blanks, gap, perhaps, alone, rel, comment}
 use Rattle.grammar.specs.Avoids.{avoids}
-use Rattle.script_text.specs.Words.{is_blank, is_in_word, is_before_colon, is_before_comment, past_blanks, before_blanks, without_blanks, word_of, behind_word, nth_word, before_comment, behind_colon, part_of}
-use Rattle.script_text.specs.Rows.{Shape, words_form, tail_form, rest_form, line_form}
-use Rattle.script_text.specs.Fields.{Fields, at, words_by, part_by, rest_fields_by, fields_by, fields_in}
+use Rattle.script_text.specs.Words.{is_blank, is_in_word, is_before_sign, is_before_comment, begins_with, past_blanks, before_blanks, without_blanks, word_of, behind_word, nth_word, before_comment, from_sign, sign_len, sign_in, behind_sign, sign_of, part_of}
+use Rattle.script_text.specs.Rows.{Shape, words_form, tail_of, rest_form, line_form}
+use Rattle.script_text.specs.Fields.{Fields, at, words_by, sign_by, part_by, rest_fields_by, fields_by, fields_in}
 use Rattle.script_text.proofs.WordLemmas.{Each, Stops, take_while-append, drop-take_while-append, word_of-append, behind_word-append}
-use Rattle.script_text.proofs.EdgeLemmas.{never_empty, begins_other, ends_other, not_empty, each_by, begins_sound, ends_sound, no_blank_first, word_good, good_word, Each-append, Each-reverse}
+use Rattle.script_text.proofs.EdgeLemmas.{eqb-false_of, never_empty, begins_other, ends_other, not_empty, each_by, avoids_signs, before_sign_by, BeginsOther, begins_sound, ends_sound, no_blank_first, word_good, good_word, Each-append, Each-reverse}
 
 abbrev pub all_good : List Form → Bool
 all_good [] = true
 all_good (f ∷ fs) = word_good f && all_good fs
 
--- no text of the form is empty, or begins or ends with a blank
+-- no text of the form is empty, or begins or ends with a blank, or begins with =
 abbrev pub part_good : Option Form → Bool
 part_good None = true
-part_good (Some f) = never_empty f && (begins_other f 32 && (begins_other f 9 && (ends_other f 32 && ends_other f 9)))
+part_good (Some f) = never_empty f && (begins_other f 32 && (begins_other f 9 && (ends_other f 32 && (ends_other f 9 && begins_other (alone f) 61))))
 
--- the words of the lines of the shape are words, no colon stands before the part and no # before a comment, and
--- the part has no blanks around it
+-- the words of the lines of the shape are words, no colon or relation stands before the part and no # before a comment,
+-- and the part has no blanks around it
 abbrev pub is_good : Shape → Bool
 is_good shape =
-    word_good (word shape.command) && (all_good shape.words && (avoids (words_form shape.words) 58 && (avoids (words_form shape.words) 35 && (avoids (tail_form shape.part) 35 && part_good shape.part))))
+    word_good (word shape.command)
+    && (all_good shape.words && (avoids_signs (words_form shape.words) && (avoids (words_form shape.words) 35 && (avoids (tail_of shape.relates shape.part) 35 && part_good shape.part))))
 
 pub Each-times : (p : ℕ → Bool) (P : List ℕ → Type 0) → ((u : List ℕ) → P u → Each p u) → (n : ℕ) (w : List ℕ) → Times P n w → Each p w
 Each-times p P each zero w e = subst (Each p) (sym e) tt
@@ -84,17 +85,53 @@ begins_comment : (p : ℕ → Bool) (c : List ℕ) → p 35 ≡ false → Matche
 begins_comment p c h (inl e) = subst (Stops p) (sym e) tt
 begins_comment p c h (inr (u, v, e, (b, low, high, eb), any)) = subst (Stops p) (sym (e ∙ ap (λ x. x ++ v) eb)) (ap p (is_byte b 35 low high) ∙ h)
 
--- the colon and what stands behind it
-colon_at : (t colon part : List ℕ) (b : ℕ) → 58 ≤ b → b ≤ 58 → colon ≡ b ∷ [] → t ≡ colon ++ part → t ≡ 58 ∷ part
-colon_at t colon part b low high eb e = let is : b ≡ 58 = is_byte b 58 low high in rw (e, eb, is)
+-- a colon or a relation: it ends a word, and its length is told by its bytes and that no = stands behind it
+pub record IsSign (s : List ℕ) : Type 0 where
+  pub no_blank : (t : List ℕ) → Stops is_blank (s ++ t)
+  pub no_word : (t : List ℕ) → Stops is_in_word (s ++ t)
+  pub found : (t : List ℕ) → Stops is_before_sign (s ++ t)
+  pub long : (t : List ℕ) → begins_with 61 t ≡ false → sign_len (s ++ t) ≡ length s
 
-append_at : (t b x c part : List ℕ) → t ≡ b ++ x → x ≡ 58 ∷ part → t ++ c ≡ b ++ (58 ∷ (part ++ c))
-append_at t b x c part e d = rw (e, d) (simp append_assoc)
+if_not_next : (b : Bool) → b ≡ false → ◌≡◌ {A = ℕ} (if b then 2 else 1) 1
+if_not_next b e = rw e
 
-tail_ends : (o : Option Form) (t c : List ℕ) → Matches (tail_form o) t → Matches (perhaps comment) c → Ends (t ++ c)
-tail_ends None t c m n = ends_at (t ++ c) t c refl m (begins_comment is_blank c refl n) (begins_comment is_in_word c refl n)
-tail_ends (Some f) t c (b, x, e, before, (colon, part, e2, (d, low, high, ed), is)) n =
-    ends_at (t ++ c) b (58 ∷ (part ++ c)) (append_at t b x c part e (colon_at x colon part d low high ed e2)) before refl refl
+one_sign : (b : ℕ) → (b ≡ 58) ⊎ (b ≡ 61) → IsSign (b ∷ [])
+one_sign b (inl e) = subst (λ (x : ℕ). IsSign (x ∷ [])) (sym e) (record { no_blank = λ t. refl; no_word = λ t. refl; found = λ t. refl; long = λ t h. refl })
+one_sign b (inr e) = subst (λ (x : ℕ). IsSign (x ∷ [])) (sym e) (record { no_blank = λ t. refl; no_word = λ t. refl; found = λ t. refl; long = λ t h. refl })
+
+strict_sign : (b : ℕ) → (b ≡ 60) ⊎ (b ≡ 62) → IsSign (b ∷ [])
+strict_sign b (inl e) = subst (λ (x : ℕ). IsSign (x ∷ [])) (sym e) (record { no_blank = λ t. refl; no_word = λ t. refl; found = λ t. refl; long = λ t h. if_not_next (begins_with 61 t) h })
+strict_sign b (inr e) = subst (λ (x : ℕ). IsSign (x ∷ [])) (sym e) (record { no_blank = λ t. refl; no_word = λ t. refl; found = λ t. refl; long = λ t h. if_not_next (begins_with 61 t) h })
+
+at_least_sign : IsSign (62 ∷ 61 ∷ [])
+at_least_sign = record { no_blank = λ t. refl; no_word = λ t. refl; found = λ t. refl; long = λ t h. refl }
+
+at_most_sign : IsSign (60 ∷ 61 ∷ [])
+at_most_sign = record { no_blank = λ t. refl; no_word = λ t. refl; found = λ t. refl; long = λ t h. refl }
+
+-- the sign of the cases is one
+colon_sign : (s : List ℕ) → Matches (symbol 58) s → IsSign s
+colon_sign s (b, low, high, e) = subst IsSign (sym e) (one_sign b (inl (is_byte b 58 low high)))
+
+related_sign : (s : List ℕ) → Matches (symbol 58 ∣ rel) s → IsSign s
+related_sign s (inl m) = colon_sign s m
+related_sign s (inr (inl (b, low, high, e))) = subst IsSign (sym e) (one_sign b (inr (is_byte b 61 low high)))
+related_sign s (inr (inr (inl e))) = subst IsSign (sym e) at_least_sign
+related_sign s (inr (inr (inr (inl e)))) = subst IsSign (sym e) at_most_sign
+related_sign s (inr (inr (inr (inr (inl (b, low, high, e)))))) = subst IsSign (sym e) (strict_sign b (inr (is_byte b 62 low high)))
+related_sign s (inr (inr (inr (inr (inr (b, low, high, e)))))) = subst IsSign (sym e) (strict_sign b (inl (is_byte b 60 low high)))
+
+append_at : (t b x c s part : List ℕ) → t ≡ b ++ x → x ≡ s ++ part → t ++ c ≡ b ++ (s ++ (part ++ c))
+append_at t b x c s part e d = rw (e, d) (simp append_assoc)
+
+sign_ends : (t b x c s part : List ℕ) → t ≡ b ++ x → Matches blanks b → x ≡ s ++ part → IsSign s → Ends (t ++ c)
+sign_ends t b x c s part e before d is = ends_at (t ++ c) b (s ++ (part ++ c)) (append_at t b x c s part e d) before (is.no_blank (part ++ c)) (is.no_word (part ++ c))
+
+tail_ends : (relates : Bool) (o : Option Form) (t c : List ℕ) → Matches (tail_of relates o) t → Matches (perhaps comment) c → Ends (t ++ c)
+tail_ends true None t c m n = ends_at (t ++ c) t c refl m (begins_comment is_blank c refl n) (begins_comment is_in_word c refl n)
+tail_ends false None t c m n = ends_at (t ++ c) t c refl m (begins_comment is_blank c refl n) (begins_comment is_in_word c refl n)
+tail_ends true (Some f) t c (b, x, e, before, (s, part, d, is_sign, is)) n = sign_ends t b x c s part e before d (related_sign s is_sign)
+tail_ends false (Some f) t c (b, x, e, before, (s, part, d, is_sign, is)) n = sign_ends t b x c s part e before d (colon_sign s is_sign)
 
 words_stop : (fs : List Form) (w t : List ℕ) → Matches (words_form fs) w → Stops is_in_word t → Stops is_in_word (w ++ t)
 words_stop [] w t m s = subst (λ (x : List ℕ). Stops is_in_word (x ++ t)) (sym m) s
@@ -116,13 +153,27 @@ words_law (f ∷ fs) good w t (g, r, e, between, (u, v, d, is, others)) ends (su
     ∙ (ap (nth_word i) (behind_word-append g u (v ++ t) (Each-gap g between) (good_word f u p.0 is) (words_stop fs v t others ends.stops))
     ∙ words_law fs p.1 v t others ends i)
 
-no_colon : (text : List ℕ) → Each is_before_colon text → behind_colon text ≡ []
-no_colon text h =
-    let e : drop (length (take_while is_before_colon (text ++ []))) (text ++ []) ≡ [] = drop-take_while-append is_before_colon text [] h tt in
-    ap (λ u. drop 1 (drop (length (take_while is_before_colon u)) u)) (sym (append-nil text)) ∙ ap (drop 1) e
+-- the first colon or relation of a text, and what stands behind it
+pub record IsCutAt (text s part : List ℕ) : Type 0 where
+  pub sign : sign_in text ≡ s
+  pub behind : behind_sign text ≡ part
 
-at_colon : (front part : List ℕ) → Each is_before_colon front → behind_colon (front ++ (58 ∷ part)) ≡ part
-at_colon front part h = ap (drop 1) (drop-take_while-append is_before_colon front (58 ∷ part) h refl)
+no_sign : (text : List ℕ) → Each is_before_sign text → IsCutAt text [] []
+no_sign text h =
+    let e : from_sign text ≡ [] = ap from_sign (sym (append-nil text)) ∙ drop-take_while-append is_before_sign text [] h tt in
+    record { sign = ap (λ u. take (sign_len u) u) e; behind = ap (λ u. drop (sign_len u) u) e }
+
+at_sign : (front s part : List ℕ) → Each is_before_sign front → IsSign s → begins_with 61 part ≡ false → IsCutAt (front ++ (s ++ part)) s part
+at_sign front s part h is other =
+    let e : from_sign (front ++ (s ++ part)) ≡ s ++ part = drop-take_while-append is_before_sign front (s ++ part) h (is.found part) in
+    record {
+      sign = ap (λ u. take (sign_len u) u) e ∙ (ap (λ n. take n (s ++ part)) (is.long part other) ∙ take-append_seam s part);
+      behind = ap (λ u. drop (sign_len u) u) e ∙ (ap (λ n. drop n (s ++ part)) (is.long part other) ∙ drop-append_seam s part);
+    }
+
+not_first : (w : List ℕ) → BeginsOther 61 w → begins_with 61 w ≡ false
+not_first [] h = refl
+not_first (b ∷ w) h = eqb-false_of b 61 (λ e. h w (ap (λ (c : ℕ). c ∷ w) e))
 
 less : (n k m : ℕ) → n ≡ k + m → n - m ≡ k
 less n k m e = omega arith
@@ -141,31 +192,60 @@ no_blank_before f (b ∷ u) d e m s = s
 -- a text of the form with blanks around it
 around : (f : Form) → part_good (Some f) ≡ true → (c u d : List ℕ) → Matches blanks c → Matches f u → Matches blanks d → without_blanks (c ++ (u ++ d)) ≡ u
 around f good c u d before is behind =
-    let p = and_parts (never_empty f) (begins_other f 32 && (begins_other f 9 && (ends_other f 32 && ends_other f 9))) good in
-    let q = and_parts (begins_other f 32) (begins_other f 9 && (ends_other f 32 && ends_other f 9)) p.1 in
-    let r = and_parts (begins_other f 9) (ends_other f 32 && ends_other f 9) q.1 in
-    let s = and_parts (ends_other f 32) (ends_other f 9) r.1 in
+    let p = and_parts (never_empty f) (begins_other f 32 && (begins_other f 9 && (ends_other f 32 && (ends_other f 9 && begins_other (alone f) 61)))) good in
+    let q = and_parts (begins_other f 32) (begins_other f 9 && (ends_other f 32 && (ends_other f 9 && begins_other (alone f) 61))) p.1 in
+    let r = and_parts (begins_other f 9) (ends_other f 32 && (ends_other f 9 && begins_other (alone f) 61)) q.1 in
+    let s = and_parts (ends_other f 32) (ends_other f 9 && begins_other (alone f) 61) r.1 in
+    let t = and_parts (ends_other f 9) (begins_other (alone f) 61) s.1 in
     let first : Stops is_blank u = no_blank_first u (begins_sound f 32 u q.0 is) (begins_sound f 9 u r.0 is) in
-    let last : Stops is_blank (reverse u) = no_blank_first (reverse u) (ends_sound f 32 u s.0 is) (ends_sound f 9 u s.1 is) in
+    let last : Stops is_blank (reverse u) = no_blank_first (reverse u) (ends_sound f 32 u s.0 is) (ends_sound f 9 u t.0 is) in
     ap before_blanks (drop-take_while-append is_blank c (u ++ d) (Each-blanks c before) (no_blank_before f u d p.0 is first))
     ∙ before_blanks-append u d (Each-blanks d behind) last
 
-part_at : (ws t b x c part : List ℕ) → t ≡ b ++ x → x ≡ 58 ∷ part → ws ++ t ≡ (ws ++ b) ++ (58 ∷ part)
-part_at ws t b x c part e d = rw (e, d) (simp append_assoc)
+-- no text of the part begins with =
+no_equals : (f : Form) → part_good (Some f) ≡ true → (w : List ℕ) → Matches (alone f) w → begins_with 61 w ≡ false
+no_equals f good w m =
+    let p = and_parts (never_empty f) (begins_other f 32 && (begins_other f 9 && (ends_other f 32 && (ends_other f 9 && begins_other (alone f) 61)))) good in
+    let q = and_parts (begins_other f 32) (begins_other f 9 && (ends_other f 32 && (ends_other f 9 && begins_other (alone f) 61))) p.1 in
+    let r = and_parts (begins_other f 9) (ends_other f 32 && (ends_other f 9 && begins_other (alone f) 61)) q.1 in
+    let s = and_parts (ends_other f 32) (ends_other f 9 && begins_other (alone f) 61) r.1 in
+    let t = and_parts (ends_other f 9) (begins_other (alone f) 61) s.1 in
+    not_first w (begins_sound (alone f) 61 w t.1 m)
 
--- the part of a text in which no colon stands before it
-part_law : (o : Option Form) → part_good o ≡ true → (ws t : List ℕ) → Each is_before_colon ws → (m : Matches (tail_form o) t) → without_blanks (behind_colon (ws ++ t)) ≡ part_by o t m
-part_law None good ws t h m = ap without_blanks (no_colon (ws ++ t) (Each-append is_before_colon ws t h (each_by blanks t 58 refl m)))
-part_law (Some f) good ws t h (b, x, e, before, (colon, part, e2, (a, low, high, ea), (c, y, e3, blanks1, (u, d, e4, is, blanks2)))) =
-    ap (λ z. without_blanks (behind_colon z)) (part_at ws t b x [] part e (colon_at x colon part a low high ea e2))
-    ∙ (ap without_blanks (at_colon (ws ++ b) part (Each-append is_before_colon ws b h (each_by blanks b 58 refl before)))
-    ∙ (ap without_blanks (e3 ∙ ap (λ z. c ++ z) e4) ∙ around f good c u d blanks1 is blanks2))
+part_at : (ws t b x s part : List ℕ) → t ≡ b ++ x → x ≡ s ++ part → ws ++ t ≡ (ws ++ b) ++ (s ++ part)
+part_at ws t b x s part e d = rw (e, d) (simp append_assoc)
 
-abbrev five : List ℕ → List ℕ → List ℕ → List ℕ → List ℕ → Fields
-five a b c d p = record { first = a; second = b; third = c; fourth = d; part = p }
+-- the sign and the part of a text
+pub record IsTail (text s u : List ℕ) : Type 0 where
+  pub sign : sign_in text ≡ s
+  pub part : without_blanks (behind_sign text) ≡ u
 
-same_fields : (a b c d p a2 b2 c2 d2 p2 : List ℕ) → a ≡ a2 → b ≡ b2 → c ≡ c2 → d ≡ d2 → p ≡ p2 → five a b c d p ≡ five a2 b2 c2 d2 p2
-same_fields a b c d p a2 b2 c2 d2 p2 e f g h i = rw (e, f, g, h, i)
+tail_at : (f : Form) → part_good (Some f) ≡ true → (ws t b x s part c y u d : List ℕ) → Each is_before_sign ws → t ≡ b ++ x → Matches blanks b → x ≡ s ++ part → IsSign s → Matches (alone f) part →
+    part ≡ c ++ y → y ≡ u ++ d → Matches blanks c → Matches f u → Matches blanks d → IsTail (ws ++ t) s u
+tail_at f good ws t b x s part c y u d h e before e2 is whole e3 e4 blanks1 m blanks2 =
+    let front : Each is_before_sign (ws ++ b) = Each-append is_before_sign ws b h (before_sign_by blanks b refl before) in
+    let cut : IsCutAt (ws ++ t) s part = subst (λ (z : List ℕ). IsCutAt z s part) (sym (part_at ws t b x s part e e2)) (at_sign (ws ++ b) s part front is (no_equals f good part whole)) in
+    record { sign = cut.sign; part = ap without_blanks cut.behind ∙ (ap without_blanks (e3 ∙ ap (λ z. c ++ z) e4) ∙ around f good c u d blanks1 m blanks2) }
+
+bare : (ws t : List ℕ) → Each is_before_sign ws → Matches blanks t → IsTail (ws ++ t) [] []
+bare ws t h m =
+    let cut : IsCutAt (ws ++ t) [] [] = no_sign (ws ++ t) (Each-append is_before_sign ws t h (before_sign_by blanks t refl m)) in
+    record { sign = cut.sign; part = ap without_blanks cut.behind }
+
+-- the sign and the part of a text in which no colon or relation stands before it
+tail_law : (relates : Bool) (o : Option Form) → part_good o ≡ true → (ws t : List ℕ) → Each is_before_sign ws → (m : Matches (tail_of relates o) t) → IsTail (ws ++ t) (sign_by relates o t m) (part_by relates o t m)
+tail_law true None good ws t h m = bare ws t h m
+tail_law false None good ws t h m = bare ws t h m
+tail_law true (Some f) good ws t h (b, x, e, before, (s, part, e2, is_sign, (c, y, e3, blanks1, (u, d, e4, is, blanks2)))) =
+    tail_at f good ws t b x s part c y u d h e before e2 (related_sign s is_sign) (c, y, e3, blanks1, (u, d, e4, is, blanks2)) e3 e4 blanks1 is blanks2
+tail_law false (Some f) good ws t h (b, x, e, before, (s, part, e2, is_sign, (c, y, e3, blanks1, (u, d, e4, is, blanks2)))) =
+    tail_at f good ws t b x s part c y u d h e before e2 (colon_sign s is_sign) (c, y, e3, blanks1, (u, d, e4, is, blanks2)) e3 e4 blanks1 is blanks2
+
+abbrev six : List ℕ → List ℕ → List ℕ → List ℕ → List ℕ → List ℕ → Fields
+six a b c d s p = record { first = a; second = b; third = c; fourth = d; sign = s; part = p }
+
+same_fields : (a b c d s p a2 b2 c2 d2 s2 p2 : List ℕ) → a ≡ a2 → b ≡ b2 → c ≡ c2 → d ≡ d2 → s ≡ s2 → p ≡ p2 → six a b c d s p ≡ six a2 b2 c2 d2 s2 p2
+same_fields a b c d s p a2 b2 c2 d2 s2 p2 e f g h i j = rw (e, f, g, h, i, j)
 
 rest_is : (w ws x t c : List ℕ) → w ≡ ws ++ x → x ≡ t ++ c → w ≡ (ws ++ t) ++ c
 rest_is w ws x t c e d = rw (e, d) (simp append_assoc)
@@ -174,38 +254,40 @@ rest_is w ws x t c e d = rw (e, d) (simp append_assoc)
 pub record IsGood (shape : Shape) : Type 0 where
   pub command : word_good (word shape.command) ≡ true
   pub words : all_good shape.words ≡ true
-  pub no_colon : avoids (words_form shape.words) 58 ≡ true
+  pub no_sign : avoids_signs (words_form shape.words) ≡ true
   pub no_comment : avoids (words_form shape.words) 35 ≡ true
-  pub no_comment_behind : avoids (tail_form shape.part) 35 ≡ true
+  pub no_comment_behind : avoids (tail_of shape.relates shape.part) 35 ≡ true
   pub part : part_good shape.part ≡ true
 
 pub good : (shape : Shape) → is_good shape ≡ true → IsGood shape
 good shape e =
-    let p = and_parts (word_good (word shape.command)) (all_good shape.words && (avoids (words_form shape.words) 58 && (avoids (words_form shape.words) 35 && (avoids (tail_form shape.part) 35 && part_good shape.part)))) e in
-    let q = and_parts (all_good shape.words) (avoids (words_form shape.words) 58 && (avoids (words_form shape.words) 35 && (avoids (tail_form shape.part) 35 && part_good shape.part))) p.1 in
-    let r = and_parts (avoids (words_form shape.words) 58) (avoids (words_form shape.words) 35 && (avoids (tail_form shape.part) 35 && part_good shape.part)) q.1 in
-    let s = and_parts (avoids (words_form shape.words) 35) (avoids (tail_form shape.part) 35 && part_good shape.part) r.1 in
-    let t = and_parts (avoids (tail_form shape.part) 35) (part_good shape.part) s.1 in
-    record { command = p.0; words = q.0; no_colon = r.0; no_comment = s.0; no_comment_behind = t.0; part = t.1 }
+    let p = and_parts (word_good (word shape.command)) (all_good shape.words && (avoids_signs (words_form shape.words) && (avoids (words_form shape.words) 35 && (avoids (tail_of shape.relates shape.part) 35 && part_good shape.part)))) e in
+    let q = and_parts (all_good shape.words) (avoids_signs (words_form shape.words) && (avoids (words_form shape.words) 35 && (avoids (tail_of shape.relates shape.part) 35 && part_good shape.part))) p.1 in
+    let r = and_parts (avoids_signs (words_form shape.words)) (avoids (words_form shape.words) 35 && (avoids (tail_of shape.relates shape.part) 35 && part_good shape.part)) q.1 in
+    let s = and_parts (avoids (words_form shape.words) 35) (avoids (tail_of shape.relates shape.part) 35 && part_good shape.part) r.1 in
+    let t = and_parts (avoids (tail_of shape.relates shape.part) 35) (part_good shape.part) s.1 in
+    record { command = p.0; words = q.0; no_sign = r.0; no_comment = s.0; no_comment_behind = t.0; part = t.1 }
 
 -- the fields of what stands behind a command word are its words
 pub rest_law : (shape : Shape) → IsGood shape → (w : List ℕ) (m : Matches (rest_form shape) w) → rest_fields_by shape w m ≡ fields_in w
 rest_law shape is w (ws, x, e, words, (t, c, e2, tail, commented)) =
     let nth : (i : ℕ) → at (words_by shape.words ws words) i ≡ nth_word i w =
-    λ i. sym (ap (nth_word i) (e ∙ ap (λ z. ws ++ z) e2) ∙ words_law shape.words is.words ws (t ++ c) words (tail_ends shape.part t c tail commented) i) in
+    λ i. sym (ap (nth_word i) (e ∙ ap (λ z. ws ++ z) e2) ∙ words_law shape.words is.words ws (t ++ c) words (tail_ends shape.relates shape.part t c tail commented) i) in
     let each : Each is_before_comment (ws ++ t) =
-    Each-append is_before_comment ws t (each_by (words_form shape.words) ws 35 is.no_comment words) (each_by (tail_form shape.part) t 35 is.no_comment_behind tail) in
+    Each-append is_before_comment ws t (each_by (words_form shape.words) ws 35 is.no_comment words) (each_by (tail_of shape.relates shape.part) t 35 is.no_comment_behind tail) in
     let cut : before_comment w ≡ ws ++ t = ap before_comment (rest_is w ws x t c e e2) ∙ take_while-append is_before_comment (ws ++ t) c each (begins_comment is_before_comment c refl commented) in
-    let part : part_by shape.part t tail ≡ part_of w =
-    sym (ap (λ z. without_blanks (behind_colon z)) cut ∙ part_law shape.part is.part ws t (each_by (words_form shape.words) ws 58 is.no_colon words) tail) in
-    same_fields (at (words_by shape.words ws words) 0) (at (words_by shape.words ws words) 1) (at (words_by shape.words ws words) 2) (at (words_by shape.words ws words) 3) (part_by shape.part t tail)
-    (nth_word 0 w) (nth_word 1 w) (nth_word 2 w) (nth_word 3 w) (part_of w)
-    (nth 0) (nth 1) (nth 2) (nth 3) part
+    let law : IsTail (ws ++ t) (sign_by shape.relates shape.part t tail) (part_by shape.relates shape.part t tail) =
+    tail_law shape.relates shape.part is.part ws t (before_sign_by (words_form shape.words) ws is.no_sign words) tail in
+    let sign : sign_by shape.relates shape.part t tail ≡ sign_of w = sym (ap sign_in cut ∙ law.sign) in
+    let part : part_by shape.relates shape.part t tail ≡ part_of w = sym (ap (λ z. without_blanks (behind_sign z)) cut ∙ law.part) in
+    same_fields (at (words_by shape.words ws words) 0) (at (words_by shape.words ws words) 1) (at (words_by shape.words ws words) 2) (at (words_by shape.words ws words) 3) (sign_by shape.relates shape.part t tail) (part_by shape.relates shape.part t tail)
+    (nth_word 0 w) (nth_word 1 w) (nth_word 2 w) (nth_word 3 w) (sign_of w) (part_of w)
+    (nth 0) (nth 1) (nth 2) (nth 3) sign part
 
 -- what stands behind a command word ends the word
 pub rest_stops : (shape : Shape) (w : List ℕ) → Matches (rest_form shape) w → Stops is_in_word w
 rest_stops shape w (ws, x, e, words, (t, c, e2, tail, commented)) =
-    let ends : Ends (t ++ c) = tail_ends shape.part t c tail commented in
+    let ends : Ends (t ++ c) = tail_ends shape.relates shape.part t c tail commented in
     subst (Stops is_in_word) (sym (e ∙ ap (λ z. ws ++ z) e2)) (words_stop shape.words ws (t ++ c) words ends.stops)
 
 -- a line of the shape: its first word, and what stands behind it

@@ -2,7 +2,7 @@
 use Rattle.std.proofs.Common.{◌≡◌, ℕ, ◌+◌, List, [], ◌∷◌, ◌++◌, Bool, true, false, not, ◌||◌, length, take, drop, refl, ap, sym, ◌∙◌, cond, arith, eqb, subst}
 use Rattle.std.specs.List.{prefix_len, take_while}
 use Rattle.std.proofs.Math.Seq.{take-append_seam, drop-append_seam}
-use Rattle.script_text.specs.Words.{is_blank, is_in_word, past_blanks, word_of, behind_word}
+use Rattle.script_text.specs.Words.{is_blank, is_sign, is_in_word, past_blanks, word_of, behind_word}
 
 -- each byte of the text passes the test
 abbrev pub Each : (ℕ → Bool) → List ℕ → Type 0
@@ -14,7 +14,7 @@ abbrev pub Stops : (ℕ → Bool) → List ℕ → Type 0
 Stops p [] = Unit {0}
 Stops p (b ∷ w) = p b ≡ false
 
--- a text that isn't empty and has no blank and no colon
+-- a text that isn't empty and has no blank, no colon and no relation
 pub record IsWord (w : List ℕ) : Type 0 where
   pub first : ℕ
   pub others : List ℕ
@@ -44,7 +44,7 @@ no_blank false true r s h = cc
 no_blank false false r s h = refl
 
 starts_word : (b : ℕ) → is_in_word b ≡ true → is_blank b ≡ false
-starts_word b h = no_blank (eqb b 32) (eqb b 9) (eqb b 58) (eqb b 35) h
+starts_word b h = no_blank (eqb b 32) (eqb b 9) (eqb b 35) (is_sign b) h
 
 word_stops_blanks : (c r : List ℕ) → IsWord c → Stops is_blank (c ++ r)
 word_stops_blanks c r w =

@@ -1,14 +1,17 @@
 -- What a line's row and its fields say.
-use Rattle.std.specs.Prelude.{ℕ, ◌-◌, ◌^◌, ◌==◌, min, List, [], ◌∷◌, Bool, false, not, ◌&&◌, ◌||◌, codes}
+use Rattle.std.specs.Prelude.{ℕ, ◌-◌, ◌^◌, ◌==◌, min, List, [], ◌∷◌, Bool, false, not, ◌&&◌, ◌||◌, if◌then◌else◌, codes}
 use Rattle.std.specs.Str.{bytes_eq}
 use Rattle.term_text.specs.Numbers.{number_after}
 use Rattle.script_text.specs.Fields.{Fields}
 use Rattle.script_text.specs.Variables.{variable_of, variables_of}
+use Rattle.script_text.specs.Words.{begins_with}
 use Rattle.script_text.specs.declared.row.Row.{Row}
 use Rattle.script_text.specs.declared.row.Row.TheVariants as row
 use Rattle.script_text.specs.declared.command.Command.{Command}
 use Rattle.script_text.specs.declared.command.Command.TheVariants as command
 use Rattle.script_text.specs.declared.command.Part.{Part}
+use Rattle.script_text.specs.declared.command.Rel.{Rel}
+use Rattle.script_text.specs.declared.command.Rel.TheVariants as rel
 
 -- the number that digits spell; 2^64 - 1 stands for all greater ones too
 abbrev pub number_of : List ℕ → ℕ
@@ -17,11 +20,6 @@ number_of digits = min (number_after 0 digits) (2 ^ 64 - 1)
 -- the word is this one
 abbrev pub is_word : List ℕ → List ℕ → Bool
 is_word w v = bytes_eq w v
-
--- the text begins with this byte
-abbrev pub begins_with : ℕ → List ℕ → Bool
-begins_with b [] = false
-begins_with b (c ∷ text) = c == b
 
 -- the byte and the text behind it begin with > or < and no = behind it, or with c(
 abbrev pub begins_strict : ℕ → List ℕ → Bool
@@ -35,6 +33,12 @@ is_strict (b ∷ text) = begins_strict b text || is_strict text
 -- the part of this text
 abbrev pub part_from : List ℕ → Part
 part_from text = record { text = text; strict = is_strict text }
+
+-- the relation that is spelled; a colon stands for =
+abbrev pub relation_of : List ℕ → Rel
+relation_of sign =
+    if is_word sign (codes ">=") then rel.Ge else if is_word sign (codes "<=") then rel.Le else if is_word sign (codes ">") then rel.Gt else if is_word sign (codes "<") then rel.Lt
+    else rel.Eq
 
 -- the command of a line of the row with these fields
 abbrev pub command_of : Row → Fields → Command
@@ -61,8 +65,8 @@ command_of row.Isempty f = command.Isempty f.first
 command_of row.Relation f = command.Relation f.first (part_from f.part)
 command_of row.Max f = command.Max f.first (part_from f.part)
 command_of row.Min f = command.Min f.first (part_from f.part)
-command_of row.Image f = command.Image f.first f.second (variable_of f.third) (part_from f.part)
-command_of row.Preimage f = command.Preimage f.first f.second (variable_of f.third) (part_from f.part)
+command_of row.Image f = command.Image f.first f.second (variable_of f.third) (relation_of f.sign) (part_from f.part)
+command_of row.Preimage f = command.Preimage f.first f.second (variable_of f.third) (relation_of f.sign) (part_from f.part)
 command_of row.Embed f = command.Embed f.first f.second (number_of f.third)
 command_of row.Project f = command.Project f.first f.second (number_of f.third)
 command_of row.Remove f = command.Remove f.first f.second (variables_of f.part)

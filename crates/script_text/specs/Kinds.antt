@@ -55,7 +55,7 @@ IsTwoNamesNumber Embed = Unit {0}
 IsTwoNamesNumber Project = Unit {0}
 IsTwoNamesNumber _ = ⊥
 
--- two names, a variable and a part stand behind it
+-- two names, a variable, a relation and a part stand behind it
 abbrev pub IsTwoNamesVariable : Row → Type 0
 IsTwoNamesVariable Image = Unit {0}
 IsTwoNamesVariable Preimage = Unit {0}

@@ -38,8 +38,8 @@ PartsMatch (Has p part) = Matches (alone point_cases) part.text
 PartsMatch (Relation p part) = Matches (alone con_cases) part.text
 PartsMatch (Max p part) = Matches (alone expr_cases) part.text
 PartsMatch (Min p part) = Matches (alone expr_cases) part.text
-PartsMatch (Image out p v part) = Matches (alone frac_cases) part.text
-PartsMatch (Preimage out p v part) = Matches (alone frac_cases) part.text
+PartsMatch (Image out p v rel part) = Matches (alone frac_cases) part.text
+PartsMatch (Preimage out p v rel part) = Matches (alone frac_cases) part.text
 PartsMatch _ = Unit {0}
 
 -- whether a strict relation or a closure point stands in each part of the command is told as it is
@@ -52,8 +52,8 @@ PartsTold (Has p part) = part.strict ≡ is_strict part.text
 PartsTold (Relation p part) = part.strict ≡ is_strict part.text
 PartsTold (Max p part) = part.strict ≡ is_strict part.text
 PartsTold (Min p part) = part.strict ≡ is_strict part.text
-PartsTold (Image out p v part) = part.strict ≡ is_strict part.text
-PartsTold (Preimage out p v part) = part.strict ≡ is_strict part.text
+PartsTold (Image out p v rel part) = part.strict ≡ is_strict part.text
+PartsTold (Preimage out p v rel part) = part.strict ≡ is_strict part.text
 PartsTold _ = Unit {0}
 
 -- a line spells one command at most

@@ -1,14 +1,16 @@
 -- The lines of the commands.
-use Rattle.std.specs.Prelude.{◌≡◌, ℕ, List, [], ◌∷◌, Option, Some, None, codes}
+use Rattle.std.specs.Prelude.{◌≡◌, ℕ, List, [], ◌∷◌, Option, Some, None, Bool, true, false, codes}
 use Rattle.grammar.specs.Form.{Form, word}
-use Rattle.grammar.specs.Grammar.{◌·◌, ◌∣◌, symbol, blanks, gap, perhaps, alone, comment, name_of, name, nat, var, vars, expr, frac, con, cons, point, gens}
+use Rattle.grammar.specs.Grammar.{◌·◌, ◌∣◌, symbol, blanks, gap, perhaps, alone, comment, name_of, name, nat, var, vars, expr, frac, rel, con, cons, point, gens}
 use Rattle.script_text.specs.declared.row.Row.{Row}
 use Rattle.script_text.specs.declared.row.Row.TheVariants.{Nothing, Cons, Gens, Universe, Empty, Copy, Drop, Add, Addgen, Has, Size, Print, Names, Meet, Hull, Closure, Contains, Equal, Disjoint, Isempty, Relation, Max, Min, Image, Preimage, Embed, Project, Remove, Concat, Elapse, Widen, Read, Write, System, Init, Trans, Fixpoint}
 
--- a line: its command word, what each word behind it may be, and the part behind a colon
+-- a line: its command word, what each word behind it may be, whether a relation may stand in the place of the colon, and
+-- the part behind it
 pub record Shape : Type 0 where
   pub command : List ℕ
   pub words : List Form
+  pub relates : Bool
   pub part : Option Form
 
 -- each word with a gap before it
@@ -21,9 +23,18 @@ abbrev pub tail_form : Option Form → Form
 tail_form None = blanks
 tail_form (Some f) = blanks · symbol 58 · alone f
 
+-- a colon or a relation, and the part with blanks around it
+abbrev pub related_form : Form → Form
+related_form f = blanks · (symbol 58 ∣ rel) · alone f
+
+-- what stands behind the words
+abbrev pub tail_of : Bool → Option Form → Form
+tail_of true (Some f) = related_form f
+tail_of relates part = tail_form part
+
 -- what stands behind the command word
 abbrev pub rest_form : Shape → Form
-rest_form shape = words_form shape.words · tail_form shape.part · perhaps comment
+rest_form shape = words_form shape.words · tail_of shape.relates shape.part · perhaps comment
 
 -- the lines of the shape
 abbrev pub line_form : Shape → Form
@@ -51,11 +62,15 @@ prefix = name_of 29
 
 -- a command word and words behind it
 abbrev pub plain : List ℕ → List Form → Shape
-plain command words = record { command = command; words = words; part = None }
+plain command words = record { command = command; words = words; relates = false; part = None }
 
 -- a command word, words behind it, and a part behind a colon
 abbrev pub with_part : List ℕ → List Form → Form → Shape
-with_part command words part = record { command = command; words = words; part = Some part }
+with_part command words part = record { command = command; words = words; relates = false; part = Some part }
+
+-- a command word, words behind it, and a part behind a colon or a relation
+abbrev pub with_relation : List ℕ → List Form → Form → Shape
+with_relation command words part = record { command = command; words = words; relates = true; part = Some part }
 
 -- the commands, a line each; a blank line has no shape of its own
 abbrev pub shape_of : Row → Shape
@@ -82,8 +97,8 @@ shape_of Isempty = plain (codes "isempty") (name ∷ [])
 shape_of Relation = with_part (codes "relation") (name ∷ []) con
 shape_of Max = with_part (codes "max") (name ∷ []) expr
 shape_of Min = with_part (codes "min") (name ∷ []) expr
-shape_of Image = with_part (codes "image") (name ∷ name ∷ var ∷ []) frac
-shape_of Preimage = with_part (codes "preimage") (name ∷ name ∷ var ∷ []) frac
+shape_of Image = with_relation (codes "image") (name ∷ name ∷ var ∷ []) frac
+shape_of Preimage = with_relation (codes "preimage") (name ∷ name ∷ var ∷ []) frac
 shape_of Embed = plain (codes "embed") (name ∷ name ∷ nat ∷ [])
 shape_of Project = plain (codes "project") (name ∷ name ∷ nat ∷ [])
 shape_of Remove = with_part (codes "remove") (name ∷ name ∷ []) vars

@@ -2,13 +2,28 @@
 use crate::variables::VarList;
 use reply_text::Text;
 
-/// The text of a part behind a colon.
+/// The text of a part behind a colon or a relation.
 #[derive(Debug, Drop)]
 pub struct Part {
     /// The bytes of the form, without the blanks around it.
     pub text: Text,
     /// Whether one of the relations `>` and `<` or a closure point `c(..)` stands in it.
     pub strict: bool,
+}
+
+/// How the new value of an image's variable stands to the fraction.
+#[derive(Clone, Copy, Debug, Drop, PartialEq, Eq)]
+pub enum Rel {
+    /// `=`, or a colon.
+    Eq,
+    /// `>=`
+    Ge,
+    /// `<=`
+    Le,
+    /// `>`
+    Gt,
+    /// `<`
+    Lt,
 }
 
 /// A line, read. A number above `u64::MAX` is `u64::MAX`.
@@ -128,18 +143,20 @@ pub enum Command {
         p: Text,
         expr: Part,
     },
-    /// `image OUT P V : FRAC`; `v` is the number of the variable, 0 for `A`, 26 for `A1`.
+    /// `image OUT P V REL FRAC`; `v` is the number of the variable, 0 for `A`, 26 for `A1`.
     Image {
         out: Text,
         p: Text,
         v: u64,
+        rel: Rel,
         frac: Part,
     },
-    /// `preimage OUT P V : FRAC`
+    /// `preimage OUT P V REL FRAC`
     Preimage {
         out: Text,
         p: Text,
         v: u64,
+        rel: Rel,
         frac: Part,
     },
     /// `embed OUT P N`

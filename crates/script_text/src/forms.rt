@@ -20,10 +20,25 @@ macro_rules! words {
 // A command word, the words behind it, and the part behind a colon where there is one.
 macro_rules! line {
     ($command:literal $(, $word:expr)*) => { seq!(BLANKS, Re::Word($command), words!($($word),*), BLANKS, PERHAPS_COMMENT) };
+    ($command:literal $(, $word:expr)*; RELATION $part:expr) => { seq!(BLANKS, Re::Word($command), words!($($word),*), seq!(BLANKS, RELATION, BLANKS, Re::Named($part), BLANKS), PERHAPS_COMMENT) };
     ($command:literal $(, $word:expr)*; $part:expr) => { seq!(BLANKS, Re::Word($command), words!($($word),*), seq!(BLANKS, COLON, BLANKS, Re::Named($part), BLANKS), PERHAPS_COMMENT) };
 }
 
 const COLON: Re<'static> = Re::Byte(b':', b':');
+
+const RELATION: Re<'static> = Re::Or(
+    &COLON,
+    &Re::Or(
+        &Re::Byte(b'=', b'='),
+        &Re::Or(
+            &Re::Word(b">="),
+            &Re::Or(
+                &Re::Word(b"<="),
+                &Re::Or(&Re::Byte(b'>', b'>'), &Re::Byte(b'<', b'<')),
+            ),
+        ),
+    ),
+);
 
 const NAME: Re<'static> = Re::Named(Rule::Name);
 
@@ -94,9 +109,9 @@ const MAX_LINE: Re<'static> = line!(b"max", NAME; Rule::Expr);
 
 const MIN_LINE: Re<'static> = line!(b"min", NAME; Rule::Expr);
 
-const IMAGE_LINE: Re<'static> = line!(b"image", NAME, NAME, VAR; Rule::Frac);
+const IMAGE_LINE: Re<'static> = line!(b"image", NAME, NAME, VAR; RELATION Rule::Frac);
 
-const PREIMAGE_LINE: Re<'static> = line!(b"preimage", NAME, NAME, VAR; Rule::Frac);
+const PREIMAGE_LINE: Re<'static> = line!(b"preimage", NAME, NAME, VAR; RELATION Rule::Frac);
 
 const EMBED_LINE: Re<'static> = line!(b"embed", NAME, NAME, NAT);
 

@@ -2,17 +2,17 @@
 ghost use Rattle.std.specs.Prelude.{◌≡◌, ℕ, List, ◌∷◌, length, take_while, IfOk, MatchResult};
 ghost use Rattle.term_text.specs.Reading.{is_digit, is_upper};
 ghost use Rattle.reply_text.specs.declared.faults.ReadErr.TheVariants as read_err;
-ghost use Rattle.script_text.specs.Commands.{command_of, number_of, is_word, is_strict, begins_strict, part_from};
+ghost use Rattle.script_text.specs.Commands.{command_of, number_of, is_word, is_strict, begins_strict, part_from, relation_of};
 ghost use Rattle.script_text.specs.Fields.{fields_in};
 ghost use Rattle.script_text.specs.Kinds.{IsOneName, IsNameAndPart, IsTwoNames, IsThreeNames, IsSpace, IsSpaceAndPart, IsTwoNamesNumber, IsTwoNamesVariable, IsNameFormat, IsNameNumberName};
 ghost use Rattle.script_text.specs.Variables.{variable_of, variables_of};
 ghost use Rattle.script_text.specs.Words.{part_of};
 ghost use Rattle.script_text.specs.declared.row.Row.TheVariants as row;
 
-use crate::command::{Command, Part};
+use crate::command::{Command, Part, Rel};
 use crate::row::Row;
 use crate::variables::VarList;
-use crate::words::{part_of, split_word, three_words, two_words};
+use crate::words::{part_of, sign_of, split_word, three_words, two_words};
 use reply_text::{ReadErr, Text};
 use row_core::Memory;
 use std::alloc::Global;
@@ -118,6 +118,19 @@ fn variables(alloc: Global, text: &[u8]) -> Result<VarList, Memory>
         }
     }
     Ok(numbers)
+}
+
+/// The relation that is spelled; a colon stands for `=`.
+fn relation(sign: &[u8]) -> Rel
+    ensures { result ≡ relation_of sign.now }
+{
+    match sign {
+        b">=" => Rel::Ge,
+        b"<=" => Rel::Le,
+        b">" => Rel::Gt,
+        b"<" => Rel::Lt,
+        _ => Rel::Eq,
+    }
 }
 
 /// The command of a row with one name.
@@ -243,7 +256,7 @@ fn of_two_names_number(alloc: Global, row: Row, rest: &[u8]) -> Result<Command, 
     })
 }
 
-/// The command of a row with two names, a variable and a part.
+/// The command of a row with two names, a variable, a relation and a part.
 fn of_two_names_variable(alloc: Global, row: Row, rest: &[u8]) -> Result<Command, ReadErr>
     requires { IsTwoNamesVariable row }
     ensures { MatchResult result (λ c. c ≡ command_of row (fields_in rest.now)) (λ e. e ≡ read_err.Memory) }
@@ -252,10 +265,23 @@ fn of_two_names_variable(alloc: Global, row: Row, rest: &[u8]) -> Result<Command
     let out = text(alloc, first)?;
     let p = text(alloc, second)?;
     let v = variable(third);
+    let rel = relation(sign_of(rest));
     let frac = part(alloc, rest)?;
     Ok(match row {
-        Row::Image => Command::Image { out, p, v, frac },
-        _ => Command::Preimage { out, p, v, frac },
+        Row::Image => Command::Image {
+            out,
+            p,
+            v,
+            rel,
+            frac,
+        },
+        _ => Command::Preimage {
+            out,
+            p,
+            v,
+            rel,
+            frac,
+        },
     })
 }
 

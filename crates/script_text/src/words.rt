@@ -1,6 +1,6 @@
 //! The words of a line.
-ghost use Rattle.std.specs.Prelude.{◌≡◌, length, take_while, reverse};
-ghost use Rattle.script_text.specs.Words.{is_blank, is_in_word, is_before_colon, is_before_comment, past_blanks, before_blanks, word_of, behind_word, nth_word, before_comment, behind_colon, part_of};
+ghost use Rattle.std.specs.Prelude.{◌≡◌, ◌≤◌, length, take_while, reverse};
+ghost use Rattle.script_text.specs.Words.{is_blank, is_sign, is_in_word, is_before_sign, is_before_comment, past_blanks, before_blanks, word_of, behind_word, nth_word, before_comment, from_sign, sign_len, sign_of, part_of};
 
 /// How many blanks stand in front.
 fn blanks_in_front(text: &[u8]) -> usize
@@ -21,12 +21,19 @@ fn blanks_at_end(text: &[u8]) -> usize
         .count()
 }
 
-/// The length of the word in front. A word ends before a blank, a colon or a comment.
+/// Whether the byte is a colon or one of a relation.
+fn is_sign(byte: u8) -> bool
+    ensures { result ≡ is_sign byte }
+{
+    (byte == b':') | (byte == b'<') | (byte == b'=') | (byte == b'>')
+}
+
+/// The length of the word in front. A word ends before a blank, a colon, a relation or a comment.
 fn word_len(text: &[u8]) -> usize
     ensures { result ≡ length (take_while is_in_word text.now) }
 {
     text.iter()
-        .take_while(|b| !(**b == b' ' || **b == b'\t' || **b == b':' || **b == b'#'))
+        .take_while(|b| !(**b == b' ' || **b == b'\t' || **b == b'#' || is_sign(**b)))
         .count()
 }
 
@@ -93,24 +100,44 @@ fn before_comment(text: &[u8]) -> &[u8]
     }
 }
 
-/// How many bytes stand before the first colon.
-fn colon_place(text: &[u8]) -> usize
-    ensures { result ≡ length (take_while is_before_colon text.now) }
+/// How many bytes stand before the first colon or relation.
+fn sign_place(text: &[u8]) -> usize
+    ensures { result ≡ length (take_while is_before_sign text.now) }
 {
-    text.iter().take_while(|b| **b != b':').count()
+    text.iter().take_while(|b| !is_sign(**b)).count()
 }
 
-/// What stands behind the first colon.
-fn behind_colon(text: &[u8]) -> &[u8]
-    ensures { result.now ≡ behind_colon text.now }
+/// The text from its first colon or relation on.
+fn from_sign(text: &[u8]) -> &[u8]
+    ensures { result.now ≡ from_sign text.now }
 {
-    let rest = &text[colon_place(text)..];
-    if rest.is_empty() { rest } else { &rest[1..] }
+    &text[sign_place(text)..]
 }
 
-/// What stands between the first colon and a comment, without the blanks around it.
+/// How many bytes the colon or relation in front has.
+fn sign_len(text: &[u8]) -> usize
+    ensures value { result ≡ sign_len text.now }
+    ensures within { result ≤ length text.now }
+{
+    match text {
+        [] => 0,
+        [first, next, ..] if ((*first == b'<') | (*first == b'>')) & (*next == b'=') => 2,
+        _ => 1,
+    }
+}
+
+/// The first colon or relation before a comment.
+pub fn sign_of(text: &[u8]) -> &[u8]
+    ensures { result.now ≡ sign_of text.now }
+{
+    let text = from_sign(before_comment(text));
+    &text[..sign_len(text)]
+}
+
+/// What stands between the first colon or relation and a comment, without the blanks around it.
 pub fn part_of(text: &[u8]) -> &[u8]
     ensures { result.now ≡ part_of text.now }
 {
-    before_blanks(past_blanks(behind_colon(before_comment(text))))
+    let text = from_sign(before_comment(text));
+    before_blanks(past_blanks(&text[sign_len(text)..]))
 }
