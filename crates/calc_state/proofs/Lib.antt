@@ -19,3 +19,4 @@ mod SystemLemmas
 mod TableLemmas
 mod WideningLemmas
 mod TextFaults
+mod UniquePrints

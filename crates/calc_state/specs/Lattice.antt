@@ -8,10 +8,11 @@ use Rattle.gens_sys.specs.Generators.{row_at as vector_at}
 use Rattle.pair_laws.specs.WorkLists.{LeavesOn}
 use Rattle.poly_pair.specs.Polyhedra.{Polyhedron, HasNoPoint}
 use Rattle.poly_pair.specs.TopologyLists.{list_width, generators_of}
-use Rattle.lattice_ops.specs.Sets.{IsMeet, IsHull, IsClosure, IsIncluded, HaveSamePoints, AreDisjoint, both_generators, meet_list, closure_list}
+use Rattle.lattice_ops.specs.Sets.{IsIncluded, HaveSamePoints, AreDisjoint, both_generators, meet_list, closure_list}
 use Rattle.lattice_ops.specs.Questions.{Answers, AnswersEqual}
 use Rattle.calc_state.specs.declared.change.Change.{Change}
 use Rattle.calc_state.specs.Table.{Table}
+use Rattle.calc_state.specs.Results.{IsResultOfMeet, IsResultOfHull, IsResultOfClosure}
 use Rattle.calc_state.specs.Meaning.{Meaning, no_fault, no_overflow, room, alike, IsPut, IsSaid, answer_line}
 
 -- ---- makers
@@ -20,7 +21,7 @@ abbrev pub meet : Table → List ℕ → Polyhedron → Polyhedron → Meaning
 meet table out p q = record {
   conditions = alike p q (room table out);
   overflows = LeavesOn (list_width p.topology p.cons.dim) p.cons.dim (meet_list p q);
-  does = IsPut out (IsMeet p q);
+  does = IsPut out (IsResultOfMeet p q);
 }
 
 -- hull OUT P Q
@@ -28,7 +29,7 @@ abbrev pub hull : Table → List ℕ → Polyhedron → Polyhedron → Meaning
 hull table out p q = record {
   conditions = alike p q (room table out);
   overflows = LeavesOn (list_width p.topology p.cons.dim) p.cons.dim (generators_of p.topology (both_generators p q));
-  does = IsPut out (IsHull p q);
+  does = IsPut out (IsResultOfHull p q);
 }
 
 -- closure OUT P
@@ -36,7 +37,7 @@ abbrev pub closure : Table → List ℕ → Polyhedron → Meaning
 closure table out p = record {
   conditions = room table out;
   overflows = LeavesOn (list_width p.topology p.cons.dim) p.cons.dim (closure_list p);
-  does = IsPut out (IsClosure p);
+  does = IsPut out (IsResultOfClosure p);
 }
 
 -- ---- questions

@@ -1,6 +1,7 @@
 pub mod Table
 pub mod Order
 pub mod Refusals
+pub mod Results
 pub mod Meaning
 pub mod Texts
 pub mod Makers
@@ -19,3 +20,4 @@ pub mod Step
 pub mod Reading
 pub mod Line
 pub mod Laws
+pub mod Prints

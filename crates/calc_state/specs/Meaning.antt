@@ -3,6 +3,7 @@ use Rattle.std.specs.Prelude.{◌≡◌, ◌≢◌, ℕ, ◌<◌, List, Bool, Op
 use Rattle.row_core.specs.declared.errors.Overflow.{Overflow}
 use Rattle.reply_text.specs.declared.faults.Fault.TheVariants as fault
 use Rattle.poly_pair.specs.Polyhedra.{Polyhedron}
+use Rattle.poly_pair.specs.declared.topology.TheConstants.{MAX_DIM}
 use Rattle.trans_sys.specs.Systems.{TransitionSystem}
 use Rattle.calc_state.specs.declared.entry.Entry.TheVariants as entry
 use Rattle.calc_state.specs.declared.change.Change.{Change}
@@ -61,9 +62,9 @@ abbrev pub room : Table → List ℕ → Conditions
 room table out fault.TooManyNames = HasNoRoom table out
 room table out other = ⊥
 
--- a dimension is within the limit, 31
+-- a dimension is within the limit
 abbrev pub small : ℕ → Conditions → Conditions
-small n others fault.TooManyDims = 31 < n
+small n others fault.TooManyDims = MAX_DIM < n
 small n others other = others other
 
 -- ---- what a command does

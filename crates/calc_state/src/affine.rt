@@ -25,7 +25,7 @@ use std::sync::ledger::Ledger;
 /// The number of further variables, where the dimension with them is within the limit.
 fn more_dims(dim: usize, n: u64) -> Option<usize>
     requires { dim ≤ MAX_DIM }
-    ensures { MatchOption result (31 < dim + n) (λ count. (count ≡ n) × (dim + count ≤ MAX_DIM)) }
+    ensures { MatchOption result (MAX_DIM < dim + n) (λ count. (count ≡ n) × (dim + count ≤ MAX_DIM)) }
 {
     if n > (MAX_DIM - dim) as u64 {
         return None;

@@ -2,8 +2,8 @@
 //!
 //! - [`Calc`] is the calculator, and [`Calc::step`] takes a line, and [`Calc::finish`] ends a script.
 //! - [`StepErr`] says why a line was not accepted.
-//! - [`one_first`], [`one_reply`] and [`names_stay_distinct`] are laws of the definitions that the
-//!   contracts cite.
+//! - [`one_first`], [`one_reply`], [`names_stay_distinct`] and [`prints_tell_points`] are laws of the
+//!   definitions that the contracts cite.
 #![tactic(auto)]
 
 mod affine;
@@ -25,5 +25,5 @@ mod texts;
 mod widenings;
 
 pub use calc::Calc;
-pub use laws::{names_stay_distinct, one_first, one_reply};
+pub use laws::{names_stay_distinct, one_first, one_reply, prints_tell_points};
 pub use refusal::StepErr;

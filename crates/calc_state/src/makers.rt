@@ -28,7 +28,7 @@ use std::sync::ledger::Ledger;
 
 /// The dimension of a line, where it is within the limit.
 fn small_dim(n: u64) -> Option<usize>
-    ensures { MatchOption result (31 < n) (λ dim. (dim ≡ n) × (dim ≤ MAX_DIM)) }
+    ensures { MatchOption result (MAX_DIM < n) (λ dim. (dim ≡ n) × (dim ≤ MAX_DIM)) }
 {
     if n > MAX_DIM as u64 {
         return None;

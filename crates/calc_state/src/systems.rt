@@ -21,7 +21,7 @@ use std::sync::ledger::Ledger;
 use trans_sys::{MAX_LOCATIONS, System};
 
 /// The most variables of a state.
-const MAX_STATE_DIM: u64 = 15;
+const MAX_STATE_DIM: u64 = 31;
 
 /// The largest delay.
 const MAX_DELAY: u64 = 1_000_000;

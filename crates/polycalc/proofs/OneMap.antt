@@ -12,13 +12,13 @@ use Rattle.poly_pair.specs.Polyhedra.{Polyhedron}
 use Rattle.poly_pair.specs.declared.topology.Topology.{Topology}
 use Rattle.lattice_ops.specs.Sets.{IsConstraintFor}
 use Rattle.affine_ops.specs.Maps.{substituted, without, remaining, kept_variables}
-use Rattle.affine_ops.specs.Results.{IsOfSource, IsImage, IsPreimage, IsPadded, IsProjection, IsOfBoth, IsProduct}
+use Rattle.affine_ops.specs.Results.{IsOfSource, IsImage, IsPreimage, IsPadded, IsOfBoth}
 use Rattle.affine_ops.proofs.ColumnLemmas.{length-without}
 use Rattle.affine_ops.proofs.LinearMaps.{IsLinearMap, substitution_linear}
 use Rattle.elapse.specs.ElapsedPoints.{IsMoved, IsElapsed, IsInElapse}
-use Rattle.elapse.specs.Elapses.{IsElapse}
 use Rattle.script_text.specs.declared.command.Part.{Part}
-use Rattle.calc_state.specs.Affine.{SaysReplacement, IsEmbedded, IsRemoved, IsImageBy, IsPreimageBy}
+use Rattle.calc_state.specs.Affine.{SaysReplacement, IsEmbedded, IsProjected, IsRemoved, IsConcatenated, IsSubstituted, IsPulledBack, IsImageBy, IsPreimageBy}
+use Rattle.calc_state.specs.Results.{IsResultOfElapse}
 use Rattle.calc_state.specs.Step.{IsProper}
 use Rattle.polycalc.specs.Sets.{IsOfAlike}
 use Rattle.polycalc.specs.Sameness.{AreSamePolyhedra}
@@ -81,15 +81,15 @@ one_preimage laws f to x y r s same maps a b h k =
 -- ---- the dimension
 pub one_embedded : OneForm → (n : ℕ) (x y r s : Polyhedron) → AreSamePolyhedra x y → IsProper r → IsProper s → IsEmbedded n x r → IsEmbedded n y s → AreSamePolyhedra r s
 one_embedded laws n x y r s same a b h k =
-    one_preimage laws (without x.cons.dim (x.cons.dim + n)) (x.cons.dim + n) x y r s same (front_point x.cons.dim n) a b h (subst (λ (d : ℕ). IsPreimage (without d (d + n)) (d + n) y s) (sym same.dim) k)
+    one_preimage laws (without x.cons.dim (x.cons.dim + n)) (x.cons.dim + n) x y r s same (front_point x.cons.dim n) a b h.set (subst (λ (d : ℕ). IsPreimage (without d (d + n)) (d + n) y s) (sym same.dim) k.set)
 
 pub one_removed : OneForm → (vars : List ℕ) (x y r s : Polyhedron) → AreSamePolyhedra x y → IsProper r → IsProper s → IsRemoved vars x r → IsRemoved vars y s → AreSamePolyhedra r s
 one_removed laws vars x y r s same a b h k =
-    one_image laws (remaining x.cons.dim vars) (length (kept_variables x.cons.dim vars)) x y r s same a b h (subst (λ (d : ℕ). IsImage (remaining d vars) (length (kept_variables d vars)) y s) (sym same.dim) k)
+    one_image laws (remaining x.cons.dim vars) (length (kept_variables x.cons.dim vars)) x y r s same a b h.set (subst (λ (d : ℕ). IsImage (remaining d vars) (length (kept_variables d vars)) y s) (sym same.dim) k.set)
 
-pub one_projection : OneForm → (n : ℕ) (x y r s : Polyhedron) → AreSamePolyhedra x y → IsProper r → IsProper s → IsProjection n x r → IsProjection n y s → AreSamePolyhedra r s
+pub one_projection : OneForm → (n : ℕ) (x y r s : Polyhedron) → AreSamePolyhedra x y → IsProper r → IsProper s → IsProjected n x r → IsProjected n y s → AreSamePolyhedra r s
 one_projection laws n x y r s same a b h k =
-    one_of_same laws x.topology y.topology (x.cons.dim + n) (y.cons.dim + n) (Padded x) (Padded y) r s same.topology wider both a b h.over k.over h.points k.points
+    one_of_same laws x.topology y.topology (x.cons.dim + n) (y.cons.dim + n) (Padded x) (Padded y) r s same.topology wider both a b h.set.over k.set.over h.set.points k.set.points
   where
     Padded : Polyhedron → List ℤ → Type 0
     Padded p v = IsPadded p.cons.dim (p.cons.dim + n) p v
@@ -113,10 +113,10 @@ both_same x y v w p same others is i = record {
   back = subst (λ (d : ℕ). In w.cons (drop d p)) same.dim ((others.points (drop x.cons.dim p) (back_point x.cons.dim v.cons.dim p is)).0 i.back);
 }
 
-pub one_product : OneForm → (x y v w r s : Polyhedron) → AreSamePolyhedra x y → AreSamePolyhedra v w → IsProper r → IsProper s → IsProduct x v r → IsProduct y w s → AreSamePolyhedra r s
+pub one_product : OneForm → (x y v w r s : Polyhedron) → AreSamePolyhedra x y → AreSamePolyhedra v w → IsProper r → IsProper s → IsConcatenated x v r → IsConcatenated y w s → AreSamePolyhedra r s
 one_product laws x y v w r s same others a b h k =
     one_of_same laws x.topology y.topology (x.cons.dim + v.cons.dim) (y.cons.dim + w.cons.dim) (IsOfBoth x v) (IsOfBoth y w) r s same.topology wider
-    (λ p is. (both_same x y v w p same others is, both_same y x w v p (same_back x y same) (same_back v w others) (subst (λ (d : ℕ). IsPoint d p) wider is))) a b h.over k.over h.points k.points
+    (λ p is. (both_same x y v w p same others is, both_same y x w v p (same_back x y same) (same_back v w others) (subst (λ (d : ℕ). IsPoint d p) wider is))) a b h.set.over k.set.over h.set.points k.set.points
   where
     wider : x.cons.dim + v.cons.dim ≡ y.cons.dim + w.cons.dim
     wider = ap (λ (d : ℕ). d + v.cons.dim) same.dim ∙ ap (λ (d : ℕ). y.cons.dim + d) others.dim
@@ -134,10 +134,10 @@ elapse_same : (x y v w : Polyhedron) (p : List ℤ) → AreSamePolyhedra x y →
 elapse_same x y v w p same others each c fits valid =
     each c (subst (λ (t : Topology). IsConstraintFor t x.cons.dim c) (sym same.topology) (subst (λ (n : ℕ). IsConstraintFor y.topology n c) (sym same.dim) fits)) (λ z i. valid z (elapsed_same x y v w z same others i))
 
-pub one_elapse : OneForm → (x y v w r s : Polyhedron) → AreSamePolyhedra x y → AreSamePolyhedra v w → IsProper r → IsProper s → IsOfAlike IsElapse x v r → IsOfAlike IsElapse y w s → AreSamePolyhedra r s
+pub one_elapse : OneForm → (x y v w r s : Polyhedron) → AreSamePolyhedra x y → AreSamePolyhedra v w → IsProper r → IsProper s → IsOfAlike IsResultOfElapse x v r → IsOfAlike IsResultOfElapse y w s → AreSamePolyhedra r s
 one_elapse laws x y v w r s same others a b h k =
     one_of_same laws x.topology y.topology x.cons.dim y.cons.dim (IsInElapse x.topology x.cons v.cons) (IsInElapse y.topology y.cons w.cons) r s same.topology same.dim
-    (λ p is. (elapse_same x y v w p same others, elapse_same y x w v p (same_back x y same) (same_back v w others))) a b h.is.over k.is.over h.is.points k.is.points
+    (λ p is. (elapse_same x y v w p same others, elapse_same y x w v p (same_back x y same) (same_back v w others))) a b h.is.set.over k.is.set.over h.is.set.points k.is.set.points
 
 -- ---- maps
 positive_divisor : (d : ℕ) (z : ℤ) → z ≡ pos d → 0 < d → pos 0 <ℤ z
@@ -151,10 +151,10 @@ one_says_replacement laws dim other v part P Q E e both h k =
 
 pub one_image_by : OneForm → (v : ℕ) (part : Part) (x y r s : Polyhedron) → AreSamePolyhedra x y → IsProper r → IsProper s → IsImageBy v part x r → IsImageBy v part y s → AreSamePolyhedra r s
 one_image_by laws v part x y r s same a b h k =
-    one_says_replacement laws x.cons.dim y.cons.dim v part (λ expr den. IsImage (substituted v expr den) x.cons.dim x r) (λ expr den. IsImage (substituted v expr den) y.cons.dim y s) (AreSamePolyhedra r s) same.dim
-    (λ expr den below positive i j. one_image laws (substituted v expr den) x.cons.dim x y r s same a b i (subst (λ (d : ℕ). IsImage (substituted v expr den) d y s) (sym same.dim) j)) h k
+    one_says_replacement laws x.cons.dim y.cons.dim v part (λ expr den. IsSubstituted v expr den x r) (λ expr den. IsSubstituted v expr den y s) (AreSamePolyhedra r s) same.dim
+    (λ expr den below positive i j. one_image laws (substituted v expr den) x.cons.dim x y r s same a b i.set (subst (λ (d : ℕ). IsImage (substituted v expr den) d y s) (sym same.dim) j.set)) h k
 
 pub one_preimage_by : OneForm → (v : ℕ) (part : Part) (x y r s : Polyhedron) → AreSamePolyhedra x y → IsProper r → IsProper s → IsPreimageBy v part x r → IsPreimageBy v part y s → AreSamePolyhedra r s
 one_preimage_by laws v part x y r s same a b h k =
-    one_says_replacement laws x.cons.dim y.cons.dim v part (λ expr den. IsPreimage (substituted v expr den) x.cons.dim x r) (λ expr den. IsPreimage (substituted v expr den) y.cons.dim y s) (AreSamePolyhedra r s) same.dim
-    (λ expr den below positive i j. one_preimage laws (substituted v expr den) x.cons.dim x y r s same (λ p is. mapped_point x.cons.dim x.cons.dim (substituted v expr den) p (substitution_linear x.cons.dim v expr den below positive) is) a b i (subst (λ (d : ℕ). IsPreimage (substituted v expr den) d y s) (sym same.dim) j)) h k
+    one_says_replacement laws x.cons.dim y.cons.dim v part (λ expr den. IsPulledBack v expr den x r) (λ expr den. IsPulledBack v expr den y s) (AreSamePolyhedra r s) same.dim
+    (λ expr den below positive i j. one_preimage laws (substituted v expr den) x.cons.dim x y r s same (λ p is. mapped_point x.cons.dim x.cons.dim (substituted v expr den) p (substitution_linear x.cons.dim v expr den below positive) is) a b i.set (subst (λ (d : ℕ). IsPreimage (substituted v expr den) d y s) (sym same.dim) j.set)) h k

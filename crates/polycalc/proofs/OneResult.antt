@@ -9,7 +9,8 @@ use Rattle.poly_pair.specs.declared.topology.Topology.TheVariants.{Closed}
 use Rattle.pair_laws.specs.PointSets.{IsWithin}
 use Rattle.optimum.specs.Relations.{HoldsThroughout, HoldsNowhere, HoldsSomewhere, FailsSomewhere}
 use Rattle.widening.specs.Widenings.{IsWidening}
-use Rattle.lattice_ops.specs.Sets.{IsConstraintFor, IsValidOn, IsMeet, IsHull, IsClosure, IsIncluded, HaveSamePoints, AreDisjoint}
+use Rattle.lattice_ops.specs.Sets.{IsConstraintFor, IsValidOn, IsIncluded, HaveSamePoints, AreDisjoint}
+use Rattle.calc_state.specs.Results.{IsResultOfMeet, IsResultOfHull, IsResultOfClosure}
 use Rattle.calc_state.specs.Step.{IsProper}
 use Rattle.polycalc.specs.Sets.{IsMadeOfOne, IsMadeOfTwo, IsOfAlike, IsOfNested}
 use Rattle.polycalc.specs.Sameness.{AreSamePolyhedra}
@@ -53,9 +54,9 @@ one_of_two Was WasOther Is p q one other same h k =
     same h.first k.first h.second k.second p q (one h.first k.first h.was_first k.was_first) (other h.second k.second h.was_second k.was_second) h.made.proper k.made.proper h.made.is k.made.is
 
 -- ---- meet, hull and closure
-pub one_meet : OneForm → (x y v w r s : Polyhedron) → AreSamePolyhedra x y → AreSamePolyhedra v w → IsProper r → IsProper s → IsOfAlike IsMeet x v r → IsOfAlike IsMeet y w s → AreSamePolyhedra r s
+pub one_meet : OneForm → (x y v w r s : Polyhedron) → AreSamePolyhedra x y → AreSamePolyhedra v w → IsProper r → IsProper s → IsOfAlike IsResultOfMeet x v r → IsOfAlike IsResultOfMeet y w s → AreSamePolyhedra r s
 one_meet laws x y v w r s same others a b h k =
-    one_of_same laws x.topology y.topology x.cons.dim y.cons.dim (λ p. In x.cons p × In v.cons p) (λ p. In y.cons p × In w.cons p) r s same.topology same.dim both a b h.is.over k.is.over h.is.points k.is.points
+    one_of_same laws x.topology y.topology x.cons.dim y.cons.dim (λ p. In x.cons p × In v.cons p) (λ p. In y.cons p × In w.cons p) r s same.topology same.dim both a b h.is.set.over k.is.set.over h.is.set.points k.is.set.points
   where
     both : (p : List ℤ) → IsPoint x.cons.dim p → (In x.cons p × In v.cons p) ↔ (In y.cons p × In w.cons p)
     both p is =
@@ -63,9 +64,9 @@ one_meet laws x y v w r s same others a b h k =
         let other = same_at v w x.cons.dim p others (sym h.alike.dim) is in
         (λ i. (one.0 i.0, other.0 i.1), λ i. (one.1 i.0, other.1 i.1))
 
-pub one_hull : OneForm → (x y v w r s : Polyhedron) → AreSamePolyhedra x y → AreSamePolyhedra v w → IsProper r → IsProper s → IsOfAlike IsHull x v r → IsOfAlike IsHull y w s → AreSamePolyhedra r s
+pub one_hull : OneForm → (x y v w r s : Polyhedron) → AreSamePolyhedra x y → AreSamePolyhedra v w → IsProper r → IsProper s → IsOfAlike IsResultOfHull x v r → IsOfAlike IsResultOfHull y w s → AreSamePolyhedra r s
 one_hull laws x y v w r s same others a b h k =
-    one_of_same laws x.topology y.topology x.cons.dim y.cons.dim (InHull x v) (InHull y w) r s same.topology same.dim (λ p is. (hull_same x y v w p same others, hull_same y x w v p (same_back x y same) (same_back v w others))) a b h.is.over k.is.over h.is.points k.is.points
+    one_of_same laws x.topology y.topology x.cons.dim y.cons.dim (InHull x v) (InHull y w) r s same.topology same.dim (λ p is. (hull_same x y v w p same others, hull_same y x w v p (same_back x y same) (same_back v w others))) a b h.is.set.over k.is.set.over h.is.set.points k.is.set.points
   where
     InHull : Polyhedron → Polyhedron → List ℤ → Type 0
     InHull g i p = (c : Constraint) → IsConstraintFor g.topology g.cons.dim c → IsValidOn g c → IsValidOn i c → Satisfies p c
@@ -74,9 +75,9 @@ one_hull laws x y v w r s same others a b h k =
     hull_same f g i j p e d each c fits valid other =
         each c (subst (λ (t : Topology). IsConstraintFor t f.cons.dim c) (sym e.topology) (subst (λ (n : ℕ). IsConstraintFor g.topology n c) (sym e.dim) fits)) (valid_same g f c (same_back f g e) valid) (valid_same j i c (same_back i j d) other)
 
-pub one_closure : OneForm → (x y r s : Polyhedron) → AreSamePolyhedra x y → IsProper r → IsProper s → IsClosure x r → IsClosure y s → AreSamePolyhedra r s
+pub one_closure : OneForm → (x y r s : Polyhedron) → AreSamePolyhedra x y → IsProper r → IsProper s → IsResultOfClosure x r → IsResultOfClosure y s → AreSamePolyhedra r s
 one_closure laws x y r s same a b h k =
-    one_of_same laws x.topology y.topology x.cons.dim y.cons.dim (InClosure x) (InClosure y) r s same.topology same.dim (λ p is. (closure_same x y p same, closure_same y x p (same_back x y same))) a b h.over k.over h.points k.points
+    one_of_same laws x.topology y.topology x.cons.dim y.cons.dim (InClosure x) (InClosure y) r s same.topology same.dim (λ p is. (closure_same x y p same, closure_same y x p (same_back x y same))) a b h.set.over k.set.over h.set.points k.set.points
   where
     InClosure : Polyhedron → List ℤ → Type 0
     InClosure g p = (c : Constraint) → IsConstraintFor Closed g.cons.dim c → IsValidOn g c → Satisfies p c

@@ -12,9 +12,6 @@ use Rattle.set_laws.specs.JoinedSets.{GenerateSame}
 use Rattle.poly_pair.specs.Polyhedra.{Polyhedron, IsOver, IsOfConstraints, IsOfGenerators, IsUniverse, IsEmpty}
 use Rattle.poly_pair.specs.declared.topology.Topology.{Topology}
 use Rattle.poly_pair.specs.declared.topology.Topology.TheVariants.{Closed}
-use Rattle.lattice_ops.specs.Sets.{IsMeet, IsHull, IsClosure}
-use Rattle.affine_ops.specs.Results.{IsProjection, IsProduct}
-use Rattle.elapse.specs.Elapses.{IsElapse}
 use Rattle.cdd_text.specs.declared.format.Format.{Format}
 use Rattle.cdd_text.specs.declared.format.Format.TheVariants.{Ine, Ext}
 use Rattle.file_poly.specs.Files.{IsListOf, IsOfList, IsOfFile}
@@ -28,12 +25,13 @@ use Rattle.calc_state.specs.declared.entry.Entry.TheVariants as entry
 use Rattle.trans_sys.specs.Systems.{TransitionSystem, IsKeptSystem, with_initial, with_transition}
 use Rattle.calc_state.specs.State.{OpenFile}
 use Rattle.calc_state.specs.Makers.{SaysConstraints, SaysGenerators, more_generators}
-use Rattle.calc_state.specs.Affine.{IsEmbedded, IsRemoved, IsImageBy, IsPreimageBy}
+use Rattle.calc_state.specs.Results.{IsResultOfConstraints, IsResultOfGenerators, IsResultOfMeet, IsResultOfHull, IsResultOfClosure, IsResultOfElapse}
+use Rattle.calc_state.specs.Affine.{IsEmbedded, IsProjected, IsRemoved, IsConcatenated, IsImageBy, IsPreimageBy}
 use Rattle.calc_state.specs.Meanings.{topology_of}
 use Rattle.calc_state.specs.Files.{format_of}
 use Rattle.calc_state.specs.Step.{IsProper}
 use Rattle.polycalc.specs.Acts.{Act, Did, Took}
-use Rattle.polycalc.specs.Sets.{IsMade, IsCut, IsAdded, IsJoined, IsOfAlike, sets, Gives, GivesSet, GivesSystem, GivesEntry, GivesFile, IsEntryOf, IsSetOf}
+use Rattle.polycalc.specs.Sets.{IsMade, IsCut, IsCutOf, IsAdded, IsJoined, IsOfAlike, sets, Gives, GivesSet, GivesSystem, GivesEntry, GivesFile, IsEntryOf, IsSetOf}
 use Rattle.polycalc.specs.Sameness.{AreSamePolyhedra, AreSameEntries}
 use Rattle.polycalc.proofs.OneForm.{OneForm, same_dims, of_set, one_of_points}
 use Rattle.polycalc.proofs.OneResult.{one_of_one, one_of_two, one_meet, one_hull, one_closure, one_widened}
@@ -172,28 +170,28 @@ same_case : (b : Bool) (A B C D E : Type 0) → (A → C → E) → (B → D →
 same_case true A B C D E f g h k = f h k
 same_case false A B C D E f g h k = g h k
 
-one_made_of_constraints : OneForm → (t : Topology) (n : ℕ) (part : Part) (p q : Polyhedron) → IsMade (λ r. SaysConstraints n part (λ cs. IsOfConstraints t cs r)) p → IsMade (λ r. SaysConstraints n part (λ cs. IsOfConstraints t cs r)) q → AreSamePolyhedra p q
+one_made_of_constraints : OneForm → (t : Topology) (n : ℕ) (part : Part) (p q : Polyhedron) → IsMade (λ r. SaysConstraints n part (λ cs. IsResultOfConstraints t cs r)) p → IsMade (λ r. SaysConstraints n part (λ cs. IsResultOfConstraints t cs r)) q → AreSamePolyhedra p q
 one_made_of_constraints laws t n part p q h k =
-    one_says_constraints laws n n part (λ cs. IsOfConstraints t cs p) (λ cs. IsOfConstraints t cs q) (AreSamePolyhedra p q) refl (λ cs x y. one_of_constraints laws t cs p q h.proper k.proper x y) h.is k.is
+    one_says_constraints laws n n part (λ cs. IsResultOfConstraints t cs p) (λ cs. IsResultOfConstraints t cs q) (AreSamePolyhedra p q) refl (λ cs x y. one_of_constraints laws t cs p q h.proper k.proper x.set y.set) h.is k.is
 
-one_made_of_generators : OneForm → (t : Topology) (n : ℕ) (part : Part) (p q : Polyhedron) → IsMade (λ r. SaysGenerators n part (λ gs. IsOfGenerators t gs r)) p → IsMade (λ r. SaysGenerators n part (λ gs. IsOfGenerators t gs r)) q → AreSamePolyhedra p q
+one_made_of_generators : OneForm → (t : Topology) (n : ℕ) (part : Part) (p q : Polyhedron) → IsMade (λ r. SaysGenerators n part (λ gs. IsResultOfGenerators t gs r)) p → IsMade (λ r. SaysGenerators n part (λ gs. IsResultOfGenerators t gs r)) q → AreSamePolyhedra p q
 one_made_of_generators laws t n part p q h k =
-    one_says_generators laws n n part (λ gs. IsOfGenerators t gs p) (λ gs. IsOfGenerators t gs q) (AreSamePolyhedra p q) refl (λ gs x y. one_of_generators laws t gs p q h.proper k.proper x y) h.is k.is
+    one_says_generators laws n n part (λ gs. IsResultOfGenerators t gs p) (λ gs. IsResultOfGenerators t gs q) (AreSamePolyhedra p q) refl (λ gs x y. one_of_generators laws t gs p q h.proper k.proper x.set y.set) h.is k.is
 
 one_added : OneForm → (Was : Polyhedron → Type 0) (part : Part) (p q : Polyhedron) → ((x y : Polyhedron) → Was x → Was y → AreSamePolyhedra x y) → IsAdded Was part p → IsAdded Was part q → AreSamePolyhedra p q
 one_added laws Was part p q one h k =
     let same = one h.old k.old h.was k.was in
-    one_says_constraints laws h.old.cons.dim k.old.cons.dim part (λ cs. IsCut h.old cs p) (λ cs. IsCut k.old cs q) (AreSamePolyhedra p q) same.dim
-    (λ cs x y. one_cut laws h.old k.old same cs p q h.made.proper k.made.proper x y) h.made.is k.made.is
+    one_says_constraints laws h.old.cons.dim k.old.cons.dim part (λ cs. IsCutOf h.old cs p) (λ cs. IsCutOf k.old cs q) (AreSamePolyhedra p q) same.dim
+    (λ cs x y. one_cut laws h.old k.old same cs p q h.made.proper k.made.proper x.set y.set) h.made.is k.made.is
 
 one_joined : OneForm → (Was : Polyhedron → Type 0) (part : Part) (p q : Polyhedron) → ((x : Polyhedron) → Was x → IsProper x) → ((x y : Polyhedron) → Was x → Was y → AreSamePolyhedra x y) → IsJoined Was part p → IsJoined Was part q → AreSamePolyhedra p q
 one_joined laws Was part p q kept one h k =
     let same = one h.old k.old h.was k.was in
     let a = kept h.old h.was in
     let b = kept k.old k.was in
-    one_says_generators laws h.old.gens.dim k.old.gens.dim part (λ gs. IsOfGenerators h.old.topology (more_generators h.old.gens gs) p) (λ gs. IsOfGenerators k.old.topology (more_generators k.old.gens gs) q) (AreSamePolyhedra p q)
+    one_says_generators laws h.old.gens.dim k.old.gens.dim part (λ gs. IsResultOfGenerators h.old.topology (more_generators h.old.gens gs) p) (λ gs. IsResultOfGenerators k.old.topology (more_generators k.old.gens gs) q) (AreSamePolyhedra p q)
     (same_dims h.old a ∙ same.dim ∙ sym (same_dims k.old b))
-    (λ gs x y. one_joined_set laws h.old k.old same a b gs p q h.made.proper k.made.proper x y) h.made.is k.made.is
+    (λ gs x y. one_joined_set laws h.old k.old same a b gs p q h.made.proper k.made.proper x.set y.set) h.made.is k.made.is
 
 -- a file holds one list
 one_list : OneForm → (want : Format) (bytes : List ℕ) (k l : Listed) (p q : Polyhedron) → IsProper p → IsProper q → IsListOf want bytes k → IsListOf want bytes l → IsOfList k p → IsOfList l q → AreSamePolyhedra p q
@@ -215,13 +213,13 @@ one_given laws (Empty out top n) Had p q kept one h k = one_empty laws (topology
 one_given laws (Copy out other) Had p q kept one h k = one other p q h k
 one_given laws (Add out part) Had p q kept one h k = one_added laws (Had out) part p q (one out) h k
 one_given laws (Addgen out part) Had p q kept one h k = one_joined laws (Had out) part p q (kept out) (one out) h k
-one_given laws (Meet out name other) Had p q kept one h k = one_of_two (Had name) (Had other) (IsOfAlike IsMeet) p q (one name) (one other) (one_meet laws) h k
-one_given laws (Hull out name other) Had p q kept one h k = one_of_two (Had name) (Had other) (IsOfAlike IsHull) p q (one name) (one other) (one_hull laws) h k
-one_given laws (Closure out other) Had p q kept one h k = one_of_one (Had other) IsClosure p q (one other) (one_closure laws) h k
+one_given laws (Meet out name other) Had p q kept one h k = one_of_two (Had name) (Had other) (IsOfAlike IsResultOfMeet) p q (one name) (one other) (one_meet laws) h k
+one_given laws (Hull out name other) Had p q kept one h k = one_of_two (Had name) (Had other) (IsOfAlike IsResultOfHull) p q (one name) (one other) (one_hull laws) h k
+one_given laws (Closure out other) Had p q kept one h k = one_of_one (Had other) IsResultOfClosure p q (one other) (one_closure laws) h k
 one_given laws (Embed out other n) Had p q kept one h k = one_of_one (Had other) (IsEmbedded n) p q (one other) (one_embedded laws n) h k
-one_given laws (Project out other n) Had p q kept one h k = one_of_one (Had other) (IsProjection n) p q (one other) (one_projection laws n) h k
-one_given laws (Concat out name other) Had p q kept one h k = one_of_two (Had name) (Had other) IsProduct p q (one name) (one other) (one_product laws) h k
-one_given laws (Elapse out name other) Had p q kept one h k = one_of_two (Had name) (Had other) (IsOfAlike IsElapse) p q (one name) (one other) (one_elapse laws) h k
+one_given laws (Project out other n) Had p q kept one h k = one_of_one (Had other) (IsProjected n) p q (one other) (one_projection laws n) h k
+one_given laws (Concat out name other) Had p q kept one h k = one_of_two (Had name) (Had other) IsConcatenated p q (one name) (one other) (one_product laws) h k
+one_given laws (Elapse out name other) Had p q kept one h k = one_of_two (Had name) (Had other) (IsOfAlike IsResultOfElapse) p q (one name) (one other) (one_elapse laws) h k
 one_given laws (Image out other v part) Had p q kept one h k = one_of_one (Had other) (IsImageBy v part) p q (one other) (one_image_by laws v part) h k
 one_given laws (Preimage out other v part) Had p q kept one h k = one_of_one (Had other) (IsPreimageBy v part) p q (one other) (one_preimage_by laws v part) h k
 one_given laws (Remove out other vars) Had p q kept one h k = one_of_one (Had other) (IsRemoved vars) p q (one other) (one_removed laws vars) h k

@@ -7,10 +7,8 @@ use Rattle.std.proofs.lemmas.List.Elements.{All-append}
 use Rattle.cons_sys.specs.Constraints.{Constraints, Satisfies}
 use Rattle.pair_laws.proofs.ListLemmas.{All-left, All-right}
 use Rattle.poly_pair.specs.declared.topology.Topology.TheVariants.{Closed}
-use Rattle.poly_pair.specs.Polyhedra.{Polyhedron, HasNoPoint, IsOfConstraints, IsOfGenerators, IsUniverse, IsEmpty}
-use Rattle.lattice_ops.specs.Sets.{IsMeet, IsHull, IsClosure, IsIncluded, HaveSamePoints, AreDisjoint}
-use Rattle.affine_ops.specs.Results.{IsProjection, IsProduct}
-use Rattle.elapse.specs.Elapses.{IsElapse}
+use Rattle.poly_pair.specs.Polyhedra.{Polyhedron, HasNoPoint, IsOfConstraints, IsUniverse, IsEmpty}
+use Rattle.lattice_ops.specs.Sets.{IsIncluded, HaveSamePoints, AreDisjoint}
 use Rattle.script_text.specs.declared.command.Part.{Part}
 use Rattle.script_text.specs.declared.command.Command.{Command}
 use Rattle.script_text.specs.declared.command.Command.TheVariants.{Nothing, Cons, Gens, Universe, Empty, Copy, Drop, Add, Addgen, Has, Size, Print, Names, Meet, Hull, Closure, Contains, Equal, Disjoint, Isempty, Relation, Max, Min, Embed, Project, Concat, Elapse, Image, Preimage, Remove, Read, Write, Widen, System, Init, Trans, Fixpoint}
@@ -26,7 +24,8 @@ use Rattle.calc_state.specs.Makers.{SaysConstraints, SaysGenerators, more_constr
 use Rattle.calc_state.specs.Questions.{has, size, print, line, size_text, side_text, names_text}
 use Rattle.calc_state.specs.Optima.{relation, bound, relation_text, bound_text}
 use Rattle.calc_state.specs.Lattice.{meet, hull, closure, contains, equal, disjoint, isempty, IsTold}
-use Rattle.calc_state.specs.Affine.{embed, project, concat, elapse, image, preimage, remove, IsEmbedded, IsRemoved, IsImageBy, IsPreimageBy}
+use Rattle.calc_state.specs.Affine.{embed, project, concat, elapse, image, preimage, remove, IsEmbedded, IsProjected, IsRemoved, IsConcatenated, IsImageBy, IsPreimageBy}
+use Rattle.calc_state.specs.Results.{IsResultOfConstraints, IsResultOfGenerators, IsResultOfMeet, IsResultOfHull, IsResultOfClosure, IsResultOfElapse}
 use Rattle.calc_state.specs.Widening.{widen}
 use Rattle.calc_state.specs.Systems.{IsEmptySystem, AreReached, init, trans, fixpoint}
 use Rattle.trans_sys.specs.Systems.{TransitionSystem, with_initial, with_transition}
@@ -224,14 +223,14 @@ cut_of q cs r h = record {
 add_follows : (old new : Table) (earlier : List Act) (out text : List ℕ) (part : Part) (o : Option Polyhedron) → Agrees old earlier → Stands o (IsSetOf earlier out) → poly_of old out ≡ o → IsAccepted (on_one o (add out part)) old text new → Follows new earlier (Did (Add out part))
 add_follows old new earlier out text part None a s e p = absurd p.does
 add_follows old new earlier out text part (Some q) a s e p =
-    put_follows old new earlier (Add out part) out (λ r. SaysConstraints q.cons.dim part (λ cs. IsOfConstraints q.topology (more_constraints q.cons cs) r)) p.change a p.does p.proper p.table (λ name. refl)
-    (λ n r is. record { old = q; was = s; made = record { proper = is.proper; is = record { system = is.is.system; read = is.is.read; holds = cut_of q is.is.system r is.is.holds } } })
+    put_follows old new earlier (Add out part) out (λ r. SaysConstraints q.cons.dim part (λ cs. IsResultOfConstraints q.topology (more_constraints q.cons cs) r)) p.change a p.does p.proper p.table (λ name. refl)
+    (λ n r is. record { old = q; was = s; made = record { proper = is.proper; is = record { system = is.is.system; read = is.is.read; holds = record { set = cut_of q is.is.system r is.is.holds.set; stored = is.is.holds.stored } } } })
     (λ x. names-put_there old out x (entry.Poly q) (entry_there (entry_of old out) q e) ∙ a.names)
 
 addgen_follows : (old new : Table) (earlier : List Act) (out text : List ℕ) (part : Part) (o : Option Polyhedron) → Agrees old earlier → Stands o (IsSetOf earlier out) → poly_of old out ≡ o → IsAccepted (on_one o (addgen out part)) old text new → Follows new earlier (Did (Addgen out part))
 addgen_follows old new earlier out text part None a s e p = absurd p.does
 addgen_follows old new earlier out text part (Some q) a s e p =
-    put_follows old new earlier (Addgen out part) out (λ r. SaysGenerators q.gens.dim part (λ gs. IsOfGenerators q.topology (more_generators q.gens gs) r)) p.change a p.does p.proper p.table (λ name. refl)
+    put_follows old new earlier (Addgen out part) out (λ r. SaysGenerators q.gens.dim part (λ gs. IsResultOfGenerators q.topology (more_generators q.gens gs) r)) p.change a p.does p.proper p.table (λ name. refl)
     (λ n r is. record { old = q; was = s; made = is })
     (λ x. names-put_there old out x (entry.Poly q) (entry_there (entry_of old out) q e) ∙ a.names)
 
@@ -355,9 +354,9 @@ fixpoint_follows old new earlier s prefix text delay (Some found) a was p =
 accepted_follows : (old new : Table) (earlier : List Act) (c : Command) (text : List ℕ) → Agrees old earlier → IsAccepted (meaning old c) old text new → Follows new earlier (Did c)
 accepted_follows old new earlier Nothing text a p = said_follows old new earlier Nothing [] p.change a p.does p.table (λ name. refl) refl
 accepted_follows old new earlier (Cons out top n part) text a p =
-    put_follows old new earlier (Cons out top n part) out (λ r. SaysConstraints n part (λ cs. IsOfConstraints (topology_of top) cs r)) p.change a p.does p.proper p.table (λ name. refl) (λ n r is. is) (new_name old earlier out a)
+    put_follows old new earlier (Cons out top n part) out (λ r. SaysConstraints n part (λ cs. IsResultOfConstraints (topology_of top) cs r)) p.change a p.does p.proper p.table (λ name. refl) (λ n r is. is) (new_name old earlier out a)
 accepted_follows old new earlier (Gens out top n part) text a p =
-    put_follows old new earlier (Gens out top n part) out (λ r. SaysGenerators n part (λ gs. IsOfGenerators (topology_of top) gs r)) p.change a p.does p.proper p.table (λ name. refl) (λ n r is. is) (new_name old earlier out a)
+    put_follows old new earlier (Gens out top n part) out (λ r. SaysGenerators n part (λ gs. IsResultOfGenerators (topology_of top) gs r)) p.change a p.does p.proper p.table (λ name. refl) (λ n r is. is) (new_name old earlier out a)
 accepted_follows old new earlier (Universe out top n) text a p = put_follows old new earlier (Universe out top n) out (IsUniverse (topology_of top) n) p.change a p.does p.proper p.table (λ name. refl) (λ n r is. is) (new_name old earlier out a)
 accepted_follows old new earlier (Empty out top n) text a p = put_follows old new earlier (Empty out top n) out (IsEmpty (topology_of top) n) p.change a p.does p.proper p.table (λ name. refl) (λ n r is. is) (new_name old earlier out a)
 accepted_follows old new earlier (Copy out other) text a p = copy_follows old new earlier out other text (poly_of old other) a (poly_at old earlier a other) p
@@ -375,13 +374,13 @@ accepted_follows old new earlier (Write name form) text a p =
     (let s = one_say (write form) (poly_of old name) p.change (λ x h. record { lines = file_of form x; said = h }) p.does in said_follows old new earlier (Write name form) s.lines p.change a s.said p.table (λ n. refl) refl)
 accepted_follows old new earlier Names text a p = said_follows old new earlier Names (line (names_text old)) p.change a p.does p.table (λ name. refl) refl
 accepted_follows old new earlier (Meet out one other) text a p =
-    two_follows old new earlier (Meet out one other) out one other text (meet old out) (IsOfAlike IsMeet) (poly_of old one) (poly_of old other) a (poly_at old earlier a one) (poly_at old earlier a other) (λ name. refl) (λ n r is. is) (new_name old earlier out a)
-    (λ x y change passes does. put_alike out x y (room old out) IsMeet change passes does) p
+    two_follows old new earlier (Meet out one other) out one other text (meet old out) (IsOfAlike IsResultOfMeet) (poly_of old one) (poly_of old other) a (poly_at old earlier a one) (poly_at old earlier a other) (λ name. refl) (λ n r is. is) (new_name old earlier out a)
+    (λ x y change passes does. put_alike out x y (room old out) IsResultOfMeet change passes does) p
 accepted_follows old new earlier (Hull out one other) text a p =
-    two_follows old new earlier (Hull out one other) out one other text (hull old out) (IsOfAlike IsHull) (poly_of old one) (poly_of old other) a (poly_at old earlier a one) (poly_at old earlier a other) (λ name. refl) (λ n r is. is) (new_name old earlier out a)
-    (λ x y change passes does. put_alike out x y (room old out) IsHull change passes does) p
+    two_follows old new earlier (Hull out one other) out one other text (hull old out) (IsOfAlike IsResultOfHull) (poly_of old one) (poly_of old other) a (poly_at old earlier a one) (poly_at old earlier a other) (λ name. refl) (λ n r is. is) (new_name old earlier out a)
+    (λ x y change passes does. put_alike out x y (room old out) IsResultOfHull change passes does) p
 accepted_follows old new earlier (Closure out other) text a p =
-    one_follows old new earlier (Closure out other) out other text (closure old out) IsClosure (poly_of old other) a (poly_at old earlier a other) (λ name. refl) (λ n r is. is) (new_name old earlier out a) (λ x change passes does. does) p
+    one_follows old new earlier (Closure out other) out other text (closure old out) IsResultOfClosure (poly_of old other) a (poly_at old earlier a other) (λ name. refl) (λ n r is. is) (new_name old earlier out a) (λ x change passes does. does) p
 accepted_follows old new earlier (Contains one other) text a p =
     (let s = two_say contains (poly_of old one) (poly_of old other) p.change (λ x y h. told_says (IsIncluded y x) p.change h.told) p.does in said_follows old new earlier (Contains one other) s.lines p.change a s.said p.table (λ n. refl) refl)
 accepted_follows old new earlier (Equal one other) text a p =
@@ -399,7 +398,7 @@ accepted_follows old new earlier (Min name part) text a p =
 accepted_follows old new earlier (Embed out other n) text a p =
     one_follows old new earlier (Embed out other n) out other text (embed old out n) (IsEmbedded n) (poly_of old other) a (poly_at old earlier a other) (λ name. refl) (λ n r is. is) (new_name old earlier out a) (λ x change passes does. does) p
 accepted_follows old new earlier (Project out other n) text a p =
-    one_follows old new earlier (Project out other n) out other text (project old out n) (IsProjection n) (poly_of old other) a (poly_at old earlier a other) (λ name. refl) (λ n r is. is) (new_name old earlier out a) (λ x change passes does. does) p
+    one_follows old new earlier (Project out other n) out other text (project old out n) (IsProjected n) (poly_of old other) a (poly_at old earlier a other) (λ name. refl) (λ n r is. is) (new_name old earlier out a) (λ x change passes does. does) p
 accepted_follows old new earlier (Image out other v part) text a p =
     one_follows old new earlier (Image out other v part) out other text (image old out v part) (IsImageBy v part) (poly_of old other) a (poly_at old earlier a other) (λ name. refl) (λ n r is. is) (new_name old earlier out a) (λ x change passes does. does) p
 accepted_follows old new earlier (Preimage out other v part) text a p =
@@ -407,10 +406,10 @@ accepted_follows old new earlier (Preimage out other v part) text a p =
 accepted_follows old new earlier (Remove out other vars) text a p =
     one_follows old new earlier (Remove out other vars) out other text (remove old out vars) (IsRemoved vars) (poly_of old other) a (poly_at old earlier a other) (λ name. refl) (λ n r is. is) (new_name old earlier out a) (λ x change passes does. does) p
 accepted_follows old new earlier (Concat out one other) text a p =
-    two_follows old new earlier (Concat out one other) out one other text (concat old out) IsProduct (poly_of old one) (poly_of old other) a (poly_at old earlier a one) (poly_at old earlier a other) (λ name. refl) (λ n r is. is) (new_name old earlier out a) (λ x y change passes does. does) p
+    two_follows old new earlier (Concat out one other) out one other text (concat old out) IsConcatenated (poly_of old one) (poly_of old other) a (poly_at old earlier a one) (poly_at old earlier a other) (λ name. refl) (λ n r is. is) (new_name old earlier out a) (λ x y change passes does. does) p
 accepted_follows old new earlier (Elapse out one other) text a p =
-    two_follows old new earlier (Elapse out one other) out one other text (elapse old out) (IsOfAlike IsElapse) (poly_of old one) (poly_of old other) a (poly_at old earlier a one) (poly_at old earlier a other) (λ name. refl) (λ n r is. is) (new_name old earlier out a)
-    (λ x y change passes does. put_alike out x y (room old out) IsElapse change passes does) p
+    two_follows old new earlier (Elapse out one other) out one other text (elapse old out) (IsOfAlike IsResultOfElapse) (poly_of old one) (poly_of old other) a (poly_at old earlier a one) (poly_at old earlier a other) (λ name. refl) (λ n r is. is) (new_name old earlier out a)
+    (λ x y change passes does. put_alike out x y (room old out) IsResultOfElapse change passes does) p
 accepted_follows old new earlier (System out n locations) text a p =
     system_follows old new earlier (System out n locations) out (IsEmptySystem n locations) p.change a p.does p.proper p.table (λ name. refl) (λ name s is. is) (new_name old earlier out a)
 accepted_follows old new earlier (Init out location other) text a p = init_follows old new earlier out other text location (system_of old out) (poly_of old other) a (system_at old earlier a out) (poly_at old earlier a other) refl p

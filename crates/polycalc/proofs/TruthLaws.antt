@@ -12,10 +12,8 @@ use Rattle.optimum.specs.declared.outcome.Sup.{Sup}
 use Rattle.optimum.specs.declared.outcome.Sup.TheVariants as sup
 use Rattle.poly_pair.specs.KeptLaws.{KeptIsPair}
 use Rattle.poly_pair.specs.declared.topology.Topology.TheVariants.{Closed}
-use Rattle.poly_pair.specs.Polyhedra.{Polyhedron, HasNoPoint, IsOfConstraints, IsOfGenerators, IsUniverse, IsEmpty}
-use Rattle.lattice_ops.specs.Sets.{IsMeet, IsHull, IsClosure, IsIncluded, HaveSamePoints, AreDisjoint}
-use Rattle.affine_ops.specs.Results.{IsProjection, IsProduct}
-use Rattle.elapse.specs.Elapses.{IsElapse}
+use Rattle.poly_pair.specs.Polyhedra.{Polyhedron, HasNoPoint, IsUniverse, IsEmpty}
+use Rattle.lattice_ops.specs.Sets.{IsIncluded, HaveSamePoints, AreDisjoint}
 use Rattle.script_text.specs.declared.command.Part.{Part}
 use Rattle.script_text.specs.declared.command.Command.{Command}
 use Rattle.script_text.specs.declared.command.Command.TheVariants.{Nothing, Cons, Gens, Universe, Empty, Copy, Drop, Add, Addgen, Has, Size, Print, Names, Meet, Hull, Closure, Contains, Equal, Disjoint, Isempty, Relation, Max, Min, Embed, Project, Concat, Elapse, Image, Preimage, Remove, Read, Write, Widen, System, Init, Trans, Fixpoint}
@@ -30,7 +28,8 @@ use Rattle.calc_state.specs.Makers.{SaysConstraints, SaysGenerators, more_constr
 use Rattle.calc_state.specs.Questions.{has, size, print, line, size_text, side_text, spaced, names_text}
 use Rattle.calc_state.specs.Optima.{relation, bound, relation_text, bound_text}
 use Rattle.calc_state.specs.Lattice.{meet, hull, closure, contains, equal, disjoint, isempty, IsTold}
-use Rattle.calc_state.specs.Affine.{embed, project, concat, elapse, image, preimage, remove, IsEmbedded, IsRemoved, IsImageBy, IsPreimageBy}
+use Rattle.calc_state.specs.Affine.{embed, project, concat, elapse, image, preimage, remove, IsEmbedded, IsProjected, IsRemoved, IsConcatenated, IsImageBy, IsPreimageBy}
+use Rattle.calc_state.specs.Results.{IsResultOfConstraints, IsResultOfGenerators, IsResultOfMeet, IsResultOfHull, IsResultOfClosure, IsResultOfElapse}
 use Rattle.calc_state.specs.Step.{Reply, IsAccepted, IsProper, lines_of, ok_line}
 use Rattle.widening.specs.Widenings.{IsWidening}
 use Rattle.calc_state.specs.Widening.{widen}
@@ -209,17 +208,17 @@ accepted_true laws old new earlier (Widen out one other) text g p = two_ok old n
 accepted_true laws old new earlier (Read out form) text g p = p.lines_are ∙ said_lines [] p.change p.does
 accepted_true laws old new earlier (Write name form) text g p = write_true old new earlier form name text (poly_of old name) (poly_at old earlier g name) p
 accepted_true laws old new earlier Nothing text g p = p.lines_are ∙ said_lines [] p.change p.does
-accepted_true laws old new earlier (Cons out top n part) text g p = p.lines_are ∙ put_ok out (λ r. SaysConstraints n part (λ cs. IsOfConstraints (topology_of top) cs r)) p.change p.does
-accepted_true laws old new earlier (Gens out top n part) text g p = p.lines_are ∙ put_ok out (λ r. SaysGenerators n part (λ gs. IsOfGenerators (topology_of top) gs r)) p.change p.does
+accepted_true laws old new earlier (Cons out top n part) text g p = p.lines_are ∙ put_ok out (λ r. SaysConstraints n part (λ cs. IsResultOfConstraints (topology_of top) cs r)) p.change p.does
+accepted_true laws old new earlier (Gens out top n part) text g p = p.lines_are ∙ put_ok out (λ r. SaysGenerators n part (λ gs. IsResultOfGenerators (topology_of top) gs r)) p.change p.does
 accepted_true laws old new earlier (Universe out top n) text g p = p.lines_are ∙ put_ok out (IsUniverse (topology_of top) n) p.change p.does
 accepted_true laws old new earlier (Empty out top n) text g p = p.lines_are ∙ put_ok out (IsEmpty (topology_of top) n) p.change p.does
 accepted_true laws old new earlier (Copy out other) text g p = one_ok old new out text (copy old out) (λ q r. r ≡ q) (poly_of old other) (λ x change does. does) p
 accepted_true laws old new earlier (Drop out) text g p = drop_ok old new out text (entry_of old out) p
-accepted_true laws old new earlier (Add out part) text g p = one_ok old new out text (add out part) (λ q r. SaysConstraints q.cons.dim part (λ cs. IsOfConstraints q.topology (more_constraints q.cons cs) r)) (poly_of old out) (λ x change does. does) p
-accepted_true laws old new earlier (Addgen out part) text g p = one_ok old new out text (addgen out part) (λ q r. SaysGenerators q.gens.dim part (λ gs. IsOfGenerators q.topology (more_generators q.gens gs) r)) (poly_of old out) (λ x change does. does) p
-accepted_true laws old new earlier (Meet out one other) text g p = two_ok old new out text (meet old out) IsMeet (poly_of old one) (poly_of old other) (λ x y change does. does) p
-accepted_true laws old new earlier (Hull out one other) text g p = two_ok old new out text (hull old out) IsHull (poly_of old one) (poly_of old other) (λ x y change does. does) p
-accepted_true laws old new earlier (Closure out other) text g p = one_ok old new out text (closure old out) IsClosure (poly_of old other) (λ x change does. does) p
+accepted_true laws old new earlier (Add out part) text g p = one_ok old new out text (add out part) (λ q r. SaysConstraints q.cons.dim part (λ cs. IsResultOfConstraints q.topology (more_constraints q.cons cs) r)) (poly_of old out) (λ x change does. does) p
+accepted_true laws old new earlier (Addgen out part) text g p = one_ok old new out text (addgen out part) (λ q r. SaysGenerators q.gens.dim part (λ gs. IsResultOfGenerators q.topology (more_generators q.gens gs) r)) (poly_of old out) (λ x change does. does) p
+accepted_true laws old new earlier (Meet out one other) text g p = two_ok old new out text (meet old out) IsResultOfMeet (poly_of old one) (poly_of old other) (λ x y change does. does) p
+accepted_true laws old new earlier (Hull out one other) text g p = two_ok old new out text (hull old out) IsResultOfHull (poly_of old one) (poly_of old other) (λ x y change does. does) p
+accepted_true laws old new earlier (Closure out other) text g p = one_ok old new out text (closure old out) IsResultOfClosure (poly_of old other) (λ x change does. does) p
 accepted_true laws old new earlier (Contains one other) text g p =
     two_true old new earlier one other text contains (λ x y. SaysTruth text (IsIncluded y x)) (poly_of old one) (poly_of old other) (poly_at old earlier g one) (poly_at old earlier g other) (λ x y passes. are_alike x y no_fault passes) (λ x y change does e. told_true (IsIncluded y x) change text does.told e) p
 accepted_true laws old new earlier (Equal one other) text g p =
@@ -231,12 +230,12 @@ accepted_true laws old new earlier (Relation name part) text g p = one_true old 
 accepted_true laws old new earlier (Max name part) text g p = bound_true laws old new earlier true name text part (poly_of old name) (poly_at old earlier g name) p
 accepted_true laws old new earlier (Min name part) text g p = bound_true laws old new earlier false name text part (poly_of old name) (poly_at old earlier g name) p
 accepted_true laws old new earlier (Embed out other n) text g p = one_ok old new out text (embed old out n) (IsEmbedded n) (poly_of old other) (λ x change does. does) p
-accepted_true laws old new earlier (Project out other n) text g p = one_ok old new out text (project old out n) (IsProjection n) (poly_of old other) (λ x change does. does) p
+accepted_true laws old new earlier (Project out other n) text g p = one_ok old new out text (project old out n) (IsProjected n) (poly_of old other) (λ x change does. does) p
 accepted_true laws old new earlier (Image out other v part) text g p = one_ok old new out text (image old out v part) (IsImageBy v part) (poly_of old other) (λ x change does. does) p
 accepted_true laws old new earlier (Preimage out other v part) text g p = one_ok old new out text (preimage old out v part) (IsPreimageBy v part) (poly_of old other) (λ x change does. does) p
 accepted_true laws old new earlier (Remove out other vars) text g p = one_ok old new out text (remove old out vars) (IsRemoved vars) (poly_of old other) (λ x change does. does) p
-accepted_true laws old new earlier (Concat out one other) text g p = two_ok old new out text (concat old out) IsProduct (poly_of old one) (poly_of old other) (λ x y change does. does) p
-accepted_true laws old new earlier (Elapse out one other) text g p = two_ok old new out text (elapse old out) IsElapse (poly_of old one) (poly_of old other) (λ x y change does. does) p
+accepted_true laws old new earlier (Concat out one other) text g p = two_ok old new out text (concat old out) IsConcatenated (poly_of old one) (poly_of old other) (λ x y change does. does) p
+accepted_true laws old new earlier (Elapse out one other) text g p = two_ok old new out text (elapse old out) IsResultOfElapse (poly_of old one) (poly_of old other) (λ x y change does. does) p
 accepted_true laws old new earlier (System out n locations) text g p = p.lines_are ∙ system_ok out (IsEmptySystem n locations) p.change p.does
 accepted_true laws old new earlier (Init out location other) text g p = changed_ok old new out text (init out location) (λ s q r. r ≡ with_initial s location q) (system_of old out) (poly_of old other) (λ s q change does. does) p
 accepted_true laws old new earlier (Trans out source target other) text g p =

@@ -4,12 +4,12 @@ use Rattle.std.specs.List.{list_any}
 use Rattle.std.specs.Str.{bytes_eq}
 use Rattle.row_core.specs.Points.{IsPoint}
 use Rattle.cons_sys.specs.Constraints.{Constraints, In}
-use Rattle.poly_pair.specs.Polyhedra.{Polyhedron, IsOver, IsOfConstraints, IsOfGenerators, IsUniverse, IsEmpty}
+use Rattle.poly_pair.specs.Polyhedra.{Polyhedron, IsOver, IsUniverse, IsEmpty}
 use Rattle.poly_pair.specs.declared.topology.Topology.TheVariants.{Closed}
-use Rattle.lattice_ops.specs.Sets.{IsMeet, IsHull, IsClosure, IsIncluded}
+use Rattle.poly_pair.specs.Parts.{AreStoredOfRows}
+use Rattle.poly_pair.specs.TopologyLists.{constraints_of}
+use Rattle.lattice_ops.specs.Sets.{IsIncluded}
 use Rattle.widening.specs.Widenings.{IsWidening}
-use Rattle.affine_ops.specs.Results.{IsProjection, IsProduct}
-use Rattle.elapse.specs.Elapses.{IsElapse}
 use Rattle.file_poly.specs.Files.{IsOfFile}
 use Rattle.trans_sys.specs.Systems.{TransitionSystem, IsKeptSystem, with_initial, with_transition}
 use Rattle.script_text.specs.declared.command.Part.{Part}
@@ -18,8 +18,9 @@ use Rattle.script_text.specs.declared.command.Command.TheVariants.{Cons, Gens, U
 use Rattle.calc_state.specs.declared.entry.Entry.{Entry}
 use Rattle.calc_state.specs.declared.entry.Entry.TheVariants as entry
 use Rattle.calc_state.specs.Table.{numbered}
-use Rattle.calc_state.specs.Makers.{SaysConstraints, SaysGenerators, more_generators}
-use Rattle.calc_state.specs.Affine.{IsEmbedded, IsRemoved, IsImageBy, IsPreimageBy}
+use Rattle.calc_state.specs.Makers.{SaysConstraints, SaysGenerators, more_constraints, more_generators}
+use Rattle.calc_state.specs.Results.{IsResult, IsResultOfConstraints, IsResultOfGenerators, IsResultOfMeet, IsResultOfHull, IsResultOfClosure, IsResultOfElapse}
+use Rattle.calc_state.specs.Affine.{IsEmbedded, IsProjected, IsRemoved, IsConcatenated, IsImageBy, IsPreimageBy}
 use Rattle.calc_state.specs.Systems.{IsEmptySystem, AreReached}
 use Rattle.calc_state.specs.Meanings.{topology_of}
 use Rattle.calc_state.specs.Files.{format_of}
@@ -38,17 +39,21 @@ pub record IsCut (old : Polyhedron) (cs : Constraints) (p : Polyhedron) : Type 0
   pub over : IsOver old.topology old.cons.dim p
   pub points : (v : List ℤ) → IsPoint old.cons.dim v → In p.cons v ↔ (In old.cons v × In cs v)
 
+-- stored of the list of the constraints of both
+abbrev pub IsCutOf : Polyhedron → Constraints → Polyhedron → Type 0
+IsCutOf old cs = IsResult (IsCut old cs) (AreStoredOfRows old.topology old.cons.dim (constraints_of old.topology (more_constraints old.cons cs)))
+
 -- the points of what there was at which the constraints of the text hold as well
 pub record IsAdded (Was : Polyhedron → Type 0) (part : Part) (p : Polyhedron) : Type 0 where
   pub old : Polyhedron
   pub was : Was old
-  pub made : IsMade (λ r. SaysConstraints old.cons.dim part (λ cs. IsCut old cs r)) p
+  pub made : IsMade (λ r. SaysConstraints old.cons.dim part (λ cs. IsCutOf old cs r)) p
 
 -- what the generators of what there was and those of the text generate
 pub record IsJoined (Was : Polyhedron → Type 0) (part : Part) (p : Polyhedron) : Type 0 where
   pub old : Polyhedron
   pub was : Was old
-  pub made : IsMade (λ r. SaysGenerators old.gens.dim part (λ gs. IsOfGenerators old.topology (more_generators old.gens gs) r)) p
+  pub made : IsMade (λ r. SaysGenerators old.gens.dim part (λ gs. IsResultOfGenerators old.topology (more_generators old.gens gs) r)) p
 
 -- made of what there was under a name
 pub record IsMadeOfOne (Was : Polyhedron → Type 0) (Is : Polyhedron → Polyhedron → Type 0) (p : Polyhedron) : Type 0 where
@@ -148,20 +153,20 @@ sets earlier question name = false
 
 -- the polyhedron that the command gives its name, where the names had these
 abbrev pub Gives : Command → (List ℕ → Polyhedron → Type 0) → Polyhedron → Type 0
-Gives (Cons out top n part) Had p = IsMade (λ r. SaysConstraints n part (λ cs. IsOfConstraints (topology_of top) cs r)) p
-Gives (Gens out top n part) Had p = IsMade (λ r. SaysGenerators n part (λ gs. IsOfGenerators (topology_of top) gs r)) p
+Gives (Cons out top n part) Had p = IsMade (λ r. SaysConstraints n part (λ cs. IsResultOfConstraints (topology_of top) cs r)) p
+Gives (Gens out top n part) Had p = IsMade (λ r. SaysGenerators n part (λ gs. IsResultOfGenerators (topology_of top) gs r)) p
 Gives (Universe out top n) Had p = IsMade (IsUniverse (topology_of top) n) p
 Gives (Empty out top n) Had p = IsMade (IsEmpty (topology_of top) n) p
 Gives (Copy out other) Had p = Had other p
 Gives (Add out part) Had p = IsAdded (Had out) part p
 Gives (Addgen out part) Had p = IsJoined (Had out) part p
-Gives (Meet out one other) Had p = IsMadeOfTwo (Had one) (Had other) (IsOfAlike IsMeet) p
-Gives (Hull out one other) Had p = IsMadeOfTwo (Had one) (Had other) (IsOfAlike IsHull) p
-Gives (Closure out other) Had p = IsMadeOfOne (Had other) IsClosure p
+Gives (Meet out one other) Had p = IsMadeOfTwo (Had one) (Had other) (IsOfAlike IsResultOfMeet) p
+Gives (Hull out one other) Had p = IsMadeOfTwo (Had one) (Had other) (IsOfAlike IsResultOfHull) p
+Gives (Closure out other) Had p = IsMadeOfOne (Had other) IsResultOfClosure p
 Gives (Embed out other n) Had p = IsMadeOfOne (Had other) (IsEmbedded n) p
-Gives (Project out other n) Had p = IsMadeOfOne (Had other) (IsProjection n) p
-Gives (Concat out one other) Had p = IsMadeOfTwo (Had one) (Had other) IsProduct p
-Gives (Elapse out one other) Had p = IsMadeOfTwo (Had one) (Had other) (IsOfAlike IsElapse) p
+Gives (Project out other n) Had p = IsMadeOfOne (Had other) (IsProjected n) p
+Gives (Concat out one other) Had p = IsMadeOfTwo (Had one) (Had other) IsConcatenated p
+Gives (Elapse out one other) Had p = IsMadeOfTwo (Had one) (Had other) (IsOfAlike IsResultOfElapse) p
 Gives (Image out other v part) Had p = IsMadeOfOne (Had other) (IsImageBy v part) p
 Gives (Preimage out other v part) Had p = IsMadeOfOne (Had other) (IsPreimageBy v part) p
 Gives (Remove out other vars) Had p = IsMadeOfOne (Had other) (IsRemoved vars) p

@@ -2,7 +2,10 @@
 //! writes the replies to standard output, or converts a file of constraints or of generators, or a sample.
 #![tactic(auto)]
 
-ghost use Rattle.std.specs.Prelude.{◌≡◌, ◌<◌};
+ghost use Rattle.std.specs.Prelude.{◌≡◌, ◌<◌, ◌↔◌};
+ghost use Rattle.poly_io.specs.Counts.{HasRisen};
+ghost use Rattle.polycalc.specs.Words.{IsAskedBy};
+ghost use Rattle.polycalc.specs.declared.job.Job.{Job as AnyJob};
 
 mod arguments;
 mod conversions;
@@ -18,6 +21,7 @@ mod vocabulary;
 use poly_io::{StdSink, StdSource};
 use row_core::Steps;
 use status::{Status, exit_code};
+use std::alloc::Global;
 use std::io::{Stderr, Stdin, Stdout, Write};
 use std::marker::Brand;
 use std::process::ExitCode;
@@ -27,8 +31,10 @@ use usage_text::usage;
 use vocabulary::Words;
 
 fn main(rt: HostRuntime) -> ExitCode {
+    let mut source = StdSource::new(rt.stdin());
+    let mut sink = StdSink::new(rt.stdout());
     let status = match arguments::words_of(&rt) {
-        Ok(words) => on_standard_streams::<Brand>(&rt, &words, Blank::new(1)),
+        Ok(words) => status_of::<Brand>(rt.alloc(), &words, &mut source, &mut sink, Blank::new(1)),
         Err(status) => status,
     };
     if status == Status::Usage {
@@ -44,16 +50,22 @@ fn show_usage(rt: &HostRuntime) {
     }
 }
 
-// The call over standard input and standard output.
-fn on_standard_streams<L: Ledger>(rt: &HostRuntime, words: &Words, blank: Blank) -> Status
+// How the call over standard input and standard output ends.
+fn status_of<L: Ledger>(
+    alloc: Global,
+    words: &Words,
+    source: &mut StdSource<Stdin>,
+    sink: &mut StdSink<Stdout>,
+    blank: Blank,
+) -> Status
     requires name { blank.name ≡ L.name }
     requires parts { blank.parts ≡ L.parts }
     requires shared { 0 < blank.parts }
+    ensures usage { (result ≡ Status.Usage) ↔ ((job : AnyJob) → ¬ (IsAskedBy words.now job)) }
+    ensures read_fault { result ≡ Status.ReadFault → HasRisen source.old.1 source.new.1 }
+    ensures write_fault { result ≡ Status.WriteFault → HasRisen sink.old.1 sink.new.1 }
 {
-    let mut steps = Steps::<L>::new(blank);
-    let mut source = StdSource::new(rt.stdin());
-    let mut sink = StdSink::new(rt.stdout());
-    polycalc(rt.alloc(), words, &mut source, &mut sink, &mut steps)
+    polycalc(alloc, words, source, sink, &mut Steps::<L>::new(blank))
 }
 
 #[cfg(test)]

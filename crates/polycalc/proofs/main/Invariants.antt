@@ -1,4 +1,4 @@
 use Rattle.polycalc.proofs.main.Given as goal
 
-abbrev pub ghosts-on_standard_streams : goal.ghosts-on_standard_streams
-ghosts-on_standard_streams a = record { name = a.blank.name; parts = a.blank.parts }
+abbrev pub ghosts-status_of : goal.ghosts-status_of
+ghosts-status_of a = record { name = a.blank.name; parts = a.blank.parts }

@@ -1,6 +1,7 @@
 use Rattle.std.proofs.Common.{◌≡◌, ◌≢◌, ◌≤◌, ◌+◌, List, ℕ, Option, Some, Err, IsTrue, ◌↔◌, sym, ap, subst, arith}
 use Rattle.std.specs.Option.{option_copied}
 use Rattle.poly_pair.specs.Polyhedra.{Polyhedron}
+use Rattle.poly_pair.specs.declared.topology.TheConstants.{MAX_DIM}
 use Rattle.calc_state.specs.Table.{HasNoRoom}
 use Rattle.calc_state.specs.Meaning.{on_two}
 use Rattle.calc_state.specs.Affine.{concat}
@@ -12,7 +13,7 @@ use Rattle.calc_state.proofs.affine.concat.Goals as goal
 pub returns-in-Err : goal.returns-in-Err
 returns-in-Err g c =
     let apart : ¬ (c.in-Some-Some.p.now.topology ≢ c.in-Some-Some.q.now.topology) = λ k. k c.if-not-have_one_topology.ensures in
-    let dims : c.in-Some-Some.p.now.cons.dim + c.in-Some-Some.q.now.cons.dim ≤ 31 = omega (arith, c.if-dim-gt-MAX_DIM.false, c.dim.ensures.value, c.dim-2.ensures.value) in
+    let dims : c.in-Some-Some.p.now.cons.dim + c.in-Some-Some.q.now.cons.dim ≤ MAX_DIM = omega (arith, c.if-dim-gt-MAX_DIM.false, c.dim.ensures.value, c.dim-2.ensures.value) in
     let room = not_so c.has_no_room.result (HasNoRoom c.args.names.now c.args.out) (subst (λ (w : List ℕ). IsTrue c.has_no_room.result ↔ HasNoRoom c.args.names.now w) c.bytes.ensures c.has_no_room.ensures) c.if-has_no_room.false in
     let passes = concat_passes c.args.names.now c.args.out c.in-Some-Some.p.now c.in-Some-Some.q.now apart dims room in
     let one : option_copied c.args.p ≡ Some c.in-Some-Some.p.now = ap option_copied c.in-Some-Some.is-0 in

@@ -2,7 +2,6 @@ use Rattle.std.proofs.Common.{◌≡◌, ℕ, ◌<◌, List, All, Option, Some, 
 use Rattle.std.specs.Option.{option_copied}
 use Rattle.poly_pair.specs.Polyhedra.{Polyhedron}
 use Rattle.affine_ops.specs.Maps.{remaining, kept_variables}
-use Rattle.affine_ops.specs.Results.{IsImage}
 use Rattle.affine_ops.specs.Refusals.{IsOverflowIn, LeavesOnMapped}
 use Rattle.reply_text.specs.declared.faults.Fault.TheVariants.{TooManyNames}
 use Rattle.calc_state.specs.declared.entry.Entry.TheVariants as entry
@@ -11,7 +10,7 @@ use Rattle.calc_state.specs.Table.{HasNoRoom}
 use Rattle.calc_state.specs.Order.{IsFirst}
 use Rattle.calc_state.specs.Meaning.{on_one}
 use Rattle.calc_state.specs.Texts.{IsTextRefusal}
-use Rattle.calc_state.specs.Affine.{variables_fault, remove}
+use Rattle.calc_state.specs.Affine.{variables_fault, IsRemoved, remove}
 use Rattle.calc_state.specs.Step.{IsPerformed}
 use Rattle.calc_state.proofs.MakerLemmas.{not_so}
 use Rattle.calc_state.proofs.MapLemmas.{remove_refused, remove_full, remove_made, remove_leaves}
@@ -36,10 +35,10 @@ pub returns-in-Ok-remove_dims : goal.returns-in-Ok-remove_dims
 returns-in-Ok-remove_dims g c =
     let below = subst (λ (k : ℕ). All (λ (i : ℕ). i < k) c.args.vars.now) c.dim.ensures.value c.in-Ok.ensures.1 in
     let room = not_so c.has_no_room.result (HasNoRoom c.args.names.now c.args.out) (subst (λ (w : List ℕ). IsTrue c.has_no_room.result ↔ HasNoRoom c.args.names.now w) c.bytes.ensures c.has_no_room.ensures) c.if-has_no_room.false in
-    let points = subst (λ (w : List ℕ). IsImage (remaining c.in-Some.p.now.cons.dim w) (length (kept_variables c.in-Some.p.now.cons.dim w)) c.in-Some.p.now c.in-Ok-remove_dims.made) (c.as_slice.ensures.value ∙ c.in-Ok.ensures.0) c.in-Ok-remove_dims.ensures.points in
+    let is = subst (λ (w : List ℕ). IsRemoved w c.in-Some.p.now c.in-Ok-remove_dims.made) (c.as_slice.ensures.value ∙ c.in-Ok.ensures.0) (record { set = c.in-Ok-remove_dims.ensures.points; stored = c.in-Ok-remove_dims.ensures.stored }) in
     let found : option_copied c.args.p ≡ Some c.in-Some.p.now = ap option_copied c.in-Some.is in
     subst (λ (o : Option Polyhedron). IsPerformed (on_one o (remove c.args.names.now c.args.out c.args.vars.now)) (Ok (Puts c.args.out (entry.Poly c.in-Ok-remove_dims.made)))) (sym found)
-    (remove_made c.args.names.now c.args.out c.args.vars.now c.in-Some.p.now c.in-Ok-remove_dims.made below room points)
+    (remove_made c.args.names.now c.args.out c.args.vars.now c.in-Some.p.now c.in-Ok-remove_dims.made below room is)
 
 pub returns-in-Err-remove_dims : goal.returns-in-Err-remove_dims
 returns-in-Err-remove_dims g c =

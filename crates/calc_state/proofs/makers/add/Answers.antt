@@ -25,7 +25,7 @@ pub returns-in-Ok-add_cons : goal.returns-in-Ok-add_cons
 returns-in-Ok-add_cons g c =
     let at = subst (λ (k : ℕ). ReadsConstraints c.topology-topology.result k c.args.part.now c.in-Ok.more) c.dim.ensures.value c.in-Ok.ensures in
     let read = subst (λ (t : Topology). ReadsConstraints t c.in-Some.p.now.cons.dim c.args.part.now c.in-Ok.more) c.topology-topology.ensures.value at in
-    rw c.in-Some.is (add_made c.args.name c.args.part.now c.in-Some.p.now c.in-Ok.more c.in-Ok-add_cons.made read c.in-Ok-add_cons.ensures.points)
+    rw c.in-Some.is (add_made c.args.name c.args.part.now c.in-Some.p.now c.in-Ok.more c.in-Ok-add_cons.made read (record { set = c.in-Ok-add_cons.ensures.points; stored = c.in-Ok-add_cons.ensures.stored }))
 
 pub returns-in-Err-add_cons : goal.returns-in-Err-add_cons
 returns-in-Err-add_cons g c =

@@ -25,7 +25,7 @@ pub returns-in-Ok-add_gens : goal.returns-in-Ok-add_gens
 returns-in-Ok-add_gens g c =
     let at = subst (λ (k : ℕ). ReadsGenerators c.topology-topology.result k c.args.part.now c.in-Ok.more) c.dim.ensures.gens c.in-Ok.ensures in
     let read = subst (λ (t : Topology). ReadsGenerators t c.in-Some.p.now.gens.dim c.args.part.now c.in-Ok.more) c.topology-topology.ensures.value at in
-    rw c.in-Some.is (addgen_made c.args.name c.args.part.now c.in-Some.p.now c.in-Ok.more c.in-Ok-add_gens.made c.one_answer.ensures.gens read (sym c.dim.ensures.value ∙ c.dim.ensures.gens) c.in-Ok-add_gens.ensures.no_point c.in-Ok-add_gens.ensures.points)
+    rw c.in-Some.is (addgen_made c.args.name c.args.part.now c.in-Some.p.now c.in-Ok.more c.in-Ok-add_gens.made c.one_answer.ensures.gens read (sym c.dim.ensures.value ∙ c.dim.ensures.gens) c.in-Ok-add_gens.ensures.no_point (record { set = c.in-Ok-add_gens.ensures.points; stored = c.in-Ok-add_gens.ensures.stored }))
 
 pub returns-in-Err-add_gens : goal.returns-in-Err-add_gens
 returns-in-Err-add_gens g c =
