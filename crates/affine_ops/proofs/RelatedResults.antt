@@ -69,8 +69,8 @@ relation_closed : (rel : ImageRel) → IsRelationFor Closed rel → IsClosedKind
 relation_closed Eq h = tt
 relation_closed Ge h = tt
 relation_closed Le h = tt
-relation_closed Gt h = absurd h
-relation_closed Lt h = absurd h
+relation_closed Gt h = cc
+relation_closed Lt h = cc
 
 abbrev IsClosed : Constraint → Type 0
 IsClosed c = IsClosedKind c.1
