@@ -1,14 +1,25 @@
 -- What the commands mean that map polyhedra, and those that change the dimension.
 use Rattle.std.specs.Prelude.{◌≢◌, ◌⊎◌, ℕ, ◌+◌, ◌<◌, ◌≤◌, List, length, ℤ, All}
+use Rattle.row_core.specs.declared.errors.Overflow.{Overflow}
 use Rattle.reply_text.specs.declared.faults.Fault.TheVariants as fault
 use Rattle.term_text.specs.declared.terms.ValueErr.TheVariants as value
 use Rattle.term_text.specs.Texts.{IsFrac, IsFracFault}
 use Rattle.poly_pair.specs.Polyhedra.{Polyhedron}
-use Rattle.affine_ops.specs.Maps.{substituted, pulled_back, with_zeros, without, remaining, kept_variables}
+use Rattle.poly_pair.specs.declared.topology.Topology.{Topology}
+use Rattle.poly_pair.specs.declared.topology.Topology.TheVariants.{Closed}
+use Rattle.affine_ops.specs.declared.relations.ImageRel.{ImageRel}
+use Rattle.affine_ops.specs.declared.relations.ImageRel.TheVariants as image
+use Rattle.affine_ops.specs.Maps.{with_zeros, without, remaining, kept_variables}
+use Rattle.affine_ops.specs.Relations.{IsImageBy, IsPreimageBy}
+use Rattle.affine_ops.specs.ImageResults.{IsStoredOfImage, LeavesInImageBy, IsStoredOfPreimage, LeavesInPreimageBy}
 use Rattle.affine_ops.specs.Results.{IsImage, IsPreimage, IsProjection, IsProduct, IsStoredOfMapped, IsStoredOfPulled, IsStoredOfJoined}
-use Rattle.affine_ops.specs.Refusals.{SomeLeavesInImage, SomeLeavesInPullback, LeavesOnMapped, LeavesOnPulled, LeavesOnJoined}
+use Rattle.affine_ops.specs.Refusals.{LeavesOnMapped, LeavesOnPulled, LeavesOnJoined}
 use Rattle.elapse.specs.Elapses.{LeavesOnElapse}
 use Rattle.script_text.specs.declared.command.Part.{Part}
+use Rattle.script_text.specs.declared.command.Rel.{Rel}
+use Rattle.script_text.specs.declared.command.Rel.TheVariants as rel
+use Rattle.calc_state.specs.declared.affine.Mapping.{Mapping}
+use Rattle.calc_state.specs.declared.affine.Mapping.TheVariants.{Image, Preimage}
 use Rattle.calc_state.specs.Table.{Table}
 use Rattle.calc_state.specs.Order.{Conditions, NoneOf}
 use Rattle.calc_state.specs.Results.{IsResult, IsResultOfElapse}
@@ -92,46 +103,61 @@ pub record SaysReplacement (dim v : ℕ) (part : Part) (P : List ℤ → ℤ →
   pub read : IsFrac dim part.text expr divisor
   pub holds : P expr divisor
 
--- of a variable that is replaced, and the text of the expression with a divisor that replaces it
-abbrev pub fraction_fault : ℕ → ℕ → Part → Conditions
-fraction_fault dim v part fault.OutOfRange = (dim ≤ v) ⊎ IsFracFault dim part.text value.OutOfRange
-fraction_fault dim v part fault.NumberTooLarge = IsFracFault dim part.text value.TooLarge
-fraction_fault dim v part fault.ZeroDivisor = IsFracFault dim part.text value.ZeroDivisor
-fraction_fault dim v part other = ⊥
+-- the relation of a line, as one of images
+abbrev pub image_rel : Rel → ImageRel
+image_rel rel.Eq = image.Eq
+image_rel rel.Ge = image.Ge
+image_rel rel.Le = image.Le
+image_rel rel.Gt = image.Gt
+image_rel rel.Lt = image.Lt
+
+-- the relation is strict and the set closed
+abbrev pub IsStrictFor : Topology → Rel → Type 0
+IsStrictFor Closed rel.Gt = Unit {0}
+IsStrictFor Closed rel.Lt = Unit {0}
+IsStrictFor topology rel = ⊥
+
+-- of a variable of a set, a relation, and the text of the expression with a divisor to which the variable stands so
+abbrev pub fraction_fault : Topology → ℕ → ℕ → Rel → Part → Conditions
+fraction_fault topology dim v rel part fault.OutOfRange = (dim ≤ v) ⊎ IsFracFault dim part.text value.OutOfRange
+fraction_fault topology dim v rel part fault.NumberTooLarge = IsFracFault dim part.text value.TooLarge
+fraction_fault topology dim v rel part fault.ZeroDivisor = IsFracFault dim part.text value.ZeroDivisor
+fraction_fault topology dim v rel part fault.StrictInClosed = IsStrictFor topology rel
+fraction_fault topology dim v rel part other = ⊥
 
 -- the variable is below the dimension, and the text has no fault and says this expression with this divisor
-pub record ReadsFraction (dim v : ℕ) (part : Part) (expr : List ℤ) (divisor : ℤ) : Type 0 where
-  pub faultless : NoneOf text_order (fraction_fault dim v part)
+pub record ReadsFraction (topology : Topology) (dim v : ℕ) (rel : Rel) (part : Part) (expr : List ℤ) (divisor : ℤ) : Type 0 where
+  pub faultless : NoneOf text_order (fraction_fault topology dim v rel part)
   pub within : v < dim
   pub read : IsFrac dim part.text expr divisor
 
--- the points that those of the polyhedron become by the replacement, stored of the list of its mapped generators
-abbrev pub IsSubstituted : ℕ → List ℤ → ℤ → Polyhedron → Polyhedron → Type 0
-IsSubstituted v expr den p = IsResult (IsImage (substituted v expr den) p.cons.dim p) (IsStoredOfMapped (substituted v expr den) p.cons.dim p)
+-- the points of an image or a preimage by a relation
+abbrev pub IsSetOfMap : Mapping → ImageRel → ℕ → List ℤ → ℤ → Polyhedron → Polyhedron → Type 0
+IsSetOfMap Image rel v expr den p = IsImageBy rel v expr den p
+IsSetOfMap Preimage rel v expr den p = IsPreimageBy rel v expr den p
 
--- the points that become points of the polyhedron, stored of the list of its constraints over the points that are replaced
-abbrev pub IsPulledBack : ℕ → List ℤ → ℤ → Polyhedron → Polyhedron → Type 0
-IsPulledBack v expr den p = IsResult (IsPreimage (substituted v expr den) p.cons.dim p) (IsStoredOfPulled (pulled_back v expr den) p.cons.dim p)
+-- what is stored of it
+abbrev pub IsStoredOfMap : Mapping → ImageRel → ℕ → List ℤ → ℤ → Polyhedron → Polyhedron → Type 0
+IsStoredOfMap Image rel v expr den p = IsStoredOfImage rel v expr den p
+IsStoredOfMap Preimage rel v expr den p = IsStoredOfPreimage rel v expr den p
 
--- where the text says the replacement
-abbrev pub IsImageBy : ℕ → Part → Polyhedron → Polyhedron → Type 0
-IsImageBy v part p r = SaysReplacement p.cons.dim v part (λ expr den. IsSubstituted v expr den p r)
+-- the overflows that it may show
+abbrev pub LeavesInMap : Mapping → ImageRel → ℕ → List ℤ → ℤ → Polyhedron → Overflow → Type 0
+LeavesInMap Image rel v expr den p = LeavesInImageBy rel v expr den p
+LeavesInMap Preimage rel v expr den p = LeavesInPreimageBy rel v expr den p
 
-abbrev pub IsPreimageBy : ℕ → Part → Polyhedron → Polyhedron → Type 0
-IsPreimageBy v part p r = SaysReplacement p.cons.dim v part (λ expr den. IsPulledBack v expr den p r)
+-- a result of the mapping
+abbrev pub IsMapped : Mapping → ImageRel → ℕ → List ℤ → ℤ → Polyhedron → Polyhedron → Type 0
+IsMapped op rel v expr den p = IsResult (IsSetOfMap op rel v expr den p) (IsStoredOfMap op rel v expr den p)
 
--- image OUT P V : FRAC
-abbrev pub image : Table → List ℕ → ℕ → Part → Polyhedron → Meaning
-image table out v part p = record {
-  conditions = with_text (fraction_fault p.cons.dim v part) (room table out);
-  overflows = λ over. SaysReplacement p.cons.dim v part (λ expr den. SomeLeavesInImage v expr den p.gens.list over ⊎ LeavesOnMapped (substituted v expr den) p.cons.dim p over);
-  does = IsPut out (IsImageBy v part p);
-}
+-- where the text says the expression and its divisor
+abbrev pub IsMappedBy : Mapping → ℕ → Rel → Part → Polyhedron → Polyhedron → Type 0
+IsMappedBy op v rel part p r = SaysReplacement p.cons.dim v part (λ expr den. IsMapped op (image_rel rel) v expr den p r)
 
--- preimage OUT P V : FRAC
-abbrev pub preimage : Table → List ℕ → ℕ → Part → Polyhedron → Meaning
-preimage table out v part p = record {
-  conditions = with_text (fraction_fault p.cons.dim v part) (room table out);
-  overflows = λ over. SaysReplacement p.cons.dim v part (λ expr den. SomeLeavesInPullback v expr den p.cons.list over ⊎ LeavesOnPulled (pulled_back v expr den) p.cons.dim p over);
-  does = IsPut out (IsPreimageBy v part p);
+-- image OUT P V REL FRAC, preimage OUT P V REL FRAC
+abbrev pub mapped_by : Mapping → Table → List ℕ → ℕ → Rel → Part → Polyhedron → Meaning
+mapped_by op table out v rel part p = record {
+  conditions = with_text (fraction_fault p.topology p.cons.dim v rel part) (room table out);
+  overflows = λ over. SaysReplacement p.cons.dim v part (λ expr den. LeavesInMap op (image_rel rel) v expr den p over);
+  does = IsPut out (IsMappedBy op v rel part p);
 }

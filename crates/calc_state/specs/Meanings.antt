@@ -13,7 +13,8 @@ use Rattle.calc_state.specs.Lattice.{meet, hull, closure, contains, equal, disjo
 use Rattle.calc_state.specs.Widening.{widen}
 use Rattle.calc_state.specs.Files.{write}
 use Rattle.calc_state.specs.Systems.{system, init, trans, fixpoint}
-use Rattle.calc_state.specs.Affine.{embed, project, concat, elapse, image, preimage, remove}
+use Rattle.calc_state.specs.declared.affine.Mapping.TheVariants as mapping
+use Rattle.calc_state.specs.Affine.{embed, project, concat, elapse, mapped_by, remove}
 
 -- the topology of a line, by whether its word is nnc
 abbrev pub topology_of : Bool → Topology
@@ -49,8 +50,8 @@ meaning table (Embed out p n) = on_one (poly_of table p) (embed table out n)
 meaning table (Project out p n) = on_one (poly_of table p) (project table out n)
 meaning table (Concat out p q) = on_two (poly_of table p) (poly_of table q) (concat table out)
 meaning table (Elapse out p q) = on_two (poly_of table p) (poly_of table q) (elapse table out)
-meaning table (Image out p v part) = on_one (poly_of table p) (image table out v part)
-meaning table (Preimage out p v part) = on_one (poly_of table p) (preimage table out v part)
+meaning table (Image out p v rel part) = on_one (poly_of table p) (mapped_by mapping.Image table out v rel part)
+meaning table (Preimage out p v rel part) = on_one (poly_of table p) (mapped_by mapping.Preimage table out v rel part)
 meaning table (Remove out p vars) = on_one (poly_of table p) (remove table out vars)
 meaning table (Widen out p q) = on_two (poly_of table p) (poly_of table q) (widen table out)
 meaning table (Read out form) = says []

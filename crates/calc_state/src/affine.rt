@@ -1,12 +1,15 @@
 //! The commands that map polyhedra, and those that change the dimension.
-ghost use Rattle.std.specs.Prelude.{◌≡◌, ◌≢◌, ℕ, ◌+◌, ◌<◌, ◌≤◌, All, MatchBool, MatchOption, MatchResult};
+ghost use Rattle.std.specs.Prelude.{◌≡◌, ◌≢◌, ℕ, ◌+◌, ◌<◌, ◌≤◌, length, pos, ◌<ℤ◌, All, IfOk, IfErr, MatchBool, MatchOption, MatchResult};
 ghost use Rattle.std.specs.Option.{option_copied};
+ghost use Rattle.row_core.specs.Range.{InRange, AllInRange};
+ghost use Rattle.row_core.specs.Refusals.{IsOverflowIn};
+ghost use Rattle.affine_ops.specs.Relations.{IsRelationFor};
 ghost use Rattle.grammar.specs.Form.{Matches};
 ghost use Rattle.grammar.specs.Grammar.{alone};
 ghost use Rattle.grammar.specs.Cases.{frac_cases};
 ghost use Rattle.poly_pair.specs.declared.topology.TheConstants.{MAX_DIM};
 ghost use Rattle.calc_state.specs.Meaning.{on_one, on_two};
-ghost use Rattle.calc_state.specs.Affine.{embed as make_embed, project as make_project, remove as make_removed, concat as make_concat, elapse as make_elapse, image as make_image, preimage as make_preimage, variables_fault};
+ghost use Rattle.calc_state.specs.Affine.{embed as make_embed, project as make_project, remove as make_removed, concat as make_concat, elapse as make_elapse, mapped_by as make_mapped, image_rel, IsSetOfMap, IsStoredOfMap, LeavesInMap, variables_fault};
 ghost use Rattle.calc_state.specs.Texts.{IsTextRefusal};
 ghost use Rattle.calc_state.specs.Step.{IsPerformed};
 
@@ -15,10 +18,11 @@ use crate::entry::Entry;
 use crate::names::Names;
 use crate::refusal::StepErr;
 use crate::texts::fraction_of;
+use affine_ops::ImageRel;
 use poly_pair::{MAX_DIM, Poly};
 use reply_text::{Fault, Text};
-use row_core::Steps;
-use script_text::{Part, VarList};
+use row_core::{ConvErr, Steps};
+use script_text::{Part, Rel, VarList};
 use std::alloc::Global;
 use std::sync::ledger::Ledger;
 
@@ -150,59 +154,91 @@ pub fn elapse<L: Ledger>(
     }
 }
 
-/// The points that those of the polyhedron become where the variable is replaced by the fraction.
-pub fn image<L: Ledger>(
-    alloc: Global,
-    names: &Names,
-    out: Text,
-    p: Option<&Poly>,
-    v: u64,
-    part: &Part,
-    steps: &mut Steps<L>,
-) -> Result<Change, StepErr>
-    requires form { Matches (alone frac_cases) part.now.text }
-    ensures { IsPerformed (on_one (option_copied p.entry) (make_image names.now out v part.now)) result }
+/// A set made of another by a relation between a variable and a fraction.
+#[derive(Clone, Copy, Debug, PartialEq, Eq)]
+pub enum Mapping {
+    /// The points of the set, the variable with each value that stands so to the fraction at the point.
+    Image,
+    /// The points that are in the set with some value of the variable that stands so to the fraction.
+    Preimage,
+}
+
+/// The relation of a line, as one of images.
+fn image_rel(rel: Rel) -> ImageRel
+    ensures { result ≡ image_rel rel }
 {
-    let Some(p) = p else {
-        return Err(StepErr::Input(Fault::UnknownName));
-    };
-    let frac = match fraction_of(alloc, part, v, p.dim()) {
-        Ok(frac) => frac,
-        Err(cause) => return Err(cause),
-    };
-    if names.has_no_room(out.bytes()) {
-        return Err(StepErr::Input(Fault::TooManyNames));
-    }
-    match affine_ops::image(alloc, p, v as usize, frac.expr.cells(), frac.den, steps) {
-        Ok(made) => Ok(Change::Puts(out, Entry::Poly(made))),
-        Err(cause) => Err(StepErr::from(cause)),
+    match rel {
+        Rel::Eq => ImageRel::Eq,
+        Rel::Ge => ImageRel::Ge,
+        Rel::Le => ImageRel::Le,
+        Rel::Gt => ImageRel::Gt,
+        Rel::Lt => ImageRel::Lt,
     }
 }
 
-/// The points that are in the polyhedron once the variable is replaced by the fraction.
-pub fn preimage<L: Ledger>(
+/// The image or the preimage.
+fn map<L: Ledger>(
+    alloc: Global,
+    op: Mapping,
+    p: &Poly,
+    var: usize,
+    rel: ImageRel,
+    expr: &[i128],
+    den: i128,
+    steps: &mut Steps<L>,
+) -> Result<Poly, ConvErr>
+    requires var { var < p.now.cons.dim }
+    requires rel { IsRelationFor p.now.topology rel }
+    requires wide { length expr.now ≡ p.now.cons.dim + 1 }
+    requires in_range { AllInRange expr.now }
+    requires den_in_range { InRange den }
+    requires positive { pos 0 <ℤ den }
+    ensures points { IfOk result (IsSetOfMap op rel var expr.now den p.now) }
+    ensures stored { IfOk result (IsStoredOfMap op rel var expr.now den p.now) }
+    ensures overflow { IfErr result (IsOverflowIn (LeavesInMap op rel var expr.now den p.now)) }
+{
+    match op {
+        Mapping::Image => affine_ops::image(alloc, p, var, rel, expr, den, steps),
+        Mapping::Preimage => affine_ops::preimage(alloc, p, var, rel, expr, den, steps),
+    }
+}
+
+/// The image or the preimage of the polyhedron by the relation between the variable and the fraction.
+pub fn mapped_by<L: Ledger>(
     alloc: Global,
     names: &Names,
+    op: Mapping,
     out: Text,
     p: Option<&Poly>,
     v: u64,
+    rel: Rel,
     part: &Part,
     steps: &mut Steps<L>,
 ) -> Result<Change, StepErr>
     requires form { Matches (alone frac_cases) part.now.text }
-    ensures { IsPerformed (on_one (option_copied p.entry) (make_preimage names.now out v part.now)) result }
+    ensures { IsPerformed (on_one (option_copied p.entry) (make_mapped op names.now out v rel part.now)) result }
 {
     let Some(p) = p else {
         return Err(StepErr::Input(Fault::UnknownName));
     };
-    let frac = match fraction_of(alloc, part, v, p.dim()) {
+    let frac = match fraction_of(alloc, p, v, rel, part) {
         Ok(frac) => frac,
         Err(cause) => return Err(cause),
     };
     if names.has_no_room(out.bytes()) {
         return Err(StepErr::Input(Fault::TooManyNames));
     }
-    match affine_ops::preimage(alloc, p, v as usize, frac.expr.cells(), frac.den, steps) {
+    let expr = frac.expr.cells();
+    match map(
+        alloc,
+        op,
+        p,
+        v as usize,
+        image_rel(rel),
+        expr,
+        frac.den,
+        steps,
+    ) {
         Ok(made) => Ok(Change::Puts(out, Entry::Poly(made))),
         Err(cause) => Err(StepErr::from(cause)),
     }

@@ -6,7 +6,7 @@ ghost use Rattle.calc_state.specs.Step.{IsPerformed};
 ghost use Rattle.calc_state.specs.Changes.{ChangesSystem};
 ghost use Rattle.calc_state.specs.Families.{Makes, Asks, Combines, Maps};
 
-use crate::affine::{concat, elapse, embed, image, preimage, project, remove};
+use crate::affine::{Mapping, concat, elapse, embed, mapped_by, project, remove};
 use crate::change::Change;
 use crate::files::write;
 use crate::lattice::{closure, contains, disjoint, equal, hull, isempty, meet};
@@ -164,19 +164,25 @@ fn mapped<L: Ledger>(
             out,
             p,
             v,
-            frac: part,
+            rel,
+            frac,
         } => {
             let found = names.poly(p.bytes());
-            image(alloc, names, out, found, v, &part, steps)
+            mapped_by(
+                alloc, names, Mapping::Image, out, found, v, rel, &frac, steps,
+            )
         }
         Command::Preimage {
             out,
             p,
             v,
-            frac: part,
+            rel,
+            frac,
         } => {
             let found = names.poly(p.bytes());
-            preimage(alloc, names, out, found, v, &part, steps)
+            mapped_by(
+                alloc, names, Mapping::Preimage, out, found, v, rel, &frac, steps,
+            )
         }
         Command::Remove { out, p, vars } => {
             remove(alloc, names, out, names.poly(p.bytes()), &vars, steps)

@@ -1,8 +1,10 @@
 -- Operands that are the same give the same images, preimages, products and time elapses.
-use Rattle.std.proofs.Common.{◌≡◌, ℕ, zero, suc, ◌+◌, ◌<◌, ◌≤◌, List, [], ◌∷◌, drop, length, refl, ap, sym, ◌∙◌, subst, arith}
-use Rattle.std.specs.Prelude.{◌↔◌, ℤ, pos, ◌<ℤ◌}
+use Rattle.std.proofs.Common.{◌≡◌, ◌≢◌, ℕ, zero, suc, ◌+◌, ◌<◌, ◌≤◌, List, [], ◌∷◌, drop, length, refl, ap, sym, ◌∙◌, subst, arith}
+use Rattle.std.specs.Prelude.{◌↔◌, ℤ, pos, ◌*ℤ◌, ◌<ℤ◌}
 use Rattle.std.proofs.lemmas.Int.{ints}
-use Rattle.row_core.specs.Vectors.{cell}
+use Rattle.std.proofs.lemmas.List.{get_or-set_other, length-set}
+use Rattle.row_core.specs.Vectors.{cell, dot, scale}
+use Rattle.row_core.proofs.CellLemmas.{cell-scale, length-scale}
 use Rattle.row_core.proofs.Ring.{mul-positive}
 use Rattle.row_core.specs.Points.{IsPoint}
 use Rattle.cons_sys.specs.Constraints.{In}
@@ -11,13 +13,17 @@ use Rattle.pair_laws.specs.PointSets.{IsWithin}
 use Rattle.poly_pair.specs.Polyhedra.{Polyhedron}
 use Rattle.poly_pair.specs.declared.topology.Topology.{Topology}
 use Rattle.lattice_ops.specs.Sets.{IsConstraintFor}
-use Rattle.affine_ops.specs.Maps.{substituted, without, remaining, kept_variables}
+use Rattle.affine_ops.specs.declared.relations.ImageRel.{ImageRel}
+use Rattle.affine_ops.specs.Relations.{Stands, IsRelatedImage, IsRelatedPreimage, replaced}
+use Rattle.affine_ops.specs.Maps.{without, remaining, kept_variables}
 use Rattle.affine_ops.specs.Results.{IsOfSource, IsImage, IsPreimage, IsPadded, IsOfBoth}
 use Rattle.affine_ops.proofs.ColumnLemmas.{length-without}
-use Rattle.affine_ops.proofs.LinearMaps.{IsLinearMap, substitution_linear}
 use Rattle.elapse.specs.ElapsedPoints.{IsMoved, IsElapsed, IsInElapse}
 use Rattle.script_text.specs.declared.command.Part.{Part}
-use Rattle.calc_state.specs.Affine.{SaysReplacement, IsEmbedded, IsProjected, IsRemoved, IsConcatenated, IsSubstituted, IsPulledBack, IsImageBy, IsPreimageBy}
+use Rattle.script_text.specs.declared.command.Rel.{Rel}
+use Rattle.calc_state.specs.declared.affine.Mapping.{Mapping}
+use Rattle.calc_state.specs.declared.affine.Mapping.TheVariants.{Image, Preimage}
+use Rattle.calc_state.specs.Affine.{SaysReplacement, IsEmbedded, IsProjected, IsRemoved, IsConcatenated, image_rel, IsSetOfMap, IsMapped, IsMappedBy}
 use Rattle.calc_state.specs.Results.{IsResultOfElapse}
 use Rattle.calc_state.specs.Step.{IsProper}
 use Rattle.polycalc.specs.Sets.{IsOfAlike}
@@ -57,13 +63,7 @@ back_point dim count v is = record {
   positive = subst (λ (z : ℤ). pos 0 <ℤ z) (sym (cell_dropped dim count (dim + count) v refl)) is.positive;
 }
 
--- ---- points that are mapped
-mapped_point : (dim to : ℕ) (f : List ℤ → List ℤ) (v : List ℤ) → IsLinearMap dim to f → IsPoint dim v → IsPoint to (f v)
-mapped_point dim to f v m is = record {
-  wide = m.wide v is.wide;
-  positive = subst (λ (z : ℤ). pos 0 <ℤ z) (sym (m.last v is.wide)) (mul-positive m.divisor (cell v dim) m.positive is.positive);
-}
-
+-- ---- points of the same sets
 within_same : (x y : Polyhedron) (v : List ℤ) → AreSamePolyhedra x y → IsWithin x.cons v → IsWithin y.cons v
 within_same x y v same w = record { point = subst (λ (n : ℕ). IsPoint n v) same.dim w.point; holds = (same.points v w.point).0 w.holds }
 
@@ -149,12 +149,39 @@ one_says_replacement laws dim other v part P Q E e both h k =
     let pair : (h.expr, h.divisor) ≡ (k.expr, k.divisor) = (laws.frac other part.text).one_value (h.expr, h.divisor) (k.expr, k.divisor) (subst (λ (n : ℕ). IsFrac n part.text h.expr h.divisor) e h.read) k.read in
     both k.expr k.divisor h.within (positive_divisor _ k.divisor k.read.holds.same k.read.holds.positive) (subst (λ (x : List ℤ × ℤ). P x.0 x.1) pair h.holds) k.holds
 
-pub one_image_by : OneForm → (v : ℕ) (part : Part) (x y r s : Polyhedron) → AreSamePolyhedra x y → IsProper r → IsProper s → IsImageBy v part x r → IsImageBy v part y s → AreSamePolyhedra r s
-one_image_by laws v part x y r s same a b h k =
-    one_says_replacement laws x.cons.dim y.cons.dim v part (λ expr den. IsSubstituted v expr den x r) (λ expr den. IsSubstituted v expr den y s) (AreSamePolyhedra r s) same.dim
-    (λ expr den below positive i j. one_image laws (substituted v expr den) x.cons.dim x y r s same a b i.set (subst (λ (d : ℕ). IsImage (substituted v expr den) d y s) (sym same.dim) j.set)) h k
+-- the image, or preimage, by a relation depends on the points alone
+related_image_same : (rel : ImageRel) (var : ℕ) (expr : List ℤ) (den : ℤ) (x y : Polyhedron) (v : List ℤ) → AreSamePolyhedra x y → IsRelatedImage rel var expr den x.cons v → IsRelatedImage rel var expr den y.cons v
+related_image_same rel var expr den x y v same h = record {
+  source = h.source;
+  within = within_same x y h.source same h.within;
+  others = subst (λ (d : ℕ). (j : ℕ) → j < d → j ≢ var → cell v j *ℤ cell h.source d ≡ cell h.source j *ℤ cell v d) same.dim h.others;
+  stands = subst (λ (d : ℕ). Stands rel (cell v var *ℤ (den *ℤ cell h.source d)) (dot expr h.source *ℤ cell v d)) same.dim h.stands;
+}
 
-pub one_preimage_by : OneForm → (v : ℕ) (part : Part) (x y r s : Polyhedron) → AreSamePolyhedra x y → IsProper r → IsProper s → IsPreimageBy v part x r → IsPreimageBy v part y s → AreSamePolyhedra r s
-one_preimage_by laws v part x y r s same a b h k =
-    one_says_replacement laws x.cons.dim y.cons.dim v part (λ expr den. IsPulledBack v expr den x r) (λ expr den. IsPulledBack v expr den y s) (AreSamePolyhedra r s) same.dim
-    (λ expr den below positive i j. one_preimage laws (substituted v expr den) x.cons.dim x y r s same (λ p is. mapped_point x.cons.dim x.cons.dim (substituted v expr den) p (substitution_linear x.cons.dim v expr den below positive) is) a b i.set (subst (λ (d : ℕ). IsPreimage (substituted v expr den) d y s) (sym same.dim) j.set)) h k
+replaced_point : (dim var : ℕ) (num below : ℤ) (v : List ℤ) → var < dim → pos 0 <ℤ below → IsPoint dim v → IsPoint dim (replaced dim var num below v)
+replaced_point dim var num below v h positive is = record {
+  wide = length-set (scale below v) var (num *ℤ cell v dim) ∙ length-scale below v ∙ is.wide;
+  positive = subst (λ (z : ℤ). pos 0 <ℤ z) (sym (get_or-set_other (scale below v) var dim (num *ℤ cell v dim) (pos 0) (λ e. omega (arith, e, h)) ∙ cell-scale below v dim)) (mul-positive below (cell v dim) positive is.positive);
+}
+
+related_preimage_same : (rel : ImageRel) (var : ℕ) (expr : List ℤ) (den : ℤ) (x y : Polyhedron) (v : List ℤ) → var < x.cons.dim → IsPoint x.cons.dim v → AreSamePolyhedra x y → IsRelatedPreimage rel var expr den x.cons v → IsRelatedPreimage rel var expr den y.cons v
+related_preimage_same rel var expr den x y v below is same h = record {
+  num = h.num;
+  below = h.below;
+  positive = h.positive;
+  stands = subst (λ (d : ℕ). Stands rel (h.num *ℤ (den *ℤ cell v d)) (dot expr v *ℤ h.below)) same.dim h.stands;
+  within = subst (λ (d : ℕ). In y.cons (replaced d var h.num h.below v)) same.dim ((same.points (replaced x.cons.dim var h.num h.below v) (replaced_point x.cons.dim var h.num h.below v below h.positive is)).0 h.within);
+}
+
+one_set_of_map : OneForm → (op : Mapping) (rel : ImageRel) (v : ℕ) (expr : List ℤ) (den : ℤ) (x y r s : Polyhedron) → v < x.cons.dim → AreSamePolyhedra x y → IsProper r → IsProper s → IsSetOfMap op rel v expr den x r → IsSetOfMap op rel v expr den y s → AreSamePolyhedra r s
+one_set_of_map laws Image rel v expr den x y r s below same a b h k =
+    one_of_same laws x.topology y.topology x.cons.dim y.cons.dim (IsRelatedImage rel v expr den x.cons) (IsRelatedImage rel v expr den y.cons) r s same.topology same.dim
+    (λ p is. (related_image_same rel v expr den x y p same, related_image_same rel v expr den y x p (same_back x y same))) a b h.over k.over h.points k.points
+one_set_of_map laws Preimage rel v expr den x y r s below same a b h k =
+    one_of_same laws x.topology y.topology x.cons.dim y.cons.dim (IsRelatedPreimage rel v expr den x.cons) (IsRelatedPreimage rel v expr den y.cons) r s same.topology same.dim
+    (λ p is. (related_preimage_same rel v expr den x y p below is same, related_preimage_same rel v expr den y x p (subst (λ (d : ℕ). v < d) same.dim below) (subst (λ (d : ℕ). IsPoint d p) same.dim is) (same_back x y same))) a b h.over k.over h.points k.points
+
+pub one_mapped_by : OneForm → (op : Mapping) (v : ℕ) (rel : Rel) (part : Part) (x y r s : Polyhedron) → AreSamePolyhedra x y → IsProper r → IsProper s → IsMappedBy op v rel part x r → IsMappedBy op v rel part y s → AreSamePolyhedra r s
+one_mapped_by laws op v rel part x y r s same a b h k =
+    one_says_replacement laws x.cons.dim y.cons.dim v part (λ expr den. IsMapped op (image_rel rel) v expr den x r) (λ expr den. IsMapped op (image_rel rel) v expr den y s) (AreSamePolyhedra r s) same.dim
+    (λ expr den below positive i j. one_set_of_map laws op (image_rel rel) v expr den x y r s below same a b i.set j.set) h k

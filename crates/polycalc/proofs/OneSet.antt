@@ -26,7 +26,8 @@ use Rattle.trans_sys.specs.Systems.{TransitionSystem, IsKeptSystem, with_initial
 use Rattle.calc_state.specs.State.{OpenFile}
 use Rattle.calc_state.specs.Makers.{SaysConstraints, SaysGenerators, more_generators}
 use Rattle.calc_state.specs.Results.{IsResultOfConstraints, IsResultOfGenerators, IsResultOfMeet, IsResultOfHull, IsResultOfClosure, IsResultOfElapse}
-use Rattle.calc_state.specs.Affine.{IsEmbedded, IsProjected, IsRemoved, IsConcatenated, IsImageBy, IsPreimageBy}
+use Rattle.calc_state.specs.declared.affine.Mapping.TheVariants as mapping
+use Rattle.calc_state.specs.Affine.{IsEmbedded, IsProjected, IsRemoved, IsConcatenated, IsMappedBy}
 use Rattle.calc_state.specs.Meanings.{topology_of}
 use Rattle.calc_state.specs.Files.{format_of}
 use Rattle.calc_state.specs.Step.{IsProper}
@@ -36,7 +37,7 @@ use Rattle.polycalc.specs.Sameness.{AreSamePolyhedra, AreSameEntries}
 use Rattle.polycalc.proofs.OneForm.{OneForm, same_dims, of_set, one_of_points}
 use Rattle.polycalc.proofs.OneResult.{one_of_one, one_of_two, one_meet, one_hull, one_closure, one_widened}
 use Rattle.polycalc.proofs.OneSystem.{one_reached, one_changed, one_empty_system}
-use Rattle.polycalc.proofs.OneMap.{one_embedded, one_projection, one_product, one_elapse, one_image_by, one_preimage_by, one_removed}
+use Rattle.polycalc.proofs.OneMap.{one_embedded, one_projection, one_product, one_elapse, one_mapped_by, one_removed}
 
 -- ---- what each set keeps
 given_proper : (c : Command) (Had : List ℕ → Polyhedron → Type 0) (p : Polyhedron) → ((name : List ℕ) (x : Polyhedron) → Had name x → IsProper x) → Gives c Had p → IsProper p
@@ -54,8 +55,8 @@ given_proper (Embed out other n) Had p kept h = h.made.proper
 given_proper (Project out other n) Had p kept h = h.made.proper
 given_proper (Concat out one other) Had p kept h = h.made.proper
 given_proper (Elapse out one other) Had p kept h = h.made.proper
-given_proper (Image out other v part) Had p kept h = h.made.proper
-given_proper (Preimage out other v part) Had p kept h = h.made.proper
+given_proper (Image out other v rel part) Had p kept h = h.made.proper
+given_proper (Preimage out other v rel part) Had p kept h = h.made.proper
 given_proper (Remove out other vars) Had p kept h = h.made.proper
 given_proper (Widen out one other) Had p kept h = h.made.proper
 given_proper other Had p kept h = absurd h
@@ -220,8 +221,8 @@ one_given laws (Embed out other n) Had p q kept one h k = one_of_one (Had other)
 one_given laws (Project out other n) Had p q kept one h k = one_of_one (Had other) (IsProjected n) p q (one other) (one_projection laws n) h k
 one_given laws (Concat out name other) Had p q kept one h k = one_of_two (Had name) (Had other) IsConcatenated p q (one name) (one other) (one_product laws) h k
 one_given laws (Elapse out name other) Had p q kept one h k = one_of_two (Had name) (Had other) (IsOfAlike IsResultOfElapse) p q (one name) (one other) (one_elapse laws) h k
-one_given laws (Image out other v part) Had p q kept one h k = one_of_one (Had other) (IsImageBy v part) p q (one other) (one_image_by laws v part) h k
-one_given laws (Preimage out other v part) Had p q kept one h k = one_of_one (Had other) (IsPreimageBy v part) p q (one other) (one_preimage_by laws v part) h k
+one_given laws (Image out other v rel part) Had p q kept one h k = one_of_one (Had other) (IsMappedBy mapping.Image v rel part) p q (one other) (one_mapped_by laws mapping.Image v rel part) h k
+one_given laws (Preimage out other v rel part) Had p q kept one h k = one_of_one (Had other) (IsMappedBy mapping.Preimage v rel part) p q (one other) (one_mapped_by laws mapping.Preimage v rel part) h k
 one_given laws (Remove out other vars) Had p q kept one h k = one_of_one (Had other) (IsRemoved vars) p q (one other) (one_removed laws vars) h k
 one_given laws (Widen out name other) Had p q kept one h k =
     one_widened laws h.first k.first h.second k.second p q (kept name h.first h.was_first) (one name h.first k.first h.was_first k.was_first) (one other h.second k.second h.was_second k.was_second) h.made.proper k.made.proper h.made.is k.made.is

@@ -24,7 +24,8 @@ use Rattle.calc_state.specs.Makers.{SaysConstraints, SaysGenerators, more_constr
 use Rattle.calc_state.specs.Questions.{has, size, print, line, size_text, side_text, names_text}
 use Rattle.calc_state.specs.Optima.{relation, bound, relation_text, bound_text}
 use Rattle.calc_state.specs.Lattice.{meet, hull, closure, contains, equal, disjoint, isempty, IsTold}
-use Rattle.calc_state.specs.Affine.{embed, project, concat, elapse, image, preimage, remove, IsEmbedded, IsProjected, IsRemoved, IsConcatenated, IsImageBy, IsPreimageBy}
+use Rattle.calc_state.specs.declared.affine.Mapping.TheVariants as mapping
+use Rattle.calc_state.specs.Affine.{embed, project, concat, elapse, mapped_by, remove, IsEmbedded, IsProjected, IsRemoved, IsConcatenated, IsMappedBy}
 use Rattle.calc_state.specs.Results.{IsResultOfConstraints, IsResultOfGenerators, IsResultOfMeet, IsResultOfHull, IsResultOfClosure, IsResultOfElapse}
 use Rattle.calc_state.specs.Widening.{widen}
 use Rattle.calc_state.specs.Systems.{IsEmptySystem, AreReached, init, trans, fixpoint}
@@ -399,10 +400,10 @@ accepted_follows old new earlier (Embed out other n) text a p =
     one_follows old new earlier (Embed out other n) out other text (embed old out n) (IsEmbedded n) (poly_of old other) a (poly_at old earlier a other) (λ name. refl) (λ n r is. is) (new_name old earlier out a) (λ x change passes does. does) p
 accepted_follows old new earlier (Project out other n) text a p =
     one_follows old new earlier (Project out other n) out other text (project old out n) (IsProjected n) (poly_of old other) a (poly_at old earlier a other) (λ name. refl) (λ n r is. is) (new_name old earlier out a) (λ x change passes does. does) p
-accepted_follows old new earlier (Image out other v part) text a p =
-    one_follows old new earlier (Image out other v part) out other text (image old out v part) (IsImageBy v part) (poly_of old other) a (poly_at old earlier a other) (λ name. refl) (λ n r is. is) (new_name old earlier out a) (λ x change passes does. does) p
-accepted_follows old new earlier (Preimage out other v part) text a p =
-    one_follows old new earlier (Preimage out other v part) out other text (preimage old out v part) (IsPreimageBy v part) (poly_of old other) a (poly_at old earlier a other) (λ name. refl) (λ n r is. is) (new_name old earlier out a) (λ x change passes does. does) p
+accepted_follows old new earlier (Image out other v rel part) text a p =
+    one_follows old new earlier (Image out other v rel part) out other text (mapped_by mapping.Image old out v rel part) (IsMappedBy mapping.Image v rel part) (poly_of old other) a (poly_at old earlier a other) (λ name. refl) (λ n r is. is) (new_name old earlier out a) (λ x change passes does. does) p
+accepted_follows old new earlier (Preimage out other v rel part) text a p =
+    one_follows old new earlier (Preimage out other v rel part) out other text (mapped_by mapping.Preimage old out v rel part) (IsMappedBy mapping.Preimage v rel part) (poly_of old other) a (poly_at old earlier a other) (λ name. refl) (λ n r is. is) (new_name old earlier out a) (λ x change passes does. does) p
 accepted_follows old new earlier (Remove out other vars) text a p =
     one_follows old new earlier (Remove out other vars) out other text (remove old out vars) (IsRemoved vars) (poly_of old other) a (poly_at old earlier a other) (λ name. refl) (λ n r is. is) (new_name old earlier out a) (λ x change passes does. does) p
 accepted_follows old new earlier (Concat out one other) text a p =

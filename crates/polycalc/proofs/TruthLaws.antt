@@ -28,7 +28,8 @@ use Rattle.calc_state.specs.Makers.{SaysConstraints, SaysGenerators, more_constr
 use Rattle.calc_state.specs.Questions.{has, size, print, line, size_text, side_text, spaced, names_text}
 use Rattle.calc_state.specs.Optima.{relation, bound, relation_text, bound_text}
 use Rattle.calc_state.specs.Lattice.{meet, hull, closure, contains, equal, disjoint, isempty, IsTold}
-use Rattle.calc_state.specs.Affine.{embed, project, concat, elapse, image, preimage, remove, IsEmbedded, IsProjected, IsRemoved, IsConcatenated, IsImageBy, IsPreimageBy}
+use Rattle.calc_state.specs.declared.affine.Mapping.TheVariants as mapping
+use Rattle.calc_state.specs.Affine.{embed, project, concat, elapse, mapped_by, remove, IsEmbedded, IsProjected, IsRemoved, IsConcatenated, IsMappedBy}
 use Rattle.calc_state.specs.Results.{IsResultOfConstraints, IsResultOfGenerators, IsResultOfMeet, IsResultOfHull, IsResultOfClosure, IsResultOfElapse}
 use Rattle.calc_state.specs.Step.{Reply, IsAccepted, IsProper, lines_of, ok_line}
 use Rattle.widening.specs.Widenings.{IsWidening}
@@ -231,8 +232,8 @@ accepted_true laws old new earlier (Max name part) text g p = bound_true laws ol
 accepted_true laws old new earlier (Min name part) text g p = bound_true laws old new earlier false name text part (poly_of old name) (poly_at old earlier g name) p
 accepted_true laws old new earlier (Embed out other n) text g p = one_ok old new out text (embed old out n) (IsEmbedded n) (poly_of old other) (λ x change does. does) p
 accepted_true laws old new earlier (Project out other n) text g p = one_ok old new out text (project old out n) (IsProjected n) (poly_of old other) (λ x change does. does) p
-accepted_true laws old new earlier (Image out other v part) text g p = one_ok old new out text (image old out v part) (IsImageBy v part) (poly_of old other) (λ x change does. does) p
-accepted_true laws old new earlier (Preimage out other v part) text g p = one_ok old new out text (preimage old out v part) (IsPreimageBy v part) (poly_of old other) (λ x change does. does) p
+accepted_true laws old new earlier (Image out other v rel part) text g p = one_ok old new out text (mapped_by mapping.Image old out v rel part) (IsMappedBy mapping.Image v rel part) (poly_of old other) (λ x change does. does) p
+accepted_true laws old new earlier (Preimage out other v rel part) text g p = one_ok old new out text (mapped_by mapping.Preimage old out v rel part) (IsMappedBy mapping.Preimage v rel part) (poly_of old other) (λ x change does. does) p
 accepted_true laws old new earlier (Remove out other vars) text g p = one_ok old new out text (remove old out vars) (IsRemoved vars) (poly_of old other) (λ x change does. does) p
 accepted_true laws old new earlier (Concat out one other) text g p = two_ok old new out text (concat old out) IsConcatenated (poly_of old one) (poly_of old other) (λ x y change does. does) p
 accepted_true laws old new earlier (Elapse out one other) text g p = two_ok old new out text (elapse old out) IsResultOfElapse (poly_of old one) (poly_of old other) (λ x y change does. does) p

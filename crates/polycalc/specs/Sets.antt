@@ -20,7 +20,8 @@ use Rattle.calc_state.specs.declared.entry.Entry.TheVariants as entry
 use Rattle.calc_state.specs.Table.{numbered}
 use Rattle.calc_state.specs.Makers.{SaysConstraints, SaysGenerators, more_constraints, more_generators}
 use Rattle.calc_state.specs.Results.{IsResult, IsResultOfConstraints, IsResultOfGenerators, IsResultOfMeet, IsResultOfHull, IsResultOfClosure, IsResultOfElapse}
-use Rattle.calc_state.specs.Affine.{IsEmbedded, IsProjected, IsRemoved, IsConcatenated, IsImageBy, IsPreimageBy}
+use Rattle.calc_state.specs.declared.affine.Mapping.TheVariants as mapping
+use Rattle.calc_state.specs.Affine.{IsEmbedded, IsProjected, IsRemoved, IsConcatenated, IsMappedBy}
 use Rattle.calc_state.specs.Systems.{IsEmptySystem, AreReached}
 use Rattle.calc_state.specs.Meanings.{topology_of}
 use Rattle.calc_state.specs.Files.{format_of}
@@ -141,8 +142,8 @@ sets earlier (Embed out p n) name = bytes_eq name out
 sets earlier (Project out p n) name = bytes_eq name out
 sets earlier (Concat out p q) name = bytes_eq name out
 sets earlier (Elapse out p q) name = bytes_eq name out
-sets earlier (Image out p v part) name = bytes_eq name out
-sets earlier (Preimage out p v part) name = bytes_eq name out
+sets earlier (Image out p v rel part) name = bytes_eq name out
+sets earlier (Preimage out p v rel part) name = bytes_eq name out
 sets earlier (Remove out p vars) name = bytes_eq name out
 sets earlier (Widen out p q) name = bytes_eq name out
 sets earlier (System out n locations) name = bytes_eq name out
@@ -167,8 +168,8 @@ Gives (Embed out other n) Had p = IsMadeOfOne (Had other) (IsEmbedded n) p
 Gives (Project out other n) Had p = IsMadeOfOne (Had other) (IsProjected n) p
 Gives (Concat out one other) Had p = IsMadeOfTwo (Had one) (Had other) IsConcatenated p
 Gives (Elapse out one other) Had p = IsMadeOfTwo (Had one) (Had other) (IsOfAlike IsResultOfElapse) p
-Gives (Image out other v part) Had p = IsMadeOfOne (Had other) (IsImageBy v part) p
-Gives (Preimage out other v part) Had p = IsMadeOfOne (Had other) (IsPreimageBy v part) p
+Gives (Image out other v rel part) Had p = IsMadeOfOne (Had other) (IsMappedBy mapping.Image v rel part) p
+Gives (Preimage out other v rel part) Had p = IsMadeOfOne (Had other) (IsMappedBy mapping.Preimage v rel part) p
 Gives (Remove out other vars) Had p = IsMadeOfOne (Had other) (IsRemoved vars) p
 Gives (Widen out one other) Had p = IsMadeOfTwo (Had one) (Had other) IsOfNested p
 Gives other Had p = ⊥
@@ -233,8 +234,8 @@ names_after earlier (Embed out p n) names = with_name out names
 names_after earlier (Project out p n) names = with_name out names
 names_after earlier (Concat out p q) names = with_name out names
 names_after earlier (Elapse out p q) names = with_name out names
-names_after earlier (Image out p v part) names = with_name out names
-names_after earlier (Preimage out p v part) names = with_name out names
+names_after earlier (Image out p v rel part) names = with_name out names
+names_after earlier (Preimage out p v rel part) names = with_name out names
 names_after earlier (Remove out p vars) names = with_name out names
 names_after earlier (Widen out p q) names = with_name out names
 names_after earlier (Drop out) names = less_name out names
