@@ -1,4 +1,4 @@
-use Rattle.std.specs.Prelude.{◌≡◌, ◌≢◌, ℕ, zero, suc, ◌+◌, ◌-◌, ◌<◌, ◌↔◌, Bool, true, false, cond, List, [], ◌∷◌, ◌++◌, length, map, filter, remove, replicate, IsTrue, ℤ, pos, neg_ℤ, ◌+ℤ◌, ◌-ℤ◌, ◌*ℤ◌, ◌<ℤ◌, unsigned_abs, if◌then◌else◌}
+use Rattle.std.specs.Prelude.{◌≡◌, ◌≢◌, ℕ, ◌+◌, ◌-◌, ◌<◌, ◌↔◌, Bool, true, false, cond, List, [], ◌∷◌, ◌++◌, length, map, filter, remove, replicate, IsTrue, ℤ, pos, neg_ℤ, ◌+ℤ◌, ◌-ℤ◌, ◌*ℤ◌, ◌<ℤ◌, unsigned_abs, if◌then◌else◌}
 use Rattle.std.proofs.Common.{refl, sym, ap, ◌∙◌, subst, arith, inl, inr, get_or, set}
 use Rattle.std.proofs.lemmas.Bool.{cases_lt, false≢true}
 use Rattle.std.proofs.lemmas.Int.{ints}
@@ -10,6 +10,7 @@ use Rattle.sat_matrix.specs.Tables.{Table, bits_of, HasThird}
 use Rattle.row_core.specs.Flat.{marked}
 use Rattle.cone_laws.specs.Canon.{vector_at}
 use Rattle.cone_laws.specs.Steps.{sign, pair_at, stays, IsLowered, IsLastCrossing, IsLineStep, IsMade, IsMadeOf, NoThird, IsCrossing, IsRayStep, upward}
+pub use Rattle.row_core.proofs.PointwiseLemmas.{pointwise_tail, pointwise_cons, pointwise_append, pointwise_marked, marked_all}
 use Rattle.row_core.proofs.Ring.{ring, mul-zero, neg-mul, zero_of_mul}
 use Rattle.cone_laws.proofs.UptoRows.{IsSumOf, dot_sum}
 use Rattle.cone_laws.specs.Combinations.{IsCombined}
@@ -279,37 +280,6 @@ tells_upward rows k w columns size flat crosses = record {
             subst P (sym here) ((λ t. absurd (false≢true (sym at ∙ t))), (λ z. absurd (crosses z)))
       ];
 }
-
--- ---- lists that are related element by element
-pub pointwise_tail : {A B : Type 0} (R : A → B → Type 0) (x : A) (xs : List A) (y : B) (ys : List B) → Pointwise R (x ∷ xs) (y ∷ ys) → Pointwise R xs ys
-pointwise_tail R x xs y ys h = record { as_many = omega (arith, h.as_many); each = λ i d e below. h.each (suc i) d e (omega (arith, below)) }
-
-cons_each : {A B : Type 0} (R : A → B → Type 0) (x : A) (xs : List A) (y : B) (ys : List B) → R x y → ((i : ℕ) (d : A) (e : B) → i < length xs → R (get_or xs i d) (get_or ys i e)) → (i : ℕ) (d : A) (e : B) → i < length (x ∷ xs) → R (get_or (x ∷ xs) i d) (get_or (y ∷ ys) i e)
-cons_each R x xs y ys head rest zero d e below = head
-cons_each R x xs y ys head rest (suc i) d e below = rest i d e (omega (arith, below))
-
-pub pointwise_cons : {A B : Type 0} (R : A → B → Type 0) (x : A) (xs : List A) (y : B) (ys : List B) → R x y → Pointwise R xs ys → Pointwise R (x ∷ xs) (y ∷ ys)
-pointwise_cons R x xs y ys head rest = record { as_many = ap suc rest.as_many; each = cons_each R x xs y ys head rest.each }
-
-pub pointwise_append : {A B : Type 0} (R : A → B → Type 0) (xs zs : List A) (ys ws : List B) → Pointwise R xs ys → Pointwise R zs ws → Pointwise R (xs ++ zs) (ys ++ ws)
-pointwise_append R [] zs [] ws h g = g
-pointwise_append R [] zs (y ∷ ys) ws h g = absurd (omega (arith, h.as_many))
-pointwise_append R (x ∷ xs) zs [] ws h g = absurd (omega (arith, h.as_many))
-pointwise_append R (x ∷ xs) zs (y ∷ ys) ws h g = pointwise_cons R x (xs ++ zs) y (ys ++ ws) (h.each 0 x y (omega arith)) (pointwise_append R xs zs ys ws (pointwise_tail R x xs y ys h) g)
-
-pub pointwise_marked : {A B : Type 0} (R : A → B → Type 0) (marks : List Bool) (xs : List A) (ys : List B) → Pointwise R xs ys → Pointwise R (marked marks xs) (marked marks ys)
-pointwise_marked R [] xs ys h = record { as_many = refl; each = λ i d e below. absurd (omega (arith, below)) }
-pointwise_marked R (m ∷ marks) [] [] h = h
-pointwise_marked R (m ∷ marks) [] (y ∷ ys) h = absurd (omega (arith, h.as_many))
-pointwise_marked R (m ∷ marks) (x ∷ xs) [] h = absurd (omega (arith, h.as_many))
-pointwise_marked R (true ∷ marks) (x ∷ xs) (y ∷ ys) h = pointwise_cons R x (marked marks xs) y (marked marks ys) (h.each 0 x y (omega arith)) (pointwise_marked R marks xs ys (pointwise_tail R x xs y ys h))
-pointwise_marked R (false ∷ marks) (x ∷ xs) (y ∷ ys) h = pointwise_marked R marks xs ys (pointwise_tail R x xs y ys h)
-
-pub marked_all : {X : Type 0} (n : ℕ) (xs : List X) → n ≡ length xs → marked (replicate n true) xs ≡ xs
-marked_all zero [] e = refl
-marked_all zero (x ∷ xs) e = absurd (omega (arith, e))
-marked_all (suc n) [] e = absurd (omega (arith, e))
-marked_all (suc n) (x ∷ xs) e = ap (λ ys. x ∷ ys) (marked_all n xs (omega (arith, e)))
 
 pub marked-append : {X : Type 0} (marks more : List Bool) (xs ys : List X) → length marks ≡ length xs → marked (marks ++ more) (xs ++ ys) ≡ marked marks xs ++ marked more ys
 marked-append [] more [] ys e = refl

@@ -1,6 +1,9 @@
 //! What a conversion gives.
+ghost use Rattle.std.specs.Prelude.{◌≡◌};
+
 use row_core::RowList;
 use sat_matrix::SatMatrix;
+use std::alloc::AllocError;
 
 /// A canonical system: the lines are marked as equalities and the rays as inequalities. The table has
 /// a row for each ray and a column for each row of the list that was converted, true exactly where the
@@ -10,4 +13,16 @@ pub struct Cone {
     pub lines: RowList,
     pub rays: RowList,
     pub sat: SatMatrix,
+}
+
+impl Clone for Cone {
+    ghost is_clone = { λ cone copy. copy ≡ record cone { sat = record cone.sat { spare = 0 } } };
+
+    fn clone(&self) -> Result<Cone, AllocError> {
+        Ok(Cone {
+            lines: self.lines.clone()?,
+            rays: self.rays.clone()?,
+            sat: self.sat.clone()?,
+        })
+    }
 }

@@ -7,7 +7,7 @@ use Rattle.row_core.specs.Content.{IsPrimitiveOf}
 use Rattle.row_core.specs.Lists.{Row, row_at}
 use Rattle.nnc_enc.specs.Encoding.{lowered}
 use Rattle.nnc_enc.specs.StrongRows.{kept_at}
-use Rattle.nnc_enc.specs.Decoding.{index_at, Stands, Grew, AreListed, IsNamed, AreKept}
+use Rattle.nnc_enc.specs.Decoding.{index_at, Stands, Grew, AreListed, IsNamed, AreKept, Rise}
 
 length_push : {A : Type 0} (xs : List A) (x : A) → length (xs ++ x ∷ []) ≡ length xs + 1
 length_push [] x = refl
@@ -113,3 +113,26 @@ all_true (suc n) (suc i) h = all_true n i (omega (arith, h))
 pub kept_step : (keep : List Bool) (order new : List ℕ) (k : ℕ) (b : Bool) → AreKept keep order k → kept_at keep k ≡ b → new ≡ (if b then order ++ k ∷ [] else order) → AreKept keep new (k + 1)
 kept_step keep order new k true a t e = kept_more keep order new k a t e
 kept_step keep order new k false a f e = subst (λ (o : List ℕ). AreKept keep o (k + 1)) (sym e) (kept_skip keep order k a f)
+
+-- the next index is above those before it
+pub rise_step : (keep : List Bool) (order new : List ℕ) (k : ℕ) (b : Bool) → AreKept keep order k → Rise order → new ≡ (if b then order ++ k ∷ [] else order) → Rise new
+rise_step keep order new k false a r e = subst Rise (sym e) r
+rise_step keep order new k true a r e = λ i m below within. by_number i m below within (same_number m (length order))
+  where
+    size : length new ≡ length order + 1
+    size = ap length e ∙ length_push order k
+
+    at_last : index_at new (length order) ≡ k
+    at_last = ap (λ (l : List ℕ). index_at l (length order)) e ∙ get_or_push order k 0 (length order) refl
+
+    at_before : (i : ℕ) → i < length order → index_at new i ≡ index_at order i
+    at_before i h = ap (λ (l : List ℕ). index_at l i) e ∙ get_or_append_left order (k ∷ []) 0 i h
+
+    by_number : (i m : ℕ) → i < m → m < length new → (m ≡ length order) ⊎ (m ≢ length order) → index_at new i < index_at new m
+    by_number i m below within (inl s) =
+        let b : i < length order = omega (arith, below, s) in
+        let last : index_at new m ≡ k = ap (index_at new) s ∙ at_last in
+        omega (arith, at_before i b, last, (a.each i b).0)
+    by_number i m below within (inr ne) =
+        let b : m < length order = omega (arith, within, ne, size) in
+        omega (arith, at_before i (omega (arith, below, b)), at_before m b, r i m below b)

@@ -58,6 +58,10 @@ pub record AreKept (keep : List Bool) (order : List ℕ) (k : ℕ) : Type 0 wher
   pub all : (j : ℕ) → j < k → kept_at keep j ≡ true → IsNamed order j
   pub once : (i m : ℕ) → i < length order → m < length order → index_at order i ≡ index_at order m → i ≡ m
 
+-- the indices rise along the order
+abbrev pub Rise : List ℕ → Type 0
+Rise order = (i m : ℕ) → i < m → m < length order → index_at order i < index_at order m
+
 -- of the first k rows, those with a variable are marked
 pub record HaveVariables (dim : ℕ) (rows : List Row) (keep : List Bool) (k : ℕ) : Type 0 where
   pub as_many : length keep ≡ k
@@ -69,6 +73,7 @@ pub record AreDecodedRows (dim : ℕ) (lines rays : List Row) (list : List Const
   pub order : List ℕ
   pub variables : HaveVariables dim rays keep (length rays)
   pub kept : AreKept keep order (length rays)
+  pub rising : Rise order
   pub listed : AreConstraintsOf dim lines rays order list
 
 -- generators for the lines and for all rays, in their order
@@ -77,6 +82,7 @@ pub record AreDecodedVectors (dim : ℕ) (lines rays : List Row) (list : List Ge
   pub order : List ℕ
   pub all : (i : ℕ) → i < length rays → kept_at keep i ≡ true
   pub kept : AreKept keep order (length rays)
+  pub rising : Rise order
   pub listed : AreGeneratorsOf dim lines rays order list
 
 -- the vector without column e can be a generator of the kind: its last entry fits, and it is no direction of length 0

@@ -14,7 +14,7 @@ ghost use Rattle.gens_sys.specs.Spans.{Span};
 ghost use Rattle.nnc_enc.specs.Results.{AreRows, AreVectors};
 ghost use Rattle.cons_sys.specs.declared.kind.ConKind.TheVariants.{Eq};
 ghost use Rattle.gens_sys.specs.declared.kind.GenKind.TheVariants.{Line};
-ghost use Rattle.nnc_enc.specs.Decoding.{con_kind, index_at, Grew, AreConstraintsOf, AreGeneratorsOf, AreKept, HaveVariables, AreDecodedRows, AreDecodedVectors, FitsKind, FitKinds};
+ghost use Rattle.nnc_enc.specs.Decoding.{con_kind, index_at, Grew, AreConstraintsOf, AreGeneratorsOf, AreKept, Rise, HaveVariables, AreDecodedRows, AreDecodedVectors, FitsKind, FitKinds};
 
 use crate::marks::has_variable;
 use cons_sys::{ConKind, ConsSys};
@@ -45,9 +45,10 @@ fn push_if(keep: bool, kept: &mut Vec<usize>, index: usize) -> Result<(), AllocE
     Ok(())
 }
 
-/// The indices of the kept rows.
+/// The indices of the kept rows, in order.
 pub(crate) fn kept(alloc: Global, keep: &[bool]) -> Result<Vec<usize>, AllocError>
-    ensures { IfOk result (λ v. AreKept keep.now v.items (length keep.now)) }
+    ensures kept { IfOk result (λ v. AreKept keep.now v.items (length keep.now)) }
+    ensures rising { IfOk result (λ v. Rise v.items) }
 {
     let mut kept = Vec::new(alloc);
     for index in 0..keep.len() {

@@ -1,5 +1,5 @@
 //! The lists of systems with strict rows and closure points.
-ghost use Rattle.std.specs.Prelude.{◌≡◌, ℕ, ◌+◌, ◌-◌, ◌^◌, ◌<◌, ◌≤◌, ◌++◌, ◌∷◌, [], List, length, insert, replicate, IfOk, OnOk, pos, negsuc, ℤ};
+ghost use Rattle.std.specs.Prelude.{◌≡◌, ℕ, ◌+◌, ◌-◌, ◌^◌, ◌<◌, ◌≤◌, ◌++◌, ◌∷◌, [], List, length, map, insert, replicate, IfOk, OnOk, pos, negsuc, ℤ};
 ghost use Rattle.row_core.specs.Vectors.{cell};
 ghost use Rattle.row_core.specs.Range.{InRange, AllInRange};
 ghost use Rattle.cons_sys.specs.Kinds.{is_equality};
@@ -91,6 +91,27 @@ fn push_bound_row(alloc: Global, list: &mut RowList, dim: usize) -> Result<(), M
     push_raised(alloc, list, dim, &row, -1, false)
 }
 
+/// Appends the rows of constraints.
+fn push_constraints(alloc: Global, list: &mut RowList, cons: &ConsSys) -> Result<(), Memory>
+    requires { list.old.width ≡ cons.now.dim + 2 }
+    ensures width { list.new.width ≡ list.old.width }
+    ensures rows { OnOk result (list.new.rows ≡ list.old.rows ++ map (encoded_constraint cons.now.dim) cons.now.list) }
+{
+    let dim = cons.dim();
+    for index in 0..cons.len() {
+        let kind = cons.kind(index);
+        push_raised(
+            alloc,
+            list,
+            dim,
+            cons.row(index),
+            height_of(kind),
+            is_equality(kind),
+        )?;
+    }
+    Ok(())
+}
+
 /// The list of a system of constraints.
 pub fn encode_cons(alloc: Global, cons: &ConsSys) -> Result<RowList, Memory>
     ensures width { IfOk result (λ list. list.width ≡ cons.now.dim + 2) }
@@ -100,17 +121,18 @@ pub fn encode_cons(alloc: Global, cons: &ConsSys) -> Result<RowList, Memory>
     let mut list = RowList::new(alloc, dim + 2);
     push_height_row(alloc, &mut list, dim)?;
     push_bound_row(alloc, &mut list, dim)?;
-    for index in 0..cons.len() {
-        let kind = cons.kind(index);
-        push_raised(
-            alloc,
-            &mut list,
-            dim,
-            cons.row(index),
-            height_of(kind),
-            is_equality(kind),
-        )?;
-    }
+    push_constraints(alloc, &mut list, cons)?;
+    Ok(list)
+}
+
+/// The rows of further constraints of a system: its list without the two rows of column e, with
+/// which each list begins.
+pub fn encode_further_cons(alloc: Global, cons: &ConsSys) -> Result<RowList, Memory>
+    ensures width { IfOk result (λ list. list.width ≡ cons.now.dim + 2) }
+    ensures rows { IfOk result (λ list. list.rows ≡ map (encoded_constraint cons.now.dim) cons.now.list) }
+{
+    let mut list = RowList::new(alloc, cons.dim() + 2);
+    push_constraints(alloc, &mut list, cons)?;
     Ok(list)
 }
 

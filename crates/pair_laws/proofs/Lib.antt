@@ -13,3 +13,4 @@ pub mod ConstraintLists
 pub mod GeneratorLists
 pub mod Stored
 pub mod Touching
+pub mod PairedSystems

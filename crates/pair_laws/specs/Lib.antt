@@ -3,3 +3,4 @@ pub mod PointSets
 pub mod StoredForms
 pub mod StoredLaws
 pub mod FirstLists
+pub mod PairedSystems

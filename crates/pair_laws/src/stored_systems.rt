@@ -1,4 +1,5 @@
 //! Laws of the two systems that a closed polyhedron stores.
+ghost use Rattle.pair_laws.specs.PairedSystems.{StoredListsTell};
 ghost use Rattle.pair_laws.specs.StoredLaws.{StoredIsClosed, StoredIsEmpty, StoredIsPair, StoredIsIrredundant, StoredIsCanonical, StoredAdmitsValidRows, StoredInequalitiesTouch, StoredIsUnique};
 
 /// There are neither strict constraints nor closure points.
@@ -39,4 +40,10 @@ pub fn stored_inequalities_touch()
 /// A set has one pair of stored systems.
 pub fn stored_is_unique()
     ensures { StoredIsUnique }
+{}
+
+/// Two sets of a dimension have the same points exactly where their constraints are one list, and exactly
+/// where their generators are.
+pub fn stored_lists_tell()
+    ensures { StoredListsTell }
 {}

@@ -21,3 +21,5 @@ mod Starts
 mod StartDots
 mod Additions
 mod GeneratorRefusals
+pub mod SpanningSystems
+pub mod PairedSystems

@@ -1,6 +1,8 @@
 pub mod TopologyLists
+pub mod TopologyConstraints
 pub mod NncForms
 pub mod Polyhedra
+pub mod ClosedPolyhedra
 pub mod KeptLaws
 pub mod FirstLists
 pub mod Conversions
@@ -10,3 +12,4 @@ pub mod Entries
 pub mod Axes
 pub mod Starts
 pub mod Additions
+pub mod Spanning

@@ -3,6 +3,7 @@
 //! - [`Poly`] is a polyhedron of a [`Topology`] and of at most [`MAX_DIM`] variables.
 //! - [`constraint_list`] and [`generator_list`] are the lists of rows that are converted for a system of
 //!   constraints or generators; [`Poly::from_rows`] and [`Poly::from_vectors`] take such lists.
+//! - [`spanning_generators`] gives generators of the set of a constraint list by one conversion.
 //! - [`GenErr`] says why generators give no polyhedron.
 //!
 //! [`laws`] says what holds of the two systems of each polyhedron; further laws of closed ones are public
@@ -17,6 +18,7 @@ mod lists;
 mod making;
 mod pairing;
 mod poly;
+mod spanning;
 mod starting;
 mod storing;
 mod storing_generators;
@@ -27,6 +29,7 @@ pub use errors::GenErr;
 pub use lists::{constraint_list, generator_list};
 pub use making::has_point_kind;
 pub use poly::Poly;
+pub use spanning::spanning_generators;
 pub use topology::{MAX_DIM, Topology};
 
 #[cfg(test)]

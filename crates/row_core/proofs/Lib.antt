@@ -9,3 +9,6 @@ pub mod OnePrimitive
 pub mod SamenessLemmas
 pub mod Flat
 pub mod SpanLemmas
+pub mod RefusalLemmas
+pub mod PointwiseLemmas
+pub mod SignLemmas

@@ -48,7 +48,8 @@ scaled_sub a b h g = record {
   scaled = λ m. IsGcd-from_sub (m * a) (m * b) (m * g.divisor) (le_times m a b h) (subst (λ n. IsGcd n (m * b) (m * g.divisor)) (sym (difference_times m a b h)) (g.scaled m));
 }
 
-scaled_gcd_by : (n a b : ℕ) → a + b ≤ n → ScaledGcd a b
+-- two numbers whose sum is at most n have one
+pub scaled_gcd_by : (n a b : ℕ) → a + b ≤ n → ScaledGcd a b
 scaled_gcd_by zero a b h = scaled_zero a b (omega arith)
 scaled_gcd_by (suc n) a b h =
     elim (cases_lt 0 b) [
@@ -157,3 +158,7 @@ IsPrimitiveOf-once old a b p q = same_by_primitive old a b p.multiple q.multiple
 -- a primitive vector is its own
 pub IsPrimitiveOf-self : (v : List ℤ) → IsPrimitive v → IsPrimitiveOf v v
 IsPrimitiveOf-self v primitive = record { multiple = IsMultipleOf-refl v; primitive = primitive }
+
+-- and so is stored as it is
+pub stored_as_is : (row stored : List ℤ) → IsPrimitive row → IsPrimitiveOf row stored → stored ≡ row
+stored_as_is row stored p s = IsPrimitiveOf-once row stored row s (IsPrimitiveOf-self row p)

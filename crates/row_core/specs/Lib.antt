@@ -8,3 +8,4 @@ pub mod Laws
 pub mod Sameness
 pub mod Flat
 pub mod Spans
+pub mod Refusals

@@ -1,17 +1,19 @@
 //! One row, and a list of rows of one width, on the heap.
-ghost use Rattle.std.specs.Prelude.{◌≡◌, ◌^◌, ◌<◌, ◌==◌, List, [], ◌∷◌, ◌++◌, length, ℤ, Decides, MatchResult, IfOk};
+ghost use Rattle.std.specs.Prelude.{◌≡◌, ◌^◌, ◌<◌, ◌==◌, List, [], ◌∷◌, ◌++◌, length, ℤ, pos, neg_ℤ, Decides, MatchResult, IfOk};
 ghost use Rattle.std.specs.Cmp;
 ghost use Rattle.std.specs.Cmp.Lexicographic.{pointwise};
 ghost use Rattle.std.specs.Ordering.{int_eq};
 ghost use Rattle.std.proofs.lemmas.Cmp.{int_eq_equiv, lists_equiv};
 ghost use Rattle.row_core.specs.Range.{AllInRange};
-ghost use Rattle.row_core.specs.Content.{IsPrimitiveOf};
+ghost use Rattle.row_core.specs.Vectors.{scale};
+ghost use Rattle.row_core.specs.Content.{IsPrimitive, IsPrimitiveOf};
 ghost use Rattle.row_core.specs.Sameness.{is_same_list, same_list_equiv};
 ghost use Rattle.row_core.specs.Lists.{Rows, FitWidth, row_at, is_eq_at};
 
 use crate::errors::Memory;
 use crate::marked::{Iter, MarkedRows};
 use crate::primitive::make_primitive;
+use crate::signs::negate;
 use std::alloc::{AllocError, Global};
 use std::marker::Model;
 
@@ -59,6 +61,20 @@ impl RowBuf {
         ensures width { IfOk result (λ row. length row ≡ length cells.now) }
     {
         Ok(RowBuf::new(alloc, cells)?.into_primitive())
+    }
+
+    /// Returns a copy of the cells with all signs changed.
+    pub fn negated(alloc: Global, cells: &[i128]) -> Result<RowBuf, Memory>
+        requires in_range { AllInRange cells.now }
+        requires narrow { length cells.now < 2 ^ 32 }
+        ensures value { IfOk result (λ row. row ≡ scale (neg_ℤ (pos 1)) cells.now) }
+        ensures in_range { IfOk result AllInRange }
+        ensures width { IfOk result (λ row. length row ≡ length cells.now) }
+        ensures primitive { IfOk result (λ row. IsPrimitive cells.now → IsPrimitive row) }
+    {
+        let mut entries = Vec::from_slice(alloc, cells)?;
+        negate(entries.as_mut_slice());
+        Ok(RowBuf { entries })
     }
 
     /// Makes the row primitive in its place.

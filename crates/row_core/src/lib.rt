@@ -6,8 +6,10 @@
 //! - [`Steps`] counts combinations of two rows.
 //! - [`dot`], [`combine_into`] and [`combine_onto`] give the exact numbers, or the first column that
 //!   leaves the range.
+//! - [`product`], [`sum`] and [`combination`] give one exact number, if the range isn't left.
 //! - [`narrow_dot`] needs no such test, where [`all_narrow`] told that all numbers are small.
-//! - [`gcd`] and [`make_primitive`] divide a row by the greatest common divisor of its entries.
+//! - [`gcd`] and [`make_primitive`] divide a row by the greatest common divisor of its entries;
+//!   [`negate`] changes all signs.
 //! - [`one_primitive`] is a law of primitive rows.
 #![tactic(auto)]
 
@@ -20,16 +22,18 @@ mod linear;
 mod marked;
 mod narrow;
 mod primitive;
+mod signs;
 
 pub use buffers::{RowBuf, RowList};
 pub use counting::Steps;
 pub use errors::{ConvErr, Memory, OverKind, Overflow, PairOver};
 pub use in_place::combine_onto;
 pub use laws::one_primitive;
-pub use linear::{combine_into, dot};
+pub use linear::{combination, combine_into, dot, product, sum};
 pub use marked::{Iter, MarkedRows};
 pub use narrow::{all_narrow, narrow_dot};
 pub use primitive::{gcd, make_primitive};
+pub use signs::negate;
 
 #[cfg(test)]
 mod tests;

@@ -12,7 +12,7 @@ const OUTSIDE: i128 = i128::MIN;
 
 /// The product, if it is in the range.
 #[inline]
-fn product(a: i128, b: i128) -> Option<i128>
+pub fn product(a: i128, b: i128) -> Option<i128>
     ensures { SomeIff result (InRange (a *ℤ b)) (a *ℤ b) }
 {
     if both_narrow(a, b) {
@@ -26,7 +26,7 @@ fn product(a: i128, b: i128) -> Option<i128>
 
 /// The sum, if it is in the range.
 #[inline]
-fn sum(a: i128, b: i128) -> Option<i128>
+pub fn sum(a: i128, b: i128) -> Option<i128>
     ensures { SomeIff result (InRange (a +ℤ b)) (a +ℤ b) }
 {
     match a.checked_add(b) {
@@ -45,7 +45,7 @@ fn add_product(total: i128, a: i128, b: i128) -> Option<i128>
 
 /// `s * x + t * y`, if it and both products are in the range.
 #[inline]
-fn combination(s: i128, x: i128, t: i128, y: i128) -> Option<i128>
+pub fn combination(s: i128, x: i128, t: i128, y: i128) -> Option<i128>
     ensures { SomeIff result (ColumnStays s x t y) (s *ℤ x +ℤ t *ℤ y) }
 {
     let left = product(s, x)?;

@@ -1,6 +1,6 @@
 //! Rows of numbers that are at most 2^47 in size. A product of two is at most 2^94, and over 2^32
 //! columns no sum of products leaves the range, so nothing is tested while it is computed.
-ghost use Rattle.std.specs.Prelude.{◌≡◌, ℕ, ◌^◌, ◌<◌, ◌≤◌, length, ◌+ℤ◌, ◌*ℤ◌, unsigned_abs, IsTrue};
+ghost use Rattle.std.specs.Prelude.{◌≡◌, ◌↔◌, ℕ, ◌^◌, ◌<◌, ◌≤◌, length, ◌+ℤ◌, ◌*ℤ◌, unsigned_abs, IsTrue};
 ghost use Rattle.row_core.specs.Vectors.{dot, scale, add};
 ghost use Rattle.row_core.specs.Range.{InRange, AllInRange, DotStays, CombineStays, AllStay};
 ghost use Rattle.row_core.specs.Narrow.{IsNarrow, AllNarrow};
@@ -11,9 +11,9 @@ const LIMIT: i128 = 1 << 47;
 /// Whether the number is narrow.
 #[inline]
 fn is_narrow(x: i128) -> bool
-    ensures { IsTrue result → IsNarrow x }
+    ensures { IsTrue result ↔ IsNarrow x }
 {
-    -LIMIT <= x && x < LIMIT
+    -LIMIT <= x && x <= LIMIT
 }
 
 /// Whether two numbers are narrow.
@@ -39,7 +39,7 @@ pub(crate) fn rows_narrow(u: &[i128], v: &[i128]) -> bool
 
 /// Whether all entries of a row are narrow, which is at most 2^47 in size.
 pub fn all_narrow(row: &[i128]) -> bool
-    ensures { IsTrue result → AllNarrow row.now }
+    ensures { IsTrue result ↔ AllNarrow row.now }
 {
     for j in 0..row.len() {
         if !is_narrow(row[j]) {

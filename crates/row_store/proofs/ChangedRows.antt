@@ -3,14 +3,10 @@ use Rattle.std.proofs.Common.{◌≡◌, ℕ, ◌+◌, ◌-◌, ◌*◌, ◌<◌
 use Rattle.std.specs.Prelude.{All}
 use Rattle.std.proofs.lemmas.List.Elements.{All-from_get_or}
 use Rattle.std.proofs.lemmas.Bool.{cases_lt}
-use Rattle.std.proofs.Math.IntN.{neg_ℤ, ◌*ℤ◌}
-use Rattle.std.proofs.lemmas.Int.{ints}
-use Rattle.std.proofs.lemmas.List.{ext_get_or, take_at}
+use Rattle.std.proofs.lemmas.List.{take_at}
 use borrow.Rule.Slice.PartMut.{put_mid}
-use Rattle.row_core.specs.Vectors.{cell, scale}
-use Rattle.row_core.proofs.CellLemmas.{cell-scale, length-scale}
 use Rattle.row_core.specs.Flat.{Flat, entries_at, rows_of, IsLaidOut}
-use Rattle.row_store.specs.Stores.{window, IsNegated, IsPartChanged, IsRowChanged}
+use Rattle.row_store.specs.Stores.{window, IsPartChanged, IsRowChanged}
 use Rattle.row_core.proofs.Flat.{row_end, entries_at-rows_of, seen_flat, seen, push_seen, length_row, IsCopied}
 use Rattle.row_store.proofs.Parts.{rows_of-with_window, with_window_is}
 
@@ -41,15 +37,6 @@ changed_seen Related w n sp len room i cells new old laid long e in_i h =
       related = subst (λ (r : List ℤ). Related r h.row) at_i h.related;
     } in
     subst (λ (o : Flat ℤ). IsRowChanged Related i o (seen_flat w n sp new)) e whole
-
-negated_times : (x : ℤ) → neg_ℤ x ≡ neg_ℤ (pos 1) *ℤ x
-negated_times x = omega (arith, ints)
-
--- a row whose entries are those of another with their signs changed
-pub negated_is : (old new : List ℤ) → length new ≡ length old → ((j : ℕ) → j < length old → cell new j ≡ neg_ℤ (cell old j)) → IsNegated old new
-negated_is old new wide cells =
-    ext_get_or (pos 0) new (scale (neg_ℤ (pos 1)) old) (wide ∙ sym (length-scale (neg_ℤ (pos 1)) old))
-    (λ j h. cells j (omega (arith, h, wide)) ∙ negated_times (cell old j) ∙ sym (cell-scale (neg_ℤ (pos 1)) old j))
 
 -- what holds of all numbers holds where each was one of them before
 all_from : (P : ℤ → Type 0) (xs ys : List ℤ) → All P xs → ((k : ℕ) → k < length ys → (m : ℕ) × (m < length xs) × (get_or ys k (pos 0) ≡ get_or xs m (pos 0))) → All P ys

@@ -1,5 +1,5 @@
 //! The rows.
-ghost use Rattle.std.specs.Prelude.{◌≡◌, ◌≢◌, ℕ, ◌+◌, ◌*◌, ◌^◌, ◌<◌, ◌≤◌, List, [], ◌∷◌, ◌++◌, length, max, take, Bool, ℤ, slice_set, vec_len, vec_capacity, OnOk, OnErr, MatchResult, IsTrue};
+ghost use Rattle.std.specs.Prelude.{◌≡◌, ◌≢◌, ◌↔◌, ℕ, ◌+◌, ◌*◌, ◌^◌, ◌<◌, ◌≤◌, List, [], ◌∷◌, ◌++◌, length, max, take, Bool, ℤ, slice_set, vec_len, vec_capacity, OnOk, OnErr, MatchResult, IsTrue};
 ghost use Rattle.row_core.specs.Vectors.{scale, add};
 ghost use Rattle.row_core.specs.Content.{IsPrimitiveOf};
 ghost use Rattle.row_core.specs.Range.{AllInRange, CombineStays, IsFirstToLeave, AllStay};
@@ -65,12 +65,15 @@ impl RowStore {
         self.count
     }
 
-    /// Whether all numbers are known to be narrow.
+    /// Whether all numbers are narrow. They are looked at where the flag isn't set.
     #[inline]
     pub fn is_narrow(&self) -> bool
-        ensures { IsTrue result → (i : ℕ) → i < length self.now.rows → AllNarrow (entries_at self.now.rows i) }
+        ensures { IsTrue result ↔ ((i : ℕ) → i < length self.now.rows → AllNarrow (entries_at self.now.rows i)) }
     {
-        self.narrow
+        if self.narrow {
+            return true;
+        }
+        all_narrow(self.cells.as_slice())
     }
 
     /// Makes room for `n` more rows. After want of memory the list is as before.

@@ -5,7 +5,7 @@ ghost use Rattle.row_core.specs.Content.{IsPrimitiveOf};
 ghost use Rattle.row_core.specs.Range.{AllInRange, CombineStays, IsFirstToLeave, AllStay};
 ghost use Rattle.row_store.specs.Stores.{window, with_window, IsNegated, IsPartChanged};
 
-use row_core::{Steps, combine_onto, make_primitive};
+use row_core::{Steps, combine_onto, make_primitive, negate};
 use std::sync::ledger::Ledger;
 
 /// Appends a row, for which there is room.
@@ -39,17 +39,6 @@ pub(crate) fn make_part_primitive(cells: &mut [i128], at: usize, width: usize)
     make_primitive(&mut cells[at..at + width]);
 }
 
-/// Changes all signs.
-fn negate_all(row: &mut [i128])
-    requires { AllInRange row.old }
-    ensures in_range { AllInRange row.new }
-    ensures value { IsNegated row.old row.new }
-{
-    for cell in row.iter_mut() {
-        *cell = -*cell;
-    }
-}
-
 /// Changes all signs of the part of `width` cells from `at` on.
 pub(crate) fn negate_part(cells: &mut [i128], at: usize, width: usize)
     requires within { at + width ≤ length cells.old }
@@ -57,7 +46,7 @@ pub(crate) fn negate_part(cells: &mut [i128], at: usize, width: usize)
     ensures part { IsPartChanged IsNegated at width cells.old cells.new }
     ensures in_range { AllInRange cells.new }
 {
-    negate_all(&mut cells[at..at + width]);
+    negate(&mut cells[at..at + width]);
 }
 
 /// Combines the part of `width` cells from `at` on with a row.

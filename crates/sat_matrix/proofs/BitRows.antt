@@ -1,15 +1,16 @@
 -- Rows of truth values in rows of words.
-use Rattle.std.proofs.Common.{◌≡◌, ◌≢◌, ℕ, suc, zero, ◌+◌, ◌/◌, ◌%◌, ◌<◌, ◌≤◌, Bool, true, false, ◌&&◌, bit_and, IsTrue, List, [], ◌∷◌, ◌++◌, length, get_or, set, map, replicate, nat_eq, refl, sym, ap, inl, inr, ◌⊎◌, subst, ◌∙◌, arith}
+use Rattle.std.proofs.Common.{◌≡◌, ◌≢◌, ℕ, suc, zero, ◌+◌, ◌/◌, ◌%◌, ◌<◌, ◌≤◌, Bool, false, ◌&&◌, bit_and, IsTrue, List, [], ◌∷◌, ◌++◌, length, get_or, set, map, replicate, nat_eq, refl, sym, ap, inl, inr, ◌⊎◌, subst, ◌∙◌, arith}
 use Rattle.std.specs.Prelude.{All}
 use Rattle.std.proofs.lemmas.List.{ext_get_or, get_or-map, length-map, map-append, map-set, length-set, get_or-set_same, get_or-set_other, length-replicate, get_or-replicate}
 use Rattle.std.proofs.lemmas.Nat.Bits.{bit_at-zero}
 use Rattle.std.proofs.lemmas.List.FromFn.{length-map-range_with_len, get_or-map-range_with_len, map-range_with_len_more}
-use Rattle.std.proofs.lemmas.List.Elements.{All-nil, All-cons, All-head, All-tail, All-map}
+use Rattle.std.proofs.lemmas.List.Elements.{All-head, All-tail, All-map}
 use Rattle.std.proofs.lemmas.Bool.{cases_lt, cases_eq}
 use Rattle.sat_bits.specs.Places.{place, bit_in, IsSubsetOfAnd}
 use Rattle.sat_bits.proofs.PlaceLemmas.{places_and}
 use Rattle.sat_matrix.proofs.WordRows.{length-and_words}
 use Rattle.row_core.specs.Flat.{Flat, entries_at, HasOneWidth, marked}
+pub use Rattle.row_core.proofs.PointwiseLemmas.{marked-map, all_marked}
 use Rattle.sat_matrix.specs.Tables.{Table, bits_of, bit_at, conjunction, transposed, Covers}
 use Rattle.sat_matrix.specs.Words.{bits_in, and_words, IsPadded, IsTable, IsPlaceSet}
 
@@ -132,18 +133,6 @@ set_in columns words t i c bit row e in_i in_c p =
     ∙ ap (λ (r : List Bool). set (map (bits_in columns) words.rows) i r) (bits_in_set columns c bit (entries_at words.rows i) row (omega (arith, s.wide, in_c)) p ∙ ap (λ (r : List Bool). set r c bit) (sym (bits_of-map columns words.rows i below)))))
 
 -- ---- rows that are kept
-pub marked-map : {X Y : Type 0} (f : X → Y) (keep : List Bool) (xs : List X) → map f (marked keep xs) ≡ marked keep (map f xs)
-marked-map f [] xs = refl
-marked-map f (k ∷ keep) [] = refl
-marked-map f (true ∷ keep) (x ∷ xs) = ap (λ (ys : List _). f x ∷ ys) (marked-map f keep xs)
-marked-map f (false ∷ keep) (x ∷ xs) = marked-map f keep xs
-
-pub all_marked : {X : Type 0} (P : X → Type 0) (keep : List Bool) (xs : List X) → All P xs → All P (marked keep xs)
-all_marked P [] xs h = All-nil P
-all_marked P (k ∷ keep) [] h = All-nil P
-all_marked P (true ∷ keep) (x ∷ xs) h = All-cons P x (marked keep xs) (All-head P x xs h) (all_marked P keep xs (All-tail P x xs h))
-all_marked P (false ∷ keep) (x ∷ xs) h = all_marked P keep xs (All-tail P x xs h)
-
 pub kept_seen : (columns : ℕ) (words new : Flat ℕ) (t : Table) (keep : List Bool) → seen_bits columns words ≡ t → new.rows ≡ marked keep words.rows → map (bits_in columns) new.rows ≡ marked keep t.rows
 kept_seen columns words new t keep e rows =
     ap (λ (rs : List (List ℕ)). map (bits_in columns) rs) rows ∙ marked-map (bits_in columns) keep words.rows ∙ ap (λ (u : Table). marked keep u.rows) e

@@ -8,7 +8,7 @@ ghost use Rattle.sat_matrix.specs.Words.{bits_in, IsTable};
 use crate::words::WordRows;
 use row_core::Memory;
 use sat_bits::{count, count_and, get, is_subset_of_and, with_bit};
-use std::alloc::Global;
+use std::alloc::{AllocError, Global};
 use std::marker::Model;
 
 /// Rows of truth values of one width, 64 in each word. Past the columns each place of a row is false.
@@ -263,6 +263,18 @@ impl SatMatrix {
         ensures { IsTrue result ↔ Covers (bits_of self.now.rows i) (bits_of self.now.rows j) (bits_of self.now.rows k) }
     {
         is_subset_of_and(self.words.row(i), self.words.row(j), self.words.row(k))
+    }
+}
+
+impl Clone for SatMatrix {
+    ghost is_clone = { λ table copy. copy ≡ record table { spare = 0 } };
+
+    fn clone(&self) -> Result<SatMatrix, AllocError> {
+        Ok(SatMatrix {
+            alloc: self.alloc,
+            columns: self.columns,
+            words: self.words.clone()?,
+        })
     }
 }
 

@@ -4,7 +4,7 @@ ghost use Rattle.row_core.specs.Flat.{Flat, entries_at, rows_of, IsLaidOut, HasO
 ghost use Rattle.sat_matrix.specs.Words.{and_words, fitted, HasThirdWord, HasThirdRow};
 
 use row_core::Memory;
-use std::alloc::Global;
+use std::alloc::{AllocError, Global};
 use std::marker::Model;
 
 /// Rows of words of one width.
@@ -218,6 +218,19 @@ impl WordRows {
     {
         self.cells.truncate(count * self.width);
         self.count = count;
+    }
+}
+
+impl Clone for WordRows {
+    ghost is_clone = { λ rows copy. copy ≡ record rows { spare = 0 } };
+
+    fn clone(&self) -> Result<WordRows, AllocError> {
+        Ok(WordRows {
+            width: self.width,
+            count: self.count,
+            spare: 0,
+            cells: self.cells.clone()?,
+        })
     }
 }
 

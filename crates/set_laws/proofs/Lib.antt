@@ -5,3 +5,4 @@ pub mod SpanValues
 pub mod Members
 pub mod Counters
 pub mod GeneratorLaws
+pub mod PairedMembers

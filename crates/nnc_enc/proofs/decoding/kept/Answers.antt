@@ -1,7 +1,10 @@
 use Rattle.std.proofs.Common.{refl}
 use Rattle.nnc_enc.specs.StrongRows.{kept_at}
-use Rattle.nnc_enc.proofs.DecodeLemmas.{kept_step}
+use Rattle.nnc_enc.proofs.DecodeLemmas.{kept_step, rise_step}
 use Rattle.nnc_enc.proofs.decoding.kept.Goals as goal
 
 pub loop-index-preserved : goal.loop-index-preserved
-loop-index-preserved c = kept_step c.args.keep.now c.loop-index.kept.items c.push_if.new.kept.items c.loop-index.index (kept_at c.args.keep.now c.loop-index.index) c.loop-index.invariant refl c.in_ok-push_if.ensures
+loop-index-preserved c = record {
+  kept = kept_step c.args.keep.now c.loop-index.kept.items c.push_if.new.kept.items c.loop-index.index (kept_at c.args.keep.now c.loop-index.index) c.loop-index.invariant.kept refl c.in_ok-push_if.ensures;
+  rising = rise_step c.args.keep.now c.loop-index.kept.items c.push_if.new.kept.items c.loop-index.index (kept_at c.args.keep.now c.loop-index.index) c.loop-index.invariant.kept c.loop-index.invariant.rising c.in_ok-push_if.ensures;
+}

@@ -9,6 +9,6 @@ use Rattle.nnc_enc.proofs.strong.strong_rows.Goals as goal
 pub constraints_of-requires-clause-within : goal.constraints_of-requires-clause-within
 constraints_of-requires-clause-within c =
     let kept : AreKept c.in_ok-keep.keep.items c.in_ok-kept.kept.items (length c.args.rays.now.rows) =
-    subst (λ (n : ℕ). AreKept c.in_ok-keep.keep.items c.in_ok-kept.kept.items n) (c.in_ok-keep.ensures.as_many ∙ length-vectors c.args.rays.now.rows) (subst (λ (k : List Bool). AreKept k c.in_ok-kept.kept.items (length k)) c.deref.ensures.value c.in_ok-kept.ensures) in
+    subst (λ (n : ℕ). AreKept c.in_ok-keep.keep.items c.in_ok-kept.kept.items n) (c.in_ok-keep.ensures.as_many ∙ length-vectors c.args.rays.now.rows) (subst (λ (k : List Bool). AreKept k c.in_ok-kept.kept.items (length k)) c.deref.ensures.value c.in_ok-kept.ensures.kept) in
     let ordered : IsOrdered c.args.dim c.args.rays.now.rows c.in_ok-kept.kept.items c.in_ok-order.order.items = subst (λ (l : List ℕ). IsOrdered c.args.dim c.args.rays.now.rows l c.in_ok-order.order.items) c.deref-2.ensures.value c.in_ok-order.ensures in
     subst (λ (l : List ℕ). (i : ℕ) → i < length l → index_at l i < length c.args.rays.now.rows) (sym c.deref-3.ensures.value) (within_permutation (length c.args.rays.now.rows) c.in_ok-keep.keep.items c.in_ok-kept.kept.items c.in_ok-order.order.items ordered.permutation kept)
