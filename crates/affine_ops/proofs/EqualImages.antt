@@ -1,13 +1,13 @@
 -- Images and preimages by equality are those by the map that replaces the variable.
 use Rattle.std.proofs.Common.{◌≡◌, ◌≢◌, ◌⊎◌, inl, inr, ℕ, ◌+◌, ◌<◌, ◌≤◌, List, length, slice_set, ℤ, pos, ◌*ℤ◌, ◌<ℤ◌, refl, sym, ap, ◌∙◌, subst, arith}
-use Rattle.std.specs.Prelude.{◌↔◌, Result, IfOk, IfErr}
+use Rattle.std.specs.Prelude.{Result, IfOk, IfErr}
 use Rattle.std.proofs.lemmas.Result.{IfOk-weaker, IfErr-weaker}
 use Rattle.std.specs.List.{range_with_len}
 use Rattle.std.proofs.lemmas.Int.{ints}
 use Rattle.std.proofs.lemmas.Bool.{cases_eq, cases_lt}
 use Rattle.std.proofs.lemmas.List.{ext_get_or, get_or-set_same, get_or-set_other, length-set}
 use Rattle.row_core.specs.Vectors.{cell, dot, scale}
-use Rattle.row_core.specs.Points.{IsPoint, IsSamePoint}
+use Rattle.row_core.specs.Points.{IsPoint}
 use Rattle.row_core.specs.Refusals.{IsOverflowIn}
 use Rattle.row_core.specs.declared.errors.Overflow.{Overflow}
 use Rattle.row_core.specs.declared.errors.ConvErr.{ConvErr}
@@ -16,7 +16,6 @@ use Rattle.cone_laws.proofs.Ring.{ring, mul_comm, mul_assoc, mul-positive}
 use Rattle.cone_laws.proofs.Columns.{cell-scale, length-scale}
 use Rattle.cons_sys.specs.Constraints.{In}
 use Rattle.cons_sys.proofs.SystemLemmas.{In-same_point}
-use Rattle.pair_laws.specs.PointSets.{IsWithin}
 use Rattle.poly_pair.specs.Polyhedra.{Polyhedron}
 use Rattle.affine_ops.specs.declared.relations.ImageRel.{ImageRel}
 use Rattle.affine_ops.specs.declared.relations.ImageRel.TheVariants.{Eq, Ge, Le, Gt, Lt}
@@ -25,6 +24,7 @@ use Rattle.affine_ops.specs.Results.{IsOfSource, IsImage, IsPreimage, IsStoredOf
 use Rattle.affine_ops.specs.Refusals.{SomeLeavesInImage, LeavesOnMapped, SomeLeavesInPullback, LeavesOnPulled}
 use Rattle.affine_ops.specs.Relations.{IsRelatedImage, IsRelatedPreimage, IsImageBy, IsPreimageBy, IsStoredOfRelation, LeavesOnRelation, replaced, moved, image_columns}
 use Rattle.affine_ops.specs.ImageResults.{EqualImageIsSubstituted, EqualPreimageIsSubstituted, IsStoredOfImage, LeavesInImageBy, IsStoredOfPreimage, LeavesInPreimageBy}
+use Rattle.affine_ops.proofs.PulledSets.{one_times}
 use Rattle.affine_ops.proofs.RelatedImages.{crossed}
 
 -- a multiple of the vector is one of the vector whose entry is replaced
@@ -117,10 +117,10 @@ module _ (var : ℕ) (expr : List ℤ) (den : ℤ) (p : Polyhedron) (below : var
   }
     where
       turned : (a b c : ℤ) → a *ℤ (b *ℤ c) ≡ pos 1 *ℤ ((b *ℤ a) *ℤ c)
-      turned a b c = simp ring (omega (arith, ints))
+      turned a b c = one_times (a *ℤ (b *ℤ c)) ((b *ℤ a) *ℤ c) (simp ring refl)
 
       once : (a b : ℤ) → a *ℤ b ≡ pos 1 *ℤ (b *ℤ a)
-      once a b = simp ring (omega (arith, ints))
+      once a b = one_times (a *ℤ b) (b *ℤ a) (mul_comm a b)
 
   put_equal : IsRelatedPreimage Eq var expr den p.cons v → In p.cons (put v)
   put_equal q = In-same_point p.cons (replaced dim var q.num q.below v) (put v) (record {
