@@ -1,0 +1,9 @@
+pub mod Shapes
+pub mod Overflows
+pub mod Differences
+pub mod Suprema
+pub mod Rows
+pub mod Forms
+pub mod Given
+pub mod Refusals
+pub mod Laws
