@@ -73,6 +73,12 @@ impl Turns for Transitions<'_> {
         steps: &mut Steps<L>,
     ) -> Result<Option<Poly>, ConvErr> {
         let (source, target, relation) = self.system.trans(index);
-        joined(alloc, lent(sets, source), relation, lent(sets, target), steps)
+        joined(
+            alloc,
+            lent(sets, source),
+            relation,
+            lent(sets, target),
+            steps,
+        )
     }
 }

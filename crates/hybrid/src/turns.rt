@@ -81,7 +81,13 @@ fn time_turn<L: Ledger>(
     ensures overflow { IfErr result (IsOverflowIn (LeavesInTime h.now location sets.now)) }
 {
     let _kept = h.system();
-    time_joined(alloc, lent(sets, location), h.inv(location), h.flow(location), steps)
+    time_joined(
+        alloc,
+        lent(sets, location),
+        h.inv(location),
+        h.flow(location),
+        steps,
+    )
 }
 
 /// The jump turn of a transition.

@@ -46,7 +46,7 @@ module _ (alone : OneWidening) where
   one_update d old joined one other left n m o j k l (inr (h, e, w)) (inl (g, r, t)) = absurd (omega (arith, h, g))
   one_update d old joined one other left n m o j k l (inr (h, e, w)) (inr (g, r, x)) = (
     one_set d one other (update_closed d old joined one left n o j k (inr (h, e, w))) (update_closed d old joined other left m o j l (inr (g, r, x)))
-    (alone old joined one other (subst (λ (i : ℕ). IsClosedOver i old) (sym o.over.same_dim) o) w x),
+        (alone old joined one other (subst (λ (i : ℕ). IsClosedOver i old) (sym o.over.same_dim) o) w x),
     e ∙ sym r,
   )
 
