@@ -1,8 +1,8 @@
 -- The column of several forms is the largest of their columns.
-use Rattle.std.proofs.Common.{◌≡◌, ℕ, zero, suc, ◌+◌, ◌<◌, ◌≤◌, ◌⊎◌, List, [], ◌∷◌, ◌++◌, length, take, map, get_or, max, ap, sym, subst, ◌∙◌, inl, inr, arith}
+use Rattle.std.proofs.Common.{◌≡◌, ℕ, ◌+◌, ◌<◌, ◌≤◌, ◌⊎◌, List, [], ◌∷◌, ◌++◌, length, take, map, get_or, max, ap, sym, subst, ◌∙◌, inl, inr, arith}
 use Rattle.std.proofs.lemmas.Bool.{cases_lt}
-use Rattle.std.proofs.lemmas.List.{map_more, take-map, get_or-map, get_or-take, length-map, length-take-le}
-use Rattle.grammar.specs.Form.{Form, word, Matches, Begins, IsColumn, AnyMatches, AnyBegins, IsColumnOfAny, IsFirstMatch}
+use Rattle.std.proofs.lemmas.List.{map_more}
+use Rattle.grammar.specs.Form.{Form, Matches, Begins, IsColumn, AnyMatches, AnyBegins, IsColumnOfAny}
 use Rattle.grammar.proofs.Columns.{begins_shorter}
 
 matches_push : (fs : List Form) (f : Form) (w : List ℕ) → AnyMatches (fs ++ f ∷ []) w → AnyMatches fs w ⊎ Matches f w
@@ -98,23 +98,3 @@ larger_more {X} f xs i x z w c d e h is any one largest =
     map_more f xs i z h ∙ ap (λ (y : X). map f (take i xs) ++ f y ∷ []) is in
     subst (λ (n : ℕ). IsColumnOfAny (map f (take (i + 1) xs)) w n) (sym largest)
     (subst (λ (fs : List Form). IsColumnOfAny fs w (max c d)) (sym list) (larger (map f (take i xs)) (f x) w c d any one))
-
-none_matches_at : (fs : List Form) (w : List ℕ) (j : ℕ) (d : Form) → (AnyMatches fs w → ⊥) → j < length fs → Matches (get_or fs j d) w → ⊥
-none_matches_at [] w j d n h m = omega arith
-none_matches_at (f ∷ fs) w zero d n h m = n (inl m)
-none_matches_at (f ∷ fs) w (suc j) d n h m = none_matches_at fs w j d (λ (a : AnyMatches fs w). n (inr a)) (omega arith) m
-
--- the first form that the text has, behind others that it hasn't
-pub first_from_none : {X : Type 0} (f : X → Form) (xs : List X) (i : ℕ) (x : X) (w : List ℕ) → i < length xs → get_or xs i x ≡ x →
-    (AnyMatches (map f (take i xs)) w → ⊥) → Matches (f x) w → IsFirstMatch (map f xs) w i
-first_from_none {X} f xs i x w h is none m =
-    let room : i < length (map f xs) = omega (arith, length-map xs f) in
-    let here : get_or (map f xs) i (word []) ≡ f x = get_or-map f xs i x (word []) h ∙ ap f is in
-    record {
-      within = room;
-      matches = subst (λ (g : Form). Matches g w) (sym here) m;
-      before = λ (j : ℕ) (k : j < i). λ (n : Matches (get_or (map f xs) j (word [])) w).
-          (let same : get_or (map f (take i xs)) j (word []) ≡ get_or (map f xs) j (word []) =
-          ap (λ (fs : List Form). get_or fs j (word [])) (sym (take-map f i xs)) ∙ get_or-take i (map f xs) j (word []) k in
-          none_matches_at (map f (take i xs)) w j (word []) none (omega (arith, length-map (take i xs) f, length-take-le i xs)) (subst (λ (g : Form). Matches g w) (sym same) n));
-    }

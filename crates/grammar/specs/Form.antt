@@ -1,4 +1,4 @@
-use Rattle.std.specs.Prelude.{◌≡◌, ℕ, ◌+◌, ◌<◌, ◌≤◌, ◌⊎◌, List, [], ◌∷◌, ◌++◌, length, take, slice_index_or, zero, suc}
+use Rattle.std.specs.Prelude.{◌≡◌, ℕ, ◌+◌, ◌<◌, ◌≤◌, ◌⊎◌, List, [], ◌∷◌, ◌++◌, length, take, zero, suc}
 
 -- a regular form of text
 pub data Form : Type 0 where
@@ -56,12 +56,6 @@ pub record IsColumnOfAny (fs : List Form) (w : List ℕ) (c : ℕ) : Type 0 wher
   pub not : ¬ (AnyMatches fs w)
   pub before : (i : ℕ) → i < c → AnyBegins fs (take i w)
   pub here : (c ≤ length w) × ¬ (AnyBegins fs (take c w)) ⊎ c ≡ length w + 1
-
--- form i is the first of the forms that the text has
-pub record IsFirstMatch (fs : List Form) (w : List ℕ) (i : ℕ) : Type 0 where
-  pub within : i < length fs
-  pub matches : Matches (slice_index_or fs i (word [])) w
-  pub before : (j : ℕ) → j < i → ¬ (Matches (slice_index_or fs j (word [])) w)
 
 -- each text has a form or hasn't
 abbrev pub DecidesMatches : Type 0

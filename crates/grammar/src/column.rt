@@ -1,5 +1,4 @@
-ghost use Rattle.std.specs.Prelude.{◌≡◌, map, IfOk, OnOk, IsTrue, ◌↔◌};
-ghost use Rattle.grammar.specs.Form.{Matches};
+ghost use Rattle.std.specs.Prelude.{◌≡◌, map, IfOk, OnOk};
 ghost use Rattle.grammar.specs.Shape.{shape};
 ghost use Rattle.grammar.specs.Derivative.{after_rows, row_ends as row_ends_form, some_ends as some_ends_form};
 ghost use Rattle.grammar.specs.Rows.{shapes_of};
@@ -39,14 +38,6 @@ pub fn column_of(alloc: Global, form: &Re, text: &[u8]) -> Result<Verdict, Alloc
     } else {
         Ok(Verdict::RefusedAt(text.len() + 1))
     }
-}
-
-/// Whether the text has the form.
-pub fn matches(alloc: Global, form: &Re, text: &[u8]) -> Result<bool, AllocError>
-    ensures { IfOk result (λ b. IsTrue b ↔ Matches (shape form.now) text.now) }
-{
-    let verdict = column_of(alloc, form, text)?;
-    Ok(matches!(verdict, Verdict::Accepted))
 }
 
 // Takes the rows over the byte, and drops repeats where there are many. The other rows lend their memory.

@@ -2,7 +2,6 @@
 #![tactic(auto)]
 
 mod bodies;
-mod choice;
 mod column;
 mod decided;
 mod derivative;
@@ -18,15 +17,14 @@ mod span;
 mod tables;
 mod verdict;
 
-pub use choice::{column_alone, first_match};
-pub use column::{column_of, matches};
+pub use column::column_of;
 pub use decided::{con_column, cons_column, expr_column, frac_column, gens_column, point_column};
 pub use forms::{BLANKS, GAP};
 pub use laws::{avoided_bytes, decided_matches};
 pub use machine::Machine;
 pub use re::Re;
 pub use rule::Rule;
-pub use verdict::{Choice, Verdict};
+pub use verdict::Verdict;
 
 #[cfg(test)]
 mod tests;

@@ -1,10 +1,17 @@
 use crate::{
-    Choice, Re, Rule, Verdict, column_alone, column_of, con_column, cons_column, expr_column,
-    first_match, frac_column, gens_column, matches, point_column,
+    BLANKS, Re, Rule, Verdict, column_of, con_column, cons_column, expr_column, frac_column,
+    gens_column, point_column,
 };
-use std::alloc::Global;
+use std::alloc::{AllocError, Global};
 use std::process::Abort;
 use std::test::Fail;
+
+// Whether the text has the form with any blanks around it, by the recognizer.
+fn column_alone(alloc: Global, rule: Rule, text: &[u8]) -> Result<Verdict, AllocError> {
+    let form = Re::Named(rule);
+    let with_blanks = Re::Then(&form, &BLANKS);
+    column_of(alloc, &Re::Then(&BLANKS, &with_blanks), text)
+}
 
 // What the table of the form says, where it has one.
 fn by_table(rule: Rule, text: &[u8]) -> Option<Verdict> {
@@ -238,12 +245,9 @@ fn forms_of_a_caller(rt: HostRuntime) -> Result<(), Fail> {
     let word = Re::Word(b"add");
     let expr = Re::Named(Rule::Expr);
     let line = Re::Then(&word, &expr);
-    let forms = [line, Re::Word(b"adds")];
-    assert!(rt; matches(alloc, &line, b"addA")?);
-    assert!(rt; !matches(alloc, &line, b"add")?);
+    assert_eq!(rt; column_of(alloc, &line, b"addA")?, Verdict::Accepted);
+    assert_eq!(rt; column_of(alloc, &line, b"add")?, Verdict::RefusedAt(4));
     assert_eq!(rt; column_of(alloc, &line, b"addA ")?, Verdict::RefusedAt(6));
-    assert_eq!(rt; first_match(alloc, &forms, b"adds")?, Choice::First(1));
-    assert_eq!(rt; first_match(alloc, &forms, b"addsA")?, Choice::RefusedAt(5));
     Ok(())
 }
 

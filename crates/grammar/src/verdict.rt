@@ -7,13 +7,3 @@ pub enum Verdict {
     /// no text of the form, or the length plus 1 where the whole text begins one.
     RefusedAt(usize),
 }
-
-/// Which of several forms a text has.
-#[derive(Clone, Copy, Debug, PartialEq, Eq)]
-pub enum Choice {
-    /// The text has the form of this index, and none before it.
-    First(usize),
-    /// The text has none of the forms. The column of the fault is the least number such that the first so many bytes
-    /// begin no text of any of them, or the length plus 1 where the whole text begins one.
-    RefusedAt(usize),
-}
