@@ -1,1 +1,2 @@
 mod FileKinds
+mod WrittenPolyhedra

@@ -1,11 +1,11 @@
 //! The list of a file, and its polyhedron.
-ghost use Rattle.std.specs.Prelude.{◌≡◌, ◌≤◌, IfOk, IfErr};
+ghost use Rattle.std.specs.Prelude.{◌≡◌, ◌-◌, ◌≤◌, IfOk, IfErr};
 ghost use Rattle.pair_laws.specs.PointSets.{AreClosedKinds};
 ghost use Rattle.poly_pair.specs.FirstLists.{LacksPoint};
 ghost use Rattle.poly_pair.specs.Polyhedra.{IsOfGenerators};
 ghost use Rattle.poly_pair.specs.declared.topology.TheConstants.{MAX_DIM};
 ghost use Rattle.poly_pair.specs.declared.topology.Topology.TheVariants.{Closed};
-ghost use Rattle.file_poly.specs.Files.{IsFit, IsOfList, IsOverflowOnList};
+ghost use Rattle.file_poly.specs.Files.{IsFit, IsOfList, IsOverflowOnList, IsCountedOnList, IsCountedBeforeOnList};
 ghost use Rattle.file_poly.specs.declared.listed.Listed.TheVariants;
 
 use cons_sys::ConsSys;
@@ -40,6 +40,9 @@ impl Listed {
         ensures set { IfOk result (IsOfList self.now) }
         ensures closed { IfOk result (λ p. p.topology ≡ Closed) }
         ensures overflow { IfErr result (IsOverflowOnList self.now) }
+        ensures no_fewer { steps.old ≤ steps.new }
+        ensures counted { IsCountedOnList self.now (steps.new - steps.old) }
+        ensures counted_before { IfErr result (IsCountedBeforeOnList self.now (steps.new - steps.old)) }
     {
         match self {
             Listed::Cons(cons) => Poly::from_cons(alloc, Topology::Closed, cons, steps),
@@ -60,6 +63,9 @@ fn of_generators<L: Ledger>(
     ensures set { IfOk result (IsOfGenerators Closed gens.now) }
     ensures closed { IfOk result (λ p. p.topology ≡ Closed) }
     ensures overflow { IfErr result (IsOverflowOnList (TheVariants.Gens gens.now)) }
+    ensures no_fewer { steps.old ≤ steps.new }
+    ensures counted { IsCountedOnList (TheVariants.Gens gens.now) (steps.new - steps.old) }
+    ensures counted_before { IfErr result (IsCountedBeforeOnList (TheVariants.Gens gens.now) (steps.new - steps.old)) }
 {
     match Poly::from_gens(alloc, Topology::Closed, gens, steps) {
         Ok(made) => Ok(made),
