@@ -10,7 +10,7 @@ use Rattle.term_text.specs.Texts.{IsFrac}
 use Rattle.pair_laws.specs.PointSets.{IsWithin}
 use Rattle.poly_pair.specs.Polyhedra.{Polyhedron}
 use Rattle.poly_pair.specs.declared.topology.Topology.{Topology}
-use Rattle.lattice_ops.specs.Sets.{IsConstraintFor}
+use Rattle.poly_pair.specs.TopologyConstraints.{IsConstraintFor}
 use Rattle.affine_ops.specs.Maps.{substituted, without, remaining, kept_variables}
 use Rattle.affine_ops.specs.Results.{IsOfSource, IsImage, IsPreimage, IsPadded, IsOfBoth}
 use Rattle.affine_ops.proofs.ColumnLemmas.{length-without}
