@@ -88,7 +88,7 @@ same_pair : (a b c d : ℤ) → a ≡ c → b ≡ d → a ∷ b ∷ [] ≡ c ∷
 same_pair a b c d e f = ap (λ (z : ℤ). z ∷ b ∷ []) e ∙ ap (λ (z : ℤ). c ∷ z ∷ []) f
 
 -- a fraction has one form in lowest terms
-one_form : (num den other under : ℤ) → IsPrimitive (num ∷ den ∷ []) → IsPrimitive (other ∷ under ∷ []) → pos 0 <ℤ den → pos 0 <ℤ under → num *ℤ under ≡ other *ℤ den → num ∷ den ∷ [] ≡ other ∷ under ∷ []
+pub one_form : (num den other under : ℤ) → IsPrimitive (num ∷ den ∷ []) → IsPrimitive (other ∷ under ∷ []) → pos 0 <ℤ den → pos 0 <ℤ under → num *ℤ under ≡ other *ℤ den → num ∷ den ∷ [] ≡ other ∷ under ∷ []
 one_form num den other under p q dp up e = by (positive_as den dp) (positive_as under up)
   where
     by : (n : ℕ) × (0 < n) × (den ≡ pos n) → (m : ℕ) × (0 < m) × (under ≡ pos m) → num ∷ den ∷ [] ≡ other ∷ under ∷ []

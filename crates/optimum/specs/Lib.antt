@@ -3,3 +3,4 @@ pub mod Relations
 pub mod Search
 pub mod Suprema
 pub mod Laws
+pub mod Showing

@@ -7,10 +7,7 @@ ghost use Rattle.optimum.specs.Search.{IsShort, Improves, IsPointKind, Replaces,
 
 use crate::relating::value_at;
 use gens_sys::{GenKind, GensSys};
-use row_core::{OverKind, PairOver};
-
-/// The one `i128` outside the range.
-const OUTSIDE: i128 = i128::MIN;
+use row_core::{OverKind, PairOver, product};
 
 /// The best point so far.
 #[derive(Clone, Copy)]
@@ -32,16 +29,6 @@ pub(crate) enum Found {
 pub(crate) enum Visit {
     Stop,
     Keep(Option<Best>),
-}
-
-/// The product, if it is in the range.
-fn product(a: i128, b: i128) -> Option<i128>
-    ensures { SomeIff result (InRange (a *ℤ b)) (a *ℤ b) }
-{
-    match a.checked_mul(b) {
-        Some(product) if product != OUTSIDE => Some(product),
-        _ => None,
-    }
 }
 
 /// Whether `x` is less good than `y`.

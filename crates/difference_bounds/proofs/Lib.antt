@@ -1,0 +1,16 @@
+pub mod FractionLemmas
+pub mod Weights
+pub mod WeightSteps
+pub mod Potentials
+pub mod WalkBounds
+pub mod Scaling
+pub mod Denominators
+pub mod LeastSteps
+pub mod Tightness
+pub mod CellPlaces
+pub mod PassLemmas
+pub mod ChoiceLemmas
+pub mod Differences
+pub mod Triangles
+pub mod Extensions
+pub mod Emptiness

@@ -1,0 +1,9 @@
+pub mod Fractions
+pub mod Walks
+pub mod Values
+pub mod Tables
+pub mod Overflows
+pub mod Laws
+pub mod Passes
+pub mod Combining
+pub mod TableLaws
