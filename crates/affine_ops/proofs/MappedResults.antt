@@ -74,9 +74,9 @@ module _ (f : List ℤ → List ℤ) where
   closed_kinds [] [] nothing h = All-nil IsClosed
   closed_kinds [] (_ ∷ new) a h = elim a [ ]
   closed_kinds (g ∷ old) new (left_out z a) h = closed_kinds old new a (All-tail IsClosed g old h)
-  closed_kinds ((v, kind) ∷ old) ((stored, kind2) ∷ new) (kept p a) h = All-cons IsClosed (stored, kind) new (All-head IsClosed (v, kind) old h) (closed_kinds old new a (All-tail IsClosed (v, kind) old h))
+  closed_kinds ((v, kind) ∷ old) ((stored, kind2) ∷ new) (kept n p a) h = All-cons IsClosed (stored, kind) new (All-head IsClosed (v, kind) old h) (closed_kinds old new a (All-tail IsClosed (v, kind) old h))
 
-  kinds_for : (topology : Topology) (old new : Generators) → AreMapped f old.list new.list → AreGeneratorsFor topology old → AreGeneratorsFor topology new
+  pub kinds_for : (topology : Topology) (old new : Generators) → AreMapped f old.list new.list → AreGeneratorsFor topology old → AreGeneratorsFor topology new
   kinds_for Closed old new a h = closed_kinds old.list new.list a h
   kinds_for Nnc old new a h = tt
 
@@ -87,15 +87,15 @@ module _ (f : List ℤ → List ℤ) where
   no_first : (g : Generator) (list : List Generator) → HasNoPointKind (g ∷ list) → HasNoPointKind list
   no_first g list h i l = h (suc i) (omega (arith, l))
 
-  none_before : (old new : List Generator) → AreMapped f old new → HasNoPointKind new → HasNoPointKind old
+  pub none_before : (old new : List Generator) → AreMapped f old new → HasNoPointKind new → HasNoPointKind old
   none_before [] new a h i l e = absurd (omega (arith, l))
   none_before (g ∷ old) new (left_out z a) h zero l e = points_stay g z e
     where
       points_stay : (g : Generator) → IsZeroDirection g.1 (f g.0) → g.1 ≡ Point → ⊥
       points_stay g z e = subst (λ (c : GenKind). IsZeroDirection c (f g.0)) e z
   none_before (g ∷ old) new (left_out z a) h (suc i) l e = none_before old new a h i (omega (arith, l)) e
-  none_before ((v, kind) ∷ old) ((stored, kind2) ∷ new) (kept p a) h zero l e = h 0 (omega arith) e
-  none_before ((v, kind) ∷ old) ((stored, kind2) ∷ new) (kept p a) h (suc i) l e = none_before old new a (no_first (stored, kind) new h) i (omega (arith, l)) e
+  none_before ((v, kind) ∷ old) ((stored, kind2) ∷ new) (kept n p a) h zero l e = h 0 (omega arith) e
+  none_before ((v, kind) ∷ old) ((stored, kind2) ∷ new) (kept n p a) h (suc i) l e = none_before old new a (no_first (stored, kind) new h) i (omega (arith, l)) e
 
   nothing_new : (new : List Generator) → AreMapped f [] new → ¬ (0 < length new)
   nothing_new [] a l = absurd (omega (arith, l))

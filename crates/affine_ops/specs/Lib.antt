@@ -2,4 +2,8 @@ pub mod Maps
 pub mod MappedLists
 pub mod Results
 pub mod Refusals
+pub mod Shadows
+pub mod Posts
+pub mod Relations
+pub mod RelationLaws
 pub mod Laws

@@ -14,7 +14,12 @@ pub mod laws;
 mod mapped;
 mod pulled;
 mod refusals;
+mod related;
+mod relations;
+mod shadows;
 mod substitution;
 
 pub use dimensions::{concat, embed, project, remove_dims};
 pub use images::{image, preimage};
+pub use relations::ImageRel;
+pub use shadows::shadow;

@@ -1,17 +1,17 @@
 //! Systems of mapped generators, and their polyhedra.
-ghost use Rattle.std.specs.Prelude.{◌≡◌, ℕ, ◌+◌, ◌-◌, ◌^◌, ◌<◌, ◌≤◌, ◌⊎◌, length, pos, ◌<ℤ◌, All, IfOk, IfErr, OnOk};
+ghost use Rattle.std.specs.Prelude.{◌≡◌, ℕ, ◌+◌, ◌-◌, ◌^◌, ◌<◌, ◌≤◌, length, pos, ◌<ℤ◌, All, IfOk, IfErr, OnOk};
 ghost use Rattle.row_core.specs.Vectors.{cell};
 ghost use Rattle.row_core.specs.Range.{InRange, AllInRange};
-ghost use Rattle.gens_sys.specs.Kinds.{HasBadDivisor, IsZeroDirection};
-ghost use Rattle.gens_sys.specs.Generators.{FitDimension, Gains};
+ghost use Rattle.gens_sys.specs.Kinds.{HasBadDivisor};
+ghost use Rattle.gens_sys.specs.Generators.{FitDimension};
 ghost use Rattle.poly_pair.specs.TopologyLists.{AreGeneratorsFor, list_width, generators_of};
 ghost use Rattle.poly_pair.specs.FirstLists.{LacksPoint};
 ghost use Rattle.poly_pair.specs.Polyhedra.{IsOfGenerators};
 ghost use Rattle.poly_pair.specs.Parts.{AreStoredOfGenerators};
 ghost use Rattle.poly_pair.specs.Refusals.{IsOverflowOn};
 ghost use Rattle.poly_pair.specs.declared.topology.TheConstants.{MAX_DIM};
-ghost use Rattle.affine_ops.specs.Maps.{substituted, with_zeros, remaining, kept_variables};
-ghost use Rattle.affine_ops.specs.MappedLists.{IsMappedSystem};
+ghost use Rattle.affine_ops.specs.Maps.{substituted, with_zeros, picked, remaining, kept_variables};
+ghost use Rattle.affine_ops.specs.MappedLists.{GainsMapped, IsMappedSystem};
 ghost use Rattle.affine_ops.specs.Refusals.{IsOverflowIn, SomeLeavesInImage};
 
 use crate::columns::{kept_variables, picked, with_zeros};
@@ -27,7 +27,7 @@ fn push_mapped(gens: &mut GensSys, row: RowBuf, kind: GenKind) -> Result<(), Mem
     requires wide { length row ≡ gens.old.dim + 1 }
     requires divisor { ¬ (HasBadDivisor kind (cell row gens.old.dim)) }
     ensures dim { gens.new.dim ≡ gens.old.dim }
-    ensures list { OnOk result ((IsZeroDirection kind row × (gens.new.list ≡ gens.old.list)) ⊎ Gains gens.old.list gens.new.list row kind) }
+    ensures list { OnOk result (GainsMapped gens.old.list gens.new.list row kind) }
 {
     match gens.push_row(row, kind) {
         Ok(()) => Ok(()),
@@ -83,6 +83,26 @@ pub(crate) fn padded_generators(
     Ok(mapped)
 }
 
+/// The generators' entries at the columns, and then the divisors.
+pub(crate) fn picked_generators(
+    alloc: Global,
+    gens: &GensSys,
+    columns: &[usize],
+) -> Result<GensSys, Memory>
+    requires columns { All (λ (j : ℕ). j < gens.now.dim) columns.now }
+    requires narrow { length columns.now < 2 ^ 32 - 2 }
+    ensures fit { FitDimension gens.now }
+    ensures system { IfOk result (IsMappedSystem (picked columns.now gens.now.dim) (length columns.now) gens.now) }
+{
+    let divisor = gens.dim();
+    let mut mapped = GensSys::new(alloc, columns.len());
+    for index in 0..gens.len() {
+        let row = picked(alloc, columns, divisor, gens.row(index))?;
+        push_mapped(&mut mapped, row, gens.kind(index))?;
+    }
+    Ok(mapped)
+}
+
 /// The generators without the named variables.
 pub(crate) fn remaining_generators(
     alloc: Global,
@@ -93,12 +113,7 @@ pub(crate) fn remaining_generators(
     ensures system { IfOk result (IsMappedSystem (remaining gens.now.dim named.now) (length (kept_variables gens.now.dim named.now)) gens.now) }
 {
     let columns = kept_variables(alloc, gens.dim(), named)?;
-    let mut mapped = GensSys::new(alloc, columns.len());
-    for index in 0..gens.len() {
-        let row = picked(alloc, &columns, gens.dim(), gens.row(index))?;
-        push_mapped(&mut mapped, row, gens.kind(index))?;
-    }
-    Ok(mapped)
+    picked_generators(alloc, gens, &columns)
 }
 
 /// The polyhedron of generators of which one is a point, or of none.

@@ -10,6 +10,7 @@
 #![tactic(auto)]
 
 mod print_constraints;
+mod print_fractions;
 mod print_generators;
 mod print_laws;
 mod print_sums;
@@ -19,8 +20,11 @@ mod read_refusals;
 mod read_texts;
 
 pub use print_constraints::print_cons;
+pub use print_fractions::print_frac;
 pub use print_generators::{print_gen, print_gens};
-pub use print_laws::{constraints_are_read_back, generators_are_read_back};
+pub use print_laws::{
+    constraints_are_read_back, fractions_are_read_back, generators_are_read_back,
+};
 pub use read_generators::{gens_of, read_gens};
 pub use read_laws::one_answer;
 pub use read_texts::{read_con, read_cons, read_expr, read_frac, read_point};

@@ -1,6 +1,6 @@
 //! The printed form of a sum of variables with coefficients.
-ghost use Rattle.std.specs.Prelude.{◌≡◌, ◌++◌, if◌then◌else◌, OnOk};
-ghost use Rattle.expr_text.specs.Printed.{variable_text, factor_text, product_text, leading_sign, joining_sign, expression_text};
+ghost use Rattle.std.specs.Prelude.{◌≡◌, ◌++◌, if◌then◌else◌, OnOk, MatchBool, [], IsTrue, ◌↔◌};
+ghost use Rattle.expr_text.specs.Printed.{variable_text, factor_text, product_text, leading_sign, joining_sign, monomials_from, expression_text, constant_text, affine_text};
 
 use itoa::Buffer;
 use reply_text::Text;
@@ -67,4 +67,42 @@ pub(crate) fn push_expression(text: &mut Text, coefficients: &[i128]) -> Result<
         text.push(b"0")?;
     }
     Ok(())
+}
+
+/// Appends a number behind variables, with its sign, unless it is 0.
+fn push_constant(text: &mut Text, constant: i128) -> Result<(), Memory>
+    ensures { OnOk result (text.new ≡ text.old ++ constant_text constant) }
+{
+    if constant != 0 {
+        text.push(sign_before(constant, false))?;
+        text.push(Buffer::new().format(constant.unsigned_abs()).as_bytes())?;
+    }
+    Ok(())
+}
+
+/// Whether no variable has a coefficient.
+fn has_no_variable(coefficients: &[i128]) -> bool
+    ensures { IsTrue result ↔ (monomials_from 0 coefficients.now ≡ []) }
+{
+    for j in 0..coefficients.len() {
+        if coefficients[j] != 0 {
+            return false;
+        }
+    }
+    true
+}
+
+/// Appends the sum of the variables in order and then the number, or the number alone where there is no variable.
+pub(crate) fn push_affine(
+    text: &mut Text,
+    coefficients: &[i128],
+    constant: i128,
+) -> Result<(), Memory>
+    ensures { OnOk result (text.new ≡ text.old ++ affine_text (monomials_from 0 coefficients.now) constant) }
+{
+    if has_no_variable(coefficients) {
+        return text.push_signed(constant);
+    }
+    push_expression(text, coefficients)?;
+    push_constant(text, constant)
 }

@@ -1,0 +1,49 @@
+//! The points of constraints with some of their columns alone.
+ghost use Rattle.std.specs.Prelude.{ℕ, ◌<◌, ◌≤◌, length, All, IfOk, IfErr};
+ghost use Rattle.poly_pair.specs.TopologyLists.{AreConstraintsFor};
+ghost use Rattle.poly_pair.specs.declared.topology.TheConstants.{MAX_DIM};
+ghost use Rattle.affine_ops.specs.Maps.{picked};
+ghost use Rattle.affine_ops.specs.Refusals.{IsOverflowIn};
+ghost use Rattle.affine_ops.specs.Shadows.{IsShadow, IsStoredOfShadow, LeavesOnShadow};
+
+use crate::mapped::{generated, picked_generators};
+use cons_sys::ConsSys;
+use poly_pair::{MAX_DIM, Poly, Topology, spanning_generators};
+use row_core::{ConvErr, Steps};
+use std::alloc::Global;
+use std::sync::ledger::Ledger;
+
+/// The points that those at which constraints hold become where the columns alone are kept, in their order.
+///
+/// The constraint list is converted, and then the list of the generators that its canonical system stands for,
+/// without the other columns.
+///
+/// # Errors
+///
+/// An overflow is one of the conversion of the constraint list, or of that of the generators, or of the second list
+/// of the latter.
+pub fn shadow<L: Ledger>(
+    alloc: Global,
+    topology: Topology,
+    cons: &ConsSys,
+    columns: &[usize],
+    steps: &mut Steps<L>,
+) -> Result<Poly, ConvErr>
+    requires kinds { AreConstraintsFor topology cons.now }
+    requires columns { All (λ (j : ℕ). j < cons.now.dim) columns.now }
+    requires narrow { length columns.now ≤ MAX_DIM }
+    ensures points { IfOk result (IsShadow topology (picked columns.now cons.now.dim) (length columns.now) cons.now) }
+    ensures stored { IfOk result (IsStoredOfShadow topology (picked columns.now cons.now.dim) (length columns.now) cons.now) }
+    ensures overflow { IfErr result (IsOverflowIn (LeavesOnShadow topology (picked columns.now cons.now.dim) (length columns.now) cons.now)) }
+    ensures no_fewer { steps.old ≤ steps.new }
+{
+    let found = match spanning_generators(alloc, topology, cons, steps) {
+        Ok(found) => found,
+        Err(cause) => return Err(cause),
+    };
+    let Some(gens) = found else {
+        return Ok(Poly::empty(alloc, topology, columns.len())?);
+    };
+    let mapped = picked_generators(alloc, &gens, columns)?;
+    generated(alloc, topology, &mapped, steps)
+}
