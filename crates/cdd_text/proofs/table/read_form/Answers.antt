@@ -7,20 +7,20 @@ use Rattle.cdd_text.specs.Bodies.{IsBodyFault}
 use Rattle.cdd_text.proofs.Forms.{fault_head, fault_body, form_read}
 use Rattle.cdd_text.proofs.table.read_form.Goals as goal
 
-pub returns-in-Err : goal.returns-in-Err
-returns-in-Err c =
+pub returns-in-Err-clause-read : goal.returns-in-Err-clause-read
+returns-in-Err-clause-read c =
     let cut = c.in_ok-cut.cut in
     fault_head c.args.bytes.now (lines cut.file.now) (lines cut.behind.now) cut.end c.in-Err.line c.in_ok-cut.ensures (search rules)
 
-pub returns-in-Err-read_body : goal.returns-in-Err-read_body
-returns-in-Err-read_body c =
+pub returns-in-Err-read_body-clause-read : goal.returns-in-Err-read_body-clause-read
+returns-in-Err-read_body-clause-read c =
     let cut = c.in_ok-cut.cut in
     let head = c.in-Ok.head in
     subst (λ (f : Fault). IsFirstOf (form_tests c.args.bytes.now) f) (sym c.fault_of.ensures)
-    (fault_body c.args.bytes.now (lines cut.file.now) (lines cut.behind.now) (lines head.behind.now) cut.end head.begin head.said.kind head.said.linearity.now c.in-Err-read_body.error c.in_ok-cut.ensures (search rules) (subst (λ (l : List Token). IsBodyFault l cut.end c.in-Err-read_body.error) c.behind_line.ensures.tokens c.in-Err-read_body.ensures))
+    (fault_body c.args.bytes.now (lines cut.file.now) (lines cut.behind.now) (lines head.behind.now) cut.end head.begin head.said.kind head.said.linearity.now c.in-Err-read_body.error c.in_ok-cut.ensures (search rules) (subst (λ (l : List Token). IsBodyFault l cut.end c.in-Err-read_body.error) c.behind_line.ensures.tokens c.in-Err-read_body.ensures.read))
 
-pub returns-in-Ok-read_body : goal.returns-in-Ok-read_body
-returns-in-Ok-read_body c =
+pub returns-in-Ok-read_body-clause-read : goal.returns-in-Ok-read_body-clause-read
+returns-in-Ok-read_body-clause-read c =
     let cut = c.in_ok-cut.cut in
     let head = c.in-Ok.head in
     let body = c.in-Ok-read_body.body in
