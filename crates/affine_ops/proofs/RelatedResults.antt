@@ -1,14 +1,8 @@
 -- The polyhedra of related images.
-use Rattle.std.proofs.Common.{◌≡◌, ◌⊎◌, inl, inr, ℕ, ◌+◌, ◌<◌, ◌≤◌, List, [], ◌∷◌, ◌++◌, length, ℤ, pos, neg_ℤ, refl, sym, ap, ◌∙◌, subst, arith, All}
+use Rattle.std.proofs.Common.{◌≡◌, ℕ, ◌+◌, ◌<◌, List, [], ◌∷◌, ◌++◌, length, ℤ, refl, sym, ap, ◌∙◌, subst, arith, All}
 use Rattle.std.specs.List.{range_with_len}
-use Rattle.std.proofs.lemmas.List.{ext_get_or}
 use Rattle.std.proofs.lemmas.List.Elements.{All-nil, All-cons, All-append, All-set}
-use Rattle.row_core.specs.Vectors.{cell}
-use Rattle.cone_laws.specs.Cones.{negated}
-use Rattle.cone_laws.proofs.Columns.{cell-negated, length-scale}
-use Rattle.std.specs.Prelude.{Result, Ok, Err, IfOk, IfErr}
 use Rattle.row_core.specs.Points.{IsPoint}
-use Rattle.row_core.specs.declared.errors.Overflow.{Overflow}
 use Rattle.row_core.specs.declared.errors.ConvErr.{ConvErr}
 use Rattle.row_core.specs.declared.errors.ConvErr.TheVariants as conversion
 use Rattle.cons_sys.specs.Constraints.{Constraint, Constraints, FitDimension, Gains}
@@ -69,8 +63,8 @@ relation_closed : (rel : ImageRel) → IsRelationFor Closed rel → IsClosedKind
 relation_closed Eq h = tt
 relation_closed Ge h = tt
 relation_closed Le h = tt
-relation_closed Gt h = absurd h
-relation_closed Lt h = absurd h
+relation_closed Gt h = cc
+relation_closed Lt h = cc
 
 abbrev IsClosed : Constraint → Type 0
 IsClosed c = IsClosedKind c.1

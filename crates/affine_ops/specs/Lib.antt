@@ -6,4 +6,5 @@ pub mod Shadows
 pub mod Posts
 pub mod Relations
 pub mod RelationLaws
+pub mod ImageResults
 pub mod Laws

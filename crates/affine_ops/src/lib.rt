@@ -1,10 +1,11 @@
 //! Images, preimages and changes of the dimension of polyhedra, on both topologies.
 //!
-//! - [`image`] and [`preimage`] replace a variable by an expression.
+//! - [`image`] and [`preimage`] replace a variable by what stands in an [`ImageRel`] to an expression.
 //! - [`embed`], [`project`] and [`remove_dims`] add and take away variables.
 //! - [`concat`] gives the product of two sets.
+//! - [`shadow`] keeps some columns of the points at which constraints hold.
 //!
-//! [`laws`] says which of them undo each other.
+//! [`laws`] says which of them undo each other, and what images by relations are.
 #![tactic(auto)]
 
 mod columns;

@@ -15,6 +15,7 @@ use crate::entry::Entry;
 use crate::names::Names;
 use crate::refusal::StepErr;
 use crate::texts::fraction_of;
+use affine_ops::ImageRel;
 use poly_pair::{MAX_DIM, Poly};
 use reply_text::{Fault, Text};
 use row_core::Steps;
@@ -173,7 +174,7 @@ pub fn image<L: Ledger>(
     if names.has_no_room(out.bytes()) {
         return Err(StepErr::Input(Fault::TooManyNames));
     }
-    match affine_ops::image(alloc, p, v as usize, frac.expr.cells(), frac.den, steps) {
+    match affine_ops::image(alloc, p, v as usize, ImageRel::Eq, frac.expr.cells(), frac.den, steps) {
         Ok(made) => Ok(Change::Puts(out, Entry::Poly(made))),
         Err(cause) => Err(StepErr::from(cause)),
     }
@@ -202,7 +203,7 @@ pub fn preimage<L: Ledger>(
     if names.has_no_room(out.bytes()) {
         return Err(StepErr::Input(Fault::TooManyNames));
     }
-    match affine_ops::preimage(alloc, p, v as usize, frac.expr.cells(), frac.den, steps) {
+    match affine_ops::preimage(alloc, p, v as usize, ImageRel::Eq, frac.expr.cells(), frac.den, steps) {
         Ok(made) => Ok(Change::Puts(out, Entry::Poly(made))),
         Err(cause) => Err(StepErr::from(cause)),
     }

@@ -5,6 +5,10 @@ use Rattle.std.proofs.lemmas.Int.{to_z-of_z, fits_signed_from_abs}
 use Rattle.std.specs.Option.{option_copied}
 use Rattle.poly_pair.specs.Polyhedra.{Polyhedron}
 use Rattle.affine_ops.specs.Maps.{substituted}
+use Rattle.affine_ops.specs.declared.relations.ImageRel.TheVariants.{Eq}
+use Rattle.affine_ops.specs.Results.{IsStoredOfMapped}
+use Rattle.affine_ops.specs.Relations.{IsImageBy}
+use Rattle.affine_ops.proofs.EqualImages.{equal_images}
 use Rattle.affine_ops.specs.Refusals.{IsOverflowIn, SomeLeavesInImage, LeavesOnMapped}
 use Rattle.reply_text.specs.declared.faults.Fault.TheVariants.{TooManyNames}
 use Rattle.calc_state.specs.declared.entry.Entry.TheVariants as entry
@@ -13,10 +17,11 @@ use Rattle.calc_state.specs.Table.{HasNoRoom}
 use Rattle.calc_state.specs.Order.{IsFirst}
 use Rattle.calc_state.specs.Meaning.{on_one}
 use Rattle.calc_state.specs.Texts.{IsTextRefusal}
+use Rattle.calc_state.specs.Results.{IsResult}
 use Rattle.calc_state.specs.Affine.{fraction_fault, ReadsFraction, image, IsSubstituted}
 use Rattle.calc_state.specs.Step.{IsPerformed}
 use Rattle.calc_state.proofs.MakerLemmas.{not_so}
-use Rattle.calc_state.proofs.FractionLemmas.{divisor_in_range, image_refused, replacement_full, image_made, image_leaves}
+use Rattle.calc_state.proofs.FractionLemmas.{divisor_in_range, fraction_positive, image_refused, replacement_full, image_made, image_leaves}
 use Rattle.calc_state.proofs.affine.image.Goals as goal
 
 pub returns-in-Err : goal.returns-in-Err
@@ -40,8 +45,10 @@ returns-in-Ok-image g c =
     let room = not_so c.has_no_room.result (HasNoRoom c.args.names.now c.args.out) (subst (λ (w : List ℕ). IsTrue c.has_no_room.result ↔ HasNoRoom c.args.names.now w) c.bytes.ensures c.has_no_room.ensures) c.if-has_no_room.false in
     let fits = fits_signed_from_abs w128 c.in-Ok.frac.den (divisor_in_range c.in-Some.p.now.cons.dim c.args.v c.args.part.now c.in-Ok.frac.expr c.in-Ok.frac.den read).size in
     let den = to_z-of_z w128 c.in-Ok.frac.den fits in
-    let at = subst (λ (z : ℤ). IsSubstituted c.args.v c.cells.result.now z c.in-Some.p.now c.in-Ok-image.made) den (record { set = c.in-Ok-image.ensures.points; stored = c.in-Ok-image.ensures.stored }) in
-    let is = subst (λ (e : List ℤ). IsSubstituted c.args.v e c.in-Ok.frac.den c.in-Some.p.now c.in-Ok-image.made) c.cells.ensures.value at in
+    let at = subst (λ (z : ℤ). IsResult (IsImageBy Eq c.args.v c.cells.result.now z c.in-Some.p.now) (IsStoredOfMapped (substituted c.args.v c.cells.result.now z) c.in-Some.p.now.cons.dim c.in-Some.p.now) c.in-Ok-image.made) den (record { set = c.in-Ok-image.ensures.points; stored = c.in-Ok-image.ensures.stored }) in
+    let by = subst (λ (e : List ℤ). IsResult (IsImageBy Eq c.args.v e c.in-Ok.frac.den c.in-Some.p.now) (IsStoredOfMapped (substituted c.args.v e c.in-Ok.frac.den) c.in-Some.p.now.cons.dim c.in-Some.p.now) c.in-Ok-image.made) c.cells.ensures.value at in
+    let points = (equal_images c.args.v c.in-Ok.frac.expr c.in-Ok.frac.den c.in-Some.p.now c.in-Ok-image.made read.within (fraction_positive c.in-Some.p.now.cons.dim c.args.v c.args.part.now c.in-Ok.frac.expr c.in-Ok.frac.den read)).0 by.set in
+    let is : IsSubstituted c.args.v c.in-Ok.frac.expr c.in-Ok.frac.den c.in-Some.p.now c.in-Ok-image.made = record { set = points; stored = by.stored } in
     let found : option_copied c.args.p ≡ Some c.in-Some.p.now = ap option_copied c.in-Some.is in
     subst (λ (o : Option Polyhedron). IsPerformed (on_one o (image c.args.names.now c.args.out c.args.v c.args.part.now)) (Ok (Puts c.args.out (entry.Poly c.in-Ok-image.made)))) (sym found)
     (image_made c.args.names.now c.args.out c.args.v c.args.part.now c.in-Some.p.now c.in-Ok.frac.expr c.in-Ok.frac.den read c.in-Ok-image.made room is)
