@@ -174,7 +174,15 @@ pub fn image<L: Ledger>(
     if names.has_no_room(out.bytes()) {
         return Err(StepErr::Input(Fault::TooManyNames));
     }
-    match affine_ops::image(alloc, p, v as usize, ImageRel::Eq, frac.expr.cells(), frac.den, steps) {
+    match affine_ops::image(
+        alloc,
+        p,
+        v as usize,
+        ImageRel::Eq,
+        frac.expr.cells(),
+        frac.den,
+        steps,
+    ) {
         Ok(made) => Ok(Change::Puts(out, Entry::Poly(made))),
         Err(cause) => Err(StepErr::from(cause)),
     }
@@ -203,7 +211,15 @@ pub fn preimage<L: Ledger>(
     if names.has_no_room(out.bytes()) {
         return Err(StepErr::Input(Fault::TooManyNames));
     }
-    match affine_ops::preimage(alloc, p, v as usize, ImageRel::Eq, frac.expr.cells(), frac.den, steps) {
+    match affine_ops::preimage(
+        alloc,
+        p,
+        v as usize,
+        ImageRel::Eq,
+        frac.expr.cells(),
+        frac.den,
+        steps,
+    ) {
         Ok(made) => Ok(Change::Puts(out, Entry::Poly(made))),
         Err(cause) => Err(StepErr::from(cause)),
     }
