@@ -21,6 +21,8 @@ use Rattle.pair_laws.specs.PointSets.{IsClosedKind, AreClosed, IsClosedGenKind, 
 use Rattle.poly_pair.specs.FirstLists.{HasNoPointKind, LacksPoint}
 use Rattle.file_poly.specs.Files.{IsFit}
 use Rattle.file_poly.specs.declared.listed.Listed.TheVariants.{Cons, Gens}
+use Rattle.poly_pair.specs.declared.topology.TheConstants.{MAX_DIM}
+use Rattle.cdd_text.specs.declared.table.TheConstants.{MAX_WIDTH}
 
 -- ---- kinds
 closed_kind : (k : ConKind) → k ≢ Gt → IsClosedKind k
@@ -90,9 +92,9 @@ file_with_point bytes gs f =
     subst (λ (list : List Generator). ¬ (LacksPoint list)) (sym f.list) (with_point_cases (has_some f.given && not (list_any is_point f.given)) gs.dim f.given refl)
 
 -- ---- limits
-few_columns : (d n : ℕ) → d ≡ n + 1 → (31 + 1 < d → ⊥) → n ≤ 31
+few_columns : (d n : ℕ) → d ≡ n + 1 → (MAX_WIDTH < d → ⊥) → n ≤ MAX_DIM
 few_columns d n e few =
-    elim (cases_lt 32 d) [
+    elim (cases_lt MAX_WIDTH d) [
       | inl many ↦ absurd (few many)
       | inr k ↦ omega (arith, e, k)
     ]
