@@ -11,15 +11,15 @@ pub directions_append : (dim : ℕ) (old new more added : List Generator) → Ar
 directions_append dim [] [] more added no_direction e = e
 directions_append dim [] (_ ∷ new) more added d e = elim d [ ]
 directions_append dim (g ∷ old) new more added (zero_direction z d) e = zero_direction z (directions_append dim old new more added d e)
-directions_append dim (g ∷ old) (_ ∷ new) more added (one_direction p d) e = one_direction p (directions_append dim old new more added d e)
+directions_append dim (g ∷ old) (_ ∷ new) more added (one_direction n p d) e = one_direction n p (directions_append dim old new more added d e)
 
 directions_end : (dim : ℕ) (old new new2 : List Generator) (row : List ℤ) (kind : GenKind) → AreDirections dim old new → GainsDirection dim new new2 row kind → AreDirections dim (old ++ (row, kind) ∷ []) new2
 directions_end dim old new new2 row kind d (left_out z e) =
     subst (AreDirections dim (old ++ (row, kind) ∷ [])) (append-nil new ∙ sym e)
     (directions_append dim old new ((row, kind) ∷ []) [] d (zero_direction z no_direction))
-directions_end dim old new new2 row kind d (gained g) =
+directions_end dim old new new2 row kind d (gained n g) =
     subst (AreDirections dim (old ++ (row, kind) ∷ [])) (sym g.list)
-    (directions_append dim old new ((row, kind) ∷ []) ((g.stored, direction_kind kind) ∷ []) d (one_direction g.primitive no_direction))
+    (directions_append dim old new ((row, kind) ∷ []) ((g.stored, direction_kind kind) ∷ []) d (one_direction n g.primitive no_direction))
 
 -- one generator more
 pub directions_more : (dim dim2 : ℕ) (list new new2 : List Generator) (i : ℕ) (row : List ℤ) (kind : GenKind) → i < length list → dim2 ≡ dim → row ≡ row_at list i → kind ≡ kind_at list i → AreDirections dim (take i list) new → GainsDirection dim2 new new2 row kind → AreDirections dim (take (i + 1) list) new2

@@ -122,7 +122,7 @@ module _ (dim : ℕ) (c : Constraint) where
   directions_meet [] [] no_direction h = All-nil OnDirection
   directions_meet [] (_ ∷ new) d h = elim d [ ]
   directions_meet (g ∷ old) new (zero_direction z d) h = directions_meet old new d (All-tail OnLevel g old h)
-  directions_meet ((v, kind) ∷ old) ((stored, kind2) ∷ new) (one_direction p d) h =
+  directions_meet ((v, kind) ∷ old) ((stored, kind2) ∷ new) (one_direction n p d) h =
       All-cons OnDirection (stored, kind2) new
       (direction_asked c.1 kind (dot (levelled dim c.0) v) (pos p.multiple.times) (dot c.0 stored) (positive_times p.multiple.times p.multiple.positive) (primitive_value dim c.0 v stored p) (All-head OnLevel (v, kind) old h))
       (directions_meet old new d (All-tail OnLevel (v, kind) old h))
@@ -134,7 +134,7 @@ module _ (dim : ℕ) (c : Constraint) where
       All-cons OnLevel (v, kind) old
       (zero_asked c.1 kind (dot (levelled dim c.0) v) (dot_levelled dim c.0 v ∙ dot_nought c.0 (levelled dim v) (all_zero kind (levelled dim v) z)))
       (directions_met old new d h)
-  directions_met ((v, kind) ∷ old) ((stored, kind2) ∷ new) (one_direction p d) h =
+  directions_met ((v, kind) ∷ old) ((stored, kind2) ∷ new) (one_direction n p d) h =
       All-cons OnLevel (v, kind) old
       (level_asked c.1 kind (dot (levelled dim c.0) v) (pos p.multiple.times) (dot c.0 stored) (positive_times p.multiple.times p.multiple.positive) (primitive_value dim c.0 v stored p) (All-head OnDirection (stored, kind2) new h))
       (directions_met old new d (All-tail OnDirection (stored, kind2) new h))

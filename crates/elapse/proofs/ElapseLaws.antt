@@ -14,7 +14,7 @@ use Rattle.pair_laws.specs.StoredForms.{false_row}
 use Rattle.poly_pair.specs.declared.topology.Topology.{Topology}
 use Rattle.poly_pair.specs.declared.topology.Topology.TheVariants.{Closed, Nnc}
 use Rattle.pair_laws.proofs.Stored.{stored_is_empty}
-use Rattle.lattice_ops.specs.Sets.{IsKindFor, IsConstraintFor}
+use Rattle.poly_pair.specs.TopologyConstraints.{IsKindFor, IsConstraintFor}
 use Rattle.elapse.specs.Directions.{levelled}
 use Rattle.elapse.specs.ElapsedPoints.{IsElapsed, IsTrueElapsed}
 use Rattle.elapse.specs.ElapseLaws.{ElapseIncludesStart, ElapseMovesOn}

@@ -79,7 +79,7 @@ directions_closed : (dim : ℕ) (old new : List Generator) → AreDirections dim
 directions_closed dim [] [] no_direction = All-nil HasClosedKind
 directions_closed dim [] (_ ∷ new) d = elim d [ ]
 directions_closed dim (g ∷ old) new (zero_direction z d) = directions_closed dim old new d
-directions_closed dim ((v, kind) ∷ old) ((stored, kind2) ∷ new) (one_direction p d) = All-cons HasClosedKind (stored, kind2) new (direction_closed kind) (directions_closed dim old new d)
+directions_closed dim ((v, kind) ∷ old) ((stored, kind2) ∷ new) (one_direction n p d) = All-cons HasClosedKind (stored, kind2) new (direction_closed kind) (directions_closed dim old new d)
 
 followed_kinds : (t : Topology) (cs : Constraints) (gs : Generators) (new : List Generator) → IsStoredAs t cs gs → All HasClosedKind new → AreGeneratorsFor t (followed gs new)
 followed_kinds Closed cs gs new s h = All-append HasClosedKind gs.list new (λ i d b. ((stored_is_closed cs gs s).gens i d b).kind) h

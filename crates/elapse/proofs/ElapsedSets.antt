@@ -14,7 +14,7 @@ use Rattle.poly_pair.specs.declared.topology.Topology.TheVariants.{Closed, Nnc}
 use Rattle.poly_pair.specs.TopologyLists.{AreConstraintsFor}
 use Rattle.set_laws.specs.Asking.{IsProper, MeetsOn}
 use Rattle.set_laws.proofs.GeneratorLaws.{true_on_law}
-use Rattle.lattice_ops.specs.Sets.{IsKindFor, IsConstraintFor}
+use Rattle.poly_pair.specs.TopologyConstraints.{IsKindFor, IsConstraintFor}
 use Rattle.elapse.specs.Directions.{AreDirections}
 use Rattle.elapse.specs.ElapsedPoints.{IsTrueElapsed, IsInElapse}
 use Rattle.elapse.specs.Elapses.{followed}

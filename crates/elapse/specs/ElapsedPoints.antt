@@ -5,7 +5,7 @@ use Rattle.row_core.specs.Points.{IsPoint}
 use Rattle.cons_sys.specs.Constraints.{Constraint, Constraints, Satisfies}
 use Rattle.pair_laws.specs.PointSets.{IsWithin}
 use Rattle.poly_pair.specs.declared.topology.Topology.{Topology}
-use Rattle.lattice_ops.specs.Sets.{IsConstraintFor}
+use Rattle.poly_pair.specs.TopologyConstraints.{IsConstraintFor}
 
 -- coordinate j of the point v is that of x plus num / den times that of y, multiplied out: the coordinates of the vectors are fractions over their last entries
 abbrev pub IsMovedAt : ℕ → List ℤ → List ℤ → ℤ → ℤ → List ℤ → ℕ → Type 0

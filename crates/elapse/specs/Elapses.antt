@@ -44,6 +44,8 @@ AreStoredOfElapse p q result = IsOfNone p q result ⊎ AreStoredOfList p q resul
 
 -- an overflow shows a number outside the range in the conversion of that list, or of its second list
 pub record LeavesOnElapse (p q : Polyhedron) (over : Overflow) : Type 0 where
+  pub some : ¬ (p.gens.list ≡ [])
+  pub moving : ¬ (q.gens.list ≡ [])
   pub rows : List Row
   pub is_list : IsElapseList p q rows
   pub leaves : LeavesOn (list_width p.topology p.gens.dim) p.gens.dim rows over

@@ -33,7 +33,8 @@ fn push_direction(
     let mut direction = row.to_vec(alloc)?;
     direction[last] = 0;
     match directions.push(&direction, direction_kind(kind)) {
-        Ok(()) | Err(GenPushErr::ZeroVector) => Ok(()),
+        Ok(()) => Ok(()),
+        Err(GenPushErr::ZeroVector) => Ok(()),
         Err(GenPushErr::BadDivisor) => unreachable!(),
         Err(GenPushErr::Memory) => Err(Memory),
     }

@@ -1,8 +1,2 @@
-pub mod TargetLists
 pub mod PairSets
-pub mod Places
-pub mod Totals
-pub mod TurnLemmas
-pub mod RoundLemmas
-pub mod OneLimit
-pub mod Sums
+pub mod SystemTurns

@@ -10,9 +10,7 @@ pub mod laws;
 mod pairs;
 mod runs;
 mod successors;
-mod table;
-mod targets;
-mod turns;
+mod transitions;
 
 pub use runs::run;
 pub use successors::post;

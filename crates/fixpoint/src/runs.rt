@@ -1,41 +1,16 @@
 //! Runs of transition systems.
-ghost use Rattle.std.specs.Prelude.{◌<◌, length, MatchBool, IfOk, IfErr};
-ghost use Rattle.widening.specs.Ranks.{total};
-ghost use Rattle.affine_ops.specs.Refusals.{IsOverflowIn};
-ghost use Rattle.fixpoint.specs.Runs.{IsRound, IsStable, HasLimit};
-ghost use Rattle.fixpoint.specs.RunOverflows.{LeavesInRound, LeavesInRun};
-ghost use Rattle.fixpoint.specs.RunLaws.{IsTableOf, AreSetsOf, IncludeInitial, AreClosedUnder};
+ghost use Rattle.std.specs.Prelude.{IfOk, IfErr};
+ghost use Rattle.row_core.specs.Refusals.{IsOverflowIn};
+ghost use Rattle.fixpoint.specs.Runs.{HasLimit};
+ghost use Rattle.fixpoint.specs.RunOverflows.{LeavesInRun};
+ghost use Rattle.fixpoint.specs.RunLaws.{AreSetsOf, IncludeInitial, AreClosedUnder};
 
-use crate::table::Table;
-use crate::turns::turn;
+use crate::transitions::Transitions;
 use poly_pair::Poly;
 use row_core::{ConvErr, Steps};
 use std::alloc::Global;
 use std::sync::ledger::Ledger;
 use trans_sys::System;
-use widening::laws::widening_includes;
-
-/// The turns of all transitions in order. Says whether one of them changed the table.
-fn round<L: Ledger>(
-    alloc: Global,
-    system: &System,
-    table: &mut Table,
-    steps: &mut Steps<L>,
-) -> Result<bool, ConvErr>
-    requires { IsTableOf system.now table.old }
-    ensures table { IsTableOf system.now table.new }
-    ensures round { IfOk result (λ changed. IsRound system.now.transitions (length system.now.transitions) table.old table.new) }
-    ensures falls { IfOk result (λ changed. MatchBool changed (total table.new.sets table.new.left < total table.old.sets table.old.left) (IsStable system.now.transitions table.new)) }
-    ensures overflow { IfErr result (IsOverflowIn (LeavesInRound system.now.transitions table.old)) }
-{
-    let mut changed = false;
-    for index in 0..system.trans_len() {
-        if turn(alloc, system, index, table, steps)? {
-            changed = true;
-        }
-    }
-    Ok(changed)
-}
 
 /// The limit of the system's rounds, one set for each location.
 ///
@@ -59,12 +34,6 @@ pub fn run<L: Ledger>(
     ensures closed_under_transitions { IfOk result (λ sets. AreClosedUnder system.now.transitions sets.items) }
     ensures overflow { IfErr result (IsOverflowIn (LeavesInRun system.now delay)) }
 {
-    widening_includes();
-    let _kept = system.dim();
-    let mut table = Table::new(alloc, system, delay)?;
-    loop {
-        if !round(alloc, system, &mut table, steps)? {
-            return Ok(table.into_sets());
-        }
-    }
+    let initial = system.init_sets()?;
+    widening::run(alloc, &Transitions { system }, initial, delay, steps)
 }

@@ -1,10 +1,11 @@
 //! Transition systems.
-ghost use Rattle.std.specs.Prelude.{◌≡◌, ◌*◌, ◌<◌, ◌≤◌, [], length, slice_get, Some, All, IfOk, OnOk, OnErr};
+ghost use Rattle.std.specs.Prelude.{◌≡◌, ◌*◌, ◌^◌, ◌<◌, ◌≤◌, [], length, slice_get, Some, All, IfOk, OnOk, OnErr};
 ghost use Rattle.poly_pair.specs.declared.topology.Topology.TheVariants.{Closed};
 ghost use Rattle.poly_pair.specs.declared.topology.TheConstants.{MAX_DIM};
 ghost use Rattle.poly_pair.specs.Polyhedra.{IsEmpty};
 ghost use Rattle.trans_sys.specs.declared.system.TheConstants.{MAX_LOCATIONS};
-ghost use Rattle.trans_sys.specs.Systems.{IsClosedOver, IsKeptSystem, with_initial, with_transition};
+ghost use Rattle.poly_pair.specs.ClosedPolyhedra.{IsClosedOver};
+ghost use Rattle.trans_sys.specs.Systems.{IsKeptSystem, with_initial, with_transition};
 
 use crate::transition::Transition;
 use poly_pair::{MAX_DIM, Poly, Topology};
@@ -19,6 +20,7 @@ pub const MAX_LOCATIONS: usize = 100;
 /// closed polyhedra.
 #[derive(Debug, Drop)]
 pub struct System {
+    alloc: Global,
     dim: usize,
     initial: Vec<Poly>,
     transitions: Vec<Transition>,
@@ -50,6 +52,28 @@ fn empty_sets(alloc: Global, dim: usize, count: usize) -> Result<Vec<Poly>, Memo
     Ok(sets)
 }
 
+/// Copies of polyhedra.
+fn copied_sets(alloc: Global, sets: &[Poly]) -> Result<Vec<Poly>, Memory>
+    ensures { IfOk result (λ copies. copies.items ≡ sets.now) }
+{
+    let mut copies = Vec::new(alloc);
+    for location in 0..sets.len() {
+        copies.push(sets[location].try_copy()?)?;
+    }
+    Ok(copies)
+}
+
+/// Copies of transitions.
+fn copied_transitions(alloc: Global, transitions: &[Transition]) -> Result<Vec<Transition>, Memory>
+    ensures { IfOk result (λ copies. copies.items ≡ transitions.now) }
+{
+    let mut copies = Vec::new(alloc);
+    for index in 0..transitions.len() {
+        copies.push(transitions[index].try_copy()?)?;
+    }
+    Ok(copies)
+}
+
 impl System {
     /// A system in which no location has an initial state, without transitions.
     pub fn new(alloc: Global, dim: usize, locations: usize) -> Result<System, Memory>
@@ -63,10 +87,33 @@ impl System {
     {
         let initial = empty_sets(alloc, dim, locations)?;
         Ok(System {
+            alloc,
             dim,
             initial,
             transitions: Vec::new(alloc),
         })
+    }
+
+    /// An equal system.
+    pub fn try_copy(&self) -> Result<System, Memory>
+        ensures { IfOk result (λ s. s ≡ self.now) }
+    {
+        let initial = copied_sets(self.alloc, &self.initial)?;
+        let transitions = copied_transitions(self.alloc, &self.transitions)?;
+        Ok(System {
+            alloc: self.alloc,
+            dim: self.dim,
+            initial,
+            transitions,
+        })
+    }
+
+    /// Copies of the initial states of all locations.
+    pub fn init_sets(&self) -> Result<Vec<Poly>, Memory>
+        ensures value { IfOk result (λ sets. sets.items ≡ self.now.initial) }
+        ensures kept { IsKeptSystem self.now }
+    {
+        copied_sets(self.alloc, &self.initial)
     }
 
     /// Replaces the initial states of a location.
@@ -130,6 +177,7 @@ impl System {
     #[inline]
     pub fn trans_len(&self) -> usize
         ensures value { result ≡ length self.now.transitions }
+        ensures few { result < 2 ^ 63 }
         ensures kept { IsKeptSystem self.now }
     {
         self.transitions.len()

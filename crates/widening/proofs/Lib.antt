@@ -1,4 +1,3 @@
-pub mod Negatives
 pub mod ValueLists
 pub mod KeptLists
 pub mod SideLists
@@ -16,3 +15,9 @@ pub mod KeptExist
 pub mod WidenedRows
 pub mod Inclusions
 pub mod RankLaws
+pub mod Places
+pub mod Totals
+pub mod TurnLemmas
+pub mod RoundLemmas
+pub mod OneRun
+pub mod Sums

@@ -1,0 +1,24 @@
+use Rattle.std.proofs.Common.{◌≡◌, ◌⊎◌, Some, slice_get}
+use Rattle.std.proofs.lemmas.Result.{IfOk-weaker, IfErr-weaker}
+use Rattle.poly_pair.specs.Polyhedra.{Polyhedron}
+use Rattle.trans_sys.specs.declared.transition.Transition.{Transition}
+use Rattle.row_core.specs.Refusals.{IsOverflowIn}
+use Rattle.widening.specs.RunLaws.{IsFound}
+use Rattle.fixpoint.specs.PostLists.{LeavesOnPost}
+use Rattle.fixpoint.specs.Runs.{IsJoined, LeavesOnHull, target_of, JoinsBy, LeavesBy}
+use Rattle.fixpoint.proofs.SystemTurns.{found_by, leaves_by}
+use Rattle.fixpoint.proofs.transitions.TransitionsTurns.found.Goals as goal
+
+pub returns-clause-found : goal.returns-clause-found
+returns-clause-found g c =
+    let s = c.args.self.now.system.now in
+    let t : Transition = record { source = c.trans-source.result.0; target = c.trans-source.result.1; relation = c.trans-source.result.2.now } in
+    IfOk-weaker c.joined.result (IsFound (IsJoined c.lent.result.now t.relation c.lent-2.result.now) c.lent-2.result.now) (λ o. (old : Polyhedron) → slice_get c.args.sets.now (target_of (slice_get s.transitions c.args.index)) ≡ Some old → IsFound (JoinsBy (slice_get s.transitions c.args.index) c.args.sets.now) old o)
+    (found_by s c.args.index t c.args.sets.now c.lent.result.now c.lent-2.result.now c.trans-source.ensures.value c.lent.ensures c.lent-2.ensures) c.joined.ensures.found
+
+pub returns-clause-overflow : goal.returns-clause-overflow
+returns-clause-overflow g c =
+    let s = c.args.self.now.system.now in
+    let t : Transition = record { source = c.trans-source.result.0; target = c.trans-source.result.1; relation = c.trans-source.result.2.now } in
+    IfErr-weaker c.joined.result (IsOverflowIn (λ over. LeavesOnPost c.lent.result.now t.relation over ⊎ LeavesOnHull c.lent.result.now t.relation c.lent-2.result.now over)) (IsOverflowIn (LeavesBy (slice_get s.transitions c.args.index) c.args.sets.now))
+    (leaves_by s c.args.index t c.args.sets.now c.lent.result.now c.lent-2.result.now c.trans-source.ensures.value c.lent.ensures c.lent-2.ensures) c.joined.ensures.overflow

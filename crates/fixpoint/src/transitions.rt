@@ -1,0 +1,84 @@
+//! The transitions of a system as turns of a run.
+ghost use Rattle.std.specs.Prelude.{◌≡◌, ◌*◌, ◌<◌, ◌⊎◌, length, slice_get, Some, IfOk, IfErr};
+ghost use Rattle.poly_pair.specs.ClosedPolyhedra.{IsClosedOver};
+ghost use Rattle.row_core.specs.Refusals.{IsOverflowIn};
+ghost use Rattle.widening.specs.RunLaws.{IsFound};
+ghost use Rattle.fixpoint.specs.PostLists.{LeavesOnPost};
+ghost use Rattle.fixpoint.specs.Runs.{IsJoined, LeavesOnHull};
+
+use crate::successors::post;
+use lattice_ops::grown;
+use poly_pair::Poly;
+use row_core::{ConvErr, Steps};
+use std::alloc::Global;
+use std::sync::ledger::Ledger;
+use trans_sys::System;
+use widening::Turns;
+
+/// What the set of a transition's target grows to by the post of that of its source, if it grows.
+fn joined<L: Ledger>(
+    alloc: Global,
+    source: &Poly,
+    relation: &Poly,
+    old: &Poly,
+    steps: &mut Steps<L>,
+) -> Result<Option<Poly>, ConvErr>
+    requires source { IsClosedOver old.now.cons.dim source.now }
+    requires relation { IsClosedOver (2 * old.now.cons.dim) relation.now }
+    requires old { IsClosedOver old.now.cons.dim old.now }
+    ensures found { IfOk result (IsFound (IsJoined source.now relation.now old.now) old.now) }
+    ensures overflow { IfErr result (IsOverflowIn (λ over. LeavesOnPost source.now relation.now over ⊎ LeavesOnHull source.now relation.now old.now over)) }
+{
+    let successors = match post(alloc, source, relation, steps) {
+        Ok(successors) => successors,
+        Err(cause) => return Err(cause),
+    };
+    let _kept = successors.dim();
+    grown(alloc, old, &successors, steps)
+}
+
+/// Lends the set of a location.
+fn lent(sets: &[Poly], location: usize) -> &Poly
+    requires { location < length sets.now }
+    ensures { slice_get sets.now location ≡ Some result.now }
+{
+    &sets[location]
+}
+
+/// The transitions of a system in order.
+#[derive(Drop)]
+pub(crate) struct Transitions<'a> {
+    pub(crate) system: &'a System,
+}
+
+impl Turns for Transitions<'_> {
+    ghost use Rattle.fixpoint.specs.Runs.{turns_of};
+
+    ghost turns = { λ t. turns_of t.system.now };
+
+    fn count(&self) -> usize {
+        self.system.trans_len()
+    }
+
+    fn place(&self, index: usize) -> usize {
+        let (_, target, _) = self.system.trans(index);
+        target
+    }
+
+    fn found<L: Ledger>(
+        &self,
+        alloc: Global,
+        index: usize,
+        sets: &[Poly],
+        steps: &mut Steps<L>,
+    ) -> Result<Option<Poly>, ConvErr> {
+        let (source, target, relation) = self.system.trans(index);
+        joined(
+            alloc,
+            lent(sets, source),
+            relation,
+            lent(sets, target),
+            steps,
+        )
+    }
+}

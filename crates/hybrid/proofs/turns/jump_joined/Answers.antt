@@ -1,0 +1,31 @@
+use Rattle.std.proofs.Common.{◌⊎◌, inl}
+use Rattle.std.proofs.lemmas.Result.{IfOk-weaker, IfErr-weaker}
+use Rattle.row_core.specs.declared.errors.ConvErr.{ConvErr}
+use Rattle.row_core.specs.declared.errors.ConvErr.TheVariants as conversion
+use Rattle.poly_pair.specs.TopologyLists.{list_width, generators_of}
+use Rattle.poly_pair.specs.Refusals.{IsOverflowOn}
+use Rattle.lattice_ops.specs.Sets.{both_generators}
+use Rattle.lattice_ops.specs.Growing.{IsGrown}
+use Rattle.row_core.specs.Refusals.{IsOverflowIn}
+use Rattle.widening.specs.RunLaws.{IsFound}
+use Rattle.hybrid.specs.Steps.{IsJumpPost, LeavesOnJump}
+use Rattle.hybrid.specs.Turns.{IsHullWith, LeavesAfter}
+use Rattle.hybrid.proofs.Joined.{found_of, leaves_of}
+use Rattle.hybrid.proofs.turns.jump_joined.Goals as goal
+
+pub returns-clause-found : goal.returns-clause-found
+returns-clause-found g c =
+    IfOk-weaker c.grown.result (IsGrown c.args.old.now c.in-Ok.post) (IsFound (IsHullWith (IsJumpPost c.args.source.now c.args.inv.now c.args.relation.now c.args.target_inv.now) c.args.old.now) c.args.old.now)
+    (found_of (IsJumpPost c.args.source.now c.args.inv.now c.args.relation.now c.args.target_inv.now) c.args.target_inv.now.cons.dim c.args.old.now c.requires.old c.in-Ok.post c.in-Ok.ensures.post) c.grown.ensures.grown
+
+pub returns-clause-overflow : goal.returns-clause-overflow
+returns-clause-overflow g c =
+    IfErr-weaker c.grown.result (IsOverflowOn (list_width c.args.old.now.topology c.args.old.now.cons.dim) c.args.old.now.cons.dim (generators_of c.args.old.now.topology (both_generators c.args.old.now c.in-Ok.post))) (IsOverflowIn (λ over. LeavesOnJump c.args.source.now c.args.inv.now c.args.relation.now c.args.target_inv.now over ⊎ LeavesAfter (IsJumpPost c.args.source.now c.args.inv.now c.args.relation.now c.args.target_inv.now) c.args.old.now over))
+    (leaves_of (IsJumpPost c.args.source.now c.args.inv.now c.args.relation.now c.args.target_inv.now) (LeavesOnJump c.args.source.now c.args.inv.now c.args.relation.now c.args.target_inv.now) c.args.old.now c.in-Ok.post c.in-Ok.ensures.post) c.grown.ensures.overflow
+
+pub returns-in-Err-clause-overflow : goal.returns-in-Err-clause-overflow
+returns-in-Err-clause-overflow g c = by c.in-Err.cause c.in-Err.ensures.overflow
+  where
+    by : (e : ConvErr) → IsOverflowIn (LeavesOnJump c.args.source.now c.args.inv.now c.args.relation.now c.args.target_inv.now) e → IsOverflowIn (λ over. LeavesOnJump c.args.source.now c.args.inv.now c.args.relation.now c.args.target_inv.now over ⊎ LeavesAfter (IsJumpPost c.args.source.now c.args.inv.now c.args.relation.now c.args.target_inv.now) c.args.old.now over) e
+    by (conversion.Overflow over) l = inl l
+    by conversion.Memory l = tt

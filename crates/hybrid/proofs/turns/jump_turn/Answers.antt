@@ -1,0 +1,25 @@
+use Rattle.std.proofs.Common.{◌≡◌, ◌⊎◌, Some, slice_get, ap, subst, sym, ◌∙◌}
+use Rattle.std.proofs.lemmas.Result.{IfOk-weaker, IfErr-weaker}
+use Rattle.poly_pair.specs.Polyhedra.{Polyhedron}
+use Rattle.trans_sys.specs.declared.transition.Transition.{Transition}
+use Rattle.trans_sys.specs.Systems.{TransitionSystem}
+use Rattle.row_core.specs.Refusals.{IsOverflowIn}
+use Rattle.widening.specs.RunLaws.{IsFound}
+use Rattle.hybrid.specs.Steps.{IsJumpPost, LeavesOnJump}
+use Rattle.hybrid.specs.Turns.{IsHullWith, IsOfJump, LeavesAfter, LeavesInJump}
+use Rattle.hybrid.proofs.HybridTurns.{found_jump, leaves_jump}
+use Rattle.hybrid.proofs.turns.jump_turn.Goals as goal
+
+pub returns-clause-found : goal.returns-clause-found
+returns-clause-found g c =
+    let t : Transition = record { source = c.trans-from.result.0; target = c.trans-from.result.1; relation = c.trans-from.result.2.now } in
+    let at : slice_get c.args.h.now.system.transitions c.args.index ≡ Some t = subst (λ (s : TransitionSystem). slice_get s.transitions c.args.index ≡ Some t) c.system.ensures.value c.trans-from.ensures.value in
+    IfOk-weaker c.jump_joined.result (IsFound (IsHullWith (IsJumpPost c.lent.result.now c.inv.result.now t.relation c.inv-2.result.now) c.lent-2.result.now) c.lent-2.result.now) (λ o. (u : Transition) (old : Polyhedron) → slice_get c.args.h.now.system.transitions c.args.index ≡ Some u → slice_get c.args.sets.now u.target ≡ Some old → IsFound (IsOfJump c.args.h.now u c.args.sets.now) old o)
+    (found_jump c.args.h.now c.args.sets.now t c.lent.result.now c.inv.result.now c.lent-2.result.now c.inv-2.result.now c.lent.ensures c.inv.ensures.value c.lent-2.ensures c.inv-2.ensures.value c.args.index at) c.jump_joined.ensures.found
+
+pub returns-clause-overflow : goal.returns-clause-overflow
+returns-clause-overflow g c =
+    let t : Transition = record { source = c.trans-from.result.0; target = c.trans-from.result.1; relation = c.trans-from.result.2.now } in
+    let at : slice_get c.args.h.now.system.transitions c.args.index ≡ Some t = subst (λ (s : TransitionSystem). slice_get s.transitions c.args.index ≡ Some t) c.system.ensures.value c.trans-from.ensures.value in
+    IfErr-weaker c.jump_joined.result (IsOverflowIn (λ over. LeavesOnJump c.lent.result.now c.inv.result.now t.relation c.inv-2.result.now over ⊎ LeavesAfter (IsJumpPost c.lent.result.now c.inv.result.now t.relation c.inv-2.result.now) c.lent-2.result.now over)) (IsOverflowIn (λ over. (u : Transition) → slice_get c.args.h.now.system.transitions c.args.index ≡ Some u → LeavesInJump c.args.h.now u c.args.sets.now over))
+    (leaves_jump c.args.h.now c.args.sets.now t c.lent.result.now c.inv.result.now c.lent-2.result.now c.inv-2.result.now c.lent.ensures c.inv.ensures.value c.lent-2.ensures c.inv-2.ensures.value c.args.index at) c.jump_joined.ensures.overflow

@@ -1,0 +1,19 @@
+use Rattle.std.proofs.Common.{◌≡◌, ◌⊎◌, Some, slice_get}
+use Rattle.std.proofs.lemmas.Result.{IfOk-weaker, IfErr-weaker}
+use Rattle.poly_pair.specs.Polyhedra.{Polyhedron}
+use Rattle.row_core.specs.Refusals.{IsOverflowIn}
+use Rattle.widening.specs.RunLaws.{IsFound}
+use Rattle.hybrid.specs.Steps.{IsTimePost, LeavesOnTime}
+use Rattle.hybrid.specs.Turns.{IsHullWith, IsOfTime, LeavesAfter, LeavesInTime}
+use Rattle.hybrid.proofs.HybridTurns.{found_time, leaves_time}
+use Rattle.hybrid.proofs.turns.time_turn.Goals as goal
+
+pub returns-clause-found : goal.returns-clause-found
+returns-clause-found g c =
+    IfOk-weaker c.time_joined.result (IsFound (IsHullWith (IsTimePost c.lent.result.now c.inv.result.now c.flow.result.now) c.lent.result.now) c.lent.result.now) (λ o. (old : Polyhedron) → slice_get c.args.sets.now c.args.location ≡ Some old → IsFound (IsOfTime c.args.h.now c.args.location c.args.sets.now) old o)
+    (found_time c.args.h.now c.args.sets.now c.args.location c.lent.result.now c.inv.result.now c.flow.result.now c.lent.ensures c.inv.ensures.value c.flow.ensures.value) c.time_joined.ensures.found
+
+pub returns-clause-overflow : goal.returns-clause-overflow
+returns-clause-overflow g c =
+    IfErr-weaker c.time_joined.result (IsOverflowIn (λ over. LeavesOnTime c.lent.result.now c.inv.result.now c.flow.result.now over ⊎ LeavesAfter (IsTimePost c.lent.result.now c.inv.result.now c.flow.result.now) c.lent.result.now over)) (IsOverflowIn (LeavesInTime c.args.h.now c.args.location c.args.sets.now))
+    (leaves_time c.args.h.now c.args.sets.now c.args.location c.lent.result.now c.inv.result.now c.flow.result.now c.lent.ensures c.inv.ensures.value c.flow.ensures.value) c.time_joined.ensures.overflow

@@ -1,0 +1,4 @@
+pub mod Systems
+pub mod Steps
+pub mod Turns
+pub mod Reaches

@@ -1,0 +1,53 @@
+//! Successors by a relation.
+ghost use Rattle.std.specs.Prelude.{◌≡◌, ◌+◌, ◌*◌, ◌≤◌, IfOk, IfErr};
+ghost use Rattle.poly_pair.specs.declared.topology.TheConstants.{MAX_DIM};
+ghost use Rattle.poly_pair.specs.ClosedPolyhedra.{IsClosedOver};
+ghost use Rattle.row_core.specs.Refusals.{IsOverflowIn};
+ghost use Rattle.affine_ops.specs.Posts.{IsPost};
+ghost use Rattle.hybrid.specs.Steps.{behind, LeavesOnPost};
+
+use crate::parts::part_in;
+use affine_ops::{embed, remove_dims};
+use poly_pair::{MAX_DIM, Poly};
+use row_core::{ConvErr, Memory, Steps};
+use std::alloc::Global;
+use std::sync::ledger::Ledger;
+
+/// The first variables, so many.
+fn first_variables(alloc: Global, count: usize) -> Result<Vec<usize>, Memory>
+    ensures { IfOk result (λ vars. vars.items ≡ behind count) }
+{
+    let mut vars = Vec::new(alloc);
+    for var in 0..count {
+        vars.push(var)?;
+    }
+    Ok(vars)
+}
+
+/// All successors of the states of a set by a relation, whose variables are those of a state and then those of
+/// its successor.
+pub(crate) fn post<L: Ledger>(
+    alloc: Global,
+    set: &Poly,
+    relation: &Poly,
+    steps: &mut Steps<L>,
+) -> Result<Poly, ConvErr>
+    requires narrow { set.now.cons.dim + set.now.cons.dim ≤ MAX_DIM }
+    requires set { IsClosedOver set.now.cons.dim set.now }
+    requires relation { IsClosedOver (2 * set.now.cons.dim) relation.now }
+    ensures post { IfOk result (IsPost set.now relation.now) }
+    ensures overflow { IfErr result (IsOverflowIn (LeavesOnPost set.now relation.now)) }
+{
+    let dim = set.dim();
+    let embedded = match embed(alloc, set, dim, steps) {
+        Ok(embedded) => embedded,
+        Err(cause) => return Err(cause),
+    };
+    let _kept = embedded.dim();
+    let pairs = match part_in(alloc, &embedded, relation, steps) {
+        Ok(pairs) => pairs,
+        Err(cause) => return Err(cause),
+    };
+    let vars = first_variables(alloc, dim)?;
+    remove_dims(alloc, &pairs, &vars, steps)
+}

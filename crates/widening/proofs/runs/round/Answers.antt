@@ -1,0 +1,53 @@
+use Rattle.std.proofs.Common.{rules, ◌≡◌, ◌+◌, ◌<◌, refl, subst, sym, arith, Bool, true, false, MatchBool}
+use Rattle.row_core.specs.declared.errors.ConvErr.{ConvErr}
+use Rattle.row_core.specs.declared.errors.ConvErr.TheVariants as conversion
+use Rattle.widening.specs.Ranks.{total}
+use Rattle.widening.specs.Runs.{TurnList, begins, takes}
+use Rattle.row_core.specs.Refusals.{IsOverflowIn}
+use Rattle.widening.specs.RunOverflows.{LeavesInTurn, LeavesInRound}
+use Rattle.widening.proofs.Totals.{IsSoFar, so_far_changed, so_far_same, so_far_stable}
+use Rattle.widening.proofs.TurnLemmas.{turn_table}
+use Rattle.widening.proofs.runs.round.Goals.{then-branch, else-branch}
+use Rattle.widening.proofs.runs.round.Goals as goal
+
+pub loop-index-init : goal.loop-index-init
+loop-index-init g c = record { table = c.requires; round = begins; so_far = (refl, λ k b. absurd (omega (arith, b))) }
+
+pub loop-index-preserved : goal.loop-index-preserved
+loop-index-preserved g c = record {
+  table = turn_table turns c.count-index-end.ensures.proper c.loop-index.index below c.loop-index.table c.turn.new.table c.loop-index.invariant.table c.in_ok-turn.ensures.turn;
+  round = takes c.loop-index.invariant.round below c.in_ok-turn.ensures.turn;
+  so_far = elim c.if-branch.branch [ then-branch w ↦ moved w.if-branch.true w.changed-is | else-branch w ↦ stayed w.if-branch.false w.changed-is ];
+}
+  where
+    turns : TurnList
+    turns = g.T.Turns.turns c.args.turns.now
+
+    below : c.loop-index.index < turns.count
+    below = omega (arith, c.count-index-end.ensures.value)
+
+    fell : (b : Bool) → c.in_ok-turn.field-0 ≡ b → MatchBool b (total c.turn.new.table.sets c.turn.new.table.left < total c.loop-index.table.sets c.loop-index.table.left) (c.turn.new.table ≡ c.loop-index.table)
+    fell b e = subst (λ (x : Bool). MatchBool x (total c.turn.new.table.sets c.turn.new.table.left < total c.loop-index.table.sets c.loop-index.table.left) (c.turn.new.table ≡ c.loop-index.table)) e c.in_ok-turn.ensures.falls
+
+    moved : c.in_ok-turn.field-0 ≡ true → c.if-branch.changed ≡ true → IsSoFar turns c.args.table.now c.if-branch.changed (c.loop-index.index + 1) c.turn.new.table
+    moved e f =
+        subst (λ (b : Bool). IsSoFar turns c.args.table.now b (c.loop-index.index + 1) c.turn.new.table) (sym f)
+        (so_far_changed turns c.args.table.now c.loop-index.table c.turn.new.table c.loop-index.changed c.loop-index.index c.loop-index.invariant.so_far (fell true e))
+
+    stayed : c.in_ok-turn.field-0 ≡ false → c.if-branch.changed ≡ c.loop-index.changed → IsSoFar turns c.args.table.now c.if-branch.changed (c.loop-index.index + 1) c.turn.new.table
+    stayed e f =
+        subst (λ (b : Bool). IsSoFar turns c.args.table.now b (c.loop-index.index + 1) c.turn.new.table) (sym f)
+        (so_far_same turns c.args.table.now c.loop-index.table c.turn.new.table c.loop-index.changed c.loop-index.index c.loop-index.invariant.so_far (fell false e) c.in_ok-turn.ensures.turn)
+
+pub returns-clause-falls : goal.returns-clause-falls
+returns-clause-falls g c = so_far_stable (g.T.Turns.turns c.args.turns.now) c.args.table.now c.loop-index.table c.loop-index.changed c.loop-index.index c.loop-index.invariant.so_far (omega (arith, c.count-index-end.ensures.value))
+
+pub returns-in_err-turn-clause-overflow : goal.returns-in_err-turn-clause-overflow
+returns-in_err-turn-clause-overflow g c = let known : IsOverflowIn (LeavesInRound turns c.args.table.now) c.in_err-turn.field-0.0 = by c.in_err-turn.field-0.0 c.in_err-turn.ensures.overflow in search (rules, known, c.from_residual.ensures)
+  where
+    turns : TurnList
+    turns = g.T.Turns.turns c.args.turns.now
+
+    by : (e : ConvErr) → IsOverflowIn (LeavesInTurn turns c.loop-index.index c.loop-index.table) e → IsOverflowIn (LeavesInRound turns c.args.table.now) e
+    by (conversion.Overflow over) l = record { index = c.loop-index.index; below = omega (arith, c.count-index-end.ensures.value); between = c.loop-index.table; round = c.loop-index.invariant.round; leaves = l }
+    by conversion.Memory l = tt

@@ -1,0 +1,69 @@
+//! Runs of turns to their limit.
+ghost use Rattle.std.specs.Prelude.{◌<◌, MatchBool, IfOk, IfErr};
+ghost use Rattle.widening.specs.Ranks.{total};
+ghost use Rattle.widening.specs.Runs.{IsRound, IsStable, HasLimit};
+ghost use Rattle.widening.specs.RunLaws.{AreSetsOf, IsTableOf, AreProper, IncludeEach, AreTaken};
+ghost use Rattle.row_core.specs.Refusals.{IsOverflowIn};
+ghost use Rattle.widening.specs.RunOverflows.{LeavesInRound, LeavesInRun};
+
+use crate::laws::widening_includes;
+use crate::table::Table;
+use crate::turns::{Turns, turn};
+use poly_pair::Poly;
+use row_core::{ConvErr, Steps};
+use std::alloc::Global;
+use std::sync::ledger::Ledger;
+
+/// All turns in order. Says whether one of them changed the table.
+fn round<T: Turns, L: Ledger>(
+    alloc: Global,
+    turns: &T,
+    table: &mut Table,
+    steps: &mut Steps<L>,
+) -> Result<bool, ConvErr>
+    requires { IsTableOf (T.turns turns.now) table.old }
+    ensures round { IfOk result (λ changed. IsRound (T.turns turns.now) (T.turns turns.now).count table.old table.new) }
+    ensures falls { IfOk result (λ changed. MatchBool changed (total table.new.sets table.new.left < total table.old.sets table.old.left) (IsStable (T.turns turns.now) table.new)) }
+    ensures overflow { IfErr result (IsOverflowIn (LeavesInRound (T.turns turns.now) table.old)) }
+{
+    let mut changed = false;
+    for index in 0..turns.count() {
+        if turn(alloc, turns, index, table, steps)? {
+            changed = true;
+        }
+    }
+    Ok(changed)
+}
+
+/// The limit of the rounds of the turns, one set for each place.
+///
+/// The run starts with the given sets. A round takes each turn in order. Where what it joins to the set of its
+/// place has more points, this replaces the set, at most `delay` times for each place, and later its widening
+/// does. The limit is the table that a whole round leaves as it is. Each run comes to it.
+///
+/// # Errors
+///
+/// An overflow is one of a turn that the run comes to: of finding what it joins, or of its widening.
+pub fn run<T: Turns, L: Ledger>(
+    alloc: Global,
+    turns: &T,
+    initial: Vec<Poly>,
+    delay: u32,
+    steps: &mut Steps<L>,
+) -> Result<Vec<Poly>, ConvErr>
+    requires { AreSetsOf (T.turns turns.now).dim (T.turns turns.now).places initial.items }
+    ensures limit { IfOk result (λ sets. HasLimit (T.turns turns.now) initial.items delay sets.items) }
+    ensures sets { IfOk result (λ sets. AreSetsOf (T.turns turns.now).dim (T.turns turns.now).places sets.items) }
+    ensures includes_initial { IfOk result (λ sets. IncludeEach initial.items sets.items) }
+    ensures taken { IfOk result (λ sets. AreTaken (T.turns turns.now) sets.items) }
+    ensures overflow { IfErr result (IsOverflowIn (LeavesInRun (T.turns turns.now) initial.items delay)) }
+{
+    widening_includes();
+    let _proper = turns.count();
+    let mut table = Table::new(alloc, initial, delay)?;
+    loop {
+        if !round(alloc, turns, &mut table, steps)? {
+            return Ok(table.into_sets());
+        }
+    }
+}
