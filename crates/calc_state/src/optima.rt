@@ -7,7 +7,7 @@ ghost use Rattle.grammar.specs.Cases.{con_cases, expr_cases};
 ghost use Rattle.optimum.specs.Suprema.{SupAnswer, IsTrueSup};
 ghost use Rattle.calc_state.specs.Meaning.{on_one};
 ghost use Rattle.calc_state.specs.Questions.{line};
-ghost use Rattle.calc_state.specs.Optima.{relation as ask_relation, bound as ask_bound, relation_text, with_word, bound_text, attained_text, HasGenerator, shown_values, left_shown as left_row};
+ghost use Rattle.calc_state.specs.Optima.{relation as ask_relation, bound as ask_bound, relation_text, with_word, bound_text, attained_text, HasGenerator};
 ghost use Rattle.calc_state.specs.Step.{IsPerformed};
 
 use crate::change::Change;
@@ -15,10 +15,10 @@ use crate::refusal::StepErr;
 use crate::texts::{constraint_of, expression_of};
 use expr_text::print_gen;
 use gens_sys::GensSys;
-use optimum::{Relation, Sup, inf, sup};
+use optimum::{Relation, Sup, inf, shown, sup};
 use poly_pair::Poly;
 use reply_text::{Fault, Text};
-use row_core::{Memory, OverKind, Overflow, PairOver, RowBuf};
+use row_core::{Memory, PairOver};
 use script_text::Part;
 use std::alloc::Global;
 
@@ -130,35 +130,5 @@ fn attained_word(attained: bool) -> &'static [u8]
         b" attained "
     } else {
         b" not attained "
-    }
-}
-
-/// The rows of a pair that leaves the range.
-fn shown(alloc: Global, row: RowBuf, gens: &GensSys, pair: PairOver) -> Result<Overflow, Memory>
-    requires left { pair.kind ≡ OverKind.Compare → pair.left < length gens.now.list }
-    requires right { pair.right < length gens.now.list }
-    ensures { IfOk result (λ over. over ≡ shown_values row gens.now pair) }
-{
-    let right = RowBuf::new(alloc, gens.row(pair.right))?;
-    let left = left_shown(alloc, row, gens, pair)?;
-    Ok(Overflow {
-        kind: pair.kind,
-        step: 0,
-        left,
-        right,
-        column: pair.column,
-    })
-}
-
-/// The first row of a pair: a generator that is compared, or else the row itself.
-fn left_shown(alloc: Global, row: RowBuf, gens: &GensSys, pair: PairOver) -> Result<RowBuf, Memory>
-    requires { pair.kind ≡ OverKind.Compare → pair.left < length gens.now.list }
-    ensures { IfOk result (λ left. left ≡ left_row pair.kind row gens.now pair.left) }
-{
-    match pair.kind {
-        OverKind::Compare => Ok(RowBuf::new(alloc, gens.row(pair.left))?),
-        OverKind::Dot => Ok(row),
-        OverKind::Combine => Ok(row),
-        OverKind::Scale => Ok(row),
     }
 }

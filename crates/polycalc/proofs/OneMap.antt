@@ -12,7 +12,7 @@ use Rattle.term_text.specs.Texts.{IsFrac}
 use Rattle.pair_laws.specs.PointSets.{IsWithin}
 use Rattle.poly_pair.specs.Polyhedra.{Polyhedron}
 use Rattle.poly_pair.specs.declared.topology.Topology.{Topology}
-use Rattle.lattice_ops.specs.Sets.{IsConstraintFor}
+use Rattle.poly_pair.specs.TopologyConstraints.{IsConstraintFor}
 use Rattle.affine_ops.specs.declared.relations.ImageRel.{ImageRel}
 use Rattle.affine_ops.specs.Relations.{Stands, IsRelatedImage, IsRelatedPreimage, replaced}
 use Rattle.affine_ops.specs.Maps.{without, remaining, kept_variables}

@@ -9,7 +9,8 @@ use Rattle.poly_pair.specs.declared.topology.Topology.TheVariants.{Closed}
 use Rattle.pair_laws.specs.PointSets.{IsWithin}
 use Rattle.optimum.specs.Relations.{HoldsThroughout, HoldsNowhere, HoldsSomewhere, FailsSomewhere}
 use Rattle.widening.specs.Widenings.{IsWidening}
-use Rattle.lattice_ops.specs.Sets.{IsConstraintFor, IsValidOn, IsIncluded, HaveSamePoints, AreDisjoint}
+use Rattle.poly_pair.specs.TopologyConstraints.{IsConstraintFor}
+use Rattle.lattice_ops.specs.Sets.{IsValidOn, IsIncluded, HaveSamePoints, AreDisjoint}
 use Rattle.calc_state.specs.Results.{IsResultOfMeet, IsResultOfHull, IsResultOfClosure}
 use Rattle.calc_state.specs.Step.{IsProper}
 use Rattle.polycalc.specs.Sets.{IsMadeOfOne, IsMadeOfTwo, IsOfAlike, IsOfNested}
@@ -89,7 +90,7 @@ one_closure laws x y r s same a b h k =
 pub one_widened : OneForm → (x y v w r s : Polyhedron) → IsProper x → AreSamePolyhedra x y → AreSamePolyhedra v w → IsProper r → IsProper s → IsOfNested x v r → IsOfNested y w s → AreSamePolyhedra r s
 one_widened laws x y v w r s proper same others a b h k =
     let there : IsWidening x v s = subst (λ (z : Polyhedron). IsWidening x z s) (sym (others.closed (sym h.alike.topology ∙ h.closed))) (subst (λ (z : Polyhedron). IsWidening z w s) (sym (same.closed h.closed)) k.is) in
-    let hold = laws.widening x v r s (record { kept = proper.kept; closed = h.closed; same_dim = refl }) h.is there in
+    let hold = laws.widening x v r s (record { kept = proper.kept; over = record { same_topology = h.closed; same_dim = refl } }) h.is there in
     one_of_points laws Closed x.cons.dim (In s.cons) r s a b h.is.over there.over
     (λ p is. (let i = hold p (subst (λ (n : ℕ). IsPoint n p) (sym h.is.over.same_dim) is) in (i.1, i.0))) (λ p is. (λ z. z, λ z. z))
 

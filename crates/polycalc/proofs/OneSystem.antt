@@ -8,9 +8,10 @@ use Rattle.std.proofs.lemmas.Option.{slice_get_within}
 use Rattle.row_core.specs.Points.{IsPoint}
 use Rattle.poly_pair.specs.Polyhedra.{Polyhedron, IsEmpty}
 use Rattle.poly_pair.specs.declared.topology.Topology.TheVariants.{Closed}
-use Rattle.trans_sys.specs.Systems.{TransitionSystem, IsClosedOver, IsKeptSystem}
+use Rattle.poly_pair.specs.ClosedPolyhedra.{IsClosedOver}
+use Rattle.trans_sys.specs.Systems.{TransitionSystem, IsKeptSystem}
 use Rattle.trans_sys.specs.declared.transition.Transition.{Transition}
-use Rattle.fixpoint.proofs.Places.{same_at}
+use Rattle.widening.proofs.Places.{same_at}
 use Rattle.calc_state.specs.Systems.{IsEmptySystem, AreReached}
 use Rattle.calc_state.specs.Table.{numbered}
 use Rattle.polycalc.specs.Sets.{IsMadeSystem, IsChangedBy, IsReachedSet}

@@ -14,7 +14,7 @@ use Rattle.poly_pair.specs.declared.topology.Topology.TheVariants.{Closed}
 use Rattle.optimum.specs.Suprema.{SupAnswer, IsTrueSup}
 use Rattle.optimum.specs.declared.outcome.Sup.{Sup}
 use Rattle.sample_rows.specs.Samples.{IsSample}
-use Rattle.calc_state.specs.Optima.{shown_values}
+use Rattle.optimum.specs.Showing.{shown_values}
 use Rattle.calc_state.specs.Questions.{line}
 use Rattle.calc_state.specs.Step.{Reply, Answered, Refused, Overflows}
 use Rattle.polycalc.specs.Replies.{is_answer}

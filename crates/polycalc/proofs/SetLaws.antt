@@ -30,7 +30,7 @@ use Rattle.calc_state.specs.Results.{IsResultOfConstraints, IsResultOfGenerators
 use Rattle.calc_state.specs.Widening.{widen}
 use Rattle.calc_state.specs.Systems.{IsEmptySystem, AreReached, init, trans, fixpoint}
 use Rattle.trans_sys.specs.Systems.{TransitionSystem, with_initial, with_transition}
-use Rattle.fixpoint.proofs.Places.{all_at}
+use Rattle.widening.proofs.Places.{all_at}
 use Rattle.calc_state.specs.Files.{write, file_of, format_of}
 use Rattle.calc_state.specs.State.{State, OpenFile, closed}
 use Rattle.calc_state.specs.Reading.{IsRead}

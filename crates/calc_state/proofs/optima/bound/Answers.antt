@@ -4,9 +4,10 @@ use Rattle.std.specs.Prelude.{ℤ}
 use Rattle.gens_sys.specs.Generators.{Generators, FitDimension}
 use Rattle.poly_pair.specs.Polyhedra.{Polyhedron}
 use Rattle.optimum.specs.Suprema.{SupAnswer, IsTrueSup}
+use Rattle.optimum.specs.Showing.{shown_values}
 use Rattle.calc_state.specs.Meaning.{on_one}
 use Rattle.calc_state.specs.Questions.{line}
-use Rattle.calc_state.specs.Optima.{bound, bound_text, shown_values}
+use Rattle.calc_state.specs.Optima.{bound, bound_text}
 use Rattle.calc_state.specs.Step.{IsPerformed}
 use Rattle.calc_state.specs.Texts.{expression_fault, IsTextRefusal, ReadsExpression}
 use Rattle.calc_state.proofs.OptimaLemmas.{bound_refused, bound_told, bound_leaves}

@@ -3,7 +3,7 @@ use Rattle.cons_sys.specs.Constraints as cons
 use Rattle.cons_sys.specs.Constraints.{Constraints}
 use Rattle.gens_sys.specs.Generators as gens
 use Rattle.gens_sys.specs.Generators.{Generators}
-use Rattle.calc_state.specs.Optima.{shown_values}
+use Rattle.optimum.specs.Showing.{shown_values}
 use Rattle.polycalc.specs.Samples.{difference}
 use Rattle.polycalc.proofs.SampleLaws.{sample_is_closed, polyhedron_of, sample_told, maximum_leaves}
 use Rattle.polycalc.proofs.samples.sampled.Goals as goal
