@@ -169,7 +169,15 @@ fn mapped<L: Ledger>(
         } => {
             let found = names.poly(p.bytes());
             mapped_by(
-                alloc, names, Mapping::Image, out, found, v, rel, &frac, steps,
+                alloc,
+                names,
+                Mapping::Image,
+                out,
+                found,
+                v,
+                rel,
+                &frac,
+                steps,
             )
         }
         Command::Preimage {
@@ -181,7 +189,15 @@ fn mapped<L: Ledger>(
         } => {
             let found = names.poly(p.bytes());
             mapped_by(
-                alloc, names, Mapping::Preimage, out, found, v, rel, &frac, steps,
+                alloc,
+                names,
+                Mapping::Preimage,
+                out,
+                found,
+                v,
+                rel,
+                &frac,
+                steps,
             )
         }
         Command::Remove { out, p, vars } => {

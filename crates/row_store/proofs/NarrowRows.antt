@@ -30,5 +30,5 @@ all_cells P w n s len room cells t laid long e rows = All-from_get_or P cells (p
         let at : i * w + c ≡ k = omega (arith, some) in
         let row : All P (take w (drop (i * w) cells)) = subst (All P) (known.row i below) (rows i (omega (arith, known.count, below))) in
         let here : get_or (take w (drop (i * w) cells)) c (pos 0) ≡ get_or cells k (pos 0) =
-            get_or-take w (drop (i * w) cells) c (pos 0) inside ∙ get_or-drop (i * w) cells c (pos 0) ∙ ap (λ (m : ℕ). get_or cells m (pos 0)) at in
+        get_or-take w (drop (i * w) cells) c (pos 0) inside ∙ get_or-drop (i * w) cells c (pos 0) ∙ ap (λ (m : ℕ). get_or cells m (pos 0)) at in
         subst P here (row c (pos 0) (omega (arith, inside, length_row w n i cells below (long ∙ laid.taken))))
