@@ -1,7 +1,8 @@
 -- The turns of a system.
-use Rattle.std.proofs.Common.{◌≡◌, ◌⊎◌, ℕ, ◌<◌, List, [], ◌∷◌, length, Option, Some, None, slice_get, ℤ, refl, sym, ap, ◌∙◌, subst, All}
+use Rattle.std.proofs.Common.{◌≡◌, ◌⊎◌, inr, ℕ, ◌<◌, List, [], ◌∷◌, length, Option, Some, None, slice_get, ℤ, refl, sym, ap, ◌∙◌, subst, All}
 use Rattle.std.proofs.lemmas.Option.{slice_get_within}
 use Rattle.row_core.specs.Points.{IsPoint}
+use Rattle.row_core.specs.declared.errors.Overflow.{Overflow}
 use Rattle.row_core.specs.declared.errors.ConvErr.{ConvErr}
 use Rattle.row_core.specs.declared.errors.ConvErr.TheVariants as conversion
 use Rattle.cons_sys.specs.Constraints.{In}
@@ -10,7 +11,10 @@ use Rattle.poly_pair.specs.declared.topology.Topology.TheVariants.{Closed}
 use Rattle.poly_pair.specs.Polyhedra.{Polyhedron, IsKept, IsOver}
 use Rattle.trans_sys.specs.declared.transition.Transition.{Transition}
 use Rattle.trans_sys.specs.Systems.{TransitionSystem, IsTransition, IsKeptSystem}
-use Rattle.lattice_ops.specs.Sets.{IsHull}
+use Rattle.pair_laws.specs.WorkLists.{LeavesOn}
+use Rattle.poly_pair.specs.TopologyLists.{list_width, generators_of}
+use Rattle.poly_pair.specs.Refusals.{IsOverflowOn}
+use Rattle.lattice_ops.specs.Sets.{IsHull, both_generators}
 use Rattle.lattice_ops.specs.Growing.{IsGrown}
 use Rattle.row_core.specs.Refusals.{IsOverflowIn}
 use Rattle.widening.specs.Widenings.{IsPartOf}
@@ -131,3 +135,16 @@ module _ (s : TransitionSystem) (k : ℕ) (t : Transition) (sets : List Polyhedr
   pub leaves_by : (e : ConvErr) → IsOverflowIn (λ over. LeavesOnPost source t.relation over ⊎ LeavesOnHull source t.relation old over) e → IsOverflowIn (LeavesBy (slice_get s.transitions k) sets) e
   leaves_by (conversion.Overflow over) l = subst (λ (o : Option Transition). LeavesBy o sets over) (sym at) (record { source = source; old = old; has_source = has_source; has_old = has_old; leaves = l })
   leaves_by conversion.Memory l = tt
+
+-- an overflow of the hull, behind those of the post
+hull_leaves : (source relation old post : Polyhedron) (over : Overflow) → old.topology ≡ Closed → IsPost source relation post → IsKept post → LeavesOn (list_width old.topology old.cons.dim) old.cons.dim (generators_of old.topology (both_generators old post)) over → LeavesOnHull source relation old over
+hull_leaves source relation old post over closed is kept l = record {
+  post = post;
+  is_post = is;
+  post_kept = kept;
+  leaves = subst (λ (t : Topology). LeavesOn (list_width t old.cons.dim) old.cons.dim (generators_of t (both_generators old post)) over) closed l;
+}
+
+pub leaves_of : (source relation old post : Polyhedron) → old.topology ≡ Closed → IsPost source relation post → IsKept post → (e : ConvErr) → IsOverflowOn (list_width old.topology old.cons.dim) old.cons.dim (generators_of old.topology (both_generators old post)) e → IsOverflowIn (λ over. LeavesOnPost source relation over ⊎ LeavesOnHull source relation old over) e
+leaves_of source relation old post closed is kept (conversion.Overflow over) l = inr (hull_leaves source relation old post over closed is kept l)
+leaves_of source relation old post closed is kept conversion.Memory l = tt

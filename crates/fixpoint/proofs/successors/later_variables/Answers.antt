@@ -1,4 +1,4 @@
-use Rattle.std.proofs.Common.{ℕ, List, [], ◌∷◌, ◌++◌, ap, sym, ◌∙◌, refl}
+use Rattle.std.proofs.Common.{ℕ, ◌+◌, List, [], ◌∷◌, ◌++◌, ap, sym, ◌∙◌}
 use Rattle.fixpoint.proofs.PairSets.{range_more}
 use Rattle.fixpoint.proofs.successors.later_variables.Goals as goal
 
