@@ -1,20 +1,17 @@
 -- Covers by members are covers by their inequalities.
-use Rattle.std.proofs.Common.{◌≡◌, ℕ, zero, suc, ◌<◌, List, [], ◌∷◌, length, take, get_or, Option, Some, None, true, false, ℤ, refl, sym, ◌∙◌, subst, ap, arith}
+use Rattle.std.proofs.Common.{◌≡◌, ℕ, zero, suc, ◌<◌, List, [], ◌∷◌, length, take, get_or, Option, Some, None, false, ℤ, refl, sym, ◌∙◌, subst, ap, arith}
 use Rattle.std.specs.Prelude.{All, Contains, MatchOption, is_some}
 use Rattle.std.proofs.Math.Seq.{take-length}
 use Rattle.std.proofs.Math.ListN.{get_or-map}
 use Rattle.std.proofs.lemmas.List.{length-map}
 use Rattle.std.proofs.lemmas.List.Elements.{All-map, All-weaker, All-contains, Contains-append_right}
 use Rattle.row_core.specs.Points.{IsPoint}
-use Rattle.row_core.specs.declared.errors.ConvErr.{ConvErr}
-use Rattle.row_core.specs.declared.errors.ConvErr.TheVariants as conversion
 use Rattle.cons_sys.specs.Constraints.{Constraints, In}
 use Rattle.poly_pair.specs.Polyhedra.{Polyhedron}
 use Rattle.powerset.specs.Inequalities.{inequalities, AreInequalities}
-use Rattle.row_core.specs.Refusals.{IsOverflowIn}
-use Rattle.powerset.specs.Branches.{LeavesOnBranch, HoldsInSome, HoldsInNone, AreCovered}
+use Rattle.powerset.specs.Branches.{HoldsInSome, HoldsInNone, AreCovered}
 use Rattle.powerset.specs.Powersets.{Union, IsKeptUnion, IsMember, IsInUnion}
-use Rattle.powerset.specs.Covers.{Covers, IsCounterPoint, systems_of, LeavesOnCover, HasUncovered, LeavesOnSome}
+use Rattle.powerset.specs.Covers.{Covers, IsCounterPoint, systems_of, HasUncovered}
 use Rattle.powerset.proofs.InequalityLemmas.{inequalities_hold, are_inequalities}
 
 -- ---- what a search answers

@@ -1,10 +1,9 @@
 -- The members of joins and of meets.
-use Rattle.std.proofs.Common.{◌≡◌, inl, inr, ℕ, zero, suc, ◌+◌, ◌<◌, List, [], ◌∷◌, ◌++◌, length, map, take, get_or, Bool, true, false, refl, sym, ◌∙◌, subst, ap, append_assoc, append-nil, arith}
+use Rattle.std.proofs.Common.{◌≡◌, ℕ, ◌+◌, ◌<◌, List, [], ◌∷◌, ◌++◌, length, map, take, get_or, refl, sym, ◌∙◌, subst, ap, append_assoc, append-nil, arith}
 use Rattle.std.specs.Prelude.{All, Contains}
 use Rattle.std.proofs.lemmas.List.{map-append, take_more}
 use Rattle.std.proofs.lemmas.List.Elements.{All-nil, All-cons, All-head, All-tail, All-append, All-map, All-contains}
 use Rattle.std.proofs.lemmas.Grind.{flat_map-append}
-use Rattle.row_core.specs.Flat.{marked}
 use Rattle.row_core.specs.Lists.{Pointwise}
 use Rattle.row_core.specs.declared.errors.ConvErr.{ConvErr}
 use Rattle.row_core.specs.declared.errors.ConvErr.TheVariants as conversion
@@ -17,8 +16,8 @@ use Rattle.lattice_ops.specs.Sets.{meet_list}
 use Rattle.lattice_ops.specs.LatticeLaws.{AreAlike}
 use Rattle.row_core.specs.Refusals.{IsOverflowIn}
 use Rattle.powerset.specs.Powersets.{Union, IsKeptUnion, IsMember}
-use Rattle.powerset.specs.Reductions.{IsReduced, HaveOneDimension, LeavesBetween}
-use Rattle.powerset.specs.Joins.{pairs_of, IsMeetOf, AreMeets, HasMeets, LeavesOnMeet, LeavesOnPairMeet}
+use Rattle.powerset.specs.Reductions.{IsReduced, HaveOneDimension}
+use Rattle.powerset.specs.Joins.{pairs_of, IsMeetOf, AreMeets, HasMeets, LeavesOnMeet}
 use Rattle.powerset.proofs.BranchLemmas.{all_at}
 
 -- ---- parts

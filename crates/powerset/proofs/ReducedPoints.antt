@@ -1,6 +1,6 @@
 -- What is left of a list: it has all points, and nothing more can be left out.
-use Rattle.std.proofs.Common.{◌≡◌, ◌≢◌, ◌⊎◌, inl, inr, ℕ, zero, suc, ◌+◌, ◌<◌, ◌≤◌, List, [], ◌∷◌, length, take, get_or, slice_get, Some, Bool, true, false, ℤ, refl, sym, ◌∙◌, subst, ap, arith}
-use Rattle.std.specs.Prelude.{◌↔◌, All, Contains, MatchBool}
+use Rattle.std.proofs.Common.{◌≡◌, ◌≢◌, ◌⊎◌, inl, inr, ℕ, zero, suc, ◌<◌, ◌≤◌, List, [], ◌∷◌, length, take, get_or, slice_get, Some, Bool, true, false, ℤ, refl, sym, ◌∙◌, subst, ap, arith}
+use Rattle.std.specs.Prelude.{All, Contains, MatchBool}
 use Rattle.std.proofs.lemmas.Bool.{cases_lt}
 use Rattle.std.proofs.lemmas.Option.{slice_get-get_or, slice_get_within, get_or_from_slice_get}
 use Rattle.std.proofs.lemmas.List.Elements.{All-contains, All-contains_itself, Contains-append_right}
@@ -10,7 +10,7 @@ use Rattle.cons_sys.specs.Constraints.{In}
 use Rattle.poly_pair.specs.Polyhedra.{Polyhedron, HasNoPoint}
 use Rattle.lattice_ops.specs.Sets.{IsIncluded, HaveSamePoints}
 use Rattle.powerset.specs.Powersets.{IsInUnion}
-use Rattle.powerset.specs.Reductions.{Supersedes, IsSuperseded, IsLeftOut, AreMarks, IsReduced}
+use Rattle.powerset.specs.Reductions.{IsSuperseded, IsLeftOut, IsReduced}
 use Rattle.powerset.specs.UnionLaws.{AreOfDimension, ReductionKeepsPoints, IsIrredundant, ReductionIsIrredundant}
 use Rattle.powerset.proofs.Climbs.{climbs}
 use Rattle.powerset.proofs.BranchLemmas.{all_at}

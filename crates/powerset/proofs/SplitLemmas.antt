@@ -9,7 +9,7 @@ use Rattle.cons_sys.specs.Constraints.{Constraint, Constraints, constraint_at, S
 use Rattle.powerset.specs.declared.pieces.Piece.{Piece}
 use Rattle.powerset.specs.Inequalities.{AreInequalities, complement}
 use Rattle.row_core.specs.Refusals.{IsOverflowIn}
-use Rattle.powerset.specs.Regions.{LeavesOnList, followed, HoldNowhere, LiesIn}
+use Rattle.powerset.specs.Regions.{LeavesOnList, HoldNowhere, LiesIn}
 use Rattle.powerset.specs.Pieces.{with_one, inner_part, outer_part, IsInner, goes_on, IsSplit, outer_alone, both, LeavesInSplit}
 use Rattle.powerset.proofs.InequalityLemmas.{all_left, all_right, complement_excludes}
 

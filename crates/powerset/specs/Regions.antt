@@ -1,4 +1,4 @@
-use Rattle.std.specs.Prelude.{◌≡◌, ◌+◌, List, ◌++◌, map, length, ⊤, false, All, ℤ, pos, ◌≤ℤ◌}
+use Rattle.std.specs.Prelude.{◌≡◌, ◌+◌, List, ◌++◌, map, length, false, All, ℤ, pos, ◌≤ℤ◌}
 use Rattle.row_core.specs.Content.{IsPrimitive}
 use Rattle.row_core.specs.Points.{IsPoint}
 use Rattle.row_core.specs.Vectors.{dot}
