@@ -37,7 +37,7 @@ returns-in-Ok-map g c =
     let room = not_so c.has_no_room.result (HasNoRoom c.args.names.now c.args.out) (subst (λ (w : List ℕ). IsTrue c.has_no_room.result ↔ HasNoRoom c.args.names.now w) c.bytes.ensures c.has_no_room.ensures) c.if-has_no_room.false in
     let fits = fits_signed_from_abs w128 c.in-Ok.frac.den (divisor_in_range c.in-Some.p.now.topology c.in-Some.p.now.cons.dim c.args.v c.args.rel c.args.part.now c.in-Ok.frac.expr c.in-Ok.frac.den read).size in
     let den = to_z-of_z w128 c.in-Ok.frac.den fits in
-    let at = subst (λ (z : ℤ). IsMapped c.args.op c.image_rel.result c.args.v c.expr.now z c.in-Some.p.now c.in-Ok-map.made) den (record { set = c.in-Ok-map.ensures.points; stored = c.in-Ok-map.ensures.stored }) in
+    let at = subst (λ (z : ℤ). IsMapped c.args.op c.image_rel.result c.args.v c.cells-expr.result.now z c.in-Some.p.now c.in-Ok-map.made) den (record { set = c.in-Ok-map.ensures.points; stored = c.in-Ok-map.ensures.stored }) in
     let is = subst (λ (e : List ℤ). IsMapped c.args.op c.image_rel.result c.args.v e c.in-Ok.frac.den c.in-Some.p.now c.in-Ok-map.made) c.cells-expr.ensures.value at in
     let made = subst (λ (r : ImageRel). IsMapped c.args.op r c.args.v c.in-Ok.frac.expr c.in-Ok.frac.den c.in-Some.p.now c.in-Ok-map.made) c.image_rel.ensures is in
     let found : option_copied c.args.p ≡ Some c.in-Some.p.now = ap option_copied c.in-Some.is in
@@ -50,7 +50,7 @@ returns-in-Err-map g c =
     let room = not_so c.has_no_room.result (HasNoRoom c.args.names.now c.args.out) (subst (λ (w : List ℕ). IsTrue c.has_no_room.result ↔ HasNoRoom c.args.names.now w) c.bytes.ensures c.has_no_room.ensures) c.if-has_no_room.false in
     let fits = fits_signed_from_abs w128 c.in-Ok.frac.den (divisor_in_range c.in-Some.p.now.topology c.in-Some.p.now.cons.dim c.args.v c.args.rel c.args.part.now c.in-Ok.frac.expr c.in-Ok.frac.den read).size in
     let den = to_z-of_z w128 c.in-Ok.frac.den fits in
-    let at = subst (λ (z : ℤ). IsOverflowIn (LeavesInMap c.args.op c.image_rel.result c.args.v c.expr.now z c.in-Some.p.now) c.in-Err-map.cause) den c.in-Err-map.ensures.overflow in
+    let at = subst (λ (z : ℤ). IsOverflowIn (LeavesInMap c.args.op c.image_rel.result c.args.v c.cells-expr.result.now z c.in-Some.p.now) c.in-Err-map.cause) den c.in-Err-map.ensures.overflow in
     let over = subst (λ (e : List ℤ). IsOverflowIn (LeavesInMap c.args.op c.image_rel.result c.args.v e c.in-Ok.frac.den c.in-Some.p.now) c.in-Err-map.cause) c.cells-expr.ensures.value at in
     let leaves = subst (λ (r : ImageRel). IsOverflowIn (LeavesInMap c.args.op r c.args.v c.in-Ok.frac.expr c.in-Ok.frac.den c.in-Some.p.now) c.in-Err-map.cause) c.image_rel.ensures over in
     let found : option_copied c.args.p ≡ Some c.in-Some.p.now = ap option_copied c.in-Some.is in
