@@ -1,0 +1,13 @@
+pub mod InequalityLemmas
+pub mod BranchLemmas
+pub mod PieceLemmas
+pub mod LongerLists
+pub mod SplitLemmas
+pub mod TurnLemmas
+pub mod RegionLemmas
+pub mod CoverLemmas
+pub mod ReductionLemmas
+pub mod JoinLemmas
+mod Climbs
+mod ReducedPoints
+mod UnionPoints

@@ -1,0 +1,18 @@
+use Rattle.std.proofs.Common.{◌≡◌, ◌∙◌, ◌++◌, ap, sym, subst, ℕ, List}
+use Rattle.std.specs.Prelude.{All}
+use Rattle.poly_pair.specs.declared.topology.Topology.{Topology}
+use Rattle.poly_pair.specs.Polyhedra.{Polyhedron}
+use Rattle.powerset.specs.Powersets.{IsMember}
+use Rattle.powerset.specs.Reductions.{IsReduced}
+use Rattle.powerset.proofs.JoinLemmas.{reduced_all, joined_all}
+use Rattle.powerset.proofs.joining.join.Goals as goal
+
+pub from_members-requires-clause-members : goal.from_members-requires-clause-members
+from_members-requires-clause-members c =
+    let s = c.args.s.now in
+    let t = c.args.t.now in
+    let all : c.in_ok-all.all.items ≡ s.members ++ t.members = c.in_ok-all.ensures ∙ ap (λ (ps : List Polyhedron). ps ++ c.members-2.result.now) c.members.ensures.value ∙ ap (λ (ps : List Polyhedron). s.members ++ ps) c.members-2.ensures.value in
+    let r : IsReduced (s.members ++ t.members) c.in_ok-members.members.items = subst (λ (ps : List Polyhedron). IsReduced ps c.in_ok-members.members.items) all c.in_ok-members.ensures.reduced in
+    subst (λ (o : Topology). All (IsMember o c.dim.result) c.in_ok-members.members.items) (sym c.topology.ensures)
+    (subst (λ (n : ℕ). All (IsMember s.topology n) c.in_ok-members.members.items) (sym c.dim.ensures.value)
+    (reduced_all (IsMember s.topology s.dim) (s.members ++ t.members) c.in_ok-members.members.items r (joined_all s t c.members.ensures.kept c.members-2.ensures.kept c.requires.topology c.requires.dim)))

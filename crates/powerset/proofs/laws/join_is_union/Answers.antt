@@ -1,0 +1,5 @@
+use Rattle.powerset.proofs.UnionPoints.{join_is_union}
+use Rattle.powerset.proofs.laws.join_is_union.Goals as goal
+
+pub returns : goal.returns
+returns c = join_is_union

@@ -1,0 +1,9 @@
+pub mod Inequalities
+pub mod Regions
+pub mod Branches
+pub mod Pieces
+pub mod Powersets
+pub mod Covers
+pub mod Reductions
+pub mod Joins
+pub mod UnionLaws

@@ -1,0 +1,63 @@
+use Rattle.std.specs.Prelude.{◌≡◌, ◌+◌, List, ◌++◌, map, length, false, All, ℤ, pos, ◌≤ℤ◌}
+use Rattle.row_core.specs.Content.{IsPrimitive}
+use Rattle.row_core.specs.Points.{IsPoint}
+use Rattle.row_core.specs.Vectors.{dot}
+use Rattle.row_core.specs.Lists.{Row, Rows, vectors}
+use Rattle.row_core.specs.declared.errors.Overflow.{Overflow}
+use Rattle.sat_matrix.specs.ZeroTables.{IsZeroTable}
+use Rattle.cone_laws.specs.Members.{ConeOf}
+use Rattle.cone_laws.specs.Canon.{Canon}
+use Rattle.cone_laws.specs.Leaves.{Leaves}
+use Rattle.cone_laws.specs.MarkedLists.{AreLists}
+use Rattle.chernikova.specs.declared.cone.Cone.{Cone}
+use Rattle.cons_sys.specs.Constraints.{Constraints, In}
+use Rattle.nnc_enc.specs.Encoding.{encoded_constraint, encoded_constraints}
+
+-- ---- lists
+-- the conversion of the encoded list of the constraints leaves the range
+abbrev pub LeavesOnList : Constraints → Overflow → Type 0
+LeavesOnList cs over = Leaves (cs.dim + 2) (encoded_constraints cs) over
+
+-- the constraints and then further ones
+abbrev pub followed : Constraints → Constraints → Constraints
+followed cs more = record { dim = cs.dim; list = cs.list ++ more.list }
+
+-- ---- points
+-- the constraints hold at no point
+abbrev pub HoldNowhere : Constraints → Type 0
+HoldNowhere cs = (v : List ℤ) → IsPoint cs.dim v → ¬ (In cs v)
+
+-- a primitive point at which the constraints hold
+pub record IsPointIn (cs : Constraints) (v : List ℤ) : Type 0 where
+  pub point : IsPoint cs.dim v
+  pub primitive : IsPrimitive v
+  pub holds : In cs v
+
+-- ---- systems
+-- the canonical system of the encoded list of the constraints, with its table
+pub record HasCone (cs : Constraints) (cone : Cone) : Type 0 where
+  pub canon : Canon (ConeOf (cs.dim + 2) (encoded_constraints cs)) (vectors cone.lines.rows) (vectors cone.rays.rows)
+  pub lists : AreLists (cs.dim + 2) cone.lines cone.rays
+  pub zeros : IsZeroTable (encoded_constraints cs) (length (encoded_constraints cs)) (vectors cone.rays.rows) cone.sat
+
+-- the rows encode the constraints
+pub record HasRows (cs : Constraints) (encoded : Rows) : Type 0 where
+  pub width : encoded.width ≡ cs.dim + 2
+  pub rows : encoded.rows ≡ map (encoded_constraint cs.dim) cs.list
+
+-- the encoded list of the constraints, and its canonical system
+pub record HasListAndCone (cs : Constraints) (list : Rows) (cone : Cone) : Type 0 where
+  pub width : list.width ≡ cs.dim + 2
+  pub rows : list.rows ≡ encoded_constraints cs
+  pub canonical : HasCone cs cone
+
+-- ---- inclusion
+-- each point at which the first constraints hold is one at which the others do
+abbrev pub LiesIn : Constraints → Constraints → Type 0
+LiesIn cs ds = (v : List ℤ) → IsPoint cs.dim v → In cs v → In ds v
+
+-- the row is an inequality that is 0 on each line and at least 0 on each ray
+pub record IsValidOn (row : Row) (lines rays : List (List ℤ)) : Type 0 where
+  pub inequality : row.1 ≡ false
+  pub on_lines : All (λ l. dot row.0 l ≡ pos 0) lines
+  pub on_rays : All (λ r. pos 0 ≤ℤ dot row.0 r) rays

@@ -1,0 +1,115 @@
+//! Whether one union covers another.
+ghost use Rattle.std.specs.Prelude.{◌≡◌, All, IfErr, IfOk, MatchOption};
+ghost use Rattle.poly_pair.specs.Polyhedra.{Polyhedron};
+ghost use Rattle.powerset.specs.Inequalities.{AreInequalities};
+ghost use Rattle.row_core.specs.Refusals.{IsOverflowIn};
+ghost use Rattle.powerset.specs.Branches.{LeavesOnBranch, AreCovered, IsUncovered};
+ghost use Rattle.powerset.specs.Covers.{IsCover, systems_of, LeavesOnCover, HasUncovered, LeavesOnSome};
+
+use crate::halfspaces::Halfspaces;
+use crate::pieces::{Piece, turn};
+use crate::powersets::Powerset;
+use crate::region::Region;
+use cons_sys::ConsSys;
+use poly_pair::Poly;
+use row_core::{ConvErr, Memory, RowBuf, Steps};
+use std::alloc::Global;
+use std::sync::ledger::Ledger;
+
+/// Whether a union covers another: a point of the other that it lacks, if there is one.
+#[derive(Debug, Drop)]
+pub enum Cover {
+    /// Each point of the other union is in it.
+    Yes,
+    /// This point of the other union isn't.
+    No(RowBuf),
+}
+
+/// A point at which the first constraints hold and none of the systems does, if there is one. The set is parted by one
+/// inequality after another; of the two parts, that on which it doesn't hold is outside of its system, and goes first.
+fn uncovered<L: Ledger>(
+    alloc: Global,
+    first: &ConsSys,
+    systems: &[Halfspaces],
+    steps: &mut Steps<L>,
+) -> Result<Option<RowBuf>, ConvErr>
+    requires dims { All (λ rows. rows.dim ≡ first.now.dim) systems.now }
+    requires inequalities { All AreInequalities systems.now }
+    ensures found { IfOk result (λ found. MatchOption found (AreCovered first.now systems.now) (IsUncovered first.now systems.now)) }
+    ensures overflow { IfErr result (IsOverflowIn (LeavesOnBranch first.now systems.now)) }
+{
+    let mut pending = Vec::new(alloc);
+    let region = Region::new(alloc, first, steps)?;
+    pending.push(Piece {
+        region,
+        passed: 0,
+        row: 0,
+    })?;
+    while let Some(piece) = pending.pop() {
+        let found = turn(alloc, systems, piece, &mut pending, steps)?;
+        if found.is_some() {
+            return Ok(found);
+        }
+    }
+    Ok(None)
+}
+
+/// The inequalities of each polyhedron.
+fn all_inequalities(alloc: Global, members: &[Poly]) -> Result<Vec<Halfspaces>, Memory>
+    ensures { IfOk result (λ systems. systems.items ≡ systems_of members.now) }
+{
+    let mut systems = Vec::new(alloc);
+    for index in 0..members.len() {
+        systems.push(Halfspaces::of(alloc, members[index].cons())?)?;
+    }
+    Ok(systems)
+}
+
+/// A point of one of the polyhedra at which no system holds, if there is one.
+fn some_uncovered<L: Ledger>(
+    alloc: Global,
+    members: &[Poly],
+    systems: &[Halfspaces],
+    steps: &mut Steps<L>,
+) -> Result<Option<RowBuf>, ConvErr>
+    requires dims { All (λ (p : Polyhedron). All (λ rows. rows.dim ≡ p.cons.dim) systems.now) members.now }
+    requires inequalities { All AreInequalities systems.now }
+    ensures found { IfOk result (λ found. MatchOption found (All (λ (p : Polyhedron). AreCovered p.cons systems.now) members.now) (HasUncovered members.now systems.now)) }
+    ensures overflow { IfErr result (IsOverflowIn (LeavesOnSome members.now systems.now)) }
+{
+    for index in 0..members.len() {
+        let point = uncovered(alloc, members[index].cons(), systems, steps)?;
+        if point.is_some() {
+            return Ok(point);
+        }
+    }
+    Ok(None)
+}
+
+/// Whether each point of t is in s.
+///
+/// Each member of t is parted by the inequalities of the members of s, one after another, and a part that is outside
+/// of all members of s has a point that isn't covered.
+///
+/// # Errors
+///
+/// An overflow is one of the conversion of the encoded list of the constraints of a branch: those of a member of t, and
+/// then, for each of the first members of s, some of its inequalities and the complement of the next.
+pub fn covers<L: Ledger>(
+    alloc: Global,
+    s: &Powerset,
+    t: &Powerset,
+    steps: &mut Steps<L>,
+) -> Result<Cover, ConvErr>
+    requires topology { s.now.topology ≡ t.now.topology }
+    requires dim { s.now.dim ≡ t.now.dim }
+    ensures answer { IfOk result (IsCover s.now t.now) }
+    ensures overflow { IfErr result (IsOverflowIn (LeavesOnCover s.now t.now)) }
+{
+    let systems = all_inequalities(alloc, s.members())?;
+    match some_uncovered(alloc, t.members(), &systems, steps) {
+        Ok(None) => Ok(Cover::Yes),
+        Ok(Some(point)) => Ok(Cover::No(point)),
+        Err(cause) => Err(cause),
+    }
+}

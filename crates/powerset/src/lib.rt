@@ -1,0 +1,22 @@
+//! Finite unions of polyhedra.
+//!
+//! - [`Powerset`] keeps polyhedra of one topology and dimension.
+//! - [`join`] and [`pmeet`] are unions and common points of two, without members that others include.
+//! - [`covers`] says whether each point of one union is in another, or shows a point that isn't.
+//!
+//! [`laws`] says what these mean in words of points.
+#![tactic(auto)]
+
+mod covering;
+mod halfspaces;
+mod inequalities;
+mod joining;
+pub mod laws;
+mod pieces;
+mod powersets;
+mod reducing;
+mod region;
+
+pub use covering::{Cover, covers};
+pub use joining::{join, pmeet};
+pub use powersets::Powerset;
