@@ -19,7 +19,7 @@ use Rattle.poly_pair.specs.declared.topology.Topology.{Topology}
 use Rattle.poly_pair.specs.declared.topology.Topology.TheVariants.{Closed}
 use Rattle.lattice_ops.specs.Sets.{HaveSamePoints}
 use Rattle.calc_state.specs.Questions.{line, side_text}
-use Rattle.calc_state.specs.Step.{IsProper}
+use Rattle.calc_state.specs.Entries.{IsProper}
 use Rattle.calc_state.specs.Prints.{PrintsTellPoints}
 
 -- the laws that are cited: a closed set is stored in one way, by systems of one dimension; both hold the same points; what is printed is read back

@@ -1,14 +1,14 @@
 -- What a command asks of the table, and what it does there.
-use Rattle.std.specs.Prelude.{◌≡◌, ◌≢◌, ℕ, ◌<◌, List, Bool, Option, None, Some, ◌∷◌, [], ◌++◌, codes, true, false}
+use Rattle.std.specs.Prelude.{◌≡◌, ◌≢◌, ℕ, ◌<◌, List, Bool, Option, None, Some, MatchOption, ◌∷◌, [], ◌++◌, codes, true, false}
 use Rattle.row_core.specs.declared.errors.Overflow.{Overflow}
 use Rattle.reply_text.specs.declared.faults.Fault.TheVariants as fault
 use Rattle.poly_pair.specs.Polyhedra.{Polyhedron}
 use Rattle.poly_pair.specs.declared.topology.TheConstants.{MAX_DIM}
 use Rattle.trans_sys.specs.Systems.{TransitionSystem}
-use Rattle.calc_state.specs.declared.entry.Entry.TheVariants as entry
+use Rattle.calc_state.specs.declared.entry.Entry.{Entry}
 use Rattle.calc_state.specs.declared.change.Change.{Change}
 use Rattle.calc_state.specs.declared.change.Change.TheVariants.{Says, Puts, PutsAll, TakesOut}
-use Rattle.calc_state.specs.Table.{Table, HasNoRoom}
+use Rattle.calc_state.specs.Table.{Table, HasNoRoom, as_poly, as_system}
 use Rattle.calc_state.specs.Order.{Conditions}
 
 -- what a command asks of a table and does there: when each fault holds, which overflows it may show, and what it may do
@@ -35,21 +35,16 @@ unknown_name other = ⊥
 abbrev pub unknown : Meaning
 unknown = record { conditions = unknown_name; overflows = no_overflow; does = λ change. ⊥ }
 
--- the command reads one polyhedron
-abbrev pub on_one : Option Polyhedron → (Polyhedron → Meaning) → Meaning
+-- the command reads one entry of a kind
+abbrev pub on_one : {A : Type 0} → Option A → (A → Meaning) → Meaning
 on_one None meaning = unknown
 on_one (Some p) meaning = meaning p
 
 -- the command reads two
-abbrev pub on_two : Option Polyhedron → Option Polyhedron → (Polyhedron → Polyhedron → Meaning) → Meaning
+abbrev pub on_two : {A B : Type 0} → Option A → Option B → (A → B → Meaning) → Meaning
 on_two None q meaning = unknown
 on_two (Some p) None meaning = unknown
 on_two (Some p) (Some q) meaning = meaning p q
-
--- the command reads a transition system
-abbrev pub on_system : Option TransitionSystem → (TransitionSystem → Meaning) → Meaning
-on_system None meaning = unknown
-on_system (Some s) meaning = meaning s
 
 -- two operands have one topology and one dimension
 abbrev pub alike : Polyhedron → Polyhedron → Conditions → Conditions
@@ -73,15 +68,18 @@ abbrev pub IsSaid : List ℕ → Change → Type 0
 IsSaid lines (Says text) = text ≡ lines
 IsSaid lines other = ⊥
 
--- a polyhedron with this property is put under the name
-abbrev pub IsPut : List ℕ → (Polyhedron → Type 0) → Change → Type 0
-IsPut out Is (Puts name (entry.Poly r)) = (name ≡ out) × Is r
-IsPut out Is other = ⊥
+-- an entry of a kind with this property is put under the name
+abbrev pub IsPutAs : {A : Type 0} → (Option Entry → Option A) → List ℕ → (A → Type 0) → Change → Type 0
+IsPutAs kind out Is (Puts name e) = (name ≡ out) × MatchOption (kind (Some e)) ⊥ Is
+IsPutAs kind out Is other = ⊥
 
--- a transition system with this property is put under the name
+-- a polyhedron
+abbrev pub IsPut : List ℕ → (Polyhedron → Type 0) → Change → Type 0
+IsPut out Is change = IsPutAs as_poly out Is change
+
+-- a transition system
 abbrev pub IsSystemPut : List ℕ → (TransitionSystem → Type 0) → Change → Type 0
-IsSystemPut out Is (Puts name (entry.System s)) = (name ≡ out) × Is s
-IsSystemPut out Is other = ⊥
+IsSystemPut out Is change = IsPutAs as_system out Is change
 
 -- polyhedra with this property are put under the numbered names
 abbrev pub AreAllPut : List ℕ → (List Polyhedron → Type 0) → Change → Type 0

@@ -5,7 +5,7 @@ use Rattle.poly_pair.specs.declared.topology.Topology.TheVariants.{Closed, Nnc}
 use Rattle.script_text.specs.declared.command.Command.{Command}
 use Rattle.script_text.specs.declared.command.Command.TheVariants.{Nothing, Cons, Gens, Universe, Empty, Copy, Drop, Add, Addgen, Has, Size, Print, Names, Meet, Hull, Closure, Contains, Equal, Disjoint, Isempty, Relation, Max, Min, Embed, Project, Concat, Elapse, Image, Preimage, Remove, Widen, Read, Write, System, Init, Trans, Fixpoint}
 use Rattle.calc_state.specs.Table.{Table, entry_of, poly_of, system_of}
-use Rattle.calc_state.specs.Meaning.{Meaning, on_one, on_two, on_system}
+use Rattle.calc_state.specs.Meaning.{Meaning, on_one, on_two}
 use Rattle.calc_state.specs.Makers.{cons, gens, universe, empty, copy, drop_of, add, addgen}
 use Rattle.calc_state.specs.Questions.{says, has, size, print, names}
 use Rattle.calc_state.specs.Optima.{relation, bound}
@@ -57,6 +57,6 @@ meaning table (Widen out p q) = on_two (poly_of table p) (poly_of table q) (wide
 meaning table (Read out form) = says []
 meaning table (Write p form) = on_one (poly_of table p) (write form)
 meaning table (System out n l) = system table out n l
-meaning table (Init s location p) = on_system (system_of table s) (λ found. on_one (poly_of table p) (init s location found))
-meaning table (Trans s source target r) = on_system (system_of table s) (λ found. on_one (poly_of table r) (trans s source target found))
-meaning table (Fixpoint s delay prefix) = on_system (system_of table s) (fixpoint table delay prefix)
+meaning table (Init s location p) = on_one (system_of table s) (λ found. on_one (poly_of table p) (init s location found))
+meaning table (Trans s source target r) = on_one (system_of table s) (λ found. on_one (poly_of table r) (trans s source target found))
+meaning table (Fixpoint s delay prefix) = on_one (system_of table s) (fixpoint table delay prefix)

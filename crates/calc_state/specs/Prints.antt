@@ -4,7 +4,7 @@ use Rattle.poly_pair.specs.Polyhedra.{Polyhedron}
 use Rattle.poly_pair.specs.declared.topology.Topology.TheVariants.{Closed}
 use Rattle.lattice_ops.specs.Sets.{HaveSamePoints}
 use Rattle.calc_state.specs.Questions.{line, side_text}
-use Rattle.calc_state.specs.Step.{IsProper}
+use Rattle.calc_state.specs.Entries.{IsProper}
 
 -- two closed polyhedra of one dimension have the same points exactly where `print cons` shows equal bytes, and exactly where `print gens` does
 abbrev pub PrintsTellPoints : Type 0

@@ -2,29 +2,18 @@
 use Rattle.std.specs.Prelude.{◌≡◌, ℕ, List, [], ◌∷◌, ◌++◌, Result, Ok, Err, All, codes}
 use Rattle.row_core.specs.declared.errors.Overflow.{Overflow}
 use Rattle.row_core.specs.declared.errors.Memory.{Memory}
-use Rattle.cons_sys.specs.Constraints as cons
-use Rattle.gens_sys.specs.Generators as gens
-use Rattle.poly_pair.specs.Polyhedra.{Polyhedron, IsKept}
-use Rattle.trans_sys.specs.Systems.{IsKeptSystem}
 use Rattle.reply_text.specs.declared.faults.Fault.{Fault}
 use Rattle.script_text.specs.declared.command.Command.{Command}
 use Rattle.script_text.specs.declared.command.Command.TheVariants.{Has, Size, Print, Names, Contains, Equal, Isempty, Relation, Max, Min, Write}
-use Rattle.calc_state.specs.declared.entry.Entry.TheVariants as entry
 use Rattle.calc_state.specs.declared.change.Change.{Change}
 use Rattle.calc_state.specs.declared.change.Change.TheVariants.{Says, Puts, PutsAll, TakesOut}
 use Rattle.calc_state.specs.declared.refusal.StepErr.{StepErr}
 use Rattle.calc_state.specs.declared.refusal.StepErr.TheVariants as err
 use Rattle.calc_state.specs.Table.{Table, put, put_each, numbered_sets, without}
+use Rattle.calc_state.specs.Entries.{IsProper, IsKeptEntry}
 use Rattle.calc_state.specs.Order.{IsFirst, Passes}
 use Rattle.calc_state.specs.Meaning.{Meaning}
 use Rattle.calc_state.specs.Meanings.{meaning}
-
--- what came of a command with this meaning
-abbrev pub IsPerformed : Meaning → Result Change StepErr → Type 0
-IsPerformed m (Ok change) = Passes m.conditions × m.does change
-IsPerformed m (Err (err.Input fault)) = IsFirst m.conditions fault
-IsPerformed m (Err (err.Overflow over)) = Passes m.conditions × m.overflows over
-IsPerformed m (Err err.Memory) = Unit {0}
 
 -- what the calculator answers a line
 pub data Reply : Type 0 where
@@ -56,16 +45,9 @@ abbrev pub Shows : Table → Change → Result (List ℕ) Memory → Table → T
 Shows old change (Ok lines) new = (lines ≡ lines_of change) × (new ≡ after old change)
 Shows old change (Err memory) new = new ≡ old
 
--- what each polyhedron of a table keeps: the two systems that are stored of its set, with rows that fit the dimension and the range
-pub record IsProper (p : Polyhedron) : Type 0 where
-  pub kept : IsKept p
-  pub cons : cons.FitDimension p.cons
-  pub gens : gens.FitDimension p.gens
-
--- each polyhedron that a change puts is such a one, and a transition system keeps what each keeps
+-- what a change puts keeps what its kind keeps
 abbrev pub PutsProper : Change → Type 0
-PutsProper (Puts name (entry.Poly p)) = IsProper p
-PutsProper (Puts name (entry.System s)) = IsKeptSystem s
+PutsProper (Puts name e) = IsKeptEntry e
 PutsProper (PutsAll prefix sets) = All IsProper sets.items
 PutsProper other = Unit {0}
 

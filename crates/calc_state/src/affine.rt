@@ -11,7 +11,7 @@ ghost use Rattle.poly_pair.specs.declared.topology.TheConstants.{MAX_DIM};
 ghost use Rattle.calc_state.specs.Meaning.{on_one, on_two};
 ghost use Rattle.calc_state.specs.Affine.{embed as make_embed, project as make_project, remove as make_removed, concat as make_concat, elapse as make_elapse, mapped_by as make_mapped, image_rel, IsSetOfMap, IsStoredOfMap, LeavesInMap, variables_fault};
 ghost use Rattle.calc_state.specs.Texts.{IsTextRefusal};
-ghost use Rattle.calc_state.specs.Step.{IsPerformed};
+ghost use Rattle.calc_state.specs.Performed.{IsPerformed};
 
 use crate::change::Change;
 use crate::entry::Entry;

@@ -3,7 +3,7 @@ ghost use Rattle.std.specs.Prelude.{◌≡◌, ◌<◌, length, IfOk};
 ghost use Rattle.std.specs.Option.{option_copied};
 ghost use Rattle.calc_state.specs.Meaning.{on_one, on_two};
 ghost use Rattle.calc_state.specs.Lattice.{meet as make_meet, hull as make_hull, closure as make_closure, contains as ask_contains, equal as ask_equal, disjoint as ask_disjoint, isempty as ask_empty, shown_rows};
-ghost use Rattle.calc_state.specs.Step.{IsPerformed};
+ghost use Rattle.calc_state.specs.Performed.{IsPerformed};
 
 use crate::affine::have_one_topology;
 use crate::change::Change;

@@ -16,6 +16,7 @@ mod laws;
 mod makers;
 mod names;
 mod optima;
+mod parts;
 mod perform;
 mod questions;
 mod reading;

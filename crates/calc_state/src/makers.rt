@@ -10,7 +10,7 @@ ghost use Rattle.poly_pair.specs.declared.topology.TheConstants.{MAX_DIM};
 ghost use Rattle.calc_state.specs.Table.{entry_of};
 ghost use Rattle.calc_state.specs.Meaning.{on_one};
 ghost use Rattle.calc_state.specs.Makers.{cons as make_cons, gens as make_gens, universe as make_universe, empty as make_empty, copy as make_copy, drop_of, add as add_to, addgen as addgen_to};
-ghost use Rattle.calc_state.specs.Step.{IsPerformed};
+ghost use Rattle.calc_state.specs.Performed.{IsPerformed};
 
 use crate::change::Change;
 use crate::entry::Entry;

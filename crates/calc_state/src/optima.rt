@@ -8,7 +8,7 @@ ghost use Rattle.optimum.specs.Suprema.{SupAnswer, IsTrueSup};
 ghost use Rattle.calc_state.specs.Meaning.{on_one};
 ghost use Rattle.calc_state.specs.Questions.{line};
 ghost use Rattle.calc_state.specs.Optima.{relation as ask_relation, bound as ask_bound, relation_text, with_word, bound_text, attained_text, HasGenerator};
-ghost use Rattle.calc_state.specs.Step.{IsPerformed};
+ghost use Rattle.calc_state.specs.Performed.{IsPerformed};
 
 use crate::change::Change;
 use crate::refusal::StepErr;

@@ -2,8 +2,11 @@
 ghost use Rattle.std.specs.Prelude.{◌≡◌};
 ghost use Rattle.script_text.specs.Line.{PartsMatch, PartsTold};
 ghost use Rattle.calc_state.specs.Meanings.{topology_of as named_topology, meaning};
-ghost use Rattle.calc_state.specs.Step.{IsPerformed};
-ghost use Rattle.calc_state.specs.Changes.{ChangesSystem};
+ghost use Rattle.calc_state.specs.Performed.{IsPerformed};
+ghost use Rattle.calc_state.specs.Changes.{ChangesPart, IsTestedIn};
+ghost use Rattle.calc_state.specs.Table.{poly_of, system_of};
+ghost use Rattle.calc_state.specs.Meaning.{on_one};
+ghost use Rattle.calc_state.specs.Systems.{init as replace_initial, trans as add_transition};
 ghost use Rattle.calc_state.specs.Families.{Makes, Asks, Combines, Maps};
 
 use crate::affine::{Mapping, concat, elapse, embed, mapped_by, project, remove};
@@ -15,7 +18,8 @@ use crate::names::Names;
 use crate::optima::{bound, relation};
 use crate::questions::{has, name_list, print, size};
 use crate::refusal::StepErr;
-use crate::systems::{fixpoint, system};
+use crate::parts::PartChange;
+use crate::systems::{added_transition, fixpoint, replaced_initial, system};
 use crate::widenings::widen;
 use poly_pair::Topology;
 use reply_text::{Fault, Text};
@@ -216,7 +220,7 @@ pub fn change_of<L: Ledger>(
 ) -> Result<Change, StepErr>
     requires forms { PartsMatch command }
     requires told { PartsTold command }
-    requires whole { ¬ (ChangesSystem command) }
+    requires whole { ¬ (ChangesPart command) }
     ensures { IsPerformed (meaning names.now command) result }
 {
     match command {
@@ -257,5 +261,43 @@ pub fn change_of<L: Ledger>(
             fixpoint(alloc, names, names.system(s.bytes()), delay, prefix, steps)
         }
         Command::Init { .. } | Command::Trans { .. } => unreachable!(),
+    }
+}
+
+/// The change of the initial states of a location, of the system under the name.
+fn init(names: &Names, s: Text, location: u64, p: Text) -> Result<(Text, PartChange), StepErr>
+    ensures { IsTestedIn (on_one (system_of names.now s) (λ found. on_one (poly_of names.now p) (replace_initial s location found))) names.now result }
+{
+    match replaced_initial(names.system(s.bytes()), location, names.poly(p.bytes())) {
+        Ok(change) => Ok((s, change)),
+        Err(cause) => Err(cause),
+    }
+}
+
+/// The change that appends a transition, of the system under the name.
+fn trans(
+    names: &Names,
+    s: Text,
+    source: u64,
+    target: u64,
+    r: Text,
+) -> Result<(Text, PartChange), StepErr>
+    ensures { IsTestedIn (on_one (system_of names.now s) (λ found. on_one (poly_of names.now r) (add_transition s source target found))) names.now result }
+{
+    match added_transition(names.system(s.bytes()), source, target, names.poly(r.bytes())) {
+        Ok(change) => Ok((s, change)),
+        Err(cause) => Err(cause),
+    }
+}
+
+/// The name and the change of a command that changes a part of an entry, or why it is refused.
+pub fn part_change_of(names: &Names, command: Command) -> Result<(Text, PartChange), StepErr>
+    requires { ChangesPart command }
+    ensures { IsTestedIn (meaning names.now command) names.now result }
+{
+    match command {
+        Command::Init { s, loc, p } => init(names, s, loc, p),
+        Command::Trans { s, loc, loc2, r } => trans(names, s, loc, loc2, r),
+        _ => unreachable!(),
     }
 }

@@ -1,21 +1,22 @@
 //! The commands that make and change transition systems, and the one that runs them.
-ghost use Rattle.std.specs.Prelude.{◌≡◌, ℕ, ◌*◌, ◌<◌, ◌≤◌, List, length, MatchBool, IfOk, OnOk, OnErr};
+ghost use Rattle.std.specs.Prelude.{ℕ, List};
 ghost use Rattle.std.specs.Option.{option_copied};
 ghost use Rattle.poly_pair.specs.Polyhedra.{Polyhedron};
-ghost use Rattle.trans_sys.specs.Systems.{IsKeptSystem};
-ghost use Rattle.calc_state.specs.Meaning.{on_one, on_system};
+ghost use Rattle.calc_state.specs.Meaning.{on_one};
 ghost use Rattle.calc_state.specs.Systems.{system as make_system, init, trans, fixpoint as run_system};
-ghost use Rattle.calc_state.specs.Changes.{changed, Fits, IsTested};
-ghost use Rattle.calc_state.specs.Step.{IsPerformed};
+ghost use Rattle.calc_state.specs.Changes.{as_entry, IsTested};
+ghost use Rattle.calc_state.specs.Performed.{IsPerformed};
+ghost use Rattle.calc_state.specs.declared.entry.Entry.TheVariants as entry;
 
 use crate::change::Change;
 use crate::entry::Entry;
 use crate::names::Names;
+use crate::parts::{PartChange, SystemChange};
 use crate::refusal::StepErr;
 use fixpoint::run;
 use poly_pair::{Poly, Topology};
 use reply_text::{Fault, Text};
-use row_core::{Memory, Steps};
+use row_core::Steps;
 use std::alloc::Global;
 use std::sync::ledger::Ledger;
 use trans_sys::{MAX_LOCATIONS, System};
@@ -25,37 +26,6 @@ const MAX_STATE_DIM: u64 = 31;
 
 /// The largest delay.
 const MAX_DELAY: u64 = 1_000_000;
-
-/// A change of a transition system.
-#[derive(Debug, Drop)]
-pub enum SystemChange {
-    /// The initial states of a location are replaced.
-    Initial(usize, Poly),
-    /// A transition is appended: its source, its target and its relation.
-    Transition(usize, usize, Poly),
-}
-
-impl SystemChange {
-    /// Makes the change. After want of memory the system is as before.
-    pub fn apply(self, system: &mut System) -> Result<(), Memory>
-        requires { Fits system.old self }
-        ensures ok { OnOk result (system.new ≡ changed system.old self) }
-        ensures kept { IsKeptSystem system.new }
-        ensures err { OnErr result (system.new ≡ system.old) }
-    {
-        let made = match self {
-            SystemChange::Initial(location, p) => {
-                system.set_init(location, p);
-                Ok(())
-            }
-            SystemChange::Transition(source, target, relation) => {
-                system.push_trans(source, target, relation)
-            }
-        };
-        let _ = system.dim();
-        made
-    }
-}
 
 /// The transition system in which no location has an initial state, without transitions.
 pub fn system(
@@ -85,8 +55,8 @@ pub fn replaced_initial(
     system: Option<&System>,
     location: u64,
     p: Option<&Poly>,
-) -> Result<SystemChange, StepErr>
-    ensures { (name : List ℕ) → IsTested (on_system (option_copied system.entry) (λ s. on_one (option_copied p.entry) (init name location s))) (option_copied system.entry) name result }
+) -> Result<PartChange, StepErr>
+    ensures { (name : List ℕ) → IsTested (on_one (option_copied system.entry) (λ s. on_one (option_copied p.entry) (init name location s))) (as_entry entry.System (option_copied system.entry)) name result }
 {
     let (Some(system), Some(p)) = (system, p) else {
         return Err(StepErr::Input(Fault::UnknownName));
@@ -100,7 +70,8 @@ pub fn replaced_initial(
     if location >= system.locs() as u64 {
         return Err(StepErr::Input(Fault::OutOfRange));
     }
-    Ok(SystemChange::Initial(location as usize, p.try_copy()?))
+    let change = SystemChange::Initial(location as usize, p.try_copy()?);
+    Ok(PartChange::System(change))
 }
 
 /// Appends a transition between two locations, whose relation is a polyhedron.
@@ -109,8 +80,8 @@ pub fn added_transition(
     source: u64,
     target: u64,
     relation: Option<&Poly>,
-) -> Result<SystemChange, StepErr>
-    ensures { (name : List ℕ) → IsTested (on_system (option_copied system.entry) (λ s. on_one (option_copied relation.entry) (trans name source target s))) (option_copied system.entry) name result }
+) -> Result<PartChange, StepErr>
+    ensures { (name : List ℕ) → IsTested (on_one (option_copied system.entry) (λ s. on_one (option_copied relation.entry) (trans name source target s))) (as_entry entry.System (option_copied system.entry)) name result }
 {
     let (Some(system), Some(relation)) = (system, relation) else {
         return Err(StepErr::Input(Fault::UnknownName));
@@ -125,7 +96,8 @@ pub fn added_transition(
         return Err(StepErr::Input(Fault::OutOfRange));
     }
     let copy = relation.try_copy()?;
-    Ok(SystemChange::Transition(source as usize, target as usize, copy))
+    let change = SystemChange::Transition(source as usize, target as usize, copy);
+    Ok(PartChange::System(change))
 }
 
 /// Puts the set of each location in the limit of the system's rounds under a numbered name.
@@ -137,7 +109,7 @@ pub fn fixpoint<L: Ledger>(
     prefix: Text,
     steps: &mut Steps<L>,
 ) -> Result<Change, StepErr>
-    ensures { IsPerformed (on_system (option_copied system.entry) (run_system names.now delay prefix)) result }
+    ensures { IsPerformed (on_one (option_copied system.entry) (run_system names.now delay prefix)) result }
 {
     let Some(system) = system else {
         return Err(StepErr::Input(Fault::UnknownName));

@@ -5,7 +5,7 @@ ghost use Rattle.poly_pair.specs.declared.topology.Topology.{Topology};
 ghost use Rattle.calc_state.specs.Table.{HasNoRoom};
 ghost use Rattle.calc_state.specs.Meaning.{on_two};
 ghost use Rattle.calc_state.specs.Widening.{widen as make_widening};
-ghost use Rattle.calc_state.specs.Step.{IsPerformed};
+ghost use Rattle.calc_state.specs.Performed.{IsPerformed};
 
 use crate::change::Change;
 use crate::entry::Entry;

@@ -5,7 +5,7 @@ use Rattle.poly_pair.specs.declared.topology.TheConstants.{MAX_DIM}
 use Rattle.calc_state.specs.Table.{HasNoRoom}
 use Rattle.calc_state.specs.Meaning.{on_two}
 use Rattle.calc_state.specs.Affine.{concat}
-use Rattle.calc_state.specs.Step.{IsPerformed}
+use Rattle.calc_state.specs.Performed.{IsPerformed}
 use Rattle.calc_state.proofs.MakerLemmas.{not_so}
 use Rattle.calc_state.proofs.MapLemmas.{map_leaves, concat_passes}
 use Rattle.calc_state.proofs.affine.concat.Goals as goal

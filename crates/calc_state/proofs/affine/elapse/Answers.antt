@@ -4,7 +4,7 @@ use Rattle.poly_pair.specs.Polyhedra.{Polyhedron}
 use Rattle.calc_state.specs.Table.{HasNoRoom}
 use Rattle.calc_state.specs.Meaning.{on_two}
 use Rattle.calc_state.specs.Affine.{elapse}
-use Rattle.calc_state.specs.Step.{IsPerformed}
+use Rattle.calc_state.specs.Performed.{IsPerformed}
 use Rattle.calc_state.proofs.MakerLemmas.{not_so}
 use Rattle.calc_state.proofs.MapLemmas.{elapse_leaves, elapse_passes}
 use Rattle.calc_state.proofs.affine.elapse.Goals as goal

@@ -13,7 +13,7 @@ use Rattle.calc_state.specs.Table.{HasNoRoom}
 use Rattle.calc_state.specs.Order.{IsFirst}
 use Rattle.calc_state.specs.Meaning.{on_one}
 use Rattle.calc_state.specs.Affine.{image_rel, IsMapped, LeavesInMap, mapped_by}
-use Rattle.calc_state.specs.Step.{IsPerformed}
+use Rattle.calc_state.specs.Performed.{IsPerformed}
 use Rattle.calc_state.proofs.MakerLemmas.{not_so}
 use Rattle.calc_state.proofs.FractionLemmas.{divisor_in_range, mapping_refused, mapping_full, mapping_made, mapping_leaves}
 use Rattle.calc_state.proofs.affine.mapped_by.Goals as goal

@@ -11,7 +11,7 @@ use Rattle.calc_state.specs.Order.{IsFirst}
 use Rattle.calc_state.specs.Meaning.{on_one}
 use Rattle.calc_state.specs.Texts.{IsTextRefusal}
 use Rattle.calc_state.specs.Affine.{variables_fault, IsRemoved, remove}
-use Rattle.calc_state.specs.Step.{IsPerformed}
+use Rattle.calc_state.specs.Performed.{IsPerformed}
 use Rattle.calc_state.proofs.MakerLemmas.{not_so}
 use Rattle.calc_state.proofs.MapLemmas.{remove_refused, remove_full, remove_made, remove_leaves}
 use Rattle.calc_state.proofs.affine.remove.Goals as goal

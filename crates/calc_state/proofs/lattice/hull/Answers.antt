@@ -6,7 +6,7 @@ use Rattle.lattice_ops.specs.Sets.{both_generators}
 use Rattle.calc_state.specs.Table.{HasNoRoom}
 use Rattle.calc_state.specs.Meaning.{on_two}
 use Rattle.calc_state.specs.Lattice.{hull}
-use Rattle.calc_state.specs.Step.{IsPerformed}
+use Rattle.calc_state.specs.Performed.{IsPerformed}
 use Rattle.calc_state.specs.declared.refusal.StepErr.{StepErr}
 use Rattle.calc_state.proofs.LatticeLemmas.{alike_pass}
 use Rattle.calc_state.proofs.MakerLemmas.{not_so, overflown}

@@ -5,7 +5,7 @@ use Rattle.poly_pair.specs.TopologyLists.{AreConstraintsFor}
 use Rattle.poly_pair.specs.declared.topology.Topology.{Topology}
 use Rattle.calc_state.specs.Meaning.{on_one}
 use Rattle.calc_state.specs.Makers.{add}
-use Rattle.calc_state.specs.Step.{IsPerformed}
+use Rattle.calc_state.specs.Performed.{IsPerformed}
 use Rattle.calc_state.specs.Texts.{constraints_fault, IsTextRefusal, ReadsConstraints}
 use Rattle.calc_state.proofs.MakerLemmas.{add_refused, add_made, add_leaves}
 use Rattle.calc_state.proofs.makers.add.Goals as goal

@@ -5,7 +5,7 @@ use Rattle.poly_pair.specs.TopologyLists.{AreGeneratorsFor}
 use Rattle.poly_pair.specs.declared.topology.Topology.{Topology}
 use Rattle.calc_state.specs.Meaning.{on_one}
 use Rattle.calc_state.specs.Makers.{addgen}
-use Rattle.calc_state.specs.Step.{IsPerformed}
+use Rattle.calc_state.specs.Performed.{IsPerformed}
 use Rattle.calc_state.specs.Texts.{generators_fault, IsTextRefusal, ReadsGenerators}
 use Rattle.calc_state.proofs.MakerLemmas.{addgen_refused, addgen_made, addgen_refuses}
 use Rattle.calc_state.proofs.makers.addgen.Goals as goal

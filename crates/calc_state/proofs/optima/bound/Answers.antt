@@ -8,7 +8,7 @@ use Rattle.optimum.specs.Showing.{shown_values}
 use Rattle.calc_state.specs.Meaning.{on_one}
 use Rattle.calc_state.specs.Questions.{line}
 use Rattle.calc_state.specs.Optima.{bound, bound_text}
-use Rattle.calc_state.specs.Step.{IsPerformed}
+use Rattle.calc_state.specs.Performed.{IsPerformed}
 use Rattle.calc_state.specs.Texts.{expression_fault, IsTextRefusal, ReadsExpression}
 use Rattle.calc_state.proofs.OptimaLemmas.{bound_refused, bound_told, bound_leaves}
 use Rattle.calc_state.proofs.optima.bound.Goals as goal
