@@ -1,6 +1,7 @@
 mod DistinctNames
 mod FaultOrder
 mod FractionLemmas
+mod HybridLemmas
 mod LatticeLemmas
 mod LatticeOnce
 mod MakerLemmas
@@ -12,6 +13,7 @@ mod PointLemmas
 mod QuestionLemmas
 mod ReadingLemmas
 mod SaysOnce
+mod ShapeLemmas
 mod StrictTexts
 mod SystemLemmas
 mod TableLemmas
