@@ -9,7 +9,9 @@ mod OperatorLemmas
 mod OptimaLemmas
 mod OptimaOnce
 mod PointLemmas
+mod PowersetLemmas
 mod QuestionLemmas
+mod RankingLemmas
 mod ReadingLemmas
 mod SaysOnce
 mod StrictTexts
