@@ -14,8 +14,10 @@ pub mod Operators
 pub mod Optima
 pub mod Order
 pub mod Performed
+pub mod Powersets
 pub mod Prints
 pub mod Questions
+pub mod Rankings
 pub mod Reading
 pub mod Refusals
 pub mod Results
