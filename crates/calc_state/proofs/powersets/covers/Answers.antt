@@ -1,4 +1,4 @@
-use Rattle.std.proofs.Common.{◌≡◌, ◌∙◌, ℕ, ◌++◌, codes, Option, Some, Ok, Err, rules, sym, ap, subst}
+use Rattle.std.proofs.Common.{◌≡◌, ◌∙◌, ℕ, ◌++◌, codes, Option, Some, Err, rules, sym, ap, subst}
 use Rattle.std.specs.Option.{option_copied}
 use Rattle.gens_sys.specs.declared.kind.GenKind.TheVariants.{Point}
 use Rattle.expr_text.specs.Printed.{generator_text}
