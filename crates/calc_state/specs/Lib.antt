@@ -9,6 +9,7 @@ pub mod Line
 pub mod Makers
 pub mod Meaning
 pub mod Meanings
+pub mod Operators
 pub mod Optima
 pub mod Order
 pub mod Performed
