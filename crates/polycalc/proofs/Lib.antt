@@ -10,6 +10,9 @@ pub mod OneForm
 pub mod OneResult
 pub mod OneMap
 pub mod OneSystem
+pub mod OneUnion
+pub mod OneShape
+pub mod OneHybrid
 pub mod OneSet
 pub mod Operands
 pub mod AcceptedRuns
