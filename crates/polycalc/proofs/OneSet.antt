@@ -49,8 +49,8 @@ use Rattle.polycalc.proofs.OneResult.{one_of_one, one_of_poly, one_of_two, one_c
 use Rattle.polycalc.proofs.OneSystem.{one_reached, one_changed, one_empty_system, one_run, run_few, one_reach, reach_few}
 use Rattle.polycalc.proofs.OneMap.{one_extended, one_operated, one_mapped_by, one_removed}
 use Rattle.polycalc.proofs.OneUnion.{one_single, one_powerset, one_member}
-use Rattle.polycalc.proofs.OneShape.{one_shape_of, one_bounds, one_shape_by, one_poly_of_shape}
-use Rattle.polycalc.proofs.OneHybrid.{one_still, one_ranking_set}
+use Rattle.polycalc.proofs.OneShape.{one_shape_of, one_bounds, one_shape_by, one_poly_of_shape, one_ranking_set}
+use Rattle.polycalc.proofs.OneHybrid.{one_still}
 
 -- ---- what each entry keeps
 one_case : (b : Bool) (A B E : Type 0) → (A → E) → (B → E) → MatchBool b A B → E
