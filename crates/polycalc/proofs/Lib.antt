@@ -14,12 +14,16 @@ pub mod OneUnion
 pub mod OneShape
 pub mod OneHybrid
 pub mod OneSet
+pub mod Kinds
 pub mod Operands
+pub mod ShapeRows
 pub mod AcceptedRuns
 pub mod NumberedLaws
 pub mod SetLaws
+pub mod KindTruth
 pub mod TruthLaws
 pub mod SameTables
+pub mod KindAnswers
 pub mod AcceptedLaws
 pub mod ConversionLaws
 pub mod SampleLaws

@@ -50,7 +50,7 @@ one_shape_by Hull s t u w a b h k = one_of_both u w a b (h.dim ∙ sym k.dim) (k
 -- ---- polyhedra
 pub one_poly_of_shape : OneForm → (s : Region) (p q : Polyhedron) → IsProper p → IsProper q → IsPolyOfShape s p → IsPolyOfShape s q → AreSamePolyhedra p q
 one_poly_of_shape laws s p q a b h k =
-    one_of_points laws Closed s.dim (IsIn s) p q a b (record { same_topology = h.closed; same_dim = h.dim }) (record { same_topology = k.closed; same_dim = k.dim }) (at p h) (at q k)
+    one_of_points laws Closed s.dim (IsIn s) p q a b (record { same_topology = h.topology; same_dim = h.dim }) (record { same_topology = k.topology; same_dim = k.dim }) (at p h) (at q k)
   where
     at : (x : Polyhedron) → IsPolyOfShape s x → (v : List ℤ) → IsPoint s.dim v → IsIn s v ↔ In x.cons v
     at x is v pt = (λ i. ((is.points v).1 i).holds, λ i. (is.points v).0 (record { point = subst (λ (n : ℕ). IsPoint n v) (sym is.dim) pt; holds = i }))

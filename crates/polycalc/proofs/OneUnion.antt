@@ -60,7 +60,7 @@ members_agree dim ms ns dims h = record { as_many = h.as_many; each = λ i d e b
     agree : (p q : Polyhedron) → AreSamePolyhedra p q → p.cons.dim ≡ dim → AgreeIn dim p q
     agree p q same e = record { first = e; second = sym same.dim ∙ e; points = λ v is. same_at p q dim v same e is }
 
-dims_of : (u : Union) → IsKeptUnion u → AreOfDimension u.dim u.members
+pub dims_of : (u : Union) → IsKeptUnion u → AreOfDimension u.dim u.members
 dims_of u kept = All-weaker (IsMember u.topology u.dim) (λ (p : Polyhedron). p.cons.dim ≡ u.dim) (λ p m. m.over.same_dim) u.members kept.each
 
 -- ---- joins

@@ -1,65 +1,71 @@
--- The constraints of a shape fit its dimension and the range.
-use Rattle.std.specs.Prelude.{◌≡◌, ◌≢◌, ◌⊎◌, ℕ, zero, suc, ◌+◌, ◌<◌, ◌^◌, List, [], ◌∷◌, length, ℤ, pos, negsuc, unsigned_abs, Bool, cond, nat_eq, Option, Some, None, IfSome, All}
+-- The constraints of a shape can be stored, and so are printed and read back.
+use Rattle.std.proofs.Common.{◌≡◌, ◌≢◌, ◌⊎◌, inl, inr, ℕ, zero, suc, ◌+◌, ◌<◌, List, [], ◌∷◌, length, refl, sym, subst, arith}
+use Rattle.std.specs.Prelude.{ℤ, pos, negsuc, Bool, true, false, cond, nat_eq, Option, None, Some, IfSome, All, unsigned_abs}
 use Prim.Native.Nat.{◌∣◌}
 use Rattle.std.proofs.Math.Nat.{eq-one_of_dvd-one}
-use Rattle.std.proofs.Common.{arith, sym, subst, refl, inl, inr}
 use Rattle.std.proofs.lemmas.Bool.{cases_order}
 use Rattle.std.proofs.lemmas.Bool.Decides.{nat_tests}
 use Rattle.std.proofs.lemmas.List.Elements.{All-nil, All-cons, All-append}
 use Rattle.row_core.specs.Content.{IsPrimitive}
 use Rattle.cons_sys.specs.Constraints.{Constraint, IsConstraint, FitDimension}
 use Rattle.cons_sys.specs.declared.kind.ConKind.TheVariants.{Ge}
+use Rattle.difference_bounds.specs.declared.fraction.Fraction.{Fraction}
 use Rattle.difference_bounds.specs.Fractions.{IsFraction}
 use Rattle.difference_bounds.specs.Walks.{Bound, Bounds}
 use Rattle.difference_bounds.specs.Tables.{Table, bounds_of}
 use Rattle.difference_bounds.proofs.PassLemmas.{bound_fraction}
-use Rattle.bd_shape.specs.Shapes.{Region, IsShape}
+use Rattle.bd_shape.specs.Shapes.{Region, IsTightTable, IsShape}
 use Rattle.bd_shape.specs.Rows.{constant_row, bound_row, rows_of, rows_at, rows_to, all_to, table_rows, shape_constraints}
-use Rattle.bd_shape.proofs.RowLists.{length_constant, length_bound, constant_last, bound_primitive, constant_in_range, bound_in_range, one_in_range}
-use Rattle.bd_shape.proofs.ShapePoints.{table_of}
+use Rattle.bd_shape.proofs.RowLists.{length_constant, constant_last, constant_in_range, one_in_range, length_bound, bound_in_range, bound_primitive}
 
--- each constraint fits the dimension
-abbrev AllFit : ℕ → List Constraint → Type 0
-AllFit dim xs = All (IsConstraint dim) xs
+-- ---- the constraint that never holds
+constant_primitive : (dim : ℕ) → IsPrimitive (constant_row dim (negsuc 0))
+constant_primitive dim =
+    let wide = length_constant dim (negsuc 0) in
+    inr (λ d all. eq-one_of_dvd-one (subst (λ (z : ℤ). d ∣ unsigned_abs z) (constant_last dim (negsuc 0)) (all dim (pos 0) (omega (arith, wide)))))
 
-cond_same : (i j : ℕ) (x y : List Constraint) → i ≡ j → cond (nat_eq i j) x y ≡ x
-cond_same i j x y e = grind (arith, nat_tests)
+constant_fits : (dim : ℕ) → IsConstraint dim (constant_row dim (negsuc 0), Ge)
+constant_fits dim = record { wide = length_constant dim (negsuc 0); in_range = constant_in_range dim (negsuc 0) one_in_range; primitive = constant_primitive dim }
 
-cond_other : (i j : ℕ) (x y : List Constraint) → i ≢ j → cond (nat_eq i j) x y ≡ y
-cond_other i j x y n = grind (arith, nat_tests)
+-- ---- those of bounds
+abbrev Fit : ℕ → List Constraint → Type 0
+Fit dim rows = All (IsConstraint dim) rows
+
+bound_fits : (dim i j : ℕ) → i < dim + 1 → j < dim + 1 → i ≢ j → (o : Bound) → IfSome o IsFraction → Fit dim (rows_of dim i j o)
+bound_fits dim i j l m n None h = All-nil (IsConstraint dim)
+bound_fits dim i j l m n (Some f) h =
+    All-cons (IsConstraint dim) (bound_row dim i j f, Ge) [] (record { wide = length_bound dim i j f; in_range = bound_in_range dim i j f h; primitive = bound_primitive dim i j f h l m n }) (All-nil (IsConstraint dim))
 
 module _ (dim : ℕ) (b : Bounds) (fractions : (i j : ℕ) → IfSome (b i j) IsFraction) where
-  fit_of : (i j : ℕ) → i < dim + 1 → j < dim + 1 → i ≢ j → (o : Bound) → IfSome o IsFraction → AllFit dim (rows_of dim i j o)
-  fit_of i j li lj n None h = All-nil (IsConstraint dim)
-  fit_of i j li lj n (Some f) h =
-      All-cons (IsConstraint dim) (bound_row dim i j f, Ge) [] (record { wide = length_bound dim i j f; in_range = bound_in_range dim i j f h; primitive = bound_primitive dim i j f h li lj n }) (All-nil (IsConstraint dim))
-
-  fit_at : (i j : ℕ) → i < dim + 1 → j < dim + 1 → AllFit dim (rows_at dim b i j)
-  fit_at i j li lj = by (cases_order i j)
+  at_fits : (i j : ℕ) → i < dim + 1 → j < dim + 1 → Fit dim (rows_at dim b i j)
+  at_fits i j l m = by_order (cases_order i j)
     where
-      other : i ≢ j → AllFit dim (rows_at dim b i j)
-      other n = subst (AllFit dim) (sym (cond_other i j [] (rows_of dim i j (b i j)) n)) (fit_of i j li lj n (b i j) (fractions i j))
+      same : (xs ys : List Constraint) → i ≡ j → cond (nat_eq i j) xs ys ≡ xs
+      same xs ys e = grind (arith, nat_tests)
 
-      by : (i ≡ j) ⊎ ((i < j) ⊎ (j < i)) → AllFit dim (rows_at dim b i j)
-      by (inl e) = subst (AllFit dim) (sym (cond_same i j [] (rows_of dim i j (b i j)) e)) (All-nil (IsConstraint dim))
-      by (inr (inl l)) = other (λ e. omega arith)
-      by (inr (inr l)) = other (λ e. omega arith)
+      other : (xs ys : List Constraint) → i ≢ j → cond (nat_eq i j) xs ys ≡ ys
+      other xs ys n = grind (arith, nat_tests)
 
-  fit_to : (i n : ℕ) → i < dim + 1 → n < dim + 2 → AllFit dim (rows_to dim b i n)
-  fit_to i zero li ln = All-nil (IsConstraint dim)
-  fit_to i (suc n) li ln = All-append (IsConstraint dim) (rows_to dim b i n) (rows_at dim b i n) (fit_to i n li (omega arith)) (fit_at i n li (omega arith))
+      apart : i ≢ j → Fit dim (rows_at dim b i j)
+      apart n = subst (Fit dim) (sym (other [] (rows_of dim i j (b i j)) n)) (bound_fits dim i j l m n (b i j) (fractions i j))
 
-  fit_all : (n : ℕ) → n < dim + 2 → AllFit dim (all_to dim b (dim + 1) n)
-  fit_all zero ln = All-nil (IsConstraint dim)
-  fit_all (suc n) ln = All-append (IsConstraint dim) (all_to dim b (dim + 1) n) (rows_to dim b n (dim + 1)) (fit_all n (omega arith)) (fit_to n (dim + 1) (omega arith) (omega arith))
+      by_order : (i ≡ j) ⊎ ((i < j) ⊎ (j < i)) → Fit dim (rows_at dim b i j)
+      by_order (inl e) = subst (Fit dim) (sym (same [] (rows_of dim i j (b i j)) e)) (All-nil (IsConstraint dim))
+      by_order (inr (inl k)) = apart (λ e. omega (arith, k, e))
+      by_order (inr (inr k)) = apart (λ e. omega (arith, k, e))
 
--- the row that never holds
-constant_primitive : (dim : ℕ) → IsPrimitive (constant_row dim (negsuc 0))
-constant_primitive dim = inr (λ d all. eq-one_of_dvd-one (subst (λ (z : ℤ). d ∣ unsigned_abs z) (constant_last dim (negsuc 0)) (all dim (pos 0) (let z = length_constant dim (negsuc 0) in omega (arith, z)))))
+  to_fits : (i n : ℕ) → i < dim + 1 → n < dim + 2 → Fit dim (rows_to dim b i n)
+  to_fits i zero l m = All-nil (IsConstraint dim)
+  to_fits i (suc n) l m = All-append (IsConstraint dim) (rows_to dim b i n) (rows_at dim b i n) (to_fits i n l (omega (arith, m))) (at_fits i n l (omega (arith, m)))
 
+  all_fit : (n : ℕ) → n < dim + 2 → Fit dim (all_to dim b (dim + 1) n)
+  all_fit zero m = All-nil (IsConstraint dim)
+  all_fit (suc n) m = All-append (IsConstraint dim) (all_to dim b (dim + 1) n) (rows_to dim b n (dim + 1)) (all_fit n (omega (arith, m))) (to_fits n (dim + 1) (omega (arith, m)) (omega arith))
+
+table_fits : (dim : ℕ) (o : Option Table) → IfSome o (IsTightTable dim) → Fit dim (table_rows dim o)
+table_fits dim None h = All-cons (IsConstraint dim) (constant_row dim (negsuc 0), Ge) [] (constant_fits dim) (All-nil (IsConstraint dim))
+table_fits dim (Some t) h = all_fit dim (bounds_of t) (λ i j. bound_fraction t i j h.table.fractions) (dim + 1) (omega arith)
+
+-- each row of a shape fits the dimension and the range
 pub shape_fits : (s : Region) → IsShape s → FitDimension (shape_constraints s)
-shape_fits s h = record { each = by s.bounds refl; narrow = omega (arith, h.narrow) }
-  where
-    by : (o : Option Table) → s.bounds ≡ o → AllFit s.dim (table_rows s.dim o)
-    by None e = All-cons (IsConstraint s.dim) (constant_row s.dim (negsuc 0), Ge) [] (record { wide = length_constant s.dim (negsuc 0); in_range = constant_in_range s.dim (negsuc 0) one_in_range; primitive = constant_primitive s.dim }) (All-nil (IsConstraint s.dim))
-    by (Some t) e = fit_all s.dim (bounds_of t) (bound_fraction t (table_of s t h e).table.fractions) (s.dim + 1) (omega arith)
+shape_fits s a = record { each = table_fits s.dim s.bounds a.tight; narrow = omega (arith, a.narrow) }

@@ -17,8 +17,6 @@ use Rattle.powerset.specs.Powersets.{Union}
 use Rattle.ranking.specs.Laws.{PrintedFunctionRanks}
 use Rattle.bd_shape.specs.Shapes.{Region, Includes, IsShape}
 use Rattle.bd_shape.specs.Rows.{shape_constraints}
-use Rattle.bd_shape.specs.Laws.{BoundsAreGreatest}
-use Rattle.bd_shape.proofs.RowLists.{list_points}
 use Rattle.script_text.specs.declared.command.Part.{Part}
 use Rattle.script_text.specs.declared.command.Comparison.{Comparison}
 use Rattle.script_text.specs.declared.command.Comparison.TheVariants as comparison
@@ -61,27 +59,20 @@ use Rattle.polycalc.specs.Sets.{IsMadeAs, AreAlike, AreAlikeUnions, HaveOneDim, 
 use Rattle.polycalc.specs.Laws.{AnswersAreTrue}
 use Rattle.polycalc.specs.Truth.{SaysWhether, IsTrueOf, IsTrueOfTwo, SaysTruth, LieSo, SaysHowItLies, IsShownBy, SaysExtremum, SaysSide, SaysCover, SaysRanking, SaysBounds, IsTruthful, AreTruthful}
 use Rattle.polycalc.proofs.Kinds.{poly_there, powerset_there, shape_there}
-use Rattle.polycalc.proofs.ShapeRows.{shape_fits}
+use Rattle.polycalc.proofs.KindTruth.{said_lines, cover_says, ranking_says, bounds_say}
 use Rattle.polycalc.proofs.OneForm.{same_dims}
 use Rattle.polycalc.proofs.Operands.{are_alike, are_alike_unions, have_one_dim, is_closed_relation, one_topology}
 use Rattle.polycalc.proofs.OneSet.{entry_kept, set_proper}
 use Rattle.polycalc.proofs.AcceptedRuns.{Steps, Told, run_told}
 use Rattle.polycalc.proofs.SetLaws.{Stands, Agrees, kind_at, nothing_agrees, agrees_command, agrees_file}
 
--- the laws that are cited: what is printed is read back, both stored systems hold the same points, the generator of a bound shows it, a printed function ranks its relation, and the bounds of a shape are the greatest differences
+-- the laws that are cited: what is printed is read back, both stored systems hold the same points, the generator of a bound shows it, and a printed function ranks its relation
 pub record ReadBack : Type 0 where
   pub cons : ConstraintsAreReadBack
   pub gens : GeneratorsAreReadBack
   pub pair : KeptIsPair
   pub witness : GeneratorIsWitness
   pub ranking : PrintedFunctionRanks
-  pub bounds : BoundsAreGreatest
-
-said_lines : (lines : List ℕ) (change : Change) → IsSaid lines change → lines_of change ≡ lines
-said_lines lines (Says text) h = h
-said_lines lines (Puts name e) h = absurd h
-said_lines lines (PutsAll prefix sets) h = absurd h
-said_lines lines (TakesOut name) h = absurd h
 
 -- ---- what is said of an entry
 side_says : ReadBack → (side : Bool) (text : List ℕ) (q : Polyhedron) → IsProper q → text ≡ line (side_text side q) → SaysSide side text q
@@ -100,16 +91,6 @@ shown_by : GeneratorIsWitness → (up : Bool) (row : List ℤ) (q : Polyhedron) 
 shown_by law up row q sup.Empty proper answer = tt
 shown_by law up row q sup.Unbounded proper answer = tt
 shown_by law up row q (sup.At num den attained index) proper answer = law up row q num den attained index proper.kept proper.gens answer
-
-bounds_said : ReadBack → (text : List ℕ) (s : Region) → IsShape s → text ≡ line (constraints_text (shape_constraints s)) → SaysBounds text s
-bounds_said laws text s kept e = record {
-  text = constraints_text (shape_constraints s);
-  said = e;
-  printed = refl;
-  read = (laws.cons (shape_constraints s) (shape_constraints s) (shape_fits s kept)).1 refl;
-  points = list_points s kept;
-  greatest = λ t f i j a b. laws.bounds s t kept f i j a b;
-}
 
 abbrev names_line : ℕ → List (List ℕ) → List ℕ
 names_line n names = line (codes "names " ++ decimal n ++ spaced names)
@@ -227,22 +208,14 @@ module _ (laws : ReadBack) (old new : Table) (earlier : List Act) (text : List �
   accepted_true (Psize name) p = one_true entry.Powerset name psize (λ u. text ≡ line (members_text u)) (powerset_of old name) (powerset_under name) (λ x change s passes h e. e ∙ said_lines (line (members_text x)) change h) p
   accepted_true (Covers one other) p =
       two_true entry.Powerset AreAlikeUnions one other covers (SaysCover text) (powerset_of old one) (powerset_of old other) (powerset_under one) (powerset_under other) (λ x y passes. are_alike_unions x y no_fault passes)
-      (λ x y change h e. record { answer = h.answer; said = e ∙ said_lines (cover_line x.dim h.answer) change h.said; true_of = h.true_of }) p
+      (λ x y change h e. cover_says x y change text h e) p
   accepted_true (Ranking name) p =
       one_true entry.Poly name ranking (SaysRanking text) (poly_of old name) (poly_under name)
-      (λ x change s passes h e. record {
-        closed = is_closed_relation x no_fault passes;
-        text = h.text;
-        said = e ∙ said_lines (line h.text) change h.said;
-        true_of = laws.ranking (x.cons.dim / 2) x h.functions h.text h.is h.told;
-        functions = h.functions;
-        made = record { kept = h.proper; is = h.is };
-        first = h.told;
-      }) p
+      (λ x change s passes h e. ranking_says laws.ranking x change text (is_closed_relation x no_fault passes) h e) p
   accepted_true (ShapeContains one other) p =
       two_true entry.Shape HaveOneDim one other shape_contains (λ x y. SaysTruth text (Includes x y)) (shape_of old one) (shape_of old other) (shape_under one) (shape_under other) (λ x y passes. have_one_dim x y no_fault passes) (λ x y change h e. told_true (Includes x y) change text h e) p
   accepted_true (ShapePrint name) p =
-      one_true entry.Shape name shape_print (SaysBounds text) (shape_of old name) (shape_under name) (λ x change s passes h e. bounds_said laws text x (entry_kept earlier name (entry.Shape x) s) (e ∙ said_lines (line (constraints_text (shape_constraints x))) change h)) p
+      one_true entry.Shape name shape_print (SaysBounds text) (shape_of old name) (shape_under name) (λ x change s passes h e. bounds_say laws.cons x change text (entry_kept earlier name (entry.Shape x) s) h e) p
   accepted_true (Cons out top n part) p = p.lines_are ∙ put_ok as_poly out (λ r. SaysConstraints n part (λ cs. IsResultOfConstraints (topology_of top) cs r)) p.change p.does
   accepted_true (Gens out top n part) p = p.lines_are ∙ put_ok as_poly out (λ r. SaysGenerators n part (λ gs. IsResultOfGenerators (topology_of top) gs r)) p.change p.does
   accepted_true (Space space out top n) p = p.lines_are ∙ put_ok as_poly out (IsSpace space (topology_of top) n) p.change p.does
