@@ -14,7 +14,7 @@ pub mod OneUnion
 pub mod OneShape
 pub mod OneHybrid
 pub mod OneSet
-pub mod Kinds
+pub mod EntryKinds
 pub mod Operands
 pub mod ShapeRows
 pub mod AcceptedRuns

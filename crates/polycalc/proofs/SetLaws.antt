@@ -58,7 +58,7 @@ use Rattle.polycalc.proofs.AcceptedRuns.{Steps, run_told}
 use Rattle.polycalc.proofs.TableLaws.{entry_of-put, entry_of-without, distinct_keys, names-put, names-put_there, names-without}
 use Rattle.polycalc.proofs.NumberedLaws.{AtNumber, entry_of-put_each, names-put_each, has_locations}
 use Rattle.polycalc.proofs.OneSystem.{run_count, reach_count}
-use Rattle.polycalc.proofs.Kinds.{IsKind, poly_there, system_there, powerset_there, shape_there, hybrid_there, IsPutMade, put_made}
+use Rattle.polycalc.proofs.EntryKinds.{IsKind, poly_there, system_there, powerset_there, shape_there, hybrid_there, IsPutMade, put_made}
 use Rattle.polycalc.proofs.Operands.{one_topology, put_more, fit_operator, are_alike_unions, have_one_dim, is_closed, is_closed_relation, is_even, is_counted, put_nested}
 use Rattle.polycalc.proofs.OneForm.{OneForm}
 use Rattle.polycalc.proofs.OneSet.{entry_kept, set_proper, one_entry}

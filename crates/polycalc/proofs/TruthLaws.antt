@@ -58,7 +58,7 @@ use Rattle.polycalc.specs.Acts.{Act, Accepted, acts}
 use Rattle.polycalc.specs.Sets.{IsMadeAs, AreAlike, AreAlikeUnions, HaveOneDim, IsEntryOf, names_of}
 use Rattle.polycalc.specs.Laws.{AnswersAreTrue}
 use Rattle.polycalc.specs.Truth.{SaysWhether, IsTrueOf, IsTrueOfTwo, SaysTruth, LieSo, SaysHowItLies, IsShownBy, SaysExtremum, SaysSide, SaysCover, SaysRanking, SaysBounds, IsTruthful, AreTruthful}
-use Rattle.polycalc.proofs.Kinds.{poly_there, powerset_there, shape_there}
+use Rattle.polycalc.proofs.EntryKinds.{poly_there, powerset_there, shape_there}
 use Rattle.polycalc.proofs.KindTruth.{said_lines, cover_says, ranking_says, bounds_say}
 use Rattle.polycalc.proofs.OneForm.{same_dims}
 use Rattle.polycalc.proofs.Operands.{are_alike, are_alike_unions, have_one_dim, is_closed_relation, one_topology}
