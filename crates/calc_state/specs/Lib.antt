@@ -3,6 +3,7 @@ pub mod Changes
 pub mod Entries
 pub mod Families
 pub mod Files
+pub mod Hybrids
 pub mod Lattice
 pub mod Laws
 pub mod Line
@@ -13,11 +14,14 @@ pub mod Operators
 pub mod Optima
 pub mod Order
 pub mod Performed
+pub mod Powersets
 pub mod Prints
 pub mod Questions
+pub mod Rankings
 pub mod Reading
 pub mod Refusals
 pub mod Results
+pub mod Shapes
 pub mod State
 pub mod Step
 pub mod Systems
