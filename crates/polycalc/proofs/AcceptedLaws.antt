@@ -14,7 +14,6 @@ use Rattle.term_text.specs.Texts.{IsPoint, IsPointOf}
 use Rattle.term_text.specs.Systems.{IsCon}
 use Rattle.expr_text.specs.OneAnswer.{ExprHasOneAnswer, ConHasOneAnswer, PointHasOneAnswer}
 use Rattle.poly_pair.specs.Polyhedra.{Polyhedron, HasNoPoint}
-use Rattle.lattice_ops.specs.Sets.{IsIncluded, HaveSamePoints, AreDisjoint}
 use Rattle.poly_pair.specs.declared.topology.Topology.{Topology}
 use Rattle.poly_pair.specs.declared.topology.Topology.TheVariants.{Closed, Nnc}
 use Rattle.optimum.specs.Relations.{IsRelation, HoldsThroughout, HoldsNowhere, HoldsSomewhere, FailsSomewhere}
@@ -23,13 +22,12 @@ use Rattle.optimum.specs.Laws.{HasOneSup}
 use Rattle.optimum.specs.declared.outcome.Relation.{Relation as Flags}
 use Rattle.optimum.specs.declared.outcome.Sup.{Sup}
 use Rattle.script_text.specs.declared.command.Part.{Part}
-use Rattle.powerset.specs.Powersets.{Union}
 use Rattle.bd_shape.specs.Shapes.{Region, Includes}
 use Rattle.bd_shape.specs.Rows.{shape_constraints}
 use Rattle.script_text.specs.declared.command.Comparison.{Comparison}
 use Rattle.script_text.specs.declared.command.Comparison.TheVariants as comparison
 use Rattle.script_text.specs.declared.command.Command.{Command}
-use Rattle.script_text.specs.declared.command.Command.TheVariants.{Nothing, Cons, Gens, Space, Copy, Drop, Add, Addgen, Has, Size, Print, Names, OfTwo, Closure, Compare, Isempty, Relation, Bound, Map, Extend, Remove, Widen, Read, Write, System, Init, Trans, Fixpoint, Pset, OfTwoPowersets, Member, Psize, Covers, Rank, Ranking, ShapeOf, Bounds, OfTwoShapes, ShapeContains, ShapePrint, ShapePoly, Hybrid, SetPart, Reach}
+use Rattle.script_text.specs.declared.command.Command.TheVariants.{Nothing, Has, Size, Print, Names, Compare, Isempty, Relation, Bound, Read, Write, Psize, Covers, Ranking, ShapeContains, ShapePrint}
 use Rattle.script_text.specs.Line.{SpellsOne}
 use Rattle.calc_state.specs.Table.{HasDistinctNames}
 use Rattle.calc_state.specs.Meaning.{answer_line}

@@ -1,11 +1,6 @@
 -- Entries of a kind, and what puts one.
-use Rattle.std.proofs.Common.{◌≡◌, ℕ, List, refl, ap, sym, ◌∙◌, subst}
+use Rattle.std.proofs.Common.{◌≡◌, ℕ, List, refl, ap, ◌∙◌, subst}
 use Rattle.std.specs.Prelude.{Option, None, Some, MatchOption}
-use Rattle.poly_pair.specs.Polyhedra.{Polyhedron}
-use Rattle.trans_sys.specs.Systems.{TransitionSystem}
-use Rattle.powerset.specs.Powersets.{Union}
-use Rattle.bd_shape.specs.Shapes.{Region}
-use Rattle.hybrid.specs.Systems.{HybridSystem}
 use Rattle.calc_state.specs.declared.entry.Entry.{Entry}
 use Rattle.calc_state.specs.declared.entry.Entry.TheVariants as entry
 use Rattle.calc_state.specs.declared.change.Change.{Change}

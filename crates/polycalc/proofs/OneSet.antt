@@ -35,7 +35,7 @@ use Rattle.calc_state.specs.Makers.{SaysConstraints, SaysGenerators, more_genera
 use Rattle.calc_state.specs.Results.{IsResultOfConstraints, IsResultOfGenerators, IsResultOfClosure}
 use Rattle.calc_state.specs.Operators.{Fits, IsMadeBy, IsExtended}
 use Rattle.calc_state.specs.Affine.{IsRemoved, IsMappedBy}
-use Rattle.calc_state.specs.Systems.{IsEmptySystem, AreReached}
+use Rattle.calc_state.specs.Systems.{AreReached}
 use Rattle.calc_state.specs.Powersets.{IsPowersetOf}
 use Rattle.calc_state.specs.Shapes.{IsShapeOfSet, IsShapeOfConstraints, IsShapeBy, IsPolyOfShape}
 use Rattle.calc_state.specs.Hybrids.{IsStill, with_part, AreReachedParts}

@@ -1,12 +1,12 @@
 -- Operands that are the same give the same shapes; a shape gives one polyhedron, and a relation one set of ranking functions.
-use Rattle.std.proofs.Common.{◌≡◌, ℕ, ◌+◌, List, refl, sym, ◌∙◌, subst}
+use Rattle.std.proofs.Common.{◌≡◌, ℕ, ◌+◌, List, sym, ◌∙◌, subst}
 use Rattle.std.specs.Prelude.{◌↔◌, ℤ, Option, None, Some, IfSome}
 use Rattle.row_core.specs.Points.{IsPoint}
 use Rattle.cons_sys.specs.Constraints.{Constraints, In}
 use Rattle.poly_pair.specs.Polyhedra.{Polyhedron}
 use Rattle.poly_pair.specs.declared.topology.Topology.TheVariants.{Closed}
 use Rattle.difference_bounds.specs.Tables.{Table, IsTable}
-use Rattle.bd_shape.specs.Shapes.{Region, IsIn, IsTightTable, IsShape, Includes, IsMeet, IsHull}
+use Rattle.bd_shape.specs.Shapes.{Region, IsIn, IsTightTable, IsShape, Includes}
 use Rattle.bd_shape.specs.Suprema.{IsSmallest}
 use Rattle.bd_shape.proofs.Canonical.{one_shape}
 use Rattle.ranking.specs.Functions.{IsRanking}

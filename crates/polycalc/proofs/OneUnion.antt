@@ -1,16 +1,15 @@
 -- Operands that are the same give the same powersets, and the same polyhedra of them.
-use Rattle.std.proofs.Common.{◌≡◌, ◌⊎◌, inl, inr, ℕ, ◌<◌, List, [], ◌∷◌, ◌++◌, length, map, get_or, refl, sym, ◌∙◌, subst, arith}
-use Rattle.std.specs.Prelude.{ℤ, All, Some, slice_get}
+use Rattle.std.proofs.Common.{◌≡◌, inl, inr, ℕ, ◌<◌, List, [], ◌∷◌, ◌++◌, length, map, get_or, sym, ◌∙◌, subst, arith}
+use Rattle.std.specs.Prelude.{Some, slice_get}
 use Rattle.std.proofs.lemmas.List.Elements.{All-weaker}
 use Rattle.row_core.specs.Points.{IsPoint}
 use Rattle.row_core.specs.Lists.{Pointwise}
 use Rattle.row_core.proofs.PointwiseLemmas.{pointwise_nil, pointwise_tail, pointwise_cons, pointwise_one, pointwise_append}
-use Rattle.cons_sys.specs.Constraints.{In}
 use Rattle.pair_laws.specs.PointSets.{HoldSame}
-use Rattle.poly_pair.specs.Polyhedra.{Polyhedron, IsKept, HasNoPoint}
+use Rattle.poly_pair.specs.Polyhedra.{Polyhedron, IsKept}
 use Rattle.powerset.specs.Powersets.{Union, IsMember, IsKeptUnion, IsSingle, IsUnionOf}
 use Rattle.powerset.specs.UnionLaws.{AreOfDimension}
-use Rattle.powerset.specs.Joins.{IsJoin, pairs_of, IsMeetOf, AreMeets, IsPairMeet}
+use Rattle.powerset.specs.Joins.{IsJoin, pairs_of, IsMeetOf, IsPairMeet}
 use Rattle.powerset.proofs.JoinLemmas.{joined_all, meets_members}
 use Rattle.powerset.proofs.SameReductions.{AgreeIn, pointwise_at, reduced_same}
 use Rattle.script_text.specs.declared.command.PowersetOperator.{PowersetOperator}

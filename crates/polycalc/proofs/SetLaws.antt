@@ -1,6 +1,6 @@
 -- After a run the table has the entries and the names that the accepted commands give.
 use Rattle.std.proofs.Common.{◌≡◌, ℕ, ◌-◌, ◌/◌, List, [], ◌∷◌, refl, ap, sym, ◌∙◌, subst, arith, Bool, true, false, cond}
-use Rattle.std.specs.Prelude.{length, Option, None, Some, MatchBool, MatchOption, All, slice_get}
+use Rattle.std.specs.Prelude.{length, Option, None, Some, MatchBool, All, slice_get}
 use Rattle.std.specs.Str.{bytes_eq}
 use Rattle.std.specs.Map.{keys_of}
 use Rattle.std.proofs.lemmas.List.Elements.{All-append}
@@ -8,11 +8,9 @@ use Rattle.cons_sys.specs.Constraints.{Constraints, Satisfies}
 use Rattle.pair_laws.proofs.ListLemmas.{All-left, All-right}
 use Rattle.poly_pair.specs.declared.topology.Topology.TheVariants.{Closed}
 use Rattle.poly_pair.specs.Polyhedra.{Polyhedron, IsOfConstraints}
-use Rattle.trans_sys.specs.Systems.{TransitionSystem, with_initial, with_transition}
-use Rattle.powerset.specs.Powersets.{Union, IsUnionOf}
+use Rattle.trans_sys.specs.Systems.{with_initial, with_transition}
+use Rattle.powerset.specs.Powersets.{IsUnionOf}
 use Rattle.ranking.specs.Rankings.{IsRankingSet}
-use Rattle.bd_shape.specs.Shapes.{Region}
-use Rattle.hybrid.specs.Systems.{HybridSystem}
 use Rattle.script_text.specs.declared.command.Part.{Part}
 use Rattle.script_text.specs.declared.command.Comparison.{Comparison}
 use Rattle.script_text.specs.declared.command.Comparison.TheVariants as comparison
@@ -22,10 +20,9 @@ use Rattle.calc_state.specs.declared.entry.Entry.{Entry}
 use Rattle.calc_state.specs.declared.entry.Entry.TheVariants as entry
 use Rattle.calc_state.specs.declared.change.Change.{Change}
 use Rattle.calc_state.specs.declared.change.Change.TheVariants.{Says, Puts, PutsAll, TakesOut}
-use Rattle.calc_state.specs.Entries.{IsProper, IsKeptEntry}
+use Rattle.calc_state.specs.Entries.{IsProper}
 use Rattle.calc_state.specs.Table.{Table, entry_of, as_poly, poly_of, as_system, system_of, as_powerset, powerset_of, as_shape, shape_of, as_hybrid, hybrid_of, put, put_each, numbered, numbered_sets, HasDistinctNames}
 use Rattle.calc_state.specs.Order.{Passes}
-use Rattle.calc_state.specs.Changes.{as_entry}
 use Rattle.calc_state.specs.Meaning.{Meaning, IsSaid, IsPut, IsPutAs, AreAllPut, IsTakenOut, on_one, on_two, room, answer_line}
 use Rattle.calc_state.specs.Meanings.{meaning, topology_of}
 use Rattle.calc_state.specs.Makers.{SaysConstraints, SaysGenerators, more_constraints, IsSpace, copy, drop_of, add, addgen}
@@ -39,7 +36,7 @@ use Rattle.calc_state.specs.Widening.{widen}
 use Rattle.calc_state.specs.Systems.{IsEmptySystem, AreReached, init, trans, fixpoint}
 use Rattle.calc_state.specs.Powersets.{pset, of_two_powersets, IsPowersetOf, member, psize, members_text, covers, cover_line}
 use Rattle.calc_state.specs.Rankings.{rank, ranking}
-use Rattle.calc_state.specs.Shapes.{shape, IsShapeOfSet, bounds, IsShapeOfConstraints, of_two_shapes, IsShapeBy, shape_contains, shape_print, shape_poly, IsPolyOfShape}
+use Rattle.calc_state.specs.Shapes.{shape, IsShapeOfSet, IsShapeOfConstraints, of_two_shapes, IsShapeBy, shape_contains, shape_print, shape_poly, IsPolyOfShape}
 use Rattle.calc_state.specs.Hybrids.{hybrid, IsStill, set_part, with_part, reach, AreReachedParts}
 use Rattle.bd_shape.specs.Rows.{shape_constraints}
 use Rattle.expr_text.specs.Printed.{constraints_text}
@@ -58,7 +55,7 @@ use Rattle.polycalc.proofs.AcceptedRuns.{Steps, run_told}
 use Rattle.polycalc.proofs.TableLaws.{entry_of-put, entry_of-without, distinct_keys, names-put, names-put_there, names-without}
 use Rattle.polycalc.proofs.NumberedLaws.{AtNumber, entry_of-put_each, names-put_each, has_locations}
 use Rattle.polycalc.proofs.OneSystem.{run_count, reach_count}
-use Rattle.polycalc.proofs.EntryKinds.{IsKind, poly_there, system_there, powerset_there, shape_there, hybrid_there, IsPutMade, put_made}
+use Rattle.polycalc.proofs.EntryKinds.{IsKind, poly_there, system_there, powerset_there, shape_there, hybrid_there, put_made}
 use Rattle.polycalc.proofs.Operands.{one_topology, put_more, fit_operator, are_alike_unions, have_one_dim, is_closed, is_closed_relation, is_even, is_counted, put_nested}
 use Rattle.polycalc.proofs.OneForm.{OneForm}
 use Rattle.polycalc.proofs.OneSet.{entry_kept, set_proper, one_entry}
@@ -109,7 +106,7 @@ taken_stands false o M E never h = h
 said_table : (old : Table) (lines : List ℕ) (change : Change) → IsSaid lines change → after old change ≡ old
 said_table old lines (Says text) h = refl
 said_table old lines (Puts name e) h = absurd h
-said_table old lines (PutsAll prefix sets) h = absurd h
+said_table old lines (PutsAll prefix xs) h = absurd h
 said_table old lines (TakesOut name) h = absurd h
 
 -- the change only says something
@@ -138,7 +135,7 @@ taken_change : (name : List ℕ) (change : Change) → IsTakenOut name change �
 taken_change name (TakesOut taken) h = ap TakesOut h
 taken_change name (Says text) h = absurd h
 taken_change name (Puts n e) h = absurd h
-taken_change name (PutsAll prefix sets) h = absurd h
+taken_change name (PutsAll prefix xs) h = absurd h
 
 -- what is taken out is given by nothing
 none_given : (out : List ℕ) (Had : List ℕ → Entry → Type 0) (name : List ℕ) (e : Entry) → GivesEntry (Drop out) Had name e → ⊥
@@ -156,14 +153,14 @@ record IsPutEach (prefix : List ℕ) (Are : List Polyhedron → Type 0) (old : T
   table : after old change ≡ put_each old (numbered_sets prefix 0 sets)
 
 put_all : (prefix : List ℕ) (Are : List Polyhedron → Type 0) (old : Table) (change : Change) → AreAllPut prefix Are change → PutsProper change → IsPutEach prefix Are old change
-put_all prefix Are old (PutsAll out sets) h proper = record { sets = sets.items; are = h.1; proper = proper; table = ap (λ (x : List ℕ). put_each old (numbered_sets x 0 sets.items)) h.0 }
+put_all prefix Are old (PutsAll out xs) h proper = record { sets = xs.items; are = h.1; proper = proper; table = ap (λ (x : List ℕ). put_each old (numbered_sets x 0 xs.items)) h.0 }
 put_all prefix Are old (Says text) h proper = absurd h
 put_all prefix Are old (Puts name e) h proper = absurd h
 put_all prefix Are old (TakesOut name) h proper = absurd h
 
-numbered_stands : (b : Bool) (prefix name : List ℕ) (sets : List Polyhedron) (o u : Option Entry) (M E : Entry → Type 0) → ((k : AtNumber prefix 0 sets name o) → M (entry.Poly k.set)) → MatchBool b (AtNumber prefix 0 sets name o) (o ≡ u) → StandsAlone u E → StandsAlone o (λ x. MatchBool b (M x) (E x))
-numbered_stands true prefix name sets o u M E gives k h = subst (λ (x : Option Entry). StandsAlone x M) (sym k.stands) (gives k)
-numbered_stands false prefix name sets o u M E gives e h = subst (λ (x : Option Entry). StandsAlone x E) (sym e) h
+numbered_stands : (b : Bool) (prefix name : List ℕ) (xs : List Polyhedron) (o u : Option Entry) (M E : Entry → Type 0) → ((k : AtNumber prefix 0 xs name o) → M (entry.Poly k.set)) → MatchBool b (AtNumber prefix 0 xs name o) (o ≡ u) → StandsAlone u E → StandsAlone o (λ x. MatchBool b (M x) (E x))
+numbered_stands true prefix name xs o u M E gives k h = subst (λ (x : Option Entry). StandsAlone x M) (sym k.stands) (gives k)
+numbered_stands false prefix name xs o u M E gives e h = subst (λ (x : Option Entry). StandsAlone x E) (sym e) h
 
 -- the points of what there was at which the constraints hold as well
 cut_of : (q : Polyhedron) (cs : Constraints) (r : Polyhedron) → IsOfConstraints q.topology (more_constraints q.cons cs) r → IsCut q cs r

@@ -1,6 +1,6 @@
 -- The constraints of a shape can be stored, and so are printed and read back.
-use Rattle.std.proofs.Common.{◌≡◌, ◌≢◌, ◌⊎◌, inl, inr, ℕ, zero, suc, ◌+◌, ◌<◌, List, [], ◌∷◌, length, refl, sym, subst, arith}
-use Rattle.std.specs.Prelude.{ℤ, pos, negsuc, Bool, true, false, cond, nat_eq, Option, None, Some, IfSome, All, unsigned_abs}
+use Rattle.std.proofs.Common.{◌≡◌, ◌≢◌, ◌⊎◌, inl, inr, ℕ, zero, suc, ◌+◌, ◌<◌, List, [], sym, subst, arith}
+use Rattle.std.specs.Prelude.{ℤ, pos, negsuc, cond, nat_eq, Option, None, Some, IfSome, All, unsigned_abs}
 use Prim.Native.Nat.{◌∣◌}
 use Rattle.std.proofs.Math.Nat.{eq-one_of_dvd-one}
 use Rattle.std.proofs.lemmas.Bool.{cases_order}
@@ -9,7 +9,6 @@ use Rattle.std.proofs.lemmas.List.Elements.{All-nil, All-cons, All-append}
 use Rattle.row_core.specs.Content.{IsPrimitive}
 use Rattle.cons_sys.specs.Constraints.{Constraint, IsConstraint, FitDimension}
 use Rattle.cons_sys.specs.declared.kind.ConKind.TheVariants.{Ge}
-use Rattle.difference_bounds.specs.declared.fraction.Fraction.{Fraction}
 use Rattle.difference_bounds.specs.Fractions.{IsFraction}
 use Rattle.difference_bounds.specs.Walks.{Bound, Bounds}
 use Rattle.difference_bounds.specs.Tables.{Table, bounds_of}

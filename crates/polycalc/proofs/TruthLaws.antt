@@ -13,11 +13,8 @@ use Rattle.optimum.specs.declared.outcome.Sup.TheVariants as sup
 use Rattle.poly_pair.specs.KeptLaws.{KeptIsPair}
 use Rattle.poly_pair.specs.declared.topology.Topology.TheVariants.{Closed}
 use Rattle.poly_pair.specs.Polyhedra.{Polyhedron, HasNoPoint}
-use Rattle.powerset.specs.Powersets.{Union}
 use Rattle.ranking.specs.Laws.{PrintedFunctionRanks}
-use Rattle.bd_shape.specs.Shapes.{Region, Includes, IsShape}
-use Rattle.bd_shape.specs.Rows.{shape_constraints}
-use Rattle.script_text.specs.declared.command.Part.{Part}
+use Rattle.bd_shape.specs.Shapes.{Includes}
 use Rattle.script_text.specs.declared.command.Comparison.{Comparison}
 use Rattle.script_text.specs.declared.command.Comparison.TheVariants as comparison
 use Rattle.script_text.specs.declared.command.Command.{Command}
@@ -29,7 +26,7 @@ use Rattle.calc_state.specs.declared.change.Change.TheVariants.{Says, Puts, Puts
 use Rattle.calc_state.specs.Entries.{IsProper}
 use Rattle.calc_state.specs.Table.{Table, entry_of, as_poly, poly_of, as_system, system_of, as_powerset, powerset_of, as_shape, shape_of, as_hybrid, hybrid_of, HasDistinctNames}
 use Rattle.calc_state.specs.Order.{Passes}
-use Rattle.calc_state.specs.Meaning.{Meaning, IsSaid, IsPutAs, AreAllPut, IsTakenOut, on_one, on_two, no_fault, answer_line}
+use Rattle.calc_state.specs.Meaning.{Meaning, IsPutAs, AreAllPut, IsTakenOut, on_one, on_two, no_fault, answer_line}
 use Rattle.calc_state.specs.Meanings.{meaning, topology_of}
 use Rattle.calc_state.specs.Makers.{SaysConstraints, SaysGenerators, more_constraints, more_generators, IsSpace, copy, drop_of, add, addgen}
 use Rattle.calc_state.specs.Questions.{has, size, print, line, size_text, side_text, spaced, names_text}
@@ -42,20 +39,19 @@ use Rattle.calc_state.specs.Step.{Reply, IsAccepted, lines_of, ok_line}
 use Rattle.widening.specs.Widenings.{IsWidening}
 use Rattle.calc_state.specs.Widening.{widen}
 use Rattle.calc_state.specs.Systems.{IsEmptySystem, AreReached, init, trans, fixpoint}
-use Rattle.trans_sys.specs.Systems.{TransitionSystem, with_initial, with_transition}
+use Rattle.trans_sys.specs.Systems.{with_initial, with_transition}
 use Rattle.powerset.specs.Powersets.{IsUnionOf}
 use Rattle.ranking.specs.Rankings.{IsRankingSet}
-use Rattle.hybrid.specs.Systems.{HybridSystem}
-use Rattle.calc_state.specs.Powersets.{pset, of_two_powersets, IsPowersetOf, member, psize, members_text, covers, cover_line}
+use Rattle.calc_state.specs.Powersets.{pset, of_two_powersets, IsPowersetOf, member, psize, members_text, covers}
 use Rattle.calc_state.specs.Rankings.{rank, ranking}
-use Rattle.calc_state.specs.Shapes.{shape, IsShapeOfSet, bounds, IsShapeOfConstraints, of_two_shapes, IsShapeBy, shape_contains, shape_print, shape_poly, IsPolyOfShape}
+use Rattle.calc_state.specs.Shapes.{shape, IsShapeOfSet, IsShapeOfConstraints, of_two_shapes, IsShapeBy, shape_contains, shape_print, shape_poly, IsPolyOfShape}
 use Rattle.calc_state.specs.Hybrids.{hybrid, IsStill, set_part, with_part, reach, AreReachedParts}
 use Rattle.calc_state.specs.Files.{write, file_of}
 use Rattle.calc_state.specs.State.{State, closed}
 use Rattle.calc_state.specs.Laws.{KeepsNamesDistinct}
 use Rattle.polycalc.specs.Runs.{Run}
 use Rattle.polycalc.specs.Acts.{Act, Accepted, acts}
-use Rattle.polycalc.specs.Sets.{IsMadeAs, AreAlike, AreAlikeUnions, HaveOneDim, IsEntryOf, names_of}
+use Rattle.polycalc.specs.Sets.{AreAlike, AreAlikeUnions, HaveOneDim, IsEntryOf, names_of}
 use Rattle.polycalc.specs.Laws.{AnswersAreTrue}
 use Rattle.polycalc.specs.Truth.{SaysWhether, IsTrueOf, IsTrueOfTwo, SaysTruth, LieSo, SaysHowItLies, IsShownBy, SaysExtremum, SaysSide, SaysCover, SaysRanking, SaysBounds, IsTruthful, AreTruthful}
 use Rattle.polycalc.proofs.EntryKinds.{poly_there, powerset_there, shape_there}
