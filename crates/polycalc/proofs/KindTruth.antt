@@ -21,7 +21,7 @@ use Rattle.calc_state.specs.Step.{lines_of}
 use Rattle.polycalc.specs.Truth.{SaysCover, SaysRanking, SaysBounds}
 use Rattle.polycalc.proofs.ShapeRows.{shape_fits}
 
-said_lines : (lines : List ℕ) (change : Change) → IsSaid lines change → lines_of change ≡ lines
+pub said_lines : (lines : List ℕ) (change : Change) → IsSaid lines change → lines_of change ≡ lines
 said_lines lines (Says text) h = h
 said_lines lines (Puts name e) h = absurd h
 said_lines lines (PutsAll prefix sets) h = absurd h
