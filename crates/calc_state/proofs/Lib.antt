@@ -1,22 +1,25 @@
-pub mod CutLines
 mod DistinctNames
 mod FaultOrder
 mod FractionLemmas
 mod LatticeLemmas
 mod LatticeOnce
-pub mod LineLemmas
 mod MakerLemmas
+mod MapLemmas
+mod OperatorLemmas
 mod OptimaLemmas
 mod OptimaOnce
-mod MapLemmas
 mod PointLemmas
+mod PowersetLemmas
 mod QuestionLemmas
+mod RankingLemmas
 mod ReadingLemmas
 mod SaysOnce
-pub mod StepLemmas
 mod StrictTexts
 mod SystemLemmas
 mod TableLemmas
-mod WideningLemmas
 mod TextFaults
 mod UniquePrints
+mod WideningLemmas
+pub mod CutLines
+pub mod LineLemmas
+pub mod StepLemmas

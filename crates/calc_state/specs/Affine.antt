@@ -1,5 +1,5 @@
--- What the commands mean that map polyhedra, and those that change the dimension.
-use Rattle.std.specs.Prelude.{◌≢◌, ◌⊎◌, ℕ, ◌+◌, ◌<◌, ◌≤◌, List, length, ℤ, All}
+-- What the commands mean that map polyhedra, and the one that takes variables away.
+use Rattle.std.specs.Prelude.{◌⊎◌, ℕ, ◌<◌, ◌≤◌, List, length, ℤ, All}
 use Rattle.row_core.specs.declared.errors.Overflow.{Overflow}
 use Rattle.reply_text.specs.declared.faults.Fault.TheVariants as fault
 use Rattle.term_text.specs.declared.terms.ValueErr.TheVariants as value
@@ -9,48 +9,23 @@ use Rattle.poly_pair.specs.declared.topology.Topology.{Topology}
 use Rattle.poly_pair.specs.declared.topology.Topology.TheVariants.{Closed}
 use Rattle.affine_ops.specs.declared.relations.ImageRel.{ImageRel}
 use Rattle.affine_ops.specs.declared.relations.ImageRel.TheVariants as image
-use Rattle.affine_ops.specs.Maps.{with_zeros, without, remaining, kept_variables}
+use Rattle.affine_ops.specs.Maps.{remaining, kept_variables}
 use Rattle.affine_ops.specs.Relations.{IsImageBy, IsPreimageBy}
 use Rattle.affine_ops.specs.ImageResults.{IsStoredOfImage, LeavesInImageBy, IsStoredOfPreimage, LeavesInPreimageBy}
-use Rattle.affine_ops.specs.Results.{IsImage, IsPreimage, IsProjection, IsProduct, IsStoredOfMapped, IsStoredOfPulled, IsStoredOfJoined}
-use Rattle.affine_ops.specs.Refusals.{LeavesOnMapped, LeavesOnPulled, LeavesOnJoined}
-use Rattle.elapse.specs.Elapses.{LeavesOnElapse}
+use Rattle.affine_ops.specs.Results.{IsImage, IsStoredOfMapped}
+use Rattle.affine_ops.specs.Refusals.{LeavesOnMapped}
 use Rattle.script_text.specs.declared.command.Part.{Part}
 use Rattle.script_text.specs.declared.command.Rel.{Rel}
 use Rattle.script_text.specs.declared.command.Rel.TheVariants as rel
-use Rattle.calc_state.specs.declared.affine.Mapping.{Mapping}
-use Rattle.calc_state.specs.declared.affine.Mapping.TheVariants.{Image, Preimage}
+use Rattle.script_text.specs.declared.command.Mapping.{Mapping}
+use Rattle.script_text.specs.declared.command.Mapping.TheVariants.{Image, Preimage}
 use Rattle.calc_state.specs.Table.{Table}
 use Rattle.calc_state.specs.Order.{Conditions, NoneOf}
-use Rattle.calc_state.specs.Results.{IsResult, IsResultOfElapse}
-use Rattle.calc_state.specs.Meaning.{Meaning, room, small, alike, IsPut}
+use Rattle.calc_state.specs.Results.{IsResult}
+use Rattle.calc_state.specs.Meaning.{Meaning, room, IsPut}
 use Rattle.calc_state.specs.Texts.{text_order, with_text}
 
 -- ---- the dimension
--- the points that are in the polyhedron without their last n variables, stored of the list of its constraints with n more columns
-abbrev pub IsEmbedded : ℕ → Polyhedron → Polyhedron → Type 0
-IsEmbedded n p = IsResult (IsPreimage (without p.cons.dim (p.cons.dim + n)) (p.cons.dim + n) p) (IsStoredOfPulled (with_zeros p.cons.dim n) (p.cons.dim + n) p)
-
--- embed OUT P N
-abbrev pub embed : Table → List ℕ → ℕ → Polyhedron → Meaning
-embed table out n p = record {
-  conditions = small (p.cons.dim + n) (room table out);
-  overflows = LeavesOnPulled (with_zeros p.cons.dim n) (p.cons.dim + n) p;
-  does = IsPut out (IsEmbedded n p);
-}
-
--- its points with n more variables that are 0, stored of the list of its generators with n more columns
-abbrev pub IsProjected : ℕ → Polyhedron → Polyhedron → Type 0
-IsProjected n p = IsResult (IsProjection n p) (IsStoredOfMapped (with_zeros p.cons.dim n) (p.cons.dim + n) p)
-
--- project OUT P N
-abbrev pub project : Table → List ℕ → ℕ → Polyhedron → Meaning
-project table out n p = record {
-  conditions = small (p.cons.dim + n) (room table out);
-  overflows = LeavesOnMapped (with_zeros p.cons.dim n) (p.cons.dim + n) p;
-  does = IsPut out (IsProjected n p);
-}
-
 -- some variable of a list isn't below the dimension
 abbrev pub variables_fault : ℕ → List ℕ → Conditions
 variables_fault dim vars fault.OutOfRange = ¬ (All (λ (i : ℕ). i < dim) vars)
@@ -66,32 +41,6 @@ remove table out vars p = record {
   conditions = with_text (variables_fault p.cons.dim vars) (room table out);
   overflows = LeavesOnMapped (remaining p.cons.dim vars) (length (kept_variables p.cons.dim vars)) p;
   does = IsPut out (IsRemoved vars p);
-}
-
--- ---- two operands
--- two operands have one topology
-abbrev pub of_one_topology : Polyhedron → Polyhedron → Conditions → Conditions
-of_one_topology p q others fault.TopologyMismatch = p.topology ≢ q.topology
-of_one_topology p q others other = others other
-
--- the product, stored of the list of the constraints of both
-abbrev pub IsConcatenated : Polyhedron → Polyhedron → Polyhedron → Type 0
-IsConcatenated p q = IsResult (IsProduct p q) (IsStoredOfJoined p q)
-
--- concat OUT P Q
-abbrev pub concat : Table → List ℕ → Polyhedron → Polyhedron → Meaning
-concat table out p q = record {
-  conditions = of_one_topology p q (small (p.cons.dim + q.cons.dim) (room table out));
-  overflows = LeavesOnJoined p q;
-  does = IsPut out (IsConcatenated p q);
-}
-
--- elapse OUT P Q
-abbrev pub elapse : Table → List ℕ → Polyhedron → Polyhedron → Meaning
-elapse table out p q = record {
-  conditions = alike p q (room table out);
-  overflows = LeavesOnElapse p q;
-  does = IsPut out (IsResultOfElapse p q);
 }
 
 -- ---- maps

@@ -1,4 +1,4 @@
--- What the commands mean that make the meet, the hull or the closure, and those that ask how two polyhedra lie.
+-- What the command means that makes the closure, and those that ask how two polyhedra lie.
 use Rattle.std.specs.Prelude.{◌≡◌, ◌↔◌, List, ℕ, Bool, true, false, IsTrue, Result, Ok, Err}
 use Rattle.row_core.specs.declared.errors.Overflow.{Overflow}
 use Rattle.row_core.specs.declared.errors.PairOver.{PairOver}
@@ -7,31 +7,17 @@ use Rattle.gens_sys.specs.Generators.{Generators}
 use Rattle.gens_sys.specs.Generators.{row_at as vector_at}
 use Rattle.pair_laws.specs.WorkLists.{LeavesOn}
 use Rattle.poly_pair.specs.Polyhedra.{Polyhedron, HasNoPoint}
-use Rattle.poly_pair.specs.TopologyLists.{list_width, generators_of}
-use Rattle.lattice_ops.specs.Sets.{IsIncluded, HaveSamePoints, AreDisjoint, both_generators, meet_list, closure_list}
+use Rattle.poly_pair.specs.TopologyLists.{list_width}
+use Rattle.lattice_ops.specs.Sets.{IsIncluded, HaveSamePoints, AreDisjoint, meet_list, closure_list}
 use Rattle.lattice_ops.specs.Questions.{Answers, AnswersEqual}
+use Rattle.script_text.specs.declared.command.Comparison.{Comparison}
+use Rattle.script_text.specs.declared.command.Comparison.TheVariants as by
 use Rattle.calc_state.specs.declared.change.Change.{Change}
 use Rattle.calc_state.specs.Table.{Table}
-use Rattle.calc_state.specs.Results.{IsResultOfMeet, IsResultOfHull, IsResultOfClosure}
+use Rattle.calc_state.specs.Results.{IsResultOfClosure}
 use Rattle.calc_state.specs.Meaning.{Meaning, no_fault, no_overflow, room, alike, IsPut, IsSaid, answer_line}
 
 -- ---- makers
--- meet OUT P Q
-abbrev pub meet : Table → List ℕ → Polyhedron → Polyhedron → Meaning
-meet table out p q = record {
-  conditions = alike p q (room table out);
-  overflows = LeavesOn (list_width p.topology p.cons.dim) p.cons.dim (meet_list p q);
-  does = IsPut out (IsResultOfMeet p q);
-}
-
--- hull OUT P Q
-abbrev pub hull : Table → List ℕ → Polyhedron → Polyhedron → Meaning
-hull table out p q = record {
-  conditions = alike p q (room table out);
-  overflows = LeavesOn (list_width p.topology p.cons.dim) p.cons.dim (generators_of p.topology (both_generators p q));
-  does = IsPut out (IsResultOfHull p q);
-}
-
 -- closure OUT P
 abbrev pub closure : Table → List ℕ → Polyhedron → Meaning
 closure table out p = record {
@@ -90,6 +76,12 @@ disjoint p q = record {
   overflows = LeavesOn (list_width p.topology p.cons.dim) p.cons.dim (meet_list p q);
   does = IsTold (AreDisjoint p q);
 }
+
+-- contains, equal or disjoint P Q
+abbrev pub compared : Comparison → Polyhedron → Polyhedron → Meaning
+compared by.Contains p q = contains p q
+compared by.Equal p q = equal p q
+compared by.Disjoint p q = disjoint p q
 
 -- isempty P
 abbrev pub isempty : Polyhedron → Meaning

@@ -9,11 +9,14 @@ pub mod Line
 pub mod Makers
 pub mod Meaning
 pub mod Meanings
+pub mod Operators
 pub mod Optima
 pub mod Order
 pub mod Performed
+pub mod Powersets
 pub mod Prints
 pub mod Questions
+pub mod Rankings
 pub mod Reading
 pub mod Refusals
 pub mod Results

@@ -5,8 +5,7 @@ use Rattle.poly_pair.specs.declared.topology.Topology.{Topology}
 use Rattle.poly_pair.specs.Polyhedra.{Polyhedron, IsOfConstraints, IsOfGenerators}
 use Rattle.poly_pair.specs.Parts.{AreStoredOfRows, AreStoredOfGenerators}
 use Rattle.poly_pair.specs.TopologyLists.{constraints_of}
-use Rattle.lattice_ops.specs.Sets.{IsMeet, IsHull, IsClosure, both_generators, meet_list, closure_list}
-use Rattle.elapse.specs.Elapses.{IsElapse, AreStoredOfElapse}
+use Rattle.lattice_ops.specs.Sets.{IsClosure, closure_list}
 
 -- the set of a result, and the lists of whose systems it is stored: of a set that needn't be closed only constraints and generators that they stand for
 pub record IsResult (IsSet IsStored : Polyhedron → Type 0) (r : Polyhedron) : Type 0 where
@@ -21,18 +20,6 @@ IsResultOfConstraints topology cs = IsResult (IsOfConstraints topology cs) (AreS
 abbrev pub IsResultOfGenerators : Topology → Generators → Polyhedron → Type 0
 IsResultOfGenerators topology gs = IsResult (IsOfGenerators topology gs) (AreStoredOfGenerators topology gs)
 
--- the points of both, stored of the list of the constraints of both
-abbrev pub IsResultOfMeet : Polyhedron → Polyhedron → Polyhedron → Type 0
-IsResultOfMeet p q = IsResult (IsMeet p q) (AreStoredOfRows p.topology p.cons.dim (meet_list p q))
-
--- the hull, stored of the list of the generators of both
-abbrev pub IsResultOfHull : Polyhedron → Polyhedron → Polyhedron → Type 0
-IsResultOfHull p q = IsResult (IsHull p q) (AreStoredOfGenerators p.topology (both_generators p q))
-
 -- the closure, stored of the list of the constraints that aren't strict
 abbrev pub IsResultOfClosure : Polyhedron → Polyhedron → Type 0
 IsResultOfClosure p = IsResult (IsClosure p) (AreStoredOfRows p.topology p.cons.dim (closure_list p))
-
--- the time elapse, stored of the list of the generators of the one and the directions of the other
-abbrev pub IsResultOfElapse : Polyhedron → Polyhedron → Polyhedron → Type 0
-IsResultOfElapse p q = IsResult (IsElapse p q) (AreStoredOfElapse p q)

@@ -4,7 +4,8 @@ use Rattle.row_core.specs.declared.errors.Overflow.{Overflow}
 use Rattle.row_core.specs.declared.errors.Memory.{Memory}
 use Rattle.reply_text.specs.declared.faults.Fault.{Fault}
 use Rattle.script_text.specs.declared.command.Command.{Command}
-use Rattle.script_text.specs.declared.command.Command.TheVariants.{Has, Size, Print, Names, Contains, Equal, Isempty, Relation, Max, Min, Write}
+use Rattle.script_text.specs.declared.command.Command.TheVariants.{Has, Size, Print, Names, Compare, Isempty, Relation, Bound, Write}
+use Rattle.script_text.specs.declared.command.Comparison.TheVariants as comparison
 use Rattle.calc_state.specs.declared.change.Change.{Change}
 use Rattle.calc_state.specs.declared.change.Change.TheVariants.{Says, Puts, PutsAll, TakesOut}
 use Rattle.calc_state.specs.declared.refusal.StepErr.{StepErr}
@@ -124,12 +125,11 @@ IsQuestion (Has p part) = Unit {0}
 IsQuestion (Size p) = Unit {0}
 IsQuestion (Print side p) = Unit {0}
 IsQuestion Names = Unit {0}
-IsQuestion (Contains p q) = Unit {0}
-IsQuestion (Equal p q) = Unit {0}
+IsQuestion (Compare comparison.Contains p q) = Unit {0}
+IsQuestion (Compare comparison.Equal p q) = Unit {0}
 IsQuestion (Isempty p) = Unit {0}
 IsQuestion (Relation p part) = Unit {0}
-IsQuestion (Max p part) = Unit {0}
-IsQuestion (Min p part) = Unit {0}
+IsQuestion (Bound extremum p part) = Unit {0}
 IsQuestion (Write p form) = Unit {0}
 IsQuestion other = ⊥
 

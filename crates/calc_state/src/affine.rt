@@ -7,9 +7,8 @@ ghost use Rattle.affine_ops.specs.Relations.{IsRelationFor};
 ghost use Rattle.grammar.specs.Form.{Matches};
 ghost use Rattle.grammar.specs.Grammar.{alone};
 ghost use Rattle.grammar.specs.Cases.{frac_cases};
-ghost use Rattle.poly_pair.specs.declared.topology.TheConstants.{MAX_DIM};
-ghost use Rattle.calc_state.specs.Meaning.{on_one, on_two};
-ghost use Rattle.calc_state.specs.Affine.{embed as make_embed, project as make_project, remove as make_removed, concat as make_concat, elapse as make_elapse, mapped_by as make_mapped, image_rel, IsSetOfMap, IsStoredOfMap, LeavesInMap, variables_fault};
+ghost use Rattle.calc_state.specs.Meaning.{on_one};
+ghost use Rattle.calc_state.specs.Affine.{remove as make_removed, mapped_by as make_mapped, image_rel, IsSetOfMap, IsStoredOfMap, LeavesInMap, variables_fault};
 ghost use Rattle.calc_state.specs.Texts.{IsTextRefusal};
 ghost use Rattle.calc_state.specs.Performed.{IsPerformed};
 
@@ -19,149 +18,12 @@ use crate::names::Names;
 use crate::refusal::StepErr;
 use crate::texts::fraction_of;
 use affine_ops::ImageRel;
-use poly_pair::{MAX_DIM, Poly};
+use poly_pair::Poly;
 use reply_text::{Fault, Text};
 use row_core::{ConvErr, Steps};
-use script_text::{Part, Rel, VarList};
+use script_text::{Mapping, Part, Rel, VarList};
 use std::alloc::Global;
 use std::sync::ledger::Ledger;
-
-/// The number of further variables, where the dimension with them is within the limit.
-fn more_dims(dim: usize, n: u64) -> Option<usize>
-    requires { dim ≤ MAX_DIM }
-    ensures { MatchOption result (MAX_DIM < dim + n) (λ count. (count ≡ n) × (dim + count ≤ MAX_DIM)) }
-{
-    if n > (MAX_DIM - dim) as u64 {
-        return None;
-    }
-    Some(n as usize)
-}
-
-/// The points that are in the polyhedron without their last variables, which are free.
-pub fn embed<L: Ledger>(
-    alloc: Global,
-    names: &Names,
-    out: Text,
-    p: Option<&Poly>,
-    n: u64,
-    steps: &mut Steps<L>,
-) -> Result<Change, StepErr>
-    ensures { IsPerformed (on_one (option_copied p.entry) (make_embed names.now out n)) result }
-{
-    let Some(p) = p else {
-        return Err(StepErr::Input(Fault::UnknownName));
-    };
-    let Some(count) = more_dims(p.dim(), n) else {
-        return Err(StepErr::Input(Fault::TooManyDims));
-    };
-    if names.has_no_room(out.bytes()) {
-        return Err(StepErr::Input(Fault::TooManyNames));
-    }
-    match affine_ops::embed(alloc, p, count, steps) {
-        Ok(made) => Ok(Change::Puts(out, Entry::Poly(made))),
-        Err(cause) => Err(StepErr::from(cause)),
-    }
-}
-
-/// The points of the polyhedron with further variables behind, all 0.
-pub fn project<L: Ledger>(
-    alloc: Global,
-    names: &Names,
-    out: Text,
-    p: Option<&Poly>,
-    n: u64,
-    steps: &mut Steps<L>,
-) -> Result<Change, StepErr>
-    ensures { IsPerformed (on_one (option_copied p.entry) (make_project names.now out n)) result }
-{
-    let Some(p) = p else {
-        return Err(StepErr::Input(Fault::UnknownName));
-    };
-    let Some(count) = more_dims(p.dim(), n) else {
-        return Err(StepErr::Input(Fault::TooManyDims));
-    };
-    if names.has_no_room(out.bytes()) {
-        return Err(StepErr::Input(Fault::TooManyNames));
-    }
-    match affine_ops::project(alloc, p, count, steps) {
-        Ok(made) => Ok(Change::Puts(out, Entry::Poly(made))),
-        Err(cause) => Err(StepErr::from(cause)),
-    }
-}
-
-/// Whether two operands have one topology.
-pub(crate) fn have_one_topology(p: &Poly, q: &Poly) -> bool
-    ensures { MatchBool result (p.now.topology ≡ q.now.topology) (p.now.topology ≢ q.now.topology) }
-{
-    p.topology() == q.topology()
-}
-
-/// The product of two polyhedra.
-pub fn concat<L: Ledger>(
-    alloc: Global,
-    names: &Names,
-    out: Text,
-    p: Option<&Poly>,
-    q: Option<&Poly>,
-    steps: &mut Steps<L>,
-) -> Result<Change, StepErr>
-    ensures { IsPerformed (on_two (option_copied p.entry) (option_copied q.entry) (make_concat names.now out)) result }
-{
-    let (Some(p), Some(q)) = (p, q) else {
-        return Err(StepErr::Input(Fault::UnknownName));
-    };
-    if !have_one_topology(p, q) {
-        return Err(StepErr::Input(Fault::TopologyMismatch));
-    }
-    if p.dim() + q.dim() > MAX_DIM {
-        return Err(StepErr::Input(Fault::TooManyDims));
-    }
-    if names.has_no_room(out.bytes()) {
-        return Err(StepErr::Input(Fault::TooManyNames));
-    }
-    match affine_ops::concat(alloc, p, q, steps) {
-        Ok(made) => Ok(Change::Puts(out, Entry::Poly(made))),
-        Err(cause) => Err(StepErr::from(cause)),
-    }
-}
-
-/// The time elapse of the first by the second.
-pub fn elapse<L: Ledger>(
-    alloc: Global,
-    names: &Names,
-    out: Text,
-    p: Option<&Poly>,
-    q: Option<&Poly>,
-    steps: &mut Steps<L>,
-) -> Result<Change, StepErr>
-    ensures { IsPerformed (on_two (option_copied p.entry) (option_copied q.entry) (make_elapse names.now out)) result }
-{
-    let (Some(p), Some(q)) = (p, q) else {
-        return Err(StepErr::Input(Fault::UnknownName));
-    };
-    if !have_one_topology(p, q) {
-        return Err(StepErr::Input(Fault::TopologyMismatch));
-    }
-    if p.dim() != q.dim() {
-        return Err(StepErr::Input(Fault::DimMismatch));
-    }
-    if names.has_no_room(out.bytes()) {
-        return Err(StepErr::Input(Fault::TooManyNames));
-    }
-    match elapse::time_elapse(alloc, p, q, steps) {
-        Ok(made) => Ok(Change::Puts(out, Entry::Poly(made))),
-        Err(cause) => Err(StepErr::from(cause)),
-    }
-}
-
-/// A set made of another by a relation between a variable and a fraction.
-#[derive(Clone, Copy, Debug, PartialEq, Eq)]
-pub enum Mapping {
-    /// The points of the set, the variable with each value that stands so to the fraction at the point.
-    Image,
-    /// The points that are in the set with some value of the variable that stands so to the fraction.
-    Preimage,
-}
 
 /// The relation of a line, as one of images.
 fn image_rel(rel: Rel) -> ImageRel

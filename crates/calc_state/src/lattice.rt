@@ -1,11 +1,10 @@
-//! The commands that make the meet, the hull or the closure, and those that ask how two polyhedra lie.
+//! The command that makes the closure, and those that ask how two polyhedra lie.
 ghost use Rattle.std.specs.Prelude.{◌≡◌, ◌<◌, length, IfOk};
 ghost use Rattle.std.specs.Option.{option_copied};
 ghost use Rattle.calc_state.specs.Meaning.{on_one, on_two};
-ghost use Rattle.calc_state.specs.Lattice.{meet as make_meet, hull as make_hull, closure as make_closure, contains as ask_contains, equal as ask_equal, disjoint as ask_disjoint, isempty as ask_empty, shown_rows};
+ghost use Rattle.calc_state.specs.Lattice.{compared, closure as make_closure, contains as ask_contains, equal as ask_equal, disjoint as ask_disjoint, isempty as ask_empty, shown_rows};
 ghost use Rattle.calc_state.specs.Performed.{IsPerformed};
 
-use crate::affine::have_one_topology;
 use crate::change::Change;
 use crate::entry::Entry;
 use crate::names::Names;
@@ -16,66 +15,9 @@ use gens_sys::GensSys;
 use poly_pair::Poly;
 use reply_text::{Fault, Text};
 use row_core::{Memory, Overflow, PairOver, RowBuf, Steps};
+use script_text::Comparison;
 use std::alloc::Global;
 use std::sync::ledger::Ledger;
-
-/// The points that are in both.
-pub fn meet<L: Ledger>(
-    alloc: Global,
-    names: &Names,
-    out: Text,
-    p: Option<&Poly>,
-    q: Option<&Poly>,
-    steps: &mut Steps<L>,
-) -> Result<Change, StepErr>
-    ensures { IsPerformed (on_two (option_copied p.entry) (option_copied q.entry) (make_meet names.now out)) result }
-{
-    let (Some(p), Some(q)) = (p, q) else {
-        return Err(StepErr::Input(Fault::UnknownName));
-    };
-    if p.topology() != q.topology() {
-        return Err(StepErr::Input(Fault::TopologyMismatch));
-    }
-    if p.dim() != q.dim() {
-        return Err(StepErr::Input(Fault::DimMismatch));
-    }
-    if names.has_no_room(out.bytes()) {
-        return Err(StepErr::Input(Fault::TooManyNames));
-    }
-    match lattice_ops::meet(alloc, p, q, steps) {
-        Ok(made) => Ok(Change::Puts(out, Entry::Poly(made))),
-        Err(cause) => Err(StepErr::from(cause)),
-    }
-}
-
-/// The smallest polyhedron that includes both.
-pub fn hull<L: Ledger>(
-    alloc: Global,
-    names: &Names,
-    out: Text,
-    p: Option<&Poly>,
-    q: Option<&Poly>,
-    steps: &mut Steps<L>,
-) -> Result<Change, StepErr>
-    ensures { IsPerformed (on_two (option_copied p.entry) (option_copied q.entry) (make_hull names.now out)) result }
-{
-    let (Some(p), Some(q)) = (p, q) else {
-        return Err(StepErr::Input(Fault::UnknownName));
-    };
-    if !have_one_topology(p, q) {
-        return Err(StepErr::Input(Fault::TopologyMismatch));
-    }
-    if p.dim() != q.dim() {
-        return Err(StepErr::Input(Fault::DimMismatch));
-    }
-    if names.has_no_room(out.bytes()) {
-        return Err(StepErr::Input(Fault::TooManyNames));
-    }
-    match lattice_ops::hull(alloc, p, q, steps) {
-        Ok(made) => Ok(Change::Puts(out, Entry::Poly(made))),
-        Err(cause) => Err(StepErr::from(cause)),
-    }
-}
 
 /// The smallest closed set that includes the polyhedron, in its topology.
 pub fn closure<L: Ledger>(
@@ -100,7 +42,7 @@ pub fn closure<L: Ledger>(
 }
 
 /// Whether each point of the second is in the first.
-pub fn contains(alloc: Global, p: Option<&Poly>, q: Option<&Poly>) -> Result<Change, StepErr>
+fn contains(alloc: Global, p: Option<&Poly>, q: Option<&Poly>) -> Result<Change, StepErr>
     ensures { IsPerformed (on_two (option_copied p.entry) (option_copied q.entry) ask_contains) result }
 {
     let (Some(p), Some(q)) = (p, q) else {
@@ -119,7 +61,7 @@ pub fn contains(alloc: Global, p: Option<&Poly>, q: Option<&Poly>) -> Result<Cha
 }
 
 /// Whether both have the same points.
-pub fn equal(alloc: Global, p: Option<&Poly>, q: Option<&Poly>) -> Result<Change, StepErr>
+fn equal(alloc: Global, p: Option<&Poly>, q: Option<&Poly>) -> Result<Change, StepErr>
     ensures { IsPerformed (on_two (option_copied p.entry) (option_copied q.entry) ask_equal) result }
 {
     let (Some(p), Some(q)) = (p, q) else {
@@ -161,7 +103,7 @@ pub(crate) fn shown(
 }
 
 /// Whether no point is in both.
-pub fn disjoint<L: Ledger>(
+fn disjoint<L: Ledger>(
     alloc: Global,
     p: Option<&Poly>,
     q: Option<&Poly>,
@@ -181,6 +123,23 @@ pub fn disjoint<L: Ledger>(
     match lattice_ops::disjoint(alloc, p, q, steps) {
         Ok(holds) => Ok(Change::Says(answer(alloc, holds)?)),
         Err(cause) => Err(StepErr::from(cause)),
+    }
+}
+
+/// How two polyhedra lie.
+pub fn compare<L: Ledger>(
+    alloc: Global,
+    by: Comparison,
+    p: Option<&Poly>,
+    q: Option<&Poly>,
+    steps: &mut Steps<L>,
+) -> Result<Change, StepErr>
+    ensures { IsPerformed (on_two (option_copied p.entry) (option_copied q.entry) (compared by)) result }
+{
+    match by {
+        Comparison::Contains => contains(alloc, p, q),
+        Comparison::Equal => equal(alloc, p, q),
+        Comparison::Disjoint => disjoint(alloc, p, q, steps),
     }
 }
 

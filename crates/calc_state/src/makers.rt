@@ -1,5 +1,5 @@
 //! The commands that make, copy or change polyhedra, and that drop names.
-ghost use Rattle.std.specs.Prelude.{◌≡◌, ◌≤◌, ◌<◌, MatchBool, MatchOption};
+ghost use Rattle.std.specs.Prelude.{◌≡◌, ◌≤◌, ◌<◌, MatchBool, MatchOption, IfOk};
 ghost use Rattle.std.specs.Option.{option_copied};
 ghost use Rattle.grammar.specs.Form.{Matches};
 ghost use Rattle.grammar.specs.Grammar.{alone};
@@ -9,7 +9,7 @@ ghost use Rattle.poly_pair.specs.FirstLists.{LacksPoint};
 ghost use Rattle.poly_pair.specs.declared.topology.TheConstants.{MAX_DIM};
 ghost use Rattle.calc_state.specs.Table.{entry_of};
 ghost use Rattle.calc_state.specs.Meaning.{on_one};
-ghost use Rattle.calc_state.specs.Makers.{cons as make_cons, gens as make_gens, universe as make_universe, empty as make_empty, copy as make_copy, drop_of, add as add_to, addgen as addgen_to};
+ghost use Rattle.calc_state.specs.Makers.{cons as make_cons, gens as make_gens, space_of, IsSpace, copy as make_copy, drop_of, add as add_to, addgen as addgen_to};
 ghost use Rattle.calc_state.specs.Performed.{IsPerformed};
 
 use crate::change::Change;
@@ -21,8 +21,8 @@ use expr_text::one_answer;
 use gens_sys::GensSys;
 use poly_pair::{MAX_DIM, Poly, Topology, has_point_kind};
 use reply_text::{Fault, Text};
-use row_core::Steps;
-use script_text::Part;
+use row_core::{Memory, Steps};
+use script_text::{Part, Space};
 use std::alloc::Global;
 use std::sync::ledger::Ledger;
 
@@ -36,15 +36,16 @@ fn small_dim(n: u64) -> Option<usize>
     Some(n as usize)
 }
 
-/// The polyhedron of all points.
-pub fn universe(
+/// The polyhedron that the dimension alone determines: all points, or none.
+pub fn space(
     alloc: Global,
     names: &Names,
+    space: Space,
     out: Text,
     topology: Topology,
     n: u64,
 ) -> Result<Change, StepErr>
-    ensures { IsPerformed (make_universe names.now out topology n) result }
+    ensures { IsPerformed (space_of space names.now out topology n) result }
 {
     let Some(dim) = small_dim(n) else {
         return Err(StepErr::Input(Fault::TooManyDims));
@@ -52,28 +53,24 @@ pub fn universe(
     if names.has_no_room(out.bytes()) {
         return Err(StepErr::Input(Fault::TooManyNames));
     }
-    let made = Poly::universe(alloc, topology, dim)?;
+    let made = whole_or_empty(alloc, space, topology, dim)?;
     Ok(Change::Puts(out, Entry::Poly(made)))
 }
 
-/// The polyhedron without points.
-pub fn empty(
+/// All points, or none.
+fn whole_or_empty(
     alloc: Global,
-    names: &Names,
-    out: Text,
+    space: Space,
     topology: Topology,
-    n: u64,
-) -> Result<Change, StepErr>
-    ensures { IsPerformed (make_empty names.now out topology n) result }
+    dim: usize,
+) -> Result<Poly, Memory>
+    requires { dim ≤ MAX_DIM }
+    ensures { IfOk result (IsSpace space topology dim) }
 {
-    let Some(dim) = small_dim(n) else {
-        return Err(StepErr::Input(Fault::TooManyDims));
-    };
-    if names.has_no_room(out.bytes()) {
-        return Err(StepErr::Input(Fault::TooManyNames));
+    match space {
+        Space::Universe => Poly::universe(alloc, topology, dim),
+        Space::Empty => Poly::empty(alloc, topology, dim),
     }
-    let made = Poly::empty(alloc, topology, dim)?;
-    Ok(Change::Puts(out, Entry::Poly(made)))
 }
 
 /// A copy.

@@ -2,6 +2,7 @@ mod AddTable
 mod AddgenTable
 mod AnyRow
 mod ColumnLaws
+mod BoundsTable
 mod ConsTable
 pub mod EdgeLemmas
 mod FileTable

@@ -7,7 +7,7 @@ use Rattle.script_text.specs.Fields.{Fields, part_by, fields_by, fields_of_row}
 use Rattle.script_text.specs.Commands.{command_of}
 use Rattle.script_text.specs.Line.{PartsMatch, PartsTold}
 use Rattle.script_text.specs.declared.row.Row.{Row}
-use Rattle.script_text.specs.declared.row.Row.TheVariants.{Cons, Gens, Add, Addgen, Has, Relation, Max, Min, Image, Preimage}
+use Rattle.script_text.specs.declared.row.Row.TheVariants.{Cons, Gens, Add, Addgen, Has, Relation, Max, Min, Image, Preimage, Bounds}
 
 alone_from : (f : Form) (u : List ℕ) → Matches f u → Matches (alone f) u
 alone_from f u m = ([], u, refl, (0, refl), (u, [], sym (append-nil u), m, (0, refl)))
@@ -38,6 +38,7 @@ parts_match Max w m = line_part (shape_of Max) w m
 parts_match Min w m = line_part (shape_of Min) w m
 parts_match Image w m = line_part (shape_of Image) w m
 parts_match Preimage w m = line_part (shape_of Preimage) w m
+parts_match Bounds w m = line_part (shape_of Bounds) w m
 parts_match row w m = tt
 
 -- what is told of each part is so
@@ -52,4 +53,5 @@ parts_told Max f = refl
 parts_told Min f = refl
 parts_told Image f = refl
 parts_told Preimage f = refl
+parts_told Bounds f = refl
 parts_told row f = tt

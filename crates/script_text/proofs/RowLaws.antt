@@ -8,7 +8,7 @@ use Rattle.script_text.specs.Rows.{shape_of, row_form}
 use Rattle.script_text.specs.Words.{word_of}
 use Rattle.script_text.specs.Laws.{IsRowRead}
 use Rattle.script_text.specs.declared.row.Row.{Row}
-use Rattle.script_text.specs.declared.row.Row.TheVariants.{Nothing, Cons, Gens, Universe, Empty, Copy, Drop, Add, Addgen, Has, Size, Print, Names, Meet, Hull, Closure, Contains, Equal, Disjoint, Isempty, Relation, Max, Min, Image, Preimage, Embed, Project, Remove, Concat, Elapse, Widen, Read, Write, System, Init, Trans, Fixpoint}
+use Rattle.script_text.specs.declared.row.Row.TheVariants.{Nothing, Cons, Gens, Universe, Empty, Copy, Drop, Add, Addgen, Has, Size, Print, Names, Meet, Hull, Closure, Contains, Equal, Disjoint, Isempty, Relation, Max, Min, Image, Preimage, Embed, Project, Remove, Concat, Elapse, Widen, Read, Write, System, Init, Trans, Fixpoint, Pset, Join, Pmeet, Member, Psize, Covers, Rank, Ranking, ShapeOf, Bounds, Smeet, Shull, Scontains, Sprint, Spoly, Hybrid, Inv, Flow, Reach}
 use Rattle.script_text.proofs.RestLaws.{is_good, good, fields_law, first_law, nothing_law}
 
 abbrev pub IsGoodRow : Row → Type 0
@@ -37,6 +37,11 @@ row_named w =
     else if bytes_eq w (codes "embed") then Embed else if bytes_eq w (codes "project") then Project else if bytes_eq w (codes "remove") then Remove else if bytes_eq w (codes "concat") then Concat
     else if bytes_eq w (codes "elapse") then Elapse else if bytes_eq w (codes "widen") then Widen else if bytes_eq w (codes "read") then Read else if bytes_eq w (codes "write") then Write
     else if bytes_eq w (codes "system") then System else if bytes_eq w (codes "init") then Init else if bytes_eq w (codes "trans") then Trans else if bytes_eq w (codes "fixpoint") then Fixpoint
+    else if bytes_eq w (codes "pset") then Pset else if bytes_eq w (codes "join") then Join else if bytes_eq w (codes "pmeet") then Pmeet else if bytes_eq w (codes "member") then Member
+    else if bytes_eq w (codes "psize") then Psize else if bytes_eq w (codes "covers") then Covers else if bytes_eq w (codes "rank") then Rank else if bytes_eq w (codes "ranking") then Ranking
+    else if bytes_eq w (codes "shape") then ShapeOf else if bytes_eq w (codes "bounds") then Bounds else if bytes_eq w (codes "smeet") then Smeet else if bytes_eq w (codes "shull") then Shull
+    else if bytes_eq w (codes "scontains") then Scontains else if bytes_eq w (codes "sprint") then Sprint else if bytes_eq w (codes "spoly") then Spoly else if bytes_eq w (codes "hybrid") then Hybrid
+    else if bytes_eq w (codes "inv") then Inv else if bytes_eq w (codes "flow") then Flow else if bytes_eq w (codes "reach") then Reach
     else Nothing
 
 pub named_right : (row : Row) → row_named (shape_of row).command ≡ row

@@ -1,12 +1,15 @@
 -- The rows by what stands behind their command words.
 use Rattle.script_text.specs.declared.row.Row.{Row}
-use Rattle.script_text.specs.declared.row.Row.TheVariants.{Drop, Size, Isempty, Add, Addgen, Has, Relation, Max, Min, Copy, Closure, Contains, Equal, Disjoint, Meet, Hull, Concat, Elapse, Widen, Universe, Empty, Cons, Gens, Embed, Project, Image, Preimage, Read, Write, Init, Fixpoint}
+use Rattle.script_text.specs.declared.row.Row.TheVariants.{Drop, Size, Isempty, Add, Addgen, Has, Relation, Max, Min, Copy, Closure, Contains, Equal, Disjoint, Meet, Hull, Concat, Elapse, Widen, Universe, Empty, Cons, Gens, Embed, Project, Image, Preimage, Read, Write, Init, Fixpoint, Pset, Join, Pmeet, Member, Psize, Covers, Rank, Ranking, ShapeOf, Smeet, Shull, Scontains, Sprint, Spoly, Hybrid, Inv, Flow, Reach}
 
 -- one name stands behind the command word
 abbrev pub IsOneName : Row → Type 0
 IsOneName Drop = Unit {0}
 IsOneName Size = Unit {0}
 IsOneName Isempty = Unit {0}
+IsOneName Psize = Unit {0}
+IsOneName Ranking = Unit {0}
+IsOneName Sprint = Unit {0}
 IsOneName _ = ⊥
 
 -- a name and a part stand behind it
@@ -26,6 +29,13 @@ IsTwoNames Closure = Unit {0}
 IsTwoNames Contains = Unit {0}
 IsTwoNames Equal = Unit {0}
 IsTwoNames Disjoint = Unit {0}
+IsTwoNames Pset = Unit {0}
+IsTwoNames Covers = Unit {0}
+IsTwoNames Rank = Unit {0}
+IsTwoNames ShapeOf = Unit {0}
+IsTwoNames Scontains = Unit {0}
+IsTwoNames Spoly = Unit {0}
+IsTwoNames Hybrid = Unit {0}
 IsTwoNames _ = ⊥
 
 -- three names stand behind it
@@ -35,6 +45,10 @@ IsThreeNames Hull = Unit {0}
 IsThreeNames Concat = Unit {0}
 IsThreeNames Elapse = Unit {0}
 IsThreeNames Widen = Unit {0}
+IsThreeNames Join = Unit {0}
+IsThreeNames Pmeet = Unit {0}
+IsThreeNames Smeet = Unit {0}
+IsThreeNames Shull = Unit {0}
 IsThreeNames _ = ⊥
 
 -- a name, a topology and a number stand behind it
@@ -53,6 +67,7 @@ IsSpaceAndPart _ = ⊥
 abbrev pub IsTwoNamesNumber : Row → Type 0
 IsTwoNamesNumber Embed = Unit {0}
 IsTwoNamesNumber Project = Unit {0}
+IsTwoNamesNumber Member = Unit {0}
 IsTwoNamesNumber _ = ⊥
 
 -- two names, a variable, a relation and a part stand behind it
@@ -71,4 +86,7 @@ IsNameFormat _ = ⊥
 abbrev pub IsNameNumberName : Row → Type 0
 IsNameNumberName Init = Unit {0}
 IsNameNumberName Fixpoint = Unit {0}
+IsNameNumberName Inv = Unit {0}
+IsNameNumberName Flow = Unit {0}
+IsNameNumberName Reach = Unit {0}
 IsNameNumberName _ = ⊥

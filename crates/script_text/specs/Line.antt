@@ -12,7 +12,7 @@ use Rattle.script_text.specs.Fields.{fields_of_row}
 use Rattle.script_text.specs.Commands.{command_of, is_strict}
 use Rattle.script_text.specs.declared.row.Row.{Row}
 use Rattle.script_text.specs.declared.command.Command.{Command}
-use Rattle.script_text.specs.declared.command.Command.TheVariants.{Cons, Gens, Add, Addgen, Has, Relation, Max, Min, Image, Preimage}
+use Rattle.script_text.specs.declared.command.Command.TheVariants.{Cons, Gens, Add, Addgen, Has, Relation, Bound, Map, Bounds}
 
 -- the line is one of the row's, and this is the command of its fields
 pub record Spells (line : List ℕ) (c : Command) : Type 0 where
@@ -36,10 +36,9 @@ PartsMatch (Add p part) = Matches (alone cons_cases) part.text
 PartsMatch (Addgen p part) = Matches (alone gens_cases) part.text
 PartsMatch (Has p part) = Matches (alone point_cases) part.text
 PartsMatch (Relation p part) = Matches (alone con_cases) part.text
-PartsMatch (Max p part) = Matches (alone expr_cases) part.text
-PartsMatch (Min p part) = Matches (alone expr_cases) part.text
-PartsMatch (Image out p v rel part) = Matches (alone frac_cases) part.text
-PartsMatch (Preimage out p v rel part) = Matches (alone frac_cases) part.text
+PartsMatch (Bound of p part) = Matches (alone expr_cases) part.text
+PartsMatch (Map by out p v rel part) = Matches (alone frac_cases) part.text
+PartsMatch (Bounds out n part) = Matches (alone cons_cases) part.text
 PartsMatch _ = Unit {0}
 
 -- whether a strict relation or a closure point stands in each part of the command is told as it is
@@ -50,10 +49,9 @@ PartsTold (Add p part) = part.strict ≡ is_strict part.text
 PartsTold (Addgen p part) = part.strict ≡ is_strict part.text
 PartsTold (Has p part) = part.strict ≡ is_strict part.text
 PartsTold (Relation p part) = part.strict ≡ is_strict part.text
-PartsTold (Max p part) = part.strict ≡ is_strict part.text
-PartsTold (Min p part) = part.strict ≡ is_strict part.text
-PartsTold (Image out p v rel part) = part.strict ≡ is_strict part.text
-PartsTold (Preimage out p v rel part) = part.strict ≡ is_strict part.text
+PartsTold (Bound of p part) = part.strict ≡ is_strict part.text
+PartsTold (Map by out p v rel part) = part.strict ≡ is_strict part.text
+PartsTold (Bounds out n part) = part.strict ≡ is_strict part.text
 PartsTold _ = Unit {0}
 
 -- a line spells one command at most

@@ -3,7 +3,7 @@ use Rattle.std.specs.Prelude.{◌≡◌, ℕ, List, [], ◌∷◌, Option, Some,
 use Rattle.grammar.specs.Form.{Form, word}
 use Rattle.grammar.specs.Grammar.{◌·◌, ◌∣◌, symbol, blanks, gap, perhaps, alone, comment, name_of, name, nat, var, vars, expr, frac, rel, con, cons, point, gens}
 use Rattle.script_text.specs.declared.row.Row.{Row}
-use Rattle.script_text.specs.declared.row.Row.TheVariants.{Nothing, Cons, Gens, Universe, Empty, Copy, Drop, Add, Addgen, Has, Size, Print, Names, Meet, Hull, Closure, Contains, Equal, Disjoint, Isempty, Relation, Max, Min, Image, Preimage, Embed, Project, Remove, Concat, Elapse, Widen, Read, Write, System, Init, Trans, Fixpoint}
+use Rattle.script_text.specs.declared.row.Row.TheVariants.{Nothing, Cons, Gens, Universe, Empty, Copy, Drop, Add, Addgen, Has, Size, Print, Names, Meet, Hull, Closure, Contains, Equal, Disjoint, Isempty, Relation, Max, Min, Image, Preimage, Embed, Project, Remove, Concat, Elapse, Widen, Read, Write, System, Init, Trans, Fixpoint, Pset, Join, Pmeet, Member, Psize, Covers, Rank, Ranking, ShapeOf, Bounds, Smeet, Shull, Scontains, Sprint, Spoly, Hybrid, Inv, Flow, Reach}
 
 -- a line: its command word, what each word behind it may be, whether a relation may stand in the place of the colon, and
 -- the part behind it
@@ -111,6 +111,25 @@ shape_of System = plain (codes "system") (name ∷ nat ∷ nat ∷ [])
 shape_of Init = plain (codes "init") (name ∷ nat ∷ name ∷ [])
 shape_of Trans = plain (codes "trans") (name ∷ nat ∷ nat ∷ name ∷ [])
 shape_of Fixpoint = plain (codes "fixpoint") (name ∷ nat ∷ prefix ∷ [])
+shape_of Pset = plain (codes "pset") (name ∷ name ∷ [])
+shape_of Join = plain (codes "join") (name ∷ name ∷ name ∷ [])
+shape_of Pmeet = plain (codes "pmeet") (name ∷ name ∷ name ∷ [])
+shape_of Member = plain (codes "member") (name ∷ name ∷ nat ∷ [])
+shape_of Psize = plain (codes "psize") (name ∷ [])
+shape_of Covers = plain (codes "covers") (name ∷ name ∷ [])
+shape_of Rank = plain (codes "rank") (name ∷ name ∷ [])
+shape_of Ranking = plain (codes "ranking") (name ∷ [])
+shape_of ShapeOf = plain (codes "shape") (name ∷ name ∷ [])
+shape_of Bounds = with_part (codes "bounds") (name ∷ nat ∷ []) cons
+shape_of Smeet = plain (codes "smeet") (name ∷ name ∷ name ∷ [])
+shape_of Shull = plain (codes "shull") (name ∷ name ∷ name ∷ [])
+shape_of Scontains = plain (codes "scontains") (name ∷ name ∷ [])
+shape_of Sprint = plain (codes "sprint") (name ∷ [])
+shape_of Spoly = plain (codes "spoly") (name ∷ name ∷ [])
+shape_of Hybrid = plain (codes "hybrid") (name ∷ name ∷ [])
+shape_of Inv = plain (codes "inv") (name ∷ nat ∷ name ∷ [])
+shape_of Flow = plain (codes "flow") (name ∷ nat ∷ name ∷ [])
+shape_of Reach = plain (codes "reach") (name ∷ nat ∷ prefix ∷ [])
 
 -- the word is the row's command word; a blank line has none
 abbrev pub IsCommandWord : Row → List ℕ → Type 0
@@ -124,4 +143,4 @@ row_form row = line_form (shape_of row)
 
 -- all rows
 abbrev pub rows : List Row
-rows = Nothing ∷ Cons ∷ Gens ∷ Universe ∷ Empty ∷ Copy ∷ Drop ∷ Add ∷ Addgen ∷ Has ∷ Size ∷ Print ∷ Names ∷ Meet ∷ Hull ∷ Closure ∷ Contains ∷ Equal ∷ Disjoint ∷ Isempty ∷ Relation ∷ Max ∷ Min ∷ Image ∷ Preimage ∷ Embed ∷ Project ∷ Remove ∷ Concat ∷ Elapse ∷ Widen ∷ Read ∷ Write ∷ System ∷ Init ∷ Trans ∷ Fixpoint ∷ []
+rows = Nothing ∷ Cons ∷ Gens ∷ Universe ∷ Empty ∷ Copy ∷ Drop ∷ Add ∷ Addgen ∷ Has ∷ Size ∷ Print ∷ Names ∷ Meet ∷ Hull ∷ Closure ∷ Contains ∷ Equal ∷ Disjoint ∷ Isempty ∷ Relation ∷ Max ∷ Min ∷ Image ∷ Preimage ∷ Embed ∷ Project ∷ Remove ∷ Concat ∷ Elapse ∷ Widen ∷ Read ∷ Write ∷ System ∷ Init ∷ Trans ∷ Fixpoint ∷ Pset ∷ Join ∷ Pmeet ∷ Member ∷ Psize ∷ Covers ∷ Rank ∷ Ranking ∷ ShapeOf ∷ Bounds ∷ Smeet ∷ Shull ∷ Scontains ∷ Sprint ∷ Spoly ∷ Hybrid ∷ Inv ∷ Flow ∷ Reach ∷ []

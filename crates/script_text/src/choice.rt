@@ -10,7 +10,7 @@ use crate::shapes::{nothing_verdict, rest_verdict};
 use grammar::{Verdict, column_of};
 use std::alloc::{AllocError, Global};
 
-pub const ROWS: [Row; 37] = [
+pub const ROWS: [Row; 56] = [
     Row::Nothing,
     Row::Cons,
     Row::Gens,
@@ -48,6 +48,25 @@ pub const ROWS: [Row; 37] = [
     Row::Init,
     Row::Trans,
     Row::Fixpoint,
+    Row::Pset,
+    Row::Join,
+    Row::Pmeet,
+    Row::Member,
+    Row::Psize,
+    Row::Covers,
+    Row::Rank,
+    Row::Ranking,
+    Row::ShapeOf,
+    Row::Bounds,
+    Row::Smeet,
+    Row::Shull,
+    Row::Scontains,
+    Row::Sprint,
+    Row::Spoly,
+    Row::Hybrid,
+    Row::Inv,
+    Row::Flow,
+    Row::Reach,
 ];
 
 /// The row that the command word names.
@@ -91,6 +110,25 @@ fn named(word: &[u8]) -> Option<Row>
         b"init" => Some(Row::Init),
         b"trans" => Some(Row::Trans),
         b"fixpoint" => Some(Row::Fixpoint),
+        b"pset" => Some(Row::Pset),
+        b"join" => Some(Row::Join),
+        b"pmeet" => Some(Row::Pmeet),
+        b"member" => Some(Row::Member),
+        b"psize" => Some(Row::Psize),
+        b"covers" => Some(Row::Covers),
+        b"rank" => Some(Row::Rank),
+        b"ranking" => Some(Row::Ranking),
+        b"shape" => Some(Row::ShapeOf),
+        b"bounds" => Some(Row::Bounds),
+        b"smeet" => Some(Row::Smeet),
+        b"shull" => Some(Row::Shull),
+        b"scontains" => Some(Row::Scontains),
+        b"sprint" => Some(Row::Sprint),
+        b"spoly" => Some(Row::Spoly),
+        b"hybrid" => Some(Row::Hybrid),
+        b"inv" => Some(Row::Inv),
+        b"flow" => Some(Row::Flow),
+        b"reach" => Some(Row::Reach),
         _ => None,
     }
 }

@@ -26,6 +26,93 @@ pub enum Rel {
     Lt,
 }
 
+/// A polyhedron that its dimension alone determines.
+#[derive(Clone, Copy, Debug, Drop, PartialEq, Eq)]
+pub enum Space {
+    /// `universe`: all points.
+    Universe,
+    /// `empty`: no point.
+    Empty,
+}
+
+/// What is made of two polyhedra.
+#[derive(Clone, Copy, Debug, Drop, PartialEq, Eq)]
+pub enum Operator {
+    /// `meet`
+    Meet,
+    /// `hull`
+    Hull,
+    /// `concat`
+    Concat,
+    /// `elapse`
+    Elapse,
+}
+
+/// How two polyhedra may lie.
+#[derive(Clone, Copy, Debug, Drop, PartialEq, Eq)]
+pub enum Comparison {
+    /// `contains`
+    Contains,
+    /// `equal`
+    Equal,
+    /// `disjoint`
+    Disjoint,
+}
+
+/// Which extreme value of an expression.
+#[derive(Clone, Copy, Debug, Drop, PartialEq, Eq)]
+pub enum Extremum {
+    /// `max`
+    Max,
+    /// `min`
+    Min,
+}
+
+/// Which way an affine map is applied.
+#[derive(Clone, Copy, Debug, Drop, PartialEq, Eq)]
+pub enum Mapping {
+    /// `image`
+    Image,
+    /// `preimage`
+    Preimage,
+}
+
+/// How dimensions are added.
+#[derive(Clone, Copy, Debug, Drop, PartialEq, Eq)]
+pub enum Extension {
+    /// `embed`
+    Embed,
+    /// `project`
+    Project,
+}
+
+/// What is made of two powersets.
+#[derive(Clone, Copy, Debug, Drop, PartialEq, Eq)]
+pub enum PowersetOperator {
+    /// `join`
+    Join,
+    /// `pmeet`
+    Meet,
+}
+
+/// What is made of two shapes.
+#[derive(Clone, Copy, Debug, Drop, PartialEq, Eq)]
+pub enum ShapeOperator {
+    /// `smeet`
+    Meet,
+    /// `shull`
+    Hull,
+}
+
+/// A part of a location of a hybrid automaton.
+#[derive(Clone, Copy, Debug, Drop, PartialEq, Eq)]
+pub enum LocationPart {
+    /// `inv`
+    Invariant,
+    /// `flow`
+    Flow,
+}
+
 /// A line, read. A number above `u64::MAX` is `u64::MAX`.
 #[derive(Debug, Drop)]
 pub enum Command {
@@ -45,14 +132,9 @@ pub enum Command {
         n: u64,
         gens: Part,
     },
-    /// `universe OUT TOP N`
-    Universe {
-        out: Text,
-        top: bool,
-        n: u64,
-    },
-    /// `empty OUT TOP N`
-    Empty {
+    /// `universe OUT TOP N`, `empty OUT TOP N`
+    Space {
+        space: Space,
         out: Text,
         top: bool,
         n: u64,
@@ -92,14 +174,9 @@ pub enum Command {
     },
     /// `names`
     Names,
-    /// `meet OUT P Q`
-    Meet {
-        out: Text,
-        p: Text,
-        q: Text,
-    },
-    /// `hull OUT P Q`
-    Hull {
+    /// `meet OUT P Q`, `hull OUT P Q`, `concat OUT P Q`, `elapse OUT P Q`
+    OfTwo {
+        op: Operator,
         out: Text,
         p: Text,
         q: Text,
@@ -109,18 +186,9 @@ pub enum Command {
         out: Text,
         p: Text,
     },
-    /// `contains P Q`
-    Contains {
-        p: Text,
-        q: Text,
-    },
-    /// `equal P Q`
-    Equal {
-        p: Text,
-        q: Text,
-    },
-    /// `disjoint P Q`
-    Disjoint {
+    /// `contains P Q`, `equal P Q`, `disjoint P Q`
+    Compare {
+        by: Comparison,
         p: Text,
         q: Text,
     },
@@ -133,40 +201,25 @@ pub enum Command {
         p: Text,
         con: Part,
     },
-    /// `max P : EXPR`
-    Max {
+    /// `max P : EXPR`, `min P : EXPR`
+    Bound {
+        of: Extremum,
         p: Text,
         expr: Part,
     },
-    /// `min P : EXPR`
-    Min {
-        p: Text,
-        expr: Part,
-    },
-    /// `image OUT P V REL FRAC`; `v` is the number of the variable, 0 for `A`, 26 for `A1`.
-    Image {
+    /// `image OUT P V REL FRAC`, `preimage OUT P V REL FRAC`; `v` is the number of the variable, 0 for `A`, 26
+    /// for `A1`.
+    Map {
+        by: Mapping,
         out: Text,
         p: Text,
         v: u64,
         rel: Rel,
         frac: Part,
     },
-    /// `preimage OUT P V REL FRAC`
-    Preimage {
-        out: Text,
-        p: Text,
-        v: u64,
-        rel: Rel,
-        frac: Part,
-    },
-    /// `embed OUT P N`
-    Embed {
-        out: Text,
-        p: Text,
-        n: u64,
-    },
-    /// `project OUT P N`
-    Project {
+    /// `embed OUT P N`, `project OUT P N`
+    Extend {
+        by: Extension,
         out: Text,
         p: Text,
         n: u64,
@@ -176,18 +229,6 @@ pub enum Command {
         out: Text,
         p: Text,
         vars: VarList,
-    },
-    /// `concat OUT P Q`
-    Concat {
-        out: Text,
-        p: Text,
-        q: Text,
-    },
-    /// `elapse OUT P Q`
-    Elapse {
-        out: Text,
-        p: Text,
-        q: Text,
     },
     /// `widen OUT P Q`
     Widen {
@@ -227,6 +268,92 @@ pub enum Command {
     /// `fixpoint S DELAY PREFIX`
     Fixpoint {
         s: Text,
+        delay: u64,
+        prefix: Text,
+    },
+    /// `pset OUT P`
+    Pset {
+        out: Text,
+        p: Text,
+    },
+    /// `join OUT S T`, `pmeet OUT S T`
+    OfTwoPowersets {
+        op: PowersetOperator,
+        out: Text,
+        s: Text,
+        t: Text,
+    },
+    /// `member OUT S I`
+    Member {
+        out: Text,
+        s: Text,
+        i: u64,
+    },
+    /// `psize S`
+    Psize {
+        s: Text,
+    },
+    /// `covers S T`
+    Covers {
+        s: Text,
+        t: Text,
+    },
+    /// `rank OUT R`
+    Rank {
+        out: Text,
+        r: Text,
+    },
+    /// `ranking R`
+    Ranking {
+        r: Text,
+    },
+    /// `shape OUT P`
+    ShapeOf {
+        out: Text,
+        p: Text,
+    },
+    /// `bounds OUT N : CONS`
+    Bounds {
+        out: Text,
+        n: u64,
+        cons: Part,
+    },
+    /// `smeet OUT S T`, `shull OUT S T`
+    OfTwoShapes {
+        op: ShapeOperator,
+        out: Text,
+        s: Text,
+        t: Text,
+    },
+    /// `scontains S T`
+    ShapeContains {
+        s: Text,
+        t: Text,
+    },
+    /// `sprint S`
+    ShapePrint {
+        s: Text,
+    },
+    /// `spoly OUT S`
+    ShapePoly {
+        out: Text,
+        s: Text,
+    },
+    /// `hybrid OUT S`
+    Hybrid {
+        out: Text,
+        s: Text,
+    },
+    /// `inv H LOC P`, `flow H LOC P`
+    SetPart {
+        part: LocationPart,
+        h: Text,
+        loc: u64,
+        p: Text,
+    },
+    /// `reach H DELAY PREFIX`
+    Reach {
+        h: Text,
         delay: u64,
         prefix: Text,
     },

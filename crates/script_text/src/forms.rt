@@ -137,6 +137,44 @@ const TRANS_LINE: Re<'static> = line!(b"trans", NAME, NAT, NAT, NAME);
 
 const FIXPOINT_LINE: Re<'static> = line!(b"fixpoint", NAME, NAT, PREFIX);
 
+const PSET_LINE: Re<'static> = line!(b"pset", NAME, NAME);
+
+const JOIN_LINE: Re<'static> = line!(b"join", NAME, NAME, NAME);
+
+const PMEET_LINE: Re<'static> = line!(b"pmeet", NAME, NAME, NAME);
+
+const MEMBER_LINE: Re<'static> = line!(b"member", NAME, NAME, NAT);
+
+const PSIZE_LINE: Re<'static> = line!(b"psize", NAME);
+
+const COVERS_LINE: Re<'static> = line!(b"covers", NAME, NAME);
+
+const RANK_LINE: Re<'static> = line!(b"rank", NAME, NAME);
+
+const RANKING_LINE: Re<'static> = line!(b"ranking", NAME);
+
+const SHAPE_LINE: Re<'static> = line!(b"shape", NAME, NAME);
+
+const BOUNDS_LINE: Re<'static> = line!(b"bounds", NAME, NAT; Rule::Cons);
+
+const SMEET_LINE: Re<'static> = line!(b"smeet", NAME, NAME, NAME);
+
+const SHULL_LINE: Re<'static> = line!(b"shull", NAME, NAME, NAME);
+
+const SCONTAINS_LINE: Re<'static> = line!(b"scontains", NAME, NAME);
+
+const SPRINT_LINE: Re<'static> = line!(b"sprint", NAME);
+
+const SPOLY_LINE: Re<'static> = line!(b"spoly", NAME, NAME);
+
+const HYBRID_LINE: Re<'static> = line!(b"hybrid", NAME, NAME);
+
+const INV_LINE: Re<'static> = line!(b"inv", NAME, NAT, NAME);
+
+const FLOW_LINE: Re<'static> = line!(b"flow", NAME, NAT, NAME);
+
+const REACH_LINE: Re<'static> = line!(b"reach", NAME, NAT, PREFIX);
+
 /// The form of the row's lines.
 pub fn form_of(row: Row) -> Re<'static>
     ensures { shape result ≡ row_form row }
@@ -179,5 +217,24 @@ pub fn form_of(row: Row) -> Re<'static>
         Row::Init => INIT_LINE,
         Row::Trans => TRANS_LINE,
         Row::Fixpoint => FIXPOINT_LINE,
+        Row::Pset => PSET_LINE,
+        Row::Join => JOIN_LINE,
+        Row::Pmeet => PMEET_LINE,
+        Row::Member => MEMBER_LINE,
+        Row::Psize => PSIZE_LINE,
+        Row::Covers => COVERS_LINE,
+        Row::Rank => RANK_LINE,
+        Row::Ranking => RANKING_LINE,
+        Row::ShapeOf => SHAPE_LINE,
+        Row::Bounds => BOUNDS_LINE,
+        Row::Smeet => SMEET_LINE,
+        Row::Shull => SHULL_LINE,
+        Row::Scontains => SCONTAINS_LINE,
+        Row::Sprint => SPRINT_LINE,
+        Row::Spoly => SPOLY_LINE,
+        Row::Hybrid => HYBRID_LINE,
+        Row::Inv => INV_LINE,
+        Row::Flow => FLOW_LINE,
+        Row::Reach => REACH_LINE,
     }
 }

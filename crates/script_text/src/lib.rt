@@ -1,8 +1,9 @@
 //! The lines of the calculator, as commands.
 //!
 //! - [`read_command`] gives the command that a line spells, or the fault for which it is refused.
-//! - [`Command`] has a variant for each command, [`Part`] is the text behind a colon, [`Rel`] the relation that
-//!   may stand in the colon's place, and [`VarList`] the variables of a list.
+//! - [`Command`] has a variant for each command or each family of commands with the same fields: then its first
+//!   field tells which, as [`Operator`]. [`Part`] is the text behind a colon, [`Rel`] the relation that may stand
+//!   in the colon's place, and [`VarList`] the variables of a list.
 //! - [`one_command`], [`reads_once`], [`fields_are_words`] and [`variables_are_listed`] are laws of the
 //!   definitions that the contracts cite.
 #![tactic(auto)]
@@ -19,7 +20,10 @@ mod tables;
 mod variables;
 mod words;
 
-pub use command::{Command, Part, Rel};
+pub use command::{
+    Command, Comparison, Extension, Extremum, LocationPart, Mapping, Operator, Part,
+    PowersetOperator, Rel, ShapeOperator, Space,
+};
 pub use laws::{fields_are_words, one_command, reads_once, variables_are_listed};
 pub use read::read_command;
 pub use row::Row;

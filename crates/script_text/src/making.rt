@@ -9,7 +9,10 @@ ghost use Rattle.script_text.specs.Variables.{variable_of, variables_of};
 ghost use Rattle.script_text.specs.Words.{part_of};
 ghost use Rattle.script_text.specs.declared.row.Row.TheVariants as row;
 
-use crate::command::{Command, Part, Rel};
+use crate::command::{
+    Command, Comparison, Extension, Extremum, LocationPart, Mapping, Operator, Part,
+    PowersetOperator, Rel, ShapeOperator, Space,
+};
 use crate::row::Row;
 use crate::variables::VarList;
 use crate::words::{part_of, sign_of, split_word, three_words, two_words};
@@ -143,7 +146,10 @@ fn of_one_name(alloc: Global, row: Row, rest: &[u8]) -> Result<Command, ReadErr>
     Ok(match row {
         Row::Drop => Command::Drop { name: p },
         Row::Size => Command::Size { p },
-        _ => Command::Isempty { p },
+        Row::Isempty => Command::Isempty { p },
+        Row::Psize => Command::Psize { s: p },
+        Row::Ranking => Command::Ranking { r: p },
+        _ => Command::ShapePrint { s: p },
     })
 }
 
@@ -160,8 +166,16 @@ fn of_name_part(alloc: Global, row: Row, rest: &[u8]) -> Result<Command, ReadErr
         Row::Addgen => Command::Addgen { p, gens: part },
         Row::Has => Command::Has { p, point: part },
         Row::Relation => Command::Relation { p, con: part },
-        Row::Max => Command::Max { p, expr: part },
-        _ => Command::Min { p, expr: part },
+        Row::Max => Command::Bound {
+            of: Extremum::Max,
+            p,
+            expr: part,
+        },
+        _ => Command::Bound {
+            of: Extremum::Min,
+            p,
+            expr: part,
+        },
     })
 }
 
@@ -176,9 +190,28 @@ fn of_two_names(alloc: Global, row: Row, rest: &[u8]) -> Result<Command, ReadErr
     Ok(match row {
         Row::Copy => Command::Copy { out: p, p: q },
         Row::Closure => Command::Closure { out: p, p: q },
-        Row::Contains => Command::Contains { p, q },
-        Row::Equal => Command::Equal { p, q },
-        _ => Command::Disjoint { p, q },
+        Row::Contains => Command::Compare {
+            by: Comparison::Contains,
+            p,
+            q,
+        },
+        Row::Equal => Command::Compare {
+            by: Comparison::Equal,
+            p,
+            q,
+        },
+        Row::Disjoint => Command::Compare {
+            by: Comparison::Disjoint,
+            p,
+            q,
+        },
+        Row::Pset => Command::Pset { out: p, p: q },
+        Row::Covers => Command::Covers { s: p, t: q },
+        Row::Rank => Command::Rank { out: p, r: q },
+        Row::ShapeOf => Command::ShapeOf { out: p, p: q },
+        Row::Scontains => Command::ShapeContains { s: p, t: q },
+        Row::Spoly => Command::ShapePoly { out: p, s: q },
+        _ => Command::Hybrid { out: p, s: q },
     })
 }
 
@@ -192,11 +225,55 @@ fn of_three_names(alloc: Global, row: Row, rest: &[u8]) -> Result<Command, ReadE
     let p = text(alloc, second)?;
     let q = text(alloc, third)?;
     Ok(match row {
-        Row::Meet => Command::Meet { out, p, q },
-        Row::Hull => Command::Hull { out, p, q },
-        Row::Concat => Command::Concat { out, p, q },
-        Row::Elapse => Command::Elapse { out, p, q },
-        _ => Command::Widen { out, p, q },
+        Row::Meet => Command::OfTwo {
+            op: Operator::Meet,
+            out,
+            p,
+            q,
+        },
+        Row::Hull => Command::OfTwo {
+            op: Operator::Hull,
+            out,
+            p,
+            q,
+        },
+        Row::Concat => Command::OfTwo {
+            op: Operator::Concat,
+            out,
+            p,
+            q,
+        },
+        Row::Elapse => Command::OfTwo {
+            op: Operator::Elapse,
+            out,
+            p,
+            q,
+        },
+        Row::Widen => Command::Widen { out, p, q },
+        Row::Join => Command::OfTwoPowersets {
+            op: PowersetOperator::Join,
+            out,
+            s: p,
+            t: q,
+        },
+        Row::Pmeet => Command::OfTwoPowersets {
+            op: PowersetOperator::Meet,
+            out,
+            s: p,
+            t: q,
+        },
+        Row::Smeet => Command::OfTwoShapes {
+            op: ShapeOperator::Meet,
+            out,
+            s: p,
+            t: q,
+        },
+        _ => Command::OfTwoShapes {
+            op: ShapeOperator::Hull,
+            out,
+            s: p,
+            t: q,
+        },
     })
 }
 
@@ -210,8 +287,18 @@ fn of_space(alloc: Global, row: Row, rest: &[u8]) -> Result<Command, ReadErr>
     let top = is_word(second, b"nnc");
     let n = number(third);
     Ok(match row {
-        Row::Universe => Command::Universe { out, top, n },
-        _ => Command::Empty { out, top, n },
+        Row::Universe => Command::Space {
+            space: Space::Universe,
+            out,
+            top,
+            n,
+        },
+        _ => Command::Space {
+            space: Space::Empty,
+            out,
+            top,
+            n,
+        },
     })
 }
 
@@ -251,8 +338,19 @@ fn of_two_names_number(alloc: Global, row: Row, rest: &[u8]) -> Result<Command, 
     let p = text(alloc, second)?;
     let n = number(third);
     Ok(match row {
-        Row::Embed => Command::Embed { out, p, n },
-        _ => Command::Project { out, p, n },
+        Row::Embed => Command::Extend {
+            by: Extension::Embed,
+            out,
+            p,
+            n,
+        },
+        Row::Project => Command::Extend {
+            by: Extension::Project,
+            out,
+            p,
+            n,
+        },
+        _ => Command::Member { out, s: p, i: n },
     })
 }
 
@@ -268,14 +366,16 @@ fn of_two_names_variable(alloc: Global, row: Row, rest: &[u8]) -> Result<Command
     let rel = relation(sign_of(rest));
     let frac = part(alloc, rest)?;
     Ok(match row {
-        Row::Image => Command::Image {
+        Row::Image => Command::Map {
+            by: Mapping::Image,
             out,
             p,
             v,
             rel,
             frac,
         },
-        _ => Command::Preimage {
+        _ => Command::Map {
+            by: Mapping::Preimage,
             out,
             p,
             v,
@@ -310,8 +410,25 @@ fn of_name_number_name(alloc: Global, row: Row, rest: &[u8]) -> Result<Command, 
     let last = text(alloc, third)?;
     Ok(match row {
         Row::Init => Command::Init { s, loc: n, p: last },
-        _ => Command::Fixpoint {
+        Row::Inv => Command::SetPart {
+            part: LocationPart::Invariant,
+            h: s,
+            loc: n,
+            p: last,
+        },
+        Row::Flow => Command::SetPart {
+            part: LocationPart::Flow,
+            h: s,
+            loc: n,
+            p: last,
+        },
+        Row::Fixpoint => Command::Fixpoint {
             s,
+            delay: n,
+            prefix: last,
+        },
+        _ => Command::Reach {
+            h: s,
             delay: n,
             prefix: last,
         },
@@ -353,6 +470,18 @@ fn system_command(alloc: Global, rest: &[u8]) -> Result<Command, ReadErr>
     })
 }
 
+/// `bounds`, with a name, a number and a part.
+fn bounds_command(alloc: Global, rest: &[u8]) -> Result<Command, ReadErr>
+    ensures { MatchResult result (λ c. c ≡ command_of row.Bounds (fields_in rest.now)) (λ e. e ≡ read_err.Memory) }
+{
+    let (first, second) = two_words(rest);
+    Ok(Command::Bounds {
+        out: text(alloc, first)?,
+        n: number(second),
+        cons: part(alloc, rest)?,
+    })
+}
+
 /// `trans`, with a name, two numbers and a name.
 fn trans_command(alloc: Global, rest: &[u8]) -> Result<Command, ReadErr>
     ensures { MatchResult result (λ c. c ≡ command_of row.Trans (fields_in rest.now)) (λ e. e ≡ read_err.Memory) }
@@ -374,25 +503,44 @@ pub fn command_of(alloc: Global, row: Row, rest: &[u8]) -> Result<Command, ReadE
     match row {
         Row::Nothing => Ok(Command::Nothing),
         Row::Names => Ok(Command::Names),
-        Row::Drop | Row::Size | Row::Isempty => of_one_name(alloc, row, rest),
+        Row::Drop | Row::Size | Row::Isempty | Row::Psize | Row::Ranking | Row::Sprint =>
+            of_one_name(alloc, row, rest),
         Row::Add | Row::Addgen | Row::Has | Row::Relation | Row::Max | Row::Min => of_name_part(
             alloc, row, rest,
         ),
-        Row::Copy | Row::Closure | Row::Contains | Row::Equal | Row::Disjoint => of_two_names(
-            alloc, row, rest,
-        ),
-        Row::Meet | Row::Hull | Row::Concat | Row::Elapse | Row::Widen => of_three_names(
-            alloc, row, rest,
-        ),
+        Row::Copy
+        | Row::Closure
+        | Row::Contains
+        | Row::Equal
+        | Row::Disjoint
+        | Row::Pset
+        | Row::Covers
+        | Row::Rank
+        | Row::ShapeOf
+        | Row::Scontains
+        | Row::Spoly
+        | Row::Hybrid => of_two_names(alloc, row, rest),
+        Row::Meet
+        | Row::Hull
+        | Row::Concat
+        | Row::Elapse
+        | Row::Widen
+        | Row::Join
+        | Row::Pmeet
+        | Row::Smeet
+        | Row::Shull => of_three_names(alloc, row, rest),
         Row::Universe | Row::Empty => of_space(alloc, row, rest),
         Row::Cons | Row::Gens => of_space_part(alloc, row, rest),
-        Row::Embed | Row::Project => of_two_names_number(alloc, row, rest),
+        Row::Embed | Row::Project | Row::Member => of_two_names_number(alloc, row, rest),
         Row::Image | Row::Preimage => of_two_names_variable(alloc, row, rest),
         Row::Read | Row::Write => of_name_format(alloc, row, rest),
-        Row::Init | Row::Fixpoint => of_name_number_name(alloc, row, rest),
+        Row::Init | Row::Inv | Row::Flow | Row::Fixpoint | Row::Reach => of_name_number_name(
+            alloc, row, rest,
+        ),
         Row::Print => print_command(alloc, rest),
         Row::Remove => remove_command(alloc, rest),
         Row::System => system_command(alloc, rest),
+        Row::Bounds => bounds_command(alloc, rest),
         Row::Trans => trans_command(alloc, rest),
     }
 }

@@ -77,4 +77,42 @@ pub enum Row {
     Trans,
     /// `fixpoint`
     Fixpoint,
+    /// `pset`
+    Pset,
+    /// `join`
+    Join,
+    /// `pmeet`
+    Pmeet,
+    /// `member`
+    Member,
+    /// `psize`
+    Psize,
+    /// `covers`
+    Covers,
+    /// `rank`
+    Rank,
+    /// `ranking`
+    Ranking,
+    /// `shape`
+    ShapeOf,
+    /// `bounds`
+    Bounds,
+    /// `smeet`
+    Smeet,
+    /// `shull`
+    Shull,
+    /// `scontains`
+    Scontains,
+    /// `sprint`
+    Sprint,
+    /// `spoly`
+    Spoly,
+    /// `hybrid`
+    Hybrid,
+    /// `inv`
+    Inv,
+    /// `flow`
+    Flow,
+    /// `reach`
+    Reach,
 }

@@ -4,9 +4,9 @@ ghost use Rattle.script_text.specs.Rows.{nothing_form, rest_form, shape_of};
 
 use crate::row::Row;
 use crate::tables::{
-    ADD, ADDGEN, CONS, FILE, GENS, HAS, IMAGE, NAME_NAT_NAME, NAME_NAT_NAT, NAME_NAT_NAT_NAME,
-    NAME_NAT_PREFIX, NO_WORDS, NOTHING, ONE_NAME, OPTIMUM, PRINT, RELATION, REMOVE, SPACE,
-    THREE_NAMES, TWO_NAMES, TWO_NAMES_NAT,
+    ADD, ADDGEN, BOUNDS, CONS, FILE, GENS, HAS, IMAGE, NAME_NAT_NAME, NAME_NAT_NAT,
+    NAME_NAT_NAT_NAME, NAME_NAT_PREFIX, NO_WORDS, NOTHING, ONE_NAME, OPTIMUM, PRINT, RELATION,
+    REMOVE, SPACE, THREE_NAMES, TWO_NAMES, TWO_NAMES_NAT,
 };
 use grammar::Verdict;
 
@@ -53,6 +53,25 @@ pub fn rest_verdict(row: Row, rest: &[u8]) -> Verdict
         Row::Init => NAME_NAT_NAME.column(rest),
         Row::Trans => NAME_NAT_NAT_NAME.column(rest),
         Row::Fixpoint => NAME_NAT_PREFIX.column(rest),
+        Row::Pset => TWO_NAMES.column(rest),
+        Row::Join => THREE_NAMES.column(rest),
+        Row::Pmeet => THREE_NAMES.column(rest),
+        Row::Member => TWO_NAMES_NAT.column(rest),
+        Row::Psize => ONE_NAME.column(rest),
+        Row::Covers => TWO_NAMES.column(rest),
+        Row::Rank => TWO_NAMES.column(rest),
+        Row::Ranking => ONE_NAME.column(rest),
+        Row::ShapeOf => TWO_NAMES.column(rest),
+        Row::Bounds => BOUNDS.column(rest),
+        Row::Smeet => THREE_NAMES.column(rest),
+        Row::Shull => THREE_NAMES.column(rest),
+        Row::Scontains => TWO_NAMES.column(rest),
+        Row::Sprint => ONE_NAME.column(rest),
+        Row::Spoly => TWO_NAMES.column(rest),
+        Row::Hybrid => TWO_NAMES.column(rest),
+        Row::Inv => NAME_NAT_NAME.column(rest),
+        Row::Flow => NAME_NAT_NAME.column(rest),
+        Row::Reach => NAME_NAT_PREFIX.column(rest),
     }
 }
 

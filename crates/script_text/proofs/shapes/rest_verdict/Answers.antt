@@ -1,7 +1,8 @@
 use Rattle.script_text.specs.Rows.{rest_form, shape_of}
-use Rattle.script_text.specs.declared.row.Row.TheVariants.{Nothing, Cons, Gens, Universe, Empty, Copy, Drop, Add, Addgen, Has, Size, Print, Names, Meet, Hull, Closure, Contains, Equal, Disjoint, Isempty, Relation, Max, Min, Image, Preimage, Embed, Project, Remove, Concat, Elapse, Widen, Read, Write, System, Init, Trans, Fixpoint}
+use Rattle.script_text.specs.declared.row.Row.TheVariants.{Nothing, Cons, Gens, Universe, Empty, Copy, Drop, Add, Addgen, Has, Size, Print, Names, Meet, Hull, Closure, Contains, Equal, Disjoint, Isempty, Relation, Max, Min, Image, Preimage, Embed, Project, Remove, Concat, Elapse, Widen, Read, Write, System, Init, Trans, Fixpoint, Pset, Join, Pmeet, Member, Psize, Covers, Rank, Ranking, ShapeOf, Bounds, Smeet, Shull, Scontains, Sprint, Spoly, Hybrid, Inv, Flow, Reach}
 use Rattle.script_text.proofs.AddTable.{add_decides}
 use Rattle.script_text.proofs.AddgenTable.{addgen_decides}
+use Rattle.script_text.proofs.BoundsTable.{bounds_decides}
 use Rattle.script_text.proofs.ConsTable.{cons_decides}
 use Rattle.script_text.proofs.GensTable.{gens_decides}
 use Rattle.script_text.proofs.HasTable.{has_decides}
@@ -133,3 +134,60 @@ returns-in-Trans c = rw c.in-Trans.is (c.column-in-Trans.ensures (rest_form (sha
 
 pub returns-in-Fixpoint : goal.returns-in-Fixpoint
 returns-in-Fixpoint c = rw c.in-Fixpoint.is (c.column-in-Fixpoint.ensures (rest_form (shape_of Fixpoint)) name_nat_prefix_decides)
+
+pub returns-in-Pset : goal.returns-in-Pset
+returns-in-Pset c = rw c.in-Pset.is (c.column-in-Pset.ensures (rest_form (shape_of Pset)) two_names_decides)
+
+pub returns-in-Join : goal.returns-in-Join
+returns-in-Join c = rw c.in-Join.is (c.column-in-Join.ensures (rest_form (shape_of Join)) three_names_decides)
+
+pub returns-in-Pmeet : goal.returns-in-Pmeet
+returns-in-Pmeet c = rw c.in-Pmeet.is (c.column-in-Pmeet.ensures (rest_form (shape_of Pmeet)) three_names_decides)
+
+pub returns-in-Member : goal.returns-in-Member
+returns-in-Member c = rw c.in-Member.is (c.column-in-Member.ensures (rest_form (shape_of Member)) two_names_nat_decides)
+
+pub returns-in-Psize : goal.returns-in-Psize
+returns-in-Psize c = rw c.in-Psize.is (c.column-in-Psize.ensures (rest_form (shape_of Psize)) one_name_decides)
+
+pub returns-in-Covers : goal.returns-in-Covers
+returns-in-Covers c = rw c.in-Covers.is (c.column-in-Covers.ensures (rest_form (shape_of Covers)) two_names_decides)
+
+pub returns-in-Rank : goal.returns-in-Rank
+returns-in-Rank c = rw c.in-Rank.is (c.column-in-Rank.ensures (rest_form (shape_of Rank)) two_names_decides)
+
+pub returns-in-Ranking : goal.returns-in-Ranking
+returns-in-Ranking c = rw c.in-Ranking.is (c.column-in-Ranking.ensures (rest_form (shape_of Ranking)) one_name_decides)
+
+pub returns-in-ShapeOf : goal.returns-in-ShapeOf
+returns-in-ShapeOf c = rw c.in-ShapeOf.is (c.column-in-ShapeOf.ensures (rest_form (shape_of ShapeOf)) two_names_decides)
+
+pub returns-in-Bounds : goal.returns-in-Bounds
+returns-in-Bounds c = rw c.in-Bounds.is (c.column-in-Bounds.ensures (rest_form (shape_of Bounds)) bounds_decides)
+
+pub returns-in-Smeet : goal.returns-in-Smeet
+returns-in-Smeet c = rw c.in-Smeet.is (c.column-in-Smeet.ensures (rest_form (shape_of Smeet)) three_names_decides)
+
+pub returns-in-Shull : goal.returns-in-Shull
+returns-in-Shull c = rw c.in-Shull.is (c.column-in-Shull.ensures (rest_form (shape_of Shull)) three_names_decides)
+
+pub returns-in-Scontains : goal.returns-in-Scontains
+returns-in-Scontains c = rw c.in-Scontains.is (c.column-in-Scontains.ensures (rest_form (shape_of Scontains)) two_names_decides)
+
+pub returns-in-Sprint : goal.returns-in-Sprint
+returns-in-Sprint c = rw c.in-Sprint.is (c.column-in-Sprint.ensures (rest_form (shape_of Sprint)) one_name_decides)
+
+pub returns-in-Spoly : goal.returns-in-Spoly
+returns-in-Spoly c = rw c.in-Spoly.is (c.column-in-Spoly.ensures (rest_form (shape_of Spoly)) two_names_decides)
+
+pub returns-in-Hybrid : goal.returns-in-Hybrid
+returns-in-Hybrid c = rw c.in-Hybrid.is (c.column-in-Hybrid.ensures (rest_form (shape_of Hybrid)) two_names_decides)
+
+pub returns-in-Inv : goal.returns-in-Inv
+returns-in-Inv c = rw c.in-Inv.is (c.column-in-Inv.ensures (rest_form (shape_of Inv)) name_nat_name_decides)
+
+pub returns-in-Flow : goal.returns-in-Flow
+returns-in-Flow c = rw c.in-Flow.is (c.column-in-Flow.ensures (rest_form (shape_of Flow)) name_nat_name_decides)
+
+pub returns-in-Reach : goal.returns-in-Reach
+returns-in-Reach c = rw c.in-Reach.is (c.column-in-Reach.ensures (rest_form (shape_of Reach)) name_nat_prefix_decides)

@@ -1,0 +1,19 @@
+use Rattle.std.proofs.Common.{◌≡◌, ◌∙◌, ◌%◌, ℕ, List, [], ◌∷◌, ◌++◌, Option, Some, Err, rules, sym, ap, subst, arith}
+use Rattle.std.specs.Option.{option_copied}
+use Rattle.poly_pair.specs.Polyhedra.{Polyhedron}
+use Rattle.poly_pair.specs.declared.topology.Topology.TheVariants.{Closed}
+use Rattle.calc_state.specs.Meaning.{on_one}
+use Rattle.calc_state.specs.Rankings.{ranking}
+use Rattle.calc_state.specs.Performed.{IsPerformed}
+use Rattle.calc_state.proofs.MapLemmas.{map_leaves}
+use Rattle.calc_state.proofs.RankingLemmas.{ranking_passes, ranking_told}
+use Rattle.calc_state.proofs.rankings.ranking.Goals as goal
+
+pub returns-in-Err : goal.returns-in-Err
+returns-in-Err g c =
+    let r : Polyhedron = c.in-Some.r.now in
+    let closed : r.topology ≡ Closed = search rules in
+    let even : r.cons.dim % 2 ≡ 0 = search rules in
+    let found : option_copied c.args.r ≡ Some r = ap option_copied c.in-Some.is in
+    subst (λ (o : Option Polyhedron). IsPerformed (on_one o ranking) (Err c.from.result)) (sym found)
+    (rw c.from.ensures (map_leaves (ranking r) c.in-Err.cause (ranking_passes r closed even) c.in-Err.ensures.overflow))

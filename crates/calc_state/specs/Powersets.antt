@@ -1,0 +1,89 @@
+-- What the commands mean that make and combine powersets, and those that ask about them.
+use Rattle.std.specs.Prelude.{◌≡◌, ◌≢◌, ◌⊎◌, ℕ, ◌-◌, ◌<◌, List, ◌++◌, length, slice_get, Some, true, codes, decimal}
+use Rattle.row_core.specs.declared.errors.Overflow.{Overflow}
+use Rattle.reply_text.specs.declared.faults.Fault.TheVariants as fault
+use Rattle.gens_sys.specs.declared.kind.GenKind.TheVariants.{Point}
+use Rattle.expr_text.specs.Printed.{generator_text}
+use Rattle.poly_pair.specs.Polyhedra.{Polyhedron}
+use Rattle.powerset.specs.Powersets.{Union, IsUnionOf}
+use Rattle.powerset.specs.Joins.{IsJoin, LeavesOnJoin, IsPairMeet, LeavesOnPairMeet}
+use Rattle.powerset.specs.Covers.{IsCover, LeavesOnCover}
+use Rattle.powerset.specs.declared.covering.Cover.{Cover}
+use Rattle.powerset.specs.declared.covering.Cover.TheVariants.{Yes, No}
+use Rattle.script_text.specs.declared.command.PowersetOperator.{PowersetOperator}
+use Rattle.script_text.specs.declared.command.PowersetOperator.TheVariants.{Join, Meet}
+use Rattle.calc_state.specs.declared.change.Change.{Change}
+use Rattle.calc_state.specs.Table.{Table, as_powerset}
+use Rattle.calc_state.specs.Order.{Conditions}
+use Rattle.calc_state.specs.Meaning.{Meaning, no_fault, no_overflow, room, IsPut, IsPutAs, IsSaid, answer_line}
+use Rattle.calc_state.specs.Questions.{line, says}
+
+-- ---- makers
+-- pset OUT P
+abbrev pub pset : Table → List ℕ → Polyhedron → Meaning
+pset table out p = record { conditions = room table out; overflows = no_overflow; does = IsPutAs as_powerset out (IsUnionOf p) }
+
+-- two unions have one topology and one dimension
+abbrev pub alike_unions : Union → Union → Conditions → Conditions
+alike_unions s t others fault.TopologyMismatch = s.topology ≢ t.topology
+alike_unions s t others fault.DimMismatch = s.dim ≢ t.dim
+alike_unions s t others other = others other
+
+-- the overflows that a combination may show
+abbrev pub LeavesInPowersets : PowersetOperator → Union → Union → Overflow → Type 0
+LeavesInPowersets Join s t over = LeavesOnJoin s t over
+LeavesInPowersets Meet s t over = LeavesOnPairMeet s t over
+
+-- the combination of two unions
+abbrev pub IsPowersetOf : PowersetOperator → Union → Union → Union → Type 0
+IsPowersetOf Join s t u = IsJoin s t u
+IsPowersetOf Meet s t u = IsPairMeet s t u
+
+-- join OUT S T, pmeet OUT S T
+abbrev pub of_two_powersets : PowersetOperator → Table → List ℕ → Union → Union → Meaning
+of_two_powersets op table out s t = record {
+  conditions = alike_unions s t (room table out);
+  overflows = LeavesInPowersets op s t;
+  does = IsPutAs as_powerset out (IsPowersetOf op s t);
+}
+
+-- members are counted from 1, and the number isn't one of so many
+abbrev pub misses_member : ℕ → ℕ → Conditions → Conditions
+misses_member count i others fault.OutOfRange = (i ≡ 0) ⊎ (count < i)
+misses_member count i others other = others other
+
+-- member OUT S I
+abbrev pub member : Table → List ℕ → ℕ → Union → Meaning
+member table out i s = record {
+  conditions = misses_member (length s.members) i (room table out);
+  overflows = no_overflow;
+  does = IsPut out (λ r. slice_get s.members (i - 1) ≡ Some r);
+}
+
+-- ---- questions
+-- members M
+abbrev pub members_text : Union → List ℕ
+members_text s = codes "members " ++ decimal (length s.members)
+
+-- psize S
+abbrev pub psize : Union → Meaning
+psize s = says (line (members_text s))
+
+-- yes, or no and the point that isn't covered
+abbrev pub cover_line : ℕ → Cover → List ℕ
+cover_line dim Yes = answer_line true
+cover_line dim (No v) = line (codes "no " ++ generator_text dim (v, Point))
+
+-- whether the one covers the other is said
+pub record IsCoverTold (s t : Union) (change : Change) : Type 0 where
+  pub answer : Cover
+  pub true_of : IsCover s t answer
+  pub said : IsSaid (cover_line s.dim answer) change
+
+-- covers S T
+abbrev pub covers : Union → Union → Meaning
+covers s t = record {
+  conditions = alike_unions s t no_fault;
+  overflows = LeavesOnCover s t;
+  does = IsCoverTold s t;
+}

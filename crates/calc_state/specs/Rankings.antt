@@ -1,0 +1,43 @@
+-- What the commands mean that make the ranking functions of a relation, and that say one of them.
+use Rattle.std.specs.Prelude.{◌≢◌, ℕ, ◌/◌, ◌%◌, List}
+use Rattle.reply_text.specs.declared.faults.Fault.TheVariants as fault
+use Rattle.poly_pair.specs.declared.topology.Topology.TheVariants.{Closed}
+use Rattle.poly_pair.specs.Polyhedra.{Polyhedron}
+use Rattle.ranking.specs.Rankings.{IsRankingSet}
+use Rattle.ranking.specs.PrintedRankings.{IsRankingText}
+use Rattle.ranking.specs.Refusals.{LeavesInRanking}
+use Rattle.calc_state.specs.declared.change.Change.{Change}
+use Rattle.calc_state.specs.Table.{Table}
+use Rattle.calc_state.specs.Order.{Conditions}
+use Rattle.calc_state.specs.Meaning.{Meaning, no_fault, room, IsPut, IsSaid}
+use Rattle.calc_state.specs.Questions.{line}
+
+-- the polyhedron is a closed relation of states and their successors, over as many variables each
+abbrev pub relates_states : Polyhedron → Conditions → Conditions
+relates_states r others fault.NotClosed = r.topology ≢ Closed
+relates_states r others fault.DimMismatch = r.cons.dim % 2 ≢ 0
+relates_states r others other = others other
+
+-- rank OUT R
+abbrev pub rank : Table → List ℕ → Polyhedron → Meaning
+rank table out r = record {
+  conditions = relates_states r (room table out);
+  overflows = LeavesInRanking (r.cons.dim / 2) r.gens;
+  does = IsPut out (IsRankingSet (r.cons.dim / 2) r);
+}
+
+-- one of the ranking functions is said, or that there is none
+pub record IsRankingTold (r : Polyhedron) (change : Change) : Type 0 where
+  pub functions : Polyhedron
+  pub is : IsRankingSet (r.cons.dim / 2) r functions
+  pub text : List ℕ
+  pub told : IsRankingText functions text
+  pub said : IsSaid (line text) change
+
+-- ranking R
+abbrev pub ranking : Polyhedron → Meaning
+ranking r = record {
+  conditions = relates_states r no_fault;
+  overflows = LeavesInRanking (r.cons.dim / 2) r.gens;
+  does = IsRankingTold r;
+}

@@ -1,0 +1,187 @@
+//! The commands that make and combine powersets, and those that ask about them.
+ghost use Rattle.std.specs.Prelude.{◌≡◌, ◌++◌, ◌∷◌, [], ◌≤◌, codes, IfOk, IfErr};
+ghost use Rattle.std.specs.Option.{option_copied};
+ghost use Rattle.row_core.specs.Points.{IsPoint};
+ghost use Rattle.row_core.specs.Content.{IsPrimitive};
+ghost use Rattle.row_core.specs.Refusals.{IsOverflowIn};
+ghost use Rattle.gens_sys.specs.declared.kind.GenKind.TheVariants.{Point};
+ghost use Rattle.expr_text.specs.Printed.{generator_text};
+ghost use Rattle.poly_pair.specs.declared.topology.TheConstants.{MAX_DIM};
+ghost use Rattle.calc_state.specs.Meaning.{on_one, on_two};
+ghost use Rattle.calc_state.specs.Questions.{line};
+ghost use Rattle.calc_state.specs.Powersets.{pset as make_pset, of_two_powersets as make_of_two, member as make_member, psize as tell_size, covers as ask_covers, IsPowersetOf, LeavesInPowersets, members_text};
+ghost use Rattle.calc_state.specs.Performed.{IsPerformed};
+
+use crate::change::Change;
+use crate::entry::Entry;
+use crate::names::Names;
+use crate::questions::answer;
+use crate::refusal::StepErr;
+use expr_text::print_gen;
+use gens_sys::{GenKind, GenPushErr, GensSys};
+use poly_pair::Poly;
+use powerset::{Cover, Powerset, join, pmeet};
+use reply_text::{Fault, Text};
+use row_core::{ConvErr, Memory, RowBuf, Steps};
+use script_text::PowersetOperator;
+use std::alloc::Global;
+use std::sync::ledger::Ledger;
+
+/// The powerset of the one polyhedron.
+pub fn pset(alloc: Global, names: &Names, out: Text, p: Option<&Poly>) -> Result<Change, StepErr>
+    ensures { IsPerformed (on_one (option_copied p.entry) (make_pset names.now out)) result }
+{
+    let Some(p) = p else {
+        return Err(StepErr::Input(Fault::UnknownName));
+    };
+    if names.has_no_room(out.bytes()) {
+        return Err(StepErr::Input(Fault::TooManyNames));
+    }
+    let made = Powerset::of(alloc, p)?;
+    Ok(Change::Puts(out, Entry::Powerset(made)))
+}
+
+/// The union of two powersets, or their common points.
+fn combined<L: Ledger>(
+    alloc: Global,
+    op: PowersetOperator,
+    s: &Powerset,
+    t: &Powerset,
+    steps: &mut Steps<L>,
+) -> Result<Powerset, ConvErr>
+    requires topology { s.now.topology ≡ t.now.topology }
+    requires dim { s.now.dim ≡ t.now.dim }
+    ensures made { IfOk result (IsPowersetOf op s.now t.now) }
+    ensures overflow { IfErr result (IsOverflowIn (LeavesInPowersets op s.now t.now)) }
+{
+    match op {
+        PowersetOperator::Join => join(alloc, s, t),
+        PowersetOperator::Meet => pmeet(alloc, s, t, steps),
+    }
+}
+
+/// The powerset that the operator makes of two.
+pub fn of_two_powersets<L: Ledger>(
+    alloc: Global,
+    names: &Names,
+    op: PowersetOperator,
+    out: Text,
+    s: Option<&Powerset>,
+    t: Option<&Powerset>,
+    steps: &mut Steps<L>,
+) -> Result<Change, StepErr>
+    ensures { IsPerformed (on_two (option_copied s.entry) (option_copied t.entry) (make_of_two op names.now out)) result }
+{
+    let (Some(s), Some(t)) = (s, t) else {
+        return Err(StepErr::Input(Fault::UnknownName));
+    };
+    if s.topology() != t.topology() {
+        return Err(StepErr::Input(Fault::TopologyMismatch));
+    }
+    if s.dim() != t.dim() {
+        return Err(StepErr::Input(Fault::DimMismatch));
+    }
+    if names.has_no_room(out.bytes()) {
+        return Err(StepErr::Input(Fault::TooManyNames));
+    }
+    match combined(alloc, op, s, t, steps) {
+        Ok(made) => Ok(Change::Puts(out, Entry::Powerset(made))),
+        Err(cause) => Err(StepErr::from(cause)),
+    }
+}
+
+/// The member with this number, counted from 1.
+pub fn member(names: &Names, out: Text, s: Option<&Powerset>, i: u64) -> Result<Change, StepErr>
+    ensures { IsPerformed (on_one (option_copied s.entry) (make_member names.now out i)) result }
+{
+    let Some(s) = s else {
+        return Err(StepErr::Input(Fault::UnknownName));
+    };
+    if i == 0 || i > s.len() as u64 {
+        return Err(StepErr::Input(Fault::OutOfRange));
+    }
+    if names.has_no_room(out.bytes()) {
+        return Err(StepErr::Input(Fault::TooManyNames));
+    }
+    let index = (i - 1) as usize;
+    let made = s.member(index).try_copy()?;
+    Ok(Change::Puts(out, Entry::Poly(made)))
+}
+
+/// The number of members.
+pub fn psize(alloc: Global, s: Option<&Powerset>) -> Result<Change, StepErr>
+    ensures { IsPerformed (on_one (option_copied s.entry) tell_size) result }
+{
+    let Some(s) = s else {
+        return Err(StepErr::Input(Fault::UnknownName));
+    };
+    let mut text = members(alloc, s)?;
+    text.push(b"\n")?;
+    Ok(Change::Says(text))
+}
+
+fn members(alloc: Global, s: &Powerset) -> Result<Text, Memory>
+    ensures { IfOk result (λ text. text ≡ members_text s.now) }
+{
+    let mut text = Text::new(alloc);
+    text.push(b"members ")?;
+    text.push_unsigned(s.len() as u64)?;
+    Ok(text)
+}
+
+/// Whether each point of the second is in the first; where one isn't, such a point.
+pub fn covers<L: Ledger>(
+    alloc: Global,
+    s: Option<&Powerset>,
+    t: Option<&Powerset>,
+    steps: &mut Steps<L>,
+) -> Result<Change, StepErr>
+    ensures { IsPerformed (on_two (option_copied s.entry) (option_copied t.entry) ask_covers) result }
+{
+    let (Some(s), Some(t)) = (s, t) else {
+        return Err(StepErr::Input(Fault::UnknownName));
+    };
+    if s.topology() != t.topology() {
+        return Err(StepErr::Input(Fault::TopologyMismatch));
+    }
+    let dim = s.dim();
+    if dim != t.dim() {
+        return Err(StepErr::Input(Fault::DimMismatch));
+    }
+    match powerset::covers(alloc, s, t, steps) {
+        Ok(Cover::Yes) => Ok(Change::Says(answer(alloc, true)?)),
+        Ok(Cover::No(point)) => Ok(Change::Says(uncovered(alloc, dim, point)?)),
+        Err(cause) => Err(StepErr::from(cause)),
+    }
+}
+
+/// The line `no` with a point.
+fn uncovered(alloc: Global, dim: usize, point: RowBuf) -> Result<Text, Memory>
+    requires narrow { dim ≤ MAX_DIM }
+    requires point { IsPoint dim point }
+    requires primitive { IsPrimitive point }
+    ensures { IfOk result (λ text. text ≡ line (codes "no " ++ generator_text dim (point, Point))) }
+{
+    let gens = only_point(alloc, dim, point)?;
+    let mut text = Text::new(alloc);
+    text.push(b"no ")?;
+    text.push(print_gen(alloc, &gens, 0)?.bytes())?;
+    text.push(b"\n")?;
+    Ok(text)
+}
+
+/// The system of the one point.
+fn only_point(alloc: Global, dim: usize, point: RowBuf) -> Result<GensSys, Memory>
+    requires narrow { dim ≤ MAX_DIM }
+    requires point { IsPoint dim point }
+    requires primitive { IsPrimitive point }
+    ensures dim { IfOk result (λ gens. gens.dim ≡ dim) }
+    ensures list { IfOk result (λ gens. gens.list ≡ (point, Point) ∷ []) }
+{
+    let mut gens = GensSys::new(alloc, dim);
+    match gens.push_row(point, GenKind::Point) {
+        Ok(()) => Ok(gens),
+        Err(GenPushErr::Memory) => Err(Memory),
+        Err(_) => unreachable!(),
+    }
+}
