@@ -14,6 +14,7 @@ pub mod OneUnion
 pub mod OneShape
 pub mod OneHybrid
 pub mod OneSet
+pub mod EntryKinds
 pub mod Operands
 pub mod ShapeRows
 pub mod AcceptedRuns
