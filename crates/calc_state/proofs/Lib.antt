@@ -1,8 +1,11 @@
+pub mod CutLines
 mod DistinctNames
 mod FaultOrder
 mod FractionLemmas
+mod HybridLemmas
 mod LatticeLemmas
 mod LatticeOnce
+pub mod LineLemmas
 mod MakerLemmas
 mod MapLemmas
 mod OperatorLemmas
@@ -14,12 +17,11 @@ mod QuestionLemmas
 mod RankingLemmas
 mod ReadingLemmas
 mod SaysOnce
+mod ShapeLemmas
+pub mod StepLemmas
 mod StrictTexts
 mod SystemLemmas
 mod TableLemmas
 mod TextFaults
 mod UniquePrints
 mod WideningLemmas
-pub mod CutLines
-pub mod LineLemmas
-pub mod StepLemmas

@@ -3,6 +3,7 @@ pub mod Changes
 pub mod Entries
 pub mod Families
 pub mod Files
+pub mod Hybrids
 pub mod Lattice
 pub mod Laws
 pub mod Line
@@ -20,6 +21,7 @@ pub mod Rankings
 pub mod Reading
 pub mod Refusals
 pub mod Results
+pub mod Shapes
 pub mod State
 pub mod Step
 pub mod Systems

@@ -131,6 +131,8 @@ IsQuestion (Isempty p) = Unit {0}
 IsQuestion (Relation p part) = Unit {0}
 IsQuestion (Bound extremum p part) = Unit {0}
 IsQuestion (Write p form) = Unit {0}
+IsQuestion (Psize s) = Unit {0}
+IsQuestion (ShapePrint s) = Unit {0}
 IsQuestion other = ⊥
 
 -- the reply is what was given, or memory ran out

@@ -4,17 +4,21 @@ ghost use Rattle.script_text.specs.Line.{PartsMatch, PartsTold};
 ghost use Rattle.calc_state.specs.Meanings.{topology_of as named_topology, meaning};
 ghost use Rattle.calc_state.specs.Performed.{IsPerformed};
 ghost use Rattle.calc_state.specs.Changes.{ChangesPart, IsTestedIn};
-ghost use Rattle.calc_state.specs.Families.{Makes, Asks, Combines};
+ghost use Rattle.calc_state.specs.Families.{Makes, Asks, Combines, AsksKinds, MakesKinds};
 
 use crate::change::Change;
 use crate::files::write;
+use crate::hybrids::reach;
 use crate::lattice::isempty;
 use crate::makers::{add, addgen, cons, copy, drop_name, gens, space};
 use crate::named;
 use crate::names::Names;
 use crate::parts::PartChange;
+use crate::powersets::psize;
 use crate::questions::{name_list, print, size};
+use crate::rankings::ranking;
 use crate::refusal::StepErr;
+use crate::shapes::shape_print;
 use crate::systems::{fixpoint, system};
 use poly_pair::Topology;
 use reply_text::Text;
@@ -131,6 +135,56 @@ fn combined<L: Ledger>(
     }
 }
 
+/// What a question of a powerset, of a shape or of a relation does, or why it is refused.
+fn asked_of_kinds<L: Ledger>(
+    alloc: Global,
+    names: &Names,
+    command: Command,
+    steps: &mut Steps<L>,
+) -> Result<Change, StepErr>
+    requires family { AsksKinds command }
+    ensures { IsPerformed (meaning names.now command) result }
+{
+    match command {
+        Command::Psize { s } => psize(alloc, names.powerset(s.bytes())),
+        Command::Covers { s, t } => named::covers(alloc, names, s, t, steps),
+        Command::Ranking { r } => ranking(alloc, names.poly(r.bytes()), steps),
+        Command::ShapeContains { s, t } => named::shape_contains(alloc, names, s, t),
+        Command::ShapePrint { s } => shape_print(alloc, names.shape(s.bytes())),
+        _ => unreachable!(),
+    }
+}
+
+/// What a command that puts a powerset, a shape or an automaton, or a set made of one, does, or why it is refused.
+fn made_of_kinds<L: Ledger>(
+    alloc: Global,
+    names: &Names,
+    command: Command,
+    steps: &mut Steps<L>,
+) -> Result<Change, StepErr>
+    requires forms { PartsMatch command }
+    requires told { PartsTold command }
+    requires family { MakesKinds command }
+    ensures { IsPerformed (meaning names.now command) result }
+{
+    match command {
+        Command::Pset { out, p } => named::pset(alloc, names, out, p),
+        Command::OfTwoPowersets { op, out, s, t } => {
+            named::of_two_powersets(alloc, names, op, out, s, t, steps)
+        }
+        Command::Member { out, s, i } => named::member(names, out, s, i),
+        Command::Rank { out, r } => named::rank(alloc, names, out, r, steps),
+        Command::ShapeOf { out, p } => named::shape_of_set(alloc, names, out, p),
+        Command::Bounds { out, n, cons } => named::bounds(alloc, names, out, n, cons),
+        Command::OfTwoShapes { op, out, s, t } => {
+            named::of_two_shapes(alloc, names, op, out, s, t)
+        }
+        Command::ShapePoly { out, s } => named::shape_poly(alloc, names, out, s, steps),
+        Command::Hybrid { out, s } => named::hybrid(alloc, names, out, s),
+        _ => unreachable!(),
+    }
+}
+
 /// What a command does, or why it is refused.
 pub fn change_of<L: Ledger>(
     alloc: Global,
@@ -167,11 +221,28 @@ pub fn change_of<L: Ledger>(
         | Command::Map { .. }
         | Command::Extend { .. }
         | Command::Remove { .. } => { combined(alloc, names, command, steps) }
+        Command::Psize { .. }
+        | Command::Covers { .. }
+        | Command::Ranking { .. }
+        | Command::ShapeContains { .. }
+        | Command::ShapePrint { .. } => { asked_of_kinds(alloc, names, command, steps) }
+        Command::Pset { .. }
+        | Command::OfTwoPowersets { .. }
+        | Command::Member { .. }
+        | Command::Rank { .. }
+        | Command::ShapeOf { .. }
+        | Command::Bounds { .. }
+        | Command::OfTwoShapes { .. }
+        | Command::ShapePoly { .. }
+        | Command::Hybrid { .. } => { made_of_kinds(alloc, names, command, steps) }
         Command::System { out, n, l } => system(alloc, names, out, n, l),
         Command::Fixpoint { s, delay, prefix } => {
             fixpoint(alloc, names, names.system(s.bytes()), delay, prefix, steps)
         }
-        _ => unreachable!(),
+        Command::Reach { h, delay, prefix } => {
+            reach(alloc, names, names.hybrid(h.bytes()), delay, prefix, steps)
+        }
+        Command::Init { .. } | Command::Trans { .. } | Command::SetPart { .. } => unreachable!(),
     }
 }
 
@@ -183,6 +254,7 @@ pub fn part_change_of(names: &Names, command: Command) -> Result<(Text, PartChan
     match command {
         Command::Init { s, loc, p } => named::init(names, s, loc, p),
         Command::Trans { s, loc, loc2, r } => named::trans(names, s, loc, loc2, r),
+        Command::SetPart { part, h, loc, p } => named::set_part(names, part, h, loc, p),
         _ => unreachable!(),
     }
 }

@@ -25,7 +25,7 @@ use trans_sys::{MAX_LOCATIONS, System};
 const MAX_STATE_DIM: u64 = 31;
 
 /// The largest delay.
-const MAX_DELAY: u64 = 1_000_000;
+pub const MAX_DELAY: u64 = 1_000_000;
 
 /// The transition system in which no location has an initial state, without transitions.
 pub fn system(

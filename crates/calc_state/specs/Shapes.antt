@@ -1,0 +1,133 @@
+-- What the commands mean that make bounded-difference shapes, and those that combine, ask and print them.
+use Rattle.std.specs.Prelude.{◌≡◌, ◌≢◌, ◌↔◌, ℕ, List, ℤ, None, IfSome}
+use Rattle.row_core.specs.Points.{IsPoint}
+use Rattle.row_core.specs.declared.errors.Overflow.{Overflow}
+use Rattle.reply_text.specs.declared.faults.Fault.TheVariants as fault
+use Rattle.cons_sys.specs.Constraints.{Constraints, In}
+use Rattle.expr_text.specs.Printed.{constraints_text}
+use Rattle.poly_pair.specs.Polyhedra.{Polyhedron, HasNoPoint}
+use Rattle.poly_pair.specs.declared.topology.Topology.TheVariants.{Closed}
+use Rattle.difference_bounds.specs.Tables.{bounds_of}
+use Rattle.bd_shape.specs.Shapes.{Region, IsIn, Includes, IsMeet, IsHull}
+use Rattle.bd_shape.specs.Suprema.{AreSuprema, IsSmallest, AreFound, LeavesInSuprema}
+use Rattle.bd_shape.specs.Given.{HasOther}
+use Rattle.bd_shape.specs.Refusals.{LeavesInConstraints}
+use Rattle.bd_shape.specs.Overflows.{LeavesInBounds, LeavesInMeet}
+use Rattle.bd_shape.specs.Rows.{shape_constraints}
+use Rattle.bd_shape.specs.Laws.{HasPointsOf}
+use Rattle.bd_shape.specs.declared.refusal.ShapeErr.{ShapeErr}
+use Rattle.bd_shape.specs.declared.refusal.ShapeErr.TheVariants as unmade
+use Rattle.script_text.specs.declared.command.Part.{Part}
+use Rattle.calc_state.specs.declared.refusal.StepErr.{StepErr}
+use Rattle.calc_state.specs.declared.refusal.StepErr.TheVariants as err
+use Rattle.script_text.specs.declared.command.ShapeOperator.{ShapeOperator}
+use Rattle.script_text.specs.declared.command.ShapeOperator.TheVariants.{Meet, Hull}
+use Rattle.calc_state.specs.Table.{Table, as_shape}
+use Rattle.calc_state.specs.Order.{Conditions}
+use Rattle.calc_state.specs.Texts.{constraints_fault, with_text}
+use Rattle.calc_state.specs.Makers.{SaysConstraints, LeavesOnConstraints}
+use Rattle.calc_state.specs.Questions.{line, says}
+use Rattle.calc_state.specs.Lattice.{IsTold}
+use Rattle.calc_state.specs.Meaning.{Meaning, no_fault, room, small, IsPutAs, IsPut}
+
+-- ---- making
+-- a set isn't closed
+abbrev pub closed : Polyhedron → Conditions → Conditions
+closed p others fault.NotClosed = p.topology ≢ Closed
+closed p others other = others other
+
+-- the smallest shape that includes the set: each bound is the supremum of a difference, and all of these are found
+pub record IsShapeOfSet (p : Polyhedron) (s : Region) : Type 0 where
+  pub dim : s.dim ≡ p.cons.dim
+  pub empty : (s.bounds ≡ None) ↔ HasNoPoint p
+  pub suprema : IfSome s.bounds (λ t. AreSuprema p (bounds_of t))
+  pub smallest : IsSmallest p s
+  pub found : AreFound p
+
+-- shape OUT P
+abbrev pub shape : Table → List ℕ → Polyhedron → Meaning
+shape table out p = record {
+  conditions = closed p (room table out);
+  overflows = LeavesInSuprema p;
+  does = IsPutAs as_shape out (IsShapeOfSet p);
+}
+
+-- some constraint bounds no difference
+abbrev pub no_difference : Type 0 → Conditions → Conditions
+no_difference Has others fault.NotDifference = Has
+no_difference Has others other = others other
+
+-- the points at which the constraints hold
+pub record IsShapeOfConstraints (cs : Constraints) (s : Region) : Type 0 where
+  pub dim : s.dim ≡ cs.dim
+  pub points : (p : List ℤ) → IsIn s p ↔ (IsPoint cs.dim p × In cs p)
+
+-- bounds OUT N : CONS
+abbrev pub bounds : Table → List ℕ → ℕ → Part → Meaning
+bounds table out n part = record {
+  conditions = small n (no_difference (SaysConstraints n part (λ cs. HasOther cs)) (with_text (constraints_fault Closed n part) (room table out)));
+  overflows = λ over. SaysConstraints n part (λ cs. LeavesInConstraints cs over);
+  does = IsPutAs as_shape out (λ s. SaysConstraints n part (λ cs. IsShapeOfConstraints cs s));
+}
+
+-- the refusal of a command whose constraints give no shape
+abbrev pub refusal_of_shape : ShapeErr → StepErr
+refusal_of_shape unmade.NotDifference = err.Input fault.NotDifference
+refusal_of_shape (unmade.Overflow over) = err.Overflow over
+refusal_of_shape unmade.Memory = err.Memory
+
+-- ---- two shapes
+-- two shapes have one dimension
+abbrev pub of_one_dim : Region → Region → Conditions → Conditions
+of_one_dim s t others fault.DimMismatch = s.dim ≢ t.dim
+of_one_dim s t others other = others other
+
+-- the points of both, or the smallest shape that includes both
+abbrev pub IsSetOfShapes : ShapeOperator → Region → Region → Region → Type 0
+IsSetOfShapes Meet s t r = IsMeet s t r
+IsSetOfShapes Hull s t r = IsHull s t r
+
+-- the overflows that it may show
+abbrev pub LeavesInShapes : ShapeOperator → Region → Region → Overflow → Type 0
+LeavesInShapes Meet s t over = LeavesInMeet s t over
+LeavesInShapes Hull s t over = LeavesInBounds s t over
+
+-- this set, of their dimension
+pub record IsShapeBy (op : ShapeOperator) (s t r : Region) : Type 0 where
+  pub dim : r.dim ≡ s.dim
+  pub set : IsSetOfShapes op s t r
+
+-- smeet OUT S T, shull OUT S T
+abbrev pub of_two_shapes : ShapeOperator → Table → List ℕ → Region → Region → Meaning
+of_two_shapes op table out s t = record {
+  conditions = of_one_dim s t (room table out);
+  overflows = LeavesInShapes op s t;
+  does = IsPutAs as_shape out (IsShapeBy op s t);
+}
+
+-- scontains S T
+abbrev pub shape_contains : Region → Region → Meaning
+shape_contains s t = record {
+  conditions = of_one_dim s t no_fault;
+  overflows = LeavesInBounds s t;
+  does = IsTold (Includes s t);
+}
+
+-- ---- one shape
+-- sprint S
+abbrev pub shape_print : Region → Meaning
+shape_print s = says (line (constraints_text (shape_constraints s)))
+
+-- the closed polyhedron of the shape's points
+pub record IsPolyOfShape (s : Region) (p : Polyhedron) : Type 0 where
+  pub topology : p.topology ≡ Closed
+  pub dim : p.cons.dim ≡ s.dim
+  pub points : HasPointsOf p s
+
+-- spoly OUT S
+abbrev pub shape_poly : Table → List ℕ → Region → Meaning
+shape_poly table out s = record {
+  conditions = room table out;
+  overflows = LeavesOnConstraints Closed (shape_constraints s);
+  does = IsPut out (IsPolyOfShape s);
+}

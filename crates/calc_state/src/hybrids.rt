@@ -1,0 +1,100 @@
+//! The commands that make and change linear hybrid automata, and the one that runs them.
+ghost use Rattle.std.specs.Prelude.{ℕ, List};
+ghost use Rattle.std.specs.Option.{option_copied};
+ghost use Rattle.calc_state.specs.Meaning.{on_one};
+ghost use Rattle.calc_state.specs.Hybrids.{hybrid as make_hybrid, set_part, reach as run_hybrid};
+ghost use Rattle.calc_state.specs.Changes.{as_entry, IsTested};
+ghost use Rattle.calc_state.specs.Performed.{IsPerformed};
+ghost use Rattle.calc_state.specs.declared.entry.Entry.TheVariants as entry;
+
+use crate::change::Change;
+use crate::entry::Entry;
+use crate::names::Names;
+use crate::parts::{HybridChange, PartChange};
+use crate::refusal::StepErr;
+use crate::systems::MAX_DELAY;
+use hybrid::Hybrid;
+use poly_pair::{Poly, Topology};
+use reply_text::{Fault, Text};
+use row_core::Steps;
+use script_text::LocationPart;
+use std::alloc::Global;
+use std::sync::ledger::Ledger;
+use trans_sys::System;
+
+/// The automaton of a transition system in which no time passes.
+pub fn hybrid(
+    alloc: Global,
+    names: &Names,
+    out: Text,
+    s: Option<&System>,
+) -> Result<Change, StepErr>
+    ensures { IsPerformed (on_one (option_copied s.entry) (make_hybrid names.now out)) result }
+{
+    let Some(s) = s else {
+        return Err(StepErr::Input(Fault::UnknownName));
+    };
+    if names.has_no_room(out.bytes()) {
+        return Err(StepErr::Input(Fault::TooManyNames));
+    }
+    let made = Hybrid::new(alloc, s.try_copy()?)?;
+    let _kept = made.system();
+    Ok(Change::Puts(out, Entry::Hybrid(made)))
+}
+
+/// Replaces the invariant or the flow of a location by a polyhedron.
+pub fn replaced_part(
+    part: LocationPart,
+    h: Option<&Hybrid>,
+    location: u64,
+    p: Option<&Poly>,
+) -> Result<PartChange, StepErr>
+    ensures { (name : List ℕ) → IsTested (on_one (option_copied h.entry) (λ found. on_one (option_copied p.entry) (set_part part name location found))) (as_entry entry.Hybrid (option_copied h.entry)) name result }
+{
+    let (Some(h), Some(p)) = (h, p) else {
+        return Err(StepErr::Input(Fault::UnknownName));
+    };
+    if p.topology() != Topology::Closed {
+        return Err(StepErr::Input(Fault::NotClosed));
+    }
+    if p.dim() != h.system().dim() {
+        return Err(StepErr::Input(Fault::DimMismatch));
+    }
+    if location >= h.system().locs() as u64 {
+        return Err(StepErr::Input(Fault::OutOfRange));
+    }
+    let copy = p.try_copy()?;
+    match part {
+        LocationPart::Invariant => Ok(PartChange::Hybrid(HybridChange::Invariant(
+            location as usize,
+            copy,
+        ))),
+        LocationPart::Flow => Ok(PartChange::Hybrid(HybridChange::Flow(location as usize, copy))),
+    }
+}
+
+/// Puts the states of each location that the automaton may come to under a numbered name.
+pub fn reach<L: Ledger>(
+    alloc: Global,
+    names: &Names,
+    h: Option<&Hybrid>,
+    delay: u64,
+    prefix: Text,
+    steps: &mut Steps<L>,
+) -> Result<Change, StepErr>
+    ensures { IsPerformed (on_one (option_copied h.entry) (run_hybrid names.now delay prefix)) result }
+{
+    let Some(h) = h else {
+        return Err(StepErr::Input(Fault::UnknownName));
+    };
+    if delay > MAX_DELAY {
+        return Err(StepErr::Input(Fault::OutOfRange));
+    }
+    if names.has_no_room_for_all(prefix.bytes(), h.system().locs())? {
+        return Err(StepErr::Input(Fault::TooManyNames));
+    }
+    match hybrid::reach(alloc, h, delay as u32, steps) {
+        Ok(sets) => Ok(Change::PutsAll(prefix, sets)),
+        Err(cause) => Err(StepErr::from(cause)),
+    }
+}

@@ -1,0 +1,213 @@
+//! The commands that make bounded-difference shapes, and those that combine, ask and print them.
+ghost use Rattle.std.specs.Prelude.{◌≡◌, ◌≢◌, Err, IfOk, IfErr, MatchBool};
+ghost use Rattle.std.specs.Option.{option_copied};
+ghost use Rattle.row_core.specs.Refusals.{IsOverflowIn};
+ghost use Rattle.grammar.specs.Form.{Matches};
+ghost use Rattle.grammar.specs.Grammar.{alone};
+ghost use Rattle.grammar.specs.Cases.{cons_cases};
+ghost use Rattle.script_text.specs.Commands.{is_strict};
+ghost use Rattle.expr_text.specs.Printed.{constraints_text};
+ghost use Rattle.bd_shape.specs.Rows.{shape_constraints};
+ghost use Rattle.calc_state.specs.Meaning.{on_one, on_two};
+ghost use Rattle.calc_state.specs.Questions.{line};
+ghost use Rattle.calc_state.specs.Shapes.{shape as make_shape, bounds as make_bounds, of_two_shapes as make_of_two, shape_contains as ask_contains, shape_print as tell_shape, shape_poly as make_poly, refusal_of_shape, IsSetOfShapes, LeavesInShapes};
+ghost use Rattle.calc_state.specs.Performed.{IsPerformed};
+
+use crate::change::Change;
+use crate::entry::Entry;
+use crate::names::Names;
+use crate::questions::answer;
+use crate::refusal::StepErr;
+use crate::texts::constraints_of;
+use bd_shape::{Shape, ShapeErr, shape_from, shape_hull, shape_meet, shape_of, shape_rows};
+use expr_text::{one_answer, print_cons};
+use poly_pair::{MAX_DIM, Poly, Topology};
+use reply_text::{Fault, Text};
+use row_core::{ConvErr, Memory, Steps};
+use script_text::{Part, ShapeOperator};
+use std::alloc::Global;
+use std::sync::ledger::Ledger;
+
+/// The smallest shape that includes a closed polyhedron.
+pub fn shape_of_set(
+    alloc: Global,
+    names: &Names,
+    out: Text,
+    p: Option<&Poly>,
+) -> Result<Change, StepErr>
+    ensures { IsPerformed (on_one (option_copied p.entry) (make_shape names.now out)) result }
+{
+    let Some(p) = p else {
+        return Err(StepErr::Input(Fault::UnknownName));
+    };
+    if p.topology() != Topology::Closed {
+        return Err(StepErr::Input(Fault::NotClosed));
+    }
+    if names.has_no_room(out.bytes()) {
+        return Err(StepErr::Input(Fault::TooManyNames));
+    }
+    match shape_of(alloc, p) {
+        Ok(made) => Ok(Change::Puts(out, Entry::Shape(made))),
+        Err(cause) => Err(StepErr::from(cause)),
+    }
+}
+
+impl From<ShapeErr> for StepErr {
+    ghost from_gives = { λ cause e. e ≡ refusal_of_shape cause };
+
+    fn from(cause: ShapeErr) -> StepErr {
+        match cause {
+            ShapeErr::NotDifference => StepErr::Input(Fault::NotDifference),
+            ShapeErr::Overflow(over) => StepErr::Overflow(over),
+            ShapeErr::Memory => StepErr::Memory,
+        }
+    }
+}
+
+/// Whether constraints give no shape since one of them bounds no difference.
+fn bound_no_difference(made: &Result<Shape, ShapeErr>) -> bool
+    ensures { MatchBool result (made.now ≡ Err ShapeErr.NotDifference) (made.now ≢ Err ShapeErr.NotDifference) }
+{
+    match made {
+        Ok(_) => false,
+        Err(ShapeErr::NotDifference) => true,
+        Err(ShapeErr::Overflow(_)) => false,
+        Err(ShapeErr::Memory) => false,
+    }
+}
+
+/// The shape of the points at which the constraints of a text hold.
+pub fn bounds(
+    alloc: Global,
+    names: &Names,
+    out: Text,
+    n: u64,
+    part: &Part,
+) -> Result<Change, StepErr>
+    requires form { Matches (alone cons_cases) part.now.text }
+    requires told { part.now.strict ≡ is_strict part.now.text }
+    ensures { IsPerformed (make_bounds names.now out n part.now) result }
+{
+    one_answer();
+    if n > MAX_DIM as u64 {
+        return Err(StepErr::Input(Fault::TooManyDims));
+    }
+    let system = match constraints_of(alloc, Topology::Closed, part, n as usize) {
+        Ok(system) => system,
+        Err(cause) => return Err(cause),
+    };
+    let made = shape_from(alloc, &system);
+    if bound_no_difference(&made) {
+        return Err(StepErr::Input(Fault::NotDifference));
+    }
+    if names.has_no_room(out.bytes()) {
+        return Err(StepErr::Input(Fault::TooManyNames));
+    }
+    match made {
+        Ok(made) => Ok(Change::Puts(out, Entry::Shape(made))),
+        Err(cause) => Err(StepErr::from(cause)),
+    }
+}
+
+/// The meet or the hull.
+fn combine(alloc: Global, op: ShapeOperator, s: &Shape, t: &Shape) -> Result<Shape, ConvErr>
+    requires { t.now.dim ≡ s.now.dim }
+    ensures dim { IfOk result (λ r. r.dim ≡ s.now.dim) }
+    ensures set { IfOk result (IsSetOfShapes op s.now t.now) }
+    ensures overflow { IfErr result (IsOverflowIn (LeavesInShapes op s.now t.now)) }
+{
+    match op {
+        ShapeOperator::Meet => shape_meet(alloc, s, t),
+        ShapeOperator::Hull => shape_hull(alloc, s, t),
+    }
+}
+
+/// The points that are in both shapes, or the smallest shape that includes both.
+pub fn of_two_shapes(
+    alloc: Global,
+    names: &Names,
+    op: ShapeOperator,
+    out: Text,
+    s: Option<&Shape>,
+    t: Option<&Shape>,
+) -> Result<Change, StepErr>
+    ensures { IsPerformed (on_two (option_copied s.entry) (option_copied t.entry) (make_of_two op names.now out)) result }
+{
+    let (Some(s), Some(t)) = (s, t) else {
+        return Err(StepErr::Input(Fault::UnknownName));
+    };
+    if s.dim() != t.dim() {
+        return Err(StepErr::Input(Fault::DimMismatch));
+    }
+    if names.has_no_room(out.bytes()) {
+        return Err(StepErr::Input(Fault::TooManyNames));
+    }
+    match combine(alloc, op, s, t) {
+        Ok(made) => Ok(Change::Puts(out, Entry::Shape(made))),
+        Err(cause) => Err(StepErr::from(cause)),
+    }
+}
+
+/// Whether each point of the second shape is in the first.
+pub fn shape_contains(
+    alloc: Global,
+    s: Option<&Shape>,
+    t: Option<&Shape>,
+) -> Result<Change, StepErr>
+    ensures { IsPerformed (on_two (option_copied s.entry) (option_copied t.entry) ask_contains) result }
+{
+    let (Some(s), Some(t)) = (s, t) else {
+        return Err(StepErr::Input(Fault::UnknownName));
+    };
+    if s.dim() != t.dim() {
+        return Err(StepErr::Input(Fault::DimMismatch));
+    }
+    match bd_shape::shape_contains(alloc, s, t) {
+        Ok(holds) => Ok(Change::Says(answer(alloc, holds)?)),
+        Err(cause) => Err(StepErr::from(cause)),
+    }
+}
+
+/// The constraints of a shape.
+pub fn shape_print(alloc: Global, s: Option<&Shape>) -> Result<Change, StepErr>
+    ensures { IsPerformed (on_one (option_copied s.entry) tell_shape) result }
+{
+    let Some(s) = s else {
+        return Err(StepErr::Input(Fault::UnknownName));
+    };
+    let text = shape_line(alloc, s)?;
+    Ok(Change::Says(text))
+}
+
+/// The line of the constraints of a shape.
+fn shape_line(alloc: Global, s: &Shape) -> Result<Text, Memory>
+    ensures { IfOk result (λ text. text ≡ line (constraints_text (shape_constraints s.now))) }
+{
+    let rows = shape_rows(alloc, s)?;
+    let mut text = print_cons(alloc, &rows)?;
+    text.push(b"\n")?;
+    Ok(text)
+}
+
+/// The polyhedron of a shape's points.
+pub fn shape_poly<L: Ledger>(
+    alloc: Global,
+    names: &Names,
+    out: Text,
+    s: Option<&Shape>,
+    steps: &mut Steps<L>,
+) -> Result<Change, StepErr>
+    ensures { IsPerformed (on_one (option_copied s.entry) (make_poly names.now out)) result }
+{
+    let Some(s) = s else {
+        return Err(StepErr::Input(Fault::UnknownName));
+    };
+    if names.has_no_room(out.bytes()) {
+        return Err(StepErr::Input(Fault::TooManyNames));
+    }
+    let _kept = s.dim();
+    match bd_shape::shape_poly(alloc, s, steps) {
+        Ok(made) => Ok(Change::Puts(out, Entry::Poly(made))),
+        Err(cause) => Err(StepErr::from(cause)),
+    }
+}
