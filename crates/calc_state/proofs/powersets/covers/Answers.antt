@@ -1,4 +1,4 @@
-use Rattle.std.proofs.Common.{◌≡◌, ◌∙◌, ℕ, ◌++◌, codes, Option, Some, Ok, Err, rules, sym, ap, subst, arith}
+use Rattle.std.proofs.Common.{◌≡◌, ◌∙◌, ℕ, ◌++◌, codes, Option, Some, Err, rules, sym, ap, subst}
 use Rattle.std.specs.Option.{option_copied}
 use Rattle.gens_sys.specs.declared.kind.GenKind.TheVariants.{Point}
 use Rattle.expr_text.specs.Printed.{generator_text}
@@ -17,7 +17,7 @@ returns-in_ok-answer-in-Ok-Yes g c =
     let s : Union = c.in-Some-Some.s.now in
     let t : Union = c.in-Some-Some.t.now in
     let topologies : s.topology ≡ t.topology = search rules in
-    let dims : s.dim ≡ t.dim = omega (arith, c.if-dim.false, c.dim.ensures.value, c.dim-2.ensures.value) in
+    let dims : s.dim ≡ t.dim = search rules in
     rw c.in-Some-Some.is-0 (rw c.in-Some-Some.is-1 (told s t Yes c.in_ok-answer-in-Ok-Yes.field-0 topologies dims (rw c.in-Ok-Yes.field-0-is at c.in-Ok-Yes.ensures.answer) c.in_ok-answer-in-Ok-Yes.ensures))
 
 pub returns-in_ok-uncovered-in-Ok-No : goal.returns-in_ok-uncovered-in-Ok-No
@@ -25,8 +25,8 @@ returns-in_ok-uncovered-in-Ok-No g c =
     let s : Union = c.in-Some-Some.s.now in
     let t : Union = c.in-Some-Some.t.now in
     let topologies : s.topology ≡ t.topology = search rules in
-    let dims : s.dim ≡ t.dim = omega (arith, c.if-dim.false, c.dim.ensures.value, c.dim-2.ensures.value) in
-    let said = c.in_ok-uncovered-in-Ok-No.ensures ∙ ap (λ (n : ℕ). line (codes "no " ++ generator_text n (c.in-Ok-No.point, Point))) c.dim.ensures.value in
+    let dims : s.dim ≡ t.dim = search rules in
+    let said = c.in_ok-uncovered-in-Ok-No.ensures ∙ ap (λ (n : ℕ). line (codes "no " ++ generator_text n (c.in-Ok-No.point, Point))) c.dim-dim.ensures.value in
     rw c.in-Some-Some.is-0 (rw c.in-Some-Some.is-1 (told s t (No c.in-Ok-No.point) c.in_ok-uncovered-in-Ok-No.field-0 topologies dims (rw c.in-Ok-No.field-0-is at c.in-Ok-No.ensures.answer) said))
 
 pub returns-in-Err : goal.returns-in-Err
@@ -34,7 +34,7 @@ returns-in-Err g c =
     let s : Union = c.in-Some-Some.s.now in
     let t : Union = c.in-Some-Some.t.now in
     let topologies : s.topology ≡ t.topology = search rules in
-    let dims : s.dim ≡ t.dim = omega (arith, c.if-dim.false, c.dim.ensures.value, c.dim-2.ensures.value) in
+    let dims : s.dim ≡ t.dim = search rules in
     let one : option_copied c.args.s ≡ Some s = ap option_copied c.in-Some-Some.is-0 in
     let other : option_copied c.args.t ≡ Some t = ap option_copied c.in-Some-Some.is-1 in
     subst (λ (o : Option Union). IsPerformed (on_two o (option_copied c.args.t) covers) (Err c.from.result)) (sym one)

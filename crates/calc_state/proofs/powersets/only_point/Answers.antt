@@ -8,4 +8,4 @@ use Rattle.calc_state.proofs.powersets.only_point.Goals as goal
 pub returns-in-Ok-clause-list : goal.returns-in-Ok-clause-list
 returns-in-Ok-clause-list c =
     let g = c.in-Ok.ensures.list in
-    g.list ∙ (ap (λ (l : List Generator). l ++ (g.stored, Point) ∷ []) c.new.ensures.empty ∙ ap (λ (r : List ℤ). (r, Point) ∷ []) (stored_as_is c.args.point g.stored c.requires.primitive g.primitive))
+    g.list ∙ (ap (λ (l : List Generator). l ++ (g.stored, Point) ∷ []) c.new-gens.ensures.empty ∙ ap (λ (r : List ℤ). (r, Point) ∷ []) (stored_as_is c.args.point g.stored c.requires.primitive g.primitive))
