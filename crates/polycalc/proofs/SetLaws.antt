@@ -90,9 +90,24 @@ is_alone : (o : Option Entry) (e : Entry) (E : Entry → Type 0) → o ≡ Some 
 is_alone o e E f h = subst (λ (x : Option Entry). StandsAlone x E) f h
 
 -- an entry of a kind
-pub kind_at : {A : Type 0} (found : Option Entry → Option A) (kind : A → Entry) → IsKind found kind → (table : Table) (commands : List Act) → Agrees table commands → (name : List ℕ) → Stands (found (entry_of table name)) (λ a. IsEntryOf commands name (kind a))
+kind_at : {A : Type 0} (found : Option Entry → Option A) (kind : A → Entry) → IsKind found kind → (table : Table) (commands : List Act) → Agrees table commands → (name : List ℕ) → Stands (found (entry_of table name)) (λ a. IsEntryOf commands name (kind a))
 kind_at {A} found kind there table commands agrees name =
     stands_of (found (entry_of table name)) (λ (a : A). IsEntryOf commands name (kind a)) (λ a f. is_alone (entry_of table name) (kind a) (IsEntryOf commands name) (there (entry_of table name) a f) (agrees.sets name))
+
+pub poly_at : (table : Table) (commands : List Act) → Agrees table commands → (name : List ℕ) → Stands (poly_of table name) (IsSetOf commands name)
+poly_at table commands agrees name = kind_at as_poly entry.Poly poly_there table commands agrees name
+
+system_at : (table : Table) (commands : List Act) → Agrees table commands → (name : List ℕ) → Stands (system_of table name) (λ s. IsEntryOf commands name (entry.System s))
+system_at table commands agrees name = kind_at as_system entry.System system_there table commands agrees name
+
+pub powerset_at : (table : Table) (commands : List Act) → Agrees table commands → (name : List ℕ) → Stands (powerset_of table name) (λ u. IsEntryOf commands name (entry.Powerset u))
+powerset_at table commands agrees name = kind_at as_powerset entry.Powerset powerset_there table commands agrees name
+
+pub shape_at : (table : Table) (commands : List Act) → Agrees table commands → (name : List ℕ) → Stands (shape_of table name) (λ s. IsEntryOf commands name (entry.Shape s))
+shape_at table commands agrees name = kind_at as_shape entry.Shape shape_there table commands agrees name
+
+hybrid_at : (table : Table) (commands : List Act) → Agrees table commands → (name : List ℕ) → Stands (hybrid_of table name) (λ h. IsEntryOf commands name (entry.Hybrid h))
+hybrid_at table commands agrees name = kind_at as_hybrid entry.Hybrid hybrid_there table commands agrees name
 
 -- ---- what a change does to what is under the names
 put_stands : (b : Bool) (e : Entry) (o : Option Entry) (M E : Entry → Type 0) → M e → StandsAlone o E → StandsAlone (cond b (Some e) o) (λ x. MatchBool b (M x) (E x))
@@ -286,26 +301,10 @@ module _ (old new : Table) (earlier : List Act) (text : List ℕ) (a : Agrees ol
           subst (λ (b : Bool). StandsAlone (entry_of after_run n) (λ x. MatchBool b (Given n x) (IsEntryOf earlier n x))) (ap (λ (i : ℕ). is_numbered prefix 0 i n) as_many ∙ sym (own n))
           (numbered_stands (is_numbered prefix 0 (length put.sets) n) prefix n put.sets (entry_of after_run n) (entry_of old n) (Given n) (IsEntryOf earlier n) (reached n) (entry_of-put_each put.sets old prefix 0 n) (a.sets n))
 
-  -- ---- what is under a name
-  poly_under : (name : List ℕ) → Stands (poly_of old name) (λ p. IsEntryOf earlier name (entry.Poly p))
-  poly_under name = kind_at as_poly entry.Poly poly_there old earlier a name
-
-  system_under : (name : List ℕ) → Stands (system_of old name) (λ s. IsEntryOf earlier name (entry.System s))
-  system_under name = kind_at as_system entry.System system_there old earlier a name
-
-  powerset_under : (name : List ℕ) → Stands (powerset_of old name) (λ u. IsEntryOf earlier name (entry.Powerset u))
-  powerset_under name = kind_at as_powerset entry.Powerset powerset_there old earlier a name
-
-  shape_under : (name : List ℕ) → Stands (shape_of old name) (λ s. IsEntryOf earlier name (entry.Shape s))
-  shape_under name = kind_at as_shape entry.Shape shape_there old earlier a name
-
-  hybrid_under : (name : List ℕ) → Stands (hybrid_of old name) (λ h. IsEntryOf earlier name (entry.Hybrid h))
-  hybrid_under name = kind_at as_hybrid entry.Hybrid hybrid_there old earlier a name
-
   -- a polyhedron of one
   poly_follows : (c : Command) (out name : List ℕ) (m : Polyhedron → Meaning) (Is : Polyhedron → Polyhedron → Type 0) → Owns c out → ((n : List ℕ) (r : Polyhedron) → IsMadeOfOne entry.Poly entry.Poly (IsEntryOf earlier name) Is r → GivesEntry c (IsEntryOf earlier) n (entry.Poly r)) → IsNamed c out →
       ((x : Polyhedron) (change : Change) → Passes (m x).conditions → (m x).does change → IsPut out (Is x) change) → IsAccepted (on_one (poly_of old name) m) old text new → Follows new earlier (Did c)
-  poly_follows c out name m Is own gives names puts p = one_follows entry.Poly as_poly entry.Poly poly_there c out name m Is (poly_of old name) (poly_under name) own gives (λ x e. names) puts p
+  poly_follows c out name m Is own gives names puts p = one_follows entry.Poly as_poly entry.Poly poly_there c out name m Is (poly_of old name) (poly_at old earlier a name) own gives (λ x e. names) puts p
 
   -- what an accepted command leaves is what the commands give
   accepted_follows : (c : Command) → IsAccepted (meaning old c) old text new → Follows new earlier (Did c)
@@ -319,16 +318,16 @@ module _ (old new : Table) (earlier : List Act) (text : List ℕ) (a : Agrees ol
       poly_follows (Copy out other) out other (copy old out) (λ q r. r ≡ q) (λ n. refl) (λ n r h. subst (λ (x : Polyhedron). IsEntryOf earlier other (entry.Poly x)) (sym h.made.is) h.was) (new_name out) (λ x change passes does. does) p
   accepted_follows (Drop out) p = drop_follows out (entry_of old out) p
   accepted_follows (Add out part) p =
-      one_follows entry.Poly as_poly entry.Poly poly_there (Add out part) out out (add out part) (IsAdded part) (poly_of old out) (poly_under out) (λ n. refl) (λ n r h. h) (λ x e. kept_name out (entry.Poly x) (poly_there (entry_of old out) x e))
+      one_follows entry.Poly as_poly entry.Poly poly_there (Add out part) out out (add out part) (IsAdded part) (poly_of old out) (poly_at old earlier a out) (λ n. refl) (λ n r h. h) (λ x e. kept_name out (entry.Poly x) (poly_there (entry_of old out) x e))
       (λ x change passes does. put_more as_poly out (λ r. SaysConstraints x.cons.dim part (λ cs. IsResultOfConstraints x.topology (more_constraints x.cons cs) r)) (IsAdded part x) change (added_of part x) does) p
   accepted_follows (Addgen out part) p =
-      one_follows entry.Poly as_poly entry.Poly poly_there (Addgen out part) out out (addgen out part) (IsJoined part) (poly_of old out) (poly_under out) (λ n. refl) (λ n r h. h) (λ x e. kept_name out (entry.Poly x) (poly_there (entry_of old out) x e)) (λ x change passes does. does) p
+      one_follows entry.Poly as_poly entry.Poly poly_there (Addgen out part) out out (addgen out part) (IsJoined part) (poly_of old out) (poly_at old earlier a out) (λ n. refl) (λ n r h. h) (λ x e. kept_name out (entry.Poly x) (poly_there (entry_of old out) x e)) (λ x change passes does. does) p
   accepted_follows (Has name part) p = said_follows (Has name part) p.change (one_say (has part) (poly_of old name) p.change (λ x h. record { lines = answer_line h.holds.holds; said = h.holds.said }) p.does) p.table (λ n. refl) refl
   accepted_follows (Size name) p = said_follows (Size name) p.change (one_say size (poly_of old name) p.change (λ x h. record { lines = line (size_text x); said = h }) p.does) p.table (λ n. refl) refl
   accepted_follows (Print side name) p = said_follows (Print side name) p.change (one_say (print side) (poly_of old name) p.change (λ x h. record { lines = line (side_text side x); said = h }) p.does) p.table (λ n. refl) refl
   accepted_follows Names p = said_follows Names p.change (record { lines = line (names_text old); said = p.does }) p.table (λ n. refl) refl
   accepted_follows (OfTwo op out one other) p =
-      two_follows entry.Poly as_poly entry.Poly poly_there (OfTwo op out one other) out one other (operated op old out) (IsOfFit (Fits op) (IsMadeBy op)) (poly_of old one) (poly_of old other) (poly_under one) (poly_under other) (λ n. refl) (λ n r h. h) (new_name out)
+      two_follows entry.Poly as_poly entry.Poly poly_there (OfTwo op out one other) out one other (operated op old out) (IsOfFit (Fits op) (IsMadeBy op)) (poly_of old one) (poly_of old other) (poly_at old earlier a one) (poly_at old earlier a other) (λ n. refl) (λ n r h. h) (new_name out)
       (λ x y change passes does. put_more as_poly out (IsMadeBy op x y) (IsOfFit (Fits op) (IsMadeBy op) x y) change (λ r is. record { fit = fit_operator op x y (room old out) passes; is = is }) does) p
   accepted_follows (Closure out other) p = poly_follows (Closure out other) out other (closure old out) IsResultOfClosure (λ n. refl) (λ n r h. h) (new_name out) (λ x change passes does. does) p
   accepted_follows (Compare by one other) p = said_follows (Compare by one other) p.change (two_say (compared by) (poly_of old one) (poly_of old other) p.change (λ x y h. compared_says by x y p.change h) p.does) p.table (λ n. refl) refl
@@ -341,27 +340,27 @@ module _ (old new : Table) (earlier : List Act) (text : List ℕ) (a : Agrees ol
   accepted_follows (Extend by out other n) p = poly_follows (Extend by out other n) out other (extended by old out n) (IsExtended by n) (λ i. refl) (λ i r h. h) (new_name out) (λ x change passes does. does) p
   accepted_follows (Remove out other vars) p = poly_follows (Remove out other vars) out other (remove old out vars) (IsRemoved vars) (λ n. refl) (λ n r h. h) (new_name out) (λ x change passes does. does) p
   accepted_follows (Widen out one other) p =
-      two_follows entry.Poly as_poly entry.Poly poly_there (Widen out one other) out one other (widen old out) IsOfNested (poly_of old one) (poly_of old other) (poly_under one) (poly_under other) (λ n. refl) (λ n r h. h) (new_name out)
+      two_follows entry.Poly as_poly entry.Poly poly_there (Widen out one other) out one other (widen old out) IsOfNested (poly_of old one) (poly_of old other) (poly_at old earlier a one) (poly_at old earlier a other) (λ n. refl) (λ n r h. h) (new_name out)
       (λ x y change passes does. put_nested out x y (room old out) change passes does) p
   accepted_follows (Read out form) p = said_follows (Read out form) p.change (record { lines = []; said = p.does }) p.table (λ n. refl) refl
   accepted_follows (Write name form) p = said_follows (Write name form) p.change (one_say (write form) (poly_of old name) p.change (λ x h. record { lines = file_of form x; said = h }) p.does) p.table (λ n. refl) refl
   accepted_follows (System out n locations) p = put_follows as_system entry.System system_there (System out n locations) out (IsEmptySystem n locations) p.change p.does p.proper p.table (λ name. refl) (λ name s is. is) (new_name out)
   accepted_follows (Init out location other) p =
-      changed_follows as_system entry.System system_there (Init out location other) out other (init out location) (λ x q. with_initial x location q) (system_of old out) (poly_of old other) refl (system_under out) (poly_under other) (λ n. refl) (λ n r h. h) refl
+      changed_follows as_system entry.System system_there (Init out location other) out other (init out location) (λ x q. with_initial x location q) (system_of old out) (poly_of old other) refl (system_at old earlier a out) (poly_at old earlier a other) (λ n. refl) (λ n r h. h) refl
       (λ x q passes. one_topology q.topology Closed passes.1.1.0) (λ x q change does. does) p
   accepted_follows (Trans out source target other) p =
-      changed_follows as_system entry.System system_there (Trans out source target other) out other (trans out source target) (λ x q. with_transition x (record { source = source; target = target; relation = q })) (system_of old out) (poly_of old other) refl (system_under out) (poly_under other) (λ n. refl)
+      changed_follows as_system entry.System system_there (Trans out source target other) out other (trans out source target) (λ x q. with_transition x (record { source = source; target = target; relation = q })) (system_of old out) (poly_of old other) refl (system_at old earlier a out) (poly_at old earlier a other) (λ n. refl)
       (λ n r h. h) refl (λ x q passes. one_topology q.topology Closed passes.1.1.0) (λ x q change does. does) p
   accepted_follows (Fixpoint s delay prefix) p =
-      run_follows entry.System (Fixpoint s delay prefix) s prefix (fixpoint old delay prefix) (λ x xs. AreReached x delay xs) (system_of old s) (system_under s) (λ n. refl) (λ n q h. h) refl
+      run_follows entry.System (Fixpoint s delay prefix) s prefix (fixpoint old delay prefix) (λ x xs. AreReached x delay xs) (system_of old s) (system_at old earlier a s) (λ n. refl) (λ n q h. h) refl
       (λ x xs was are. run_count x delay xs are ∙ sym (has_locations earlier s (entry.System x) was)) (λ x change does. does) p
   accepted_follows (Pset out other) p =
-      one_follows entry.Poly as_powerset entry.Powerset powerset_there (Pset out other) out other (pset old out) IsUnionOf (poly_of old other) (poly_under other) (λ n. refl) (λ n r h. h) (λ x e. new_name out) (λ x change passes does. does) p
+      one_follows entry.Poly as_powerset entry.Powerset powerset_there (Pset out other) out other (pset old out) IsUnionOf (poly_of old other) (poly_at old earlier a other) (λ n. refl) (λ n r h. h) (λ x e. new_name out) (λ x change passes does. does) p
   accepted_follows (OfTwoPowersets op out one other) p =
-      two_follows entry.Powerset as_powerset entry.Powerset powerset_there (OfTwoPowersets op out one other) out one other (of_two_powersets op old out) (IsOfFit AreAlikeUnions (IsPowersetOf op)) (powerset_of old one) (powerset_of old other) (powerset_under one) (powerset_under other)
+      two_follows entry.Powerset as_powerset entry.Powerset powerset_there (OfTwoPowersets op out one other) out one other (of_two_powersets op old out) (IsOfFit AreAlikeUnions (IsPowersetOf op)) (powerset_of old one) (powerset_of old other) (powerset_at old earlier a one) (powerset_at old earlier a other)
       (λ n. refl) (λ n r h. h) (new_name out) (λ x y change passes does. put_more as_powerset out (IsPowersetOf op x y) (IsOfFit AreAlikeUnions (IsPowersetOf op) x y) change (λ r is. record { fit = are_alike_unions x y (room old out) passes; is = is }) does) p
   accepted_follows (Member out s i) p =
-      one_follows entry.Powerset as_poly entry.Poly poly_there (Member out s i) out s (member old out i) (IsMemberAt i) (powerset_of old s) (powerset_under s) (λ n. refl) (λ n r h. h) (λ x e. new_name out)
+      one_follows entry.Powerset as_poly entry.Poly poly_there (Member out s i) out s (member old out i) (IsMemberAt i) (powerset_of old s) (powerset_at old earlier a s) (λ n. refl) (λ n r h. h) (λ x e. new_name out)
       (λ x change passes does. put_more as_poly out (λ r. slice_get x.members (i - 1) ≡ Some r) (IsMemberAt i x) change (λ r is. (is_counted (length x.members) i (room old out) passes, is)) does) p
   accepted_follows (Psize name) p = said_follows (Psize name) p.change (one_say psize (powerset_of old name) p.change (λ x h. record { lines = line (members_text x); said = h }) p.does) p.table (λ n. refl) refl
   accepted_follows (Covers one other) p =
@@ -371,26 +370,26 @@ module _ (old new : Table) (earlier : List Act) (text : List ℕ) (a : Agrees ol
       (λ x change passes does. put_more as_poly out (IsRankingSet (x.cons.dim / 2) x) (IsOfClosed IsRankedBy x) change (λ q is. record { closed = is_closed_relation x (room old out) passes; is = (is_even x (room old out) passes, is) }) does) p
   accepted_follows (Ranking name) p = said_follows (Ranking name) p.change (one_say ranking (poly_of old name) p.change (λ x h. record { lines = line h.text; said = h.said }) p.does) p.table (λ n. refl) refl
   accepted_follows (ShapeOf out other) p =
-      one_follows entry.Poly as_shape entry.Shape shape_there (ShapeOf out other) out other (shape old out) (IsOfClosed IsShapeOfSet) (poly_of old other) (poly_under other) (λ n. refl) (λ n r h. h) (λ x e. new_name out)
+      one_follows entry.Poly as_shape entry.Shape shape_there (ShapeOf out other) out other (shape old out) (IsOfClosed IsShapeOfSet) (poly_of old other) (poly_at old earlier a other) (λ n. refl) (λ n r h. h) (λ x e. new_name out)
       (λ x change passes does. put_more as_shape out (IsShapeOfSet x) (IsOfClosed IsShapeOfSet x) change (λ r is. record { closed = is_closed x (room old out) passes; is = is }) does) p
   accepted_follows (Bounds out n part) p =
       put_follows as_shape entry.Shape shape_there (Bounds out n part) out (λ s. SaysConstraints n part (λ cs. IsShapeOfConstraints cs s)) p.change p.does p.proper p.table (λ name. refl) (λ name r is. is) (new_name out)
   accepted_follows (OfTwoShapes op out one other) p =
-      two_follows entry.Shape as_shape entry.Shape shape_there (OfTwoShapes op out one other) out one other (of_two_shapes op old out) (IsOfFit HaveOneDim (IsShapeBy op)) (shape_of old one) (shape_of old other) (shape_under one) (shape_under other) (λ n. refl) (λ n r h. h) (new_name out)
+      two_follows entry.Shape as_shape entry.Shape shape_there (OfTwoShapes op out one other) out one other (of_two_shapes op old out) (IsOfFit HaveOneDim (IsShapeBy op)) (shape_of old one) (shape_of old other) (shape_at old earlier a one) (shape_at old earlier a other) (λ n. refl) (λ n r h. h) (new_name out)
       (λ x y change passes does. put_more as_shape out (IsShapeBy op x y) (IsOfFit HaveOneDim (IsShapeBy op) x y) change (λ r is. record { fit = have_one_dim x y (room old out) passes; is = is }) does) p
   accepted_follows (ShapeContains one other) p =
       said_follows (ShapeContains one other) p.change (two_say shape_contains (shape_of old one) (shape_of old other) p.change (λ x y h. record { lines = answer_line h.holds; said = h.said }) p.does) p.table (λ n. refl) refl
   accepted_follows (ShapePrint name) p =
       said_follows (ShapePrint name) p.change (one_say shape_print (shape_of old name) p.change (λ x h. record { lines = line (constraints_text (shape_constraints x)); said = h }) p.does) p.table (λ n. refl) refl
   accepted_follows (ShapePoly out s) p =
-      one_follows entry.Shape as_poly entry.Poly poly_there (ShapePoly out s) out s (shape_poly old out) IsPolyOfShape (shape_of old s) (shape_under s) (λ n. refl) (λ n r h. h) (λ x e. new_name out) (λ x change passes does. does) p
+      one_follows entry.Shape as_poly entry.Poly poly_there (ShapePoly out s) out s (shape_poly old out) IsPolyOfShape (shape_of old s) (shape_at old earlier a s) (λ n. refl) (λ n r h. h) (λ x e. new_name out) (λ x change passes does. does) p
   accepted_follows (Hybrid out s) p =
-      one_follows entry.System as_hybrid entry.Hybrid hybrid_there (Hybrid out s) out s (hybrid old out) IsStill (system_of old s) (system_under s) (λ n. refl) (λ n r h. h) (λ x e. new_name out) (λ x change passes does. does) p
+      one_follows entry.System as_hybrid entry.Hybrid hybrid_there (Hybrid out s) out s (hybrid old out) IsStill (system_of old s) (system_at old earlier a s) (λ n. refl) (λ n r h. h) (λ x e. new_name out) (λ x change passes does. does) p
   accepted_follows (SetPart part out location other) p =
-      changed_follows as_hybrid entry.Hybrid hybrid_there (SetPart part out location other) out other (set_part part out location) (λ x q. with_part part x location q) (hybrid_of old out) (poly_of old other) refl (hybrid_under out) (poly_under other) (λ n. refl) (λ n r h. h) refl
+      changed_follows as_hybrid entry.Hybrid hybrid_there (SetPart part out location other) out other (set_part part out location) (λ x q. with_part part x location q) (hybrid_of old out) (poly_of old other) refl (hybrid_at old earlier a out) (poly_at old earlier a other) (λ n. refl) (λ n r h. h) refl
       (λ x q passes. one_topology q.topology Closed passes.1.1.0) (λ x q change does. does) p
   accepted_follows (Reach h delay prefix) p =
-      run_follows entry.Hybrid (Reach h delay prefix) h prefix (reach old delay prefix) (λ x xs. AreReachedParts x delay xs) (hybrid_of old h) (hybrid_under h) (λ n. refl) (λ n q i. i) refl
+      run_follows entry.Hybrid (Reach h delay prefix) h prefix (reach old delay prefix) (λ x xs. AreReachedParts x delay xs) (hybrid_of old h) (hybrid_at old earlier a h) (λ n. refl) (λ n q i. i) refl
       (λ x xs was are. reach_count x delay xs (entry_kept earlier h (entry.Hybrid x) was) are.reached ∙ sym (has_locations earlier h (entry.Hybrid x) was)) (λ x change does. does) p
 
   -- a file that was read

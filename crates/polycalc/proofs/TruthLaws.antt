@@ -54,13 +54,12 @@ use Rattle.polycalc.specs.Acts.{Act, Accepted, acts}
 use Rattle.polycalc.specs.Sets.{AreAlike, AreAlikeUnions, HaveOneDim, IsEntryOf, names_of}
 use Rattle.polycalc.specs.Laws.{AnswersAreTrue}
 use Rattle.polycalc.specs.Truth.{SaysWhether, IsTrueOf, IsTrueOfTwo, SaysTruth, LieSo, SaysHowItLies, IsShownBy, SaysExtremum, SaysSide, SaysCover, SaysRanking, SaysBounds, IsTruthful, AreTruthful}
-use Rattle.polycalc.proofs.EntryKinds.{poly_there, powerset_there, shape_there}
 use Rattle.polycalc.proofs.KindTruth.{said_lines, cover_says, ranking_says, bounds_say}
 use Rattle.polycalc.proofs.OneForm.{same_dims}
 use Rattle.polycalc.proofs.Operands.{are_alike, are_alike_unions, have_one_dim, is_closed_relation, one_topology}
 use Rattle.polycalc.proofs.OneSet.{entry_kept, set_proper}
 use Rattle.polycalc.proofs.AcceptedRuns.{Steps, Told, run_told}
-use Rattle.polycalc.proofs.SetLaws.{Stands, Agrees, kind_at, nothing_agrees, agrees_command, agrees_file}
+use Rattle.polycalc.proofs.SetLaws.{Stands, Agrees, poly_at, powerset_at, shape_at, nothing_agrees, agrees_command, agrees_file}
 
 -- the laws that are cited: what is printed is read back, both stored systems hold the same points, the generator of a bound shows it, and a printed function ranks its relation
 pub record ReadBack : Type 0 where
@@ -162,32 +161,22 @@ module _ (laws : ReadBack) (old new : Table) (earlier : List Act) (text : List �
   drop_ok out None p = absurd p.does
   drop_ok out (Some e) p = p.lines_are ∙ taken_ok out p.change p.does
 
-  -- what is under a name
-  poly_under : (name : List ℕ) → Stands (poly_of old name) (λ p. IsEntryOf earlier name (entry.Poly p))
-  poly_under name = kind_at as_poly entry.Poly poly_there old earlier g name
-
-  powerset_under : (name : List ℕ) → Stands (powerset_of old name) (λ u. IsEntryOf earlier name (entry.Powerset u))
-  powerset_under name = kind_at as_powerset entry.Powerset powerset_there old earlier g name
-
-  shape_under : (name : List ℕ) → Stands (shape_of old name) (λ s. IsEntryOf earlier name (entry.Shape s))
-  shape_under name = kind_at as_shape entry.Shape shape_there old earlier g name
-
   accepted_true : (c : Command) → IsAccepted (meaning old c) old text new → IsTruthful earlier c text
   accepted_true (Has name part) p =
-      one_true entry.Poly name (has part) (SaysWhether part text) (poly_of old name) (poly_under name)
+      one_true entry.Poly name (has part) (SaysWhether part text) (poly_of old name) (poly_at old earlier g name)
       (λ x change s passes h e. record { point = h.point; read = h.read; holds = h.holds.holds; said = e ∙ said_lines (answer_line h.holds.holds) change h.holds.said; true_of_point = h.holds.true_of_point }) p
-  accepted_true (Size name) p = one_true entry.Poly name size (λ q. text ≡ line (size_text q)) (poly_of old name) (poly_under name) (λ x change s passes h e. e ∙ said_lines (line (size_text x)) change h) p
+  accepted_true (Size name) p = one_true entry.Poly name size (λ q. text ≡ line (size_text q)) (poly_of old name) (poly_at old earlier g name) (λ x change s passes h e. e ∙ said_lines (line (size_text x)) change h) p
   accepted_true (Print side name) p =
-      one_true entry.Poly name (print side) (SaysSide side text) (poly_of old name) (poly_under name) (λ x change s passes h e. side_says laws side text x (set_proper earlier name x s) (e ∙ said_lines (line (side_text side x)) change h)) p
+      one_true entry.Poly name (print side) (SaysSide side text) (poly_of old name) (poly_at old earlier g name) (λ x change s passes h e. side_says laws side text x (set_proper earlier name x s) (e ∙ said_lines (line (side_text side x)) change h)) p
   accepted_true Names p = names_true old earlier text g.names (p.lines_are ∙ said_lines (line (names_text old)) p.change p.does)
   accepted_true (Compare by one other) p =
-      two_true entry.Poly AreAlike one other (compared by) (λ x y. SaysTruth text (LieSo by x y)) (poly_of old one) (poly_of old other) (poly_under one) (poly_under other) (λ x y passes. compared_alike by x y passes) (λ x y change h e. compared_true by x y change text h e) p
-  accepted_true (Isempty name) p = one_true entry.Poly name isempty (λ x. SaysTruth text (HasNoPoint x)) (poly_of old name) (poly_under name) (λ x change s passes h e. told_true (HasNoPoint x) change text h e) p
+      two_true entry.Poly AreAlike one other (compared by) (λ x y. SaysTruth text (LieSo by x y)) (poly_of old one) (poly_of old other) (poly_at old earlier g one) (poly_at old earlier g other) (λ x y passes. compared_alike by x y passes) (λ x y change h e. compared_true by x y change text h e) p
+  accepted_true (Isempty name) p = one_true entry.Poly name isempty (λ x. SaysTruth text (HasNoPoint x)) (poly_of old name) (poly_at old earlier g name) (λ x change s passes h e. told_true (HasNoPoint x) change text h e) p
   accepted_true (Relation name part) p =
-      one_true entry.Poly name (relation part) (SaysHowItLies part text) (poly_of old name) (poly_under name)
+      one_true entry.Poly name (relation part) (SaysHowItLies part text) (poly_of old name) (poly_at old earlier g name)
       (λ x change s passes h e. record { row = h.row; kind = h.kind; read = h.read; flags = h.holds.flags; said = e ∙ said_lines (line (relation_text h.holds.flags)) change h.holds.said; true_of = h.holds.answer.1 }) p
   accepted_true (Bound extremum name part) p =
-      one_true entry.Poly name (bound (is_max extremum) part) (SaysExtremum (is_max extremum) part text) (poly_of old name) (poly_under name)
+      one_true entry.Poly name (bound (is_max extremum) part) (SaysExtremum (is_max extremum) part text) (poly_of old name) (poly_at old earlier g name)
       (λ x change s passes h e. record {
         row = h.row;
         read = h.read;
@@ -198,20 +187,20 @@ module _ (laws : ReadBack) (old new : Table) (earlier : List Act) (text : List �
         first = h.holds.answer;
       }) p
   accepted_true (Write name form) p =
-      one_true entry.Poly name (write form) (λ q. (q.topology ≡ Closed) × (text ≡ file_of form q)) (poly_of old name) (poly_under name) (λ x change s passes h e. (one_topology x.topology Closed passes.1.1.0, e ∙ said_lines (file_of form x) change h)) p
+      one_true entry.Poly name (write form) (λ q. (q.topology ≡ Closed) × (text ≡ file_of form q)) (poly_of old name) (poly_at old earlier g name) (λ x change s passes h e. (one_topology x.topology Closed passes.1.1.0, e ∙ said_lines (file_of form x) change h)) p
   accepted_true (Read out form) p = p.lines_are ∙ said_lines [] p.change p.does
   accepted_true Nothing p = p.lines_are ∙ said_lines [] p.change p.does
-  accepted_true (Psize name) p = one_true entry.Powerset name psize (λ u. text ≡ line (members_text u)) (powerset_of old name) (powerset_under name) (λ x change s passes h e. e ∙ said_lines (line (members_text x)) change h) p
+  accepted_true (Psize name) p = one_true entry.Powerset name psize (λ u. text ≡ line (members_text u)) (powerset_of old name) (powerset_at old earlier g name) (λ x change s passes h e. e ∙ said_lines (line (members_text x)) change h) p
   accepted_true (Covers one other) p =
-      two_true entry.Powerset AreAlikeUnions one other covers (SaysCover text) (powerset_of old one) (powerset_of old other) (powerset_under one) (powerset_under other) (λ x y passes. are_alike_unions x y no_fault passes)
+      two_true entry.Powerset AreAlikeUnions one other covers (SaysCover text) (powerset_of old one) (powerset_of old other) (powerset_at old earlier g one) (powerset_at old earlier g other) (λ x y passes. are_alike_unions x y no_fault passes)
       (λ x y change h e. cover_says x y change text h e) p
   accepted_true (Ranking name) p =
-      one_true entry.Poly name ranking (SaysRanking text) (poly_of old name) (poly_under name)
+      one_true entry.Poly name ranking (SaysRanking text) (poly_of old name) (poly_at old earlier g name)
       (λ x change s passes h e. ranking_says laws.ranking x change text (is_closed_relation x no_fault passes) h e) p
   accepted_true (ShapeContains one other) p =
-      two_true entry.Shape HaveOneDim one other shape_contains (λ x y. SaysTruth text (Includes x y)) (shape_of old one) (shape_of old other) (shape_under one) (shape_under other) (λ x y passes. have_one_dim x y no_fault passes) (λ x y change h e. told_true (Includes x y) change text h e) p
+      two_true entry.Shape HaveOneDim one other shape_contains (λ x y. SaysTruth text (Includes x y)) (shape_of old one) (shape_of old other) (shape_at old earlier g one) (shape_at old earlier g other) (λ x y passes. have_one_dim x y no_fault passes) (λ x y change h e. told_true (Includes x y) change text h e) p
   accepted_true (ShapePrint name) p =
-      one_true entry.Shape name shape_print (SaysBounds text) (shape_of old name) (shape_under name) (λ x change s passes h e. bounds_say laws.cons x change text (entry_kept earlier name (entry.Shape x) s) h e) p
+      one_true entry.Shape name shape_print (SaysBounds text) (shape_of old name) (shape_at old earlier g name) (λ x change s passes h e. bounds_say laws.cons x change text (entry_kept earlier name (entry.Shape x) s) h e) p
   accepted_true (Cons out top n part) p = p.lines_are ∙ put_ok as_poly out (λ r. SaysConstraints n part (λ cs. IsResultOfConstraints (topology_of top) cs r)) p.change p.does
   accepted_true (Gens out top n part) p = p.lines_are ∙ put_ok as_poly out (λ r. SaysGenerators n part (λ gs. IsResultOfGenerators (topology_of top) gs r)) p.change p.does
   accepted_true (Space space out top n) p = p.lines_are ∙ put_ok as_poly out (IsSpace space (topology_of top) n) p.change p.does
