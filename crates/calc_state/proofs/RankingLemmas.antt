@@ -5,6 +5,7 @@ use Rattle.poly_pair.specs.Polyhedra.{Polyhedron}
 use Rattle.ranking.specs.Rankings.{IsRankingSet}
 use Rattle.ranking.specs.PrintedRankings.{IsRankingText}
 use Rattle.calc_state.specs.declared.change.Change.TheVariants.{Says}
+use Rattle.calc_state.specs.Entries.{IsProper}
 use Rattle.calc_state.specs.Table.{Table, HasNoRoom}
 use Rattle.calc_state.specs.Order.{Passes}
 use Rattle.calc_state.specs.Meaning.{room, no_fault}
@@ -20,5 +21,5 @@ pub ranking_passes : (r : Polyhedron) → r.topology ≡ Closed → r.cons.dim %
 ranking_passes r closed even = (λ k. k, (λ k. k, (λ k. k closed, (λ k. k even, (λ k. k, (λ k. k, (λ k. k, (λ k. k, (λ k. k, (λ k. k, (λ k. k, (λ k. k, (λ k. k, (λ k. k, tt))))))))))))))
 
 -- one of the functions was told
-pub ranking_told : (r functions : Polyhedron) (text lines : List ℕ) → r.topology ≡ Closed → r.cons.dim % 2 ≡ 0 → IsRankingSet (r.cons.dim / 2) r functions → IsRankingText functions text → lines ≡ line text → IsPerformed (ranking r) (Ok (Says lines))
-ranking_told r functions text lines closed even is told said = (ranking_passes r closed even, record { functions = functions; is = is; text = text; told = told; said = said })
+pub ranking_told : (r functions : Polyhedron) (text lines : List ℕ) → r.topology ≡ Closed → r.cons.dim % 2 ≡ 0 → IsRankingSet (r.cons.dim / 2) r functions → IsProper functions → IsRankingText functions text → lines ≡ line text → IsPerformed (ranking r) (Ok (Says lines))
+ranking_told r functions text lines closed even is proper told said = (ranking_passes r closed even, record { functions = functions; is = is; proper = proper; text = text; told = told; said = said })

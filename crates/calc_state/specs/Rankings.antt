@@ -7,6 +7,7 @@ use Rattle.ranking.specs.Rankings.{IsRankingSet}
 use Rattle.ranking.specs.PrintedRankings.{IsRankingText}
 use Rattle.ranking.specs.Refusals.{LeavesInRanking}
 use Rattle.calc_state.specs.declared.change.Change.{Change}
+use Rattle.calc_state.specs.Entries.{IsProper}
 use Rattle.calc_state.specs.Table.{Table}
 use Rattle.calc_state.specs.Order.{Conditions}
 use Rattle.calc_state.specs.Meaning.{Meaning, no_fault, room, IsPut, IsSaid}
@@ -26,10 +27,11 @@ rank table out r = record {
   does = IsPut out (IsRankingSet (r.cons.dim / 2) r);
 }
 
--- one of the ranking functions is said, or that there is none
+-- one of the ranking functions is said, or that there is none: the polyhedron of the functions keeps what each polyhedron keeps, so that the relation decides what is said
 pub record IsRankingTold (r : Polyhedron) (change : Change) : Type 0 where
   pub functions : Polyhedron
   pub is : IsRankingSet (r.cons.dim / 2) r functions
+  pub proper : IsProper functions
   pub text : List ℕ
   pub told : IsRankingText functions text
   pub said : IsSaid (line text) change

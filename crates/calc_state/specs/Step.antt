@@ -4,7 +4,7 @@ use Rattle.row_core.specs.declared.errors.Overflow.{Overflow}
 use Rattle.row_core.specs.declared.errors.Memory.{Memory}
 use Rattle.reply_text.specs.declared.faults.Fault.{Fault}
 use Rattle.script_text.specs.declared.command.Command.{Command}
-use Rattle.script_text.specs.declared.command.Command.TheVariants.{Has, Size, Print, Names, Compare, Isempty, Relation, Bound, Write}
+use Rattle.script_text.specs.declared.command.Command.TheVariants.{Has, Size, Print, Names, Compare, Isempty, Relation, Bound, Write, Psize, ShapePrint}
 use Rattle.script_text.specs.declared.command.Comparison.TheVariants as comparison
 use Rattle.calc_state.specs.declared.change.Change.{Change}
 use Rattle.calc_state.specs.declared.change.Change.TheVariants.{Says, Puts, PutsAll, TakesOut}

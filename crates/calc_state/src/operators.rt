@@ -1,5 +1,5 @@
 //! The commands that put a polyhedron made of two others, or of one and further variables.
-ghost use Rattle.std.specs.Prelude.{◌≡◌, ◌+◌, ◌≤◌, MatchOption, IfOk, IfErr, List, ℕ};
+ghost use Rattle.std.specs.Prelude.{◌≡◌, ◌+◌, ◌<◌, ◌≤◌, MatchOption, IfOk, IfErr, List, ℕ};
 ghost use Rattle.std.specs.Option.{option_copied};
 ghost use Rattle.row_core.specs.Refusals.{IsOverflowIn};
 ghost use Rattle.poly_pair.specs.declared.topology.TheConstants.{MAX_DIM};

@@ -5,7 +5,7 @@ ghost use Rattle.calc_state.specs.Meaning.{on_one};
 ghost use Rattle.calc_state.specs.Rankings.{rank as make_rank, ranking as tell_ranking};
 ghost use Rattle.calc_state.specs.Performed.{IsPerformed};
 
-use crate::change::Change;
+use crate::change::{Change, is_proper};
 use crate::entry::Entry;
 use crate::names::Names;
 use crate::refusal::StepErr;
@@ -65,6 +65,7 @@ pub fn ranking<L: Ledger>(
         Ok(functions) => functions,
         Err(cause) => return Err(StepErr::from(cause)),
     };
+    is_proper(&functions);
     let mut text = print_ranking(alloc, &functions)?;
     text.push(b"\n")?;
     Ok(Change::Says(text))

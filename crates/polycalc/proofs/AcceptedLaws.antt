@@ -14,7 +14,6 @@ use Rattle.term_text.specs.Texts.{IsPoint, IsPointOf}
 use Rattle.term_text.specs.Systems.{IsCon}
 use Rattle.expr_text.specs.OneAnswer.{ExprHasOneAnswer, ConHasOneAnswer, PointHasOneAnswer}
 use Rattle.poly_pair.specs.Polyhedra.{Polyhedron, HasNoPoint}
-use Rattle.lattice_ops.specs.Sets.{IsIncluded, HaveSamePoints, AreDisjoint}
 use Rattle.poly_pair.specs.declared.topology.Topology.{Topology}
 use Rattle.poly_pair.specs.declared.topology.Topology.TheVariants.{Closed, Nnc}
 use Rattle.optimum.specs.Relations.{IsRelation, HoldsThroughout, HoldsNowhere, HoldsSomewhere, FailsSomewhere}
@@ -23,25 +22,33 @@ use Rattle.optimum.specs.Laws.{HasOneSup}
 use Rattle.optimum.specs.declared.outcome.Relation.{Relation as Flags}
 use Rattle.optimum.specs.declared.outcome.Sup.{Sup}
 use Rattle.script_text.specs.declared.command.Part.{Part}
+use Rattle.bd_shape.specs.Shapes.{Region, Includes}
+use Rattle.bd_shape.specs.Rows.{shape_constraints}
+use Rattle.script_text.specs.declared.command.Comparison.{Comparison}
+use Rattle.script_text.specs.declared.command.Comparison.TheVariants as comparison
 use Rattle.script_text.specs.declared.command.Command.{Command}
-use Rattle.script_text.specs.declared.command.Command.TheVariants.{Nothing, Cons, Gens, Universe, Empty, Copy, Drop, Add, Addgen, Has, Size, Print, Names, Meet, Hull, Closure, Contains, Equal, Disjoint, Isempty, Relation, Max, Min, Embed, Project, Concat, Elapse, Image, Preimage, Remove, Read, Write, Widen, System, Init, Trans, Fixpoint}
+use Rattle.script_text.specs.declared.command.Command.TheVariants.{Nothing, Has, Size, Print, Names, Compare, Isempty, Relation, Bound, Read, Write, Psize, Covers, Ranking, ShapeContains, ShapePrint}
 use Rattle.script_text.specs.Line.{SpellsOne}
 use Rattle.calc_state.specs.Table.{HasDistinctNames}
 use Rattle.calc_state.specs.Meaning.{answer_line}
 use Rattle.calc_state.specs.Questions.{line, size_text, side_text}
-use Rattle.calc_state.specs.Optima.{with_word, relation_text, bound_text}
+use Rattle.calc_state.specs.Optima.{with_word, relation_text, bound_text, is_max}
+use Rattle.calc_state.specs.Powersets.{members_text}
 use Rattle.calc_state.specs.Files.{file_of}
-use Rattle.calc_state.specs.Step.{IsProper}
+use Rattle.calc_state.specs.declared.entry.Entry.{Entry}
+use Rattle.calc_state.specs.declared.entry.Entry.TheVariants as entry
+use Rattle.calc_state.specs.Entries.{IsProper}
 use Rattle.calc_state.specs.Laws.{KeepsNamesDistinct}
 use Rattle.expr_text.specs.Printed.{constraints_text, generators_text}
 use Rattle.polycalc.specs.Acts.{Act, Did, Took, Accepted, acts}
-use Rattle.polycalc.specs.Sets.{IsSetOf, AreAlike}
-use Rattle.polycalc.specs.Sameness.{AreSamePolyhedra}
-use Rattle.polycalc.specs.Truth.{SaysWhether, IsTrueOf, IsTrueOfTwo, SaysTruth, SaysHowItLies, SaysExtremum, SaysSide, IsTruthful, IsTrueAnswer, AreTruthful}
-use Rattle.polycalc.specs.Laws.{IsNotClosed, ShowsStored, AreSameAnswers, AcceptedDecide}
+use Rattle.polycalc.specs.Sets.{AreAlike, AreAlikeUnions, HaveOneDim, IsSetOf, IsEntryOf}
+use Rattle.polycalc.specs.Sameness.{AreSamePolyhedra, AreSameEntries}
+use Rattle.polycalc.specs.Truth.{SaysWhether, IsTrueOf, IsTrueOfTwo, SaysTruth, LieSo, SaysHowItLies, SaysExtremum, SaysSide, SaysCover, SaysRanking, SaysBounds, IsTruthful, IsTrueAnswer, AreTruthful}
+use Rattle.polycalc.specs.Laws.{IsNotClosed, ShowsStored, ShowPoints, AreSameAnswers, AcceptedDecide}
 use Rattle.polycalc.proofs.OneForm.{OneForm}
 use Rattle.polycalc.proofs.OneResult.{same_back, included_same, equal_same, disjoint_same, empty_same, throughout_same, nowhere_same, both_same}
-use Rattle.polycalc.proofs.OneSet.{one_set, set_proper}
+use Rattle.polycalc.proofs.OneSet.{one_entry, one_set, entry_kept, set_proper}
+use Rattle.polycalc.proofs.KindAnswers.{sized_alike, covered_once, ranked_once}
 use Rattle.polycalc.proofs.AcceptedRuns.{accepted_once}
 use Rattle.polycalc.proofs.SetLaws.{Agrees}
 use Rattle.polycalc.proofs.SameTables.{agreeing_same}
@@ -128,87 +135,93 @@ said_side : (side : Bool) (text : List ℕ) (p : Polyhedron) → SaysSide side t
 said_side false text p a = a.said ∙ ap line (a.printed ∙ ap constraints_text a.stored)
 said_side true text p a = a.said ∙ ap line (a.printed ∙ ap generators_text a.stored)
 
+-- how two polyhedra lie depends on their points
+lie_same : (by : Comparison) (x y v w : Polyhedron) → AreSamePolyhedra x y → AreSamePolyhedra v w → AreAlike x v → LieSo by x v → LieSo by y w
+lie_same comparison.Contains x y v w e d like h = included_same v w x y d e (sym like.dim) h
+lie_same comparison.Equal x y v w e d like h = equal_same x y v w e d like.dim h
+lie_same comparison.Disjoint x y v w e d like h = disjoint_same x y v w e d like.dim h
+
+includes_same : (s r t u : Region) → s ≡ r → t ≡ u → Includes s t → Includes r u
+includes_same s r t u e d h = subst (λ (x : Region). Includes x u) e (subst (λ (y : Region). Includes s y) d h)
+
 module _ (laws : OneMeaning) (earlier : List Act) where
+  -- the answers are the same, but where stored systems or points are shown
+  abbrev IsOnce : Command → List ℕ → List ℕ → Type 0
+  IsOnce c text other = ShowsStored earlier (Did c) ⊎ (ShowPoints (Did c) text other ⊎ (text ≡ other))
+
+  stored_or : (c : Command) (text other : List ℕ) → ShowsStored earlier (Did c) ⊎ (text ≡ other) → IsOnce c text other
+  stored_or c text other (inl s) = inl s
+  stored_or c text other (inr e) = inr (inr e)
+
   one_of : (name : List ℕ) (p q : Polyhedron) → IsSetOf earlier name p → IsSetOf earlier name q → AreSamePolyhedra p q
   one_of name p q h k = one_set laws.form earlier name p q h k
 
-  sized_once : (name text other : List ℕ) → IsTrueOf earlier name (λ p. text ≡ line (size_text p)) → IsTrueOf earlier name (λ p. other ≡ line (size_text p)) → IsNotClosed earlier name ⊎ (text ≡ other)
+  -- an answer about one operand, or two, is the same where it is the same of operands that are the same
+  about_one : {A : Type 0} (kind : A → Entry) (name : List ℕ) (Says Said : A → Type 0) (E : Type 0) → ((x y : A) → IsEntryOf earlier name (kind x) → IsEntryOf earlier name (kind y) → AreSameEntries (kind x) (kind y) → Says x → Said y → E) →
+      IsTrueOf kind earlier name Says → IsTrueOf kind earlier name Said → E
+  about_one kind name Says Said E same a b = same a.operand b.operand a.given b.given (one_entry laws.form earlier name (kind a.operand) (kind b.operand) a.given b.given) a.says b.says
+
+  about_two : {A : Type 0} (kind : A → Entry) (Fit : A → A → Type 0) (one other : List ℕ) (Says Said : A → A → Type 0) (E : Type 0) →
+      ((x y v w : A) → IsEntryOf earlier one (kind x) → IsEntryOf earlier one (kind y) → IsEntryOf earlier other (kind v) → IsEntryOf earlier other (kind w) → AreSameEntries (kind x) (kind y) → AreSameEntries (kind v) (kind w) → Fit x v → Fit y w → Says x v → Said y w → E) →
+      IsTrueOfTwo kind Fit earlier one other Says → IsTrueOfTwo kind Fit earlier one other Said → E
+  about_two kind Fit one other Says Said E same a b =
+      same a.first b.first a.second b.second a.given_first b.given_first a.given_second b.given_second (one_entry laws.form earlier one (kind a.first) (kind b.first) a.given_first b.given_first)
+      (one_entry laws.form earlier other (kind a.second) (kind b.second) a.given_second b.given_second) a.fit b.fit a.says b.says
+
+  sized_once : (name text other : List ℕ) → IsTrueOf entry.Poly earlier name (λ p. text ≡ line (size_text p)) → IsTrueOf entry.Poly earlier name (λ p. other ≡ line (size_text p)) → IsNotClosed earlier name ⊎ (text ≡ other)
   sized_once name text other a b =
-      let same = one_of name a.polyhedron b.polyhedron a.set b.set in
-      by_topology earlier name a.polyhedron a.polyhedron.topology (text ≡ other) a.set refl (λ c. a.says ∙ ap (λ (p : Polyhedron). line (size_text p)) (same.closed c) ∙ sym b.says)
+      let same = one_of name a.operand b.operand a.given b.given in
+      by_topology earlier name a.operand a.operand.topology (text ≡ other) a.given refl (λ c. a.says ∙ ap (λ (p : Polyhedron). line (size_text p)) (same.closed c) ∙ sym b.says)
 
-  printed_once : (side : Bool) (name text other : List ℕ) → IsTrueOf earlier name (SaysSide side text) → IsTrueOf earlier name (SaysSide side other) → IsNotClosed earlier name ⊎ (text ≡ other)
+  printed_once : (side : Bool) (name text other : List ℕ) → IsTrueOf entry.Poly earlier name (SaysSide side text) → IsTrueOf entry.Poly earlier name (SaysSide side other) → IsNotClosed earlier name ⊎ (text ≡ other)
   printed_once side name text other a b =
-      let same = one_of name a.polyhedron b.polyhedron a.set b.set in
-      by_topology earlier name a.polyhedron a.polyhedron.topology (text ≡ other) a.set refl
-      (λ c. said_side side text a.polyhedron a.says ∙ ap (λ (p : Polyhedron). line (side_text side p)) (same.closed c) ∙ sym (said_side side other b.polyhedron b.says))
+      let same = one_of name a.operand b.operand a.given b.given in
+      by_topology earlier name a.operand a.operand.topology (text ≡ other) a.given refl
+      (λ c. said_side side text a.operand a.says ∙ ap (λ (p : Polyhedron). line (side_text side p)) (same.closed c) ∙ sym (said_side side other b.operand b.says))
 
-  -- what the points of two polyhedra decide
-  two_once : (one other text texts : List ℕ) (Statement : Polyhedron → Polyhedron → Type 0) → ((x y v w : Polyhedron) → AreSamePolyhedra x y → AreSamePolyhedra v w → AreAlike x v → Statement x v → Statement y w) →
-      IsTrueOfTwo earlier one other (λ p q. SaysTruth text (Statement p q)) → IsTrueOfTwo earlier one other (λ p q. SaysTruth texts (Statement p q)) → text ≡ texts
-  two_once one other text texts Statement same a b =
-      let first = one_of one a.first b.first a.set_first b.set_first in
-      let second = one_of other a.second b.second a.set_second b.set_second in
-      truth_once text texts (Statement a.first a.second) (Statement b.first b.second)
-      (same a.first b.first a.second b.second first second a.alike, same b.first a.first b.second a.second (same_back a.first b.first first) (same_back a.second b.second second) b.alike) a.says b.says
-
-  empty_once : (name text texts : List ℕ) → IsTrueOf earlier name (λ p. SaysTruth text (HasNoPoint p)) → IsTrueOf earlier name (λ p. SaysTruth texts (HasNoPoint p)) → text ≡ texts
-  empty_once name text texts a b =
-      let same = one_of name a.polyhedron b.polyhedron a.set b.set in
-      truth_once text texts (HasNoPoint a.polyhedron) (HasNoPoint b.polyhedron) (empty_same a.polyhedron b.polyhedron same, empty_same b.polyhedron a.polyhedron (same_back a.polyhedron b.polyhedron same)) a.says b.says
-
-  bounded_once : (up : Bool) (part : Part) (name text other : List ℕ) → IsTrueOf earlier name (SaysExtremum up part text) → IsTrueOf earlier name (SaysExtremum up part other) → IsNotClosed earlier name ⊎ (text ≡ other)
+  bounded_once : (up : Bool) (part : Part) (name text other : List ℕ) → IsTrueOf entry.Poly earlier name (SaysExtremum up part text) → IsTrueOf entry.Poly earlier name (SaysExtremum up part other) → IsNotClosed earlier name ⊎ (text ≡ other)
   bounded_once up part name text other a b =
-      let same = one_of name a.polyhedron b.polyhedron a.set b.set in
-      by_topology earlier name a.polyhedron a.polyhedron.topology (text ≡ other) a.set refl
-      (λ c. bound_said_once laws.expression laws.bound up part text other a.polyhedron (set_proper earlier name a.polyhedron a.set) a.says (subst (SaysExtremum up part other) (sym (same.closed c)) b.says))
+      let same = one_of name a.operand b.operand a.given b.given in
+      by_topology earlier name a.operand a.operand.topology (text ≡ other) a.given refl
+      (λ c. bound_said_once laws.expression laws.bound up part text other a.operand (set_proper earlier name a.operand a.given) a.says (subst (SaysExtremum up part other) (sym (same.closed c)) b.says))
 
   -- of one command
-  answered_once : (c : Command) (text other : List ℕ) → IsTruthful earlier c text → IsTruthful earlier c other → ShowsStored earlier (Did c) ⊎ (text ≡ other)
-  answered_once (Has name part) text other a b = inr (told_once laws.point part text other a.polyhedron b.polyhedron (one_of name a.polyhedron b.polyhedron a.set b.set) a.says b.says)
-  answered_once (Size name) text other a b = sized_once name text other a b
-  answered_once (Print side name) text other a b = printed_once side name text other a b
-  answered_once Names text other a b = inr (a ∙ sym b)
-  answered_once Nothing text other a b = inr (a ∙ sym b)
-  answered_once (Cons out top n part) text other a b = inr (a ∙ sym b)
-  answered_once (Gens out top n part) text other a b = inr (a ∙ sym b)
-  answered_once (Universe out top n) text other a b = inr (a ∙ sym b)
-  answered_once (Empty out top n) text other a b = inr (a ∙ sym b)
-  answered_once (Copy out name) text other a b = inr (a ∙ sym b)
-  answered_once (Drop out) text other a b = inr (a ∙ sym b)
-  answered_once (Add out part) text other a b = inr (a ∙ sym b)
-  answered_once (Addgen out part) text other a b = inr (a ∙ sym b)
-  answered_once (Meet out one name) text other a b = inr (a ∙ sym b)
-  answered_once (Hull out one name) text other a b = inr (a ∙ sym b)
-  answered_once (Closure out name) text other a b = inr (a ∙ sym b)
-  answered_once (Contains one name) text other a b = inr (two_once one name text other (λ p q. IsIncluded q p) (λ x y v w e d like. included_same v w x y d e (sym like.dim)) a b)
-  answered_once (Equal one name) text other a b = inr (two_once one name text other HaveSamePoints (λ x y v w e d like. equal_same x y v w e d like.dim) a b)
-  answered_once (Disjoint one name) text other a b = inr (two_once one name text other AreDisjoint (λ x y v w e d like. disjoint_same x y v w e d like.dim) a b)
-  answered_once (Isempty name) text other a b = inr (empty_once name text other a b)
-  answered_once (Relation name part) text other a b = inr (relation_said_once laws.constraint part text other a.polyhedron b.polyhedron (one_of name a.polyhedron b.polyhedron a.set b.set) a.says b.says)
-  answered_once (Max name part) text other a b = bounded_once true part name text other a b
-  answered_once (Min name part) text other a b = bounded_once false part name text other a b
-  answered_once (Embed out name n) text other a b = inr (a ∙ sym b)
-  answered_once (Project out name n) text other a b = inr (a ∙ sym b)
-  answered_once (Concat out one name) text other a b = inr (a ∙ sym b)
-  answered_once (Elapse out one name) text other a b = inr (a ∙ sym b)
-  answered_once (Image out name v rel part) text other a b = inr (a ∙ sym b)
-  answered_once (Preimage out name v rel part) text other a b = inr (a ∙ sym b)
-  answered_once (Remove out name vars) text other a b = inr (a ∙ sym b)
-  answered_once (Widen out x y) text other a b = inr (a ∙ sym b)
-  answered_once (System out n locations) text other a b = inr (a ∙ sym b)
-  answered_once (Init out location name) text other a b = inr (a ∙ sym b)
-  answered_once (Trans out source target name) text other a b = inr (a ∙ sym b)
-  answered_once (Fixpoint name delay prefix) text other a b = inr (a ∙ sym b)
-  answered_once (Read out form) text other a b = inr (a ∙ sym b)
+  answered_once : (c : Command) (text other : List ℕ) → IsTruthful earlier c text → IsTruthful earlier c other → IsOnce c text other
+  answered_once (Has name part) text other a b = inr (inr (about_one entry.Poly name (SaysWhether part text) (SaysWhether part other) (text ≡ other) (λ p q h k same x y. told_once laws.point part text other p q same x y) a b))
+  answered_once (Size name) text other a b = stored_or (Size name) text other (sized_once name text other a b)
+  answered_once (Print side name) text other a b = stored_or (Print side name) text other (printed_once side name text other a b)
+  answered_once Names text other a b = inr (inr (a ∙ sym b))
+  answered_once Nothing text other a b = inr (inr (a ∙ sym b))
+  answered_once (Read out form) text other a b = inr (inr (a ∙ sym b))
+  answered_once (Compare by one name) text other a b =
+      inr (inr (about_two entry.Poly AreAlike one name (λ p q. SaysTruth text (LieSo by p q)) (λ p q. SaysTruth other (LieSo by p q)) (text ≡ other)
+      (λ x y v w g h i j e d like alike s t. truth_once text other (LieSo by x v) (LieSo by y w) (lie_same by x y v w e d like, lie_same by y x w v (same_back x y e) (same_back v w d) alike) s t) a b))
+  answered_once (Isempty name) text other a b =
+      inr (inr (about_one entry.Poly name (λ p. SaysTruth text (HasNoPoint p)) (λ p. SaysTruth other (HasNoPoint p)) (text ≡ other)
+      (λ p q h k same x y. truth_once text other (HasNoPoint p) (HasNoPoint q) (empty_same p q same, empty_same q p (same_back p q same)) x y) a b))
+  answered_once (Relation name part) text other a b = inr (inr (about_one entry.Poly name (SaysHowItLies part text) (SaysHowItLies part other) (text ≡ other) (λ p q h k same x y. relation_said_once laws.constraint part text other p q same x y) a b))
+  answered_once (Bound extremum name part) text other a b = stored_or (Bound extremum name part) text other (bounded_once (is_max extremum) part name text other a b)
   answered_once (Write name form) text other a b =
-      let same = one_of name a.polyhedron b.polyhedron a.set b.set in
-      inr (a.says.1 ∙ ap (file_of form) (same.closed a.says.0) ∙ sym b.says.1)
+      let same = one_of name a.operand b.operand a.given b.given in
+      inr (inr (a.says.1 ∙ ap (file_of form) (same.closed a.says.0) ∙ sym b.says.1))
+  answered_once (Psize name) text other a b =
+      inr (inr (about_one entry.Powerset name (λ u. text ≡ line (members_text u)) (λ u. other ≡ line (members_text u)) (text ≡ other) (λ u w h k same x y. x ∙ sized_alike u w same ∙ sym y) a b))
+  answered_once (Covers one name) text other a b =
+      inr (about_two entry.Powerset AreAlikeUnions one name (SaysCover text) (SaysCover other) (ShowPoints (Did (Covers one name)) text other ⊎ (text ≡ other))
+      (λ x y v w g h i j e d fit fits s t. covered_once x y v w text other e d (entry_kept earlier one (entry.Powerset x) g) (entry_kept earlier one (entry.Powerset y) h) (entry_kept earlier name (entry.Powerset v) i) (entry_kept earlier name (entry.Powerset w) j) fit.dim s t) a b)
+  answered_once (Ranking name) text other a b =
+      inr (inr (about_one entry.Poly name (SaysRanking text) (SaysRanking other) (text ≡ other) (λ p q h k same x y. ranked_once laws.form q text other (subst (SaysRanking text) (same.closed x.closed) x) y) a b))
+  answered_once (ShapeContains one name) text other a b =
+      inr (inr (about_two entry.Shape HaveOneDim one name (λ s t. SaysTruth text (Includes s t)) (λ s t. SaysTruth other (Includes s t)) (text ≡ other)
+      (λ x y v w g h i j e d fit fits s t. truth_once text other (Includes x v) (Includes y w) (includes_same x y v w e d, includes_same y x w v (sym e) (sym d)) s t) a b))
+  answered_once (ShapePrint name) text other a b =
+      inr (inr (about_one entry.Shape name (SaysBounds text) (SaysBounds other) (text ≡ other) (λ s r h k same x y. x.said ∙ ap line (x.printed ∙ ap (λ (z : Region). constraints_text (shape_constraints z)) same ∙ sym y.printed) ∙ sym y.said) a b))
+  answered_once done text other a b = inr (inr (a ∙ sym b))
 
   -- of one command or file
-  accepted_answered : (act : Act) (text other : List ℕ) → IsTrueAnswer earlier act text → IsTrueAnswer earlier act other → ShowsStored earlier act ⊎ (text ≡ other)
+  accepted_answered : (act : Act) (text other : List ℕ) → IsTrueAnswer earlier act text → IsTrueAnswer earlier act other → ShowsStored earlier act ⊎ (ShowPoints act text other ⊎ (text ≡ other))
   accepted_answered (Did c) text other a b = answered_once c text other a b
-  accepted_answered (Took file) text other a b = inr (a ∙ sym b)
+  accepted_answered (Took file) text other a b = inr (inr (a ∙ sym b))
 
 -- ---- the answers to what is accepted
 abbrev first_act : Act → List Act → Act

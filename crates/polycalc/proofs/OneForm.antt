@@ -9,6 +9,7 @@ use Rattle.gens_sys.specs.Generators.{Generator, Generators, kind_at}
 use Rattle.expr_text.specs.OneAnswer.{ConsHasOneAnswer, GensHasOneAnswer, FracHasOneAnswer}
 use Rattle.widening.specs.WideningLaws.{OneWidening}
 use Rattle.fixpoint.specs.RunLaws.{HasOneLimit}
+use Rattle.hybrid.specs.Reaches.{HasOneReach}
 use Rattle.cdd_text.specs.OneAnswer.{HasOneIne, HasOneExt}
 use Rattle.pair_laws.specs.PointSets.{HoldSame}
 use Rattle.pair_laws.specs.StoredLaws.{StoredIsUnique, AreSameSystems}
@@ -18,11 +19,11 @@ use Rattle.poly_pair.specs.KeptLaws.{KeptIsPair, KeptIsEmpty}
 use Rattle.poly_pair.specs.Polyhedra.{Polyhedron, IsStoredAs, IsKept, HasNoPoint, IsOver}
 use Rattle.poly_pair.specs.declared.topology.Topology.{Topology}
 use Rattle.poly_pair.specs.declared.topology.Topology.TheVariants.{Closed, Nnc}
-use Rattle.calc_state.specs.Step.{IsProper}
+use Rattle.calc_state.specs.Entries.{IsProper}
 use Rattle.polycalc.specs.Sameness.{AreSamePolyhedra}
 
 -- the laws that are cited: a text says one system; a closed set is stored in one way; both systems of a polyhedron hold
--- the same points, and there is no generator where there is none; what is joined to generators adds to their points alone; there is one widening, and one limit of a system; a file holds one list
+-- the same points, and there is no generator where there is none; what is joined to generators adds to their points alone; there is one widening, one limit of a system, and one of an automaton; a file holds one list
 pub record OneForm : Type 0 where
   pub cons : ConsHasOneAnswer
   pub gens : GensHasOneAnswer
@@ -33,6 +34,7 @@ pub record OneForm : Type 0 where
   pub joined : JoinedSetsAreSame
   pub widening : OneWidening
   pub limit : HasOneLimit
+  pub reach : HasOneReach
   pub ine : HasOneIne
   pub ext : HasOneExt
 

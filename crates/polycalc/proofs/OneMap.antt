@@ -16,20 +16,25 @@ use Rattle.poly_pair.specs.TopologyConstraints.{IsConstraintFor}
 use Rattle.affine_ops.specs.declared.relations.ImageRel.{ImageRel}
 use Rattle.affine_ops.specs.Relations.{Stands, IsRelatedImage, IsRelatedPreimage, replaced}
 use Rattle.affine_ops.specs.Maps.{without, remaining, kept_variables}
-use Rattle.affine_ops.specs.Results.{IsOfSource, IsImage, IsPreimage, IsPadded, IsOfBoth}
+use Rattle.affine_ops.specs.Results.{IsOfSource, IsImage, IsPreimage, IsPadded, IsProjection, IsOfBoth, IsProduct}
 use Rattle.affine_ops.proofs.ColumnLemmas.{length-without}
 use Rattle.elapse.specs.ElapsedPoints.{IsMoved, IsElapsed, IsInElapse}
+use Rattle.elapse.specs.Elapses.{IsElapse}
 use Rattle.script_text.specs.declared.command.Part.{Part}
 use Rattle.script_text.specs.declared.command.Rel.{Rel}
-use Rattle.calc_state.specs.declared.affine.Mapping.{Mapping}
-use Rattle.calc_state.specs.declared.affine.Mapping.TheVariants.{Image, Preimage}
-use Rattle.calc_state.specs.Affine.{SaysReplacement, IsEmbedded, IsProjected, IsRemoved, IsConcatenated, image_rel, IsSetOfMap, IsMapped, IsMappedBy}
-use Rattle.calc_state.specs.Results.{IsResultOfElapse}
-use Rattle.calc_state.specs.Step.{IsProper}
-use Rattle.polycalc.specs.Sets.{IsOfAlike}
+use Rattle.script_text.specs.declared.command.Mapping.{Mapping}
+use Rattle.script_text.specs.declared.command.Mapping.TheVariants.{Image, Preimage}
+use Rattle.script_text.specs.declared.command.Operator.{Operator}
+use Rattle.script_text.specs.declared.command.Operator.TheVariants as operator
+use Rattle.script_text.specs.declared.command.Extension.{Extension}
+use Rattle.script_text.specs.declared.command.Extension.TheVariants.{Embed, Project}
+use Rattle.calc_state.specs.Affine.{SaysReplacement, IsRemoved, image_rel, IsSetOfMap, IsMapped, IsMappedBy}
+use Rattle.calc_state.specs.Operators.{Fits, IsMadeBy, IsExtended}
+use Rattle.calc_state.specs.Entries.{IsProper}
+use Rattle.polycalc.specs.Sets.{IsOfFit}
 use Rattle.polycalc.specs.Sameness.{AreSamePolyhedra}
 use Rattle.polycalc.proofs.OneForm.{OneForm}
-use Rattle.polycalc.proofs.OneResult.{same_back, one_of_same}
+use Rattle.polycalc.proofs.OneResult.{same_back, one_of_same, one_meet, one_hull}
 
 -- ---- points that lose variables
 cell_dropped : (n j m : ℕ) (v : List ℤ) → m ≡ n + j → cell (drop n v) j ≡ cell v m
@@ -79,17 +84,17 @@ one_preimage laws f to x y r s same maps a b h k =
     one_of_same laws x.topology y.topology to to (λ v. In x.cons (f v)) (λ v. In y.cons (f v)) r s same.topology refl (λ v is. same.points (f v) (maps v is)) a b h.over k.over h.points k.points
 
 -- ---- the dimension
-pub one_embedded : OneForm → (n : ℕ) (x y r s : Polyhedron) → AreSamePolyhedra x y → IsProper r → IsProper s → IsEmbedded n x r → IsEmbedded n y s → AreSamePolyhedra r s
+one_embedded : OneForm → (n : ℕ) (x y r s : Polyhedron) → AreSamePolyhedra x y → IsProper r → IsProper s → IsPreimage (without x.cons.dim (x.cons.dim + n)) (x.cons.dim + n) x r → IsPreimage (without y.cons.dim (y.cons.dim + n)) (y.cons.dim + n) y s → AreSamePolyhedra r s
 one_embedded laws n x y r s same a b h k =
-    one_preimage laws (without x.cons.dim (x.cons.dim + n)) (x.cons.dim + n) x y r s same (front_point x.cons.dim n) a b h.set (subst (λ (d : ℕ). IsPreimage (without d (d + n)) (d + n) y s) (sym same.dim) k.set)
+    one_preimage laws (without x.cons.dim (x.cons.dim + n)) (x.cons.dim + n) x y r s same (front_point x.cons.dim n) a b h (subst (λ (d : ℕ). IsPreimage (without d (d + n)) (d + n) y s) (sym same.dim) k)
 
 pub one_removed : OneForm → (vars : List ℕ) (x y r s : Polyhedron) → AreSamePolyhedra x y → IsProper r → IsProper s → IsRemoved vars x r → IsRemoved vars y s → AreSamePolyhedra r s
 one_removed laws vars x y r s same a b h k =
     one_image laws (remaining x.cons.dim vars) (length (kept_variables x.cons.dim vars)) x y r s same a b h.set (subst (λ (d : ℕ). IsImage (remaining d vars) (length (kept_variables d vars)) y s) (sym same.dim) k.set)
 
-pub one_projection : OneForm → (n : ℕ) (x y r s : Polyhedron) → AreSamePolyhedra x y → IsProper r → IsProper s → IsProjected n x r → IsProjected n y s → AreSamePolyhedra r s
+one_projection : OneForm → (n : ℕ) (x y r s : Polyhedron) → AreSamePolyhedra x y → IsProper r → IsProper s → IsProjection n x r → IsProjection n y s → AreSamePolyhedra r s
 one_projection laws n x y r s same a b h k =
-    one_of_same laws x.topology y.topology (x.cons.dim + n) (y.cons.dim + n) (Padded x) (Padded y) r s same.topology wider both a b h.set.over k.set.over h.set.points k.set.points
+    one_of_same laws x.topology y.topology (x.cons.dim + n) (y.cons.dim + n) (Padded x) (Padded y) r s same.topology wider both a b h.over k.over h.points k.points
   where
     Padded : Polyhedron → List ℤ → Type 0
     Padded p v = IsPadded p.cons.dim (p.cons.dim + n) p v
@@ -105,6 +110,11 @@ one_projection laws n x y r s same a b h k =
     both : (v : List ℤ) → IsPoint (x.cons.dim + n) v → Padded x v ↔ Padded y v
     both v is = (padded_same x y v same is, padded_same y x v (same_back x y same) (subst (λ (d : ℕ). IsPoint d v) wider is))
 
+-- further variables, free or 0
+pub one_extended : OneForm → (by : Extension) (n : ℕ) (x y r s : Polyhedron) → AreSamePolyhedra x y → IsProper r → IsProper s → IsExtended by n x r → IsExtended by n y s → AreSamePolyhedra r s
+one_extended laws Embed n x y r s same a b h k = one_embedded laws n x y r s same a b h.set k.set
+one_extended laws Project n x y r s same a b h k = one_projection laws n x y r s same a b h.set k.set
+
 -- ---- two operands
 both_same : (x y v w : Polyhedron) (p : List ℤ) → AreSamePolyhedra x y → AreSamePolyhedra v w → IsPoint (x.cons.dim + v.cons.dim) p → IsOfBoth x v p → IsOfBoth y w p
 both_same x y v w p same others is i = record {
@@ -113,10 +123,10 @@ both_same x y v w p same others is i = record {
   back = subst (λ (d : ℕ). In w.cons (drop d p)) same.dim ((others.points (drop x.cons.dim p) (back_point x.cons.dim v.cons.dim p is)).0 i.back);
 }
 
-pub one_product : OneForm → (x y v w r s : Polyhedron) → AreSamePolyhedra x y → AreSamePolyhedra v w → IsProper r → IsProper s → IsConcatenated x v r → IsConcatenated y w s → AreSamePolyhedra r s
+one_product : OneForm → (x y v w r s : Polyhedron) → AreSamePolyhedra x y → AreSamePolyhedra v w → IsProper r → IsProper s → IsProduct x v r → IsProduct y w s → AreSamePolyhedra r s
 one_product laws x y v w r s same others a b h k =
     one_of_same laws x.topology y.topology (x.cons.dim + v.cons.dim) (y.cons.dim + w.cons.dim) (IsOfBoth x v) (IsOfBoth y w) r s same.topology wider
-    (λ p is. (both_same x y v w p same others is, both_same y x w v p (same_back x y same) (same_back v w others) (subst (λ (d : ℕ). IsPoint d p) wider is))) a b h.set.over k.set.over h.set.points k.set.points
+    (λ p is. (both_same x y v w p same others is, both_same y x w v p (same_back x y same) (same_back v w others) (subst (λ (d : ℕ). IsPoint d p) wider is))) a b h.over k.over h.points k.points
   where
     wider : x.cons.dim + v.cons.dim ≡ y.cons.dim + w.cons.dim
     wider = ap (λ (d : ℕ). d + v.cons.dim) same.dim ∙ ap (λ (d : ℕ). y.cons.dim + d) others.dim
@@ -134,10 +144,17 @@ elapse_same : (x y v w : Polyhedron) (p : List ℤ) → AreSamePolyhedra x y →
 elapse_same x y v w p same others each c fits valid =
     each c (subst (λ (t : Topology). IsConstraintFor t x.cons.dim c) (sym same.topology) (subst (λ (n : ℕ). IsConstraintFor y.topology n c) (sym same.dim) fits)) (λ z i. valid z (elapsed_same x y v w z same others i))
 
-pub one_elapse : OneForm → (x y v w r s : Polyhedron) → AreSamePolyhedra x y → AreSamePolyhedra v w → IsProper r → IsProper s → IsOfAlike IsResultOfElapse x v r → IsOfAlike IsResultOfElapse y w s → AreSamePolyhedra r s
+one_elapse : OneForm → (x y v w r s : Polyhedron) → AreSamePolyhedra x y → AreSamePolyhedra v w → IsProper r → IsProper s → IsElapse x v r → IsElapse y w s → AreSamePolyhedra r s
 one_elapse laws x y v w r s same others a b h k =
     one_of_same laws x.topology y.topology x.cons.dim y.cons.dim (IsInElapse x.topology x.cons v.cons) (IsInElapse y.topology y.cons w.cons) r s same.topology same.dim
-    (λ p is. (elapse_same x y v w p same others, elapse_same y x w v p (same_back x y same) (same_back v w others))) a b h.is.set.over k.is.set.over h.is.set.points k.is.set.points
+    (λ p is. (elapse_same x y v w p same others, elapse_same y x w v p (same_back x y same) (same_back v w others))) a b h.over k.over h.points k.points
+
+-- by one operator
+pub one_operated : OneForm → (op : Operator) (x y v w r s : Polyhedron) → AreSamePolyhedra x y → AreSamePolyhedra v w → IsProper r → IsProper s → IsOfFit (Fits op) (IsMadeBy op) x v r → IsOfFit (Fits op) (IsMadeBy op) y w s → AreSamePolyhedra r s
+one_operated laws operator.Meet x y v w r s same others a b h k = one_meet laws x y v w r s same others a b h.fit.1 h.is.set k.is.set
+one_operated laws operator.Hull x y v w r s same others a b h k = one_hull laws x y v w r s same others a b h.is.set k.is.set
+one_operated laws operator.Concat x y v w r s same others a b h k = one_product laws x y v w r s same others a b h.is.set k.is.set
+one_operated laws operator.Elapse x y v w r s same others a b h k = one_elapse laws x y v w r s same others a b h.is.set k.is.set
 
 -- ---- maps
 positive_divisor : (d : ℕ) (z : ℤ) → z ≡ pos d → 0 < d → pos 0 <ℤ z

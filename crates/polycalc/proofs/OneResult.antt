@@ -10,11 +10,13 @@ use Rattle.pair_laws.specs.PointSets.{IsWithin}
 use Rattle.optimum.specs.Relations.{HoldsThroughout, HoldsNowhere, HoldsSomewhere, FailsSomewhere}
 use Rattle.widening.specs.Widenings.{IsWidening}
 use Rattle.poly_pair.specs.TopologyConstraints.{IsConstraintFor}
-use Rattle.lattice_ops.specs.Sets.{IsValidOn, IsIncluded, HaveSamePoints, AreDisjoint}
-use Rattle.calc_state.specs.Results.{IsResultOfMeet, IsResultOfHull, IsResultOfClosure}
-use Rattle.calc_state.specs.Step.{IsProper}
-use Rattle.polycalc.specs.Sets.{IsMadeOfOne, IsMadeOfTwo, IsOfAlike, IsOfNested}
-use Rattle.polycalc.specs.Sameness.{AreSamePolyhedra}
+use Rattle.lattice_ops.specs.Sets.{IsMeet, IsHull, IsValidOn, IsIncluded, HaveSamePoints, AreDisjoint}
+use Rattle.calc_state.specs.declared.entry.Entry.{Entry}
+use Rattle.calc_state.specs.declared.entry.Entry.TheVariants as entry
+use Rattle.calc_state.specs.Entries.{IsProper, IsKeptEntry}
+use Rattle.calc_state.specs.Results.{IsResultOfClosure}
+use Rattle.polycalc.specs.Sets.{IsMadeOfOne, IsMadeOfTwo, IsOfNested}
+use Rattle.polycalc.specs.Sameness.{AreSamePolyhedra, AreSameEntries}
 use Rattle.polycalc.proofs.OneForm.{OneForm, one_of_points}
 
 -- ---- the same polyhedron
@@ -44,30 +46,41 @@ one_of_same laws t u m n Has Had r s e f same a b over other h k =
     at : (v : List ℤ) → IsPoint m v → Has v ↔ In s.cons v
     at v is = (let i = k v (subst (λ (d : ℕ). IsPoint d v) f is) in (λ x. i.1 ((same v is).0 x), λ y. (same v is).1 (i.0 y)))
 
--- of what the names had
-pub one_of_one : (Was : Polyhedron → Type 0) (Is : Polyhedron → Polyhedron → Type 0) (p q : Polyhedron) → ((x y : Polyhedron) → Was x → Was y → AreSamePolyhedra x y) →
-    ((x y r s : Polyhedron) → AreSamePolyhedra x y → IsProper r → IsProper s → Is x r → Is y s → AreSamePolyhedra r s) → IsMadeOfOne Was Is p → IsMadeOfOne Was Is q → AreSamePolyhedra p q
-one_of_one Was Is p q one same h k = same h.operand k.operand p q (one h.operand k.operand h.was k.was) h.made.proper k.made.proper h.made.is k.made.is
+-- of what a name had
+pub one_of_one : {A B : Type 0} (kind : A → Entry) (into : B → Entry) (Was : Entry → Type 0) (Is : A → B → Type 0) (r s : B) → ((e : Entry) → Was e → IsKeptEntry e) → ((e f : Entry) → Was e → Was f → AreSameEntries e f) →
+    ((x y : A) → AreSameEntries (kind x) (kind y) → IsKeptEntry (kind x) → IsKeptEntry (kind y) → IsKeptEntry (into r) → IsKeptEntry (into s) → Is x r → Is y s → AreSameEntries (into r) (into s)) →
+    IsMadeOfOne kind into Was Is r → IsMadeOfOne kind into Was Is s → AreSameEntries (into r) (into s)
+one_of_one kind into Was Is r s kept one same h k =
+    same h.operand k.operand (one (kind h.operand) (kind k.operand) h.was k.was) (kept (kind h.operand) h.was) (kept (kind k.operand) k.was) h.made.kept k.made.kept h.made.is k.made.is
 
-pub one_of_two : (Was WasOther : Polyhedron → Type 0) (Is : Polyhedron → Polyhedron → Polyhedron → Type 0) (p q : Polyhedron) → ((x y : Polyhedron) → Was x → Was y → AreSamePolyhedra x y) → ((x y : Polyhedron) → WasOther x → WasOther y → AreSamePolyhedra x y) →
-    ((x y v w r s : Polyhedron) → AreSamePolyhedra x y → AreSamePolyhedra v w → IsProper r → IsProper s → Is x v r → Is y w s → AreSamePolyhedra r s) → IsMadeOfTwo Was WasOther Is p → IsMadeOfTwo Was WasOther Is q → AreSamePolyhedra p q
-one_of_two Was WasOther Is p q one other same h k =
-    same h.first k.first h.second k.second p q (one h.first k.first h.was_first k.was_first) (other h.second k.second h.was_second k.was_second) h.made.proper k.made.proper h.made.is k.made.is
+-- a polyhedron of a polyhedron
+pub one_of_poly : (Was : Entry → Type 0) (Is : Polyhedron → Polyhedron → Type 0) (p q : Polyhedron) → ((e : Entry) → Was e → IsKeptEntry e) → ((e f : Entry) → Was e → Was f → AreSameEntries e f) →
+    ((x y r s : Polyhedron) → AreSamePolyhedra x y → IsProper r → IsProper s → Is x r → Is y s → AreSamePolyhedra r s) → IsMadeOfOne entry.Poly entry.Poly Was Is p → IsMadeOfOne entry.Poly entry.Poly Was Is q → AreSamePolyhedra p q
+one_of_poly Was Is p q kept one same h k = one_of_one entry.Poly entry.Poly Was Is p q kept one (λ x y e a b c d i j. same x y p q e c d i j) h k
+
+-- of what two names had
+pub one_of_two : {A B : Type 0} (kind : A → Entry) (into : B → Entry) (Was WasOther : Entry → Type 0) (Is : A → A → B → Type 0) (r s : B) → ((e : Entry) → Was e → IsKeptEntry e) → ((e : Entry) → WasOther e → IsKeptEntry e) →
+    ((e f : Entry) → Was e → Was f → AreSameEntries e f) → ((e f : Entry) → WasOther e → WasOther f → AreSameEntries e f) →
+    ((x y v w : A) → AreSameEntries (kind x) (kind y) → AreSameEntries (kind v) (kind w) → IsKeptEntry (kind x) → IsKeptEntry (kind y) → IsKeptEntry (kind v) → IsKeptEntry (kind w) → IsKeptEntry (into r) → IsKeptEntry (into s) → Is x v r → Is y w s → AreSameEntries (into r) (into s)) →
+    IsMadeOfTwo kind into Was WasOther Is r → IsMadeOfTwo kind into Was WasOther Is s → AreSameEntries (into r) (into s)
+one_of_two kind into Was WasOther Is r s kept kept_other one other same h k =
+    same h.first k.first h.second k.second (one (kind h.first) (kind k.first) h.was_first k.was_first) (other (kind h.second) (kind k.second) h.was_second k.was_second) (kept (kind h.first) h.was_first) (kept (kind k.first) k.was_first)
+    (kept_other (kind h.second) h.was_second) (kept_other (kind k.second) k.was_second) h.made.kept k.made.kept h.made.is k.made.is
 
 -- ---- meet, hull and closure
-pub one_meet : OneForm → (x y v w r s : Polyhedron) → AreSamePolyhedra x y → AreSamePolyhedra v w → IsProper r → IsProper s → IsOfAlike IsResultOfMeet x v r → IsOfAlike IsResultOfMeet y w s → AreSamePolyhedra r s
-one_meet laws x y v w r s same others a b h k =
-    one_of_same laws x.topology y.topology x.cons.dim y.cons.dim (λ p. In x.cons p × In v.cons p) (λ p. In y.cons p × In w.cons p) r s same.topology same.dim both a b h.is.set.over k.is.set.over h.is.set.points k.is.set.points
+pub one_meet : OneForm → (x y v w r s : Polyhedron) → AreSamePolyhedra x y → AreSamePolyhedra v w → IsProper r → IsProper s → x.cons.dim ≡ v.cons.dim → IsMeet x v r → IsMeet y w s → AreSamePolyhedra r s
+one_meet laws x y v w r s same others a b dims h k =
+    one_of_same laws x.topology y.topology x.cons.dim y.cons.dim (λ p. In x.cons p × In v.cons p) (λ p. In y.cons p × In w.cons p) r s same.topology same.dim both a b h.over k.over h.points k.points
   where
     both : (p : List ℤ) → IsPoint x.cons.dim p → (In x.cons p × In v.cons p) ↔ (In y.cons p × In w.cons p)
     both p is =
         let one = same.points p is in
-        let other = same_at v w x.cons.dim p others (sym h.alike.dim) is in
+        let other = same_at v w x.cons.dim p others (sym dims) is in
         (λ i. (one.0 i.0, other.0 i.1), λ i. (one.1 i.0, other.1 i.1))
 
-pub one_hull : OneForm → (x y v w r s : Polyhedron) → AreSamePolyhedra x y → AreSamePolyhedra v w → IsProper r → IsProper s → IsOfAlike IsResultOfHull x v r → IsOfAlike IsResultOfHull y w s → AreSamePolyhedra r s
+pub one_hull : OneForm → (x y v w r s : Polyhedron) → AreSamePolyhedra x y → AreSamePolyhedra v w → IsProper r → IsProper s → IsHull x v r → IsHull y w s → AreSamePolyhedra r s
 one_hull laws x y v w r s same others a b h k =
-    one_of_same laws x.topology y.topology x.cons.dim y.cons.dim (InHull x v) (InHull y w) r s same.topology same.dim (λ p is. (hull_same x y v w p same others, hull_same y x w v p (same_back x y same) (same_back v w others))) a b h.is.set.over k.is.set.over h.is.set.points k.is.set.points
+    one_of_same laws x.topology y.topology x.cons.dim y.cons.dim (InHull x v) (InHull y w) r s same.topology same.dim (λ p is. (hull_same x y v w p same others, hull_same y x w v p (same_back x y same) (same_back v w others))) a b h.over k.over h.points k.points
   where
     InHull : Polyhedron → Polyhedron → List ℤ → Type 0
     InHull g i p = (c : Constraint) → IsConstraintFor g.topology g.cons.dim c → IsValidOn g c → IsValidOn i c → Satisfies p c

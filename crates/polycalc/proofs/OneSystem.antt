@@ -1,4 +1,4 @@
--- What makes, changes and runs transition systems has one result.
+-- What makes transition systems, and what changes and runs them or automata, has one result.
 use Rattle.std.proofs.Common.{◌≡◌, ℕ, ◌^◌, ◌<◌, List, [], ◌∷◌, length, refl, ap, sym, ◌∙◌, subst, arith, decimal, All}
 use Rattle.std.specs.Prelude.{Some, slice_get}
 use Rattle.std.proofs.lemmas.Fmt.{decimal_injective}
@@ -11,11 +11,19 @@ use Rattle.poly_pair.specs.declared.topology.Topology.TheVariants.{Closed}
 use Rattle.poly_pair.specs.ClosedPolyhedra.{IsClosedOver}
 use Rattle.trans_sys.specs.Systems.{TransitionSystem, IsKeptSystem}
 use Rattle.trans_sys.specs.declared.transition.Transition.{Transition}
+use Rattle.hybrid.specs.Systems.{HybridSystem, IsKeptHybrid}
+use Rattle.hybrid.specs.Reaches.{AreReached as AreReachedBy}
+use Rattle.hybrid.specs.Turns.{turns_of}
+use Rattle.hybrid.proofs.HybridTurns.{proper, initial_sets}
 use Rattle.widening.proofs.Places.{same_at}
+use Rattle.widening.proofs.RoundLemmas.{start_table, rounds_table}
+use Rattle.calc_state.specs.declared.entry.Entry.{Entry}
+use Rattle.calc_state.specs.declared.entry.Entry.TheVariants as entry
 use Rattle.calc_state.specs.Systems.{IsEmptySystem, AreReached}
+use Rattle.calc_state.specs.Hybrids.{AreReachedParts}
 use Rattle.calc_state.specs.Table.{numbered}
-use Rattle.polycalc.specs.Sets.{IsMadeSystem, IsChangedBy, IsReachedSet}
-use Rattle.polycalc.specs.Sameness.{AreSamePolyhedra}
+use Rattle.polycalc.specs.Sets.{IsMadeAs, IsChangedBy, IsReachedSet}
+use Rattle.polycalc.specs.Sameness.{AreSamePolyhedra, AreSameEntries}
 use Rattle.polycalc.proofs.OneForm.{OneForm, one_closed}
 
 -- ---- systems that are made
@@ -42,16 +50,16 @@ empty_lists laws m k n (x ∷ xs) (y ∷ ys) l a b h e =
     empty_lists laws m k n xs ys (omega (arith, l)) (All-tail (IsClosedOver m) x xs a) (All-tail (IsClosedOver k) y ys b) (All-tail (IsEmpty Closed n) x xs h) (All-tail (IsEmpty Closed n) y ys e) in
     ap (λ (z : Polyhedron). z ∷ xs) first ∙ ap (λ (zs : List Polyhedron). y ∷ zs) rest
 
-pub one_empty_system : OneForm → (n locations : ℕ) (s t : TransitionSystem) → IsMadeSystem (IsEmptySystem n locations) s → IsMadeSystem (IsEmptySystem n locations) t → s ≡ t
+pub one_empty_system : OneForm → (n locations : ℕ) (s t : TransitionSystem) → IsMadeAs entry.System (IsEmptySystem n locations) s → IsMadeAs entry.System (IsEmptySystem n locations) t → s ≡ t
 one_empty_system laws n locations s t h k =
     same_systems s t (h.is.dim ∙ sym k.is.dim) (empty_lists laws s.dim t.dim n s.initial t.initial (h.is.as_many ∙ sym k.is.as_many) h.kept.initial k.kept.initial h.is.initial k.is.initial) (h.is.transitions ∙ sym k.is.transitions)
 
 -- ---- and changed
-pub one_changed : (Was : TransitionSystem → Type 0) (WasPart : Polyhedron → Type 0) (changed : TransitionSystem → Polyhedron → TransitionSystem) (s t : TransitionSystem) → ((x y : TransitionSystem) → Was x → Was y → x ≡ y) →
-    ((x y : Polyhedron) → WasPart x → WasPart y → AreSamePolyhedra x y) → IsChangedBy Was WasPart changed s → IsChangedBy Was WasPart changed t → s ≡ t
-one_changed Was WasPart changed s t one one_part h k =
-    let same : h.part ≡ k.part = (one_part h.part k.part h.was_part k.was_part).closed h.closed in
-    h.made.is ∙ ap (λ (x : TransitionSystem). changed x h.part) (one h.old k.old h.was k.was) ∙ ap (changed k.old) same ∙ sym k.made.is
+pub one_changed : {A : Type 0} (kind : A → Entry) (Was WasPart : Entry → Type 0) (changed : A → Polyhedron → A) (s t : A) → ((x y : A) → Was (kind x) → Was (kind y) → x ≡ y) →
+    ((e f : Entry) → WasPart e → WasPart f → AreSameEntries e f) → IsChangedBy kind Was WasPart changed s → IsChangedBy kind Was WasPart changed t → s ≡ t
+one_changed {A} kind Was WasPart changed s t one one_part h k =
+    let same : h.part ≡ k.part = (one_part (entry.Poly h.part) (entry.Poly k.part) h.was_part k.was_part).closed h.closed in
+    h.made.is ∙ ap (λ (x : A). changed x h.part) (one h.old k.old h.was k.was) ∙ ap (changed k.old) same ∙ sym k.made.is
 
 -- ---- and run
 same_polyhedra : (p q : Polyhedron) → p ≡ q → AreSamePolyhedra p q
@@ -61,14 +69,33 @@ same_polyhedra p q e = subst (AreSamePolyhedra p) e (record { topology = refl; d
 one_number : (prefix name : List ℕ) (m n : ℕ) → m < 2 ^ 64 → n < 2 ^ 64 → name ≡ numbered prefix m → name ≡ numbered prefix n → m ≡ n
 one_number prefix name m n a b e f = decimal_injective m n a b (append_cancel_left prefix (decimal m) (decimal n) (sym e ∙ f))
 
-pub one_reached : OneForm → (Was : TransitionSystem → Type 0) (delay : ℕ) (prefix name : List ℕ) (p q : Polyhedron) → ((x : TransitionSystem) → Was x → IsKeptSystem x) → ((x y : TransitionSystem) → Was x → Was y → x ≡ y) → IsReachedSet Was delay prefix name p → IsReachedSet Was delay prefix name q → AreSamePolyhedra p q
-one_reached laws Was delay prefix name p q kept one h k =
-    let kept_here : IsKeptSystem h.system = kept h.system h.was in
-    let same : k.system ≡ h.system = one k.system h.system k.was h.was in
-    let there : AreReached h.system delay k.sets = subst (λ (s : TransitionSystem). AreReached s delay k.sets) same k.reached in
-    let sets : h.sets ≡ k.sets = laws.limit h.system delay h.sets k.sets kept_here h.reached.limit there.limit in
-    let mine : h.location < 2 ^ 64 = omega (arith, slice_get_within h.sets h.location p h.there, h.reached.closed.as_many, kept_here.few) in
-    let theirs : k.location < 2 ^ 64 = omega (arith, slice_get_within k.sets k.location q k.there, there.closed.as_many, kept_here.few) in
+pub one_reached : {A : Type 0} (kind : A → Entry) (Was : Entry → Type 0) (Are : A → List Polyhedron → Type 0) (prefix name : List ℕ) (p q : Polyhedron) → ((x y : A) → Was (kind x) → Was (kind y) → x ≡ y) → ((x : A) (xs ys : List Polyhedron) → Was (kind x) → Are x xs → Are x ys → xs ≡ ys) →
+    ((x : A) (xs : List Polyhedron) → Was (kind x) → Are x xs → length xs < 2 ^ 64) → IsReachedSet kind Was Are prefix name p → IsReachedSet kind Was Are prefix name q → AreSamePolyhedra p q
+one_reached {A} kind Was Are prefix name p q one once few h k =
+    let there : Are h.system k.sets = subst (λ (x : A). Are x k.sets) (one k.system h.system k.was h.was) k.reached in
+    let sets : h.sets ≡ k.sets = once h.system h.sets k.sets h.was h.reached there in
+    let mine : h.location < 2 ^ 64 = omega (arith, slice_get_within h.sets h.location p h.there, few h.system h.sets h.was h.reached) in
+    let theirs : k.location < 2 ^ 64 = omega (arith, slice_get_within k.sets k.location q k.there, few h.system k.sets h.was there) in
     let number : h.location ≡ k.location = one_number prefix name h.location k.location mine theirs h.name_is k.name_is in
     let at : slice_get h.sets h.location ≡ Some q = ap (λ (xs : List Polyhedron). slice_get xs h.location) sets ∙ ap (slice_get k.sets) number ∙ k.there in
     same_polyhedra p q (same_at h.sets h.location p q h.there at)
+
+-- the sets of a run of a system are as many as its locations, and one list
+pub run_count : (s : TransitionSystem) (delay : ℕ) (sets : List Polyhedron) → AreReached s delay sets → length sets ≡ length s.initial
+run_count s delay sets r = r.closed.as_many
+
+pub run_few : (s : TransitionSystem) (delay : ℕ) (sets : List Polyhedron) → IsKeptSystem s → AreReached s delay sets → length sets < 2 ^ 64
+run_few s delay sets kept r = omega (arith, run_count s delay sets r, kept.few)
+
+pub one_run : OneForm → (s : TransitionSystem) (delay : ℕ) (xs ys : List Polyhedron) → IsKeptSystem s → AreReached s delay xs → AreReached s delay ys → xs ≡ ys
+one_run laws s delay xs ys kept a b = laws.limit s delay xs ys kept a.limit b.limit
+
+-- so are those of an automaton
+pub reach_count : (h : HybridSystem) (delay : ℕ) (parts : List Polyhedron) → IsKeptHybrid h → AreReachedBy h delay parts → length parts ≡ length h.system.initial
+reach_count h delay parts kept r = r.of_limit.as_many ∙ (rounds_table (turns_of h) (proper h kept) (start_table (turns_of h) h.system.initial delay (initial_sets h kept)) r.limit.limit.rounds).sets.as_many
+
+pub reach_few : (h : HybridSystem) (delay : ℕ) (parts : List Polyhedron) → IsKeptHybrid h → AreReachedParts h delay parts → length parts < 2 ^ 64
+reach_few h delay parts kept r = omega (arith, reach_count h delay parts kept r.reached, kept.system.few)
+
+pub one_reach : OneForm → (h : HybridSystem) (delay : ℕ) (xs ys : List Polyhedron) → IsKeptHybrid h → AreReachedParts h delay xs → AreReachedParts h delay ys → xs ≡ ys
+one_reach laws h delay xs ys kept a b = laws.reach h delay xs ys kept a.reached b.reached

@@ -1,12 +1,14 @@
 -- Laws of runs.
-use Rattle.std.specs.Prelude.{◌≡◌, ◌⊎◌, ℕ, List, [], ◌∷◌, None, Some}
+use Rattle.std.specs.Prelude.{◌≡◌, ◌⊎◌, ℕ, ℤ, List, [], ◌∷◌, None, Some}
 use Rattle.std.specs.Map.{keys_of}
 use Rattle.pair_laws.specs.StoredLaws.{IsPair}
 use Rattle.poly_pair.specs.Polyhedra.{Polyhedron}
 use Rattle.poly_pair.specs.declared.topology.Topology.TheVariants.{Nnc}
-use Rattle.script_text.specs.declared.command.Command.TheVariants.{Size, Print, Max, Min}
+use Rattle.powerset.specs.declared.covering.Cover.TheVariants.{No}
+use Rattle.script_text.specs.declared.command.Command.TheVariants.{Size, Print, Bound, Covers}
 use Rattle.calc_state.specs.declared.entry.Entry.{Entry}
 use Rattle.calc_state.specs.Table.{Table, entry_of, poly_of}
+use Rattle.calc_state.specs.Powersets.{cover_line}
 use Rattle.calc_state.specs.State.{State, closed}
 use Rattle.calc_state.specs.Step.{Reply}
 use Rattle.polycalc.specs.Acts.{Act, Did, Accepted, acts, AreAccepted}
@@ -26,14 +28,26 @@ pub record IsNotClosed (commands : List Act) (name : List ℕ) : Type 0 where
 abbrev pub ShowsStored : List Act → Act → Type 0
 ShowsStored earlier (Did (Size name)) = IsNotClosed earlier name
 ShowsStored earlier (Did (Print side name)) = IsNotClosed earlier name
-ShowsStored earlier (Did (Max name part)) = IsNotClosed earlier name
-ShowsStored earlier (Did (Min name part)) = IsNotClosed earlier name
+ShowsStored earlier (Did (Bound extremum name part)) = IsNotClosed earlier name
 ShowsStored earlier other = ⊥
 
--- each of the accepted has the same answer twice, but where stored systems are shown that the points don't decide
+-- both answers are `no`, each with a point
+pub record ShowUncovered (text other : List ℕ) : Type 0 where
+  pub dim : ℕ
+  pub point : List ℤ
+  pub point_of_other : List ℤ
+  pub said : text ≡ cover_line dim (No point)
+  pub said_other : other ≡ cover_line dim (No point_of_other)
+
+-- the answers say the same, and may show different points of which this is true
+abbrev pub ShowPoints : Act → List ℕ → List ℕ → Type 0
+ShowPoints (Did (Covers s t)) text other = ShowUncovered text other
+ShowPoints act text other = ⊥
+
+-- each of the accepted has the same answer twice, but where stored systems are shown that the points don't decide, or one of the points that aren't covered
 abbrev pub AreSameAnswers : List Accepted → List Accepted → Type 0
 AreSameAnswers [] [] = Unit {0}
-AreSameAnswers (a ∷ earlier) (b ∷ before) = (ShowsStored (acts earlier) a.act ⊎ (a.answer ≡ b.answer)) × AreSameAnswers earlier before
+AreSameAnswers (a ∷ earlier) (b ∷ before) = (ShowsStored (acts earlier) a.act ⊎ ShowPoints a.act a.answer b.answer ⊎ (a.answer ≡ b.answer)) × AreSameAnswers earlier before
 AreSameAnswers all others = ⊥
 
 -- two runs that accept the same commands and files come to the same sets under the same names, with the same answers
@@ -41,7 +55,7 @@ abbrev pub AcceptedDecide : Type 0
 AcceptedDecide = (lines others : List (List ℕ)) (r s : List Reply) (new other : State) (all rest : List Accepted) → Run (closed []) lines r new → Run (closed []) others s other → AreAccepted None [] lines r all → AreAccepted None [] others s rest → acts all ≡ acts rest → AreSameTables new.names other.names × AreSameAnswers all rest
 
 -- ---- the sets of the names
--- the table has this under the name, but for systems of a polyhedron that the points don't decide
+-- the table has this under the name, but for systems of polyhedra that the points don't decide
 pub record IsUnder (table : Table) (name : List ℕ) (e : Entry) : Type 0 where
   pub kept : Entry
   pub there : entry_of table name ≡ Some kept
@@ -60,7 +74,7 @@ pub record AreAsCommanded (lines : List (List ℕ)) (replies : List Reply) (tabl
 abbrev pub SetsAreAsCommanded : Type 0
 SetsAreAsCommanded = (lines : List (List ℕ)) (replies : List Reply) (new : State) → Run (closed []) lines replies new → AreAsCommanded lines replies new.names
 
--- what is accepted gives a name one set or one transition system at most
+-- what is accepted gives a name one entry at most
 abbrev pub SetsAreUnique : Type 0
 SetsAreUnique = (all : List Act) (name : List ℕ) (e f : Entry) → IsEntryOf all name e → IsEntryOf all name f → AreSameEntries e f
 

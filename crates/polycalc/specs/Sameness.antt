@@ -1,8 +1,10 @@
--- When two polyhedra are the same set, and two tables have the same sets and systems.
+-- When two entries are the same, and two tables have the same entries.
 use Rattle.std.specs.Prelude.{◌≡◌, [], ◌∷◌}
+use Rattle.row_core.specs.Lists.{Pointwise}
 use Rattle.pair_laws.specs.PointSets.{HoldSame}
 use Rattle.poly_pair.specs.Polyhedra.{Polyhedron}
 use Rattle.poly_pair.specs.declared.topology.Topology.TheVariants.{Closed}
+use Rattle.powerset.specs.Powersets.{Union}
 use Rattle.calc_state.specs.declared.entry.Entry.{Entry}
 use Rattle.calc_state.specs.declared.entry.Entry.TheVariants as entry
 use Rattle.calc_state.specs.Table.{Table}
@@ -14,16 +16,23 @@ pub record AreSamePolyhedra (p q : Polyhedron) : Type 0 where
   pub points : HoldSame p.cons q.cons
   pub closed : p.topology ≡ Closed → p ≡ q
 
--- the same polyhedron, or one transition system
+-- one topology, one dimension, and as many members, each the same as the one at its place
+pub record AreSameUnions (u w : Union) : Type 0 where
+  pub topology : u.topology ≡ w.topology
+  pub dim : u.dim ≡ w.dim
+  pub members : Pointwise AreSamePolyhedra u.members w.members
+
+-- the same polyhedron or powerset, or one transition system, shape or automaton
 abbrev pub AreSameEntries : Entry → Entry → Type 0
 AreSameEntries (entry.Poly p) (entry.Poly q) = AreSamePolyhedra p q
 AreSameEntries (entry.System s) (entry.System t) = s ≡ t
-AreSameEntries (entry.Poly p) (entry.System t) = ⊥
-AreSameEntries (entry.System s) (entry.Poly q) = ⊥
+AreSameEntries (entry.Powerset u) (entry.Powerset w) = AreSameUnions u w
+AreSameEntries (entry.Shape s) (entry.Shape r) = s ≡ r
+AreSameEntries (entry.Hybrid h) (entry.Hybrid k) = h ≡ k
+AreSameEntries e f = ⊥
 
 -- the same names in the same order, and under each the same
 abbrev pub AreSameTables : Table → Table → Type 0
 AreSameTables [] [] = Unit {0}
 AreSameTables (e ∷ table) (f ∷ others) = (e.0 ≡ f.0) × AreSameEntries e.1 f.1 × AreSameTables table others
-AreSameTables [] (f ∷ others) = ⊥
-AreSameTables (e ∷ table) [] = ⊥
+AreSameTables table others = ⊥

@@ -1,39 +1,95 @@
 -- What accepted commands and files give the names.
-use Rattle.std.specs.Prelude.{◌≡◌, ◌↔◌, ℕ, zero, suc, ◌+◌, List, [], ◌∷◌, ◌++◌, filter, not, ◌||◌, ℤ, Bool, false, MatchBool, if◌then◌else◌, Some, slice_get}
+use Rattle.std.specs.Prelude.{◌≡◌, ◌↔◌, ℕ, zero, suc, ◌+◌, ◌-◌, ◌/◌, ◌%◌, ◌<◌, List, [], ◌∷◌, ◌++◌, filter, not, ◌||◌, ℤ, Bool, false, MatchBool, if◌then◌else◌, Some, slice_get}
 use Rattle.std.specs.List.{list_any}
 use Rattle.std.specs.Str.{bytes_eq}
 use Rattle.row_core.specs.Points.{IsPoint}
 use Rattle.cons_sys.specs.Constraints.{Constraints, In}
-use Rattle.poly_pair.specs.Polyhedra.{Polyhedron, IsOver, IsUniverse, IsEmpty}
+use Rattle.poly_pair.specs.Polyhedra.{Polyhedron, IsOver}
 use Rattle.poly_pair.specs.declared.topology.Topology.TheVariants.{Closed}
 use Rattle.poly_pair.specs.Parts.{AreStoredOfRows}
 use Rattle.poly_pair.specs.TopologyLists.{constraints_of}
 use Rattle.lattice_ops.specs.Sets.{IsIncluded}
 use Rattle.widening.specs.Widenings.{IsWidening}
 use Rattle.file_poly.specs.Files.{IsOfFile}
-use Rattle.trans_sys.specs.Systems.{TransitionSystem, IsKeptSystem, with_initial, with_transition}
+use Rattle.trans_sys.specs.Systems.{TransitionSystem, with_initial, with_transition}
+use Rattle.powerset.specs.Powersets.{Union, IsUnionOf}
+use Rattle.ranking.specs.Rankings.{IsRankingSet}
+use Rattle.bd_shape.specs.Shapes.{Region}
+use Rattle.hybrid.specs.Systems.{HybridSystem}
 use Rattle.script_text.specs.declared.command.Part.{Part}
 use Rattle.script_text.specs.declared.command.Command.{Command}
-use Rattle.script_text.specs.declared.command.Command.TheVariants.{Cons, Gens, Universe, Empty, Copy, Drop, Add, Addgen, Meet, Hull, Closure, Embed, Project, Concat, Elapse, Image, Preimage, Remove, Widen, System, Init, Trans, Fixpoint}
+use Rattle.script_text.specs.declared.command.Command.TheVariants.{Cons, Gens, Space, Copy, Drop, Add, Addgen, OfTwo, Closure, Map, Extend, Remove, Widen, System, Init, Trans, Fixpoint, Pset, OfTwoPowersets, Member, Rank, ShapeOf, Bounds, OfTwoShapes, ShapePoly, Hybrid, SetPart, Reach}
 use Rattle.calc_state.specs.declared.entry.Entry.{Entry}
 use Rattle.calc_state.specs.declared.entry.Entry.TheVariants as entry
+use Rattle.calc_state.specs.Entries.{IsProper, IsKeptEntry}
 use Rattle.calc_state.specs.Table.{numbered}
-use Rattle.calc_state.specs.Makers.{SaysConstraints, SaysGenerators, more_constraints, more_generators}
-use Rattle.calc_state.specs.Results.{IsResult, IsResultOfConstraints, IsResultOfGenerators, IsResultOfMeet, IsResultOfHull, IsResultOfClosure, IsResultOfElapse}
-use Rattle.calc_state.specs.declared.affine.Mapping.TheVariants as mapping
-use Rattle.calc_state.specs.Affine.{IsEmbedded, IsProjected, IsRemoved, IsConcatenated, IsMappedBy}
+use Rattle.calc_state.specs.Makers.{SaysConstraints, SaysGenerators, more_constraints, more_generators, IsSpace}
+use Rattle.calc_state.specs.Results.{IsResult, IsResultOfConstraints, IsResultOfGenerators, IsResultOfClosure}
+use Rattle.calc_state.specs.Operators.{Fits, IsMadeBy, IsExtended}
+use Rattle.calc_state.specs.Affine.{IsRemoved, IsMappedBy}
 use Rattle.calc_state.specs.Systems.{IsEmptySystem, AreReached}
+use Rattle.calc_state.specs.Powersets.{IsPowersetOf}
+use Rattle.calc_state.specs.Shapes.{IsShapeOfSet, IsShapeOfConstraints, IsShapeBy, IsPolyOfShape}
+use Rattle.calc_state.specs.Hybrids.{IsStill, with_part, AreReachedParts}
 use Rattle.calc_state.specs.Meanings.{topology_of}
 use Rattle.calc_state.specs.Files.{format_of}
 use Rattle.calc_state.specs.State.{OpenFile}
-use Rattle.calc_state.specs.Step.{IsProper}
 use Rattle.polycalc.specs.Acts.{Act, Did, Took}
 
--- ---- the polyhedron of a name
--- a polyhedron with this property, by two systems that are stored of its set
-pub record IsMade (Is : Polyhedron → Type 0) (p : Polyhedron) : Type 0 where
+-- ---- what is made
+-- an entry of a kind with this property, which keeps what its kind keeps
+pub record IsMadeAs {A : Type 0} (kind : A → Entry) (Is : A → Type 0) (result : A) : Type 0 where
+  pub kept : IsKeptEntry (kind result)
+  pub is : Is result
+
+-- made of what there was under a name
+pub record IsMadeOfOne {A B : Type 0} (kind : A → Entry) (into : B → Entry) (Was : Entry → Type 0) (Is : A → B → Type 0) (result : B) : Type 0 where
+  pub operand : A
+  pub was : Was (kind operand)
+  pub made : IsMadeAs into (Is operand) result
+
+-- made of what there was of one kind under two names
+pub record IsMadeOfTwo {A B : Type 0} (kind : A → Entry) (into : B → Entry) (WasFirst WasSecond : Entry → Type 0) (Is : A → A → B → Type 0) (result : B) : Type 0 where
+  pub first : A
+  pub second : A
+  pub was_first : WasFirst (kind first)
+  pub was_second : WasSecond (kind second)
+  pub made : IsMadeAs into (Is first second) result
+
+-- what there was under a name, changed by a closed polyhedron
+pub record IsChangedBy {A : Type 0} (kind : A → Entry) (Was WasPart : Entry → Type 0) (changed : A → Polyhedron → A) (result : A) : Type 0 where
+  pub old : A
+  pub part : Polyhedron
+  pub was : Was (kind old)
+  pub was_part : WasPart (entry.Poly part)
+  pub closed : part.topology ≡ Closed
+  pub made : IsMadeAs kind (λ r. r ≡ changed old part) result
+
+-- the set of a location in the limit of the rounds of what there was under a name, where this name is numbered as the location
+pub record IsReachedSet {A : Type 0} (kind : A → Entry) (Was : Entry → Type 0) (Are : A → List Polyhedron → Type 0) (prefix name : List ℕ) (p : Polyhedron) : Type 0 where
   pub proper : IsProper p
-  pub is : Is p
+  pub system : A
+  pub was : Was (kind system)
+  pub sets : List Polyhedron
+  pub reached : Are system sets
+  pub location : ℕ
+  pub there : slice_get sets location ≡ Some p
+  pub name_is : name ≡ numbered prefix location
+
+-- the result of two operands that fit each other
+pub record IsOfFit {A B : Type 0} (Fit : A → A → Type 0) (Is : A → A → B → Type 0) (p q : A) (r : B) : Type 0 where
+  pub fit : Fit p q
+  pub is : Is p q r
+
+-- the result of a closed operand
+pub record IsOfClosed {B : Type 0} (Is : Polyhedron → B → Type 0) (p : Polyhedron) (r : B) : Type 0 where
+  pub closed : p.topology ≡ Closed
+  pub is : Is p r
+
+-- ---- polyhedra
+-- a polyhedron with this property, by two systems that are stored of its set
+abbrev pub IsMade : (Polyhedron → Type 0) → Polyhedron → Type 0
+IsMade Is p = IsMadeAs entry.Poly Is p
 
 -- the points of the old polyhedron at which the constraints hold as well
 pub record IsCut (old : Polyhedron) (cs : Constraints) (p : Polyhedron) : Type 0 where
@@ -45,40 +101,17 @@ abbrev pub IsCutOf : Polyhedron → Constraints → Polyhedron → Type 0
 IsCutOf old cs = IsResult (IsCut old cs) (AreStoredOfRows old.topology old.cons.dim (constraints_of old.topology (more_constraints old.cons cs)))
 
 -- the points of what there was at which the constraints of the text hold as well
-pub record IsAdded (Was : Polyhedron → Type 0) (part : Part) (p : Polyhedron) : Type 0 where
-  pub old : Polyhedron
-  pub was : Was old
-  pub made : IsMade (λ r. SaysConstraints old.cons.dim part (λ cs. IsCutOf old cs r)) p
+abbrev pub IsAdded : Part → Polyhedron → Polyhedron → Type 0
+IsAdded part old p = SaysConstraints old.cons.dim part (λ cs. IsCutOf old cs p)
 
 -- what the generators of what there was and those of the text generate
-pub record IsJoined (Was : Polyhedron → Type 0) (part : Part) (p : Polyhedron) : Type 0 where
-  pub old : Polyhedron
-  pub was : Was old
-  pub made : IsMade (λ r. SaysGenerators old.gens.dim part (λ gs. IsResultOfGenerators old.topology (more_generators old.gens gs) r)) p
-
--- made of what there was under a name
-pub record IsMadeOfOne (Was : Polyhedron → Type 0) (Is : Polyhedron → Polyhedron → Type 0) (p : Polyhedron) : Type 0 where
-  pub operand : Polyhedron
-  pub was : Was operand
-  pub made : IsMade (Is operand) p
-
--- made of what there was under two names
-pub record IsMadeOfTwo (WasFirst WasSecond : Polyhedron → Type 0) (Is : Polyhedron → Polyhedron → Polyhedron → Type 0) (p : Polyhedron) : Type 0 where
-  pub first : Polyhedron
-  pub second : Polyhedron
-  pub was_first : WasFirst first
-  pub was_second : WasSecond second
-  pub made : IsMade (Is first second) p
+abbrev pub IsJoined : Part → Polyhedron → Polyhedron → Type 0
+IsJoined part old p = SaysGenerators old.gens.dim part (λ gs. IsResultOfGenerators old.topology (more_generators old.gens gs) p)
 
 -- two operands have one topology and one dimension
 pub record AreAlike (p q : Polyhedron) : Type 0 where
   pub topology : p.topology ≡ q.topology
   pub dim : p.cons.dim ≡ q.cons.dim
-
--- the result of two operands that are alike
-pub record IsOfAlike (Is : Polyhedron → Polyhedron → Polyhedron → Type 0) (p q r : Polyhedron) : Type 0 where
-  pub alike : AreAlike p q
-  pub is : Is p q r
 
 -- the widening of a closed operand by one that includes it
 pub record IsOfNested (p q r : Polyhedron) : Type 0 where
@@ -87,36 +120,30 @@ pub record IsOfNested (p q r : Polyhedron) : Type 0 where
   pub nested : IsIncluded p q
   pub is : IsWidening p q r
 
--- ---- the transition system of a name
--- a transition system with this property, with what each keeps
-pub record IsMadeSystem (Is : TransitionSystem → Type 0) (s : TransitionSystem) : Type 0 where
-  pub kept : IsKeptSystem s
-  pub is : Is s
+-- the member with this number, where the first is member 1
+abbrev pub IsMemberAt : ℕ → Union → Polyhedron → Type 0
+IsMemberAt i u p = (0 < i) × (slice_get u.members (i - 1) ≡ Some p)
 
--- what there was under a name, changed by a closed polyhedron
-pub record IsChangedBy (Was : TransitionSystem → Type 0) (WasPart : Polyhedron → Type 0) (changed : TransitionSystem → Polyhedron → TransitionSystem) (s : TransitionSystem) : Type 0 where
-  pub old : TransitionSystem
-  pub part : Polyhedron
-  pub was : Was old
-  pub was_part : WasPart part
-  pub closed : part.topology ≡ Closed
-  pub made : IsMadeSystem (λ r. r ≡ changed old part) s
+-- the functions that rank a relation of states and their successors, of as many variables each
+abbrev pub IsRankedBy : Polyhedron → Polyhedron → Type 0
+IsRankedBy r p = (r.cons.dim % 2 ≡ 0) × IsRankingSet (r.cons.dim / 2) r p
 
--- the set of a location in the limit of the rounds of what there was under a name, where this name is numbered as the location
-pub record IsReachedSet (Was : TransitionSystem → Type 0) (delay : ℕ) (prefix name : List ℕ) (p : Polyhedron) : Type 0 where
-  pub proper : IsProper p
-  pub system : TransitionSystem
-  pub was : Was system
-  pub sets : List Polyhedron
-  pub reached : AreReached system delay sets
-  pub location : ℕ
-  pub there : slice_get sets location ≡ Some p
-  pub name_is : name ≡ numbered prefix location
+-- ---- powersets and shapes
+-- two powersets have one topology and one dimension
+pub record AreAlikeUnions (s t : Union) : Type 0 where
+  pub topology : s.topology ≡ t.topology
+  pub dim : s.dim ≡ t.dim
 
--- of what was accepted, the last first: the number of locations of the last system that was made under the name
+-- two shapes have one dimension
+abbrev pub HaveOneDim : Region → Region → Type 0
+HaveOneDim s t = s.dim ≡ t.dim
+
+-- ---- numbered names
+-- of what was accepted, the last first: the number of locations of the last system, or automaton, that was made under the name
 abbrev pub locations_of : List Act → List ℕ → ℕ
 locations_of [] name = 0
 locations_of (Did (System out n locations) ∷ earlier) name = if bytes_eq name out then locations else locations_of earlier name
+locations_of (Did (Hybrid out s) ∷ earlier) name = if bytes_eq name out then locations_of earlier s else locations_of earlier name
 locations_of (act ∷ earlier) name = locations_of earlier name
 
 -- the name is the prefix with one of so many numbers from this one on
@@ -129,72 +156,93 @@ is_numbered prefix n (suc count) name = bytes_eq name (numbered prefix n) || is_
 abbrev pub sets : List Act → Command → List ℕ → Bool
 sets earlier (Cons out top n part) name = bytes_eq name out
 sets earlier (Gens out top n part) name = bytes_eq name out
-sets earlier (Universe out top n) name = bytes_eq name out
-sets earlier (Empty out top n) name = bytes_eq name out
+sets earlier (Space space out top n) name = bytes_eq name out
 sets earlier (Copy out other) name = bytes_eq name out
 sets earlier (Drop out) name = bytes_eq name out
 sets earlier (Add out part) name = bytes_eq name out
 sets earlier (Addgen out part) name = bytes_eq name out
-sets earlier (Meet out p q) name = bytes_eq name out
-sets earlier (Hull out p q) name = bytes_eq name out
+sets earlier (OfTwo op out p q) name = bytes_eq name out
 sets earlier (Closure out p) name = bytes_eq name out
-sets earlier (Embed out p n) name = bytes_eq name out
-sets earlier (Project out p n) name = bytes_eq name out
-sets earlier (Concat out p q) name = bytes_eq name out
-sets earlier (Elapse out p q) name = bytes_eq name out
-sets earlier (Image out p v rel part) name = bytes_eq name out
-sets earlier (Preimage out p v rel part) name = bytes_eq name out
+sets earlier (Map by out p v rel part) name = bytes_eq name out
+sets earlier (Extend by out p n) name = bytes_eq name out
 sets earlier (Remove out p vars) name = bytes_eq name out
 sets earlier (Widen out p q) name = bytes_eq name out
 sets earlier (System out n locations) name = bytes_eq name out
 sets earlier (Init out location p) name = bytes_eq name out
 sets earlier (Trans out source target r) name = bytes_eq name out
 sets earlier (Fixpoint s delay prefix) name = is_numbered prefix 0 (locations_of earlier s) name
+sets earlier (Pset out p) name = bytes_eq name out
+sets earlier (OfTwoPowersets op out s t) name = bytes_eq name out
+sets earlier (Member out s i) name = bytes_eq name out
+sets earlier (Rank out r) name = bytes_eq name out
+sets earlier (ShapeOf out p) name = bytes_eq name out
+sets earlier (Bounds out n part) name = bytes_eq name out
+sets earlier (OfTwoShapes op out s t) name = bytes_eq name out
+sets earlier (ShapePoly out s) name = bytes_eq name out
+sets earlier (Hybrid out s) name = bytes_eq name out
+sets earlier (SetPart part out location p) name = bytes_eq name out
+sets earlier (Reach h delay prefix) name = is_numbered prefix 0 (locations_of earlier h) name
 sets earlier question name = false
 
--- the polyhedron that the command gives its name, where the names had these
-abbrev pub Gives : Command → (List ℕ → Polyhedron → Type 0) → Polyhedron → Type 0
-Gives (Cons out top n part) Had p = IsMade (λ r. SaysConstraints n part (λ cs. IsResultOfConstraints (topology_of top) cs r)) p
-Gives (Gens out top n part) Had p = IsMade (λ r. SaysGenerators n part (λ gs. IsResultOfGenerators (topology_of top) gs r)) p
-Gives (Universe out top n) Had p = IsMade (IsUniverse (topology_of top) n) p
-Gives (Empty out top n) Had p = IsMade (IsEmpty (topology_of top) n) p
-Gives (Copy out other) Had p = Had other p
-Gives (Add out part) Had p = IsAdded (Had out) part p
-Gives (Addgen out part) Had p = IsJoined (Had out) part p
-Gives (Meet out one other) Had p = IsMadeOfTwo (Had one) (Had other) (IsOfAlike IsResultOfMeet) p
-Gives (Hull out one other) Had p = IsMadeOfTwo (Had one) (Had other) (IsOfAlike IsResultOfHull) p
-Gives (Closure out other) Had p = IsMadeOfOne (Had other) IsResultOfClosure p
-Gives (Embed out other n) Had p = IsMadeOfOne (Had other) (IsEmbedded n) p
-Gives (Project out other n) Had p = IsMadeOfOne (Had other) (IsProjected n) p
-Gives (Concat out one other) Had p = IsMadeOfTwo (Had one) (Had other) IsConcatenated p
-Gives (Elapse out one other) Had p = IsMadeOfTwo (Had one) (Had other) (IsOfAlike IsResultOfElapse) p
-Gives (Image out other v rel part) Had p = IsMadeOfOne (Had other) (IsMappedBy mapping.Image v rel part) p
-Gives (Preimage out other v rel part) Had p = IsMadeOfOne (Had other) (IsMappedBy mapping.Preimage v rel part) p
-Gives (Remove out other vars) Had p = IsMadeOfOne (Had other) (IsRemoved vars) p
-Gives (Widen out one other) Had p = IsMadeOfTwo (Had one) (Had other) IsOfNested p
-Gives other Had p = ⊥
+-- the polyhedron that the command gives the name, where the names had these
+abbrev pub GivesPoly : Command → (List ℕ → Entry → Type 0) → List ℕ → Polyhedron → Type 0
+GivesPoly (Cons out top n part) Had name p = IsMade (λ r. SaysConstraints n part (λ cs. IsResultOfConstraints (topology_of top) cs r)) p
+GivesPoly (Gens out top n part) Had name p = IsMade (λ r. SaysGenerators n part (λ gs. IsResultOfGenerators (topology_of top) gs r)) p
+GivesPoly (Space space out top n) Had name p = IsMade (IsSpace space (topology_of top) n) p
+GivesPoly (Copy out other) Had name p = Had other (entry.Poly p)
+GivesPoly (Add out part) Had name p = IsMadeOfOne entry.Poly entry.Poly (Had out) (IsAdded part) p
+GivesPoly (Addgen out part) Had name p = IsMadeOfOne entry.Poly entry.Poly (Had out) (IsJoined part) p
+GivesPoly (OfTwo op out one other) Had name p = IsMadeOfTwo entry.Poly entry.Poly (Had one) (Had other) (IsOfFit (Fits op) (IsMadeBy op)) p
+GivesPoly (Closure out other) Had name p = IsMadeOfOne entry.Poly entry.Poly (Had other) IsResultOfClosure p
+GivesPoly (Map by out other v rel part) Had name p = IsMadeOfOne entry.Poly entry.Poly (Had other) (IsMappedBy by v rel part) p
+GivesPoly (Extend by out other n) Had name p = IsMadeOfOne entry.Poly entry.Poly (Had other) (IsExtended by n) p
+GivesPoly (Remove out other vars) Had name p = IsMadeOfOne entry.Poly entry.Poly (Had other) (IsRemoved vars) p
+GivesPoly (Widen out one other) Had name p = IsMadeOfTwo entry.Poly entry.Poly (Had one) (Had other) IsOfNested p
+GivesPoly (Fixpoint s delay prefix) Had name p = IsReachedSet entry.System (Had s) (λ x sets. AreReached x delay sets) prefix name p
+GivesPoly (Member out s i) Had name p = IsMadeOfOne entry.Powerset entry.Poly (Had s) (IsMemberAt i) p
+GivesPoly (Rank out r) Had name p = IsMadeOfOne entry.Poly entry.Poly (Had r) (IsOfClosed IsRankedBy) p
+GivesPoly (ShapePoly out s) Had name p = IsMadeOfOne entry.Shape entry.Poly (Had s) IsPolyOfShape p
+GivesPoly (Reach h delay prefix) Had name p = IsReachedSet entry.Hybrid (Had h) (λ x sets. AreReachedParts x delay sets) prefix name p
+GivesPoly other Had name p = ⊥
 
--- likewise a polyhedron for each location
-abbrev pub GivesSet : Command → (List ℕ → Entry → Type 0) → List ℕ → Polyhedron → Type 0
-GivesSet (Fixpoint s delay prefix) Had name p = IsReachedSet (λ system. Had s (entry.System system)) delay prefix name p
-GivesSet c Had name p = Gives c (λ n q. Had n (entry.Poly q)) p
-
--- the transition system that the command gives its name
+-- the transition system that it gives its name
 abbrev pub GivesSystem : Command → (List ℕ → Entry → Type 0) → TransitionSystem → Type 0
-GivesSystem (System out n locations) Had s = IsMadeSystem (IsEmptySystem n locations) s
-GivesSystem (Init out location p) Had s = IsChangedBy (λ old. Had out (entry.System old)) (λ q. Had p (entry.Poly q)) (λ old q. with_initial old location q) s
-GivesSystem (Trans out source target r) Had s = IsChangedBy (λ old. Had out (entry.System old)) (λ q. Had r (entry.Poly q)) (λ old q. with_transition old (record { source = source; target = target; relation = q })) s
+GivesSystem (System out n locations) Had s = IsMadeAs entry.System (IsEmptySystem n locations) s
+GivesSystem (Init out location p) Had s = IsChangedBy entry.System (Had out) (Had p) (λ old q. with_initial old location q) s
+GivesSystem (Trans out source target r) Had s = IsChangedBy entry.System (Had out) (Had r) (λ old q. with_transition old (record { source = source; target = target; relation = q })) s
 GivesSystem other Had s = ⊥
+
+-- the powerset
+abbrev pub GivesPowerset : Command → (List ℕ → Entry → Type 0) → Union → Type 0
+GivesPowerset (Pset out p) Had u = IsMadeOfOne entry.Poly entry.Powerset (Had p) IsUnionOf u
+GivesPowerset (OfTwoPowersets op out s t) Had u = IsMadeOfTwo entry.Powerset entry.Powerset (Had s) (Had t) (IsOfFit AreAlikeUnions (IsPowersetOf op)) u
+GivesPowerset other Had u = ⊥
+
+-- the shape
+abbrev pub GivesShape : Command → (List ℕ → Entry → Type 0) → Region → Type 0
+GivesShape (ShapeOf out p) Had r = IsMadeOfOne entry.Poly entry.Shape (Had p) (IsOfClosed IsShapeOfSet) r
+GivesShape (Bounds out n part) Had r = IsMadeAs entry.Shape (λ s. SaysConstraints n part (λ cs. IsShapeOfConstraints cs s)) r
+GivesShape (OfTwoShapes op out s t) Had r = IsMadeOfTwo entry.Shape entry.Shape (Had s) (Had t) (IsOfFit HaveOneDim (IsShapeBy op)) r
+GivesShape other Had r = ⊥
+
+-- the automaton
+abbrev pub GivesHybrid : Command → (List ℕ → Entry → Type 0) → HybridSystem → Type 0
+GivesHybrid (Hybrid out s) Had h = IsMadeOfOne entry.System entry.Hybrid (Had s) IsStill h
+GivesHybrid (SetPart part out location p) Had h = IsChangedBy entry.Hybrid (Had out) (Had p) (λ old q. with_part part old location q) h
+GivesHybrid other Had h = ⊥
 
 -- what the command gives the name
 abbrev pub GivesEntry : Command → (List ℕ → Entry → Type 0) → List ℕ → Entry → Type 0
-GivesEntry c Had name (entry.Poly p) = GivesSet c Had name p
+GivesEntry c Had name (entry.Poly p) = GivesPoly c Had name p
 GivesEntry c Had name (entry.System s) = GivesSystem c Had s
+GivesEntry c Had name (entry.Powerset u) = GivesPowerset c Had u
+GivesEntry c Had name (entry.Shape r) = GivesShape c Had r
+GivesEntry c Had name (entry.Hybrid h) = GivesHybrid c Had h
 
 -- the polyhedron of a file
 abbrev pub GivesFile : OpenFile → Entry → Type 0
 GivesFile file (entry.Poly p) = IsMade (IsOfFile (format_of file.ext) file.text) p
-GivesFile file (entry.System s) = ⊥
+GivesFile file other = ⊥
 
 -- of what was accepted, the last first: what it gives the name
 abbrev pub IsEntryOf : List Act → List ℕ → Entry → Type 0
@@ -224,23 +272,27 @@ with_numbered prefix n (suc count) names = with_numbered prefix (n + 1) count (w
 abbrev pub names_after : List Act → Command → List (List ℕ) → List (List ℕ)
 names_after earlier (Cons out top n part) names = with_name out names
 names_after earlier (Gens out top n part) names = with_name out names
-names_after earlier (Universe out top n) names = with_name out names
-names_after earlier (Empty out top n) names = with_name out names
+names_after earlier (Space space out top n) names = with_name out names
 names_after earlier (Copy out other) names = with_name out names
-names_after earlier (Meet out p q) names = with_name out names
-names_after earlier (Hull out p q) names = with_name out names
+names_after earlier (OfTwo op out p q) names = with_name out names
 names_after earlier (Closure out p) names = with_name out names
-names_after earlier (Embed out p n) names = with_name out names
-names_after earlier (Project out p n) names = with_name out names
-names_after earlier (Concat out p q) names = with_name out names
-names_after earlier (Elapse out p q) names = with_name out names
-names_after earlier (Image out p v rel part) names = with_name out names
-names_after earlier (Preimage out p v rel part) names = with_name out names
+names_after earlier (Map by out p v rel part) names = with_name out names
+names_after earlier (Extend by out p n) names = with_name out names
 names_after earlier (Remove out p vars) names = with_name out names
 names_after earlier (Widen out p q) names = with_name out names
 names_after earlier (Drop out) names = less_name out names
 names_after earlier (System out n locations) names = with_name out names
 names_after earlier (Fixpoint s delay prefix) names = with_numbered prefix 0 (locations_of earlier s) names
+names_after earlier (Pset out p) names = with_name out names
+names_after earlier (OfTwoPowersets op out s t) names = with_name out names
+names_after earlier (Member out s i) names = with_name out names
+names_after earlier (Rank out r) names = with_name out names
+names_after earlier (ShapeOf out p) names = with_name out names
+names_after earlier (Bounds out n part) names = with_name out names
+names_after earlier (OfTwoShapes op out s t) names = with_name out names
+names_after earlier (ShapePoly out s) names = with_name out names
+names_after earlier (Hybrid out s) names = with_name out names
+names_after earlier (Reach h delay prefix) names = with_numbered prefix 0 (locations_of earlier h) names
 names_after earlier unchanged names = names
 
 -- of what was accepted, the last first: the names that it gives, in the order in which they were made

@@ -8,6 +8,7 @@ pub mod RegionLemmas
 pub mod CoverLemmas
 pub mod ReductionLemmas
 pub mod JoinLemmas
+pub mod SameReductions
 mod Climbs
 mod ReducedPoints
 mod UnionPoints

@@ -23,4 +23,4 @@ returns g c =
     let r : Polyhedron = c.in-Some.r.now in
     let closed : r.topology ≡ Closed = search rules in
     let even : r.cons.dim % 2 ≡ 0 = search rules in
-    rw c.in-Some.is (ranking_told r c.in-Ok.functions c.in_ok-text.text c.push.new.self closed even c.in-Ok.ensures.points c.in_ok-text.ensures c.in_ok-push.ensures)
+    rw c.in-Some.is (ranking_told r c.in-Ok.functions c.in_ok-text.text c.push.new.self closed even c.in-Ok.ensures.points c.is_proper.ensures c.in_ok-text.ensures c.in_ok-push.ensures)

@@ -13,6 +13,7 @@ returns-clause-sets c = as_commanded c.names_stay_distinct.ensures.step c.names_
   joined = c.joined_sets_are_same.ensures;
   widening = c.one_widening.ensures;
   limit = c.one_limit.ensures;
+  reach = c.one_reach.ensures;
   ine = c.one_answer-2.ensures.constraints;
   ext = c.one_answer-2.ensures.generators;
 })
@@ -28,6 +29,7 @@ returns-clause-unique c = one_entry (record {
   joined = c.joined_sets_are_same.ensures;
   widening = c.one_widening.ensures;
   limit = c.one_limit.ensures;
+  reach = c.one_reach.ensures;
   ine = c.one_answer-2.ensures.constraints;
   ext = c.one_answer-2.ensures.generators;
 })
