@@ -44,9 +44,6 @@ module _ (table : Table) (out : List ℕ) (n : ℕ) (part : Part) (small : n ≤
   bounds_refused err.Memory is = tt
 
   module _ (system : Constraints) (read : ReadsConstraints Closed n part system) where
-    pub bounds_narrow : system.dim ≤ 63
-    bounds_narrow = omega (arith, read.read.holds.over, small)
-
     pub bounds_other : HasOther system → IsFirst (bounds table out n part).conditions NotDifference
     bounds_other other =
         let says : SaysConstraints n part (λ cs. HasOther cs) = record { system = system; read = read.read; holds = other } in
