@@ -17,6 +17,7 @@ mod laws;
 mod makers;
 mod named;
 mod names;
+mod operands;
 mod operators;
 mod optima;
 mod parts;

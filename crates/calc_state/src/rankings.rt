@@ -8,8 +8,9 @@ ghost use Rattle.calc_state.specs.Performed.{IsPerformed};
 use crate::change::{Change, is_proper};
 use crate::entry::Entry;
 use crate::names::Names;
+use crate::operands::{has_even_dim, is_closed};
 use crate::refusal::StepErr;
-use poly_pair::{Poly, Topology};
+use poly_pair::Poly;
 use ranking::{print_ranking, ranking_set};
 use reply_text::{Fault, Text};
 use row_core::Steps;
@@ -29,10 +30,10 @@ pub fn rank<L: Ledger>(
     let Some(r) = r else {
         return Err(StepErr::Input(Fault::UnknownName));
     };
-    if r.topology() != Topology::Closed {
+    if !is_closed(r) {
         return Err(StepErr::Input(Fault::NotClosed));
     }
-    if r.dim() % 2 != 0 {
+    if !has_even_dim(r) {
         return Err(StepErr::Input(Fault::DimMismatch));
     }
     if names.has_no_room(out.bytes()) {
@@ -55,10 +56,10 @@ pub fn ranking<L: Ledger>(
     let Some(r) = r else {
         return Err(StepErr::Input(Fault::UnknownName));
     };
-    if r.topology() != Topology::Closed {
+    if !is_closed(r) {
         return Err(StepErr::Input(Fault::NotClosed));
     }
-    if r.dim() % 2 != 0 {
+    if !has_even_dim(r) {
         return Err(StepErr::Input(Fault::DimMismatch));
     }
     let functions = match ranking_set(alloc, r, steps) {

@@ -1,4 +1,4 @@
-use Rattle.std.proofs.Common.{◌≡◌, ◌%◌, Option, Some, Err, rules, sym, ap, subst}
+use Rattle.std.proofs.Common.{◌≡◌, ◌%◌, Option, Some, Err, sym, ap, subst}
 use Rattle.std.specs.Option.{option_copied}
 use Rattle.poly_pair.specs.Polyhedra.{Polyhedron}
 use Rattle.poly_pair.specs.declared.topology.Topology.TheVariants.{Closed}
@@ -12,8 +12,8 @@ use Rattle.calc_state.proofs.rankings.ranking.Goals as goal
 pub returns-in-Err : goal.returns-in-Err
 returns-in-Err g c =
     let r : Polyhedron = c.in-Some.r.now in
-    let closed : r.topology ≡ Closed = search rules in
-    let even : r.cons.dim % 2 ≡ 0 = search rules in
+    let closed : r.topology ≡ Closed = c.if-not-is_closed.ensures in
+    let even : r.cons.dim % 2 ≡ 0 = c.if-not-has_even_dim.ensures in
     let found : option_copied c.args.r ≡ Some r = ap option_copied c.in-Some.is in
     subst (λ (o : Option Polyhedron). IsPerformed (on_one o ranking) (Err c.from.result)) (sym found)
     (rw c.from.ensures (map_leaves (ranking r) c.in-Err.cause (ranking_passes r closed even) c.in-Err.ensures.overflow))
@@ -21,6 +21,6 @@ returns-in-Err g c =
 pub returns : goal.returns
 returns g c =
     let r : Polyhedron = c.in-Some.r.now in
-    let closed : r.topology ≡ Closed = search rules in
-    let even : r.cons.dim % 2 ≡ 0 = search rules in
+    let closed : r.topology ≡ Closed = c.if-not-is_closed.ensures in
+    let even : r.cons.dim % 2 ≡ 0 = c.if-not-has_even_dim.ensures in
     rw c.in-Some.is (ranking_told r c.in-Ok.functions c.in_ok-text.text c.push.new.self closed even c.in-Ok.ensures.points c.is_proper.ensures c.in_ok-text.ensures c.in_ok-push.ensures)
