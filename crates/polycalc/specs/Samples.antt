@@ -15,7 +15,8 @@ use Rattle.sample_rows.specs.Samples.{IsSample}
 use Rattle.calc_state.specs.Makers.{LeavesOnConstraints}
 use Rattle.calc_state.specs.Optima.{SearchLeaves, ShowsValues}
 use Rattle.calc_state.specs.Questions.{line}
-use Rattle.calc_state.specs.Step.{Reply, Answered, Refused, Overflows, IsProper}
+use Rattle.calc_state.specs.Entries.{IsProper}
+use Rattle.calc_state.specs.Step.{Reply, Answered, Refused, Overflows}
 
 -- the row of B - A
 abbrev pub difference : List ℤ
