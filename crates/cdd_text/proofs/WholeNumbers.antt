@@ -1,16 +1,16 @@
 -- Numbers without a divisor: their rows are the integers that they spell.
-use Rattle.std.proofs.Common.{◌≡◌, ℕ, ◌+◌, ◌*◌, ◌/◌, ◌^◌, ◌<◌, ◌≤◌, ◌==◌, zero, suc, List, [], ◌∷◌, ◌++◌, length, map, take, drop, cond, refl, sym, ◌∙◌, ap, subst, arith, Bool, true, false, codes, length-drop}
-use Rattle.std.specs.Prelude.{All, ℤ, pos, negsuc, unsigned_abs, ◌||◌}
+use Rattle.std.proofs.Common.{◌≡◌, ℕ, ◌*◌, ◌/◌, ◌^◌, ◌<◌, ◌==◌, zero, suc, List, [], ◌∷◌, ◌++◌, length, map, take, drop, cond, refl, sym, ◌∙◌, ap, subst, arith, Bool, true, false, length-drop}
+use Rattle.std.specs.Prelude.{All, ℤ, pos, unsigned_abs, ◌||◌}
 use Rattle.std.proofs.Math.IntN.{neg_ℤ}
 use Rattle.std.specs.List.{list_all, list_any, flat_map}
 use Rattle.term_text.specs.Reading.{is_digit}
 use Rattle.std.specs.Simd.{first_chunks}
-use Rattle.std.proofs.lemmas.List.{take-append-drop, length-take-le, map-append}
+use Rattle.std.proofs.lemmas.List.{take-append-drop, map-append}
 use Rattle.std.proofs.lemmas.List.Elements.{All-nil, All-cons, All-head, All-tail, All-take, All-drop, All-weaker}
 use Rattle.row_core.specs.Range.{InRange, AllInRange}
 use Rattle.cdd_text.specs.Tokens.{has_some, is_nat, is_integer, is_negative, unsigned, number, integer, texts, Token}
 use Rattle.cdd_text.specs.Bodies.{is_number}
-use Rattle.cdd_text.specs.Fractions.{is_slash, gcd, lcm, numerator, denominator, lowest, signed, times, common, integers, cut_rows, all_integers, AllDivide, IsSmall, FitRange}
+use Rattle.cdd_text.specs.Fractions.{is_slash, gcd, lcm, numerator, denominator, lowest, signed, times, common, integers, all_integers, AllDivide, IsSmall, FitRange}
 use Rattle.cdd_text.specs.Tables.{IsTooLarge, IsValueErr}
 use Rattle.cdd_text.specs.declared.format.NumberType.TheVariants.{Integer}
 use Rattle.cdd_text.specs.declared.values.ValueErr.{ValueErr}

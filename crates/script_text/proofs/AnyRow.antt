@@ -1,68 +1,11 @@
 -- Some row, and no row, of a list of rows.
-use Rattle.std.proofs.Common.{◌≡◌, ℕ, List, [], ◌∷◌, zero, suc, map, refl, arith, subst, sym, inl, inr}
-use Rattle.std.specs.Prelude.{Contains, ◌⊎◌}
+use Rattle.std.proofs.Common.{◌≡◌, ℕ, List, [], ◌∷◌, Bool, true, false, Some, zero, suc, map, arith, subst, sym, inl, inr}
+use Rattle.std.specs.Prelude.{Contains, ◌⊎◌, if◌then◌else◌}
+use Rattle.std.specs.Str.{bytes_eq}
 use Rattle.grammar.specs.Form.{Matches, Begins, AnyMatches, AnyBegins}
-use Rattle.script_text.specs.Rows.{row_form, rows}
+use Rattle.script_text.specs.Rows.{shape_of, row_form, rows}
 use Rattle.script_text.specs.declared.row.Row.{Row}
-use Rattle.script_text.specs.declared.row.Row.TheVariants as row
-
-pub row_in : (r : Row) → Contains rows r
-row_in row.Nothing = (0, omega arith, refl)
-row_in row.Cons = (1, omega arith, refl)
-row_in row.Gens = (2, omega arith, refl)
-row_in row.Universe = (3, omega arith, refl)
-row_in row.Empty = (4, omega arith, refl)
-row_in row.Copy = (5, omega arith, refl)
-row_in row.Drop = (6, omega arith, refl)
-row_in row.Add = (7, omega arith, refl)
-row_in row.Addgen = (8, omega arith, refl)
-row_in row.Has = (9, omega arith, refl)
-row_in row.Size = (10, omega arith, refl)
-row_in row.Print = (11, omega arith, refl)
-row_in row.Names = (12, omega arith, refl)
-row_in row.Meet = (13, omega arith, refl)
-row_in row.Hull = (14, omega arith, refl)
-row_in row.Closure = (15, omega arith, refl)
-row_in row.Contains = (16, omega arith, refl)
-row_in row.Equal = (17, omega arith, refl)
-row_in row.Disjoint = (18, omega arith, refl)
-row_in row.Isempty = (19, omega arith, refl)
-row_in row.Relation = (20, omega arith, refl)
-row_in row.Max = (21, omega arith, refl)
-row_in row.Min = (22, omega arith, refl)
-row_in row.Image = (23, omega arith, refl)
-row_in row.Preimage = (24, omega arith, refl)
-row_in row.Embed = (25, omega arith, refl)
-row_in row.Project = (26, omega arith, refl)
-row_in row.Remove = (27, omega arith, refl)
-row_in row.Concat = (28, omega arith, refl)
-row_in row.Elapse = (29, omega arith, refl)
-row_in row.Widen = (30, omega arith, refl)
-row_in row.Read = (31, omega arith, refl)
-row_in row.Write = (32, omega arith, refl)
-row_in row.System = (33, omega arith, refl)
-row_in row.Init = (34, omega arith, refl)
-row_in row.Trans = (35, omega arith, refl)
-row_in row.Fixpoint = (36, omega arith, refl)
-row_in row.Pset = (37, omega arith, refl)
-row_in row.Join = (38, omega arith, refl)
-row_in row.Pmeet = (39, omega arith, refl)
-row_in row.Member = (40, omega arith, refl)
-row_in row.Psize = (41, omega arith, refl)
-row_in row.Covers = (42, omega arith, refl)
-row_in row.Rank = (43, omega arith, refl)
-row_in row.Ranking = (44, omega arith, refl)
-row_in row.ShapeOf = (45, omega arith, refl)
-row_in row.Bounds = (46, omega arith, refl)
-row_in row.Smeet = (47, omega arith, refl)
-row_in row.Shull = (48, omega arith, refl)
-row_in row.Scontains = (49, omega arith, refl)
-row_in row.Sprint = (50, omega arith, refl)
-row_in row.Spoly = (51, omega arith, refl)
-row_in row.Hybrid = (52, omega arith, refl)
-row_in row.Inv = (53, omega arith, refl)
-row_in row.Flow = (54, omega arith, refl)
-row_in row.Reach = (55, omega arith, refl)
+use Rattle.script_text.proofs.RowLaws.{row_among, named_right}
 
 head_or_tail : (x : Row) (xs : List Row) (r : Row) → Contains (x ∷ xs) r → (x ≡ r) ⊎ Contains xs r
 head_or_tail x xs r (zero, h, e) = inl e
@@ -70,6 +13,21 @@ head_or_tail x xs r (suc k, h, e) = inr (k, omega arith, e)
 
 nowhere : (r : Row) → Contains [] r → ⊥
 nowhere r (k, h, e) = omega arith
+
+choose : (x : Row) (xs : List Row) (w : List ℕ) (r : Row) (t : Bool) → (if t then Some x else row_among xs w) ≡ Some r → (x ≡ r) ⊎ (row_among xs w ≡ Some r)
+choose x xs w r true e = inl cc
+choose x xs w r false e = inr e
+
+later : (x : Row) (xs : List Row) (r : Row) → Contains xs r → Contains (x ∷ xs) r
+later x xs r (k, h, e) = (suc k, omega arith, e)
+
+-- a row that a word tells among others is one of them
+among : (rs : List Row) (w : List ℕ) (r : Row) → row_among rs w ≡ Some r → Contains rs r
+among [] w r e = cc
+among (x ∷ xs) w r e = elim (choose x xs w r (bytes_eq w (shape_of x).command) e) [ inl h ↦ (0, omega arith, h) | inr h ↦ later x xs r (among xs w r h) ]
+
+pub row_in : (r : Row) → Contains rows r
+row_in r = among rows (shape_of r).command r (named_right r)
 
 pub any_matches : (rs : List Row) (r : Row) (w : List ℕ) → Contains rs r → Matches (row_form r) w → AnyMatches (map row_form rs) w
 any_matches [] r w c m = absurd (nowhere r c)

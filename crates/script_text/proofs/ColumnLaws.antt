@@ -12,10 +12,12 @@ use Rattle.grammar.proofs.Columns.{begins_shorter, means_start, begins_from_rows
 use Rattle.script_text.specs.Words.{is_blank, is_in_word, past_blanks, word_of, behind_word}
 use Rattle.script_text.specs.Rows.{Shape, rest_form, line_form, row_form, rows, shape_of, IsCommandWord}
 use Rattle.script_text.specs.declared.row.Row.{Row}
-use Rattle.script_text.specs.declared.row.Row.TheVariants.{Nothing}
+use Rattle.script_text.specs.declared.row.Row.TheVariants.{Nothing, NameAndPart, SpaceAndPart}
+use Rattle.script_text.specs.declared.row.NameAndPart.TheVariants as name_and_part
+use Rattle.script_text.specs.declared.row.SpaceAndPart.TheVariants as space_and_part
 use Rattle.script_text.proofs.WordLemmas.{Each, Stops, IsWord, word_of-append, behind_word-append}
 use Rattle.script_text.proofs.AnyRow.{row_in, any_begins, none_matches, none_begins}
-use Rattle.script_text.proofs.RowLaws.{goods, row_named, named_right, row_told}
+use Rattle.script_text.proofs.RowLaws.{goods, told_row}
 use Rattle.script_text.proofs.RestLaws.{IsGood, good, Each-blanks, split_law}
 use Rattle.script_text.proofs.EdgeLemmas.{good_word}
 
@@ -183,6 +185,8 @@ column_at row shape is w at (suc j) column =
 alive_row : (row : Row) → lives (rest_form (shape_of row)) ≡ true
 unfolding expr vexpr frac vfrac con cons point gen gens
 alive_row Nothing = refl
+alive_row (NameAndPart name_and_part.Add) = refl
+alive_row (SpaceAndPart space_and_part.Cons) = refl
 alive_row row = refl
 
 row_of_word : (row : Row) (w : List ℕ) → IsCommandWord row w → IsRowOf row (shape_of row)
@@ -191,7 +195,7 @@ row_of_word row w named = record {
   tests = good (shape_of row) (goods row);
   alive = alive_row row;
   form = refl;
-  told = λ (r : Row) (z : List ℕ) (e : word_of z ≡ (shape_of row).command) (m : Matches (row_form r) z). sym (row_told r z m) ∙ (ap row_named e ∙ named_right row);
+  told = λ (r : Row) (z : List ℕ) (e : word_of z ≡ (shape_of row).command) (m : Matches (row_form r) z). told_row row r z e m;
 }
 
 word_is : (row : Row) (w : List ℕ) → IsCommandWord row w → (shape_of row).command ≡ w

@@ -9,7 +9,7 @@ use Rattle.script_text.specs.Line.{Spells, PartsMatch, PartsTold}
 use Rattle.script_text.specs.declared.row.Row.{Row}
 use Rattle.script_text.specs.declared.row.Row.TheVariants.{Nothing}
 use Rattle.script_text.specs.declared.command.Command.{Command}
-use Rattle.script_text.proofs.RowLaws.{row_law, row_told}
+use Rattle.script_text.proofs.RowLaws.{row_law, row_once}
 use Rattle.script_text.proofs.PartLemmas.{parts_match, parts_told}
 
 -- the command of a line is that of its words
@@ -31,5 +31,5 @@ told line c s = subst PartsTold (sym s.is) (parts_told s.row (fields_of_row s.ro
 -- a line spells one command at most
 pub spells_one : (line : List ℕ) (c d : Command) → Spells line c → Spells line d → c ≡ d
 spells_one line c d a b =
-    let rows : a.row ≡ b.row = sym (row_told a.row line a.form) ∙ row_told b.row line b.form in
+    let rows : a.row ≡ b.row = row_once a.row b.row line a.form b.form in
     a.is ∙ (command_law a.row line a.form ∙ (ap (λ r. command_of r (fields_in (behind_word line))) rows ∙ sym (b.is ∙ command_law b.row line b.form)))

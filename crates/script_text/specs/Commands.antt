@@ -7,20 +7,20 @@ use Rattle.script_text.specs.Variables.{variable_of, variables_of}
 use Rattle.script_text.specs.Words.{begins_with}
 use Rattle.script_text.specs.declared.row.Row.{Row}
 use Rattle.script_text.specs.declared.row.Row.TheVariants as row
+use Rattle.script_text.specs.declared.row.OneName.TheVariants as one_name
+use Rattle.script_text.specs.declared.row.NameAndPart.TheVariants as name_and_part
+use Rattle.script_text.specs.declared.row.TwoNames.TheVariants as two_names
+use Rattle.script_text.specs.declared.row.ThreeNames.TheVariants as three_names
+use Rattle.script_text.specs.declared.row.SpaceAndPart.TheVariants as space_and_part
+use Rattle.script_text.specs.declared.row.TwoNamesNumber.TheVariants as two_names_number
+use Rattle.script_text.specs.declared.row.NameFormat.TheVariants as name_format
+use Rattle.script_text.specs.declared.row.NameNumberName.TheVariants as name_number_name
+use Rattle.script_text.specs.declared.row.NameNumberPrefix.TheVariants as name_number_prefix
 use Rattle.script_text.specs.declared.command.Command.{Command}
 use Rattle.script_text.specs.declared.command.Command.TheVariants as command
 use Rattle.script_text.specs.declared.command.Part.{Part}
 use Rattle.script_text.specs.declared.command.Rel.{Rel}
 use Rattle.script_text.specs.declared.command.Rel.TheVariants as rel
-use Rattle.script_text.specs.declared.command.Space.TheVariants as space
-use Rattle.script_text.specs.declared.command.Operator.TheVariants as operator
-use Rattle.script_text.specs.declared.command.Comparison.TheVariants as comparison
-use Rattle.script_text.specs.declared.command.Extremum.TheVariants as extremum
-use Rattle.script_text.specs.declared.command.Mapping.TheVariants as mapping
-use Rattle.script_text.specs.declared.command.Extension.TheVariants as extension
-use Rattle.script_text.specs.declared.command.PowersetOperator.TheVariants as powerset_operator
-use Rattle.script_text.specs.declared.command.ShapeOperator.TheVariants as shape_operator
-use Rattle.script_text.specs.declared.command.LocationPart.TheVariants as location_part
 
 -- the number that digits spell; 2^64 - 1 stands for all greater ones too
 abbrev pub number_of : List ℕ → ℕ
@@ -52,58 +52,46 @@ relation_of sign =
 -- the command of a line of the row with these fields
 abbrev pub command_of : Row → Fields → Command
 command_of row.Nothing f = command.Nothing
-command_of row.Cons f = command.Cons f.first (is_word f.second (codes "nnc")) (number_of f.third) (part_from f.part)
-command_of row.Gens f = command.Gens f.first (is_word f.second (codes "nnc")) (number_of f.third) (part_from f.part)
-command_of row.Universe f = command.Space space.Universe f.first (is_word f.second (codes "nnc")) (number_of f.third)
-command_of row.Empty f = command.Space space.Empty f.first (is_word f.second (codes "nnc")) (number_of f.third)
-command_of row.Copy f = command.Copy f.first f.second
-command_of row.Drop f = command.Drop f.first
-command_of row.Add f = command.Add f.first (part_from f.part)
-command_of row.Addgen f = command.Addgen f.first (part_from f.part)
-command_of row.Has f = command.Has f.first (part_from f.part)
-command_of row.Size f = command.Size f.first
-command_of row.Print f = command.Print (is_word f.first (codes "gens")) f.second
 command_of row.Names f = command.Names
-command_of row.Meet f = command.OfTwo operator.Meet f.first f.second f.third
-command_of row.Hull f = command.OfTwo operator.Hull f.first f.second f.third
-command_of row.Closure f = command.Closure f.first f.second
-command_of row.Contains f = command.Compare comparison.Contains f.first f.second
-command_of row.Equal f = command.Compare comparison.Equal f.first f.second
-command_of row.Disjoint f = command.Compare comparison.Disjoint f.first f.second
-command_of row.Isempty f = command.Isempty f.first
-command_of row.Relation f = command.Relation f.first (part_from f.part)
-command_of row.Max f = command.Bound extremum.Max f.first (part_from f.part)
-command_of row.Min f = command.Bound extremum.Min f.first (part_from f.part)
-command_of row.Image f = command.Map mapping.Image f.first f.second (variable_of f.third) (relation_of f.sign) (part_from f.part)
-command_of row.Preimage f = command.Map mapping.Preimage f.first f.second (variable_of f.third) (relation_of f.sign) (part_from f.part)
-command_of row.Embed f = command.Extend extension.Embed f.first f.second (number_of f.third)
-command_of row.Project f = command.Extend extension.Project f.first f.second (number_of f.third)
+command_of (row.OneName one_name.Drop) f = command.Drop f.first
+command_of (row.OneName one_name.Size) f = command.Size f.first
+command_of (row.OneName one_name.Isempty) f = command.Isempty f.first
+command_of (row.OneName one_name.Psize) f = command.Psize f.first
+command_of (row.OneName one_name.Ranking) f = command.Ranking f.first
+command_of (row.OneName one_name.ShapePrint) f = command.ShapePrint f.first
+command_of (row.NameAndPart name_and_part.Add) f = command.Add f.first (part_from f.part)
+command_of (row.NameAndPart name_and_part.Addgen) f = command.Addgen f.first (part_from f.part)
+command_of (row.NameAndPart name_and_part.Has) f = command.Has f.first (part_from f.part)
+command_of (row.NameAndPart name_and_part.Relation) f = command.Relation f.first (part_from f.part)
+command_of (row.NameAndPart (name_and_part.Bound extremum)) f = command.Bound extremum f.first (part_from f.part)
+command_of (row.TwoNames two_names.Copy) f = command.Copy f.first f.second
+command_of (row.TwoNames two_names.Closure) f = command.Closure f.first f.second
+command_of (row.TwoNames (two_names.Compare by)) f = command.Compare by f.first f.second
+command_of (row.TwoNames two_names.Pset) f = command.Pset f.first f.second
+command_of (row.TwoNames two_names.Covers) f = command.Covers f.first f.second
+command_of (row.TwoNames two_names.Rank) f = command.Rank f.first f.second
+command_of (row.TwoNames two_names.ShapeOf) f = command.ShapeOf f.first f.second
+command_of (row.TwoNames two_names.ShapeContains) f = command.ShapeContains f.first f.second
+command_of (row.TwoNames two_names.ShapePoly) f = command.ShapePoly f.first f.second
+command_of (row.TwoNames two_names.Hybrid) f = command.Hybrid f.first f.second
+command_of (row.ThreeNames (three_names.OfTwo op)) f = command.OfTwo op f.first f.second f.third
+command_of (row.ThreeNames three_names.Widen) f = command.Widen f.first f.second f.third
+command_of (row.ThreeNames (three_names.OfTwoPowersets op)) f = command.OfTwoPowersets op f.first f.second f.third
+command_of (row.ThreeNames (three_names.OfTwoShapes op)) f = command.OfTwoShapes op f.first f.second f.third
+command_of (row.Space space) f = command.Space space f.first (is_word f.second (codes "nnc")) (number_of f.third)
+command_of (row.SpaceAndPart space_and_part.Cons) f = command.Cons f.first (is_word f.second (codes "nnc")) (number_of f.third) (part_from f.part)
+command_of (row.SpaceAndPart space_and_part.Gens) f = command.Gens f.first (is_word f.second (codes "nnc")) (number_of f.third) (part_from f.part)
+command_of (row.TwoNamesNumber (two_names_number.Extend by)) f = command.Extend by f.first f.second (number_of f.third)
+command_of (row.TwoNamesNumber two_names_number.Member) f = command.Member f.first f.second (number_of f.third)
+command_of (row.Map by) f = command.Map by f.first f.second (variable_of f.third) (relation_of f.sign) (part_from f.part)
+command_of (row.NameFormat name_format.Read) f = command.Read f.first (is_word f.second (codes "ext"))
+command_of (row.NameFormat name_format.Write) f = command.Write f.first (is_word f.second (codes "ext"))
+command_of (row.NameNumberName name_number_name.Init) f = command.Init f.first (number_of f.second) f.third
+command_of (row.NameNumberName (name_number_name.SetPart part)) f = command.SetPart part f.first (number_of f.second) f.third
+command_of (row.NameNumberPrefix name_number_prefix.Fixpoint) f = command.Fixpoint f.first (number_of f.second) f.third
+command_of (row.NameNumberPrefix name_number_prefix.Reach) f = command.Reach f.first (number_of f.second) f.third
+command_of row.Print f = command.Print (is_word f.first (codes "gens")) f.second
 command_of row.Remove f = command.Remove f.first f.second (variables_of f.part)
-command_of row.Concat f = command.OfTwo operator.Concat f.first f.second f.third
-command_of row.Elapse f = command.OfTwo operator.Elapse f.first f.second f.third
-command_of row.Widen f = command.Widen f.first f.second f.third
-command_of row.Read f = command.Read f.first (is_word f.second (codes "ext"))
-command_of row.Write f = command.Write f.first (is_word f.second (codes "ext"))
 command_of row.System f = command.System f.first (number_of f.second) (number_of f.third)
-command_of row.Init f = command.Init f.first (number_of f.second) f.third
 command_of row.Trans f = command.Trans f.first (number_of f.second) (number_of f.third) f.fourth
-command_of row.Fixpoint f = command.Fixpoint f.first (number_of f.second) f.third
-command_of row.Pset f = command.Pset f.first f.second
-command_of row.Join f = command.OfTwoPowersets powerset_operator.Join f.first f.second f.third
-command_of row.Pmeet f = command.OfTwoPowersets powerset_operator.Meet f.first f.second f.third
-command_of row.Member f = command.Member f.first f.second (number_of f.third)
-command_of row.Psize f = command.Psize f.first
-command_of row.Covers f = command.Covers f.first f.second
-command_of row.Rank f = command.Rank f.first f.second
-command_of row.Ranking f = command.Ranking f.first
-command_of row.ShapeOf f = command.ShapeOf f.first f.second
 command_of row.Bounds f = command.Bounds f.first (number_of f.second) (part_from f.part)
-command_of row.Smeet f = command.OfTwoShapes shape_operator.Meet f.first f.second f.third
-command_of row.Shull f = command.OfTwoShapes shape_operator.Hull f.first f.second f.third
-command_of row.Scontains f = command.ShapeContains f.first f.second
-command_of row.Sprint f = command.ShapePrint f.first
-command_of row.Spoly f = command.ShapePoly f.first f.second
-command_of row.Hybrid f = command.Hybrid f.first f.second
-command_of row.Inv f = command.SetPart location_part.Invariant f.first (number_of f.second) f.third
-command_of row.Flow f = command.SetPart location_part.Flow f.first (number_of f.second) f.third
-command_of row.Reach f = command.Reach f.first (number_of f.second) f.third

@@ -1,6 +1,5 @@
 pub mod Commands
 pub mod Fields
-pub mod Kinds
 pub mod Laws
 pub mod Line
 pub mod Rows

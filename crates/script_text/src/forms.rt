@@ -1,9 +1,9 @@
-//! The forms of the lines, as values that the recognizer runs over.
+//! The forms of what stands behind a command word, as values that the recognizer runs over.
 ghost use Rattle.std.specs.Prelude.{◌≡◌};
 ghost use Rattle.grammar.specs.Shape.{shape};
-ghost use Rattle.script_text.specs.Rows.{row_form};
+ghost use Rattle.script_text.specs.Rows.{rest_form, shape_of};
 
-use crate::row::Row;
+use crate::row::{NameAndPart, Row, SpaceAndPart};
 use grammar::{BLANKS, GAP, Re, Rule};
 
 macro_rules! seq {
@@ -17,11 +17,11 @@ macro_rules! words {
     ($first:expr $(, $rest:expr)*) => { seq!(GAP, $first, words!($($rest),*)) };
 }
 
-// A command word, the words behind it, and the part behind a colon where there is one.
-macro_rules! line {
-    ($command:literal $(, $word:expr)*) => { seq!(BLANKS, Re::Word($command), words!($($word),*), BLANKS, PERHAPS_COMMENT) };
-    ($command:literal $(, $word:expr)*; RELATION $part:expr) => { seq!(BLANKS, Re::Word($command), words!($($word),*), seq!(BLANKS, RELATION, BLANKS, Re::Named($part), BLANKS), PERHAPS_COMMENT) };
-    ($command:literal $(, $word:expr)*; $part:expr) => { seq!(BLANKS, Re::Word($command), words!($($word),*), seq!(BLANKS, COLON, BLANKS, Re::Named($part), BLANKS), PERHAPS_COMMENT) };
+// What stands behind a command word: words, and the part behind a colon where there is one.
+macro_rules! rest {
+    ($($word:expr),*) => { seq!(words!($($word),*), BLANKS, PERHAPS_COMMENT) };
+    ($($word:expr),*; RELATION $part:expr) => { seq!(words!($($word),*), seq!(BLANKS, RELATION, BLANKS, Re::Named($part), BLANKS), PERHAPS_COMMENT) };
+    ($($word:expr),*; $part:expr) => { seq!(words!($($word),*), seq!(BLANKS, COLON, BLANKS, Re::Named($part), BLANKS), PERHAPS_COMMENT) };
 }
 
 const COLON: Re<'static> = Re::Byte(b':', b':');
@@ -63,178 +63,79 @@ const PREFIX: Re<'static> = Re::Then(&LOWER, &Re::UpTo(29, &IN_NAME));
 
 const PERHAPS_COMMENT: Re<'static> = Re::Or(&Re::Word(b""), &Re::Named(Rule::Comment));
 
-const NOTHING_LINE: Re<'static> = seq!(BLANKS, PERHAPS_COMMENT);
+/// A blank line, or a comment alone.
+pub const NOTHING: Re<'static> = seq!(BLANKS, PERHAPS_COMMENT);
 
-const CONS_LINE: Re<'static> = line!(b"cons", NAME, TOP, NAT; Rule::Cons);
+const NO_WORDS: Re<'static> = rest!();
 
-const GENS_LINE: Re<'static> = line!(b"gens", NAME, TOP, NAT; Rule::Gens);
+const ONE_NAME: Re<'static> = rest!(NAME);
 
-const UNIVERSE_LINE: Re<'static> = line!(b"universe", NAME, TOP, NAT);
+const NAME_CONS: Re<'static> = rest!(NAME; Rule::Cons);
 
-const EMPTY_LINE: Re<'static> = line!(b"empty", NAME, TOP, NAT);
+const NAME_GENS: Re<'static> = rest!(NAME; Rule::Gens);
 
-const COPY_LINE: Re<'static> = line!(b"copy", NAME, NAME);
+const NAME_POINT: Re<'static> = rest!(NAME; Rule::Point);
 
-const DROP_LINE: Re<'static> = line!(b"drop", NAME);
+const NAME_CON: Re<'static> = rest!(NAME; Rule::Con);
 
-const ADD_LINE: Re<'static> = line!(b"add", NAME; Rule::Cons);
+const NAME_EXPR: Re<'static> = rest!(NAME; Rule::Expr);
 
-const ADDGEN_LINE: Re<'static> = line!(b"addgen", NAME; Rule::Gens);
+const TWO_NAMES: Re<'static> = rest!(NAME, NAME);
 
-const HAS_LINE: Re<'static> = line!(b"has", NAME; Rule::Point);
+const THREE_NAMES: Re<'static> = rest!(NAME, NAME, NAME);
 
-const SIZE_LINE: Re<'static> = line!(b"size", NAME);
+const SPACE: Re<'static> = rest!(NAME, TOP, NAT);
 
-const PRINT_LINE: Re<'static> = line!(b"print", SIDE, NAME);
+const SPACE_CONS: Re<'static> = rest!(NAME, TOP, NAT; Rule::Cons);
 
-const NAMES_LINE: Re<'static> = line!(b"names");
+const SPACE_GENS: Re<'static> = rest!(NAME, TOP, NAT; Rule::Gens);
 
-const MEET_LINE: Re<'static> = line!(b"meet", NAME, NAME, NAME);
+const TWO_NAMES_NAT: Re<'static> = rest!(NAME, NAME, NAT);
 
-const HULL_LINE: Re<'static> = line!(b"hull", NAME, NAME, NAME);
+const MAP: Re<'static> = rest!(NAME, NAME, VAR; RELATION Rule::Frac);
 
-const CLOSURE_LINE: Re<'static> = line!(b"closure", NAME, NAME);
+const NAME_FORMAT: Re<'static> = rest!(NAME, FORMAT);
 
-const CONTAINS_LINE: Re<'static> = line!(b"contains", NAME, NAME);
+const NAME_NAT_NAME: Re<'static> = rest!(NAME, NAT, NAME);
 
-const EQUAL_LINE: Re<'static> = line!(b"equal", NAME, NAME);
+const NAME_NAT_PREFIX: Re<'static> = rest!(NAME, NAT, PREFIX);
 
-const DISJOINT_LINE: Re<'static> = line!(b"disjoint", NAME, NAME);
+const SIDE_NAME: Re<'static> = rest!(SIDE, NAME);
 
-const ISEMPTY_LINE: Re<'static> = line!(b"isempty", NAME);
+const REMOVE: Re<'static> = rest!(NAME, NAME; Rule::Vars);
 
-const RELATION_LINE: Re<'static> = line!(b"relation", NAME; Rule::Con);
+const NAME_NAT_NAT: Re<'static> = rest!(NAME, NAT, NAT);
 
-const MAX_LINE: Re<'static> = line!(b"max", NAME; Rule::Expr);
+const NAME_NAT_NAT_NAME: Re<'static> = rest!(NAME, NAT, NAT, NAME);
 
-const MIN_LINE: Re<'static> = line!(b"min", NAME; Rule::Expr);
+const BOUNDS: Re<'static> = rest!(NAME, NAT; Rule::Cons);
 
-const IMAGE_LINE: Re<'static> = line!(b"image", NAME, NAME, VAR; RELATION Rule::Frac);
-
-const PREIMAGE_LINE: Re<'static> = line!(b"preimage", NAME, NAME, VAR; RELATION Rule::Frac);
-
-const EMBED_LINE: Re<'static> = line!(b"embed", NAME, NAME, NAT);
-
-const PROJECT_LINE: Re<'static> = line!(b"project", NAME, NAME, NAT);
-
-const REMOVE_LINE: Re<'static> = line!(b"remove", NAME, NAME; Rule::Vars);
-
-const CONCAT_LINE: Re<'static> = line!(b"concat", NAME, NAME, NAME);
-
-const ELAPSE_LINE: Re<'static> = line!(b"elapse", NAME, NAME, NAME);
-
-const WIDEN_LINE: Re<'static> = line!(b"widen", NAME, NAME, NAME);
-
-const READ_LINE: Re<'static> = line!(b"read", NAME, FORMAT);
-
-const WRITE_LINE: Re<'static> = line!(b"write", NAME, FORMAT);
-
-const SYSTEM_LINE: Re<'static> = line!(b"system", NAME, NAT, NAT);
-
-const INIT_LINE: Re<'static> = line!(b"init", NAME, NAT, NAME);
-
-const TRANS_LINE: Re<'static> = line!(b"trans", NAME, NAT, NAT, NAME);
-
-const FIXPOINT_LINE: Re<'static> = line!(b"fixpoint", NAME, NAT, PREFIX);
-
-const PSET_LINE: Re<'static> = line!(b"pset", NAME, NAME);
-
-const JOIN_LINE: Re<'static> = line!(b"join", NAME, NAME, NAME);
-
-const PMEET_LINE: Re<'static> = line!(b"pmeet", NAME, NAME, NAME);
-
-const MEMBER_LINE: Re<'static> = line!(b"member", NAME, NAME, NAT);
-
-const PSIZE_LINE: Re<'static> = line!(b"psize", NAME);
-
-const COVERS_LINE: Re<'static> = line!(b"covers", NAME, NAME);
-
-const RANK_LINE: Re<'static> = line!(b"rank", NAME, NAME);
-
-const RANKING_LINE: Re<'static> = line!(b"ranking", NAME);
-
-const SHAPE_LINE: Re<'static> = line!(b"shape", NAME, NAME);
-
-const BOUNDS_LINE: Re<'static> = line!(b"bounds", NAME, NAT; Rule::Cons);
-
-const SMEET_LINE: Re<'static> = line!(b"smeet", NAME, NAME, NAME);
-
-const SHULL_LINE: Re<'static> = line!(b"shull", NAME, NAME, NAME);
-
-const SCONTAINS_LINE: Re<'static> = line!(b"scontains", NAME, NAME);
-
-const SPRINT_LINE: Re<'static> = line!(b"sprint", NAME);
-
-const SPOLY_LINE: Re<'static> = line!(b"spoly", NAME, NAME);
-
-const HYBRID_LINE: Re<'static> = line!(b"hybrid", NAME, NAME);
-
-const INV_LINE: Re<'static> = line!(b"inv", NAME, NAT, NAME);
-
-const FLOW_LINE: Re<'static> = line!(b"flow", NAME, NAT, NAME);
-
-const REACH_LINE: Re<'static> = line!(b"reach", NAME, NAT, PREFIX);
-
-/// The form of the row's lines.
-pub fn form_of(row: Row) -> Re<'static>
-    ensures { shape result ≡ row_form row }
+/// What stands behind the command word of the row.
+pub fn rest_of(row: Row) -> Re<'static>
+    ensures { shape result ≡ rest_form (shape_of row) }
 {
     match row {
-        Row::Nothing => NOTHING_LINE,
-        Row::Cons => CONS_LINE,
-        Row::Gens => GENS_LINE,
-        Row::Universe => UNIVERSE_LINE,
-        Row::Empty => EMPTY_LINE,
-        Row::Copy => COPY_LINE,
-        Row::Drop => DROP_LINE,
-        Row::Add => ADD_LINE,
-        Row::Addgen => ADDGEN_LINE,
-        Row::Has => HAS_LINE,
-        Row::Size => SIZE_LINE,
-        Row::Print => PRINT_LINE,
-        Row::Names => NAMES_LINE,
-        Row::Meet => MEET_LINE,
-        Row::Hull => HULL_LINE,
-        Row::Closure => CLOSURE_LINE,
-        Row::Contains => CONTAINS_LINE,
-        Row::Equal => EQUAL_LINE,
-        Row::Disjoint => DISJOINT_LINE,
-        Row::Isempty => ISEMPTY_LINE,
-        Row::Relation => RELATION_LINE,
-        Row::Max => MAX_LINE,
-        Row::Min => MIN_LINE,
-        Row::Image => IMAGE_LINE,
-        Row::Preimage => PREIMAGE_LINE,
-        Row::Embed => EMBED_LINE,
-        Row::Project => PROJECT_LINE,
-        Row::Remove => REMOVE_LINE,
-        Row::Concat => CONCAT_LINE,
-        Row::Elapse => ELAPSE_LINE,
-        Row::Widen => WIDEN_LINE,
-        Row::Read => READ_LINE,
-        Row::Write => WRITE_LINE,
-        Row::System => SYSTEM_LINE,
-        Row::Init => INIT_LINE,
-        Row::Trans => TRANS_LINE,
-        Row::Fixpoint => FIXPOINT_LINE,
-        Row::Pset => PSET_LINE,
-        Row::Join => JOIN_LINE,
-        Row::Pmeet => PMEET_LINE,
-        Row::Member => MEMBER_LINE,
-        Row::Psize => PSIZE_LINE,
-        Row::Covers => COVERS_LINE,
-        Row::Rank => RANK_LINE,
-        Row::Ranking => RANKING_LINE,
-        Row::ShapeOf => SHAPE_LINE,
-        Row::Bounds => BOUNDS_LINE,
-        Row::Smeet => SMEET_LINE,
-        Row::Shull => SHULL_LINE,
-        Row::Scontains => SCONTAINS_LINE,
-        Row::Sprint => SPRINT_LINE,
-        Row::Spoly => SPOLY_LINE,
-        Row::Hybrid => HYBRID_LINE,
-        Row::Inv => INV_LINE,
-        Row::Flow => FLOW_LINE,
-        Row::Reach => REACH_LINE,
+        Row::Nothing | Row::Names => NO_WORDS,
+        Row::OneName(_) => ONE_NAME,
+        Row::NameAndPart(NameAndPart::Add) => NAME_CONS,
+        Row::NameAndPart(NameAndPart::Addgen) => NAME_GENS,
+        Row::NameAndPart(NameAndPart::Has) => NAME_POINT,
+        Row::NameAndPart(NameAndPart::Relation) => NAME_CON,
+        Row::NameAndPart(NameAndPart::Bound(_)) => NAME_EXPR,
+        Row::TwoNames(_) => TWO_NAMES,
+        Row::ThreeNames(_) => THREE_NAMES,
+        Row::Space(_) => SPACE,
+        Row::SpaceAndPart(SpaceAndPart::Cons) => SPACE_CONS,
+        Row::SpaceAndPart(SpaceAndPart::Gens) => SPACE_GENS,
+        Row::TwoNamesNumber(_) => TWO_NAMES_NAT,
+        Row::Map(_) => MAP,
+        Row::NameFormat(_) => NAME_FORMAT,
+        Row::NameNumberName(_) => NAME_NAT_NAME,
+        Row::NameNumberPrefix(_) => NAME_NAT_PREFIX,
+        Row::Print => SIDE_NAME,
+        Row::Remove => REMOVE,
+        Row::System => NAME_NAT_NAT,
+        Row::Trans => NAME_NAT_NAT_NAME,
+        Row::Bounds => BOUNDS,
     }
 }

@@ -4,16 +4,15 @@ ghost use Rattle.term_text.specs.Reading.{is_digit, is_upper};
 ghost use Rattle.reply_text.specs.declared.faults.ReadErr.TheVariants as read_err;
 ghost use Rattle.script_text.specs.Commands.{command_of, number_of, is_word, is_strict, begins_strict, part_from, relation_of};
 ghost use Rattle.script_text.specs.Fields.{fields_in};
-ghost use Rattle.script_text.specs.Kinds.{IsOneName, IsNameAndPart, IsTwoNames, IsThreeNames, IsSpace, IsSpaceAndPart, IsTwoNamesNumber, IsTwoNamesVariable, IsNameFormat, IsNameNumberName};
 ghost use Rattle.script_text.specs.Variables.{variable_of, variables_of};
 ghost use Rattle.script_text.specs.Words.{part_of};
 ghost use Rattle.script_text.specs.declared.row.Row.TheVariants as row;
 
-use crate::command::{
-    Command, Comparison, Extension, Extremum, LocationPart, Mapping, Operator, Part,
-    PowersetOperator, Rel, ShapeOperator, Space,
+use crate::command::{Command, Mapping, Part, Rel, Space};
+use crate::row::{
+    NameAndPart, NameFormat, NameNumberName, NameNumberPrefix, OneName, Row, SpaceAndPart,
+    ThreeNames, TwoNames, TwoNamesNumber,
 };
-use crate::row::Row;
 use crate::variables::VarList;
 use crate::words::{part_of, sign_of, split_word, three_words, two_words};
 use reply_text::{ReadErr, Text};
@@ -136,140 +135,78 @@ fn relation(sign: &[u8]) -> Rel
     }
 }
 
-/// The command of a row with one name.
-fn of_one_name(alloc: Global, row: Row, rest: &[u8]) -> Result<Command, ReadErr>
-    requires { IsOneName row }
-    ensures { MatchResult result (λ c. c ≡ command_of row (fields_in rest.now)) (λ e. e ≡ read_err.Memory) }
+/// A command with one name.
+fn of_one_name(alloc: Global, kind: OneName, rest: &[u8]) -> Result<Command, ReadErr>
+    ensures { MatchResult result (λ c. c ≡ command_of (row.OneName kind) (fields_in rest.now)) (λ e. e ≡ read_err.Memory) }
 {
     let (first, _) = split_word(rest);
     let p = text(alloc, first)?;
-    Ok(match row {
-        Row::Drop => Command::Drop { name: p },
-        Row::Size => Command::Size { p },
-        Row::Isempty => Command::Isempty { p },
-        Row::Psize => Command::Psize { s: p },
-        Row::Ranking => Command::Ranking { r: p },
-        _ => Command::ShapePrint { s: p },
+    Ok(match kind {
+        OneName::Drop => Command::Drop { name: p },
+        OneName::Size => Command::Size { p },
+        OneName::Isempty => Command::Isempty { p },
+        OneName::Psize => Command::Psize { s: p },
+        OneName::Ranking => Command::Ranking { r: p },
+        OneName::ShapePrint => Command::ShapePrint { s: p },
     })
 }
 
-/// The command of a row with a name and a part.
-fn of_name_part(alloc: Global, row: Row, rest: &[u8]) -> Result<Command, ReadErr>
-    requires { IsNameAndPart row }
-    ensures { MatchResult result (λ c. c ≡ command_of row (fields_in rest.now)) (λ e. e ≡ read_err.Memory) }
+/// A command with a name and a part.
+fn of_name_part(alloc: Global, kind: NameAndPart, rest: &[u8]) -> Result<Command, ReadErr>
+    ensures { MatchResult result (λ c. c ≡ command_of (row.NameAndPart kind) (fields_in rest.now)) (λ e. e ≡ read_err.Memory) }
 {
     let (first, _) = split_word(rest);
     let p = text(alloc, first)?;
     let part = part(alloc, rest)?;
-    Ok(match row {
-        Row::Add => Command::Add { p, cons: part },
-        Row::Addgen => Command::Addgen { p, gens: part },
-        Row::Has => Command::Has { p, point: part },
-        Row::Relation => Command::Relation { p, con: part },
-        Row::Max => Command::Bound {
-            of: Extremum::Max,
-            p,
-            expr: part,
-        },
-        _ => Command::Bound {
-            of: Extremum::Min,
-            p,
-            expr: part,
-        },
+    Ok(match kind {
+        NameAndPart::Add => Command::Add { p, cons: part },
+        NameAndPart::Addgen => Command::Addgen { p, gens: part },
+        NameAndPart::Has => Command::Has { p, point: part },
+        NameAndPart::Relation => Command::Relation { p, con: part },
+        NameAndPart::Bound(of) => Command::Bound { of, p, expr: part },
     })
 }
 
-/// The command of a row with two names.
-fn of_two_names(alloc: Global, row: Row, rest: &[u8]) -> Result<Command, ReadErr>
-    requires { IsTwoNames row }
-    ensures { MatchResult result (λ c. c ≡ command_of row (fields_in rest.now)) (λ e. e ≡ read_err.Memory) }
+/// A command with two names.
+fn of_two_names(alloc: Global, kind: TwoNames, rest: &[u8]) -> Result<Command, ReadErr>
+    ensures { MatchResult result (λ c. c ≡ command_of (row.TwoNames kind) (fields_in rest.now)) (λ e. e ≡ read_err.Memory) }
 {
     let (first, second) = two_words(rest);
     let p = text(alloc, first)?;
     let q = text(alloc, second)?;
-    Ok(match row {
-        Row::Copy => Command::Copy { out: p, p: q },
-        Row::Closure => Command::Closure { out: p, p: q },
-        Row::Contains => Command::Compare {
-            by: Comparison::Contains,
-            p,
-            q,
-        },
-        Row::Equal => Command::Compare {
-            by: Comparison::Equal,
-            p,
-            q,
-        },
-        Row::Disjoint => Command::Compare {
-            by: Comparison::Disjoint,
-            p,
-            q,
-        },
-        Row::Pset => Command::Pset { out: p, p: q },
-        Row::Covers => Command::Covers { s: p, t: q },
-        Row::Rank => Command::Rank { out: p, r: q },
-        Row::ShapeOf => Command::ShapeOf { out: p, p: q },
-        Row::Scontains => Command::ShapeContains { s: p, t: q },
-        Row::Spoly => Command::ShapePoly { out: p, s: q },
-        _ => Command::Hybrid { out: p, s: q },
+    Ok(match kind {
+        TwoNames::Copy => Command::Copy { out: p, p: q },
+        TwoNames::Closure => Command::Closure { out: p, p: q },
+        TwoNames::Compare(by) => Command::Compare { by, p, q },
+        TwoNames::Pset => Command::Pset { out: p, p: q },
+        TwoNames::Covers => Command::Covers { s: p, t: q },
+        TwoNames::Rank => Command::Rank { out: p, r: q },
+        TwoNames::ShapeOf => Command::ShapeOf { out: p, p: q },
+        TwoNames::ShapeContains => Command::ShapeContains { s: p, t: q },
+        TwoNames::ShapePoly => Command::ShapePoly { out: p, s: q },
+        TwoNames::Hybrid => Command::Hybrid { out: p, s: q },
     })
 }
 
-/// The command of a row with three names.
-fn of_three_names(alloc: Global, row: Row, rest: &[u8]) -> Result<Command, ReadErr>
-    requires { IsThreeNames row }
-    ensures { MatchResult result (λ c. c ≡ command_of row (fields_in rest.now)) (λ e. e ≡ read_err.Memory) }
+/// A command with three names.
+fn of_three_names(alloc: Global, kind: ThreeNames, rest: &[u8]) -> Result<Command, ReadErr>
+    ensures { MatchResult result (λ c. c ≡ command_of (row.ThreeNames kind) (fields_in rest.now)) (λ e. e ≡ read_err.Memory) }
 {
     let (first, second, third) = three_words(rest);
     let out = text(alloc, first)?;
     let p = text(alloc, second)?;
     let q = text(alloc, third)?;
-    Ok(match row {
-        Row::Meet => Command::OfTwo {
-            op: Operator::Meet,
-            out,
-            p,
-            q,
-        },
-        Row::Hull => Command::OfTwo {
-            op: Operator::Hull,
-            out,
-            p,
-            q,
-        },
-        Row::Concat => Command::OfTwo {
-            op: Operator::Concat,
-            out,
-            p,
-            q,
-        },
-        Row::Elapse => Command::OfTwo {
-            op: Operator::Elapse,
-            out,
-            p,
-            q,
-        },
-        Row::Widen => Command::Widen { out, p, q },
-        Row::Join => Command::OfTwoPowersets {
-            op: PowersetOperator::Join,
+    Ok(match kind {
+        ThreeNames::OfTwo(op) => Command::OfTwo { op, out, p, q },
+        ThreeNames::Widen => Command::Widen { out, p, q },
+        ThreeNames::OfTwoPowersets(op) => Command::OfTwoPowersets {
+            op,
             out,
             s: p,
             t: q,
         },
-        Row::Pmeet => Command::OfTwoPowersets {
-            op: PowersetOperator::Meet,
-            out,
-            s: p,
-            t: q,
-        },
-        Row::Smeet => Command::OfTwoShapes {
-            op: ShapeOperator::Meet,
-            out,
-            s: p,
-            t: q,
-        },
-        _ => Command::OfTwoShapes {
-            op: ShapeOperator::Hull,
+        ThreeNames::OfTwoShapes(op) => Command::OfTwoShapes {
+            op,
             out,
             s: p,
             t: q,
@@ -277,49 +214,36 @@ fn of_three_names(alloc: Global, row: Row, rest: &[u8]) -> Result<Command, ReadE
     })
 }
 
-/// The command of a row with a name, a topology and a number.
-fn of_space(alloc: Global, row: Row, rest: &[u8]) -> Result<Command, ReadErr>
-    requires { IsSpace row }
-    ensures { MatchResult result (λ c. c ≡ command_of row (fields_in rest.now)) (λ e. e ≡ read_err.Memory) }
+/// A command with a name, a topology and a number.
+fn of_space(alloc: Global, space: Space, rest: &[u8]) -> Result<Command, ReadErr>
+    ensures { MatchResult result (λ c. c ≡ command_of (row.Space space) (fields_in rest.now)) (λ e. e ≡ read_err.Memory) }
 {
     let (first, second, third) = three_words(rest);
-    let out = text(alloc, first)?;
-    let top = is_word(second, b"nnc");
-    let n = number(third);
-    Ok(match row {
-        Row::Universe => Command::Space {
-            space: Space::Universe,
-            out,
-            top,
-            n,
-        },
-        _ => Command::Space {
-            space: Space::Empty,
-            out,
-            top,
-            n,
-        },
+    Ok(Command::Space {
+        space,
+        out: text(alloc, first)?,
+        top: is_word(second, b"nnc"),
+        n: number(third),
     })
 }
 
-/// The command of a row with a name, a topology, a number and a part.
-fn of_space_part(alloc: Global, row: Row, rest: &[u8]) -> Result<Command, ReadErr>
-    requires { IsSpaceAndPart row }
-    ensures { MatchResult result (λ c. c ≡ command_of row (fields_in rest.now)) (λ e. e ≡ read_err.Memory) }
+/// A command with a name, a topology, a number and a part.
+fn of_space_part(alloc: Global, kind: SpaceAndPart, rest: &[u8]) -> Result<Command, ReadErr>
+    ensures { MatchResult result (λ c. c ≡ command_of (row.SpaceAndPart kind) (fields_in rest.now)) (λ e. e ≡ read_err.Memory) }
 {
     let (first, second, third) = three_words(rest);
     let out = text(alloc, first)?;
     let top = is_word(second, b"nnc");
     let n = number(third);
     let part = part(alloc, rest)?;
-    Ok(match row {
-        Row::Cons => Command::Cons {
+    Ok(match kind {
+        SpaceAndPart::Cons => Command::Cons {
             out,
             top,
             n,
             cons: part,
         },
-        _ => Command::Gens {
+        SpaceAndPart::Gens => Command::Gens {
             out,
             top,
             n,
@@ -328,109 +252,80 @@ fn of_space_part(alloc: Global, row: Row, rest: &[u8]) -> Result<Command, ReadEr
     })
 }
 
-/// The command of a row with two names and a number.
-fn of_two_names_number(alloc: Global, row: Row, rest: &[u8]) -> Result<Command, ReadErr>
-    requires { IsTwoNamesNumber row }
-    ensures { MatchResult result (λ c. c ≡ command_of row (fields_in rest.now)) (λ e. e ≡ read_err.Memory) }
+/// A command with two names and a number.
+fn of_two_names_number(alloc: Global, kind: TwoNamesNumber, rest: &[u8]) -> Result<Command, ReadErr>
+    ensures { MatchResult result (λ c. c ≡ command_of (row.TwoNamesNumber kind) (fields_in rest.now)) (λ e. e ≡ read_err.Memory) }
 {
     let (first, second, third) = three_words(rest);
     let out = text(alloc, first)?;
     let p = text(alloc, second)?;
     let n = number(third);
-    Ok(match row {
-        Row::Embed => Command::Extend {
-            by: Extension::Embed,
-            out,
-            p,
-            n,
-        },
-        Row::Project => Command::Extend {
-            by: Extension::Project,
-            out,
-            p,
-            n,
-        },
-        _ => Command::Member { out, s: p, i: n },
+    Ok(match kind {
+        TwoNamesNumber::Extend(by) => Command::Extend { by, out, p, n },
+        TwoNamesNumber::Member => Command::Member { out, s: p, i: n },
     })
 }
 
-/// The command of a row with two names, a variable, a relation and a part.
-fn of_two_names_variable(alloc: Global, row: Row, rest: &[u8]) -> Result<Command, ReadErr>
-    requires { IsTwoNamesVariable row }
-    ensures { MatchResult result (λ c. c ≡ command_of row (fields_in rest.now)) (λ e. e ≡ read_err.Memory) }
+/// A command with two names, a variable, a relation and a part.
+fn of_map(alloc: Global, by: Mapping, rest: &[u8]) -> Result<Command, ReadErr>
+    ensures { MatchResult result (λ c. c ≡ command_of (row.Map by) (fields_in rest.now)) (λ e. e ≡ read_err.Memory) }
 {
     let (first, second, third) = three_words(rest);
-    let out = text(alloc, first)?;
-    let p = text(alloc, second)?;
-    let v = variable(third);
-    let rel = relation(sign_of(rest));
-    let frac = part(alloc, rest)?;
-    Ok(match row {
-        Row::Image => Command::Map {
-            by: Mapping::Image,
-            out,
-            p,
-            v,
-            rel,
-            frac,
-        },
-        _ => Command::Map {
-            by: Mapping::Preimage,
-            out,
-            p,
-            v,
-            rel,
-            frac,
-        },
+    Ok(Command::Map {
+        by,
+        out: text(alloc, first)?,
+        p: text(alloc, second)?,
+        v: variable(third),
+        rel: relation(sign_of(rest)),
+        frac: part(alloc, rest)?,
     })
 }
 
-/// The command of a row with a name and the kind of a file.
-fn of_name_format(alloc: Global, row: Row, rest: &[u8]) -> Result<Command, ReadErr>
-    requires { IsNameFormat row }
-    ensures { MatchResult result (λ c. c ≡ command_of row (fields_in rest.now)) (λ e. e ≡ read_err.Memory) }
+/// A command with a name and the kind of a file.
+fn of_name_format(alloc: Global, kind: NameFormat, rest: &[u8]) -> Result<Command, ReadErr>
+    ensures { MatchResult result (λ c. c ≡ command_of (row.NameFormat kind) (fields_in rest.now)) (λ e. e ≡ read_err.Memory) }
 {
     let (first, second) = two_words(rest);
     let name = text(alloc, first)?;
     let form = is_word(second, b"ext");
-    Ok(match row {
-        Row::Read => Command::Read { out: name, form },
-        _ => Command::Write { p: name, form },
+    Ok(match kind {
+        NameFormat::Read => Command::Read { out: name, form },
+        NameFormat::Write => Command::Write { p: name, form },
     })
 }
 
-/// The command of a row with a name, a number and a name.
-fn of_name_number_name(alloc: Global, row: Row, rest: &[u8]) -> Result<Command, ReadErr>
-    requires { IsNameNumberName row }
-    ensures { MatchResult result (λ c. c ≡ command_of row (fields_in rest.now)) (λ e. e ≡ read_err.Memory) }
+/// A command with a name, a number and a name.
+fn of_name_number_name(alloc: Global, kind: NameNumberName, rest: &[u8]) -> Result<Command, ReadErr>
+    ensures { MatchResult result (λ c. c ≡ command_of (row.NameNumberName kind) (fields_in rest.now)) (λ e. e ≡ read_err.Memory) }
 {
     let (first, second, third) = three_words(rest);
     let s = text(alloc, first)?;
-    let n = number(second);
-    let last = text(alloc, third)?;
-    Ok(match row {
-        Row::Init => Command::Init { s, loc: n, p: last },
-        Row::Inv => Command::SetPart {
-            part: LocationPart::Invariant,
+    let loc = number(second);
+    let p = text(alloc, third)?;
+    Ok(match kind {
+        NameNumberName::Init => Command::Init { s, loc, p },
+        NameNumberName::SetPart(part) => Command::SetPart { part, h: s, loc, p },
+    })
+}
+
+/// A command with a name, a number and the prefix of names.
+fn of_name_number_prefix(
+    alloc: Global,
+    kind: NameNumberPrefix,
+    rest: &[u8],
+) -> Result<Command, ReadErr>
+    ensures { MatchResult result (λ c. c ≡ command_of (row.NameNumberPrefix kind) (fields_in rest.now)) (λ e. e ≡ read_err.Memory) }
+{
+    let (first, second, third) = three_words(rest);
+    let s = text(alloc, first)?;
+    let delay = number(second);
+    let prefix = text(alloc, third)?;
+    Ok(match kind {
+        NameNumberPrefix::Fixpoint => Command::Fixpoint { s, delay, prefix },
+        NameNumberPrefix::Reach => Command::Reach {
             h: s,
-            loc: n,
-            p: last,
-        },
-        Row::Flow => Command::SetPart {
-            part: LocationPart::Flow,
-            h: s,
-            loc: n,
-            p: last,
-        },
-        Row::Fixpoint => Command::Fixpoint {
-            s,
-            delay: n,
-            prefix: last,
-        },
-        _ => Command::Reach {
-            h: s,
-            delay: n,
-            prefix: last,
+            delay,
+            prefix,
         },
     })
 }
@@ -503,44 +398,21 @@ pub fn command_of(alloc: Global, row: Row, rest: &[u8]) -> Result<Command, ReadE
     match row {
         Row::Nothing => Ok(Command::Nothing),
         Row::Names => Ok(Command::Names),
-        Row::Drop | Row::Size | Row::Isempty | Row::Psize | Row::Ranking | Row::Sprint =>
-            of_one_name(alloc, row, rest),
-        Row::Add | Row::Addgen | Row::Has | Row::Relation | Row::Max | Row::Min => of_name_part(
-            alloc, row, rest,
-        ),
-        Row::Copy
-        | Row::Closure
-        | Row::Contains
-        | Row::Equal
-        | Row::Disjoint
-        | Row::Pset
-        | Row::Covers
-        | Row::Rank
-        | Row::ShapeOf
-        | Row::Scontains
-        | Row::Spoly
-        | Row::Hybrid => of_two_names(alloc, row, rest),
-        Row::Meet
-        | Row::Hull
-        | Row::Concat
-        | Row::Elapse
-        | Row::Widen
-        | Row::Join
-        | Row::Pmeet
-        | Row::Smeet
-        | Row::Shull => of_three_names(alloc, row, rest),
-        Row::Universe | Row::Empty => of_space(alloc, row, rest),
-        Row::Cons | Row::Gens => of_space_part(alloc, row, rest),
-        Row::Embed | Row::Project | Row::Member => of_two_names_number(alloc, row, rest),
-        Row::Image | Row::Preimage => of_two_names_variable(alloc, row, rest),
-        Row::Read | Row::Write => of_name_format(alloc, row, rest),
-        Row::Init | Row::Inv | Row::Flow | Row::Fixpoint | Row::Reach => of_name_number_name(
-            alloc, row, rest,
-        ),
+        Row::OneName(kind) => of_one_name(alloc, kind, rest),
+        Row::NameAndPart(kind) => of_name_part(alloc, kind, rest),
+        Row::TwoNames(kind) => of_two_names(alloc, kind, rest),
+        Row::ThreeNames(kind) => of_three_names(alloc, kind, rest),
+        Row::Space(space) => of_space(alloc, space, rest),
+        Row::SpaceAndPart(kind) => of_space_part(alloc, kind, rest),
+        Row::TwoNamesNumber(kind) => of_two_names_number(alloc, kind, rest),
+        Row::Map(by) => of_map(alloc, by, rest),
+        Row::NameFormat(kind) => of_name_format(alloc, kind, rest),
+        Row::NameNumberName(kind) => of_name_number_name(alloc, kind, rest),
+        Row::NameNumberPrefix(kind) => of_name_number_prefix(alloc, kind, rest),
         Row::Print => print_command(alloc, rest),
         Row::Remove => remove_command(alloc, rest),
         Row::System => system_command(alloc, rest),
-        Row::Bounds => bounds_command(alloc, rest),
         Row::Trans => trans_command(alloc, rest),
+        Row::Bounds => bounds_command(alloc, rest),
     }
 }

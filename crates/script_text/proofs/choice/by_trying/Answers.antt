@@ -1,5 +1,4 @@
-use Rattle.std.proofs.Common.{◌≡◌, ◌<◌, length, get_or, max, arith, refl, subst}
-use Rattle.grammar.specs.Form.{Form, IsColumn}
+use Rattle.std.proofs.Common.{◌≡◌, ◌<◌, length, get_or, max, arith, refl}
 use Rattle.std.proofs.lemmas.Bool.Decides.{nat_tests}
 use Rattle.script_text.specs.Rows.{row_form}
 use Rattle.script_text.specs.declared.row.Row.TheVariants.{Nothing}
@@ -12,4 +11,4 @@ loop-row-preserved c =
     let largest : c.max-column.result ≡ max c.loop-row.column c.in-RefusedAt.fault = grind (arith, nat_tests, c.max-column.ensures) in
     larger_more row_form c.args.rows.now c.loop-row.row-index (get_or c.args.rows.now c.loop-row.row-index Nothing) Nothing c.args.line.now
     c.loop-row.column c.in-RefusedAt.fault c.max-column.result within refl c.loop-row.invariant
-    (subst (λ (f : Form). IsColumn f c.args.line.now c.in-RefusedAt.fault) c.form_of.ensures (rw c.in-RefusedAt.is at c.in_ok-column_of.ensures)) largest
+    (rw c.in-RefusedAt.is at c.in_ok-line_verdict.ensures) largest
