@@ -1,12 +1,12 @@
 -- What makes transition systems, and what changes and runs them or automata, has one result.
-use Rattle.std.proofs.Common.{◌≡◌, ℕ, ◌^◌, ◌<◌, List, [], ◌∷◌, length, refl, ap, sym, ◌∙◌, subst, arith, decimal, All}
-use Rattle.std.specs.Prelude.{Some, slice_get}
+use Rattle.std.proofs.Common.{◌≡◌, ℕ, ◌^◌, ◌<◌, List, length, get_or, refl, ap, sym, ◌∙◌, subst, arith, decimal, All}
+use Rattle.std.specs.Prelude.{◌↔◌, ℤ, Some, slice_get}
 use Rattle.std.proofs.lemmas.Fmt.{decimal_injective}
-use Rattle.std.proofs.lemmas.List.{append_cancel_left}
-use Rattle.std.proofs.lemmas.List.Elements.{All-head, All-tail}
+use Rattle.std.proofs.lemmas.List.{append_cancel_left, same_lists}
 use Rattle.std.proofs.lemmas.Option.{slice_get_within}
 use Rattle.row_core.specs.Points.{IsPoint}
-use Rattle.poly_pair.specs.Polyhedra.{Polyhedron, IsEmpty}
+use Rattle.cons_sys.specs.Constraints.{In}
+use Rattle.poly_pair.specs.Polyhedra.{Polyhedron, IsKept, IsOver, IsEmpty}
 use Rattle.poly_pair.specs.declared.topology.Topology.TheVariants.{Closed}
 use Rattle.poly_pair.specs.ClosedPolyhedra.{IsClosedOver}
 use Rattle.trans_sys.specs.Systems.{TransitionSystem, IsKeptSystem}
@@ -32,27 +32,27 @@ same_systems s t d i r =
     ap (λ (n : ℕ). record { dim = n; initial = s.initial; transitions = s.transitions }) d ∙ ap (λ (x : List Polyhedron). record { dim = t.dim; initial = x; transitions = s.transitions }) i
     ∙ ap (λ (x : List Transition). record { dim = t.dim; initial = t.initial; transitions = x }) r
 
-one_empty_set : OneForm → (m k n : ℕ) (p q : Polyhedron) → IsClosedOver m p → IsClosedOver k q → IsEmpty Closed n p → IsEmpty Closed n q → p ≡ q
-one_empty_set laws m k n p q a b h e =
-    one_closed laws p q a.kept b.kept h.over.same_topology (h.over.same_topology ∙ sym e.over.same_topology) dims (λ v is. (λ x. absurd (h.points v (record { point = is; holds = x })), λ x. absurd (e.points v (record { point = subst (λ (d : ℕ). IsPoint d v) dims is; holds = x }))))
-  where
-    dims : p.cons.dim ≡ q.cons.dim
-    dims = h.over.same_dim ∙ sym e.over.same_dim
+-- closed sets with the same points
+pub one_set_of : OneForm → (n : ℕ) (p q : Polyhedron) → IsKept p → IsKept q → IsOver Closed n p → IsOver Closed n q → ((v : List ℤ) → IsPoint n v → In p.cons v ↔ In q.cons v) → p ≡ q
+one_set_of laws n p q a b d e points =
+    one_closed laws p q a b d.same_topology (d.same_topology ∙ sym e.same_topology) (d.same_dim ∙ sym e.same_dim) (λ v is. points v (subst (λ (m : ℕ). IsPoint m v) d.same_dim is))
 
-empty_lists : OneForm → (m k n : ℕ) (xs ys : List Polyhedron) → length xs ≡ length ys → All (IsClosedOver m) xs → All (IsClosedOver k) ys → All (IsEmpty Closed n) xs → All (IsEmpty Closed n) ys → xs ≡ ys
-empty_lists laws m k n [] [] l a b h e = refl
-empty_lists laws m k n [] (y ∷ ys) l a b h e = absurd (omega (arith, l))
-empty_lists laws m k n (x ∷ xs) [] l a b h e = absurd (omega (arith, l))
-empty_lists laws m k n (x ∷ xs) (y ∷ ys) l a b h e =
-    let first : x ≡ y =
-    one_empty_set laws m k n x y (All-head (IsClosedOver m) x xs a) (All-head (IsClosedOver k) y ys b) (All-head (IsEmpty Closed n) x xs h) (All-head (IsEmpty Closed n) y ys e) in
-    let rest : xs ≡ ys =
-    empty_lists laws m k n xs ys (omega (arith, l)) (All-tail (IsClosedOver m) x xs a) (All-tail (IsClosedOver k) y ys b) (All-tail (IsEmpty Closed n) x xs h) (All-tail (IsEmpty Closed n) y ys e) in
-    ap (λ (z : Polyhedron). z ∷ xs) first ∙ ap (λ (zs : List Polyhedron). y ∷ zs) rest
+pub one_empty_set : OneForm → (n : ℕ) (p q : Polyhedron) → IsKept p → IsKept q → IsEmpty Closed n p → IsEmpty Closed n q → p ≡ q
+one_empty_set laws n p q a b h k = one_set_of laws n p q a b h.over k.over (λ v is. (λ x. none p h v is x, λ y. none q k v is y))
+  where
+    none : {A : Type 0} (r : Polyhedron) → IsEmpty Closed n r → (v : List ℤ) → IsPoint n v → In r.cons v → A
+    none r e v is x = absurd (e.points v (record { point = subst (λ (m : ℕ). IsPoint m v) (sym e.over.same_dim) is; holds = x }))
+
+-- lists of sets that are told by a property
+pub one_list : (m k : ℕ) (Is : Polyhedron → Type 0) (xs ys : List Polyhedron) → ((p q : Polyhedron) → IsKept p → IsKept q → Is p → Is q → p ≡ q) → length xs ≡ length ys → All (IsClosedOver m) xs → All (IsClosedOver k) ys → All Is xs → All Is ys → xs ≡ ys
+one_list m k Is xs ys one l a b h e = same_lists xs ys l at
+  where
+    at : (i : ℕ) (d : Polyhedron) → i < length xs → get_or xs i d ≡ get_or ys i d
+    at i d below = let other : i < length ys = omega (arith, below, l) in one (get_or xs i d) (get_or ys i d) (a i d below).kept (b i d other).kept (h i d below) (e i d other)
 
 pub one_empty_system : OneForm → (n locations : ℕ) (s t : TransitionSystem) → IsMadeAs entry.System (IsEmptySystem n locations) s → IsMadeAs entry.System (IsEmptySystem n locations) t → s ≡ t
 one_empty_system laws n locations s t h k =
-    same_systems s t (h.is.dim ∙ sym k.is.dim) (empty_lists laws s.dim t.dim n s.initial t.initial (h.is.as_many ∙ sym k.is.as_many) h.kept.initial k.kept.initial h.is.initial k.is.initial) (h.is.transitions ∙ sym k.is.transitions)
+    same_systems s t (h.is.dim ∙ sym k.is.dim) (one_list s.dim t.dim (IsEmpty Closed n) s.initial t.initial (one_empty_set laws n) (h.is.as_many ∙ sym k.is.as_many) h.kept.initial k.kept.initial h.is.initial k.is.initial) (h.is.transitions ∙ sym k.is.transitions)
 
 -- ---- and changed
 pub one_changed : {A : Type 0} (kind : A → Entry) (Was WasPart : Entry → Type 0) (changed : A → Polyhedron → A) (s t : A) → ((x y : A) → Was (kind x) → Was (kind y) → x ≡ y) →
