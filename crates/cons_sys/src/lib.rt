@@ -12,6 +12,3 @@ mod system;
 pub use kind::ConKind;
 pub use laws::{one_answer, same_points};
 pub use system::{ConsSys, Iter};
-
-#[cfg(test)]
-mod tests;

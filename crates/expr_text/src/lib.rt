@@ -30,8 +30,3 @@ pub use read_laws::one_answer;
 pub use read_texts::{read_con, read_cons, read_expr, read_frac, read_point};
 pub use reply_text::{Fault, ReadErr, Text, print_fault, print_overflow};
 pub use term_text::{Frac, OneCon};
-
-#[cfg(test)]
-mod print_tests;
-#[cfg(test)]
-mod read_tests;

@@ -12,6 +12,3 @@ mod system;
 pub use kind::{GenKind, GenPushErr};
 pub use laws::same_points;
 pub use system::{GensSys, Iter};
-
-#[cfg(test)]
-mod tests;

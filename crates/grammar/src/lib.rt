@@ -25,6 +25,3 @@ pub use machine::Machine;
 pub use re::Re;
 pub use rule::Rule;
 pub use verdict::Verdict;
-
-#[cfg(test)]
-mod tests;

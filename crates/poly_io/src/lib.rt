@@ -17,6 +17,3 @@ pub use memory_sources::{MemSource, SafeSource};
 pub use reading::{ReadAns, Source};
 pub use whole::{ROOM, ReadAllErr, WriteAllErr, read_all, write_all};
 pub use writing::{Sink, WriteAns};
-
-#[cfg(test)]
-mod tests;

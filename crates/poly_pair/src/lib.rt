@@ -31,6 +31,3 @@ pub use making::has_point_kind;
 pub use poly::Poly;
 pub use spanning::spanning_generators;
 pub use topology::{MAX_DIM, Topology};
-
-#[cfg(test)]
-mod tests;

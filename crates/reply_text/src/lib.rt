@@ -13,6 +13,3 @@ mod printing;
 pub use bytes::Text;
 pub use faults::{Fault, ReadErr};
 pub use printing::{print_fault, print_overflow};
-
-#[cfg(test)]
-mod tests;

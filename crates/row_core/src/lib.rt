@@ -34,6 +34,3 @@ pub use marked::{Iter, MarkedRows};
 pub use narrow::{all_narrow, narrow_dot};
 pub use primitive::{gcd, make_primitive};
 pub use signs::negate;
-
-#[cfg(test)]
-mod tests;

@@ -214,6 +214,3 @@ impl RowStore {
         self.count = count;
     }
 }
-
-#[cfg(test)]
-mod tests;

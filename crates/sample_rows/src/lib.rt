@@ -7,6 +7,3 @@ mod draws;
 mod samples;
 
 pub use samples::sample_constraints;
-
-#[cfg(test)]
-mod tests;

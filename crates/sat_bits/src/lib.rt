@@ -8,6 +8,3 @@ mod places;
 pub use counts::{count, count_and};
 pub use kernels::{and_into, is_subset_of_and};
 pub use places::{get, is_subset, set, with_bit};
-
-#[cfg(test)]
-mod tests;

@@ -277,6 +277,3 @@ impl Clone for SatMatrix {
         })
     }
 }
-
-#[cfg(test)]
-mod tests;

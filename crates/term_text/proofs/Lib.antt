@@ -9,4 +9,3 @@ pub mod ListLaws
 pub mod SaysLaws
 pub mod Stored
 pub mod Unique
-pub mod NamedForms

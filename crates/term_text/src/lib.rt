@@ -12,8 +12,6 @@ mod laws;
 mod rows;
 mod scan;
 mod terms;
-#[cfg(test)]
-mod tests;
 mod texts;
 
 pub use cons::{OneCon, con_of, cons_of};

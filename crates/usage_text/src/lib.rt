@@ -34,6 +34,3 @@ fn command(alloc: Global) -> Result<Command<'static>, AllocError> {
             "Convert the sample of N rows and write its sizes",
         ))
 }
-
-#[cfg(test)]
-mod tests;

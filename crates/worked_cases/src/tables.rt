@@ -1,4 +1,5 @@
-use super::*;
+//! Tables of truth values.
+use sat_matrix::SatMatrix;
 use std::test::Fail;
 
 #[test]

@@ -1,4 +1,5 @@
-use super::*;
+//! Constraint systems.
+use cons_sys::{ConKind, ConsSys};
 use row_core::{OverKind, PairOver};
 use std::test::Fail;
 

@@ -1,4 +1,5 @@
-use crate::{
+//! Forms of text, by the recognizer and by the tables.
+use grammar::{
     BLANKS, Re, Rule, Verdict, column_of, con_column, cons_column, expr_column, frac_column,
     gens_column, point_column,
 };

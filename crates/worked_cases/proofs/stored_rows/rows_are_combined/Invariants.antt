@@ -1,4 +1,4 @@
-use Rattle.row_store.proofs.store.tests.rows_are_combined.Given as goal
+use Rattle.worked_cases.proofs.stored_rows.rows_are_combined.Given as goal
 
 abbrev pub ghosts-check_combinations : goal.ghosts-check_combinations
 ghosts-check_combinations g a = record { name = a.blank.name; parts = a.blank.parts }

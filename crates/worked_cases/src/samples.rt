@@ -1,6 +1,6 @@
 //! The first rows of a sample.
 
-use crate::samples::sample_constraints;
+use sample_rows::sample_constraints;
 
 #[test]
 fn first_row(rt: HostRuntime) {

@@ -1,15 +1,18 @@
+//! Rows in one buffer.
 ghost use Rattle.std.specs.Prelude.{◌≡◌, ◌<◌, length, IfOk};
 ghost use Rattle.row_core.specs.Flat.{Flat};
 
-use super::*;
+use row_core::{Memory, Steps};
+use row_store::RowStore;
+use std::alloc::Global;
 use std::marker::Brand;
 use std::process::Abort;
-use std::sync::ledger::Blank;
+use std::sync::ledger::{Blank, Ledger};
 use std::test::Fail;
 
 const K: i128 = i128::MAX;
 
-// The rows (2, 4) and (-3, 5), with room for one more.
+/// The rows (2, 4) and (-3, 5), with room for one more.
 fn two_rows(alloc: Global) -> Result<RowStore, Memory>
     ensures count { IfOk result (λ store. length store.rows ≡ 2) }
     ensures width { IfOk result (λ store. store.width ≡ 2) }

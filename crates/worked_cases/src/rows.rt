@@ -1,6 +1,9 @@
+//! Rows of exact integers.
 ghost use Rattle.std.specs.Prelude.{◌≡◌, ◌<◌};
 
-use super::*;
+use row_core::{
+    MarkedRows, RowBuf, RowList, Steps, combine_into, combine_onto, dot, gcd, make_primitive,
+};
 use std::marker::Brand;
 use std::process::Abort;
 use std::sync::ledger::{Blank, Ledger};

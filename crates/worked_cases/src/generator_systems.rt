@@ -1,4 +1,5 @@
-use super::*;
+//! Generator systems.
+use gens_sys::{GenKind, GenPushErr, GensSys};
 use std::test::Fail;
 
 #[test]

@@ -1,6 +1,7 @@
+//! Rows of bits.
 ghost use Rattle.std.specs.Prelude.{◌≡◌, ◌<◌, ◌≤◌, length};
 
-use super::*;
+use sat_bits::{and_into, count, count_and, get, is_subset, is_subset_of_and, set};
 use std::process::Abort;
 
 const ALL: [u64; 17] = [u64::MAX; 17];

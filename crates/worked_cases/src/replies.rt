@@ -1,4 +1,5 @@
-use super::*;
+//! Texts, printed faults and overflows.
+use reply_text::{Fault, Text, print_fault, print_overflow};
 use row_core::{OverKind, Overflow, RowBuf};
 use std::test::Fail;
 

@@ -1,4 +1,8 @@
-use super::*;
+//! Readers as sources and writers as sinks.
+use poly_io::{
+    ReadAllErr, ReadAns, SafeSink, SafeSource, Sink, Source, StdSink, StdSource, WriteAns,
+    read_all, write_all,
+};
 use std::io;
 use std::io::{Read, Write};
 use std::test::Fail;

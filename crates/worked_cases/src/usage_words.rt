@@ -1,6 +1,6 @@
 //! The words in the usage text.
 
-use crate::usage;
+use usage_text::usage;
 
 #[test]
 fn names_the_words(rt: HostRuntime) {
