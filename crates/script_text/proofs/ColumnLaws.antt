@@ -43,7 +43,7 @@ first_cut false p b w e cut =
       whole = subst (λ (x : List ℕ). b ∷ w ≡ x ++ drop (length x) (b ∷ w)) (sym front) refl;
     }
 
-cut_of : (p : ℕ → Bool) (w : List ℕ) → IsCut p w
+pub cut_of : (p : ℕ → Bool) (w : List ℕ) → IsCut p w
 cut_of p [] = record { each = tt; stops = tt; whole = refl }
 cut_of p (b ∷ w) = first_cut (p b) p b w refl (cut_of p w)
 
@@ -61,7 +61,7 @@ one_blank b e =
 more_blanks : (b : ℕ) (u : List ℕ) → is_blank b ≡ true → Matches blanks u → Matches blanks (b ∷ u)
 more_blanks b u e (n, times) = (suc n, (b ∷ [], u, refl, one_blank b e, times))
 
-blanks_of : (u : List ℕ) → Each is_blank u → Matches blanks u
+pub blanks_of : (u : List ℕ) → Each is_blank u → Matches blanks u
 blanks_of [] h = (0, refl)
 blanks_of (b ∷ u) h = more_blanks b u h.0 (blanks_of u h.1)
 
@@ -98,10 +98,10 @@ line_begins shape b p blank (rest, m) =
     let whole : ((b ++ shape.command) ++ p) ++ rest ≡ b ++ (shape.command ++ (p ++ rest)) = simp append_assoc in
     (rest, (b, shape.command ++ (p ++ rest), whole, blank, (shape.command, p ++ rest, refl, refl, m)))
 
-some_begins : (f : Form) → lives f ≡ true → Begins f []
+pub some_begins : (f : Form) → lives f ≡ true → Begins f []
 some_begins f alive = begins_from_rows f [] ((f ∷ []) ∷ []) (means_start f alive) (λ (e : (f ∷ []) ∷ [] ≡ []). cc)
 
-stops_take : (p : ℕ → Bool) (w : List ℕ) (j : ℕ) (more : List ℕ) → suc j ≤ length w → Stops p w → Stops p (take (suc j) w ++ more)
+pub stops_take : (p : ℕ → Bool) (w : List ℕ) (j : ℕ) (more : List ℕ) → suc j ≤ length w → Stops p w → Stops p (take (suc j) w ++ more)
 stops_take p [] j more h s = absurd (omega arith)
 stops_take p (b ∷ w) j more h s = s
 
@@ -182,7 +182,7 @@ column_at row shape is w at (suc j) column =
       ];
     }
 
-alive_row : (row : Row) → lives (rest_form (shape_of row)) ≡ true
+pub alive_row : (row : Row) → lives (rest_form (shape_of row)) ≡ true
 unfolding expr vexpr frac vfrac con cons point gen gens
 alive_row Nothing = refl
 alive_row (NameAndPart name_and_part.Add) = refl

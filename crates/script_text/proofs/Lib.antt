@@ -18,6 +18,7 @@ mod NothingTable
 mod NumberLemmas
 mod OneNameTable
 mod OptimumTable
+mod OtherWord
 mod PartLemmas
 mod PrintTable
 mod RelationTable

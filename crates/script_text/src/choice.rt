@@ -1,22 +1,22 @@
 //! The row of a line.
-ghost use Rattle.std.specs.Prelude.{◌≡◌, IfOk, IfSome, MatchResult, Contains, map};
-ghost use Rattle.grammar.specs.Form.{Matches, IsColumnOfAny};
-ghost use Rattle.grammar.specs.Verdict.{IsVerdict};
-ghost use Rattle.script_text.specs.Rows.{row_form, rows, command_word, IsCommandWord};
-ghost use Rattle.script_text.specs.Words.{word_of, behind_word};
+ghost use Rattle.std.specs.Prelude.{◌≡◌, MatchOption, MatchResult, eqb, map};
+ghost use Rattle.std.specs.List.{common_prefix_len};
+ghost use Rattle.grammar.specs.Form.{Matches, IsColumn, IsColumnOfAny};
+ghost use Rattle.script_text.specs.Rows.{nothing_form, row_form, rows, command_word, IsCommandWord};
+ghost use Rattle.script_text.specs.Words.{past_blanks, word_of, behind_word};
+ghost use Rattle.script_text.specs.declared.row.Row.{Row as AnyRow};
 
 use crate::command::{
     Comparison, Extension, Extremum, LocationPart, Mapping, Operator, PowersetOperator,
     ShapeOperator, Space,
 };
-use crate::forms::{NOTHING, rest_of};
 use crate::row::{
     NameAndPart, NameFormat, NameNumberName, NameNumberPrefix, OneName, Row, SpaceAndPart,
     ThreeNames, TwoNames, TwoNamesNumber,
 };
 use crate::shapes::{nothing_verdict, rest_verdict};
-use grammar::{BLANKS, Re, Verdict, column_of};
-use std::alloc::{AllocError, Global};
+use crate::words::past_blanks;
+use grammar::Verdict;
 
 const ROWS: [Row; 56] = [
     Row::Nothing,
@@ -79,7 +79,7 @@ const ROWS: [Row; 56] = [
 
 /// The row that the command word names.
 fn named(word: &[u8]) -> Option<Row>
-    ensures { IfSome result (λ row. IsCommandWord row word.now) }
+    ensures { MatchOption result ((row : AnyRow) → ¬ (IsCommandWord row word.now)) (λ row. IsCommandWord row word.now) }
 {
     match word {
         b"cons" => Some(Row::SpaceAndPart(SpaceAndPart::Cons)),
@@ -205,33 +205,42 @@ fn command_word(row: Row) -> &'static [u8]
     }
 }
 
-/// Whether the line is one of the row's.
-fn line_verdict(alloc: Global, row: Row, line: &[u8]) -> Result<Verdict, AllocError>
-    ensures { IfOk result (IsVerdict (row_form row) line.now) }
+/// How many bytes stand at the front of both texts.
+fn common_len(text: &[u8], word: &[u8]) -> usize
+    ensures { result ≡ common_prefix_len eqb text.now word.now }
+{
+    let mut count = 0;
+    while count < text.len() && count < word.len() && text[count] == word[count] {
+        count += 1;
+    }
+    count
+}
+
+/// The column of the fault over the row, where the line begins with another word.
+fn column_of_row(row: Row, line: &[u8], text: &[u8], blank_column: usize) -> usize
+    requires text { text.now ≡ past_blanks line.now }
+    requires other { ¬ (IsCommandWord row (word_of line.now)) }
+    requires written { IsColumn nothing_form line.now blank_column }
+    ensures { IsColumn (row_form row) line.now result }
 {
     match row {
-        Row::Nothing => column_of(alloc, &NOTHING, line),
-        _ => {
-            let word = Re::Word(command_word(row));
-            let rest = rest_of(row);
-            let behind = Re::Then(&word, &rest);
-            column_of(alloc, &Re::Then(&BLANKS, &behind), line)
-        }
+        Row::Nothing => blank_column,
+        _ => line.len() - text.len() + common_len(text, command_word(row)) + 1,
     }
 }
 
-/// A row whose form the line has, and else the column of the fault over all rows.
-fn by_trying(alloc: Global, rows: &[Row], line: &[u8]) -> Result<Result<Row, usize>, AllocError>
-    ensures { IfOk result (λ r. MatchResult r (λ row. Matches (row_form row) line.now) (IsColumnOfAny (map row_form rows.now) line.now)) }
+/// The column of the fault over all rows, where no command's word begins the line.
+fn column_of_rows(rows: &[Row], line: &[u8], text: &[u8], blank_column: usize) -> usize
+    requires text { text.now ≡ past_blanks line.now }
+    requires other { (row : AnyRow) → ¬ (IsCommandWord row (word_of line.now)) }
+    requires written { IsColumn nothing_form line.now blank_column }
+    ensures { IsColumnOfAny (map row_form rows.now) line.now result }
 {
     let mut column = 0;
     for row in rows {
-        match line_verdict(alloc, *row, line)? {
-            Verdict::Accepted => return Ok(Ok(*row)),
-            Verdict::RefusedAt(fault) => column = column.max(fault),
-        }
+        column = column.max(column_of_row(*row, line, text, blank_column));
     }
-    Ok(Err(column))
+    column
 }
 
 /// The row whose word begins the line if the line is one of its lines, and else the column of the fault
@@ -249,23 +258,16 @@ fn by_word(row: Row, line: &[u8], rest: &[u8]) -> Result<Row, usize>
 
 /// The row whose form the line has, from its first word and what stands behind that, and else the column
 /// of the fault over all rows.
-///
-/// The recognizer is asked only where no command's word begins the line.
-pub fn row_of(
-    alloc: Global,
-    line: &[u8],
-    word: &[u8],
-    rest: &[u8],
-) -> Result<Result<Row, usize>, AllocError>
+pub fn row_of(line: &[u8], word: &[u8], rest: &[u8]) -> Result<Row, usize>
     requires word { word.now ≡ word_of line.now }
     requires behind { rest.now ≡ behind_word line.now }
-    ensures { IfOk result (λ r. MatchResult r (λ row. Matches (row_form row) line.now) (IsColumnOfAny (map row_form rows) line.now)) }
+    ensures { MatchResult result (λ row. Matches (row_form row) line.now) (IsColumnOfAny (map row_form rows) line.now) }
 {
     if let Some(row) = named(word) {
-        return Ok(by_word(row, line, rest));
+        return by_word(row, line, rest);
     }
     match nothing_verdict(line) {
-        Verdict::Accepted => Ok(Ok(Row::Nothing)),
-        Verdict::RefusedAt(_) => by_trying(alloc, &ROWS, line),
+        Verdict::Accepted => Ok(Row::Nothing),
+        Verdict::RefusedAt(column) => Err(column_of_rows(&ROWS, line, past_blanks(line), column)),
     }
 }

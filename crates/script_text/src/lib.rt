@@ -10,7 +10,6 @@
 
 mod choice;
 mod command;
-mod forms;
 mod laws;
 mod making;
 mod read;

@@ -27,7 +27,7 @@ pub fn read_command(alloc: Global, line: &[u8]) -> Result<Command, ReadErr>
         return Err(ReadErr::Input(Fault::LineTooLong));
     }
     let (word, rest) = split_word(line);
-    match row_of(alloc, line, word, rest)? {
+    match row_of(line, word, rest) {
         Ok(row) => command_of(alloc, row, rest),
         Err(column) => Err(ReadErr::Input(Fault::Syntax(column as u64))),
     }

@@ -38,7 +38,7 @@ fn word_len(text: &[u8]) -> usize
 }
 
 /// The text without the blanks in front.
-fn past_blanks(text: &[u8]) -> &[u8]
+pub fn past_blanks(text: &[u8]) -> &[u8]
     ensures { result.now ≡ past_blanks text.now }
 {
     &text[blanks_in_front(text)..]

@@ -23,5 +23,5 @@ answer line rest row (Err e) short form behind is = (subst (IsUnread line) (sym 
 
 pub returns-in-Ok : goal.returns-in-Ok
 returns-in-Ok c =
-    let a = answer c.args.line.now c.split_word.result.1.now c.in-Ok.row c.command_of.result c.if-line-gt-MAX_LINE.false (rw c.in-Ok.is at c.in_ok-row.ensures) c.split_word.ensures.behind c.command_of.ensures in
+    let a = answer c.args.line.now c.split_word.result.1.now c.in-Ok.row c.command_of.result c.if-line-gt-MAX_LINE.false (rw c.in-Ok.is at c.row_of.ensures) c.split_word.ensures.behind c.command_of.ensures in
     record { command = a.0; parts = a.1; told = a.2 }

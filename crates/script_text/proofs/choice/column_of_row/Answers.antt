@@ -1,0 +1,24 @@
+use Rattle.std.proofs.Common.{rules, ◌≡◌, ◌-◌, ◌≤◌, eqb, length, ap, arith, ◌∙◌}
+use Rattle.std.specs.List.{take_while, common_prefix_len}
+use Rattle.std.proofs.lemmas.List.{length-drop}
+use Rattle.std.proofs.lemmas.List.Sums.{common_prefix_len-le}
+use Rattle.script_text.specs.Words.{is_blank}
+use Rattle.script_text.proofs.OtherWord.{other_column}
+use Rattle.script_text.proofs.choice.column_of_row.Goals as goal
+
+pub overflow_add-result : goal.overflow_add-result
+overflow_add-result c =
+    let most : c.common_len.result ≤ length c.args.text.now = omega (arith, c.common_len.ensures, (common_prefix_len-le eqb c.args.text.now c.command_word.result.now).0) in
+    let cut : length c.args.text.now ≡ length c.args.line.now - length (take_while is_blank c.args.line.now) = ap length c.requires.text ∙ length-drop (length (take_while is_blank c.args.line.now)) c.args.line.now in
+    search rules
+
+pub overflow_add-result-in_default : goal.overflow_add-result-in_default
+overflow_add-result-in_default c =
+    let most : c.common_len.result ≤ length c.args.text.now = omega (arith, c.common_len.ensures, (common_prefix_len-le eqb c.args.text.now c.command_word.result.now).0) in
+    let cut : length c.args.text.now ≡ length c.args.line.now - length (take_while is_blank c.args.line.now) = ap length c.requires.text ∙ length-drop (length (take_while is_blank c.args.line.now)) c.args.line.now in
+    search rules
+
+pub returns-in_default : goal.returns-in_default
+returns-in_default c =
+    other_column c.args.row c.args.line.now c.args.text.now c.common_len.result c.in_default.not-Nothing c.requires.text c.requires.other
+    (c.common_len.ensures ∙ ap (λ w. common_prefix_len eqb c.args.text.now w) c.command_word.ensures)
