@@ -1,12 +1,11 @@
 -- The column of a row's line where another word begins it: the first byte that isn't one of the row's word.
-use Rattle.std.proofs.Common.{◌≡◌, ℕ, ◌+◌, ◌-◌, ◌<◌, ◌≤◌, List, [], ◌∷◌, ◌++◌, Bool, true, false, ◌⊎◌, eqb, zero, suc, length, take, drop, cond, refl, ap, arith, subst, sym, ◌∙◌, append_assoc, inl, inr}
+use Rattle.std.proofs.Common.{◌≡◌, ℕ, ◌+◌, ◌-◌, ◌<◌, ◌≤◌, List, [], ◌∷◌, ◌++◌, Bool, true, false, eqb, suc, length, take, drop, cond, refl, ap, arith, subst, sym, ◌∙◌, append_assoc, inl, inr}
 use Rattle.std.specs.List.{take_while, common_prefix_len}
 use Rattle.std.proofs.lemmas.Bool.{eqb-true, eq-eqb, cases_lt}
 use Rattle.std.proofs.lemmas.List.{length-append, take-append-drop}
 use Rattle.std.proofs.lemmas.List.Sums.{common_prefix_len-le}
 use Rattle.std.proofs.Math.Seq.{take-append-add}
-use Rattle.grammar.specs.Form.{Form, word, Matches, Begins, IsColumn}
-use Rattle.grammar.specs.Grammar.{blanks}
+use Rattle.grammar.specs.Form.{word, Matches, Begins, IsColumn}
 use Rattle.grammar.specs.Derivative.{lives}
 use Rattle.grammar.proofs.Columns.{begins_shorter}
 use Rattle.script_text.specs.Words.{is_blank, is_in_word, past_blanks, word_of}
