@@ -8,6 +8,7 @@ pub mod Denominators
 pub mod LeastSteps
 pub mod Tightness
 pub mod CellPlaces
+pub mod WordLemmas
 pub mod PassLemmas
 pub mod ChoiceLemmas
 pub mod Differences

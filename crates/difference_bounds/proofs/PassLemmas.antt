@@ -253,6 +253,20 @@ module _ (given : Table) (m k : ℕ) (t : Table) (f : AreFractions given.cells) 
               absurd (omega (arith, ints, s, r))
           sign (inr h) = h
 
+-- a row whose bound to k is none stays as it is
+module _ (given : Table) (m k : ℕ) (t : Table) (r : ℕ) (l : k < m) (lr : r < m) (e : bounds_of t r k ≡ None) (p : IsPassing given m k t r 0) where
+  unchanged : (c : ℕ) → IsRelaxed (bounds_of t r c) (bounds_of t r k) (bounds_of t k c) (bounds_of t r c)
+  unchanged c = subst (λ (y : Bound). IsRelaxed (bounds_of t r c) y (bounds_of t k c) (bounds_of t r c)) (sym e) refl
+
+  passed_to : (c : ℕ) → c < m + 1 → IsPassing given m k t r c
+  passed_to zero h = p
+  passed_to (suc c) h =
+      let f : c + 1 ≡ suc c = omega arith in
+      subst (λ (x : ℕ). IsPassing given m k t r x) f (passes_on given m k t t r c (bounds_of t r c) l lr (omega arith) (passed_to c (omega arith)) (unchanged c) (record { here = refl; elsewhere = λ x y lx ly d. refl }))
+
+  pub row_skipped : IsPassing given m k t (r + 1) 0
+  row_skipped = row_passed given m k t r (passed_to m (omega arith))
+
 -- ---- in the code
 pub pass_cell : (given : Table) (m n k : ℕ) (t u : Table) (r c : ℕ) → n ≡ m → k < m → r < m → c < m → IsPassing given m k t r c → IsRelaxed (bounds_of t r c) (bounds_of t r k) (bounds_of t k c) (bounds_of u r c) → ((p q : ℕ) → p < n → q < n → Differs r c p q → bounds_of u p q ≡ bounds_of t p q) → IsPassing given m k u r (c + 1)
 pass_cell given m n k t u r c e l lr lc p h s =

@@ -4,6 +4,7 @@ pub mod Values
 pub mod Tables
 pub mod Overflows
 pub mod Laws
+pub mod Words
 pub mod Passes
 pub mod Combining
 pub mod TableLaws

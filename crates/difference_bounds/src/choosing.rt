@@ -3,11 +3,12 @@ ghost use Rattle.std.specs.Prelude.{◌↔◌, ◌⊎◌, IsTrue, IfSome, IfOk, 
 ghost use Rattle.row_core.specs.Refusals.{IsOverflowIn};
 ghost use Rattle.difference_bounds.specs.Fractions.{IsFraction};
 ghost use Rattle.difference_bounds.specs.Laws.{IsLesser, IsRelaxed, IsGreater, IsCovered};
-ghost use Rattle.difference_bounds.specs.Combining.{IsChosen};
+ghost use Rattle.difference_bounds.specs.Combining.{IsChosen, IsPick};
 ghost use Rattle.difference_bounds.specs.Overflows.{LeavesInLesser, LeavesInBoth, LeavesInRelaxing};
 
 use crate::fraction::Fraction;
 use crate::refusals::{is_below, sum};
+use crate::words::compared;
 use row_core::ConvErr;
 use std::alloc::Global;
 
@@ -100,6 +101,17 @@ pub(crate) fn chosen(
             None => Ok(left),
             Some(fraction) => lesser(alloc, left, fraction),
         },
+    }
+}
+
+/// Whether the second of two bounds is taken, if their words tell.
+#[inline]
+pub(crate) fn picked(choice: Choice, left: i64, right: i64) -> Option<bool>
+    ensures { IsPick choice left right result }
+{
+    match choice {
+        Choice::Lesser => compared(right, left),
+        Choice::Greater => compared(left, right),
     }
 }
 

@@ -9,12 +9,19 @@ ghost use Rattle.difference_bounds.specs.Passes.{IsPassing, HasNegative, HasNoNe
 
 use crate::choosing::relaxed;
 use crate::table::BoundTable;
+use crate::words::{ABSENT, Outcome, fraction_of, step};
 use row_core::ConvErr;
 use std::alloc::Global;
 
 impl BoundTable {
-    /// Lowers the bound of place `i` less place `j` to the sum of those by way of place `k`.
-    fn relax(&mut self, alloc: Global, k: usize, i: usize, j: usize) -> Result<(), ConvErr>
+    /// Lowers the bound of place `i` less place `j` to the sum of those by way of place `k`, as fractions.
+    fn relax_fractions(
+        &mut self,
+        alloc: Global,
+        k: usize,
+        i: usize,
+        j: usize,
+    ) -> Result<(), ConvErr>
         requires way { k < self.old.places }
         requires row { i < self.old.places }
         requires column { j < self.old.places }
@@ -28,6 +35,27 @@ impl BoundTable {
         Ok(())
     }
 
+    /// Lowers the bound of place `i` less place `j` to the sum of those by way of place `k`.
+    #[inline]
+    fn relax(&mut self, alloc: Global, k: usize, i: usize, j: usize) -> Result<(), ConvErr>
+        requires way { k < self.old.places }
+        requires row { i < self.old.places }
+        requires column { j < self.old.places }
+        ensures places { self.new.places ≡ self.old.places }
+        ensures here { OnOk result (IsRelaxed (bounds_of self.old i j) (bounds_of self.old i k) (bounds_of self.old k j) (bounds_of self.new i j)) }
+        ensures elsewhere { OnOk result ((p q : ℕ) → p < self.old.places → q < self.old.places → Differs i j p q → bounds_of self.new p q ≡ bounds_of self.old p q) }
+        ensures overflow { IfErr result (IsOverflowIn (LeavesInRelaxing (bounds_of self.old i j) (bounds_of self.old i k) (bounds_of self.old k j))) }
+    {
+        match step(self.word(i, j), self.word(i, k), self.word(k, j)) {
+            Outcome::Stays => Ok(()),
+            Outcome::Falls(number) => {
+                self.set(i, j, Some(fraction_of(number)));
+                Ok(())
+            }
+            Outcome::Unknown => self.relax_fractions(alloc, k, i, j),
+        }
+    }
+
     /// Lowers the bounds of place `i` less each place by way of place `k`.
     fn relax_row(&mut self, alloc: Global, k: usize, i: usize) -> Result<(), ConvErr>
         requires way { k < self.old.places }
@@ -36,6 +64,9 @@ impl BoundTable {
         ensures passed { OnOk result ((given : Table) → IsPassing given self.old.places k self.old i 0 → IsPassing given self.old.places k self.new (i + 1) 0) }
         ensures overflow { IfErr result (IsOverflowIn (λ over. (given : Table) → IsPassing given self.old.places k self.old i 0 → LeavesInClosing (bounds_of given) self.old.places over)) }
     {
+        if self.word(i, k) == ABSENT {
+            return Ok(());
+        }
         for j in 0..self.places() {
             self.relax(alloc, k, i, j)?;
         }

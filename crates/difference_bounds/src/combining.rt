@@ -1,17 +1,18 @@
 //! Two tables of bounds for the same places.
-ghost use Rattle.std.specs.Prelude.{◌≡◌, ◌+◌, ℕ, ◌<◌, ◌↔◌, IsTrue, IfOk, IfErr, OnOk};
+ghost use Rattle.std.specs.Prelude.{◌≡◌, ◌⊎◌, ◌+◌, ℕ, ◌<◌, ◌↔◌, IsTrue, IfOk, IfErr, OnOk};
 ghost use Rattle.row_core.specs.Refusals.{IsOverflowIn};
 ghost use Rattle.difference_bounds.specs.Fractions.{IsFraction};
 ghost use Rattle.difference_bounds.specs.Walks.{Bounds};
 ghost use Rattle.difference_bounds.specs.Values.{MeetBoth};
 ghost use Rattle.difference_bounds.specs.Tables.{bounds_of, Differs, HasZeros};
 ghost use Rattle.difference_bounds.specs.Laws.{IsLesser, IsCovered};
-ghost use Rattle.difference_bounds.specs.Overflows.{LeavesInLesser};
-ghost use Rattle.difference_bounds.specs.Combining.{IsChoosing, AreChosen, AreLesser, AreGreater, AreCovered, LeavesInGiven};
+ghost use Rattle.difference_bounds.specs.Overflows.{LeavesInLesser, LeavesInBoth};
+ghost use Rattle.difference_bounds.specs.Combining.{IsChosen, IsChoosing, AreChosen, AreLesser, AreGreater, AreCovered, LeavesInGiven};
 
-use crate::choosing::{Choice, chosen, covers, lesser};
+use crate::choosing::{Choice, chosen, covers, lesser, picked};
 use crate::fraction::Fraction;
 use crate::table::BoundTable;
+use crate::words::compared;
 use row_core::ConvErr;
 use std::alloc::Global;
 
@@ -37,6 +38,56 @@ impl BoundTable {
         Ok(())
     }
 
+    /// Takes in the bound of place `i` less place `j` of another table, as a fraction.
+    fn combine_fractions(
+        &mut self,
+        alloc: Global,
+        choice: Choice,
+        other: &BoundTable,
+        i: usize,
+        j: usize,
+    ) -> Result<(), ConvErr>
+        requires same { other.now.places ≡ self.old.places }
+        requires row { i < self.old.places }
+        requires column { j < self.old.places }
+        ensures places { self.new.places ≡ self.old.places }
+        ensures here { OnOk result (IsChosen choice (bounds_of self.old i j) (bounds_of other.now i j) (bounds_of self.new i j)) }
+        ensures elsewhere { OnOk result ((p q : ℕ) → p < self.old.places → q < self.old.places → Differs i j p q → bounds_of self.new p q ≡ bounds_of self.old p q) }
+        ensures overflow { IfErr result (IsOverflowIn (λ over. LeavesInBoth (bounds_of self.old i j) (bounds_of other.now i j) over ⊎ LeavesInBoth (bounds_of other.now i j) (bounds_of self.old i j) over)) }
+    {
+        let bound = chosen(alloc, choice, self.get(i, j), other.get(i, j))?;
+        self.set(i, j, bound);
+        Ok(())
+    }
+
+    /// Takes in the bound of place `i` less place `j` of another table.
+    #[inline]
+    fn combine_at(
+        &mut self,
+        alloc: Global,
+        choice: Choice,
+        other: &BoundTable,
+        i: usize,
+        j: usize,
+    ) -> Result<(), ConvErr>
+        requires same { other.now.places ≡ self.old.places }
+        requires row { i < self.old.places }
+        requires column { j < self.old.places }
+        ensures places { self.new.places ≡ self.old.places }
+        ensures here { OnOk result (IsChosen choice (bounds_of self.old i j) (bounds_of other.now i j) (bounds_of self.new i j)) }
+        ensures elsewhere { OnOk result ((p q : ℕ) → p < self.old.places → q < self.old.places → Differs i j p q → bounds_of self.new p q ≡ bounds_of self.old p q) }
+        ensures overflow { IfErr result (IsOverflowIn (λ over. LeavesInBoth (bounds_of self.old i j) (bounds_of other.now i j) over ⊎ LeavesInBoth (bounds_of other.now i j) (bounds_of self.old i j) over)) }
+    {
+        match picked(choice, self.word(i, j), other.word(i, j)) {
+            Some(true) => {
+                self.set(i, j, other.get(i, j));
+                Ok(())
+            }
+            Some(false) => Ok(()),
+            None => self.combine_fractions(alloc, choice, other, i, j),
+        }
+    }
+
     /// Takes in the bounds of place `i` less each place of another table.
     fn combine_row(
         &mut self,
@@ -52,8 +103,7 @@ impl BoundTable {
         ensures overflow { IfErr result (IsOverflowIn (λ over. (old : Bounds) → IsChoosing choice old (bounds_of other.now) (bounds_of self.old) self.old.places i 0 → LeavesInGiven old (bounds_of other.now) self.old.places over)) }
     {
         for j in 0..self.places() {
-            let bound = chosen(alloc, choice, self.get(i, j), other.get(i, j))?;
-            self.set(i, j, bound);
+            self.combine_at(alloc, choice, other, i, j)?;
         }
         Ok(())
     }
@@ -95,6 +145,21 @@ impl BoundTable {
         self.combine(alloc, Choice::Greater, other)
     }
 
+    /// Whether the bound of place `i` less place `j` of another table is at most that of this one.
+    #[inline]
+    fn covers_at(&self, alloc: Global, other: &BoundTable, i: usize, j: usize) -> Result<bool, ConvErr>
+        requires same { other.now.places ≡ self.now.places }
+        requires row { i < self.now.places }
+        requires column { j < self.now.places }
+        ensures covers { IfOk result (λ r. IsTrue r ↔ IsCovered (bounds_of self.now i j) (bounds_of other.now i j)) }
+        ensures overflow { IfErr result (IsOverflowIn (LeavesInBoth (bounds_of self.now i j) (bounds_of other.now i j))) }
+    {
+        match compared(self.word(i, j), other.word(i, j)) {
+            Some(below) => Ok(!below),
+            None => covers(alloc, self.get(i, j), other.get(i, j)),
+        }
+    }
+
     /// Whether the bounds of place `i` less each place of another table are at most those of this one.
     fn covers_row(&self, alloc: Global, other: &BoundTable, i: usize) -> Result<bool, ConvErr>
         requires same { other.now.places ≡ self.now.places }
@@ -103,7 +168,7 @@ impl BoundTable {
         ensures overflow { IfErr result (IsOverflowIn (LeavesInGiven (bounds_of self.now) (bounds_of other.now) self.now.places)) }
     {
         for j in 0..self.places() {
-            if !covers(alloc, self.get(i, j), other.get(i, j))? {
+            if !self.covers_at(alloc, other, i, j)? {
                 return Ok(false);
             }
         }

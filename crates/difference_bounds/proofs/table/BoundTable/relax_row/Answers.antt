@@ -1,12 +1,21 @@
-use Rattle.std.specs.Prelude.{◌≡◌, ℕ, ◌<◌}
+use Rattle.std.specs.Prelude.{◌≡◌, ℕ, ◌<◌, None}
+use Rattle.std.specs.Int.{w64}
+use mir.Val.{SFits}
 use Rattle.std.proofs.Common.{arith, rules, ◌∙◌, subst}
 use Rattle.row_core.specs.Refusals.{IsOverflowIn}
 use Rattle.row_core.proofs.RefusalLemmas.{overflow_weaker}
 use Rattle.difference_bounds.specs.Tables.{Table, bounds_of}
 use Rattle.difference_bounds.specs.Overflows.{LeavesInRelaxing, LeavesInClosing}
 use Rattle.difference_bounds.specs.Passes.{IsPassing}
-use Rattle.difference_bounds.proofs.PassLemmas.{pass_cell, passing_leaves, row_passed}
+use Rattle.difference_bounds.proofs.PassLemmas.{pass_cell, passing_leaves, row_passed, row_skipped}
+use Rattle.difference_bounds.proofs.WordLemmas.{none_of, absent_word}
 use Rattle.difference_bounds.proofs.table.BoundTable.relax_row.Goals as goal
+
+pub returns-then-word-eq-ABSENT-clause-passed : goal.returns-then-word-eq-ABSENT-clause-passed
+returns-then-word-eq-ABSENT-clause-passed c =
+    let fits : SFits w64 c.word.result = search rules in
+    let none : bounds_of c.args.self.now c.args.i c.args.k ≡ None = none_of (bounds_of c.args.self.now c.args.i c.args.k) c.word.result c.word.ensures.word (absent_word c.word.result fits c.if-word-eq-ABSENT.true) in
+    λ given p. row_skipped given c.args.self.now.places c.args.k c.args.self.now c.args.i c.requires.way c.requires.row none p
 
 pub returns-in_err-relax-clause-overflow : goal.returns-in_err-relax-clause-overflow
 returns-in_err-relax-clause-overflow c =

@@ -1,0 +1,29 @@
+use Rattle.std.specs.Prelude.{◌≡◌, Bool, true, false, Some}
+use Rattle.std.specs.Int.{w64}
+use Rattle.std.proofs.Common.{rules, sym, subst, ◌∙◌}
+use Rattle.std.proofs.lemmas.Int.{to_z-of_z}
+use mir.Val.{SFits}
+use Rattle.difference_bounds.specs.Tables.{bounds_of}
+use Rattle.difference_bounds.specs.Combining.{IsChosen, PicksAs}
+use Rattle.difference_bounds.proofs.table.BoundTable.combine_at.Goals as goal
+
+pub returns-in-Some-true-clause-here : goal.returns-in-Some-true-clause-here
+returns-in-Some-true-clause-here c =
+    let first : SFits w64 c.word.result = search rules in
+    let second : SFits w64 c.word-2.result = search rules in
+    let picks = simp to_z-of_z at c.in-Some-true.ensures in
+    let left = bounds_of c.args.self.now c.args.i c.args.j in
+    let right = bounds_of c.args.other.now c.args.i c.args.j in
+    let known : c.in-Some-true.field-0 ≡ true = search rules in
+    let taken : IsChosen c.args.choice left right right = subst (λ (r : Bool). PicksAs c.args.choice left right (Some r)) known (picks left right c.word.ensures.word c.word-2.ensures.word) in
+    subst (IsChosen c.args.choice left right) (sym (c.set.ensures.here ∙ c.get.ensures.value)) taken
+
+pub returns-in-Some-false-clause-here : goal.returns-in-Some-false-clause-here
+returns-in-Some-false-clause-here c =
+    let first : SFits w64 c.word.result = search rules in
+    let second : SFits w64 c.word-2.result = search rules in
+    let picks = simp to_z-of_z at c.in-Some-false.ensures in
+    let left = bounds_of c.args.self.now c.args.i c.args.j in
+    let right = bounds_of c.args.other.now c.args.i c.args.j in
+    let known : c.in-Some-false.field-0 ≡ false = search rules in
+    subst (λ (r : Bool). PicksAs c.args.choice left right (Some r)) known (picks left right c.word.ensures.word c.word-2.ensures.word)
