@@ -14,10 +14,10 @@ use Rattle.difference_bounds.specs.Tables.{Table, IsTable, bounds_of}
 use Rattle.difference_bounds.specs.Laws.{IsCovered}
 use Rattle.difference_bounds.proofs.PassLemmas.{bound_fraction}
 use Rattle.difference_bounds.proofs.ChoiceLemmas.{not_below_most}
-use Rattle.bd_shape.specs.Shapes.{Region, IsIn, IsShape, IsTightTable, Includes, place_value}
-use Rattle.bd_shape.specs.Laws.{IsGreatestAt, BoundsAreGreatest, HasOneShape, ReturnsShape, IncludesPolyhedron}
+use Rattle.bd_shape.specs.Shapes.{Region, IsIn, IsInBounds, IsShape, IsTightTable, Includes, place_value}
+use Rattle.bd_shape.specs.Laws.{IsGreatestAt, BoundsAreGreatest, EmptyWithoutPoints, HasOneShape, ReturnsShape, IncludesPolyhedron}
 use Rattle.bd_shape.proofs.PointValues.{point_of, point_is, point_meets, difference_is, divisor_is}
-use Rattle.bd_shape.proofs.ShapePoints.{table_of, within_of, is_in_of, includes_covers, empty_contains}
+use Rattle.bd_shape.proofs.ShapePoints.{table_of, within_of, is_in_of, includes_covers, zero_inside, empty_contains}
 use Rattle.bd_shape.proofs.GivenTables.{same_fraction}
 
 -- ---- greatest differences
@@ -45,6 +45,13 @@ module _ (s : Region) (t : Table) (h : IsShape s) (e : s.bounds ≡ Some t) (i j
 
 pub bounds_are_greatest : BoundsAreGreatest
 bounds_are_greatest s t h e i j li lj = greatest_at s t h e i j li lj
+
+pub empty_without_points : EmptyWithoutPoints
+empty_without_points s h = (λ e p k. subst (λ (o : Option Table). IsInBounds o s.dim p) e k.within, λ n. from n s.bounds refl)
+  where
+    from : ((p : List ℤ) → ¬ (IsIn s p)) → (o : Option Table) → s.bounds ≡ o → o ≡ None
+    from n None e = refl
+    from n (Some t) e = let r = zero_inside s t h e in absurd (n r.0 r.1)
 
 -- ---- one shape
 most_both : (x y : ℤ) → x ≤ℤ y → y ≤ℤ x → x ≡ y

@@ -74,7 +74,7 @@ contains_by s t a b r hs ht ea eb ed h = (λ k. to (covered k), λ k. h.1 (subst
     to c p k = is_in_of s a p ea (point_over t.dim s.dim p ed k.point) (meets_over t.dim s.dim (bounds_of a) p ed (covered_meets (bounds_of a) (bounds_of b) (t.dim + 1) (fractions s.dim a (table_of s a hs ea)) (fractions t.dim b (table_of t b ht eb)) c (values_at t.dim p) (within_of t b p eb k)))
 
 -- a shape without points includes none that has one
-zero_inside : (t : Region) (b : Table) → IsShape t → t.bounds ≡ Some b → (p : List ℤ) × IsIn t p
+pub zero_inside : (t : Region) (b : Table) → IsShape t → t.bounds ≡ Some b → (p : List ℤ) × IsIn t p
 zero_inside t b h e = by (bounds_of b 0 0) ((table_of t b h e).tight 0 0 (omega arith) (omega arith))
   where
     of : (v : Values) → Meets (bounds_of b) (t.dim + 1) v → (p : List ℤ) × IsIn t p

@@ -33,6 +33,10 @@ IsGreatestAt s i j (Some f) = IsGreatest s i j f
 abbrev pub BoundsAreGreatest : Type 0
 BoundsAreGreatest = (s : Region) (t : Table) → IsShape s → s.bounds ≡ Some t → (i j : ℕ) → i < s.dim + 1 → j < s.dim + 1 → IsGreatestAt s i j (bounds_of t i j)
 
+-- a shape has no bounds exactly where it has no point
+abbrev pub EmptyWithoutPoints : Type 0
+EmptyWithoutPoints = (s : Region) → IsShape s → (s.bounds ≡ None) ↔ ((p : List ℤ) → ¬ (IsIn s p))
+
 -- two shapes of one dimension with the same points are the same
 abbrev pub HasOneShape : Type 0
 HasOneShape = (s r : Region) → IsShape s → IsShape r → r.dim ≡ s.dim → ((p : List ℤ) → IsIn r p ↔ IsIn s p) → r ≡ s

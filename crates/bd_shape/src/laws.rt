@@ -1,6 +1,6 @@
 //! Laws of rows, bounds and shapes.
 ghost use Rattle.bd_shape.specs.Forms.{RowBounds};
-ghost use Rattle.bd_shape.specs.Laws.{BoundsAreGreatest, HasOneShape, ReturnsShape, IncludesPolyhedron};
+ghost use Rattle.bd_shape.specs.Laws.{BoundsAreGreatest, EmptyWithoutPoints, HasOneShape, ReturnsShape, IncludesPolyhedron};
 
 /// The row of a difference bounds it.
 pub fn row_bounds()
@@ -8,9 +8,10 @@ pub fn row_bounds()
 {}
 
 /// Each bound of a shape is the greatest difference of two places on its points, and none exactly where the
-/// differences have no bound.
+/// differences have no bound. A shape is empty exactly where it has no point.
 pub fn tightness()
-    ensures { BoundsAreGreatest }
+    ensures greatest { BoundsAreGreatest }
+    ensures empty { EmptyWithoutPoints }
 {}
 
 /// A shape is that of its points.

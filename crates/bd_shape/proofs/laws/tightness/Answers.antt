@@ -1,5 +1,5 @@
-use Rattle.bd_shape.proofs.Canonical.{bounds_are_greatest}
+use Rattle.bd_shape.proofs.Canonical.{bounds_are_greatest, empty_without_points}
 use Rattle.bd_shape.proofs.laws.tightness.Goals as goal
 
 pub returns : goal.returns
-returns c = bounds_are_greatest
+returns c = record { greatest = bounds_are_greatest; empty = empty_without_points }
