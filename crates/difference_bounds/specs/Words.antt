@@ -4,7 +4,7 @@ use Rattle.difference_bounds.specs.declared.fraction.Fraction.{Fraction}
 use Rattle.difference_bounds.specs.Fractions.{IsBelow}
 use Rattle.difference_bounds.specs.Walks.{Bound}
 use Rattle.difference_bounds.specs.Tables.{Table, IsTable}
-use Rattle.difference_bounds.specs.Laws.{IsRelaxed}
+use Rattle.difference_bounds.specs.Laws.{IsRelaxed, IsCovered}
 use Rattle.difference_bounds.specs.declared.words.Outcome.{Outcome}
 use Rattle.difference_bounds.specs.declared.words.Outcome.TheVariants.{Stays, Falls, Unknown}
 
@@ -72,3 +72,11 @@ ComparesAs a b (Some false) = ¬ (IsBoundBelow a b)
 -- so for all bounds of the words
 abbrev pub IsComparison : ℤ → ℤ → Option Bool → Type 0
 IsComparison x y r = (a b : Bound) → IsWord a x → IsWord b y → ComparesAs a b r
+
+-- the second bound is at most the first, for all bounds of the words
+abbrev pub IsCoveredWord : ℤ → ℤ → Type 0
+IsCoveredWord x y = (a b : Bound) → IsWord a x → IsWord b y → IsCovered a b
+
+-- so at each place of two lists
+abbrev pub AllCovered : List ℤ → List ℤ → Type 0
+AllCovered xs ys = (q : ℕ) → q < length xs → IsCoveredWord (get_or xs q (pos 0)) (get_or ys q (pos 0))

@@ -80,7 +80,7 @@ impl BoundTable {
     {
         match picked(choice, self.word(i, j), other.word(i, j)) {
             Some(true) => {
-                self.set(i, j, other.get(i, j));
+                self.take(other, i, j);
                 Ok(())
             }
             Some(false) => Ok(()),
@@ -181,6 +181,9 @@ impl BoundTable {
         ensures covers { IfOk result (λ r. IsTrue r ↔ AreCovered (bounds_of self.now) (bounds_of other.now) self.now.places) }
         ensures overflow { IfErr result (IsOverflowIn (LeavesInGiven (bounds_of self.now) (bounds_of other.now) self.now.places)) }
     {
+        if self.covers_words(other) {
+            return Ok(true);
+        }
         for i in 0..self.places() {
             if !self.covers_row(alloc, other, i)? {
                 return Ok(false);

@@ -1,7 +1,7 @@
 //! Bounds as words of 64 bits: the sum of two short whole numbers is one addition, and their comparison one comparison.
-ghost use Rattle.std.specs.Prelude.{◌≡◌, IfSome};
+ghost use Rattle.std.specs.Prelude.{◌≡◌, length, IsTrue, IfSome};
 ghost use Rattle.difference_bounds.specs.Fractions.{IsFraction};
-ghost use Rattle.difference_bounds.specs.Words.{IsShort, IsWord, IsWithinWords, IsStep, IsComparison, whole};
+ghost use Rattle.difference_bounds.specs.Words.{IsShort, IsWord, IsWithinWords, IsStep, IsComparison, AllCovered, whole};
 
 use crate::fraction::Fraction;
 
@@ -92,4 +92,17 @@ pub(crate) fn compared(left: i64, right: i64) -> Option<bool>
         return None;
     }
     Some(left < right)
+}
+
+/// Whether each bound of the second list is known to be at most that of the first, by their words.
+pub(crate) fn all_covered(left: &[i64], right: &[i64]) -> bool
+    requires { length left.now ≡ length right.now }
+    ensures { IsTrue result → AllCovered left.now right.now }
+{
+    for q in 0..left.len() {
+        if left[q] < right[q] || right[q] == OTHER {
+            return false;
+        }
+    }
+    true
 }

@@ -1,6 +1,6 @@
 use Rattle.std.specs.Prelude.{◌≡◌, Bool, true, false, Some}
 use Rattle.std.specs.Int.{w64}
-use Rattle.std.proofs.Common.{rules, sym, subst, ◌∙◌}
+use Rattle.std.proofs.Common.{rules, sym, subst}
 use Rattle.std.proofs.lemmas.Int.{to_z-of_z}
 use mir.Val.{SFits}
 use Rattle.difference_bounds.specs.Tables.{bounds_of}
@@ -16,7 +16,7 @@ returns-in-Some-true-clause-here c =
     let right = bounds_of c.args.other.now c.args.i c.args.j in
     let known : c.in-Some-true.field-0 ≡ true = search rules in
     let taken : IsChosen c.args.choice left right right = subst (λ (r : Bool). PicksAs c.args.choice left right (Some r)) known (picks left right c.word.ensures.word c.word-2.ensures.word) in
-    subst (IsChosen c.args.choice left right) (sym (c.set.ensures.here ∙ c.get.ensures.value)) taken
+    subst (IsChosen c.args.choice left right) (sym c.take.ensures.here) taken
 
 pub returns-in-Some-false-clause-here : goal.returns-in-Some-false-clause-here
 returns-in-Some-false-clause-here c =
