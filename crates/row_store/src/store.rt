@@ -200,6 +200,9 @@ impl RowStore {
         requires to { to < length self.old.rows }
         ensures { self.new ≡ record self.old { rows = slice_set self.old.rows to (entries_at self.old.rows from) } }
     {
+        if from == to {
+            return;
+        }
         let width = self.width;
         let start = from * width;
         self.cells.copy_within(start..start + width, to * width);

@@ -210,54 +210,28 @@ false_seen columns n words new t e rows =
     ∙ ap (λ (u : Table). u.rows ++ replicate u.columns false ∷ []) e
 
 -- ---- a column more
-longer_word : (xs : List ℕ) (k : ℕ) → get_or (xs ++ 0 ∷ []) k 0 ≡ get_or xs k 0
-longer_word [] zero = refl
-longer_word [] (suc k) = refl
-longer_word (x ∷ xs) zero = refl
-longer_word (x ∷ xs) (suc k) = longer_word xs k
+longer_row : (columns : ℕ) (row : List ℕ) → IsPadded columns row → bits_in (columns + 1) row ≡ bits_in columns row ++ false ∷ []
+longer_row columns row padded =
+    map-range_with_len_more (place row) 0 columns columns (omega arith)
+    ∙ ap (λ (b : Bool). bits_in columns row ++ b ∷ []) (padded columns (omega arith))
 
-pub place_longer : (words : List ℕ) (i : ℕ) → place (words ++ 0 ∷ []) i ≡ place words i
-place_longer words i = ap (λ (w : ℕ). bit_in w (i % 64)) (longer_word words (i / 64))
-
-longer_row : (columns : ℕ) (old new : List ℕ) → ((i : ℕ) → place new i ≡ place old i) → IsPadded columns old → bits_in (columns + 1) new ≡ bits_in columns old ++ false ∷ []
-longer_row columns old new same padded =
-    let here : bits_in columns new ≡ bits_in columns old = ext_get_or false (bits_in columns new) (bits_in columns old) (length-bits_in columns new ∙ sym (length-bits_in columns old)) (λ k h. let l : k < columns = omega (arith, h, length-bits_in columns new) in bit_is columns new k l ∙ same k ∙ sym (bit_is columns old k l)) in
-    map-range_with_len_more (place new) 0 columns columns (omega arith)
-    ∙ ap (λ (r : List Bool). r ++ place new columns ∷ []) here
-    ∙ ap (λ (b : Bool). bits_in columns old ++ b ∷ []) (same columns ∙ padded columns (omega arith))
-
--- rows whose places agree with those of padded rows have one column of false more
-pub longer_rows : (columns : ℕ) (f : List ℕ → List ℕ) (rows : List (List ℕ)) → ((row : List ℕ) (i : ℕ) → place (f row) i ≡ place row i) → All (IsPadded columns) rows → map (bits_in (columns + 1)) (map f rows) ≡ map (λ (row : List Bool). row ++ false ∷ []) (map (bits_in columns) rows)
-longer_rows columns f [] same padded = refl
-longer_rows columns f (x ∷ xs) same padded =
-    ap (λ (r : List Bool). r ∷ map (bits_in (columns + 1)) (map f xs)) (longer_row columns x (f x) (same x) (All-head (IsPadded columns) x xs padded))
-    ∙ ap (λ (rs : List (List Bool)). (bits_in columns x ++ false ∷ []) ∷ rs) (longer_rows columns f xs same (All-tail (IsPadded columns) x xs padded))
-
-map_same : (xs : List (List ℕ)) → map (λ (x : List ℕ). x) xs ≡ xs
-map_same [] = refl
-map_same (x ∷ xs) = ap (λ (ys : List (List ℕ)). x ∷ ys) (map_same xs)
+-- padded rows have one column of false more
+longer_rows : (columns : ℕ) (rows : List (List ℕ)) → All (IsPadded columns) rows → map (bits_in (columns + 1)) rows ≡ map (λ (row : List Bool). row ++ false ∷ []) (map (bits_in columns) rows)
+longer_rows columns [] padded = refl
+longer_rows columns (x ∷ xs) padded =
+    ap (λ (r : List Bool). r ∷ map (bits_in (columns + 1)) xs) (longer_row columns x (All-head (IsPadded columns) x xs padded))
+    ∙ ap (λ (rs : List (List Bool)). (bits_in columns x ++ false ∷ []) ∷ rs) (longer_rows columns xs (All-tail (IsPadded columns) x xs padded))
 
 -- the table with a column of false more
 abbrev pub with_column : Table → Table
 with_column t = record { columns = t.columns + 1; rows = map (λ (row : List Bool). row ++ false ∷ []) t.rows; spare = 0 }
 
-pub column_seen : (columns : ℕ) (f : List ℕ → List ℕ) (words new : Flat ℕ) (t : Table) → ((row : List ℕ) (i : ℕ) → place (f row) i ≡ place row i) → IsTable columns words → seen_bits columns words ≡ t → new.rows ≡ map f words.rows → new.spare ≡ 0
-    → seen_bits (columns + 1) new ≡ with_column t
-column_seen columns f words new t same table e rows none =
+pub column_seen : (columns : ℕ) (words new : Flat ℕ) (t : Table) → IsTable columns words → seen_bits columns words ≡ t → map (bits_in (columns + 1)) new.rows ≡ map (bits_in (columns + 1)) words.rows → new.spare ≡ 0 → seen_bits (columns + 1) new ≡ with_column t
+column_seen columns words new t table e rows none =
     let make : List (List Bool) → ℕ → Table = λ rs n. record { columns = columns + 1; rows = rs; spare = n } in
-    ap (λ (rs : List (List ℕ)). make (map (bits_in (columns + 1)) rs) new.spare) rows
-    ∙ ap (λ (n : ℕ). make (map (bits_in (columns + 1)) (map f words.rows)) n) none
-    ∙ ap (λ (rs : List (List Bool)). make rs 0) (longer_rows columns f words.rows same table.padded)
+    ap (λ (rs : List (List Bool)). make rs new.spare) (rows ∙ longer_rows columns words.rows table.padded)
+    ∙ ap (λ (n : ℕ). make (map (λ (row : List Bool). row ++ false ∷ []) (map (bits_in columns) words.rows)) n) none
     ∙ ap with_column e
-
-pub same_column : (columns : ℕ) (words new : Flat ℕ) (t : Table) → IsTable columns words → seen_bits columns words ≡ t → new.rows ≡ words.rows → new.spare ≡ 0 → seen_bits (columns + 1) new ≡ with_column t
-same_column columns words new t table e rows none = column_seen columns (λ r. r) words new t (λ row i. refl) table e (rows ∙ sym (map_same words.rows)) none
-
-pub longer_column : (columns : ℕ) (words new : Flat ℕ) (t : Table) → IsTable columns words → seen_bits columns words ≡ t → new.rows ≡ map (λ (row : List ℕ). row ++ 0 ∷ []) words.rows → new.spare ≡ 0 → seen_bits (columns + 1) new ≡ with_column t
-longer_column columns words new t table e rows none = column_seen columns (λ r. r ++ 0 ∷ []) words new t place_longer table e rows none
-
-pub all_longer : (columns : ℕ) (rows : List (List ℕ)) → All (IsPadded columns) rows → All (IsPadded (columns + 1)) (map (λ (row : List ℕ). row ++ 0 ∷ []) rows)
-all_longer columns rows padded = All-map (IsPadded (columns + 1)) (λ (row : List ℕ). row ++ 0 ∷ []) rows (λ i d h c past. place_longer (get_or rows i d) c ∙ padded i d h c (omega (arith, past)))
 
 -- ---- columns
 pub transposed_more : (c : ℕ) (rows : List (List Bool)) → transposed (c + 1) rows ≡ transposed c rows ++ map (λ row. get_or row c false) rows ∷ []

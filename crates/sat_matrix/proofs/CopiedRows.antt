@@ -1,13 +1,15 @@
 -- Copies of rows of words.
-use Rattle.std.proofs.Common.{◌≡◌, ℕ, ◌+◌, ◌*◌, ◌/◌, ◌%◌, ◌<◌, ◌≤◌, ◌⊎◌, inl, inr, Bool, false, List, [], ◌∷◌, ◌++◌, length, get_or, map, sym, ap, ◌∙◌, arith}
+use Rattle.std.specs.Prelude.{All}
+use Rattle.std.proofs.Common.{◌≡◌, ℕ, ◌+◌, ◌*◌, ◌/◌, ◌%◌, ◌<◌, ◌≤◌, ◌⊎◌, inl, inr, Bool, false, List, [], ◌∷◌, ◌++◌, length, get_or, map, refl, sym, ap, ◌∙◌, arith}
 use Rattle.std.proofs.lemmas.Bool.{cases_lt}
 use Rattle.std.proofs.lemmas.List.{ext_get_or, get_or_past, map-append, append_assoc}
+use Rattle.std.proofs.lemmas.List.Elements.{All-map}
 use Rattle.std.proofs.lemmas.List.FromFn.{length-map-range_with_len, get_or-map-range_with_len, map-range_with_len_more}
 use Rattle.sat_bits.specs.Places.{place, bit_in}
 use Rattle.row_core.specs.Flat.{Flat, entries_at}
 use Rattle.sat_matrix.specs.Tables.{Table, bits_of}
-use Rattle.sat_matrix.specs.Words.{bits_in, fitted, IsPadded}
-use Rattle.sat_matrix.proofs.BitRows.{seen_bits, seen_in, length-bits_in, bit_is, none_in_zeros}
+use Rattle.sat_matrix.specs.Words.{bits_in, fitted, IsPadded, IsTable}
+use Rattle.sat_matrix.proofs.BitRows.{seen_bits, seen_in, length-bits_in, bit_is, none_in_zeros, with_column, column_seen}
 
 pub length-fitted : (width : ℕ) (row : List ℕ) → length (fitted width row) ≡ width
 length-fitted width row = length-map-range_with_len (λ k. get_or row k 0) 0 width
@@ -50,3 +52,17 @@ copy_seen columns others words new other t u i within e f same in_i rows =
     ∙ map-append (bits_in columns) words.rows (fitted words.width row ∷ [])
     ∙ ap (λ (v : Table). v.rows ++ bits_in columns (fitted words.width row) ∷ []) e
     ∙ ap (λ (r : List Bool). t.rows ++ r ∷ []) (bits_in_fitted columns words.width row within ∙ ap (λ (n : ℕ). bits_in n row) as_many ∙ sym (k.row i (omega (arith, k.count, in_i))))
+
+-- ---- rows of more words
+fitted_rows : (columns width : ℕ) (rows : List (List ℕ)) → columns ≤ width * 64 → map (bits_in columns) (map (fitted width) rows) ≡ map (bits_in columns) rows
+fitted_rows columns width [] within = refl
+fitted_rows columns width (x ∷ xs) within =
+    ap (λ (r : List Bool). r ∷ map (bits_in columns) (map (fitted width) xs)) (bits_in_fitted columns width x within)
+    ∙ ap (λ (rs : List (List Bool)). bits_in columns x ∷ rs) (fitted_rows columns width xs within)
+
+pub wider_column : (columns : ℕ) (words new : Flat ℕ) (t : Table) → IsTable columns words → seen_bits columns words ≡ t → words.width < new.width → new.rows ≡ map (fitted new.width) words.rows → new.spare ≡ 0 → seen_bits (columns + 1) new ≡ with_column t
+wider_column columns words new t table e wider rows none =
+    column_seen columns words new t table e (ap (λ (rs : List (List ℕ)). map (bits_in (columns + 1)) rs) rows ∙ fitted_rows (columns + 1) new.width words.rows (omega (arith, wider, table.within))) none
+
+pub all_fitted : (columns width : ℕ) (rows : List (List ℕ)) → All (IsPadded columns) rows → All (IsPadded (columns + 1)) (map (fitted width) rows)
+all_fitted columns width rows padded = All-map (IsPadded (columns + 1)) (fitted width) rows (λ i d h c past. padded_fitted columns width (get_or rows i d) (padded i d h) c (omega (arith, past)))

@@ -157,30 +157,21 @@ impl WordRows {
         self.spare = 0;
     }
 
-    /// Returns a copy with a further word of 0 in each row, and nothing reserved.
+    /// Returns a copy with further words of 0 in each row, at least one, and a quarter as many as there are,
+    /// so that a table that grows column by column is seldom copied; nothing is reserved.
     pub fn widened(&self, alloc: Global) -> Result<WordRows, Memory>
-        ensures { IfOk result (λ wider. wider ≡ record { width = self.now.width + 1; rows = map (λ row. row ++ 0 ∷ []) self.now.rows; spare = 0 }) }
+        ensures width { IfOk result (λ wider. self.now.width < wider.width) }
+        ensures rows { IfOk result (λ wider. wider.rows ≡ map (fitted wider.width) self.now.rows) }
+        ensures spare { IfOk result (λ wider. wider.spare ≡ 0) }
     {
-        let width = self.width.checked_add(1).ok_or(Memory)?;
+        let more = (self.width / 4).max(1);
+        let width = self.width.checked_add(more).ok_or(Memory)?;
         let mut wider = WordRows::new(alloc, width);
         wider.reserve(self.len())?;
         for i in 0..self.len() {
-            wider.push_longer(self.row(i));
+            wider.push_row_of(self, i);
         }
         Ok(wider)
-    }
-
-    // Appends a row that lacks the last word, which becomes 0.
-    fn push_longer(&mut self, row: &[u64])
-        requires spare { 0 < self.old.spare }
-        requires wide { length row.now + 1 ≡ self.old.width }
-        ensures width { self.new.width ≡ self.old.width }
-        ensures rows { self.new.rows ≡ self.old.rows ++ (row.now ++ 0 ∷ []) ∷ [] }
-        ensures spare { self.new.spare + 1 ≡ self.old.spare }
-    {
-        append_longer(&mut self.cells, row);
-        self.count += 1;
-        self.spare -= 1;
     }
 
     /// Keeps the marked rows, in order. No row that is reserved is lost.
@@ -206,6 +197,9 @@ impl WordRows {
         requires to { to < length self.old.rows }
         ensures { self.new ≡ record self.old { rows = slice_set self.old.rows to (entries_at self.old.rows from) } }
     {
+        if from == to {
+            return;
+        }
         let width = self.width;
         let start = from * width;
         self.cells.copy_within(start..start + width, to * width);
@@ -276,19 +270,6 @@ fn append_and(cells: &mut Vec<u64>, left: usize, right: usize, width: usize)
         let both = cells[left + place] & cells[right + place];
         cells.push_reserved(both);
     }
-}
-
-// Appends a row and a word of 0, for which there is room.
-fn append_longer(cells: &mut Vec<u64>, row: &[u64])
-    requires { vec_len cells.old + length row.now < vec_capacity cells.old }
-    ensures items { cells.new.items ≡ cells.old.items ++ (row.now ++ 0 ∷ []) }
-    ensures len { vec_len cells.new ≡ vec_len cells.old + (length row.now + 1) }
-    ensures capacity { vec_capacity cells.new ≡ vec_capacity cells.old }
-{
-    for word in row {
-        cells.push_reserved(*word);
-    }
-    cells.push_reserved(0);
 }
 
 // A word of a row, or 0 past its end.
