@@ -1,4 +1,4 @@
--- The state of a list is that of its rows at the front of a longer one.
+-- The system of a list is that of its rows at the front of a longer one.
 use Rattle.std.specs.Prelude.{◌≡◌, ℕ, ◌^◌, ◌<◌, ◌≤◌, ◌↔◌, List, [], ◌++◌, length, ℤ, pos, IsTrue, false, slice_index_or}
 use Rattle.std.proofs.Common.{sym, subst, ap, arith}
 use Rattle.std.proofs.lemmas.List.{get_or_append_left}
@@ -23,7 +23,7 @@ front_admits width taken more = record {
   second = λ v u. record { wide = u.wide; meets = λ m d low high. subst (λ (r : Row). Meets v r) (get_or_append_left taken more d m high) (u.meets m d low high) };
 }
 
-front_zeros : (taken more : List Row) (rays : List (List ℤ)) (table : Table) → IsZeroTable taken (length taken) rays table → IsZeroTable (taken ++ more) (length taken) rays table
+pub front_zeros : (taken more : List Row) (rays : List (List ℤ)) (table : Table) → IsZeroTable taken (length taken) rays table → IsZeroTable (taken ++ more) (length taken) rays table
 front_zeros taken more rays table z = record {
   columns = z.columns;
   each = record {
@@ -40,14 +40,8 @@ front_zeros taken more rays table z = record {
   };
 }
 
-pub front_state : (width : ℕ) (taken more : List Row) (system : System) → width < 2 ^ 32 → AreLists width system.lines system.rays → IsSystem (Upto width taken (length taken)) (vectors system.lines.rows) (vectors system.rays.rows)
-    → IsZeroTable taken (length taken) (vectors system.rays.rows) system.sat → IsState width (taken ++ more) (length taken) system
-front_state width taken more system narrow lists is_system zeros = record {
-  narrow = narrow;
-  lists = lists;
-  system = (same_cone width taken (length taken) (taken ++ more) (length taken) (vectors system.lines.rows) (vectors system.rays.rows) (front_admits width taken more)).0 is_system;
-  zeros = front_zeros taken more (vectors system.rays.rows) system.sat zeros;
-}
+pub front_system : (width : ℕ) (taken more : List Row) (lines rays : List (List ℤ)) → IsSystem (Upto width taken (length taken)) lines rays → IsSystem (Upto width (taken ++ more) (length taken)) lines rays
+front_system width taken more lines rays = (same_cone width taken (length taken) (taken ++ more) (length taken) lines rays (front_admits width taken more)).0
 
 -- the same state, under other names
 pub state_moved : (w width : ℕ) (rs rows : List Row) (n m : ℕ) (old new : System) → w ≡ width → rs ≡ rows → n ≡ m → old ≡ new → IsState w rs n old → IsState width rows m new

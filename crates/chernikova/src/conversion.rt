@@ -1,5 +1,5 @@
 //! The conversion.
-ghost use Rattle.std.specs.Prelude.{◌≡◌, ℕ, ◌+◌, ◌^◌, ◌-◌, ◌<◌, ◌≤◌, ◌++◌, List, length, pos, true, IfOk, IfErr, MatchResult, OnOk};
+ghost use Rattle.std.specs.Prelude.{◌≡◌, ℕ, ◌+◌, ◌^◌, ◌-◌, ◌<◌, ◌≤◌, List, length, pos, true, IfOk, IfErr, MatchResult, OnOk};
 ghost use Rattle.row_core.specs.Lists.{row_at, vectors, AreMarked};
 ghost use Rattle.cone_laws.specs.Cones.{Upto};
 ghost use Rattle.cone_laws.specs.Canon.{Canon, IsSystem};
@@ -12,7 +12,7 @@ ghost use Rattle.chernikova.specs.Conversion.{IsState, IsAtStep, IsCountedUpto, 
 
 use crate::cone::Cone;
 use crate::fault::shown;
-use crate::lists::{joined, reopened};
+use crate::lists::reopened;
 use crate::order::sorted;
 use crate::scratch::Scratch;
 use crate::step::{apply_change, next_system};
@@ -124,33 +124,33 @@ pub fn convert<L: Ledger>(
     Ok(sorted(alloc, cone)?)
 }
 
-/// What [`convert`] gives on the rows of `taken` and then those of `more`, from the system of the former
-/// with its table. The rays may stand in any order.
+/// What [`convert`] gives on a list, from the system of its first `from` rows with its table. The rays may
+/// stand in any order.
 ///
 /// # Errors
 ///
-/// Those of [`convert`] on all rows, at a row of `more`.
+/// Those of [`convert`], at one of the further rows.
 pub fn add_rows<L: Ledger>(
     alloc: Global,
     cone: Cone,
-    taken: &RowList,
-    more: &RowList,
+    rows: &RowList,
+    from: usize,
     steps: &mut Steps<L>,
 ) -> Result<Cone, ConvErr>
-    requires width { more.now.width ≡ taken.now.width }
-    requires system { IsSystem (Upto taken.now.width taken.now.rows (length taken.now.rows)) (vectors cone.lines.rows) (vectors cone.rays.rows) }
-    requires lists { AreLists taken.now.width cone.lines cone.rays }
-    requires sat { IsZeroTable taken.now.rows (length taken.now.rows) (vectors cone.rays.rows) cone.sat }
-    ensures canon { IfOk result (λ cone. Canon (Upto taken.now.width (taken.now.rows ++ more.now.rows) (length (taken.now.rows ++ more.now.rows))) (vectors cone.lines.rows) (vectors cone.rays.rows)) }
-    ensures lists { IfOk result (λ cone. AreLists taken.now.width cone.lines cone.rays) }
-    ensures sat { IfOk result (λ cone. IsZeroTable (taken.now.rows ++ more.now.rows) (length (taken.now.rows ++ more.now.rows)) (vectors cone.rays.rows) cone.sat) }
-    ensures overflow { IfErr result (IsRealOverflowFrom taken.now.width (taken.now.rows ++ more.now.rows) (length taken.now.rows)) }
+    requires from { from ≤ length rows.now.rows }
+    requires system { IsSystem (Upto rows.now.width rows.now.rows from) (vectors cone.lines.rows) (vectors cone.rays.rows) }
+    requires lists { AreLists rows.now.width cone.lines cone.rays }
+    requires sat { IsZeroTable rows.now.rows from (vectors cone.rays.rows) cone.sat }
+    ensures canon { IfOk result (λ cone. Canon (Upto rows.now.width rows.now.rows (length rows.now.rows)) (vectors cone.lines.rows) (vectors cone.rays.rows)) }
+    ensures lists { IfOk result (λ cone. AreLists rows.now.width cone.lines cone.rays) }
+    ensures sat { IfOk result (λ cone. IsZeroTable rows.now.rows (length rows.now.rows) (vectors cone.rays.rows) cone.sat) }
+    ensures overflow { IfErr result (IsRealOverflowFrom rows.now.width rows.now.rows from) }
     ensures no_fewer { steps.old ≤ steps.new }
-    ensures counted { IsCountedBetween taken.now.width (taken.now.rows ++ more.now.rows) (length taken.now.rows) (length (taken.now.rows ++ more.now.rows)) (steps.new - steps.old) }
-    ensures counted_before { IfErr result (IsCountedBeforeFrom taken.now.width (taken.now.rows ++ more.now.rows) (length taken.now.rows) (steps.new - steps.old)) }
+    ensures counted { IsCountedBetween rows.now.width rows.now.rows from (length rows.now.rows) (steps.new - steps.old) }
+    ensures counted_before { IfErr result (IsCountedBeforeFrom rows.now.width rows.now.rows from (steps.new - steps.old)) }
 {
-    let rows = joined(alloc, taken, more)?;
+    let _narrow = rows.width();
     let mut system = reopened(alloc, cone)?;
-    take_rows(alloc, &mut system, &rows, taken.len(), steps)?;
+    take_rows(alloc, &mut system, rows, from, steps)?;
     Ok(sorted(alloc, system)?)
 }

@@ -1,5 +1,5 @@
 //! Copies of lists, from one form into the other.
-ghost use Rattle.std.specs.Prelude.{◌≡◌, ◌^◌, ◌<◌, ◌++◌, true, false, IfOk, OnOk};
+ghost use Rattle.std.specs.Prelude.{◌≡◌, true, false, IfOk};
 ghost use Rattle.row_core.specs.Lists.{AreMarked};
 
 use crate::cone::Cone;
@@ -45,29 +45,4 @@ pub(crate) fn reopened(alloc: Global, cone: Cone) -> Result<System, Memory>
         rays,
         sat: cone.sat,
     })
-}
-
-/// Appends rows to a list.
-fn append(list: &mut RowList, rows: &RowList) -> Result<(), Memory>
-    requires { rows.now.width ≡ list.old.width }
-    ensures width { list.new.width ≡ list.old.width }
-    ensures rows { OnOk result (list.new.rows ≡ list.old.rows ++ rows.now.rows) }
-{
-    for index in 0..rows.len() {
-        list.push(rows.row(index), rows.is_eq(index))?;
-    }
-    Ok(())
-}
-
-/// The rows of one list and then those of another.
-pub(crate) fn joined(alloc: Global, taken: &RowList, more: &RowList) -> Result<RowList, Memory>
-    requires { more.now.width ≡ taken.now.width }
-    ensures width { IfOk result (λ rows. rows.width ≡ taken.now.width) }
-    ensures narrow { taken.now.width < 2 ^ 32 }
-    ensures rows { IfOk result (λ rows. rows.rows ≡ taken.now.rows ++ more.now.rows) }
-{
-    let mut rows = RowList::new(alloc, taken.width());
-    append(&mut rows, taken)?;
-    append(&mut rows, more)?;
-    Ok(rows)
 }

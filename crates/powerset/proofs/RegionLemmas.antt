@@ -2,7 +2,7 @@
 use Rattle.std.proofs.Common.{◌≡◌, ◌⊎◌, inl, inr, ℕ, ◌+◌, ◌<◌, List, [], ◌∷◌, ◌++◌, map, length, ℤ, pos, ◌*ℤ◌, ◌≤ℤ◌, ◌<ℤ◌, sym, ◌∙◌, subst, ap, arith, Bool, MatchBool}
 use Rattle.std.specs.Prelude.{All}
 use Rattle.std.proofs.lemmas.List.Elements.{All-from_get_or, All-cons, All-head, All-tail, All-weaker}
-use Rattle.cone_laws.specs.Cones.{Spans, Meets}
+use Rattle.cone_laws.specs.Cones.{Upto, Spans, Meets}
 use Rattle.cone_laws.proofs.Spanning.{at_least_zero_on_spanned}
 use Rattle.cone_laws.proofs.MemberLemmas.{cone_meets, cone_from}
 use Rattle.std.proofs.lemmas.Int.{ints}
@@ -18,13 +18,14 @@ use Rattle.row_core.specs.declared.errors.ConvErr.TheVariants as conversion
 use Rattle.sat_matrix.specs.ZeroTables.{IsZeroTable}
 use Rattle.row_core.proofs.Ring.{positive_of_mul}
 use Rattle.cone_laws.specs.Members.{ConeOf}
-use Rattle.cone_laws.specs.Canon.{Canon, vector_at}
+use Rattle.cone_laws.specs.Canon.{Canon, IsSystem, vector_at}
 use Rattle.cone_laws.specs.Leaves.{Leaves}
 use Rattle.cone_laws.specs.MarkedLists.{AreLists}
 use Rattle.cone_laws.proofs.Ring.{by_sign}
 use Rattle.cone_laws.proofs.Columns.{cell-scale, length-scale}
 use Rattle.chernikova.specs.declared.cone.Cone.{Cone}
 use Rattle.chernikova.specs.Conversion.{IsRealOverflowFrom}
+use Rattle.chernikova.proofs.Prefixes.{front_system, front_zeros}
 use Rattle.cons_sys.specs.Constraints.{Constraint, Constraints, FitDimension, In}
 use Rattle.cons_sys.proofs.SystemLemmas.{In-same_point}
 use Rattle.nnc_enc.specs.Encoding.{encoded_constraint, encoded_constraints, height_row, bound_row, lowered, Codes}
@@ -57,12 +58,32 @@ pub same_constraints : (cs : Constraints) (n : ℕ) (list : List Constraint) →
 same_constraints cs n list e f = ap (λ (k : ℕ). record { dim = k; list = cs.list }) e ∙ ap (λ (l : List Constraint). record { dim = n; list = l }) f
 
 -- ---- systems
+-- the system of the first rows of a list, with its table
+pub record IsFrontOf (width : ℕ) (rows : List Row) (from : ℕ) (cone : Cone) : Type 0 where
+  pub system : IsSystem (Upto width rows from) (vectors cone.lines.rows) (vectors cone.rays.rows)
+  pub lists : AreLists width cone.lines cone.rays
+  pub zeros : IsZeroTable rows from (vectors cone.rays.rows) cone.sat
+
+abbrev pub IsFront : Rows → ℕ → Cone → Type 0
+IsFront list from cone = IsFrontOf list.width list.rows from cone
+
 pub has_cone : (cs : Constraints) (width : ℕ) (all : List Row) (cone : Cone) → width ≡ cs.dim + 2 → all ≡ encoded_constraints cs → Canon (ConeOf width all) (vectors cone.lines.rows) (vectors cone.rays.rows) → AreLists width cone.lines cone.rays → IsZeroTable all (length all) (vectors cone.rays.rows) cone.sat → HasCone cs cone
 has_cone cs width all cone e f canon lists zeros = record {
   canon = subst (λ (n : ℕ). Canon (ConeOf n (encoded_constraints cs)) (vectors cone.lines.rows) (vectors cone.rays.rows)) e (subst (λ (rs : List Row). Canon (ConeOf width rs) (vectors cone.lines.rows) (vectors cone.rays.rows)) f canon);
   lists = subst (λ (n : ℕ). AreLists n cone.lines cone.rays) e lists;
   zeros = subst (λ (rs : List Row). IsZeroTable rs (length rs) (vectors cone.rays.rows) cone.sat) f zeros;
 }
+
+-- the system of the rows at the front of a list
+pub front_cone : (cs : Constraints) (taken more : Rows) (all : Rows) (from : ℕ) (cone : Cone) → HasListAndCone cs taken cone → all.width ≡ taken.width → all.rows ≡ taken.rows ++ more.rows → from ≡ length taken.rows → IsFront all from cone
+front_cone cs taken more all from cone h w r n =
+    subst (λ (k : ℕ). IsFront all k cone) (sym n)
+    (subst (λ (v : ℕ). IsFrontOf v all.rows (length taken.rows) cone) (sym (w ∙ h.width))
+    (subst (λ (rs : List Row). IsFrontOf (cs.dim + 2) rs (length taken.rows) cone) (sym r) (record {
+      system = front_system (cs.dim + 2) taken.rows more.rows (vectors cone.lines.rows) (vectors cone.rays.rows) (subst (λ (rs : List Row). IsSystem (ConeOf (cs.dim + 2) rs) (vectors cone.lines.rows) (vectors cone.rays.rows)) (sym h.rows) h.canonical.canon.system);
+      lists = h.canonical.lists;
+      zeros = front_zeros taken.rows more.rows (vectors cone.rays.rows) cone.sat (subst (λ (rs : List Row). IsZeroTable rs (length rs) (vectors cone.rays.rows) cone.sat) (sym h.rows) h.canonical.zeros);
+    })))
 
 -- a copy is the same system, but for the room in its table
 copied_cone : (cs : Constraints) (cone copy : Cone) → copy ≡ record cone { sat = record cone.sat { spare = 0 } } → HasCone cs cone → HasCone cs copy

@@ -191,8 +191,9 @@ impl Region {
         let Region { cons, list, cone } = self;
         let rows = more.rows();
         let cons = cons.followed_by(alloc, more.cons())?;
-        let cone = add_rows(alloc, cone, &list, rows, steps)?;
+        let from = list.len();
         let list = rows_followed(list, rows)?;
+        let cone = add_rows(alloc, cone, &list, from, steps)?;
         Ok(Region { cons, list, cone })
     }
 
