@@ -1,9 +1,9 @@
 -- The rows with the greatest sets of zeros.
-use Rattle.std.proofs.Common.{◌≡◌, ◌≢◌, ◌⊎◌, inl, inr, ℕ, zero, suc, ◌+◌, ◌-◌, ◌<◌, ◌≤◌, Bool, true, false, not, List, [], ◌∷◌, length, map, slice_index_or, ℤ, pos, refl, sym, ap, ◌∙◌, subst, arith}
+use Rattle.std.proofs.Common.{◌≡◌, ◌≢◌, ◌⊎◌, inl, inr, ℕ, zero, suc, ◌+◌, ◌-◌, ◌<◌, ◌≤◌, Bool, true, false, not, List, [], ◌∷◌, ◌++◌, length, map, slice_index_or, ℤ, pos, refl, sym, ap, ◌∙◌, subst, arith}
 use Rattle.std.specs.Prelude.{All, remove, IsTrue, ◌↔◌}
 use Rattle.std.specs.List.{range_with_len}
 use Rattle.std.proofs.lemmas.Bool.{cases_lt, cases_order, false≢true}
-use Rattle.std.proofs.lemmas.List.{length-map, get_or-map}
+use Rattle.std.proofs.lemmas.List.{length-append, length-map, get_or-map, get_or_append_left, get_or_push}
 use Rattle.std.proofs.lemmas.List.FromFn.{length-range_with_len, get_or-range_with_len, get_or-map-range_with_len}
 use Rattle.std.proofs.lemmas.List.Elements.{All-from_get_or}
 use Rattle.std.proofs.lemmas.List.Edits.{length-remove, get_or-remove_below, get_or-remove_above}
@@ -15,7 +15,8 @@ use Rattle.sat_matrix.specs.ZeroTables.{IsZeroTable}
 use Rattle.cone_laws.specs.Canon.{vector_at, IsSystem}
 use Rattle.cone_laws.specs.Members.{ConeOf}
 use Rattle.minimise.specs.FlatRows.{IsZeroOnAll, TellsFlat}
-use Rattle.minimise.specs.Facets.{KeepsZeros, AreFacets, IsFull, TellsFull, IsWithin, IsOneOf, AreGreatest}
+use Rattle.minimise.specs.Facets.{KeepsZeros, AreFacets, IsFull, TellsFull, IsWithin, IsOneOf, AreGreatest, IsLedBy, AreMarkedAt, AreLed}
+use Rattle.minimise.proofs.MarkedRows.{marked_sizes}
 use Rattle.minimise.proofs.FlatRows.{flat_is_zero_on_rays}
 
 zero_more : (n : ℕ) → 0 + n ≡ n
@@ -187,8 +188,16 @@ pub record AreGreatestBefore (old_indices : List ℕ) (old : List (List Bool)) (
   pub apart : (k m : ℕ) → k < bound → m < length rows → k ≢ m → ¬ (IsWithin (bits_of rows k) (bits_of rows m))
   pub each : (m : ℕ) → m < length old → (k : ℕ) × (k < length rows) × IsWithin (bits_of old m) (bits_of rows k)
 
-within_self : (bits : List Bool) → IsWithin bits bits
+pub within_self : (bits : List Bool) → IsWithin bits bits
 within_self bits c h first second = first
+
+place_below : (bits : List Bool) (c : ℕ) → IsTrue (slice_index_or bits c false) → c < length bits
+place_below [] c t = absurd (false≢true t)
+place_below (b ∷ bits) zero t = omega arith
+place_below (b ∷ bits) (suc c) t = omega (arith, place_below bits c t)
+
+within_through : (a b d : List Bool) → IsWithin a b → IsWithin b d → IsWithin a d
+within_through a b d w v c h first second = let there = w c h first second in v c (place_below b c there) there there
 
 pub greatest_start : (indices : List ℕ) (rows : List (List Bool)) → length indices ≡ length rows → AreGreatestBefore indices rows indices rows 0
 greatest_start indices rows e = record {
@@ -275,16 +284,8 @@ module _ (old_indices : List ℕ) (old : List (List Bool)) (indices : List ℕ) 
           let up : k - 1 + 1 ≡ k = omega (arith, ne, l) in
           (k - 1, omega (arith, h, ne, l, row_sizes), subst (λ (bits : List Bool). IsWithin (bits_of old m) bits) (sym (get_or-remove_above rows bound [] (k - 1) (omega (arith, ne, l)) below ∙ ap (λ (n : ℕ). bits_of rows n) up)) w)
 
-      through : (m : ℕ) → IsWithin (bits_of old m) (bits_of rows bound) → IsWithin (bits_of old m) (bits_of rows other)
-      through m w c h first second = let there = w c h first second in other_covers c (place_below (bits_of rows bound) c there) there there
-        where
-          place_below : (bits : List Bool) (c : ℕ) → IsTrue (slice_index_or bits c false) → c < length bits
-          place_below [] c t = absurd (false≢true t)
-          place_below (b ∷ bits) zero t = omega arith
-          place_below (b ∷ bits) (suc c) t = omega (arith, place_below bits c t)
-
       by_witness : (m k : ℕ) → k < length rows → IsWithin (bits_of old m) (bits_of rows k) → (k ≡ bound) ⊎ ((k < bound) ⊎ (bound < k)) → (p : ℕ) × (p < length (remove rows bound)) × IsWithin (bits_of old m) (bits_of (remove rows bound) p)
-      by_witness m k h w (inl e) = placed m other other_below third.not_first (through m (subst (λ (n : ℕ). IsWithin (bits_of old m) (bits_of rows n)) e w)) (cases_lt other bound)
+      by_witness m k h w (inl e) = placed m other other_below third.not_first (within_through (bits_of old m) (bits_of rows bound) (bits_of rows other) (subst (λ (n : ℕ). IsWithin (bits_of old m) (bits_of rows n)) e w) other_covers) (cases_lt other bound)
       by_witness m k h w (inr (inl l)) = placed m k h (λ e. omega (arith, e, l)) w (inl l)
       by_witness m k h w (inr (inr l)) = placed m k h (λ e. omega (arith, e, l)) w (inr (omega (arith, l)))
 
@@ -307,3 +308,55 @@ greatest_within keep n old indices rows g =
     let at : c.index < n = omega (arith, c.below, length-range_with_len 0 n) in
     let same : slice_index_or indices k 0 ≡ c.index = sym o.index_is ∙ c.first ∙ get_or-range_with_len 0 n c.index 0 at ∙ zero_more c.index in
     omega (arith, same, at))
+
+-- ---- many rows
+-- a place more
+pub led_more : (rows : List (List Bool)) (places new : List ℕ) (p m : ℕ) → new ≡ places ++ p ∷ [] → IsLedBy rows places m → IsLedBy rows new m
+led_more rows places new p m is l = (
+  l.0,
+  omega (arith, l.1, ap length is, length-append places (p ∷ [])),
+  subst (λ (n : ℕ). IsWithin (bits_of rows m) (bits_of rows n)) (sym (ap (λ (ns : List ℕ). slice_index_or ns l.0 0) is ∙ get_or_append_left places (p ∷ []) 0 l.0 l.1)) l.2,
+)
+
+-- the place of the row itself
+pub led_by_itself : (rows : List (List Bool)) (places new : List ℕ) (m : ℕ) → new ≡ places ++ m ∷ [] → IsLedBy rows new m
+led_by_itself rows places new m is = (
+  length places,
+  omega (arith, ap length is, length-append places (m ∷ [])),
+  subst (λ (n : ℕ). IsWithin (bits_of rows m) (bits_of rows n)) (sym (ap (λ (ns : List ℕ). slice_index_or ns (length places) 0) is ∙ get_or_push places m 0 (length places) refl)) (within_self (bits_of rows m)),
+)
+
+marked_fewer : {X : Type 0} (marks : List Bool) (xs : List X) → length (marked marks xs) ≤ length xs
+marked_fewer [] xs = omega arith
+marked_fewer (m ∷ marks) [] = omega arith
+marked_fewer (true ∷ marks) (x ∷ xs) = omega (arith, marked_fewer marks xs)
+marked_fewer (false ∷ marks) (x ∷ xs) = omega (arith, marked_fewer marks xs)
+
+pub led_marked : (indices : List ℕ) (rows : List (List Bool)) (places : List ℕ) (marks : List Bool) → length indices ≡ length rows → All (λ p. p < length rows) places → AreMarkedAt (length rows) places marks → ((m : ℕ) → m < length rows → IsLedBy rows places m) → AreLed indices rows (marked marks indices) (marked marks rows)
+led_marked indices rows places marks sizes within at leads = record {
+  as_many = marked_sizes marks indices rows sizes;
+  fewer = marked_fewer marks indices;
+  each_old = λ k h.
+      let c : ComesFrom marks indices rows 0 [] k = comes_from marks indices rows 0 [] k (sym sizes) h in
+      record { place = c.index; below = c.below; index_is = sym c.first; bits_are = sym c.second };
+  each = λ m h.
+      let l = leads m h in
+      let p : ℕ = slice_index_or places l.0 0 in
+      let g : GoesTo marks rows [] p = goes_to marks rows [] p (within l.0 0 l.1) (at.at l.0 l.1) in
+      (g.place, g.below, subst (λ (bits : List Bool). IsWithin (bits_of rows m) bits) (sym g.same) l.2);
+}
+
+pub greatest_led : (old_indices : List ℕ) (old : List (List Bool)) (some_indices : List ℕ) (some : List (List Bool)) (indices : List ℕ) (rows : List (List Bool)) → AreLed old_indices old some_indices some → AreGreatest some_indices some indices rows → AreGreatest old_indices old indices rows
+greatest_led old_indices old some_indices some indices rows l g = record {
+  as_many = g.as_many;
+  fewer = omega (arith, g.fewer, l.fewer);
+  each_old = λ k h.
+      let o = g.each_old k h in
+      let n = l.each_old o.place o.below in
+      record { place = n.place; below = n.below; index_is = n.index_is ∙ o.index_is; bits_are = n.bits_are ∙ o.bits_are };
+  apart = g.apart;
+  each = λ m h.
+      let p = l.each m h in
+      let q = g.each p.0 p.1 in
+      (q.0, q.1, within_through (bits_of old m) (bits_of some p.0) (bits_of rows q.0) p.2 q.2);
+}

@@ -33,6 +33,14 @@ pub index_skip : (marks : List Bool) (items : List ℕ) (i : ℕ) → i < length
 index_skip marks items i h before mark =
     before ∙ sym (rw add-one (marked_skip i marks (range_with_len 0 (length marks)) h (let n = length-range_with_len 0 (length marks) in omega (arith, h, n)) mark))
 
+-- ---- marked elements, one after another
+pub element_more : (marks : List Bool) (xs items new : List ℕ) (i : ℕ) → i < length marks → i < length xs → items ≡ marked (take i marks) (take i xs) → slice_index_or marks i false ≡ true → new ≡ items ++ slice_index_or xs i 0 ∷ [] → new ≡ marked (take (i + 1) marks) (take (i + 1) xs)
+element_more marks xs items new i h b before mark is =
+    is ∙ ap (λ (ns : List ℕ). ns ++ slice_index_or xs i 0 ∷ []) before ∙ sym (rw add-one (marked_take 0 i marks xs h b mark))
+
+pub element_skip : (marks : List Bool) (xs items : List ℕ) (i : ℕ) → i < length marks → i < length xs → items ≡ marked (take i marks) (take i xs) → slice_index_or marks i false ≡ false → items ≡ marked (take (i + 1) marks) (take (i + 1) xs)
+element_skip marks xs items i h b before mark = before ∙ sym (rw add-one (marked_skip i marks xs h b mark))
+
 -- ---- the same marks on two lists
 pub marked_sizes : {X Y : Type 0} (marks : List Bool) (xs : List X) (ys : List Y) → length xs ≡ length ys → length (marked marks xs) ≡ length (marked marks ys)
 marked_sizes [] xs ys e = refl

@@ -1,4 +1,4 @@
-use Rattle.std.specs.Prelude.{◌≡◌, ◌≢◌, ℕ, ◌<◌, ◌≤◌, ◌↔◌, Bool, false, List, length, ℤ, pos, All, IsTrue, slice_index_or}
+use Rattle.std.specs.Prelude.{◌≡◌, ◌≢◌, ℕ, ◌<◌, ◌≤◌, ◌↔◌, Bool, true, false, List, length, ℤ, pos, All, IsTrue, slice_index_or}
 use Rattle.row_core.specs.Vectors.{dot}
 use Rattle.row_core.specs.Lists.{Row, row_at}
 use Rattle.sat_matrix.specs.Tables.{bits_of, Covers}
@@ -41,4 +41,20 @@ pub record AreGreatest (old_indices : List ℕ) (old : List (List Bool)) (indice
   pub fewer : length indices ≤ length old_indices
   pub each_old : (k : ℕ) → k < length indices → IsOneOf old_indices old (slice_index_or indices k 0) (bits_of rows k)
   pub apart : (k m : ℕ) → k < length rows → m < length rows → k ≢ m → ¬ (IsWithin (bits_of rows k) (bits_of rows m))
+  pub each : (m : ℕ) → m < length old → (k : ℕ) × (k < length rows) × IsWithin (bits_of old m) (bits_of rows k)
+
+-- the row is true only where one at the places is
+abbrev pub IsLedBy : List (List Bool) → List ℕ → ℕ → Type 0
+IsLedBy rows places m = (q : ℕ) × (q < length places) × IsWithin (bits_of rows m) (bits_of rows (slice_index_or places q 0))
+
+-- a mark for each of so many rows, true at the places
+pub record AreMarkedAt (count : ℕ) (places : List ℕ) (marks : List Bool) : Type 0 where
+  pub as_many : length marks ≡ count
+  pub at : (q : ℕ) → q < length places → slice_index_or marks (slice_index_or places q 0) false ≡ true
+
+-- some of the rows of a table with their indices, so that each row is true only where one of them is
+pub record AreLed (old_indices : List ℕ) (old : List (List Bool)) (indices : List ℕ) (rows : List (List Bool)) : Type 0 where
+  pub as_many : length indices ≡ length rows
+  pub fewer : length indices ≤ length old_indices
+  pub each_old : (k : ℕ) → k < length indices → IsOneOf old_indices old (slice_index_or indices k 0) (bits_of rows k)
   pub each : (m : ℕ) → m < length old → (k : ℕ) × (k < length rows) × IsWithin (bits_of old m) (bits_of rows k)

@@ -47,13 +47,23 @@ fn reduced_rows<L: Ledger>(
     Ok(new)
 }
 
-/// The parts of the second system of the rows. The table has a row for each of them, true at the rays
+/// The least number of rays on which an inequality of the second system is 0, for so many columns, equalities
+/// and lines of the first system: with fewer, more equations than one are left free.
+fn least_zeros(width: usize, equalities: usize, lines: usize) -> usize {
+    width
+        .saturating_sub(equalities)
+        .saturating_sub(lines)
+        .saturating_sub(1)
+}
+
+/// The parts of the second system of the rows, for so many lines of the first. The table has a row for each of them, true at the rays
 /// on which it is 0, and the marked ones are 0 on the whole cone.
 pub(crate) fn parts_of<L: Ledger>(
     alloc: Global,
     rows: &RowList,
     table: SatMatrix,
     flat: &[bool],
+    lines: usize,
     steps: &mut Steps<L>,
 ) -> Result<Parts, Fault>
     requires as_many { (length flat.now ≡ length rows.now.rows) × (length table.rows ≡ length rows.now.rows) }
@@ -63,7 +73,8 @@ pub(crate) fn parts_of<L: Ledger>(
     let _width = rows.width();
     let equalities = basis(alloc, rows, flat, steps)?;
     let _basis_width = equalities.width();
-    let facets = facets_of(alloc, table, flat)?;
+    let least = least_zeros(rows.width(), equalities.len(), lines);
+    let facets = facets_of(alloc, table, flat, least)?;
     let reduced = reduced_rows(alloc, rows, &facets.indices, &equalities, steps)?;
     Ok(Parts {
         equalities,

@@ -78,7 +78,7 @@ fn second_system<L: Ledger>(
 {
     let table = sat.transpose()?;
     let flat = full_rows(alloc, &table)?;
-    let parts = parts_of(alloc, rows, table, &flat, steps)?;
+    let parts = parts_of(alloc, rows, table, &flat, lines.len(), steps)?;
     Ok(arranged(alloc, lines.len(), parts)?)
 }
 

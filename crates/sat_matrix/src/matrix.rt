@@ -254,9 +254,9 @@ impl SatMatrix {
         false
     }
 
-    // Whether row `k` is true wherever rows `i` and `j` both are.
+    /// Whether row `k` is true wherever rows `i` and `j` both are.
     #[inline]
-    fn covers(&self, i: usize, j: usize, k: usize) -> bool
+    pub fn covers(&self, i: usize, j: usize, k: usize) -> bool
         requires first { i < length self.now.rows }
         requires second { j < length self.now.rows }
         requires third { k < length self.now.rows }

@@ -9,8 +9,8 @@ use Rattle.minimise.proofs.MarkedRows.{marked_sizes}
 use Rattle.minimise.specs.Facets.{AreGreatest}
 use Rattle.minimise.proofs.facets.facets_of.Goals as goal
 
-pub greatest-requires : goal.greatest-requires
-greatest-requires c =
+pub greatest_of-requires : goal.greatest_of-requires
+greatest_of-requires c =
     let marks = c.args.marks.now in
     let range = range_with_len 0 (length marks) in
     let turned = length-map marks not in
@@ -25,6 +25,6 @@ returns-clause-greatest c =
     c.in_ok-indices.ensures ∙ ap (λ (ks : List Bool). marked ks (range_with_len 0 (length ks))) (c.deref.ensures.value ∙ c.in_ok-keep.ensures) ∙ ap (λ (n : ℕ). marked (map not c.args.marks.now) (range_with_len 0 n)) (length-map marks not) in
     let rows : c.keep_rows.new.self.rows ≡ marked (map not c.args.marks.now) c.args.table.rows =
     c.keep_rows.ensures.rows ∙ ap (λ (ks : List Bool). marked ks c.args.table.rows) (c.deref-2.ensures.value ∙ c.in_ok-keep.ensures) in
-    IfOk-weaker c.greatest.result _ _
+    IfOk-weaker c.greatest_of.result _ _
     (λ v g. subst (λ (is : List ℕ). AreGreatest is (marked (map not c.args.marks.now) c.args.table.rows) v.indices.items v.zeros.rows) indices
-    (subst (λ (rs : List (List Bool)). AreGreatest c.in_ok-indices.indices.items rs v.indices.items v.zeros.rows) rows g)) c.greatest.ensures.greatest
+    (subst (λ (rs : List (List Bool)). AreGreatest c.in_ok-indices.indices.items rs v.indices.items v.zeros.rows) rows g)) c.greatest_of.ensures.greatest

@@ -37,4 +37,4 @@ pub returns-clause-simplified : goal.returns-clause-simplified
 returns-clause-simplified g c =
     let full : TellsFull c.in_ok-table.table.rows c.deref.result.now = subst (λ (bs : List Bool). TellsFull c.in_ok-table.table.rows bs) (sym c.deref.ensures.value) c.in_ok-flat.ensures in
     done_from_arranged c.args.rows.now c.args.lines.now c.args.rays.now c.args.sat.now c.in_ok-table.table c.deref.result.now c.in_ok-parts.parts c.in_ok-parts.ensures.parts c.requires.system c.requires.lists c.requires.sat c.in_ok-table.ensures full c.in_ok-arranged.field-0
-    (subst (λ (n : ℕ). IsArranged n c.in_ok-parts.parts c.in_ok-arranged.field-0) c.len.ensures c.in_ok-arranged.ensures)
+    (subst (λ (n : ℕ). IsArranged n c.in_ok-parts.parts c.in_ok-arranged.field-0) c.len-2.ensures c.in_ok-arranged.ensures)

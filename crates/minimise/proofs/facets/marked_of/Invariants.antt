@@ -1,0 +1,6 @@
+use Rattle.std.proofs.Common.{◌≡◌, length, take}
+use Rattle.row_core.specs.Flat.{marked}
+use Rattle.minimise.proofs.facets.marked_of.Given as goal
+
+abbrev pub invariant-loop-index : goal.invariant-loop-index
+invariant-loop-index l = l.kept.items ≡ marked (take l.index l.marks) (take l.index l.indices)
