@@ -11,3 +11,6 @@ pub mod Counts
 pub mod Rankings
 pub mod CountLemmas
 pub mod Prefixes
+pub mod Slack
+pub mod Reordered
+pub mod PlacedCones

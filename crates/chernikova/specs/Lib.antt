@@ -4,5 +4,8 @@ pub mod Faults
 pub mod Changes
 pub mod Tables
 pub mod Conversion
+pub mod Plans
+pub mod RowOrders
+pub mod Beside
 pub mod Orders
 pub mod CountTests

@@ -11,11 +11,10 @@ ghost use Rattle.chernikova.specs.Changes.{AreLists};
 ghost use Rattle.chernikova.specs.Conversion.{IsState, IsAtStep, IsCountedUpto, IsCountedBetween, IsCountedBefore, IsCountedBeforeFrom, IsRealOverflow, IsRealOverflowFrom};
 
 use crate::cone::Cone;
-use crate::fault::shown;
 use crate::lists::reopened;
 use crate::order::sorted;
 use crate::scratch::Scratch;
-use crate::step::{apply_change, next_system};
+use crate::taking::{plan_row, take_planned};
 use crate::system::System;
 use crate::vectors::VectorList;
 use row_core::{ConvErr, Memory, RowList, Steps};
@@ -40,7 +39,7 @@ fn units(alloc: Global, width: usize) -> Result<VectorList, Memory>
 }
 
 /// The system of no row.
-fn start(alloc: Global, width: usize, rows: &RowList) -> Result<System, Memory>
+pub(crate) fn start(alloc: Global, width: usize, rows: &RowList) -> Result<System, Memory>
     requires { width < 2 ^ 32 }
     ensures { IfOk result (IsState width rows.now.rows 0) }
 {
@@ -66,10 +65,8 @@ fn take_row<L: Ledger>(
     ensures no_fewer { steps.old ≤ steps.new }
     ensures counted { HasSystemOf rows.now.width rows.now.rows (k + 1) (steps.new - steps.old) }
 {
-    match next_system(alloc, scratch, cone, rows, k, steps) {
-        Ok(change) => Ok(apply_change(scratch, cone, change, rows, k)?),
-        Err(fault) => Err(ConvErr::Overflow(shown(alloc, cone, rows, k, fault)?)),
-    }
+    let plan = plan_row(alloc, scratch, cone, rows, k)?;
+    take_planned(alloc, scratch, cone, plan, rows, k, steps)
 }
 
 /// Takes all further rows into the system of the first `from` of them.

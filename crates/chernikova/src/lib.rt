@@ -3,22 +3,29 @@
 //! Chernikova, 1965).
 //!
 //! - [`convert`] takes in one row after another, and [`Cone`] is what it gives.
+//! - [`convert_in_better_order`] gives the same, by whichever of two orders of the rows is done first.
 //! - [`add_rows`] takes further rows into such a system.
 #![tactic(auto)]
 
+mod beside;
+mod better_order;
 mod cone;
 mod conversion;
 mod fault;
 mod line_step;
 mod lists;
 mod order;
+mod plan;
 mod ray_step;
+mod row_order;
 mod scratch;
 mod step;
 mod system;
+mod taking;
 mod values;
 mod vectors;
 mod zeros;
 
+pub use better_order::convert_in_better_order;
 pub use cone::Cone;
 pub use conversion::{add_rows, convert};

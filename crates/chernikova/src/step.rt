@@ -1,12 +1,13 @@
 //! One step: a row is taken in.
 ghost use Rattle.std.specs.Prelude.{◌≡◌, ℕ, ◌+◌, ◌-◌, ◌<◌, ◌≤◌, List, length, OnOk, OnErr, MatchResult};
 ghost use Rattle.row_core.specs.Lists.{row_at, is_eq_at, vectors};
-ghost use Rattle.cone_laws.specs.SystemLaws.{HasSystemOf};
 ghost use Rattle.chernikova.specs.Faults.{IsFaultAt};
 ghost use Rattle.chernikova.specs.Conversion.{IsState, IsOutcome, IsChanged};
+ghost use Rattle.chernikova.specs.Plans.{IsPlan, combinations_of};
 
 use crate::fault::{Fault, Part};
 use crate::line_step::line_step;
+use crate::plan::Plan;
 use crate::ray_step::{crossings, least_shared, ray_step};
 use crate::scratch::Scratch;
 use crate::system::System;
@@ -35,21 +36,17 @@ pub(crate) enum Change {
     },
 }
 
-/// What row `k` makes of the system of the rows before it. After a fault the system is as before.
-pub(crate) fn next_system<L: Ledger>(
+/// What the step with row `k` is to do with the system of the rows before it.
+pub(crate) fn planned(
     alloc: Global,
     scratch: &mut Scratch,
-    cone: &mut System,
+    cone: &System,
     rows: &RowList,
     k: usize,
-    steps: &mut Steps<L>,
-) -> Result<Change, Fault>
+) -> Result<Plan, Fault>
     requires row { k < length rows.now.rows }
-    requires state { IsState rows.now.width rows.now.rows k cone.old }
-    ensures outcome { MatchResult result (IsOutcome rows.now.width (row_at rows.now.rows k, is_eq_at rows.now.rows k) cone.old cone.new) (IsFaultAt rows.now.rows k (vectors cone.old.lines.rows) (vectors cone.old.rays.rows)) }
-    ensures same { OnErr result (cone.new ≡ cone.old) }
-    ensures no_fewer { steps.old ≤ steps.new }
-    ensures counted { HasSystemOf rows.now.width rows.now.rows (k + 1) (steps.new - steps.old) }
+    requires state { IsState rows.now.width rows.now.rows k cone.now }
+    ensures { MatchResult result (IsPlan rows.now.rows k cone.now) (IsFaultAt rows.now.rows k (vectors cone.now.lines.rows) (vectors cone.now.rays.rows)) }
 {
     let row = rows.row(k);
     let eq = rows.is_eq(k);
@@ -59,38 +56,76 @@ pub(crate) fn next_system<L: Ledger>(
     let rays_place = &mut scratch.ray_values;
     let ray_values = values(alloc, rays_place, Part::Rays, &cone.rays, row, narrow)?;
     if let Some(index) = last_crossing(&line_values) {
-        let (lines, rays) = line_step(
-            alloc,
-            scratch,
-            cone,
-            &line_values,
-            &ray_values,
+        return Ok(Plan::Line {
             index,
-            eq,
-            steps,
-        )?;
-        scratch.line_values = line_values;
-        scratch.ray_values = ray_values;
-        return Ok(Change::Line { lines, rays });
+            line_values,
+            ray_values,
+        });
     }
     let marks = marks(alloc, &mut scratch.marks, eq, &ray_values)?;
     let least = least_shared(rows.width(), cone.lines.len());
     let pairs = crossings(alloc, scratch, &ray_values, &cone.sat, least)?;
-    ray_step(
-        alloc,
-        scratch,
-        &mut cone.rays,
-        &ray_values,
-        &marks,
-        &pairs,
-        steps,
-    )?;
     scratch.line_values = line_values;
-    Ok(Change::Ray {
+    Ok(Plan::Ray {
         values: ray_values,
         marks,
         pairs,
     })
+}
+
+/// Does with the system what is planned for row `k`. After a fault the system is as before.
+pub(crate) fn carried_out<L: Ledger>(
+    alloc: Global,
+    scratch: &mut Scratch,
+    cone: &mut System,
+    plan: Plan,
+    rows: &RowList,
+    k: usize,
+    steps: &mut Steps<L>,
+) -> Result<Change, Fault>
+    requires row { k < length rows.now.rows }
+    requires state { IsState rows.now.width rows.now.rows k cone.old }
+    requires plan { IsPlan rows.now.rows k cone.old plan }
+    ensures outcome { MatchResult result (IsOutcome rows.now.width (row_at rows.now.rows k, is_eq_at rows.now.rows k) cone.old cone.new) (IsFaultAt rows.now.rows k (vectors cone.old.lines.rows) (vectors cone.old.rays.rows)) }
+    ensures same { OnErr result (cone.new ≡ cone.old) }
+    ensures no_fewer { steps.old ≤ steps.new }
+    ensures counted { steps.new ≤ steps.old + combinations_of cone.old plan }
+{
+    match plan {
+        Plan::Line {
+            index,
+            line_values,
+            ray_values,
+        } => {
+            let eq = rows.is_eq(k);
+            let (lines, rays) = line_step(
+                alloc,
+                scratch,
+                cone,
+                &line_values,
+                &ray_values,
+                index,
+                eq,
+                steps,
+            )?;
+            scratch.line_values = line_values;
+            scratch.ray_values = ray_values;
+            Ok(Change::Line { lines, rays })
+        }
+        Plan::Ray {
+            values,
+            marks,
+            pairs,
+        } => {
+            let rays = &mut cone.rays;
+            ray_step(alloc, scratch, rays, &values, &marks, &pairs, steps)?;
+            Ok(Change::Ray {
+                values,
+                marks,
+                pairs,
+            })
+        }
+    }
 }
 
 /// Brings the system up to date with a change, and its table with it.

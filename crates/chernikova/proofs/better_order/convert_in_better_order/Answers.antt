@@ -1,0 +1,63 @@
+use Rattle.std.specs.Prelude.{◌-◌, ℕ, length}
+use Rattle.row_core.specs.Lists.{vectors}
+use Rattle.cone_laws.specs.Cones.{Upto}
+use Rattle.cone_laws.specs.Canon.{Canon}
+use Rattle.std.proofs.Common.{sym, subst, arith}
+use Rattle.chernikova.specs.Beside.{IsDone}
+use Rattle.chernikova.specs.Changes.{AreLists}
+use Rattle.chernikova.specs.Conversion.{IsState}
+use Rattle.chernikova.proofs.Counts.{counted_start}
+use Rattle.chernikova.proofs.Rankings.{rearranged_canon, rearranged_zeros, rearranged_lists}
+use Rattle.chernikova.proofs.PlacedCones.{beside_idle, placed_canon, placed_lists, placed_zeros, first_of, second_of}
+use Rattle.chernikova.proofs.better_order.convert_in_better_order.Goals as goal
+
+pub race-requires-clause-state : goal.race-requires-clause-state
+race-requires-clause-state g c =
+    let P : ℕ → Type 0 = λ w. IsState w c.args.rows.now.rows 0 c.in_ok-cone.cone in
+    subst P (sym c.requires.width) c.in_ok-cone.ensures
+
+pub race-requires-clause-beside : goal.race-requires-clause-beside
+race-requires-clause-beside g c = beside_idle c.args.rows.now.width c.args.rows.now.rows c.waiting-beside.result c.waiting-beside.ensures
+
+pub returns-in_err-cone-clause-counted : goal.returns-in_err-cone-clause-counted
+returns-in_err-cone-clause-counted g c = counted_start c.args.width c.args.rows.now.rows _ (omega arith)
+
+pub returns-then-other-clause-canon : goal.returns-then-other-clause-canon
+returns-then-other-clause-canon g c =
+    let done : IsDone c.args.rows.now.width c.args.rows.now.rows c.race.new.beside =
+    first_of c.in_ok-other.other (IsDone c.args.rows.now.width c.args.rows.now.rows c.race.new.beside) (IsState c.args.rows.now.width c.args.rows.now.rows (length c.args.rows.now.rows) c.race.new.cone) c.if-other.true c.in_ok-other.ensures.done in
+    let P : ℕ → Type 0 = λ w. Canon (Upto w c.args.rows.now.rows (length c.args.rows.now.rows)) (vectors c.in_ok-answered.field-0.lines.rows) (vectors c.in_ok-answered.field-0.rays.rows) in
+    subst P c.requires.width (placed_canon c.args.rows.now.width c.args.rows.now.rows c.race.new.beside c.in_ok-answered.field-0 done c.in_ok-answered.ensures)
+
+pub returns-then-other-clause-lists : goal.returns-then-other-clause-lists
+returns-then-other-clause-lists g c =
+    let done : IsDone c.args.rows.now.width c.args.rows.now.rows c.race.new.beside =
+    first_of c.in_ok-other.other (IsDone c.args.rows.now.width c.args.rows.now.rows c.race.new.beside) (IsState c.args.rows.now.width c.args.rows.now.rows (length c.args.rows.now.rows) c.race.new.cone) c.if-other.true c.in_ok-other.ensures.done in
+    let P : ℕ → Type 0 = λ w. AreLists w c.in_ok-answered.field-0.lines c.in_ok-answered.field-0.rays in
+    subst P c.requires.width (placed_lists c.args.rows.now.width c.args.rows.now.rows c.race.new.beside c.in_ok-answered.field-0 done c.in_ok-answered.ensures)
+
+pub returns-then-other-clause-sat : goal.returns-then-other-clause-sat
+returns-then-other-clause-sat g c =
+    let done : IsDone c.args.rows.now.width c.args.rows.now.rows c.race.new.beside =
+    first_of c.in_ok-other.other (IsDone c.args.rows.now.width c.args.rows.now.rows c.race.new.beside) (IsState c.args.rows.now.width c.args.rows.now.rows (length c.args.rows.now.rows) c.race.new.cone) c.if-other.true c.in_ok-other.ensures.done in
+    placed_zeros c.args.rows.now.width c.args.rows.now.rows c.race.new.beside c.in_ok-answered.field-0 done c.in_ok-answered.ensures
+
+pub returns-clause-canon : goal.returns-clause-canon
+returns-clause-canon g c =
+    let state : IsState c.args.rows.now.width c.args.rows.now.rows (length c.args.rows.now.rows) c.race.new.cone =
+    second_of c.in_ok-other.other (IsDone c.args.rows.now.width c.args.rows.now.rows c.race.new.beside) (IsState c.args.rows.now.width c.args.rows.now.rows (length c.args.rows.now.rows) c.race.new.cone) c.if-other.false c.in_ok-other.ensures.done in
+    let P : ℕ → Type 0 = λ w. Canon (Upto w c.args.rows.now.rows (length c.args.rows.now.rows)) (vectors c.in_ok-sorted.field-0.lines.rows) (vectors c.in_ok-sorted.field-0.rays.rows) in
+    subst P c.requires.width (rearranged_canon c.args.rows.now.width c.args.rows.now.rows (length c.args.rows.now.rows) c.race.new.cone c.in_ok-sorted.field-0 state c.in_ok-sorted.ensures)
+
+pub returns-clause-lists : goal.returns-clause-lists
+returns-clause-lists g c =
+    let state : IsState c.args.rows.now.width c.args.rows.now.rows (length c.args.rows.now.rows) c.race.new.cone =
+    second_of c.in_ok-other.other (IsDone c.args.rows.now.width c.args.rows.now.rows c.race.new.beside) (IsState c.args.rows.now.width c.args.rows.now.rows (length c.args.rows.now.rows) c.race.new.cone) c.if-other.false c.in_ok-other.ensures.done in
+    let P : ℕ → Type 0 = λ w. AreLists w c.in_ok-sorted.field-0.lines c.in_ok-sorted.field-0.rays in
+    subst P c.requires.width (rearranged_lists c.args.rows.now.width c.args.rows.now.rows (length c.args.rows.now.rows) c.race.new.cone c.in_ok-sorted.field-0 state c.in_ok-sorted.ensures)
+
+pub returns-clause-sat : goal.returns-clause-sat
+returns-clause-sat g c =
+    let state : IsState c.args.rows.now.width c.args.rows.now.rows (length c.args.rows.now.rows) c.race.new.cone =
+    second_of c.in_ok-other.other (IsDone c.args.rows.now.width c.args.rows.now.rows c.race.new.beside) (IsState c.args.rows.now.width c.args.rows.now.rows (length c.args.rows.now.rows) c.race.new.cone) c.if-other.false c.in_ok-other.ensures.done in
+    rearranged_zeros c.args.rows.now.width c.args.rows.now.rows (length c.args.rows.now.rows) c.race.new.cone c.in_ok-sorted.field-0 state c.in_ok-sorted.ensures

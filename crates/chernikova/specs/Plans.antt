@@ -1,0 +1,37 @@
+use Rattle.std.specs.Prelude.{◌≡◌, ℕ, ◌+◌, ◌-◌, ◌<◌, Bool, List, length, map, All, ℤ, pos}
+use Rattle.row_core.specs.Vectors.{dot}
+use Rattle.row_core.specs.Range.{InRange}
+use Rattle.row_core.specs.Lists.{Row, row_at, is_eq_at, vectors}
+use Rattle.cone_laws.specs.Canon.{vector_at}
+use Rattle.cone_laws.specs.Steps.{stays, IsLastCrossing}
+use Rattle.chernikova.specs.Systems.{values_on}
+use Rattle.chernikova.specs.Changes.{AreAllCrosses}
+use Rattle.chernikova.specs.declared.system.System.{System}
+use Rattle.chernikova.specs.declared.plan.Plan.{Plan}
+use Rattle.chernikova.specs.declared.plan.Plan.TheVariants as plan
+
+-- a row that isn't 0 on some line: the last such line, and the values of the lines and of the rays
+pub record IsLinePlan (row : Row) (cone : System) (index : ℕ) (line_values ray_values : List ℤ) : Type 0 where
+  pub crossing : IsLastCrossing row.0 (vectors cone.lines.rows) index
+  pub are_line_values : line_values ≡ values_on row.0 (vectors cone.lines.rows)
+  pub are_ray_values : ray_values ≡ values_on row.0 (vectors cone.rays.rows)
+  pub lines_in_range : All InRange line_values
+  pub rays_in_range : All InRange ray_values
+
+-- a row that is 0 on all lines: the values of the rays, which of them stay, and the pairs that cross
+pub record IsRayPlan (row : Row) (cone : System) (values : List ℤ) (marks : List Bool) (pairs : List (ℕ × ℕ)) : Type 0 where
+  pub flat : (i : ℕ) → i < length (vectors cone.lines.rows) → dot row.0 (vector_at (vectors cone.lines.rows) i) ≡ pos 0
+  pub are_values : values ≡ values_on row.0 (vectors cone.rays.rows)
+  pub are_marks : marks ≡ map (λ value. stays row.1 value) values
+  pub crosses : AreAllCrosses values cone.sat pairs
+  pub in_range : All InRange values
+
+-- what the step with row k is to do with a system
+abbrev pub IsPlan : List Row → ℕ → System → Plan → Type 0
+IsPlan rows k cone (plan.Line index line_values ray_values) = IsLinePlan (row_at rows k, is_eq_at rows k) cone index line_values.items ray_values.items
+IsPlan rows k cone (plan.Ray values marks pairs) = IsRayPlan (row_at rows k, is_eq_at rows k) cone values.items marks.items pairs.items
+
+-- how many combinations the step makes at most
+abbrev pub combinations_of : System → Plan → ℕ
+combinations_of cone (plan.Line index line_values ray_values) = length cone.lines.rows + length cone.rays.rows - 1
+combinations_of cone (plan.Ray values marks pairs) = length pairs.items
