@@ -78,7 +78,8 @@ impl BoundTable {
         ensures elsewhere { OnOk result ((p q : ℕ) → p < self.old.places → q < self.old.places → Differs i j p q → bounds_of self.new p q ≡ bounds_of self.old p q) }
         ensures overflow { IfErr result (IsOverflowIn (λ over. LeavesInBoth (bounds_of self.old i j) (bounds_of other.now i j) over ⊎ LeavesInBoth (bounds_of other.now i j) (bounds_of self.old i j) over)) }
     {
-        match picked(choice, self.word(i, j), other.word(i, j)) {
+        let (left, right) = self.word_pair(other, i, j);
+        match picked(choice, left, right) {
             Some(true) => {
                 self.take(other, i, j);
                 Ok(())

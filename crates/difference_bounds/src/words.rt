@@ -88,10 +88,10 @@ pub(crate) fn step(bound: i64, to: i64, from: i64) -> Outcome
 pub(crate) fn compared(left: i64, right: i64) -> Option<bool>
     ensures { IsComparison left right result }
 {
-    if left == OTHER || right == OTHER {
-        return None;
+    if right <= left {
+        return if right == OTHER { None } else { Some(false) };
     }
-    Some(left < right)
+    if left == OTHER { None } else { Some(true) }
 }
 
 /// Whether each bound of the second list is known to be at most that of the first, by their words.

@@ -9,21 +9,21 @@ use Rattle.difference_bounds.proofs.table.BoundTable.combine_at.Goals as goal
 
 pub returns-in-Some-true-clause-here : goal.returns-in-Some-true-clause-here
 returns-in-Some-true-clause-here c =
-    let first : SFits w64 c.word.result = search rules in
-    let second : SFits w64 c.word-2.result = search rules in
+    let first : SFits w64 c.word_pair-left.result.0 = search rules in
+    let second : SFits w64 c.word_pair-left.result.1 = search rules in
     let picks = simp to_z-of_z at c.in-Some-true.ensures in
     let left = bounds_of c.args.self.now c.args.i c.args.j in
     let right = bounds_of c.args.other.now c.args.i c.args.j in
     let known : c.in-Some-true.field-0 ≡ true = search rules in
-    let taken : IsChosen c.args.choice left right right = subst (λ (r : Bool). PicksAs c.args.choice left right (Some r)) known (picks left right c.word.ensures.word c.word-2.ensures.word) in
+    let taken : IsChosen c.args.choice left right right = subst (λ (r : Bool). PicksAs c.args.choice left right (Some r)) known (picks left right c.word_pair-left.ensures.here c.word_pair-left.ensures.there) in
     subst (IsChosen c.args.choice left right) (sym c.take.ensures.here) taken
 
 pub returns-in-Some-false-clause-here : goal.returns-in-Some-false-clause-here
 returns-in-Some-false-clause-here c =
-    let first : SFits w64 c.word.result = search rules in
-    let second : SFits w64 c.word-2.result = search rules in
+    let first : SFits w64 c.word_pair-left.result.0 = search rules in
+    let second : SFits w64 c.word_pair-left.result.1 = search rules in
     let picks = simp to_z-of_z at c.in-Some-false.ensures in
     let left = bounds_of c.args.self.now c.args.i c.args.j in
     let right = bounds_of c.args.other.now c.args.i c.args.j in
     let known : c.in-Some-false.field-0 ≡ false = search rules in
-    subst (λ (r : Bool). PicksAs c.args.choice left right (Some r)) known (picks left right c.word.ensures.word c.word-2.ensures.word)
+    subst (λ (r : Bool). PicksAs c.args.choice left right (Some r)) known (picks left right c.word_pair-left.ensures.here c.word_pair-left.ensures.there)
