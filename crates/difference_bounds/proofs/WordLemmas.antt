@@ -1,5 +1,5 @@
 -- What words tell of bounds.
-use Rattle.std.specs.Prelude.{◌≡◌, ◌⊎◌, ℕ, ◌+◌, ◌*◌, ◌^◌, ◌<◌, List, [], ◌∷◌, length, ℤ, pos, negsuc, neg_ℤ, ◌+ℤ◌, ◌<ℤ◌, ◌≤ℤ◌, ◌↔◌, IsTrue, not, Bool, true, false, Option, Some, None, IfSome, unsigned_abs, slice_index_or, slice_set, get_or}
+use Rattle.std.specs.Prelude.{◌≡◌, ◌⊎◌, ℕ, ◌^◌, ◌<◌, List, [], ◌∷◌, length, ℤ, pos, negsuc, neg_ℤ, ◌+ℤ◌, ◌<ℤ◌, ◌≤ℤ◌, ◌↔◌, IsTrue, not, Bool, true, false, Option, Some, None, IfSome, unsigned_abs, slice_index_or, slice_set, get_or}
 use Rattle.std.specs.Int.{w64, w128}
 use mir.Val.{SFits, of_z, to_z}
 use Rattle.std.proofs.Common.{arith, refl, sym, ◌∙◌, ap, subst, inl, inr}
@@ -12,15 +12,14 @@ use Rattle.row_core.proofs.OnePrimitive.{IsPrimitiveOf-self}
 use Rattle.row_core.specs.Range.{InRange}
 use Rattle.row_core.specs.Content.{IsPrimitive}
 use Rattle.difference_bounds.specs.declared.fraction.Fraction.{Fraction}
-use Rattle.difference_bounds.specs.declared.words.Outcome.TheVariants.{Stays, Falls, Unknown}
-use Rattle.difference_bounds.specs.declared.choosing.Choice.{Choice}
+use Rattle.difference_bounds.specs.declared.words.Outcome.TheVariants.{Stays, Falls}
 use Rattle.difference_bounds.specs.declared.choosing.Choice.TheVariants.{Lesser, Greater}
 use Rattle.difference_bounds.specs.Fractions.{sum, IsBelow, IsFraction, IsLowestOf}
 use Rattle.difference_bounds.specs.Walks.{Bound}
 use Rattle.difference_bounds.specs.Tables.{Table, IsTable}
 use Rattle.difference_bounds.specs.Laws.{IsRelaxed, IsLesser, IsCovered}
-use Rattle.difference_bounds.specs.Combining.{IsChosen, PicksAs}
-use Rattle.difference_bounds.specs.Words.{absent, other, IsShort, whole, IsWord, IsWithinWords, AreWords, StepsTo, IsStep, IsBoundBelow, ComparesAs}
+use Rattle.difference_bounds.specs.Combining.{PicksAs}
+use Rattle.difference_bounds.specs.Words.{absent, other, IsShort, whole, IsWord, IsWithinWords, AreWords, IsStep, IsBoundBelow, ComparesAs}
 use Rattle.difference_bounds.proofs.FractionLemmas.{sum_answer, whole_fraction}
 
 -- ---- one word
@@ -55,7 +54,7 @@ short_wide (negsuc a) h k = record { sfits = omega (arith, ints, h) }
 pub word_sum : (y z : ℤ) → SFits w64 y → SFits w64 z → SFits w64 (y +ℤ z) → to_z w64 (of_z w64 (to_z w64 (of_z w64 y) +ℤ to_z w64 (of_z w64 z))) ≡ y +ℤ z
 word_sum y z f g h =
     ap (λ (x : ℤ). to_z w64 (of_z w64 (x +ℤ to_z w64 (of_z w64 z)))) (to_z-of_z w64 y f)
-      ∙ (ap (λ (x : ℤ). to_z w64 (of_z w64 (y +ℤ x))) (to_z-of_z w64 z g) ∙ to_z-of_z w64 (y +ℤ z) h)
+    ∙ (ap (λ (x : ℤ). to_z w64 (of_z w64 (y +ℤ x))) (to_z-of_z w64 z g) ∙ to_z-of_z w64 (y +ℤ z) h)
 
 pub absent_word : (w : ℤ) → SFits w64 w → of_z w64 w ≡ 2 ^ 62 → w ≡ absent
 absent_word w f e = sym (to_z-of_z w64 w f) ∙ ap (to_z w64) e

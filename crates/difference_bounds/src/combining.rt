@@ -148,7 +148,13 @@ impl BoundTable {
 
     /// Whether the bound of place `i` less place `j` of another table is at most that of this one.
     #[inline]
-    fn covers_at(&self, alloc: Global, other: &BoundTable, i: usize, j: usize) -> Result<bool, ConvErr>
+    fn covers_at(
+        &self,
+        alloc: Global,
+        other: &BoundTable,
+        i: usize,
+        j: usize,
+    ) -> Result<bool, ConvErr>
         requires same { other.now.places ≡ self.now.places }
         requires row { i < self.now.places }
         requires column { j < self.now.places }
