@@ -1,6 +1,6 @@
 -- What the conversion in another order gives is what that in the list's order gives.
-use Rattle.std.specs.Prelude.{◌≡◌, ◌≢◌, ℕ, ◌<◌, List, length, Bool, true, false, All, Option, Some, None, MatchBool, MatchOption}
-use Rattle.std.proofs.Common.{sym, ap, subst, ◌∙◌, arith}
+use Rattle.std.specs.Prelude.{◌≡◌, ℕ, ◌<◌, List, length, Bool, true, false, All, Option, Some, None, MatchBool, MatchOption}
+use Rattle.std.proofs.Common.{sym, subst, ◌∙◌, arith}
 use Rattle.std.proofs.lemmas.List.Elements.{All-from_get_or}
 use Rattle.std.proofs.lemmas.Bool.{false≢true}
 use Rattle.row_core.specs.Lists.{Row, Rows, vectors}
@@ -12,7 +12,7 @@ use Rattle.chernikova.specs.declared.beside.Beside.{Beside}
 use Rattle.chernikova.specs.declared.cone.Cone.{Cone}
 use Rattle.chernikova.specs.Changes.{AreLists}
 use Rattle.chernikova.specs.Conversion.{IsState}
-use Rattle.chernikova.specs.RowOrders.{place_at, IsPlaced}
+use Rattle.chernikova.specs.RowOrders.{IsPlaced}
 use Rattle.chernikova.specs.Beside.{IsBeside, IsDone}
 use Rattle.chernikova.proofs.Rankings.{rearranged_canon, rearranged_zeros, rearranged_lists}
 use Rattle.chernikova.proofs.Reordered.{reordered_admit, reordered_zeros}

@@ -1,4 +1,4 @@
-use Rattle.std.specs.Prelude.{◌-◌, ℕ, length}
+use Rattle.std.specs.Prelude.{ℕ, length}
 use Rattle.row_core.specs.Lists.{vectors}
 use Rattle.cone_laws.specs.Cones.{Upto}
 use Rattle.cone_laws.specs.Canon.{Canon}

@@ -3,7 +3,6 @@ use Rattle.std.proofs.Common.{sym, ap, subst, ◌∙◌}
 use Rattle.std.proofs.lemmas.List.{length-map}
 use Rattle.std.proofs.lemmas.Result.{IfOk-weaker}
 use Rattle.sat_matrix.specs.Tables.{Table, bits_of, transposed}
-use Rattle.chernikova.specs.RowOrders.{bits_at}
 use Rattle.chernikova.proofs.Reordered.{transposed_length, turned_back}
 use Rattle.chernikova.proofs.better_order.in_list_order.Goals as goal
 

@@ -1,5 +1,5 @@
-use Rattle.std.specs.Prelude.{◌≡◌, ◌-◌, ℕ, ℤ, List, Bool, length, map}
-use Rattle.std.proofs.Common.{refl, sym, ap, subst, ◌∙◌, arith}
+use Rattle.std.specs.Prelude.{ℤ, List, Bool, map}
+use Rattle.std.proofs.Common.{ap, subst, ◌∙◌, arith}
 use Rattle.row_core.specs.Lists.{row_at, vectors}
 use Rattle.cone_laws.specs.Steps.{stays, IsLastCrossing}
 use Rattle.chernikova.specs.Systems.{values_on}

@@ -1,5 +1,5 @@
-use Rattle.std.specs.Prelude.{◌≡◌, ◌+◌, ℕ, true}
-use Rattle.std.proofs.Common.{ap, subst, sym, ◌∙◌, arith}
+use Rattle.std.specs.Prelude.{◌≡◌, ◌+◌, ℕ}
+use Rattle.std.proofs.Common.{subst, sym, arith}
 use Rattle.std.proofs.lemmas.Bool.{false≢true}
 use Rattle.chernikova.specs.declared.system.System.{System}
 use Rattle.chernikova.specs.Conversion.{IsState}

@@ -1,7 +1,6 @@
-use Rattle.std.specs.Prelude.{◌≡◌, ℕ, List, length, map, All, IsPermutation, ◌<◌}
+use Rattle.std.specs.Prelude.{ℕ, List, length, map, All, IsPermutation, ◌<◌}
 use Rattle.std.specs.List.{range_with_len}
 use Rattle.std.proofs.Common.{sym, ap, subst, ◌∙◌, arith}
-use Rattle.row_core.specs.Lists.{Row}
 use Rattle.chernikova.specs.Conversion.{IsState}
 use Rattle.chernikova.proofs.Reordered.{order_below, order_length, reordered_from}
 use Rattle.chernikova.specs.RowOrders.{ArePlaces, row_of}
