@@ -19,15 +19,10 @@ use Rattle.difference_bounds.specs.Walks.{Bound}
 use Rattle.difference_bounds.specs.Tables.{Table, IsTable}
 use Rattle.difference_bounds.specs.Laws.{IsRelaxed, IsLesser, IsCovered}
 use Rattle.difference_bounds.specs.Combining.{PicksAs}
-use Rattle.difference_bounds.specs.Words.{absent, other, IsShort, whole, IsWord, IsWithinWords, AreWords, IsStep, IsBoundBelow, ComparesAs}
+use Rattle.difference_bounds.specs.Words.{absent, other, IsShort, whole, IsWord, AreWords, IsStep, IsBoundBelow, ComparesAs}
 use Rattle.difference_bounds.proofs.FractionLemmas.{sum_answer, whole_fraction}
 
 -- ---- one word
-pub word_within : (b : Bound) (w : ℤ) → IsWord b w → IsWithinWords w
-word_within None w e = record { least = omega (arith, ints, e); most = omega (arith, ints, e) }
-word_within (Some f) w (inl (s, e)) = let l = s.least in let m = s.most in record { least = omega (arith, ints, l); most = omega (arith, ints, m) }
-word_within (Some f) w (inr e) = record { least = omega (arith, ints, e); most = omega (arith, ints, e) }
-
 pub none_of : (b : Bound) (w : ℤ) → IsWord b w → w ≡ absent → b ≡ None
 none_of None w h e = refl
 none_of (Some f) w (inl (s, g)) e = absurd (let m = s.most in omega (arith, ints, m, e))
