@@ -19,7 +19,7 @@ use std::sync::ledger::Ledger;
 const PAIRS_BEFORE: u64 = 20_000;
 
 /// Of how many pairs of the conversion in the list's order the other tests one.
-const SHARE: u64 = 8;
+const SHARE: u64 = 16;
 
 /// A conversion in sorted order: its rows, the place among them of each row of the list, and the system
 /// of those that were taken in. It has begun or not, and runs until an overflow ends it.
