@@ -5,6 +5,8 @@ pub mod LongerLists
 pub mod SplitLemmas
 pub mod TurnLemmas
 pub mod RegionLemmas
+pub mod KeptRows
+pub mod PartLemmas
 pub mod CoverLemmas
 pub mod ReductionLemmas
 pub mod JoinLemmas

@@ -12,7 +12,7 @@ use Rattle.powerset.specs.Inequalities.{AreInequalities, complement}
 use Rattle.row_core.specs.Refusals.{IsOverflowIn}
 use Rattle.powerset.specs.Regions.{LeavesOnList, followed, HoldNowhere}
 use Rattle.powerset.specs.Branches.{choice, begins, chooses, LeavesOnBranch, HoldsInSome, AreCovered, IsUncovered}
-use Rattle.powerset.specs.Pieces.{inner_part, outer_part, front_of, IsRowOf, IsPiece, IsInSome, all_still, IsWithin, IsTurn, IsFound, LeavesInTurn, LiesInSome}
+use Rattle.powerset.specs.Pieces.{inner_part, outer_part, front_of, IsRowOf, IsPiece, IsInSome, all_still, IsWithin, IsTurn, IsFound, LeavesInSplit, LeavesInTurn, LiesInSome}
 use Rattle.powerset.proofs.InequalityLemmas.{all_left}
 use Rattle.powerset.proofs.RegionLemmas.{list_longer}
 use Rattle.powerset.proofs.BranchLemmas.{all_at, branch_outside, outside_all}
@@ -21,6 +21,11 @@ use Rattle.powerset.proofs.PieceLemmas.{no_front, no_row, outer_list, outer_bran
 -- each point of the set is in some system or in some piece
 abbrev pub AreAllTold : Constraints → List Constraints → List Piece → Type 0
 AreAllTold first systems pieces = (v : List ℤ) → IsPoint first.dim v → In first v → HoldsInSome systems v ⊎ IsInSome pieces v
+
+-- an overflow of the split by the next system is one of the turn
+pub next_leaves : (systems : List Constraints) (piece : Piece) (rows : Constraints) (error : ConvErr) → slice_get systems piece.passed ≡ Some rows → IsOverflowIn (LeavesInSplit rows piece) error → IsOverflowIn (LeavesInTurn systems piece) error
+next_leaves systems piece rows (conversion.Overflow over) at l = record { rows = rows; at = at; leaves = l }
+next_leaves systems piece rows conversion.Memory at l = tt
 
 -- ---- the whole set
 -- the set is the first piece

@@ -1,4 +1,4 @@
-use Rattle.std.specs.Prelude.{◌≡◌, ◌+◌, List, ◌++◌, map, length, false, All, ℤ, pos, ◌≤ℤ◌}
+use Rattle.std.specs.Prelude.{◌≡◌, ◌⊎◌, ◌+◌, List, ◌++◌, map, length, Bool, true, false, All, ℤ, pos, ◌≤ℤ◌, ◌<ℤ◌, ◌+ℤ◌}
 use Rattle.row_core.specs.Content.{IsPrimitive}
 use Rattle.row_core.specs.Points.{IsPoint}
 use Rattle.row_core.specs.Vectors.{dot}
@@ -10,7 +10,7 @@ use Rattle.cone_laws.specs.Canon.{Canon}
 use Rattle.cone_laws.specs.Leaves.{Leaves}
 use Rattle.cone_laws.specs.MarkedLists.{AreLists}
 use Rattle.chernikova.specs.declared.cone.Cone.{Cone}
-use Rattle.cons_sys.specs.Constraints.{Constraints, In}
+use Rattle.cons_sys.specs.Constraints.{Constraint, Constraints, Satisfies, In}
 use Rattle.nnc_enc.specs.Encoding.{encoded_constraint, encoded_constraints}
 
 -- ---- lists
@@ -61,3 +61,11 @@ pub record IsValidOn (row : Row) (lines rays : List (List ℤ)) : Type 0 where
   pub inequality : row.1 ≡ false
   pub on_lines : All (λ l. dot row.0 l ≡ pos 0) lines
   pub on_rays : All (λ r. pos 0 ≤ℤ dot row.0 r) rays
+
+-- the constraint holds at each point at which the system does
+abbrev pub HoldsOn : Constraints → Constraint → Type 0
+HoldsOn cs c = (v : List ℤ) → IsPoint cs.dim v → In cs v → Satisfies v c
+
+-- the value of the row of an inequality on a vector of this height is at least 0 or, of a strict one, above 0 without the height
+abbrev pub IsKept : Bool → ℤ → ℤ → Type 0
+IsKept strict value height = (pos 0 ≤ℤ value) ⊎ ((strict ≡ true) × (pos 0 <ℤ (value +ℤ height)))

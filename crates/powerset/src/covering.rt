@@ -6,10 +6,11 @@ ghost use Rattle.row_core.specs.Refusals.{IsOverflowIn};
 ghost use Rattle.powerset.specs.Branches.{LeavesOnBranch, AreCovered, IsUncovered};
 ghost use Rattle.powerset.specs.Covers.{IsCover, systems_of, LeavesOnCover, HasUncovered, LeavesOnSome};
 
-use crate::halfspaces::Halfspaces;
 use crate::pieces::{Piece, turn};
 use crate::powersets::Powerset;
 use crate::region::Region;
+use crate::search::search;
+use crate::walls::Walls;
 use cons_sys::ConsSys;
 use poly_pair::Poly;
 use row_core::{ConvErr, Memory, RowBuf, Steps};
@@ -27,10 +28,10 @@ pub enum Cover {
 
 /// A point at which the first constraints hold and none of the systems does, if there is one. The set is parted by one
 /// inequality after another; of the two parts, that on which it doesn't hold is outside of its system, and goes first.
-fn uncovered<L: Ledger>(
+fn uncovered_by_branches<L: Ledger>(
     alloc: Global,
     first: &ConsSys,
-    systems: &[Halfspaces],
+    systems: &[Walls],
     steps: &mut Steps<L>,
 ) -> Result<Option<RowBuf>, ConvErr>
     requires dims { All (λ rows. rows.dim ≡ first.now.dim) systems.now }
@@ -54,13 +55,33 @@ fn uncovered<L: Ledger>(
     Ok(None)
 }
 
+/// The same, by a search that passes by the systems that a part of the set doesn't meet. Where a number leaves the range
+/// in it, the search over branches decides.
+fn uncovered<L: Ledger>(
+    alloc: Global,
+    first: &ConsSys,
+    systems: &[Walls],
+    steps: &mut Steps<L>,
+) -> Result<Option<RowBuf>, ConvErr>
+    requires dims { All (λ rows. rows.dim ≡ first.now.dim) systems.now }
+    requires inequalities { All AreInequalities systems.now }
+    ensures found { IfOk result (λ found. MatchOption found (AreCovered first.now systems.now) (IsUncovered first.now systems.now)) }
+    ensures overflow { IfErr result (IsOverflowIn (LeavesOnBranch first.now systems.now)) }
+{
+    match search(alloc, first, systems, steps) {
+        Ok(found) => Ok(found),
+        Err(ConvErr::Memory) => Err(ConvErr::Memory),
+        Err(ConvErr::Overflow(_)) => uncovered_by_branches(alloc, first, systems, steps),
+    }
+}
+
 /// The inequalities of each polyhedron.
-fn all_inequalities(alloc: Global, members: &[Poly]) -> Result<Vec<Halfspaces>, Memory>
+fn all_inequalities(alloc: Global, members: &[Poly]) -> Result<Vec<Walls>, Memory>
     ensures { IfOk result (λ systems. systems.items ≡ systems_of members.now) }
 {
     let mut systems = Vec::new(alloc);
     for index in 0..members.len() {
-        systems.push(Halfspaces::of(alloc, members[index].cons())?)?;
+        systems.push(Walls::of(alloc, members[index].cons())?)?;
     }
     Ok(systems)
 }
@@ -69,7 +90,7 @@ fn all_inequalities(alloc: Global, members: &[Poly]) -> Result<Vec<Halfspaces>, 
 fn some_uncovered<L: Ledger>(
     alloc: Global,
     members: &[Poly],
-    systems: &[Halfspaces],
+    systems: &[Walls],
     steps: &mut Steps<L>,
 ) -> Result<Option<RowBuf>, ConvErr>
     requires dims { All (λ (p : Polyhedron). All (λ rows. rows.dim ≡ p.cons.dim) systems.now) members.now }
@@ -88,8 +109,9 @@ fn some_uncovered<L: Ledger>(
 
 /// Whether each point of t is in s.
 ///
-/// Each member of t is parted by the inequalities of the members of s, one after another, and a part that is outside
-/// of all members of s has a point that isn't covered.
+/// Each member of t is parted by the inequalities of the members of s that it meets, and a part that is outside of all
+/// members of s has a point that isn't covered. Where a number leaves the range, it is parted again by all members of s in
+/// their order, so that each list that is converted is that of a branch.
 ///
 /// # Errors
 ///

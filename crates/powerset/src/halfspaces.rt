@@ -4,7 +4,7 @@ ghost use Rattle.cons_sys.specs.Constraints.{constraint_at};
 ghost use Rattle.nnc_enc.specs.Encoding.{encoded_constraint};
 ghost use Rattle.powerset.specs.Inequalities.{inequalities, complement};
 
-use crate::inequalities::{complement_of, inequalities_of, one_of};
+use crate::inequalities::{complement_of, complements_of, inequalities_of, one_of};
 use cons_sys::ConsSys;
 use nnc_enc::encode_further_cons;
 use row_core::{Memory, RowList};
@@ -43,6 +43,14 @@ impl Halfspaces {
         ensures { IfOk result (λ h. h ≡ inequalities cons.now) }
     {
         Halfspaces::encoded(alloc, inequalities_of(alloc, cons)?)
+    }
+
+    /// The complements of all inequalities.
+    pub(crate) fn complements(&self, alloc: Global) -> Result<Halfspaces, Memory>
+        ensures dim { IfOk result (λ h. h.dim ≡ self.now.dim) }
+        ensures list { IfOk result (λ h. h.list ≡ map complement self.now.list) }
+    {
+        Halfspaces::encoded(alloc, complements_of(alloc, &self.cons)?)
     }
 
     /// One of these inequalities.

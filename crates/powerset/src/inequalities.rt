@@ -1,9 +1,9 @@
 //! The inequalities of a system, and their complements.
-ghost use Rattle.std.specs.Prelude.{◌≡◌, ◌+◌, ◌-◌, ◌^◌, ◌<◌, ◌++◌, ◌∷◌, [], length, IfOk, OnOk};
+ghost use Rattle.std.specs.Prelude.{◌≡◌, ◌+◌, ◌-◌, ◌^◌, ◌<◌, ◌++◌, ◌∷◌, [], length, map, IfOk, OnOk};
 ghost use Rattle.row_core.specs.Range.{AllInRange};
 ghost use Rattle.row_core.specs.Content.{IsPrimitive};
 ghost use Rattle.cons_sys.specs.Constraints.{constraint_at};
-ghost use Rattle.powerset.specs.Inequalities.{halves, inequalities, opposite, complement};
+ghost use Rattle.powerset.specs.Inequalities.{halves, inequalities, is_strict, opposite, complement};
 
 use cons_sys::{ConKind, ConsSys};
 use row_core::{Memory, RowBuf};
@@ -68,6 +68,17 @@ fn opposite(kind: ConKind) -> ConKind
     }
 }
 
+/// Whether an inequality of the kind is strict.
+pub(crate) fn is_strict(kind: ConKind) -> bool
+    ensures { result ≡ is_strict kind }
+{
+    match kind {
+        ConKind::Eq => false,
+        ConKind::Ge => false,
+        ConKind::Gt => true,
+    }
+}
+
 /// A system of the one inequality.
 pub(crate) fn one_of(alloc: Global, rows: &ConsSys, index: usize) -> Result<ConsSys, Memory>
     requires { index < length rows.now.list }
@@ -88,5 +99,18 @@ pub(crate) fn complement_of(alloc: Global, rows: &ConsSys, index: usize) -> Resu
     let mut system = ConsSys::new(alloc, rows.dim());
     let turned = RowBuf::negated(alloc, rows.row(index))?;
     push_primitive(&mut system, turned.cells(), opposite(rows.kind(index)))?;
+    Ok(system)
+}
+
+/// The complements of all inequalities, in order.
+pub(crate) fn complements_of(alloc: Global, rows: &ConsSys) -> Result<ConsSys, Memory>
+    ensures dim { IfOk result (λ system. system.dim ≡ rows.now.dim) }
+    ensures list { IfOk result (λ system. system.list ≡ map complement rows.now.list) }
+{
+    let mut system = ConsSys::new(alloc, rows.dim());
+    for index in 0..rows.len() {
+        let turned = RowBuf::negated(alloc, rows.row(index))?;
+        push_primitive(&mut system, turned.cells(), opposite(rows.kind(index)))?;
+    }
     Ok(system)
 }

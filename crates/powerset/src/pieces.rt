@@ -7,6 +7,7 @@ ghost use Rattle.powerset.specs.Pieces.{outer_part, inner_part, IsInner, IsSplit
 
 use crate::halfspaces::Halfspaces;
 use crate::region::Region;
+use crate::walls::Walls;
 use row_core::{ConvErr, Memory, RowBuf, Steps};
 use std::alloc::Global;
 use std::sync::ledger::Ledger;
@@ -198,7 +199,7 @@ fn split<L: Ledger>(
 }
 
 /// Whether the piece is seen to lie in one of the systems that are still to come, before any of its inequalities is taken.
-fn lies_in_some(systems: &[Halfspaces], piece: &Piece) -> bool
+fn lies_in_some(systems: &[Walls], piece: &Piece) -> bool
     requires { All (λ rows. rows.dim ≡ piece.now.region.dim) systems.now }
     ensures { IsTrue result → LiesInSome systems.now piece.now.region }
 {
@@ -206,7 +207,7 @@ fn lies_in_some(systems: &[Halfspaces], piece: &Piece) -> bool
         return false;
     }
     for index in piece.passed..systems.len() {
-        if piece.region.lies_in(&systems[index]) {
+        if piece.region.lies_in(systems[index].inner()) {
             return true;
         }
     }
@@ -217,7 +218,7 @@ fn lies_in_some(systems: &[Halfspaces], piece: &Piece) -> bool
 /// the pieces that are pending. A piece without a point has none, nor has one that is seen to lie in one system.
 pub(crate) fn turn<L: Ledger>(
     alloc: Global,
-    systems: &[Halfspaces],
+    systems: &[Walls],
     piece: Piece,
     pending: &mut Vec<Piece>,
     steps: &mut Steps<L>,
@@ -238,6 +239,6 @@ pub(crate) fn turn<L: Ledger>(
         return Ok(None);
     }
     let passed = piece.passed;
-    split(alloc, &systems[passed], piece, pending, steps)?;
+    split(alloc, systems[passed].inner(), piece, pending, steps)?;
     Ok(None)
 }

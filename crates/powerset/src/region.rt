@@ -7,9 +7,12 @@ ghost use Rattle.row_core.specs.Lists.{row_at, vectors};
 ghost use Rattle.poly_pair.specs.Conversions.{HaveNoPoint};
 ghost use Rattle.nnc_enc.specs.Encoding.{lowered};
 ghost use Rattle.row_core.specs.Refusals.{IsOverflowIn};
-ghost use Rattle.powerset.specs.Regions.{LeavesOnList, followed, HoldNowhere, IsPointIn, LiesIn, IsValidOn};
+ghost use Rattle.cons_sys.specs.Constraints.{constraint_at};
+ghost use Rattle.powerset.specs.Inequalities.{AreInequalities};
+ghost use Rattle.powerset.specs.Regions.{LeavesOnList, followed, HoldNowhere, IsPointIn, LiesIn, IsValidOn, HoldsOn, IsKept};
 
 use crate::halfspaces::Halfspaces;
+use crate::inequalities::is_strict;
 use chernikova::{Cone, add_rows, convert};
 use cons_sys::ConsSys;
 use nnc_enc::encode_cons;
@@ -115,6 +118,36 @@ fn is_least_on(row: &[i128], list: &RowList) -> bool
     true
 }
 
+/// Whether the value of the row of an inequality on a vector is at least 0 or, of a strict one, above 0 without the
+/// height, which stands in the column. A dot that leaves the range answers no.
+fn is_kept(strict: bool, column: usize, row: &[i128], vector: &[i128]) -> bool
+    requires wide { length row.now ≡ length vector.now }
+    requires column { column < length vector.now }
+    requires narrow { length row.now < 2 ^ 32 }
+    requires in_range { AllInRange vector.now }
+    ensures { IsTrue result → IsKept strict (dot row.now vector.now) (cell vector.now column) }
+{
+    match dot(row, vector) {
+        Ok(value) => value >= 0 || (strict && value > -vector[column]),
+        Err(_) => false,
+    }
+}
+
+/// Whether it is so on each vector.
+fn is_kept_on(strict: bool, column: usize, row: &[i128], list: &RowList) -> bool
+    requires wide { length row.now ≡ list.now.width }
+    requires column { column < list.now.width }
+    requires narrow { length row.now < 2 ^ 32 }
+    ensures { IsTrue result → All (λ v. IsKept strict (dot row.now v) (cell v column)) (vectors list.now.rows) }
+{
+    for index in 0..list.len() {
+        if !is_kept(strict, column, row, list.row(index)) {
+            return false;
+        }
+    }
+    true
+}
+
 /// Whether the row is an inequality that is valid on what the system spans.
 fn is_valid(row: &[i128], eq: bool, cone: &Cone) -> bool
     requires lines { length row.now ≡ cone.now.lines.width }
@@ -152,6 +185,24 @@ impl Region {
     {
         let _fit = (self.cons.dim(), halfspaces.cons().dim());
         are_valid(halfspaces.rows(), &self.cone)
+    }
+
+    /// Whether one of the inequalities is seen to hold at all of these points. Where a number leaves the range the answer
+    /// is no.
+    pub(crate) fn keeps(&self, halfspaces: &Halfspaces, index: usize) -> bool
+        requires dim { halfspaces.now.dim ≡ self.now.dim }
+        requires index { index < length halfspaces.now.list }
+        requires inequalities { AreInequalities halfspaces.now }
+        ensures { IsTrue result → HoldsOn self.now (constraint_at halfspaces.now.list index) }
+    {
+        let dim = self.cons.dim();
+        let _fit = halfspaces.cons().dim();
+        let strict = is_strict(halfspaces.cons().kind(index));
+        let row = halfspaces.rows().row(index);
+        if !is_zero_on(row, &self.cone.lines) {
+            return false;
+        }
+        is_kept_on(strict, dim, row, &self.cone.rays)
     }
 
     /// The points at which constraints hold.

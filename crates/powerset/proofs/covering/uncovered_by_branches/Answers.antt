@@ -7,7 +7,7 @@ use Rattle.powerset.specs.Branches.{LeavesOnBranch}
 use Rattle.powerset.specs.Pieces.{IsPiece, all_still}
 use Rattle.powerset.proofs.InequalityLemmas.{all_left, all_right}
 use Rattle.powerset.proofs.TurnLemmas.{AreAllTold, first_piece, first_told, is_within, turn_pieces, turn_told, turn_falls, turn_leaves, first_leaves, answered, went_on}
-use Rattle.powerset.proofs.covering.uncovered.Goals as goal
+use Rattle.powerset.proofs.covering.uncovered_by_branches.Goals as goal
 
 pub returns-in_err-region-clause-overflow : goal.returns-in_err-region-clause-overflow
 returns-in_err-region-clause-overflow g c = let known : IsOverflowIn (LeavesOnBranch c.args.first.now c.args.systems.now) c.in_err-region.field-0.0 = first_leaves c.args.first.now c.args.systems.now c.in_err-region.field-0.0 c.in_err-region.ensures.overflow in search (rules, known, c.from_residual.ensures)
