@@ -1,9 +1,9 @@
 -- The system of a list is that of its rows at the front of a longer one.
-use Rattle.std.specs.Prelude.{◌≡◌, ℕ, ◌^◌, ◌<◌, ◌≤◌, ◌↔◌, List, [], ◌++◌, length, ℤ, pos, IsTrue, false, slice_index_or}
+use Rattle.std.specs.Prelude.{◌≡◌, ℕ, ◌≤◌, ◌↔◌, List, [], ◌++◌, length, ℤ, pos, IsTrue, false, slice_index_or}
 use Rattle.std.proofs.Common.{sym, subst, ap, arith}
 use Rattle.std.proofs.lemmas.List.{get_or_append_left}
 use Rattle.row_core.specs.Vectors.{dot}
-use Rattle.row_core.specs.Lists.{Row, row_at, vectors}
+use Rattle.row_core.specs.Lists.{Row, row_at}
 use Rattle.row_core.specs.declared.errors.ConvErr.{ConvErr}
 use Rattle.row_core.specs.declared.errors.ConvErr.TheVariants.{Overflow, Memory}
 use Rattle.sat_matrix.specs.Tables.{Table}
@@ -13,7 +13,6 @@ use Rattle.cone_laws.specs.Canon.{IsSystem}
 use Rattle.cone_laws.specs.UniqueLaws.{AdmitSame}
 use Rattle.cone_laws.proofs.MemberLemmas.{same_cone}
 use Rattle.chernikova.specs.declared.system.System.{System}
-use Rattle.chernikova.specs.Changes.{AreLists}
 use Rattle.chernikova.specs.Conversion.{IsState, IsAtStep, IsRealOverflow, IsRealOverflowFrom}
 
 -- the vectors that the rows at the front admit

@@ -1,4 +1,3 @@
-use Rattle.std.specs.Prelude.{◌^◌, ◌<◌, ℕ}
 use Rattle.std.proofs.Common.{sym, subst, ◌∙◌, arith}
 use Rattle.chernikova.specs.declared.system.System.{System}
 use Rattle.chernikova.specs.Conversion.{IsState}

@@ -1,6 +1,4 @@
-use Rattle.std.proofs.Common.{arith}
 use Rattle.std.proofs.lemmas.Result.{IfOk-weaker}
-use Rattle.minimise.specs.Facets.{AreGreatest}
 use Rattle.minimise.proofs.FacetLemmas.{greatest_led}
 use Rattle.minimise.proofs.facets.greatest_of.Goals as goal
 

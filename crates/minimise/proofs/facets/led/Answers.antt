@@ -1,5 +1,4 @@
-use Rattle.std.proofs.Common.{◌≡◌, ℕ, ◌<◌, List, Bool, length, sym, ap, ◌∙◌, subst}
-use Rattle.std.specs.Prelude.{All}
+use Rattle.std.proofs.Common.{◌≡◌, ℕ, List, Bool, length, sym, ap, ◌∙◌, subst}
 use Rattle.row_core.specs.Flat.{marked}
 use Rattle.minimise.specs.Facets.{AreLed, AreMarkedAt}
 use Rattle.minimise.proofs.FacetLemmas.{led_marked}

@@ -1,4 +1,4 @@
-use Rattle.std.proofs.Common.{◌≡◌, length, take}
+use Rattle.std.proofs.Common.{◌≡◌, take}
 use Rattle.row_core.specs.Flat.{marked}
 use Rattle.minimise.proofs.facets.marked_of.Given as goal
 

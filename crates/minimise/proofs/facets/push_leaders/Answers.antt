@@ -1,4 +1,4 @@
-use Rattle.std.proofs.Common.{ℕ, ◌≤◌, below_more, arith}
+use Rattle.std.proofs.Common.{ℕ, ◌≤◌, below_more}
 use Rattle.sat_matrix.specs.Tables.{bits_of}
 use Rattle.sat_matrix.specs.Counts.{ones}
 use Rattle.minimise.specs.Facets.{IsLedBy}
