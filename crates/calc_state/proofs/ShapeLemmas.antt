@@ -1,35 +1,33 @@
 -- What came of the commands that make bounded-difference shapes.
-use Rattle.std.proofs.Common.{◌≡◌, ℕ, ◌<◌, ◌≤◌, List, Ok, Err, refl, subst, inl, inr, arith}
+use Rattle.std.proofs.Common.{◌≡◌, ◌↔◌, ℕ, ◌<◌, ◌≤◌, List, Bool, IsTrue, Ok, Err, refl, subst, inl, inr, arith}
 use Rattle.cons_sys.specs.Constraints.{Constraints}
 use Rattle.reply_text.specs.declared.faults.Fault.{Fault}
 use Rattle.reply_text.specs.declared.faults.Fault.TheVariants.{OutOfRange, NumberTooLarge, ZeroDivisor, StrictInClosed, NotDifference, ZeroVector, NoPoint, TooManyNames, NotNested}
 use Rattle.expr_text.specs.OneAnswer.{ConsHasOneAnswer}
 use Rattle.poly_pair.specs.declared.topology.Topology.TheVariants.{Closed}
 use Rattle.poly_pair.specs.declared.topology.TheConstants.{MAX_DIM}
-use Rattle.bd_shape.specs.Shapes.{Region}
+use Rattle.bd_shape.specs.Shapes.{Region, Includes}
 use Rattle.bd_shape.specs.Given.{HasOther}
 use Rattle.bd_shape.specs.Refusals.{IsRefusalOf}
 use Rattle.bd_shape.specs.declared.refusal.ShapeErr.{ShapeErr}
 use Rattle.bd_shape.specs.declared.refusal.ShapeErr.TheVariants as unmade
 use Rattle.script_text.specs.declared.command.Part.{Part}
-use Rattle.calc_state.specs.declared.refusal.StepErr.{StepErr}
-use Rattle.calc_state.specs.declared.refusal.StepErr.TheVariants as err
-use Rattle.calc_state.specs.declared.entry.Entry.TheVariants as entry
-use Rattle.calc_state.specs.declared.change.Change.TheVariants.{Puts}
-use Rattle.calc_state.specs.Table.{Table, HasNoRoom}
-use Rattle.calc_state.specs.Order.{IsFirstOf, IsFirst, Passes}
-use Rattle.calc_state.specs.Texts.{text_order, constraints_fault, IsTextRefusal, ReadsConstraints}
-use Rattle.calc_state.specs.Makers.{SaysConstraints}
-use Rattle.calc_state.specs.Shapes.{IsShapeOfConstraints, refusal_of_shape, bounds}
-use Rattle.calc_state.specs.Performed.{IsPerformed}
+use Rattle.line_values.specs.declared.refusal.StepErr.{StepErr}
+use Rattle.line_values.specs.declared.refusal.StepErr.TheVariants as err
+use Rattle.line_values.specs.Order.{IsFirstOf, IsFirst, Passes}
+use Rattle.line_values.specs.Texts.{text_order, constraints_fault, IsTextRefusal, ReadsConstraints}
+use Rattle.poly_commands.specs.Makers.{SaysConstraints}
+use Rattle.calc_state.specs.Shapes.{IsShapeOfConstraints, refusal_of_shape, bounds, of_one_dim, shape_contains}
+use Rattle.line_values.specs.Meaning.{no_fault, room, answer_line}
+use Rattle.line_values.specs.Performed.{IsPerformed}
 
 -- ---- shapes of constraints
-module _ (table : Table) (out : List ℕ) (n : ℕ) (part : Part) (small : n ≤ MAX_DIM) where
+module _ (full : Bool) (n : ℕ) (part : Part) (small : n ≤ MAX_DIM) where
   within : ¬ (MAX_DIM < n)
   within k = absurd (omega (arith, k, small))
 
   -- the first fault of the text is the first of the command
-  first_of_text : (f : Fault) → IsFirstOf text_order (constraints_fault Closed n part) f → IsFirst (bounds table out n part).conditions f
+  first_of_text : (f : Fault) → IsFirstOf text_order (constraints_fault Closed n part) f → IsFirst (bounds full n part).conditions f
   first_of_text f (inl is) = inr (λ k. k, inr (λ k. k, inr (λ k. k, inr (λ k. k, inr (within, inl is)))))
   first_of_text f (inr (a, inl is)) = inr (λ k. k, inr (λ k. k, inr (λ k. k, inr (λ k. k, inr (within, inr (a, inl is))))))
   first_of_text f (inr (a, inr (b, inl is))) = absurd is.0
@@ -38,13 +36,13 @@ module _ (table : Table) (out : List ℕ) (n : ℕ) (part : Part) (small : n ≤
   first_of_text f (inr (a, inr (b, inr (c, inr (d, inr (e, inl is)))))) = absurd is.0
   first_of_text f (inr (a, inr (b, inr (c, inr (d, inr (e, inr is)))))) = absurd is.1
 
-  pub bounds_refused : (e : StepErr) → IsTextRefusal (constraints_fault Closed n part) e → IsPerformed (bounds table out n part) (Err e)
+  pub bounds_refused : (e : StepErr) → IsTextRefusal (constraints_fault Closed n part) e → IsPerformed (bounds full n part) (Err e)
   bounds_refused (err.Input f) is = first_of_text f is
   bounds_refused (err.Overflow over) is = absurd is
   bounds_refused err.Memory is = tt
 
   module _ (system : Constraints) (read : ReadsConstraints Closed n part system) where
-    pub bounds_other : HasOther system → IsFirst (bounds table out n part).conditions NotDifference
+    pub bounds_other : HasOther system → IsFirst (bounds full n part).conditions NotDifference
     bounds_other other =
         let says : SaysConstraints n part (λ cs. HasOther cs) = record { system = system; read = read.read; holds = other } in
         inr (λ k. k, inr (λ k. k, inr (λ k. k, inr (λ k. k, inr (within, inr (read.faultless.0, inr (read.faultless.1.0, inr (read.faultless.1.1.0, inr (read.faultless.1.1.1.0, inl (says, refl))))))))))
@@ -53,18 +51,27 @@ module _ (table : Table) (out : List ℕ) (n : ℕ) (part : Part) (small : n ≤
     none_other : ConsHasOneAnswer → ¬ (HasOther system) → ¬ (SaysConstraints n part (λ cs. HasOther cs))
     none_other law lacks k = lacks (subst HasOther ((law n part.text).one_value k.system system k.read read.read) k.holds)
 
-    pub bounds_full : ConsHasOneAnswer → ¬ (HasOther system) → HasNoRoom table out → IsFirst (bounds table out n part).conditions TooManyNames
-    bounds_full law lacks full =
-        inr (λ k. k, inr (λ k. k, inr (λ k. k, inr (λ k. k, inr (within, inr (read.faultless.0, inr (read.faultless.1.0, inr (read.faultless.1.1.0, inr (read.faultless.1.1.1.0, inr (none_other law lacks, inr (λ k. k, inr (λ k. k, inl (full, refl)))))))))))))
+    pub bounds_full : ConsHasOneAnswer → ¬ (HasOther system) → IsTrue full → IsFirst (bounds full n part).conditions TooManyNames
+    bounds_full law lacks none =
+        inr (λ k. k, inr (λ k. k, inr (λ k. k, inr (λ k. k, inr (within, inr (read.faultless.0, inr (read.faultless.1.0, inr (read.faultless.1.1.0, inr (read.faultless.1.1.1.0, inr (none_other law lacks, inr (λ k. k, inr (λ k. k, inl (none, refl)))))))))))))
 
-    bounds_passes : ConsHasOneAnswer → ¬ (HasOther system) → ¬ (HasNoRoom table out) → Passes (bounds table out n part).conditions
+    bounds_passes : ConsHasOneAnswer → ¬ (HasOther system) → ¬ (IsTrue full) → Passes (bounds full n part).conditions
     bounds_passes law lacks room =
         (λ k. k, (λ k. k, (λ k. k, (λ k. k, (within, (read.faultless.0, (read.faultless.1.0, (read.faultless.1.1.0, (read.faultless.1.1.1.0, (none_other law lacks, (λ k. k, (λ k. k, (room, (λ k. k, tt))))))))))))))
 
-    pub bounds_made : (s : Region) → ConsHasOneAnswer → ¬ (HasOther system) → ¬ (HasNoRoom table out) → IsShapeOfConstraints system s → IsPerformed (bounds table out n part) (Ok (Puts out (entry.Shape s)))
-    bounds_made s law lacks room is = (bounds_passes law lacks room, (refl, record { system = system; read = read.read; holds = is }))
+    pub bounds_made : (s : Region) → ConsHasOneAnswer → ¬ (HasOther system) → ¬ (IsTrue full) → IsShapeOfConstraints system s → IsPerformed (bounds full n part) (Ok s)
+    bounds_made s law lacks room is = (bounds_passes law lacks room, record { system = system; read = read.read; holds = is })
 
-    pub bounds_leaves : (cause : ShapeErr) → ConsHasOneAnswer → ¬ (HasOther system) → ¬ (HasNoRoom table out) → IsRefusalOf system cause → IsPerformed (bounds table out n part) (Err (refusal_of_shape cause))
+    pub bounds_leaves : (cause : ShapeErr) → ConsHasOneAnswer → ¬ (HasOther system) → ¬ (IsTrue full) → IsRefusalOf system cause → IsPerformed (bounds full n part) (Err (refusal_of_shape cause))
     bounds_leaves unmade.NotDifference law lacks room is = absurd (lacks is)
     bounds_leaves (unmade.Overflow over) law lacks room is = (bounds_passes law lacks room, record { system = system; read = read.read; holds = is })
     bounds_leaves unmade.Memory law lacks room is = tt
+
+-- ---- two shapes
+-- whether the one includes the other was told
+pub contains_told : (s t : Region) (holds : Bool) (text : List ℕ) → Passes (of_one_dim s t no_fault) → IsTrue holds ↔ Includes s t → text ≡ answer_line holds → IsPerformed (shape_contains s t) (Ok text)
+contains_told s t holds text passes true_of said = (passes, record { holds = holds; true_of = true_of; said = said })
+
+-- two shapes that are alike, and a name for which there is room
+pub shapes_pass : (s t : Region) (full : Bool) → s.dim ≡ t.dim → ¬ (IsTrue full) → Passes (of_one_dim s t (room full))
+shapes_pass s t full dim free = (λ k. k, (λ k. k, (λ k. k, (λ k. k dim, (λ k. k, (λ k. k, (λ k. k, (λ k. k, (λ k. k, (λ k. k, (λ k. k, (λ k. k, (free, (λ k. k, tt))))))))))))))

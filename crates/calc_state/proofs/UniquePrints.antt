@@ -18,7 +18,8 @@ use Rattle.poly_pair.specs.Polyhedra.{Polyhedron, IsStoredAs}
 use Rattle.poly_pair.specs.declared.topology.Topology.{Topology}
 use Rattle.poly_pair.specs.declared.topology.Topology.TheVariants.{Closed}
 use Rattle.lattice_ops.specs.Sets.{HaveSamePoints}
-use Rattle.calc_state.specs.Questions.{line, side_text}
+use Rattle.line_values.specs.Meaning.{line}
+use Rattle.poly_commands.specs.Questions.{side_text}
 use Rattle.calc_state.specs.Entries.{IsProper}
 use Rattle.calc_state.specs.Prints.{PrintsTellPoints}
 

@@ -1,5 +1,5 @@
 -- What the commands mean that make and change linear hybrid automata, and the one that runs them.
-use Rattle.std.specs.Prelude.{◌≡◌, ℕ, ◌≤◌, List, length, All}
+use Rattle.std.specs.Prelude.{◌≡◌, ℕ, ◌≤◌, Bool, List, length, All}
 use Rattle.poly_pair.specs.Polyhedra.{Polyhedron, IsUniverse, IsEmpty}
 use Rattle.poly_pair.specs.declared.topology.Topology.TheVariants.{Closed}
 use Rattle.trans_sys.specs.Systems.{TransitionSystem}
@@ -7,8 +7,10 @@ use Rattle.hybrid.specs.Systems.{HybridSystem, with_invariant, with_flow}
 use Rattle.hybrid.specs.Reaches.{AreReached, LeavesInReach, IncludeInitial, AreClosedUnderFlow, AreClosedUnderJumps}
 use Rattle.script_text.specs.declared.command.LocationPart.{LocationPart}
 use Rattle.script_text.specs.declared.command.LocationPart.TheVariants.{Invariant, Flow}
+use Rattle.calc_state.specs.declared.change.Change.{Change}
 use Rattle.calc_state.specs.Table.{Table, as_hybrid}
-use Rattle.calc_state.specs.Meaning.{Meaning, no_overflow, room, IsPutAs, AreAllPut}
+use Rattle.line_values.specs.Meaning.{Meaning, no_overflow, room}
+use Rattle.calc_state.specs.Effects.{IsPutAs, AreAllPut}
 use Rattle.calc_state.specs.Systems.{misfits, run_conditions}
 
 -- ---- making
@@ -21,8 +23,8 @@ pub record IsStill (s : TransitionSystem) (h : HybridSystem) : Type 0 where
   pub flows : All (IsEmpty Closed s.dim) h.flows
 
 -- hybrid OUT S
-abbrev pub hybrid : Table → List ℕ → TransitionSystem → Meaning
-hybrid table out s = record { conditions = room table out; overflows = no_overflow; does = IsPutAs as_hybrid out (IsStill s) }
+abbrev pub hybrid : Bool → TransitionSystem → Meaning HybridSystem
+hybrid full s = record { conditions = room full; overflows = no_overflow; does = IsStill s }
 
 -- ---- changing
 -- the automaton with this invariant, or this flow, of the location
@@ -31,7 +33,7 @@ with_part Invariant h location p = with_invariant h location p
 with_part Flow h location p = with_flow h location p
 
 -- inv H LOC P, flow H LOC P
-abbrev pub set_part : LocationPart → List ℕ → ℕ → HybridSystem → Polyhedron → Meaning
+abbrev pub set_part : LocationPart → List ℕ → ℕ → HybridSystem → Polyhedron → Meaning Change
 set_part part name location h p = record {
   conditions = misfits h.system.dim p (length h.system.initial ≤ location);
   overflows = no_overflow;
@@ -47,7 +49,7 @@ pub record AreReachedParts (h : HybridSystem) (delay : ℕ) (sets : List Polyhed
   pub jumps : AreClosedUnderJumps h sets
 
 -- reach H DELAY PREFIX
-abbrev pub reach : Table → ℕ → List ℕ → HybridSystem → Meaning
+abbrev pub reach : Table → ℕ → List ℕ → HybridSystem → Meaning Change
 reach table delay prefix h = record {
   conditions = run_conditions table delay prefix (length h.system.initial);
   overflows = LeavesInReach h delay;

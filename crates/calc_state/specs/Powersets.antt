@@ -1,5 +1,5 @@
 -- What the commands mean that make and combine powersets, and those that ask about them.
-use Rattle.std.specs.Prelude.{◌≡◌, ◌≢◌, ◌⊎◌, ℕ, ◌-◌, ◌<◌, List, ◌++◌, length, slice_get, Some, true, codes, decimal}
+use Rattle.std.specs.Prelude.{◌≡◌, ◌≢◌, ◌⊎◌, ℕ, ◌-◌, ◌<◌, List, ◌++◌, length, slice_get, Some, Bool, true, codes, decimal}
 use Rattle.row_core.specs.declared.errors.Overflow.{Overflow}
 use Rattle.reply_text.specs.declared.faults.Fault.TheVariants as fault
 use Rattle.gens_sys.specs.declared.kind.GenKind.TheVariants.{Point}
@@ -12,16 +12,13 @@ use Rattle.powerset.specs.declared.covering.Cover.{Cover}
 use Rattle.powerset.specs.declared.covering.Cover.TheVariants.{Yes, No}
 use Rattle.script_text.specs.declared.command.PowersetOperator.{PowersetOperator}
 use Rattle.script_text.specs.declared.command.PowersetOperator.TheVariants.{Join, Meet}
-use Rattle.calc_state.specs.declared.change.Change.{Change}
-use Rattle.calc_state.specs.Table.{Table, as_powerset}
-use Rattle.calc_state.specs.Order.{Conditions}
-use Rattle.calc_state.specs.Meaning.{Meaning, no_fault, no_overflow, room, IsPut, IsPutAs, IsSaid, answer_line}
-use Rattle.calc_state.specs.Questions.{line, says}
+use Rattle.line_values.specs.Order.{Conditions}
+use Rattle.line_values.specs.Meaning.{Meaning, no_fault, no_overflow, room, answer_line, line, says}
 
 -- ---- makers
 -- pset OUT P
-abbrev pub pset : Table → List ℕ → Polyhedron → Meaning
-pset table out p = record { conditions = room table out; overflows = no_overflow; does = IsPutAs as_powerset out (IsUnionOf p) }
+abbrev pub pset : Bool → Polyhedron → Meaning Union
+pset full p = record { conditions = room full; overflows = no_overflow; does = IsUnionOf p }
 
 -- two unions have one topology and one dimension
 abbrev pub alike_unions : Union → Union → Conditions → Conditions
@@ -40,11 +37,11 @@ IsPowersetOf Join s t u = IsJoin s t u
 IsPowersetOf Meet s t u = IsPairMeet s t u
 
 -- join OUT S T, pmeet OUT S T
-abbrev pub of_two_powersets : PowersetOperator → Table → List ℕ → Union → Union → Meaning
-of_two_powersets op table out s t = record {
-  conditions = alike_unions s t (room table out);
+abbrev pub of_two_powersets : PowersetOperator → Bool → Union → Union → Meaning Union
+of_two_powersets op full s t = record {
+  conditions = alike_unions s t (room full);
   overflows = LeavesInPowersets op s t;
-  does = IsPutAs as_powerset out (IsPowersetOf op s t);
+  does = IsPowersetOf op s t;
 }
 
 -- members are counted from 1, and the number isn't one of so many
@@ -53,11 +50,11 @@ misses_member count i others fault.OutOfRange = (i ≡ 0) ⊎ (count < i)
 misses_member count i others other = others other
 
 -- member OUT S I
-abbrev pub member : Table → List ℕ → ℕ → Union → Meaning
-member table out i s = record {
-  conditions = misses_member (length s.members) i (room table out);
+abbrev pub member : Bool → ℕ → Union → Meaning Polyhedron
+member full i s = record {
+  conditions = misses_member (length s.members) i (room full);
   overflows = no_overflow;
-  does = IsPut out (λ r. slice_get s.members (i - 1) ≡ Some r);
+  does = λ r. slice_get s.members (i - 1) ≡ Some r;
 }
 
 -- ---- questions
@@ -66,7 +63,7 @@ abbrev pub members_text : Union → List ℕ
 members_text s = codes "members " ++ decimal (length s.members)
 
 -- psize S
-abbrev pub psize : Union → Meaning
+abbrev pub psize : Union → Meaning (List ℕ)
 psize s = says (line (members_text s))
 
 -- yes, or no and the point that isn't covered
@@ -75,13 +72,13 @@ cover_line dim Yes = answer_line true
 cover_line dim (No v) = line (codes "no " ++ generator_text dim (v, Point))
 
 -- whether the one covers the other is said
-pub record IsCoverTold (s t : Union) (change : Change) : Type 0 where
+pub record IsCoverTold (s t : Union) (text : List ℕ) : Type 0 where
   pub answer : Cover
   pub true_of : IsCover s t answer
-  pub said : IsSaid (cover_line s.dim answer) change
+  pub said : text ≡ cover_line s.dim answer
 
 -- covers S T
-abbrev pub covers : Union → Union → Meaning
+abbrev pub covers : Union → Union → Meaning (List ℕ)
 covers s t = record {
   conditions = alike_unions s t no_fault;
   overflows = LeavesOnCover s t;

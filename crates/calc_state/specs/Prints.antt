@@ -3,7 +3,8 @@ use Rattle.std.specs.Prelude.{◌≡◌, ◌↔◌, Bool}
 use Rattle.poly_pair.specs.Polyhedra.{Polyhedron}
 use Rattle.poly_pair.specs.declared.topology.Topology.TheVariants.{Closed}
 use Rattle.lattice_ops.specs.Sets.{HaveSamePoints}
-use Rattle.calc_state.specs.Questions.{line, side_text}
+use Rattle.line_values.specs.Meaning.{line}
+use Rattle.poly_commands.specs.Questions.{side_text}
 use Rattle.calc_state.specs.Entries.{IsProper}
 
 -- two closed polyhedra of one dimension have the same points exactly where `print cons` shows equal bytes, and exactly where `print gens` does

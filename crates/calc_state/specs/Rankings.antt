@@ -1,17 +1,14 @@
 -- What the commands mean that make the ranking functions of a relation, and that say one of them.
-use Rattle.std.specs.Prelude.{◌≢◌, ℕ, ◌/◌, ◌%◌, List}
+use Rattle.std.specs.Prelude.{◌≡◌, ◌≢◌, ℕ, ◌/◌, ◌%◌, Bool, List}
 use Rattle.reply_text.specs.declared.faults.Fault.TheVariants as fault
 use Rattle.poly_pair.specs.declared.topology.Topology.TheVariants.{Closed}
 use Rattle.poly_pair.specs.Polyhedra.{Polyhedron}
 use Rattle.ranking.specs.Rankings.{IsRankingSet}
 use Rattle.ranking.specs.PrintedRankings.{IsRankingText}
 use Rattle.ranking.specs.Refusals.{LeavesInRanking}
-use Rattle.calc_state.specs.declared.change.Change.{Change}
 use Rattle.calc_state.specs.Entries.{IsProper}
-use Rattle.calc_state.specs.Table.{Table}
-use Rattle.calc_state.specs.Order.{Conditions}
-use Rattle.calc_state.specs.Meaning.{Meaning, no_fault, room, IsPut, IsSaid}
-use Rattle.calc_state.specs.Questions.{line}
+use Rattle.line_values.specs.Order.{Conditions}
+use Rattle.line_values.specs.Meaning.{Meaning, no_fault, room, line}
 
 -- the polyhedron is a closed relation of states and their successors, over as many variables each
 abbrev pub relates_states : Polyhedron → Conditions → Conditions
@@ -20,24 +17,24 @@ relates_states r others fault.DimMismatch = r.cons.dim % 2 ≢ 0
 relates_states r others other = others other
 
 -- rank OUT R
-abbrev pub rank : Table → List ℕ → Polyhedron → Meaning
-rank table out r = record {
-  conditions = relates_states r (room table out);
+abbrev pub rank : Bool → Polyhedron → Meaning Polyhedron
+rank full r = record {
+  conditions = relates_states r (room full);
   overflows = LeavesInRanking (r.cons.dim / 2) r.gens;
-  does = IsPut out (IsRankingSet (r.cons.dim / 2) r);
+  does = IsRankingSet (r.cons.dim / 2) r;
 }
 
 -- one of the ranking functions is said, or that there is none: the polyhedron of the functions keeps what each polyhedron keeps, so that the relation decides what is said
-pub record IsRankingTold (r : Polyhedron) (change : Change) : Type 0 where
+pub record IsRankingTold (r : Polyhedron) (lines : List ℕ) : Type 0 where
   pub functions : Polyhedron
   pub is : IsRankingSet (r.cons.dim / 2) r functions
   pub proper : IsProper functions
   pub text : List ℕ
   pub told : IsRankingText functions text
-  pub said : IsSaid (line text) change
+  pub said : lines ≡ line text
 
 -- ranking R
-abbrev pub ranking : Polyhedron → Meaning
+abbrev pub ranking : Polyhedron → Meaning (List ℕ)
 ranking r = record {
   conditions = relates_states r no_fault;
   overflows = LeavesInRanking (r.cons.dim / 2) r.gens;

@@ -1,5 +1,5 @@
 -- What the commands mean that make bounded-difference shapes, and those that combine, ask and print them.
-use Rattle.std.specs.Prelude.{◌≡◌, ◌≢◌, ◌↔◌, ℕ, List, ℤ, None, IfSome}
+use Rattle.std.specs.Prelude.{◌≡◌, ◌≢◌, ◌↔◌, ℕ, Bool, List, ℤ, None, IfSome}
 use Rattle.row_core.specs.Points.{IsPoint}
 use Rattle.row_core.specs.declared.errors.Overflow.{Overflow}
 use Rattle.reply_text.specs.declared.faults.Fault.TheVariants as fault
@@ -18,17 +18,15 @@ use Rattle.bd_shape.specs.Laws.{HasPointsOf}
 use Rattle.bd_shape.specs.declared.refusal.ShapeErr.{ShapeErr}
 use Rattle.bd_shape.specs.declared.refusal.ShapeErr.TheVariants as unmade
 use Rattle.script_text.specs.declared.command.Part.{Part}
-use Rattle.calc_state.specs.declared.refusal.StepErr.{StepErr}
-use Rattle.calc_state.specs.declared.refusal.StepErr.TheVariants as err
+use Rattle.line_values.specs.declared.refusal.StepErr.{StepErr}
+use Rattle.line_values.specs.declared.refusal.StepErr.TheVariants as err
 use Rattle.script_text.specs.declared.command.ShapeOperator.{ShapeOperator}
 use Rattle.script_text.specs.declared.command.ShapeOperator.TheVariants.{Meet, Hull}
-use Rattle.calc_state.specs.Table.{Table, as_shape}
-use Rattle.calc_state.specs.Order.{Conditions}
-use Rattle.calc_state.specs.Texts.{constraints_fault, with_text}
-use Rattle.calc_state.specs.Makers.{SaysConstraints, LeavesOnConstraints}
-use Rattle.calc_state.specs.Questions.{line, says}
-use Rattle.calc_state.specs.Lattice.{IsTold}
-use Rattle.calc_state.specs.Meaning.{Meaning, no_fault, room, small, IsPutAs, IsPut}
+use Rattle.line_values.specs.Order.{Conditions}
+use Rattle.line_values.specs.Texts.{constraints_fault, with_text}
+use Rattle.poly_commands.specs.Makers.{SaysConstraints, LeavesOnConstraints}
+use Rattle.line_values.specs.Meaning.{line, says, Meaning, no_fault, room, small}
+use Rattle.poly_commands.specs.Lattice.{IsTold}
 
 -- ---- making
 -- a set isn't closed
@@ -45,11 +43,11 @@ pub record IsShapeOfSet (p : Polyhedron) (s : Region) : Type 0 where
   pub found : AreFound p
 
 -- shape OUT P
-abbrev pub shape : Table → List ℕ → Polyhedron → Meaning
-shape table out p = record {
-  conditions = closed p (room table out);
+abbrev pub shape : Bool → Polyhedron → Meaning Region
+shape full p = record {
+  conditions = closed p (room full);
   overflows = LeavesInSuprema p;
-  does = IsPutAs as_shape out (IsShapeOfSet p);
+  does = IsShapeOfSet p;
 }
 
 -- some constraint bounds no difference
@@ -63,11 +61,11 @@ pub record IsShapeOfConstraints (cs : Constraints) (s : Region) : Type 0 where
   pub points : (p : List ℤ) → IsIn s p ↔ (IsPoint cs.dim p × In cs p)
 
 -- bounds OUT N : CONS
-abbrev pub bounds : Table → List ℕ → ℕ → Part → Meaning
-bounds table out n part = record {
-  conditions = small n (no_difference (SaysConstraints n part (λ cs. HasOther cs)) (with_text (constraints_fault Closed n part) (room table out)));
+abbrev pub bounds : Bool → ℕ → Part → Meaning Region
+bounds full n part = record {
+  conditions = small n (no_difference (SaysConstraints n part (λ cs. HasOther cs)) (with_text (constraints_fault Closed n part) (room full)));
   overflows = λ over. SaysConstraints n part (λ cs. LeavesInConstraints cs over);
-  does = IsPutAs as_shape out (λ s. SaysConstraints n part (λ cs. IsShapeOfConstraints cs s));
+  does = λ s. SaysConstraints n part (λ cs. IsShapeOfConstraints cs s);
 }
 
 -- the refusal of a command whose constraints give no shape
@@ -98,15 +96,15 @@ pub record IsShapeBy (op : ShapeOperator) (s t r : Region) : Type 0 where
   pub set : IsSetOfShapes op s t r
 
 -- smeet OUT S T, shull OUT S T
-abbrev pub of_two_shapes : ShapeOperator → Table → List ℕ → Region → Region → Meaning
-of_two_shapes op table out s t = record {
-  conditions = of_one_dim s t (room table out);
+abbrev pub of_two_shapes : ShapeOperator → Bool → Region → Region → Meaning Region
+of_two_shapes op full s t = record {
+  conditions = of_one_dim s t (room full);
   overflows = LeavesInShapes op s t;
-  does = IsPutAs as_shape out (IsShapeBy op s t);
+  does = IsShapeBy op s t;
 }
 
 -- scontains S T
-abbrev pub shape_contains : Region → Region → Meaning
+abbrev pub shape_contains : Region → Region → Meaning (List ℕ)
 shape_contains s t = record {
   conditions = of_one_dim s t no_fault;
   overflows = LeavesInBounds s t;
@@ -115,7 +113,7 @@ shape_contains s t = record {
 
 -- ---- one shape
 -- sprint S
-abbrev pub shape_print : Region → Meaning
+abbrev pub shape_print : Region → Meaning (List ℕ)
 shape_print s = says (line (constraints_text (shape_constraints s)))
 
 -- the closed polyhedron of the shape's points
@@ -125,9 +123,9 @@ pub record IsPolyOfShape (s : Region) (p : Polyhedron) : Type 0 where
   pub points : HasPointsOf p s
 
 -- spoly OUT S
-abbrev pub shape_poly : Table → List ℕ → Region → Meaning
-shape_poly table out s = record {
-  conditions = room table out;
+abbrev pub shape_poly : Bool → Region → Meaning Polyhedron
+shape_poly full s = record {
+  conditions = room full;
   overflows = LeavesOnConstraints Closed (shape_constraints s);
-  does = IsPut out (IsPolyOfShape s);
+  does = IsPolyOfShape s;
 }

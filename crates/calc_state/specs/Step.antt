@@ -8,12 +8,12 @@ use Rattle.script_text.specs.declared.command.Command.TheVariants.{Has, Size, Pr
 use Rattle.script_text.specs.declared.command.Comparison.TheVariants as comparison
 use Rattle.calc_state.specs.declared.change.Change.{Change}
 use Rattle.calc_state.specs.declared.change.Change.TheVariants.{Says, Puts, PutsAll, TakesOut}
-use Rattle.calc_state.specs.declared.refusal.StepErr.{StepErr}
-use Rattle.calc_state.specs.declared.refusal.StepErr.TheVariants as err
+use Rattle.line_values.specs.declared.refusal.StepErr.{StepErr}
+use Rattle.line_values.specs.declared.refusal.StepErr.TheVariants as err
 use Rattle.calc_state.specs.Table.{Table, put, put_each, numbered_sets, without}
 use Rattle.calc_state.specs.Entries.{IsProper, IsKeptEntry}
-use Rattle.calc_state.specs.Order.{IsFirst, Passes}
-use Rattle.calc_state.specs.Meaning.{Meaning}
+use Rattle.line_values.specs.Order.{IsFirst, Passes}
+use Rattle.line_values.specs.Meaning.{Meaning}
 use Rattle.calc_state.specs.Meanings.{meaning}
 
 -- what the calculator answers a line
@@ -53,7 +53,7 @@ PutsProper (PutsAll prefix sets) = All IsProper sets.items
 PutsProper other = Unit {0}
 
 -- the command is accepted: it does what it means, and these are its lines and the table after it
-pub record IsAccepted (m : Meaning) (old : Table) (lines : List ℕ) (new : Table) : Type 0 where
+pub record IsAccepted (m : Meaning Change) (old : Table) (lines : List ℕ) (new : Table) : Type 0 where
   pub passes : Passes m.conditions
   pub change : Change
   pub does : m.does change
@@ -62,7 +62,7 @@ pub record IsAccepted (m : Meaning) (old : Table) (lines : List ℕ) (new : Tabl
   pub table : new ≡ after old change
 
 -- the reply to a command with this meaning, and the table after it
-abbrev pub Means : Meaning → Table → Reply → Table → Type 0
+abbrev pub Means : Meaning Change → Table → Reply → Table → Type 0
 Means m old (Answered lines) new = IsAccepted m old lines new
 Means m old (Refused fault) new = IsFirst m.conditions fault × (new ≡ old)
 Means m old (Overflows over) new = Passes m.conditions × m.overflows over × (new ≡ old)
@@ -72,7 +72,7 @@ abbrev pub Performs : Table → Command → Reply → Table → Type 0
 Performs old command reply new = Means (meaning old command) old reply new
 
 -- what was given is such a reply with such a table after it, or memory ran out and the table is as before
-abbrev pub IsDone : Meaning → Table → Result (List ℕ) StepErr → Table → Type 0
+abbrev pub IsDone : Meaning Change → Table → Result (List ℕ) StepErr → Table → Type 0
 IsDone m old (Ok lines) new = Means m old (Answered lines) new
 IsDone m old (Err (err.Input fault)) new = Means m old (Refused fault) new
 IsDone m old (Err (err.Overflow over)) new = Means m old (Overflows over) new

@@ -1,19 +1,18 @@
 //! The commands that make and change linear hybrid automata, and the one that runs them.
 ghost use Rattle.std.specs.Prelude.{ℕ, List};
 ghost use Rattle.std.specs.Option.{option_copied};
-ghost use Rattle.calc_state.specs.Meaning.{on_one};
+ghost use Rattle.line_values.specs.Meaning.{on_one};
 ghost use Rattle.calc_state.specs.Hybrids.{hybrid as make_hybrid, set_part, reach as run_hybrid};
 ghost use Rattle.calc_state.specs.Changes.{as_entry, IsTested};
-ghost use Rattle.calc_state.specs.Performed.{IsPerformed};
+ghost use Rattle.line_values.specs.Performed.{IsPerformed};
 ghost use Rattle.calc_state.specs.declared.entry.Entry.TheVariants as entry;
 
 use crate::change::Change;
-use crate::entry::Entry;
 use crate::names::Names;
 use crate::parts::{HybridChange, PartChange};
-use crate::refusal::StepErr;
 use crate::systems::MAX_DELAY;
 use hybrid::Hybrid;
+use line_values::StepErr;
 use poly_pair::{Poly, Topology};
 use reply_text::{Fault, Text};
 use row_core::Steps;
@@ -23,23 +22,18 @@ use std::sync::ledger::Ledger;
 use trans_sys::System;
 
 /// The automaton of a transition system in which no time passes.
-pub fn hybrid(
-    alloc: Global,
-    names: &Names,
-    out: Text,
-    s: Option<&System>,
-) -> Result<Change, StepErr>
-    ensures { IsPerformed (on_one (option_copied s.entry) (make_hybrid names.now out)) result }
+pub fn hybrid(alloc: Global, s: Option<&System>, full: bool) -> Result<Hybrid, StepErr>
+    ensures { IsPerformed (on_one (option_copied s.entry) (make_hybrid full)) result }
 {
     let Some(s) = s else {
         return Err(StepErr::Input(Fault::UnknownName));
     };
-    if names.has_no_room(out.bytes()) {
+    if full {
         return Err(StepErr::Input(Fault::TooManyNames));
     }
     let made = Hybrid::new(alloc, s.try_copy()?)?;
     let _kept = made.system();
-    Ok(Change::Puts(out, Entry::Hybrid(made)))
+    Ok(made)
 }
 
 /// Replaces the invariant or the flow of a location by a polyhedron.

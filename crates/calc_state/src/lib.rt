@@ -6,32 +6,23 @@
 //!   definitions that the contracts cite.
 #![tactic(auto)]
 
-mod affine;
 mod calc;
 mod change;
 mod entry;
-mod files;
 mod hybrids;
-mod lattice;
 mod laws;
-mod makers;
+mod listing;
 mod named;
 mod names;
 mod operands;
-mod operators;
-mod optima;
 mod parts;
 mod perform;
 mod powersets;
-mod questions;
 mod rankings;
 mod reading;
-mod refusal;
 mod shapes;
 mod systems;
-mod texts;
-mod widenings;
 
 pub use calc::Calc;
 pub use laws::{names_stay_distinct, one_first, one_reply, prints_tell_points};
-pub use refusal::StepErr;
+pub use line_values::StepErr;

@@ -1,38 +1,24 @@
 //! What each command does, from the table as it stands.
 ghost use Rattle.std.specs.Prelude.{◌≡◌};
 ghost use Rattle.script_text.specs.Line.{PartsMatch, PartsTold};
-ghost use Rattle.calc_state.specs.Meanings.{topology_of as named_topology, meaning};
-ghost use Rattle.calc_state.specs.Performed.{IsPerformed};
+ghost use Rattle.calc_state.specs.Meanings.{meaning};
+ghost use Rattle.line_values.specs.Performed.{IsPerformed};
 ghost use Rattle.calc_state.specs.Changes.{ChangesPart, IsTestedIn};
 ghost use Rattle.calc_state.specs.Families.{Makes, Asks, Combines, AsksKinds, MakesKinds};
 
-use crate::change::Change;
-use crate::files::write;
+use crate::change::{Change, say};
 use crate::hybrids::reach;
-use crate::lattice::isempty;
-use crate::makers::{add, addgen, cons, copy, drop_name, gens, space};
+use crate::listing::{drop_name, name_list};
 use crate::named;
 use crate::names::Names;
 use crate::parts::PartChange;
-use crate::powersets::psize;
-use crate::questions::{name_list, print, size};
-use crate::rankings::ranking;
-use crate::refusal::StepErr;
-use crate::shapes::shape_print;
-use crate::systems::{fixpoint, system};
-use poly_pair::Topology;
+use crate::systems::fixpoint;
+use line_values::StepErr;
 use reply_text::Text;
 use row_core::Steps;
 use script_text::Command;
 use std::alloc::Global;
 use std::sync::ledger::Ledger;
-
-/// The topology of a line, by whether its word is `nnc`.
-fn topology_of(nnc: bool) -> Topology
-    ensures { result ≡ named_topology nnc }
-{
-    if nnc { Topology::Nnc } else { Topology::Closed }
-}
 
 /// What a command that makes or changes a polyhedron by its words does, or why it is refused.
 fn made<L: Ledger>(
@@ -52,29 +38,23 @@ fn made<L: Ledger>(
             top,
             n,
             cons: part,
-        } => cons(alloc, names, out, topology_of(top), n, &part, steps),
+        } => named::cons(alloc, names, out, top, n, part, steps),
         Command::Gens {
             out,
             top,
             n,
             gens: part,
-        } => gens(alloc, names, out, topology_of(top), n, &part, steps),
+        } => named::gens(alloc, names, out, top, n, part, steps),
         Command::Space {
             space: kind,
             out,
             top,
             n,
-        } => space(alloc, names, kind, out, topology_of(top), n),
-        Command::Copy { out, p } => copy(names, out, names.poly(p.bytes())),
+        } => named::space(alloc, names, kind, out, top, n),
+        Command::Copy { out, p } => named::copy(names, out, p),
         Command::Drop { name } => drop_name(names, name),
-        Command::Add { p, cons: part } => {
-            let found = names.poly(p.bytes());
-            add(alloc, p, found, &part, steps)
-        }
-        Command::Addgen { p, gens: part } => {
-            let found = names.poly(p.bytes());
-            addgen(alloc, p, found, &part, steps)
-        }
+        Command::Add { p, cons: part } => named::add(alloc, names, p, part, steps),
+        Command::Addgen { p, gens: part } => named::addgen(alloc, names, p, part, steps),
         _ => unreachable!(),
     }
 }
@@ -93,14 +73,14 @@ fn asked<L: Ledger>(
 {
     match command {
         Command::Has { p, point: part } => named::has(alloc, names, p, part),
-        Command::Size { p } => size(alloc, names.poly(p.bytes())),
-        Command::Print { side, p } => print(alloc, side, names.poly(p.bytes())),
-        Command::Names => name_list(alloc, names),
+        Command::Size { p } => named::size(alloc, names, p),
+        Command::Print { side, p } => named::print(alloc, names, side, p),
+        Command::Names => say(name_list(alloc, names)),
         Command::Compare { by, p, q } => named::compare(alloc, names, by, p, q, steps),
-        Command::Isempty { p } => isempty(alloc, names.poly(p.bytes())),
+        Command::Isempty { p } => named::isempty(alloc, names, p),
         Command::Relation { p, con: part } => named::relation(alloc, names, p, part),
         Command::Bound { of, p, expr: part } => named::bound(alloc, names, of, p, part),
-        Command::Write { p, form } => write(alloc, form, names.poly(p.bytes())),
+        Command::Write { p, form } => named::write(alloc, names, p, form),
         _ => unreachable!(),
     }
 }
@@ -146,11 +126,11 @@ fn asked_of_kinds<L: Ledger>(
     ensures { IsPerformed (meaning names.now command) result }
 {
     match command {
-        Command::Psize { s } => psize(alloc, names.powerset(s.bytes())),
+        Command::Psize { s } => named::psize(alloc, names, s),
         Command::Covers { s, t } => named::covers(alloc, names, s, t, steps),
-        Command::Ranking { r } => ranking(alloc, names.poly(r.bytes()), steps),
+        Command::Ranking { r } => named::ranking(alloc, names, r, steps),
         Command::ShapeContains { s, t } => named::shape_contains(alloc, names, s, t),
-        Command::ShapePrint { s } => shape_print(alloc, names.shape(s.bytes())),
+        Command::ShapePrint { s } => named::shape_print(alloc, names, s),
         _ => unreachable!(),
     }
 }
@@ -235,7 +215,7 @@ pub fn change_of<L: Ledger>(
         | Command::OfTwoShapes { .. }
         | Command::ShapePoly { .. }
         | Command::Hybrid { .. } => { made_of_kinds(alloc, names, command, steps) }
-        Command::System { out, n, l } => system(alloc, names, out, n, l),
+        Command::System { out, n, l } => named::system(alloc, names, out, n, l),
         Command::Fixpoint { s, delay, prefix } => {
             fixpoint(alloc, names, names.system(s.bytes()), delay, prefix, steps)
         }

@@ -7,18 +7,14 @@ ghost use Rattle.row_core.specs.Refusals.{IsOverflowIn};
 ghost use Rattle.gens_sys.specs.declared.kind.GenKind.TheVariants.{Point};
 ghost use Rattle.expr_text.specs.Printed.{generator_text};
 ghost use Rattle.poly_pair.specs.declared.topology.TheConstants.{MAX_DIM};
-ghost use Rattle.calc_state.specs.Meaning.{on_one, on_two};
-ghost use Rattle.calc_state.specs.Questions.{line};
+ghost use Rattle.line_values.specs.Meaning.{on_one, on_two, line};
 ghost use Rattle.calc_state.specs.Powersets.{pset as make_pset, of_two_powersets as make_of_two, member as make_member, psize as tell_size, covers as ask_covers, IsPowersetOf, LeavesInPowersets, members_text};
-ghost use Rattle.calc_state.specs.Performed.{IsPerformed};
+ghost use Rattle.line_values.specs.Performed.{IsPerformed};
 
-use crate::change::Change;
-use crate::entry::Entry;
-use crate::names::Names;
-use crate::questions::answer;
-use crate::refusal::StepErr;
 use expr_text::print_gen;
 use gens_sys::{GenKind, GenPushErr, GensSys};
+use line_values::StepErr;
+use poly_commands::answer;
 use poly_pair::Poly;
 use powerset::{Cover, Powerset, join, pmeet};
 use reply_text::{Fault, Text};
@@ -28,17 +24,16 @@ use std::alloc::Global;
 use std::sync::ledger::Ledger;
 
 /// The powerset of the one polyhedron.
-pub fn pset(alloc: Global, names: &Names, out: Text, p: Option<&Poly>) -> Result<Change, StepErr>
-    ensures { IsPerformed (on_one (option_copied p.entry) (make_pset names.now out)) result }
+pub fn pset(alloc: Global, p: Option<&Poly>, full: bool) -> Result<Powerset, StepErr>
+    ensures { IsPerformed (on_one (option_copied p.entry) (make_pset full)) result }
 {
     let Some(p) = p else {
         return Err(StepErr::Input(Fault::UnknownName));
     };
-    if names.has_no_room(out.bytes()) {
+    if full {
         return Err(StepErr::Input(Fault::TooManyNames));
     }
-    let made = Powerset::of(alloc, p)?;
-    Ok(Change::Puts(out, Entry::Powerset(made)))
+    Ok(Powerset::of(alloc, p)?)
 }
 
 /// The union of two powersets, or their common points.
@@ -63,14 +58,13 @@ fn combined<L: Ledger>(
 /// The powerset that the operator makes of two.
 pub fn of_two_powersets<L: Ledger>(
     alloc: Global,
-    names: &Names,
     op: PowersetOperator,
-    out: Text,
     s: Option<&Powerset>,
     t: Option<&Powerset>,
+    full: bool,
     steps: &mut Steps<L>,
-) -> Result<Change, StepErr>
-    ensures { IsPerformed (on_two (option_copied s.entry) (option_copied t.entry) (make_of_two op names.now out)) result }
+) -> Result<Powerset, StepErr>
+    ensures { IsPerformed (on_two (option_copied s.entry) (option_copied t.entry) (make_of_two op full)) result }
 {
     let (Some(s), Some(t)) = (s, t) else {
         return Err(StepErr::Input(Fault::UnknownName));
@@ -81,18 +75,18 @@ pub fn of_two_powersets<L: Ledger>(
     if s.dim() != t.dim() {
         return Err(StepErr::Input(Fault::DimMismatch));
     }
-    if names.has_no_room(out.bytes()) {
+    if full {
         return Err(StepErr::Input(Fault::TooManyNames));
     }
     match combined(alloc, op, s, t, steps) {
-        Ok(made) => Ok(Change::Puts(out, Entry::Powerset(made))),
+        Ok(made) => Ok(made),
         Err(cause) => Err(StepErr::from(cause)),
     }
 }
 
 /// The member with this number, counted from 1.
-pub fn member(names: &Names, out: Text, s: Option<&Powerset>, i: u64) -> Result<Change, StepErr>
-    ensures { IsPerformed (on_one (option_copied s.entry) (make_member names.now out i)) result }
+pub fn member(s: Option<&Powerset>, i: u64, full: bool) -> Result<Poly, StepErr>
+    ensures { IsPerformed (on_one (option_copied s.entry) (make_member full i)) result }
 {
     let Some(s) = s else {
         return Err(StepErr::Input(Fault::UnknownName));
@@ -100,16 +94,15 @@ pub fn member(names: &Names, out: Text, s: Option<&Powerset>, i: u64) -> Result<
     if i == 0 || i > s.len() as u64 {
         return Err(StepErr::Input(Fault::OutOfRange));
     }
-    if names.has_no_room(out.bytes()) {
+    if full {
         return Err(StepErr::Input(Fault::TooManyNames));
     }
     let index = (i - 1) as usize;
-    let made = s.member(index).try_copy()?;
-    Ok(Change::Puts(out, Entry::Poly(made)))
+    Ok(s.member(index).try_copy()?)
 }
 
 /// The number of members.
-pub fn psize(alloc: Global, s: Option<&Powerset>) -> Result<Change, StepErr>
+pub fn psize(alloc: Global, s: Option<&Powerset>) -> Result<Text, StepErr>
     ensures { IsPerformed (on_one (option_copied s.entry) tell_size) result }
 {
     let Some(s) = s else {
@@ -117,7 +110,7 @@ pub fn psize(alloc: Global, s: Option<&Powerset>) -> Result<Change, StepErr>
     };
     let mut text = members(alloc, s)?;
     text.push(b"\n")?;
-    Ok(Change::Says(text))
+    Ok(text)
 }
 
 fn members(alloc: Global, s: &Powerset) -> Result<Text, Memory>
@@ -135,7 +128,7 @@ pub fn covers<L: Ledger>(
     s: Option<&Powerset>,
     t: Option<&Powerset>,
     steps: &mut Steps<L>,
-) -> Result<Change, StepErr>
+) -> Result<Text, StepErr>
     ensures { IsPerformed (on_two (option_copied s.entry) (option_copied t.entry) ask_covers) result }
 {
     let (Some(s), Some(t)) = (s, t) else {
@@ -149,8 +142,8 @@ pub fn covers<L: Ledger>(
         return Err(StepErr::Input(Fault::DimMismatch));
     }
     match powerset::covers(alloc, s, t, steps) {
-        Ok(Cover::Yes) => Ok(Change::Says(answer(alloc, true)?)),
-        Ok(Cover::No(point)) => Ok(Change::Says(uncovered(alloc, dim, point)?)),
+        Ok(Cover::Yes) => Ok(answer(alloc, true)?),
+        Ok(Cover::No(point)) => Ok(uncovered(alloc, dim, point)?),
         Err(cause) => Err(StepErr::from(cause)),
     }
 }

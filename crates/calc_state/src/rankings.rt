@@ -1,15 +1,13 @@
 //! The commands that make the ranking functions of a relation, and that say one of them.
 ghost use Rattle.std.specs.Prelude.{◌≡◌, ◌%◌};
 ghost use Rattle.std.specs.Option.{option_copied};
-ghost use Rattle.calc_state.specs.Meaning.{on_one};
+ghost use Rattle.line_values.specs.Meaning.{on_one};
 ghost use Rattle.calc_state.specs.Rankings.{rank as make_rank, ranking as tell_ranking};
-ghost use Rattle.calc_state.specs.Performed.{IsPerformed};
+ghost use Rattle.line_values.specs.Performed.{IsPerformed};
 
-use crate::change::{Change, is_proper};
-use crate::entry::Entry;
-use crate::names::Names;
+use crate::change::is_proper;
 use crate::operands::{has_even_dim, is_closed};
-use crate::refusal::StepErr;
+use line_values::StepErr;
 use poly_pair::Poly;
 use ranking::{print_ranking, ranking_set};
 use reply_text::{Fault, Text};
@@ -20,12 +18,11 @@ use std::sync::ledger::Ledger;
 /// The ranking functions of a relation, as points of their coefficients and their constant.
 pub fn rank<L: Ledger>(
     alloc: Global,
-    names: &Names,
-    out: Text,
     r: Option<&Poly>,
+    full: bool,
     steps: &mut Steps<L>,
-) -> Result<Change, StepErr>
-    ensures { IsPerformed (on_one (option_copied r.entry) (make_rank names.now out)) result }
+) -> Result<Poly, StepErr>
+    ensures { IsPerformed (on_one (option_copied r.entry) (make_rank full)) result }
 {
     let Some(r) = r else {
         return Err(StepErr::Input(Fault::UnknownName));
@@ -36,11 +33,11 @@ pub fn rank<L: Ledger>(
     if !has_even_dim(r) {
         return Err(StepErr::Input(Fault::DimMismatch));
     }
-    if names.has_no_room(out.bytes()) {
+    if full {
         return Err(StepErr::Input(Fault::TooManyNames));
     }
     match ranking_set(alloc, r, steps) {
-        Ok(made) => Ok(Change::Puts(out, Entry::Poly(made))),
+        Ok(made) => Ok(made),
         Err(cause) => Err(StepErr::from(cause)),
     }
 }
@@ -50,7 +47,7 @@ pub fn ranking<L: Ledger>(
     alloc: Global,
     r: Option<&Poly>,
     steps: &mut Steps<L>,
-) -> Result<Change, StepErr>
+) -> Result<Text, StepErr>
     ensures { IsPerformed (on_one (option_copied r.entry) tell_ranking) result }
 {
     let Some(r) = r else {
@@ -69,5 +66,5 @@ pub fn ranking<L: Ledger>(
     is_proper(&functions);
     let mut text = print_ranking(alloc, &functions)?;
     text.push(b"\n")?;
-    Ok(Change::Says(text))
+    Ok(text)
 }

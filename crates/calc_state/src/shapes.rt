@@ -8,19 +8,15 @@ ghost use Rattle.grammar.specs.Cases.{cons_cases};
 ghost use Rattle.script_text.specs.Commands.{is_strict};
 ghost use Rattle.expr_text.specs.Printed.{constraints_text};
 ghost use Rattle.bd_shape.specs.Rows.{shape_constraints};
-ghost use Rattle.calc_state.specs.Meaning.{on_one, on_two};
-ghost use Rattle.calc_state.specs.Questions.{line};
-ghost use Rattle.calc_state.specs.Shapes.{shape as make_shape, bounds as make_bounds, of_two_shapes as make_of_two, shape_contains as ask_contains, shape_print as tell_shape, shape_poly as make_poly, refusal_of_shape, IsSetOfShapes, LeavesInShapes};
-ghost use Rattle.calc_state.specs.Performed.{IsPerformed};
+ghost use Rattle.line_values.specs.Meaning.{on_one, on_two, line};
+ghost use Rattle.calc_state.specs.Shapes.{shape as make_shape, bounds as make_bounds, of_two_shapes as make_of_two, shape_contains as ask_contains, shape_print as tell_shape, shape_poly as make_poly, refusal_of_shape as named_refusal, IsSetOfShapes, LeavesInShapes};
+ghost use Rattle.line_values.specs.Performed.{IsPerformed};
 
-use crate::change::Change;
-use crate::entry::Entry;
-use crate::names::Names;
-use crate::questions::answer;
-use crate::refusal::StepErr;
-use crate::texts::constraints_of;
 use bd_shape::{Shape, ShapeErr, shape_from, shape_hull, shape_meet, shape_of, shape_rows};
 use expr_text::{one_answer, print_cons};
+use line_values::StepErr;
+use line_values::constraints_of;
+use poly_commands::answer;
 use poly_pair::{MAX_DIM, Poly, Topology};
 use reply_text::{Fault, Text};
 use row_core::{ConvErr, Memory, Steps};
@@ -31,11 +27,10 @@ use std::sync::ledger::Ledger;
 /// The smallest shape that includes a closed polyhedron.
 pub fn shape_of_set(
     alloc: Global,
-    names: &Names,
-    out: Text,
     p: Option<&Poly>,
-) -> Result<Change, StepErr>
-    ensures { IsPerformed (on_one (option_copied p.entry) (make_shape names.now out)) result }
+    full: bool,
+) -> Result<Shape, StepErr>
+    ensures { IsPerformed (on_one (option_copied p.entry) (make_shape full)) result }
 {
     let Some(p) = p else {
         return Err(StepErr::Input(Fault::UnknownName));
@@ -43,24 +38,23 @@ pub fn shape_of_set(
     if p.topology() != Topology::Closed {
         return Err(StepErr::Input(Fault::NotClosed));
     }
-    if names.has_no_room(out.bytes()) {
+    if full {
         return Err(StepErr::Input(Fault::TooManyNames));
     }
     match shape_of(alloc, p) {
-        Ok(made) => Ok(Change::Puts(out, Entry::Shape(made))),
+        Ok(made) => Ok(made),
         Err(cause) => Err(StepErr::from(cause)),
     }
 }
 
-impl From<ShapeErr> for StepErr {
-    ghost from_gives = { λ cause e. e ≡ refusal_of_shape cause };
-
-    fn from(cause: ShapeErr) -> StepErr {
-        match cause {
-            ShapeErr::NotDifference => StepErr::Input(Fault::NotDifference),
-            ShapeErr::Overflow(over) => StepErr::Overflow(over),
-            ShapeErr::Memory => StepErr::Memory,
-        }
+/// Why a line is refused that makes no shape.
+fn refusal_of_shape(cause: ShapeErr) -> StepErr
+    ensures { result ≡ named_refusal cause }
+{
+    match cause {
+        ShapeErr::NotDifference => StepErr::Input(Fault::NotDifference),
+        ShapeErr::Overflow(over) => StepErr::Overflow(over),
+        ShapeErr::Memory => StepErr::Memory,
     }
 }
 
@@ -79,14 +73,13 @@ fn bound_no_difference(made: &Result<Shape, ShapeErr>) -> bool
 /// The shape of the points at which the constraints of a text hold.
 pub fn bounds(
     alloc: Global,
-    names: &Names,
-    out: Text,
     n: u64,
     part: &Part,
-) -> Result<Change, StepErr>
+    full: bool,
+) -> Result<Shape, StepErr>
     requires form { Matches (alone cons_cases) part.now.text }
     requires told { part.now.strict ≡ is_strict part.now.text }
-    ensures { IsPerformed (make_bounds names.now out n part.now) result }
+    ensures { IsPerformed (make_bounds full n part.now) result }
 {
     one_answer();
     if n > MAX_DIM as u64 {
@@ -100,12 +93,12 @@ pub fn bounds(
     if bound_no_difference(&made) {
         return Err(StepErr::Input(Fault::NotDifference));
     }
-    if names.has_no_room(out.bytes()) {
+    if full {
         return Err(StepErr::Input(Fault::TooManyNames));
     }
     match made {
-        Ok(made) => Ok(Change::Puts(out, Entry::Shape(made))),
-        Err(cause) => Err(StepErr::from(cause)),
+        Ok(made) => Ok(made),
+        Err(cause) => Err(refusal_of_shape(cause)),
     }
 }
 
@@ -125,13 +118,12 @@ fn combine(alloc: Global, op: ShapeOperator, s: &Shape, t: &Shape) -> Result<Sha
 /// The points that are in both shapes, or the smallest shape that includes both.
 pub fn of_two_shapes(
     alloc: Global,
-    names: &Names,
     op: ShapeOperator,
-    out: Text,
     s: Option<&Shape>,
     t: Option<&Shape>,
-) -> Result<Change, StepErr>
-    ensures { IsPerformed (on_two (option_copied s.entry) (option_copied t.entry) (make_of_two op names.now out)) result }
+    full: bool,
+) -> Result<Shape, StepErr>
+    ensures { IsPerformed (on_two (option_copied s.entry) (option_copied t.entry) (make_of_two op full)) result }
 {
     let (Some(s), Some(t)) = (s, t) else {
         return Err(StepErr::Input(Fault::UnknownName));
@@ -139,11 +131,11 @@ pub fn of_two_shapes(
     if s.dim() != t.dim() {
         return Err(StepErr::Input(Fault::DimMismatch));
     }
-    if names.has_no_room(out.bytes()) {
+    if full {
         return Err(StepErr::Input(Fault::TooManyNames));
     }
     match combine(alloc, op, s, t) {
-        Ok(made) => Ok(Change::Puts(out, Entry::Shape(made))),
+        Ok(made) => Ok(made),
         Err(cause) => Err(StepErr::from(cause)),
     }
 }
@@ -153,7 +145,7 @@ pub fn shape_contains(
     alloc: Global,
     s: Option<&Shape>,
     t: Option<&Shape>,
-) -> Result<Change, StepErr>
+) -> Result<Text, StepErr>
     ensures { IsPerformed (on_two (option_copied s.entry) (option_copied t.entry) ask_contains) result }
 {
     let (Some(s), Some(t)) = (s, t) else {
@@ -163,20 +155,19 @@ pub fn shape_contains(
         return Err(StepErr::Input(Fault::DimMismatch));
     }
     match bd_shape::shape_contains(alloc, s, t) {
-        Ok(holds) => Ok(Change::Says(answer(alloc, holds)?)),
+        Ok(holds) => Ok(answer(alloc, holds)?),
         Err(cause) => Err(StepErr::from(cause)),
     }
 }
 
 /// The constraints of a shape.
-pub fn shape_print(alloc: Global, s: Option<&Shape>) -> Result<Change, StepErr>
+pub fn shape_print(alloc: Global, s: Option<&Shape>) -> Result<Text, StepErr>
     ensures { IsPerformed (on_one (option_copied s.entry) tell_shape) result }
 {
     let Some(s) = s else {
         return Err(StepErr::Input(Fault::UnknownName));
     };
-    let text = shape_line(alloc, s)?;
-    Ok(Change::Says(text))
+    Ok(shape_line(alloc, s)?)
 }
 
 /// The line of the constraints of a shape.
@@ -192,22 +183,21 @@ fn shape_line(alloc: Global, s: &Shape) -> Result<Text, Memory>
 /// The polyhedron of a shape's points.
 pub fn shape_poly<L: Ledger>(
     alloc: Global,
-    names: &Names,
-    out: Text,
     s: Option<&Shape>,
+    full: bool,
     steps: &mut Steps<L>,
-) -> Result<Change, StepErr>
-    ensures { IsPerformed (on_one (option_copied s.entry) (make_poly names.now out)) result }
+) -> Result<Poly, StepErr>
+    ensures { IsPerformed (on_one (option_copied s.entry) (make_poly full)) result }
 {
     let Some(s) = s else {
         return Err(StepErr::Input(Fault::UnknownName));
     };
-    if names.has_no_room(out.bytes()) {
+    if full {
         return Err(StepErr::Input(Fault::TooManyNames));
     }
     let _kept = s.dim();
     match bd_shape::shape_poly(alloc, s, steps) {
-        Ok(made) => Ok(Change::Puts(out, Entry::Poly(made))),
+        Ok(made) => Ok(made),
         Err(cause) => Err(StepErr::from(cause)),
     }
 }

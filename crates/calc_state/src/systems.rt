@@ -2,18 +2,17 @@
 ghost use Rattle.std.specs.Prelude.{ℕ, List};
 ghost use Rattle.std.specs.Option.{option_copied};
 ghost use Rattle.poly_pair.specs.Polyhedra.{Polyhedron};
-ghost use Rattle.calc_state.specs.Meaning.{on_one};
+ghost use Rattle.line_values.specs.Meaning.{on_one};
 ghost use Rattle.calc_state.specs.Systems.{system as make_system, init, trans, fixpoint as run_system};
 ghost use Rattle.calc_state.specs.Changes.{as_entry, IsTested};
-ghost use Rattle.calc_state.specs.Performed.{IsPerformed};
+ghost use Rattle.line_values.specs.Performed.{IsPerformed};
 ghost use Rattle.calc_state.specs.declared.entry.Entry.TheVariants as entry;
 
 use crate::change::Change;
-use crate::entry::Entry;
 use crate::names::Names;
 use crate::parts::{PartChange, SystemChange};
-use crate::refusal::StepErr;
 use fixpoint::run;
+use line_values::StepErr;
 use poly_pair::{Poly, Topology};
 use reply_text::{Fault, Text};
 use row_core::Steps;
@@ -28,14 +27,8 @@ const MAX_STATE_DIM: u64 = 31;
 pub const MAX_DELAY: u64 = 1_000_000;
 
 /// The transition system in which no location has an initial state, without transitions.
-pub fn system(
-    alloc: Global,
-    names: &Names,
-    out: Text,
-    n: u64,
-    locations: u64,
-) -> Result<Change, StepErr>
-    ensures { IsPerformed (make_system names.now out n locations) result }
+pub fn system(alloc: Global, n: u64, locations: u64, full: bool) -> Result<System, StepErr>
+    ensures { IsPerformed (make_system full n locations) result }
 {
     if n > MAX_STATE_DIM {
         return Err(StepErr::Input(Fault::TooManyDims));
@@ -43,11 +36,10 @@ pub fn system(
     if locations == 0 || locations > MAX_LOCATIONS as u64 {
         return Err(StepErr::Input(Fault::OutOfRange));
     }
-    if names.has_no_room(out.bytes()) {
+    if full {
         return Err(StepErr::Input(Fault::TooManyNames));
     }
-    let made = System::new(alloc, n as usize, locations as usize)?;
-    Ok(Change::Puts(out, Entry::System(made)))
+    Ok(System::new(alloc, n as usize, locations as usize)?)
 }
 
 /// Replaces the initial states of a location by those of a polyhedron.

@@ -30,11 +30,11 @@ use Rattle.script_text.specs.declared.command.Command.{Command}
 use Rattle.script_text.specs.declared.command.Command.TheVariants.{Nothing, Has, Size, Print, Names, Compare, Isempty, Relation, Bound, Read, Write, Psize, Covers, Ranking, ShapeContains, ShapePrint}
 use Rattle.script_text.specs.Line.{SpellsOne}
 use Rattle.calc_state.specs.Table.{HasDistinctNames}
-use Rattle.calc_state.specs.Meaning.{answer_line}
-use Rattle.calc_state.specs.Questions.{line, size_text, side_text}
-use Rattle.calc_state.specs.Optima.{with_word, relation_text, bound_text, is_max}
+use Rattle.line_values.specs.Meaning.{answer_line, line}
+use Rattle.poly_commands.specs.Questions.{size_text, side_text}
+use Rattle.poly_commands.specs.Optima.{with_word, relation_text, bound_text, is_max}
 use Rattle.calc_state.specs.Powersets.{members_text}
-use Rattle.calc_state.specs.Files.{file_of}
+use Rattle.poly_commands.specs.Files.{file_of}
 use Rattle.calc_state.specs.declared.entry.Entry.{Entry}
 use Rattle.calc_state.specs.declared.entry.Entry.TheVariants as entry
 use Rattle.calc_state.specs.Entries.{IsProper}

@@ -8,7 +8,7 @@ use Rattle.calc_state.specs.declared.change.Change.TheVariants.{Says, Puts, Puts
 use Rattle.calc_state.specs.Entries.{IsKeptEntry}
 use Rattle.calc_state.specs.Table.{as_poly, as_system, as_powerset, as_shape, as_hybrid}
 use Rattle.calc_state.specs.Changes.{as_entry}
-use Rattle.calc_state.specs.Meaning.{IsPutAs}
+use Rattle.calc_state.specs.Effects.{IsPutAs}
 use Rattle.calc_state.specs.Step.{PutsProper}
 use Rattle.polycalc.specs.Sets.{IsMadeAs}
 

@@ -15,7 +15,7 @@ use Rattle.powerset.specs.declared.covering.Cover.{Cover}
 use Rattle.powerset.specs.declared.covering.Cover.TheVariants.{Yes, No}
 use Rattle.powerset.proofs.SameReductions.{pointwise_back}
 use Rattle.ranking.specs.PrintedRankings.{IsFirstPoint, IsRankingText, function_text}
-use Rattle.calc_state.specs.Questions.{line}
+use Rattle.line_values.specs.Meaning.{line}
 use Rattle.calc_state.specs.Powersets.{members_text, cover_line}
 use Rattle.polycalc.specs.Sameness.{AreSamePolyhedra, AreSameUnions}
 use Rattle.polycalc.specs.Truth.{SaysCover, SaysRanking}

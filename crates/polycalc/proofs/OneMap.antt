@@ -28,8 +28,8 @@ use Rattle.script_text.specs.declared.command.Operator.{Operator}
 use Rattle.script_text.specs.declared.command.Operator.TheVariants as operator
 use Rattle.script_text.specs.declared.command.Extension.{Extension}
 use Rattle.script_text.specs.declared.command.Extension.TheVariants.{Embed, Project}
-use Rattle.calc_state.specs.Affine.{SaysReplacement, IsRemoved, image_rel, IsSetOfMap, IsMapped, IsMappedBy}
-use Rattle.calc_state.specs.Operators.{Fits, IsMadeBy, IsExtended}
+use Rattle.poly_commands.specs.Affine.{SaysReplacement, IsRemoved, image_rel, IsSetOfMap, IsMapped, IsMappedBy}
+use Rattle.poly_commands.specs.Operators.{Fits, IsMadeBy, IsExtended}
 use Rattle.calc_state.specs.Entries.{IsProper}
 use Rattle.polycalc.specs.Sets.{IsOfFit}
 use Rattle.polycalc.specs.Sameness.{AreSamePolyhedra}

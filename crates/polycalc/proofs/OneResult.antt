@@ -14,7 +14,7 @@ use Rattle.lattice_ops.specs.Sets.{IsMeet, IsHull, IsValidOn, IsIncluded, HaveSa
 use Rattle.calc_state.specs.declared.entry.Entry.{Entry}
 use Rattle.calc_state.specs.declared.entry.Entry.TheVariants as entry
 use Rattle.calc_state.specs.Entries.{IsProper, IsKeptEntry}
-use Rattle.calc_state.specs.Results.{IsResultOfClosure}
+use Rattle.poly_commands.specs.Results.{IsResultOfClosure}
 use Rattle.polycalc.specs.Sets.{IsMadeOfOne, IsMadeOfTwo, IsOfNested}
 use Rattle.polycalc.specs.Sameness.{AreSamePolyhedra, AreSameEntries}
 use Rattle.polycalc.proofs.OneForm.{OneForm, one_of_points}

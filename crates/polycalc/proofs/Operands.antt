@@ -1,6 +1,5 @@
--- What an accepted command says of its operands and puts under its name.
+-- What an accepted command says of its operands.
 use Rattle.std.proofs.Common.{◌≡◌, ◌≢◌, ℕ, ◌+◌, ◌%◌, ◌<◌, ◌≤◌, List, refl, inl, inr, arith}
-use Rattle.std.specs.Prelude.{Option, None, Some, MatchOption}
 use Rattle.std.proofs.lemmas.Bool.{cases_lt}
 use Rattle.poly_pair.specs.Polyhedra.{Polyhedron}
 use Rattle.poly_pair.specs.declared.topology.Topology.{Topology}
@@ -9,31 +8,14 @@ use Rattle.powerset.specs.Powersets.{Union}
 use Rattle.bd_shape.specs.Shapes.{Region}
 use Rattle.script_text.specs.declared.command.Operator.{Operator}
 use Rattle.script_text.specs.declared.command.Operator.TheVariants as operator
-use Rattle.calc_state.specs.declared.entry.Entry.{Entry}
-use Rattle.calc_state.specs.declared.change.Change.{Change}
-use Rattle.calc_state.specs.declared.change.Change.TheVariants.{Says, Puts, PutsAll, TakesOut}
-use Rattle.calc_state.specs.Table.{as_poly}
-use Rattle.calc_state.specs.Order.{Conditions, Passes}
-use Rattle.calc_state.specs.Meaning.{IsPutAs, IsPut, alike}
-use Rattle.calc_state.specs.Operators.{fitting, Fits}
+use Rattle.line_values.specs.Order.{Conditions, Passes}
+use Rattle.line_values.specs.Meaning.{alike}
+use Rattle.poly_commands.specs.Operators.{fitting, Fits}
 use Rattle.calc_state.specs.Powersets.{alike_unions, misses_member}
 use Rattle.calc_state.specs.Rankings.{relates_states}
 use Rattle.calc_state.specs.Shapes.{closed, of_one_dim}
-use Rattle.widening.specs.Widenings.{IsWidening}
-use Rattle.calc_state.specs.Widening.{nested, IsPutWidened}
+use Rattle.poly_commands.specs.Widening.{nested, IsWidened}
 use Rattle.polycalc.specs.Sets.{AreAlike, AreAlikeUnions, HaveOneDim, IsOfNested}
-
--- ---- what is put
-match_more : {A : Type 0} (o : Option A) (Is Has : A → Type 0) → ((r : A) → Is r → Has r) → MatchOption o ⊥ Is → MatchOption o ⊥ Has
-match_more None Is Has more h = h
-match_more (Some x) Is Has more h = more x h
-
--- an entry with a further property is put
-pub put_more : {A : Type 0} (found : Option Entry → Option A) (out : List ℕ) (Is Has : A → Type 0) (change : Change) → ((r : A) → Is r → Has r) → IsPutAs found out Is change → IsPutAs found out Has change
-put_more found out Is Has (Puts name e) more h = (h.0, match_more (found (Some e)) Is Has more h.1)
-put_more found out Is Has (Says text) more h = absurd h
-put_more found out Is Has (PutsAll prefix sets) more h = absurd h
-put_more found out Is Has (TakesOut name) more h = absurd h
 
 -- ---- the operands of a command that passes its tests
 pub one_topology : (s t : Topology) → ¬ (s ≢ t) → s ≡ t
@@ -96,8 +78,11 @@ is_counted count i others passes =
       | inr most ↦ absurd (passes.1.1.1.1.1.0 (inl (omega (arith, most))))
     ]
 
--- a widening is put
-pub put_nested : (out : List ℕ) (p q : Polyhedron) (others : Conditions) (change : Change) → Passes (nested p q others) → IsPutWidened out p q change → IsPut out (IsOfNested p q) change
-put_nested out p q others change passes h =
-    let same : AreAlike p q = record { topology = one_topology p.topology q.topology passes.1.0; dim = one_number p.cons.dim q.cons.dim passes.1.1.1.0 } in
-    put_more as_poly out (IsWidening p q) (IsOfNested p q) change (λ r is. record { alike = same; closed = one_topology p.topology Closed passes.1.1.0; nested = h.nested; is = is }) h.put
+-- a widening
+pub of_nested : (p q r : Polyhedron) (others : Conditions) → Passes (nested p q others) → IsWidened p q r → IsOfNested p q r
+of_nested p q r others passes h = record {
+  alike = record { topology = one_topology p.topology q.topology passes.1.0; dim = one_number p.cons.dim q.cons.dim passes.1.1.1.0 };
+  closed = one_topology p.topology Closed passes.1.1.0;
+  nested = h.nested;
+  is = h.widening;
+}

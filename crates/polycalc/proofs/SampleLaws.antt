@@ -15,7 +15,7 @@ use Rattle.optimum.specs.Suprema.{SupAnswer, IsTrueSup}
 use Rattle.optimum.specs.declared.outcome.Sup.{Sup}
 use Rattle.sample_rows.specs.Samples.{IsSample}
 use Rattle.optimum.specs.Showing.{shown_values}
-use Rattle.calc_state.specs.Questions.{line}
+use Rattle.line_values.specs.Meaning.{line}
 use Rattle.calc_state.specs.Step.{Reply, Answered, Refused, Overflows}
 use Rattle.polycalc.specs.Replies.{is_answer}
 use Rattle.polycalc.specs.Samples.{difference, sample_text, IsOfSample, IsSampleLine, LeavesOnSample, SamplesTo, MustSample}

@@ -12,8 +12,6 @@ use Rattle.trans_sys.specs.Systems.{with_initial, with_transition}
 use Rattle.powerset.specs.Powersets.{IsUnionOf}
 use Rattle.ranking.specs.Rankings.{IsRankingSet}
 use Rattle.script_text.specs.declared.command.Part.{Part}
-use Rattle.script_text.specs.declared.command.Comparison.{Comparison}
-use Rattle.script_text.specs.declared.command.Comparison.TheVariants as comparison
 use Rattle.script_text.specs.declared.command.Command.{Command}
 use Rattle.script_text.specs.declared.command.Command.TheVariants.{Nothing, Cons, Gens, Space, Copy, Drop, Add, Addgen, Has, Size, Print, Names, OfTwo, Closure, Compare, Isempty, Relation, Bound, Map, Extend, Remove, Widen, Read, Write, System, Init, Trans, Fixpoint, Pset, OfTwoPowersets, Member, Psize, Covers, Rank, Ranking, ShapeOf, Bounds, OfTwoShapes, ShapeContains, ShapePrint, ShapePoly, Hybrid, SetPart, Reach}
 use Rattle.calc_state.specs.declared.entry.Entry.{Entry}
@@ -21,27 +19,27 @@ use Rattle.calc_state.specs.declared.entry.Entry.TheVariants as entry
 use Rattle.calc_state.specs.declared.change.Change.{Change}
 use Rattle.calc_state.specs.declared.change.Change.TheVariants.{Says, Puts, PutsAll, TakesOut}
 use Rattle.calc_state.specs.Entries.{IsProper}
-use Rattle.calc_state.specs.Table.{Table, entry_of, as_poly, poly_of, as_system, system_of, as_powerset, powerset_of, as_shape, shape_of, as_hybrid, hybrid_of, put, put_each, numbered, numbered_sets, HasDistinctNames}
-use Rattle.calc_state.specs.Order.{Passes}
-use Rattle.calc_state.specs.Meaning.{Meaning, IsSaid, IsPut, IsPutAs, AreAllPut, IsTakenOut, on_one, on_two, room, answer_line}
+use Rattle.calc_state.specs.Table.{Table, entry_of, as_poly, poly_of, as_system, system_of, as_powerset, powerset_of, as_shape, shape_of, as_hybrid, hybrid_of, put, put_each, numbered, numbered_sets, has_no_room, HasDistinctNames}
+use Rattle.line_values.specs.Order.{Passes}
+use Rattle.line_values.specs.Meaning.{Meaning, on_one, on_two, room, says}
+use Rattle.calc_state.specs.Effects.{IsReply, IsPutAs, AreAllPut, IsTakenOut, puts, tells}
 use Rattle.calc_state.specs.Meanings.{meaning, topology_of}
-use Rattle.calc_state.specs.Makers.{SaysConstraints, SaysGenerators, more_constraints, IsSpace, copy, drop_of, add, addgen}
-use Rattle.calc_state.specs.Questions.{has, size, print, line, size_text, side_text, names_text}
-use Rattle.calc_state.specs.Optima.{relation, bound, relation_text, bound_text, is_max}
-use Rattle.calc_state.specs.Lattice.{closure, compared, isempty, IsTold}
-use Rattle.calc_state.specs.Operators.{Fits, operated, IsMadeBy, extended, IsExtended}
-use Rattle.calc_state.specs.Affine.{mapped_by, remove, IsRemoved, IsMappedBy}
-use Rattle.calc_state.specs.Results.{IsResultOfConstraints, IsResultOfGenerators, IsResultOfClosure}
-use Rattle.calc_state.specs.Widening.{widen}
+use Rattle.poly_commands.specs.Makers.{SaysConstraints, SaysGenerators, more_constraints, IsSpace, copy, add, addgen}
+use Rattle.calc_state.specs.Names.{names as tell_names, drop_of}
+use Rattle.poly_commands.specs.Questions.{has, size, print}
+use Rattle.poly_commands.specs.Optima.{relation, bound, is_max}
+use Rattle.poly_commands.specs.Lattice.{closure, compared, isempty}
+use Rattle.poly_commands.specs.Operators.{Fits, operated, IsMadeBy, extended, IsExtended}
+use Rattle.poly_commands.specs.Affine.{mapped_by, remove, IsRemoved, IsMappedBy}
+use Rattle.poly_commands.specs.Results.{IsResultOfConstraints, IsResultOfGenerators, IsResultOfClosure}
+use Rattle.poly_commands.specs.Widening.{widen}
 use Rattle.calc_state.specs.Systems.{IsEmptySystem, AreReached, init, trans, fixpoint}
-use Rattle.calc_state.specs.Powersets.{pset, of_two_powersets, IsPowersetOf, member, psize, members_text, covers, cover_line}
+use Rattle.calc_state.specs.Powersets.{pset, of_two_powersets, IsPowersetOf, member, psize, covers}
 use Rattle.calc_state.specs.Rankings.{rank, ranking}
 use Rattle.calc_state.specs.Shapes.{shape, IsShapeOfSet, IsShapeOfConstraints, of_two_shapes, IsShapeBy, shape_contains, shape_print, shape_poly, IsPolyOfShape}
 use Rattle.calc_state.specs.Hybrids.{hybrid, IsStill, set_part, with_part, reach, AreReachedParts}
-use Rattle.bd_shape.specs.Rows.{shape_constraints}
-use Rattle.expr_text.specs.Printed.{constraints_text}
 use Rattle.widening.proofs.Places.{all_at}
-use Rattle.calc_state.specs.Files.{write, file_of, format_of}
+use Rattle.poly_commands.specs.Files.{write, format_of}
 use Rattle.calc_state.specs.State.{State, OpenFile, closed}
 use Rattle.calc_state.specs.Reading.{IsRead}
 use Rattle.calc_state.specs.Step.{Reply, IsAccepted, PutsProper, after}
@@ -56,7 +54,7 @@ use Rattle.polycalc.proofs.TableLaws.{entry_of-put, entry_of-without, distinct_k
 use Rattle.polycalc.proofs.NumberedLaws.{AtNumber, entry_of-put_each, names-put_each, has_locations}
 use Rattle.polycalc.proofs.OneSystem.{run_count, reach_count}
 use Rattle.polycalc.proofs.EntryKinds.{IsKind, poly_there, system_there, powerset_there, shape_there, hybrid_there, put_made}
-use Rattle.polycalc.proofs.Operands.{one_topology, put_more, fit_operator, are_alike_unions, have_one_dim, is_closed, is_closed_relation, is_even, is_counted, put_nested}
+use Rattle.polycalc.proofs.Operands.{one_topology, fit_operator, are_alike_unions, have_one_dim, is_closed, is_closed_relation, is_even, is_counted, of_nested}
 use Rattle.polycalc.proofs.OneForm.{OneForm}
 use Rattle.polycalc.proofs.OneSet.{entry_kept, set_proper, one_entry}
 
@@ -118,33 +116,11 @@ taken_stands : (b : Bool) (o : Option Entry) (M E : Entry → Type 0) → ((e : 
 taken_stands true o M E never h = never
 taken_stands false o M E never h = h
 
-said_table : (old : Table) (lines : List ℕ) (change : Change) → IsSaid lines change → after old change ≡ old
-said_table old lines (Says text) h = refl
-said_table old lines (Puts name e) h = absurd h
-said_table old lines (PutsAll prefix xs) h = absurd h
-said_table old lines (TakesOut name) h = absurd h
-
--- the change only says something
-record OnlySays (change : Change) : Type 0 where
-  lines : List ℕ
-  said : IsSaid lines change
-
-one_say : {A : Type 0} (m : A → Meaning) (o : Option A) (change : Change) → ((x : A) → (m x).does change → OnlySays change) → (on_one o m).does change → OnlySays change
-one_say m None change say h = absurd h
-one_say m (Some q) change say h = say q h
-
-two_say : {A : Type 0} (m : A → A → Meaning) (o u : Option A) (change : Change) → ((x y : A) → (m x y).does change → OnlySays change) → (on_two o u m).does change → OnlySays change
-two_say m None u change say h = absurd h
-two_say m (Some q) None change say h = absurd h
-two_say m (Some q) (Some r) change say h = say q r h
-
-told_says : (Statement : Type 0) (change : Change) → IsTold Statement change → OnlySays change
-told_says Statement change h = record { lines = answer_line h.holds; said = h.said }
-
-compared_says : (by : Comparison) (x y : Polyhedron) (change : Change) → (compared by x y).does change → OnlySays change
-compared_says comparison.Contains x y change h = record { lines = answer_line h.told.holds; said = h.told.said }
-compared_says comparison.Equal x y change h = record { lines = answer_line h.told.holds; said = h.told.said }
-compared_says comparison.Disjoint x y change h = record { lines = answer_line h.holds; said = h.said }
+said_table : (old : Table) (Is : List ℕ → Type 0) (change : Change) → IsReply Is change → after old change ≡ old
+said_table old Is (Says text) h = refl
+said_table old Is (Puts name e) h = absurd h
+said_table old Is (PutsAll prefix xs) h = absurd h
+said_table old Is (TakesOut name) h = absurd h
 
 taken_change : (name : List ℕ) (change : Change) → IsTakenOut name change → change ≡ TakesOut name
 taken_change name (TakesOut taken) h = ap TakesOut h
@@ -224,24 +200,26 @@ module _ (old new : Table) (earlier : List Act) (text : List ℕ) (a : Agrees ol
       entry_follows c out (kind p.made) (table ∙ ap (after old) p.change_is) own (λ name. gives name p.made p.is) (names (kind p.made))
 
   -- that makes it of one operand
-  one_follows : {A B : Type 0} (kind : A → Entry) (found : Option Entry → Option B) (into : B → Entry) → IsKind found into → (c : Command) (out name : List ℕ) (m : A → Meaning) (Is : A → B → Type 0) (o : Option A) → Stands o (λ x. IsEntryOf earlier name (kind x)) → Owns c out →
-      ((n : List ℕ) (r : B) → IsMadeOfOne kind into (IsEntryOf earlier name) Is r → GivesEntry c (IsEntryOf earlier) n (into r)) → ((x : A) → o ≡ Some x → IsNamed c out) → ((x : A) (change : Change) → Passes (m x).conditions → (m x).does change → IsPutAs found out (Is x) change) →
-      IsAccepted (on_one o m) old text new → Follows new earlier (Did c)
-  one_follows kind found into there c out name m Is None s own gives names puts p = absurd p.does
-  one_follows kind found into there c out name m Is (Some x) s own gives names puts p =
-      put_follows found into there c out (Is x) p.change (puts x p.change p.passes p.does) p.proper p.table own (λ n r made. gives n r (record { operand = x; was = s; made = made })) (names x refl)
+  one_follows : {A B : Type 0} (kind : A → Entry) (found : Option Entry → Option B) (into : B → Entry) → IsKind found into → (c : Command) (out name : List ℕ) (m : A → Meaning B) (Is : A → B → Type 0) (o : Option A) → Stands o (λ x. IsEntryOf earlier name (kind x)) → Owns c out →
+      ((n : List ℕ) (r : B) → IsMadeOfOne kind into (IsEntryOf earlier name) Is r → GivesEntry c (IsEntryOf earlier) n (into r)) → ((x : A) → o ≡ Some x → IsNamed c out) → ((x : A) (r : B) → Passes (m x).conditions → (m x).does r → Is x r) →
+      IsAccepted (puts found out (on_one o m)) old text new → Follows new earlier (Did c)
+  one_follows kind found into there c out name m Is None s own gives names made p = absurd (put_made found into there out (on_one None m).does p.change p.does p.proper).is.is
+  one_follows kind found into there c out name m Is (Some x) s own gives names made p =
+      let q = put_made found into there out (m x).does p.change p.does p.proper in
+      entry_follows c out (into q.made) (p.table ∙ ap (after old) q.change_is) own (λ n. gives n q.made (record { operand = x; was = s; made = record { kept = q.is.kept; is = made x q.made p.passes q.is.is } })) (names x refl (into q.made))
 
   -- of two operands
-  two_follows : {A B : Type 0} (kind : A → Entry) (found : Option Entry → Option B) (into : B → Entry) → IsKind found into → (c : Command) (out name other : List ℕ) (m : A → A → Meaning) (Is : A → A → B → Type 0) (o u : Option A) →
+  two_follows : {A B : Type 0} (kind : A → Entry) (found : Option Entry → Option B) (into : B → Entry) → IsKind found into → (c : Command) (out name other : List ℕ) (m : A → A → Meaning B) (Is : A → A → B → Type 0) (o u : Option A) →
       Stands o (λ x. IsEntryOf earlier name (kind x)) → Stands u (λ x. IsEntryOf earlier other (kind x)) → Owns c out → ((n : List ℕ) (r : B) → IsMadeOfTwo kind into (IsEntryOf earlier name) (IsEntryOf earlier other) Is r → GivesEntry c (IsEntryOf earlier) n (into r)) → IsNamed c out →
-      ((x y : A) (change : Change) → Passes (m x y).conditions → (m x y).does change → IsPutAs found out (Is x y) change) → IsAccepted (on_two o u m) old text new → Follows new earlier (Did c)
-  two_follows kind found into there c out name other m Is None u s t own gives names puts p = absurd p.does
-  two_follows kind found into there c out name other m Is (Some x) None s t own gives names puts p = absurd p.does
-  two_follows kind found into there c out name other m Is (Some x) (Some y) s t own gives names puts p =
-      put_follows found into there c out (Is x y) p.change (puts x y p.change p.passes p.does) p.proper p.table own (λ n r made. gives n r (record { first = x; second = y; was_first = s; was_second = t; made = made })) names
+      ((x y : A) (r : B) → Passes (m x y).conditions → (m x y).does r → Is x y r) → IsAccepted (puts found out (on_two o u m)) old text new → Follows new earlier (Did c)
+  two_follows kind found into there c out name other m Is None u s t own gives names made p = absurd (put_made found into there out (on_two None u m).does p.change p.does p.proper).is.is
+  two_follows kind found into there c out name other m Is (Some x) None s t own gives names made p = absurd (put_made found into there out (on_two (Some x) None m).does p.change p.does p.proper).is.is
+  two_follows kind found into there c out name other m Is (Some x) (Some y) s t own gives names made p =
+      let q = put_made found into there out (m x y).does p.change p.does p.proper in
+      entry_follows c out (into q.made) (p.table ∙ ap (after old) q.change_is) own (λ n. gives n q.made (record { first = x; second = y; was_first = s; was_second = t; made = record { kept = q.is.kept; is = made x y q.made p.passes q.is.is } })) (names (into q.made))
 
   -- that changes what is under its name by a closed polyhedron
-  changed_follows : {A : Type 0} (found : Option Entry → Option A) (kind : A → Entry) → IsKind found kind → (c : Command) (out other : List ℕ) (m : A → Polyhedron → Meaning) (changed : A → Polyhedron → A) (u : Option A) (o : Option Polyhedron) → found (entry_of old out) ≡ u →
+  changed_follows : {A : Type 0} (found : Option Entry → Option A) (kind : A → Entry) → IsKind found kind → (c : Command) (out other : List ℕ) (m : A → Polyhedron → Meaning Change) (changed : A → Polyhedron → A) (u : Option A) (o : Option Polyhedron) → found (entry_of old out) ≡ u →
       Stands u (λ x. IsEntryOf earlier out (kind x)) → Stands o (IsSetOf earlier other) → Owns c out → ((n : List ℕ) (r : A) → IsChangedBy kind (IsEntryOf earlier out) (IsEntryOf earlier other) changed r → GivesEntry c (IsEntryOf earlier) n (kind r)) → names_of (Did c ∷ earlier) ≡ names_of earlier →
       ((x : A) (q : Polyhedron) → Passes (m x q).conditions → q.topology ≡ Closed) → ((x : A) (q : Polyhedron) (change : Change) → (m x q).does change → IsPutAs found out (λ r. r ≡ changed x q) change) → IsAccepted (on_one u (λ x. on_one o (m x))) old text new → Follows new earlier (Did c)
   changed_follows found kind there c out other m changed None o e s t own gives names closed puts p = absurd p.does
@@ -251,9 +229,9 @@ module _ (old new : Table) (earlier : List Act) (text : List ℕ) (a : Agrees ol
       (λ entry. kept_name out (kind x) (there (entry_of old out) x e) entry ∙ sym names)
 
   -- that only says something
-  said_follows : (c : Command) (change : Change) → OnlySays change → new ≡ after old change → ((name : List ℕ) → sets earlier c name ≡ false) → names_of (Did c ∷ earlier) ≡ names_of earlier → Follows new earlier (Did c)
-  said_follows c change does table own names =
-      subst (λ (t : Table). Follows t earlier (Did c)) (sym (table ∙ said_table old does.lines change does.said)) (record {
+  said_follows : (c : Command) (m : Meaning (List ℕ)) → IsAccepted (tells m) old text new → ((name : List ℕ) → sets earlier c name ≡ false) → names_of (Did c ∷ earlier) ≡ names_of earlier → Follows new earlier (Did c)
+  said_follows c m p own names =
+      subst (λ (t : Table). Follows t earlier (Did c)) (sym (p.table ∙ said_table old m.does p.change p.does)) (record {
         sets = λ name. subst (λ (b : Bool). StandsAlone (entry_of old name) (λ x. MatchBool b (GivesEntry c (IsEntryOf earlier) name x) (IsEntryOf earlier name x))) (sym (own name)) (a.sets name);
         names = a.names ∙ sym names;
       })
@@ -270,7 +248,7 @@ module _ (old new : Table) (earlier : List Act) (text : List ℕ) (a : Agrees ol
       })
 
   -- that puts a polyhedron for each location under the numbered names
-  run_follows : {A : Type 0} (kind : A → Entry) (c : Command) (name prefix : List ℕ) (m : A → Meaning) (Are : A → List Polyhedron → Type 0) (o : Option A) → Stands o (λ x. IsEntryOf earlier name (kind x)) → ((n : List ℕ) → sets earlier c n ≡ is_numbered prefix 0 (locations_of earlier name) n) →
+  run_follows : {A : Type 0} (kind : A → Entry) (c : Command) (name prefix : List ℕ) (m : A → Meaning Change) (Are : A → List Polyhedron → Type 0) (o : Option A) → Stands o (λ x. IsEntryOf earlier name (kind x)) → ((n : List ℕ) → sets earlier c n ≡ is_numbered prefix 0 (locations_of earlier name) n) →
       ((n : List ℕ) (p : Polyhedron) → IsReachedSet kind (IsEntryOf earlier name) Are prefix n p → GivesEntry c (IsEntryOf earlier) n (entry.Poly p)) → names_of (Did c ∷ earlier) ≡ with_numbered prefix 0 (locations_of earlier name) (names_of earlier) →
       ((x : A) (xs : List Polyhedron) → IsEntryOf earlier name (kind x) → Are x xs → length xs ≡ locations_of earlier name) → ((x : A) (change : Change) → (m x).does change → AreAllPut prefix (Are x) change) → IsAccepted (on_one o m) old text new → Follows new earlier (Did c)
   run_follows kind c name prefix m Are None was own gives names count puts p = absurd p.does
@@ -302,48 +280,46 @@ module _ (old new : Table) (earlier : List Act) (text : List ℕ) (a : Agrees ol
           (numbered_stands (is_numbered prefix 0 (length put.sets) n) prefix n put.sets (entry_of after_run n) (entry_of old n) (Given n) (IsEntryOf earlier n) (reached n) (entry_of-put_each put.sets old prefix 0 n) (a.sets n))
 
   -- a polyhedron of one
-  poly_follows : (c : Command) (out name : List ℕ) (m : Polyhedron → Meaning) (Is : Polyhedron → Polyhedron → Type 0) → Owns c out → ((n : List ℕ) (r : Polyhedron) → IsMadeOfOne entry.Poly entry.Poly (IsEntryOf earlier name) Is r → GivesEntry c (IsEntryOf earlier) n (entry.Poly r)) → IsNamed c out →
-      ((x : Polyhedron) (change : Change) → Passes (m x).conditions → (m x).does change → IsPut out (Is x) change) → IsAccepted (on_one (poly_of old name) m) old text new → Follows new earlier (Did c)
-  poly_follows c out name m Is own gives names puts p = one_follows entry.Poly as_poly entry.Poly poly_there c out name m Is (poly_of old name) (poly_at old earlier a name) own gives (λ x e. names) puts p
+  poly_follows : (c : Command) (out name : List ℕ) (m : Polyhedron → Meaning Polyhedron) (Is : Polyhedron → Polyhedron → Type 0) → Owns c out → ((n : List ℕ) (r : Polyhedron) → IsMadeOfOne entry.Poly entry.Poly (IsEntryOf earlier name) Is r → GivesEntry c (IsEntryOf earlier) n (entry.Poly r)) → IsNamed c out →
+      ((x r : Polyhedron) → Passes (m x).conditions → (m x).does r → Is x r) → IsAccepted (puts as_poly out (on_one (poly_of old name) m)) old text new → Follows new earlier (Did c)
+  poly_follows c out name m Is own gives names made p = one_follows entry.Poly as_poly entry.Poly poly_there c out name m Is (poly_of old name) (poly_at old earlier a name) own gives (λ x e. names) made p
 
   -- what an accepted command leaves is what the commands give
   accepted_follows : (c : Command) → IsAccepted (meaning old c) old text new → Follows new earlier (Did c)
-  accepted_follows Nothing p = said_follows Nothing p.change (record { lines = []; said = p.does }) p.table (λ n. refl) refl
+  accepted_follows Nothing p = said_follows Nothing (says []) p (λ n. refl) refl
   accepted_follows (Cons out top n part) p =
       put_follows as_poly entry.Poly poly_there (Cons out top n part) out (λ r. SaysConstraints n part (λ cs. IsResultOfConstraints (topology_of top) cs r)) p.change p.does p.proper p.table (λ name. refl) (λ name r is. is) (new_name out)
   accepted_follows (Gens out top n part) p =
       put_follows as_poly entry.Poly poly_there (Gens out top n part) out (λ r. SaysGenerators n part (λ gs. IsResultOfGenerators (topology_of top) gs r)) p.change p.does p.proper p.table (λ name. refl) (λ name r is. is) (new_name out)
   accepted_follows (Space space out top n) p = put_follows as_poly entry.Poly poly_there (Space space out top n) out (IsSpace space (topology_of top) n) p.change p.does p.proper p.table (λ name. refl) (λ name r is. is) (new_name out)
   accepted_follows (Copy out other) p =
-      poly_follows (Copy out other) out other (copy old out) (λ q r. r ≡ q) (λ n. refl) (λ n r h. subst (λ (x : Polyhedron). IsEntryOf earlier other (entry.Poly x)) (sym h.made.is) h.was) (new_name out) (λ x change passes does. does) p
+      poly_follows (Copy out other) out other (copy (has_no_room old out)) (λ q r. r ≡ q) (λ n. refl) (λ n r h. subst (λ (x : Polyhedron). IsEntryOf earlier other (entry.Poly x)) (sym h.made.is) h.was) (new_name out) (λ x r passes is. is) p
   accepted_follows (Drop out) p = drop_follows out (entry_of old out) p
   accepted_follows (Add out part) p =
-      one_follows entry.Poly as_poly entry.Poly poly_there (Add out part) out out (add out part) (IsAdded part) (poly_of old out) (poly_at old earlier a out) (λ n. refl) (λ n r h. h) (λ x e. kept_name out (entry.Poly x) (poly_there (entry_of old out) x e))
-      (λ x change passes does. put_more as_poly out (λ r. SaysConstraints x.cons.dim part (λ cs. IsResultOfConstraints x.topology (more_constraints x.cons cs) r)) (IsAdded part x) change (added_of part x) does) p
+      one_follows entry.Poly as_poly entry.Poly poly_there (Add out part) out out (add part) (IsAdded part) (poly_of old out) (poly_at old earlier a out) (λ n. refl) (λ n r h. h) (λ x e. kept_name out (entry.Poly x) (poly_there (entry_of old out) x e))
+      (λ x r passes is. added_of part x r is) p
   accepted_follows (Addgen out part) p =
-      one_follows entry.Poly as_poly entry.Poly poly_there (Addgen out part) out out (addgen out part) (IsJoined part) (poly_of old out) (poly_at old earlier a out) (λ n. refl) (λ n r h. h) (λ x e. kept_name out (entry.Poly x) (poly_there (entry_of old out) x e)) (λ x change passes does. does) p
-  accepted_follows (Has name part) p = said_follows (Has name part) p.change (one_say (has part) (poly_of old name) p.change (λ x h. record { lines = answer_line h.holds.holds; said = h.holds.said }) p.does) p.table (λ n. refl) refl
-  accepted_follows (Size name) p = said_follows (Size name) p.change (one_say size (poly_of old name) p.change (λ x h. record { lines = line (size_text x); said = h }) p.does) p.table (λ n. refl) refl
-  accepted_follows (Print side name) p = said_follows (Print side name) p.change (one_say (print side) (poly_of old name) p.change (λ x h. record { lines = line (side_text side x); said = h }) p.does) p.table (λ n. refl) refl
-  accepted_follows Names p = said_follows Names p.change (record { lines = line (names_text old); said = p.does }) p.table (λ n. refl) refl
+      one_follows entry.Poly as_poly entry.Poly poly_there (Addgen out part) out out (addgen part) (IsJoined part) (poly_of old out) (poly_at old earlier a out) (λ n. refl) (λ n r h. h) (λ x e. kept_name out (entry.Poly x) (poly_there (entry_of old out) x e)) (λ x r passes is. is) p
+  accepted_follows (Has name part) p = said_follows (Has name part) (on_one (poly_of old name) (has part)) p (λ n. refl) refl
+  accepted_follows (Size name) p = said_follows (Size name) (on_one (poly_of old name) size) p (λ n. refl) refl
+  accepted_follows (Print side name) p = said_follows (Print side name) (on_one (poly_of old name) (print side)) p (λ n. refl) refl
+  accepted_follows Names p = said_follows Names (tell_names old) p (λ n. refl) refl
   accepted_follows (OfTwo op out one other) p =
-      two_follows entry.Poly as_poly entry.Poly poly_there (OfTwo op out one other) out one other (operated op old out) (IsOfFit (Fits op) (IsMadeBy op)) (poly_of old one) (poly_of old other) (poly_at old earlier a one) (poly_at old earlier a other) (λ n. refl) (λ n r h. h) (new_name out)
-      (λ x y change passes does. put_more as_poly out (IsMadeBy op x y) (IsOfFit (Fits op) (IsMadeBy op) x y) change (λ r is. record { fit = fit_operator op x y (room old out) passes; is = is }) does) p
-  accepted_follows (Closure out other) p = poly_follows (Closure out other) out other (closure old out) IsResultOfClosure (λ n. refl) (λ n r h. h) (new_name out) (λ x change passes does. does) p
-  accepted_follows (Compare by one other) p = said_follows (Compare by one other) p.change (two_say (compared by) (poly_of old one) (poly_of old other) p.change (λ x y h. compared_says by x y p.change h) p.does) p.table (λ n. refl) refl
-  accepted_follows (Isempty name) p = said_follows (Isempty name) p.change (one_say isempty (poly_of old name) p.change (λ x h. record { lines = answer_line h.holds; said = h.said }) p.does) p.table (λ n. refl) refl
-  accepted_follows (Relation name part) p =
-      said_follows (Relation name part) p.change (one_say (relation part) (poly_of old name) p.change (λ x h. record { lines = line (relation_text h.holds.flags); said = h.holds.said }) p.does) p.table (λ n. refl) refl
-  accepted_follows (Bound extremum name part) p =
-      said_follows (Bound extremum name part) p.change (one_say (bound (is_max extremum) part) (poly_of old name) p.change (λ x h. record { lines = line (bound_text x.gens h.holds.bound); said = h.holds.said }) p.does) p.table (λ n. refl) refl
-  accepted_follows (Map by out other v rel part) p = poly_follows (Map by out other v rel part) out other (mapped_by by old out v rel part) (IsMappedBy by v rel part) (λ n. refl) (λ n r h. h) (new_name out) (λ x change passes does. does) p
-  accepted_follows (Extend by out other n) p = poly_follows (Extend by out other n) out other (extended by old out n) (IsExtended by n) (λ i. refl) (λ i r h. h) (new_name out) (λ x change passes does. does) p
-  accepted_follows (Remove out other vars) p = poly_follows (Remove out other vars) out other (remove old out vars) (IsRemoved vars) (λ n. refl) (λ n r h. h) (new_name out) (λ x change passes does. does) p
+      two_follows entry.Poly as_poly entry.Poly poly_there (OfTwo op out one other) out one other (operated op (has_no_room old out)) (IsOfFit (Fits op) (IsMadeBy op)) (poly_of old one) (poly_of old other) (poly_at old earlier a one) (poly_at old earlier a other) (λ n. refl) (λ n r h. h) (new_name out)
+      (λ x y r passes is. record { fit = fit_operator op x y (room (has_no_room old out)) passes; is = is }) p
+  accepted_follows (Closure out other) p = poly_follows (Closure out other) out other (closure (has_no_room old out)) IsResultOfClosure (λ n. refl) (λ n r h. h) (new_name out) (λ x r passes is. is) p
+  accepted_follows (Compare by one other) p = said_follows (Compare by one other) (on_two (poly_of old one) (poly_of old other) (compared by)) p (λ n. refl) refl
+  accepted_follows (Isempty name) p = said_follows (Isempty name) (on_one (poly_of old name) isempty) p (λ n. refl) refl
+  accepted_follows (Relation name part) p = said_follows (Relation name part) (on_one (poly_of old name) (relation part)) p (λ n. refl) refl
+  accepted_follows (Bound extremum name part) p = said_follows (Bound extremum name part) (on_one (poly_of old name) (bound (is_max extremum) part)) p (λ n. refl) refl
+  accepted_follows (Map by out other v rel part) p = poly_follows (Map by out other v rel part) out other (mapped_by by (has_no_room old out) v rel part) (IsMappedBy by v rel part) (λ n. refl) (λ n r h. h) (new_name out) (λ x r passes is. is) p
+  accepted_follows (Extend by out other n) p = poly_follows (Extend by out other n) out other (extended by (has_no_room old out) n) (IsExtended by n) (λ i. refl) (λ i r h. h) (new_name out) (λ x r passes is. is) p
+  accepted_follows (Remove out other vars) p = poly_follows (Remove out other vars) out other (remove (has_no_room old out) vars) (IsRemoved vars) (λ n. refl) (λ n r h. h) (new_name out) (λ x r passes is. is) p
   accepted_follows (Widen out one other) p =
-      two_follows entry.Poly as_poly entry.Poly poly_there (Widen out one other) out one other (widen old out) IsOfNested (poly_of old one) (poly_of old other) (poly_at old earlier a one) (poly_at old earlier a other) (λ n. refl) (λ n r h. h) (new_name out)
-      (λ x y change passes does. put_nested out x y (room old out) change passes does) p
-  accepted_follows (Read out form) p = said_follows (Read out form) p.change (record { lines = []; said = p.does }) p.table (λ n. refl) refl
-  accepted_follows (Write name form) p = said_follows (Write name form) p.change (one_say (write form) (poly_of old name) p.change (λ x h. record { lines = file_of form x; said = h }) p.does) p.table (λ n. refl) refl
+      two_follows entry.Poly as_poly entry.Poly poly_there (Widen out one other) out one other (widen (has_no_room old out)) IsOfNested (poly_of old one) (poly_of old other) (poly_at old earlier a one) (poly_at old earlier a other) (λ n. refl) (λ n r h. h) (new_name out)
+      (λ x y r passes is. of_nested x y r (room (has_no_room old out)) passes is) p
+  accepted_follows (Read out form) p = said_follows (Read out form) (says []) p (λ n. refl) refl
+  accepted_follows (Write name form) p = said_follows (Write name form) (on_one (poly_of old name) (write form)) p (λ n. refl) refl
   accepted_follows (System out n locations) p = put_follows as_system entry.System system_there (System out n locations) out (IsEmptySystem n locations) p.change p.does p.proper p.table (λ name. refl) (λ name s is. is) (new_name out)
   accepted_follows (Init out location other) p =
       changed_follows as_system entry.System system_there (Init out location other) out other (init out location) (λ x q. with_initial x location q) (system_of old out) (poly_of old other) refl (system_at old earlier a out) (poly_at old earlier a other) (λ n. refl) (λ n r h. h) refl
@@ -355,36 +331,33 @@ module _ (old new : Table) (earlier : List Act) (text : List ℕ) (a : Agrees ol
       run_follows entry.System (Fixpoint s delay prefix) s prefix (fixpoint old delay prefix) (λ x xs. AreReached x delay xs) (system_of old s) (system_at old earlier a s) (λ n. refl) (λ n q h. h) refl
       (λ x xs was are. run_count x delay xs are ∙ sym (has_locations earlier s (entry.System x) was)) (λ x change does. does) p
   accepted_follows (Pset out other) p =
-      one_follows entry.Poly as_powerset entry.Powerset powerset_there (Pset out other) out other (pset old out) IsUnionOf (poly_of old other) (poly_at old earlier a other) (λ n. refl) (λ n r h. h) (λ x e. new_name out) (λ x change passes does. does) p
+      one_follows entry.Poly as_powerset entry.Powerset powerset_there (Pset out other) out other (pset (has_no_room old out)) IsUnionOf (poly_of old other) (poly_at old earlier a other) (λ n. refl) (λ n r h. h) (λ x e. new_name out) (λ x r passes is. is) p
   accepted_follows (OfTwoPowersets op out one other) p =
-      two_follows entry.Powerset as_powerset entry.Powerset powerset_there (OfTwoPowersets op out one other) out one other (of_two_powersets op old out) (IsOfFit AreAlikeUnions (IsPowersetOf op)) (powerset_of old one) (powerset_of old other) (powerset_at old earlier a one) (powerset_at old earlier a other)
-      (λ n. refl) (λ n r h. h) (new_name out) (λ x y change passes does. put_more as_powerset out (IsPowersetOf op x y) (IsOfFit AreAlikeUnions (IsPowersetOf op) x y) change (λ r is. record { fit = are_alike_unions x y (room old out) passes; is = is }) does) p
+      two_follows entry.Powerset as_powerset entry.Powerset powerset_there (OfTwoPowersets op out one other) out one other (of_two_powersets op (has_no_room old out)) (IsOfFit AreAlikeUnions (IsPowersetOf op)) (powerset_of old one) (powerset_of old other) (powerset_at old earlier a one) (powerset_at old earlier a other)
+      (λ n. refl) (λ n r h. h) (new_name out) (λ x y r passes is. record { fit = are_alike_unions x y (room (has_no_room old out)) passes; is = is }) p
   accepted_follows (Member out s i) p =
-      one_follows entry.Powerset as_poly entry.Poly poly_there (Member out s i) out s (member old out i) (IsMemberAt i) (powerset_of old s) (powerset_at old earlier a s) (λ n. refl) (λ n r h. h) (λ x e. new_name out)
-      (λ x change passes does. put_more as_poly out (λ r. slice_get x.members (i - 1) ≡ Some r) (IsMemberAt i x) change (λ r is. (is_counted (length x.members) i (room old out) passes, is)) does) p
-  accepted_follows (Psize name) p = said_follows (Psize name) p.change (one_say psize (powerset_of old name) p.change (λ x h. record { lines = line (members_text x); said = h }) p.does) p.table (λ n. refl) refl
-  accepted_follows (Covers one other) p =
-      said_follows (Covers one other) p.change (two_say covers (powerset_of old one) (powerset_of old other) p.change (λ x y h. record { lines = cover_line x.dim h.answer; said = h.said }) p.does) p.table (λ n. refl) refl
+      one_follows entry.Powerset as_poly entry.Poly poly_there (Member out s i) out s (member (has_no_room old out) i) (IsMemberAt i) (powerset_of old s) (powerset_at old earlier a s) (λ n. refl) (λ n r h. h) (λ x e. new_name out)
+      (λ x r passes is. (is_counted (length x.members) i (room (has_no_room old out)) passes, is)) p
+  accepted_follows (Psize name) p = said_follows (Psize name) (on_one (powerset_of old name) psize) p (λ n. refl) refl
+  accepted_follows (Covers one other) p = said_follows (Covers one other) (on_two (powerset_of old one) (powerset_of old other) covers) p (λ n. refl) refl
   accepted_follows (Rank out r) p =
-      poly_follows (Rank out r) out r (rank old out) (IsOfClosed IsRankedBy) (λ n. refl) (λ n q h. h) (new_name out)
-      (λ x change passes does. put_more as_poly out (IsRankingSet (x.cons.dim / 2) x) (IsOfClosed IsRankedBy x) change (λ q is. record { closed = is_closed_relation x (room old out) passes; is = (is_even x (room old out) passes, is) }) does) p
-  accepted_follows (Ranking name) p = said_follows (Ranking name) p.change (one_say ranking (poly_of old name) p.change (λ x h. record { lines = line h.text; said = h.said }) p.does) p.table (λ n. refl) refl
+      poly_follows (Rank out r) out r (rank (has_no_room old out)) (IsOfClosed IsRankedBy) (λ n. refl) (λ n q h. h) (new_name out)
+      (λ x q passes is. record { closed = is_closed_relation x (room (has_no_room old out)) passes; is = (is_even x (room (has_no_room old out)) passes, is) }) p
+  accepted_follows (Ranking name) p = said_follows (Ranking name) (on_one (poly_of old name) ranking) p (λ n. refl) refl
   accepted_follows (ShapeOf out other) p =
-      one_follows entry.Poly as_shape entry.Shape shape_there (ShapeOf out other) out other (shape old out) (IsOfClosed IsShapeOfSet) (poly_of old other) (poly_at old earlier a other) (λ n. refl) (λ n r h. h) (λ x e. new_name out)
-      (λ x change passes does. put_more as_shape out (IsShapeOfSet x) (IsOfClosed IsShapeOfSet x) change (λ r is. record { closed = is_closed x (room old out) passes; is = is }) does) p
+      one_follows entry.Poly as_shape entry.Shape shape_there (ShapeOf out other) out other (shape (has_no_room old out)) (IsOfClosed IsShapeOfSet) (poly_of old other) (poly_at old earlier a other) (λ n. refl) (λ n r h. h) (λ x e. new_name out)
+      (λ x r passes is. record { closed = is_closed x (room (has_no_room old out)) passes; is = is }) p
   accepted_follows (Bounds out n part) p =
       put_follows as_shape entry.Shape shape_there (Bounds out n part) out (λ s. SaysConstraints n part (λ cs. IsShapeOfConstraints cs s)) p.change p.does p.proper p.table (λ name. refl) (λ name r is. is) (new_name out)
   accepted_follows (OfTwoShapes op out one other) p =
-      two_follows entry.Shape as_shape entry.Shape shape_there (OfTwoShapes op out one other) out one other (of_two_shapes op old out) (IsOfFit HaveOneDim (IsShapeBy op)) (shape_of old one) (shape_of old other) (shape_at old earlier a one) (shape_at old earlier a other) (λ n. refl) (λ n r h. h) (new_name out)
-      (λ x y change passes does. put_more as_shape out (IsShapeBy op x y) (IsOfFit HaveOneDim (IsShapeBy op) x y) change (λ r is. record { fit = have_one_dim x y (room old out) passes; is = is }) does) p
-  accepted_follows (ShapeContains one other) p =
-      said_follows (ShapeContains one other) p.change (two_say shape_contains (shape_of old one) (shape_of old other) p.change (λ x y h. record { lines = answer_line h.holds; said = h.said }) p.does) p.table (λ n. refl) refl
-  accepted_follows (ShapePrint name) p =
-      said_follows (ShapePrint name) p.change (one_say shape_print (shape_of old name) p.change (λ x h. record { lines = line (constraints_text (shape_constraints x)); said = h }) p.does) p.table (λ n. refl) refl
+      two_follows entry.Shape as_shape entry.Shape shape_there (OfTwoShapes op out one other) out one other (of_two_shapes op (has_no_room old out)) (IsOfFit HaveOneDim (IsShapeBy op)) (shape_of old one) (shape_of old other) (shape_at old earlier a one) (shape_at old earlier a other) (λ n. refl) (λ n r h. h) (new_name out)
+      (λ x y r passes is. record { fit = have_one_dim x y (room (has_no_room old out)) passes; is = is }) p
+  accepted_follows (ShapeContains one other) p = said_follows (ShapeContains one other) (on_two (shape_of old one) (shape_of old other) shape_contains) p (λ n. refl) refl
+  accepted_follows (ShapePrint name) p = said_follows (ShapePrint name) (on_one (shape_of old name) shape_print) p (λ n. refl) refl
   accepted_follows (ShapePoly out s) p =
-      one_follows entry.Shape as_poly entry.Poly poly_there (ShapePoly out s) out s (shape_poly old out) IsPolyOfShape (shape_of old s) (shape_at old earlier a s) (λ n. refl) (λ n r h. h) (λ x e. new_name out) (λ x change passes does. does) p
+      one_follows entry.Shape as_poly entry.Poly poly_there (ShapePoly out s) out s (shape_poly (has_no_room old out)) IsPolyOfShape (shape_of old s) (shape_at old earlier a s) (λ n. refl) (λ n r h. h) (λ x e. new_name out) (λ x r passes is. is) p
   accepted_follows (Hybrid out s) p =
-      one_follows entry.System as_hybrid entry.Hybrid hybrid_there (Hybrid out s) out s (hybrid old out) IsStill (system_of old s) (system_at old earlier a s) (λ n. refl) (λ n r h. h) (λ x e. new_name out) (λ x change passes does. does) p
+      one_follows entry.System as_hybrid entry.Hybrid hybrid_there (Hybrid out s) out s (hybrid (has_no_room old out)) IsStill (system_of old s) (system_at old earlier a s) (λ n. refl) (λ n r h. h) (λ x e. new_name out) (λ x r passes is. is) p
   accepted_follows (SetPart part out location other) p =
       changed_follows as_hybrid entry.Hybrid hybrid_there (SetPart part out location other) out other (set_part part out location) (λ x q. with_part part x location q) (hybrid_of old out) (poly_of old other) refl (hybrid_at old earlier a out) (poly_at old earlier a other) (λ n. refl) (λ n r h. h) refl
       (λ x q passes. one_topology q.topology Closed passes.1.1.0) (λ x q change does. does) p

@@ -24,37 +24,36 @@ use Rattle.calc_state.specs.declared.entry.Entry.TheVariants as entry
 use Rattle.calc_state.specs.declared.change.Change.{Change}
 use Rattle.calc_state.specs.declared.change.Change.TheVariants.{Says, Puts, PutsAll, TakesOut}
 use Rattle.calc_state.specs.Entries.{IsProper}
-use Rattle.calc_state.specs.Table.{Table, entry_of, as_poly, poly_of, as_system, system_of, as_powerset, powerset_of, as_shape, shape_of, as_hybrid, hybrid_of, HasDistinctNames}
-use Rattle.calc_state.specs.Order.{Passes}
-use Rattle.calc_state.specs.Meaning.{Meaning, IsPutAs, AreAllPut, IsTakenOut, on_one, on_two, no_fault, answer_line}
+use Rattle.calc_state.specs.Table.{Table, entry_of, as_poly, poly_of, as_system, system_of, as_powerset, powerset_of, as_shape, shape_of, as_hybrid, hybrid_of, has_no_room, HasDistinctNames}
+use Rattle.line_values.specs.Order.{Passes}
+use Rattle.line_values.specs.Meaning.{Meaning, on_one, on_two, no_fault, line, says}
+use Rattle.calc_state.specs.Effects.{IsPutAs, AreAllPut, IsTakenOut, puts, tells}
 use Rattle.calc_state.specs.Meanings.{meaning, topology_of}
-use Rattle.calc_state.specs.Makers.{SaysConstraints, SaysGenerators, more_constraints, more_generators, IsSpace, copy, drop_of, add, addgen}
-use Rattle.calc_state.specs.Questions.{has, size, print, line, size_text, side_text, spaced, names_text}
-use Rattle.calc_state.specs.Optima.{relation, bound, relation_text, bound_text, is_max}
-use Rattle.calc_state.specs.Lattice.{closure, compared, isempty, IsTold}
-use Rattle.calc_state.specs.Operators.{operated, IsMadeBy, extended, IsExtended}
-use Rattle.calc_state.specs.Affine.{mapped_by, remove, IsRemoved, IsMappedBy}
-use Rattle.calc_state.specs.Results.{IsResultOfConstraints, IsResultOfGenerators, IsResultOfClosure}
+use Rattle.poly_commands.specs.Makers.{cons, gens, space_of, copy, add, addgen}
+use Rattle.calc_state.specs.Names.{names as tell_names, drop_of, spaced, names_text}
+use Rattle.poly_commands.specs.Questions.{has, size, print, size_text, side_text}
+use Rattle.poly_commands.specs.Optima.{relation, bound, is_max}
+use Rattle.poly_commands.specs.Lattice.{closure, compared, isempty, IsTold}
+use Rattle.poly_commands.specs.Operators.{operated, extended}
+use Rattle.poly_commands.specs.Affine.{mapped_by, remove}
 use Rattle.calc_state.specs.Step.{Reply, IsAccepted, lines_of, ok_line}
-use Rattle.widening.specs.Widenings.{IsWidening}
-use Rattle.calc_state.specs.Widening.{widen}
-use Rattle.calc_state.specs.Systems.{IsEmptySystem, AreReached, init, trans, fixpoint}
+use Rattle.poly_commands.specs.Widening.{widen}
+use Rattle.calc_state.specs.Systems.{system, AreReached, init, trans, fixpoint}
 use Rattle.trans_sys.specs.Systems.{with_initial, with_transition}
-use Rattle.powerset.specs.Powersets.{IsUnionOf}
-use Rattle.ranking.specs.Rankings.{IsRankingSet}
-use Rattle.calc_state.specs.Powersets.{pset, of_two_powersets, IsPowersetOf, member, psize, members_text, covers}
+use Rattle.calc_state.specs.Powersets.{pset, of_two_powersets, member, psize, members_text, covers}
 use Rattle.calc_state.specs.Rankings.{rank, ranking}
-use Rattle.calc_state.specs.Shapes.{shape, IsShapeOfSet, IsShapeOfConstraints, of_two_shapes, IsShapeBy, shape_contains, shape_print, shape_poly, IsPolyOfShape}
-use Rattle.calc_state.specs.Hybrids.{hybrid, IsStill, set_part, with_part, reach, AreReachedParts}
-use Rattle.calc_state.specs.Files.{write, file_of}
+use Rattle.calc_state.specs.Shapes.{shape, bounds, of_two_shapes, shape_contains, shape_print, shape_poly}
+use Rattle.calc_state.specs.Hybrids.{hybrid, set_part, with_part, reach, AreReachedParts}
+use Rattle.poly_commands.specs.Files.{write, file_of}
 use Rattle.calc_state.specs.State.{State, closed}
 use Rattle.calc_state.specs.Laws.{KeepsNamesDistinct}
+use Rattle.calc_state.proofs.SaysOnce.{reply_is}
 use Rattle.polycalc.specs.Runs.{Run}
 use Rattle.polycalc.specs.Acts.{Act, Accepted, acts}
 use Rattle.polycalc.specs.Sets.{AreAlike, AreAlikeUnions, HaveOneDim, IsEntryOf, names_of}
 use Rattle.polycalc.specs.Laws.{AnswersAreTrue}
 use Rattle.polycalc.specs.Truth.{SaysWhether, IsTrueOf, IsTrueOfTwo, SaysTruth, LieSo, SaysHowItLies, IsShownBy, SaysExtremum, SaysSide, SaysCover, SaysRanking, SaysBounds, IsTruthful, AreTruthful}
-use Rattle.polycalc.proofs.KindTruth.{said_lines, cover_says, ranking_says, bounds_say}
+use Rattle.polycalc.proofs.KindTruth.{cover_says, ranking_says, bounds_say}
 use Rattle.polycalc.proofs.OneForm.{same_dims}
 use Rattle.polycalc.proofs.Operands.{are_alike, are_alike_unions, have_one_dim, is_closed_relation, one_topology}
 use Rattle.polycalc.proofs.OneSet.{entry_kept, set_proper}
@@ -94,13 +93,13 @@ names_true : (old : Table) (earlier : List Act) (text : List ℕ) → keys_of ol
 names_true old earlier text same e =
     e ∙ ap (λ (n : ℕ). names_line n (keys_of old)) (sym (length-keys_of old)) ∙ ap (λ (names : List (List ℕ)). names_line (length names) names) same
 
-told_true : (Statement : Type 0) (change : Change) (text : List ℕ) → IsTold Statement change → text ≡ lines_of change → SaysTruth text Statement
-told_true Statement change text h e = record { holds = h.holds; said = e ∙ said_lines (answer_line h.holds) change h.said; true_of = h.true_of }
+told_true : (Statement : Type 0) (text : List ℕ) → IsTold Statement text → SaysTruth text Statement
+told_true Statement text h = record { holds = h.holds; said = h.said; true_of = h.true_of }
 
-compared_true : (by : Comparison) (x y : Polyhedron) (change : Change) (text : List ℕ) → (compared by x y).does change → text ≡ lines_of change → SaysTruth text (LieSo by x y)
-compared_true comparison.Contains x y change text h e = told_true (LieSo comparison.Contains x y) change text h.told e
-compared_true comparison.Equal x y change text h e = told_true (LieSo comparison.Equal x y) change text h.told e
-compared_true comparison.Disjoint x y change text h e = told_true (LieSo comparison.Disjoint x y) change text h e
+compared_true : (by : Comparison) (x y : Polyhedron) (text : List ℕ) → (compared by x y).does text → SaysTruth text (LieSo by x y)
+compared_true comparison.Contains x y text h = told_true (LieSo comparison.Contains x y) text h.told
+compared_true comparison.Equal x y text h = told_true (LieSo comparison.Equal x y) text h.told
+compared_true comparison.Disjoint x y text h = told_true (LieSo comparison.Disjoint x y) text h
 
 compared_alike : (by : Comparison) (x y : Polyhedron) → Passes (compared by x y).conditions → AreAlike x y
 compared_alike comparison.Contains x y passes = are_alike x y no_fault passes
@@ -128,31 +127,34 @@ taken_ok name (PutsAll prefix sets) h = absurd h
 
 -- ---- the answer to an accepted command
 module _ (laws : ReadBack) (old new : Table) (earlier : List Act) (text : List ℕ) (g : Agrees old earlier) where
+  -- what is said is the answer
+  said : (m : Meaning (List ℕ)) → IsAccepted (tells m) old text new → m.does text
+  said m p = subst m.does (sym p.lines_are) (reply_is m.does p.change p.does)
+
   -- to a question on one operand
-  one_true : {A : Type 0} (kind : A → Entry) (name : List ℕ) (m : A → Meaning) (SaysOf : A → Type 0) (o : Option A) → Stands o (λ x. IsEntryOf earlier name (kind x)) →
-      ((x : A) (change : Change) → IsEntryOf earlier name (kind x) → Passes (m x).conditions → (m x).does change → text ≡ lines_of change → SaysOf x) → IsAccepted (on_one o m) old text new → IsTrueOf kind earlier name SaysOf
-  one_true kind name m SaysOf None s says p = absurd p.does
-  one_true kind name m SaysOf (Some x) s says p = record { operand = x; given = s; says = says x p.change s p.passes p.does p.lines_are }
+  one_true : {A : Type 0} (kind : A → Entry) (name : List ℕ) (m : A → Meaning (List ℕ)) (SaysOf : A → Type 0) (o : Option A) → Stands o (λ x. IsEntryOf earlier name (kind x)) →
+      ((x : A) → IsEntryOf earlier name (kind x) → Passes (m x).conditions → (m x).does text → SaysOf x) → IsAccepted (tells (on_one o m)) old text new → IsTrueOf kind earlier name SaysOf
+  one_true kind name m SaysOf None s says p = absurd (said (on_one None m) p)
+  one_true kind name m SaysOf (Some x) s says p = record { operand = x; given = s; says = says x s p.passes (said (m x) p) }
 
   -- on two
-  two_true : {A : Type 0} (kind : A → Entry) (Fit : A → A → Type 0) (one other : List ℕ) (m : A → A → Meaning) (SaysOf : A → A → Type 0) (o u : Option A) → Stands o (λ x. IsEntryOf earlier one (kind x)) → Stands u (λ x. IsEntryOf earlier other (kind x)) →
-      ((x y : A) → Passes (m x y).conditions → Fit x y) → ((x y : A) (change : Change) → (m x y).does change → text ≡ lines_of change → SaysOf x y) → IsAccepted (on_two o u m) old text new → IsTrueOfTwo kind Fit earlier one other SaysOf
-  two_true kind Fit one other m SaysOf None u s t fit says p = absurd p.does
-  two_true kind Fit one other m SaysOf (Some x) None s t fit says p = absurd p.does
+  two_true : {A : Type 0} (kind : A → Entry) (Fit : A → A → Type 0) (one other : List ℕ) (m : A → A → Meaning (List ℕ)) (SaysOf : A → A → Type 0) (o u : Option A) → Stands o (λ x. IsEntryOf earlier one (kind x)) → Stands u (λ x. IsEntryOf earlier other (kind x)) →
+      ((x y : A) → Passes (m x y).conditions → Fit x y) → ((x y : A) → (m x y).does text → SaysOf x y) → IsAccepted (tells (on_two o u m)) old text new → IsTrueOfTwo kind Fit earlier one other SaysOf
+  two_true kind Fit one other m SaysOf None u s t fit says p = absurd (said (on_two None u m) p)
+  two_true kind Fit one other m SaysOf (Some x) None s t fit says p = absurd (said (on_two (Some x) None m) p)
   two_true kind Fit one other m SaysOf (Some x) (Some y) s t fit says p =
-      record { first = x; second = y; given_first = s; given_second = t; fit = fit x y p.passes; says = says x y p.change p.does p.lines_are }
+      record { first = x; second = y; given_first = s; given_second = t; fit = fit x y p.passes; says = says x y (said (m x y) p) }
 
-  -- to a command that does something to one operand, or to two
-  one_ok : {A : Type 0} (m : A → Meaning) (o : Option A) → ((x : A) (change : Change) → (m x).does change → lines_of change ≡ ok_line) → IsAccepted (on_one o m) old text new → text ≡ ok_line
+  -- to a command that puts what it makes under its name
+  made_ok : {A : Type 0} (found : Option Entry → Option A) (out : List ℕ) (m : Meaning A) → IsAccepted (puts found out m) old text new → text ≡ ok_line
+  made_ok found out m p = p.lines_are ∙ put_ok found out m.does p.change p.does
+
+  -- that does something to one operand
+  one_ok : {A : Type 0} (m : A → Meaning Change) (o : Option A) → ((x : A) (change : Change) → (m x).does change → lines_of change ≡ ok_line) → IsAccepted (on_one o m) old text new → text ≡ ok_line
   one_ok m None does p = absurd p.does
   one_ok m (Some x) does p = p.lines_are ∙ does x p.change p.does
 
-  two_ok : {A B : Type 0} (m : A → B → Meaning) (o : Option A) (u : Option B) → ((x : A) (y : B) (change : Change) → (m x y).does change → lines_of change ≡ ok_line) → IsAccepted (on_two o u m) old text new → text ≡ ok_line
-  two_ok m None u does p = absurd p.does
-  two_ok m (Some x) None does p = absurd p.does
-  two_ok m (Some x) (Some y) does p = p.lines_are ∙ does x y p.change p.does
-
-  changed_ok : {A : Type 0} (m : A → Polyhedron → Meaning) (u : Option A) (o : Option Polyhedron) → ((x : A) (q : Polyhedron) (change : Change) → (m x q).does change → lines_of change ≡ ok_line) → IsAccepted (on_one u (λ x. on_one o (m x))) old text new → text ≡ ok_line
+  changed_ok : {A : Type 0} (m : A → Polyhedron → Meaning Change) (u : Option A) (o : Option Polyhedron) → ((x : A) (q : Polyhedron) (change : Change) → (m x q).does change → lines_of change ≡ ok_line) → IsAccepted (on_one u (λ x. on_one o (m x))) old text new → text ≡ ok_line
   changed_ok m None o does p = absurd p.does
   changed_ok m (Some x) None does p = absurd p.does
   changed_ok m (Some x) (Some q) does p = p.lines_are ∙ does x q p.change p.does
@@ -164,70 +166,65 @@ module _ (laws : ReadBack) (old new : Table) (earlier : List Act) (text : List �
   accepted_true : (c : Command) → IsAccepted (meaning old c) old text new → IsTruthful earlier c text
   accepted_true (Has name part) p =
       one_true entry.Poly name (has part) (SaysWhether part text) (poly_of old name) (poly_at old earlier g name)
-      (λ x change s passes h e. record { point = h.point; read = h.read; holds = h.holds.holds; said = e ∙ said_lines (answer_line h.holds.holds) change h.holds.said; true_of_point = h.holds.true_of_point }) p
-  accepted_true (Size name) p = one_true entry.Poly name size (λ q. text ≡ line (size_text q)) (poly_of old name) (poly_at old earlier g name) (λ x change s passes h e. e ∙ said_lines (line (size_text x)) change h) p
-  accepted_true (Print side name) p =
-      one_true entry.Poly name (print side) (SaysSide side text) (poly_of old name) (poly_at old earlier g name) (λ x change s passes h e. side_says laws side text x (set_proper earlier name x s) (e ∙ said_lines (line (side_text side x)) change h)) p
-  accepted_true Names p = names_true old earlier text g.names (p.lines_are ∙ said_lines (line (names_text old)) p.change p.does)
+      (λ x s passes h. record { point = h.point; read = h.read; holds = h.holds.holds; said = h.holds.said; true_of_point = h.holds.true_of_point }) p
+  accepted_true (Size name) p = one_true entry.Poly name size (λ q. text ≡ line (size_text q)) (poly_of old name) (poly_at old earlier g name) (λ x s passes h. h) p
+  accepted_true (Print side name) p = one_true entry.Poly name (print side) (SaysSide side text) (poly_of old name) (poly_at old earlier g name) (λ x s passes h. side_says laws side text x (set_proper earlier name x s) h) p
+  accepted_true Names p = names_true old earlier text g.names (said (tell_names old) p)
   accepted_true (Compare by one other) p =
-      two_true entry.Poly AreAlike one other (compared by) (λ x y. SaysTruth text (LieSo by x y)) (poly_of old one) (poly_of old other) (poly_at old earlier g one) (poly_at old earlier g other) (λ x y passes. compared_alike by x y passes) (λ x y change h e. compared_true by x y change text h e) p
-  accepted_true (Isempty name) p = one_true entry.Poly name isempty (λ x. SaysTruth text (HasNoPoint x)) (poly_of old name) (poly_at old earlier g name) (λ x change s passes h e. told_true (HasNoPoint x) change text h e) p
+      two_true entry.Poly AreAlike one other (compared by) (λ x y. SaysTruth text (LieSo by x y)) (poly_of old one) (poly_of old other) (poly_at old earlier g one) (poly_at old earlier g other) (λ x y passes. compared_alike by x y passes) (λ x y h. compared_true by x y text h) p
+  accepted_true (Isempty name) p = one_true entry.Poly name isempty (λ x. SaysTruth text (HasNoPoint x)) (poly_of old name) (poly_at old earlier g name) (λ x s passes h. told_true (HasNoPoint x) text h) p
   accepted_true (Relation name part) p =
       one_true entry.Poly name (relation part) (SaysHowItLies part text) (poly_of old name) (poly_at old earlier g name)
-      (λ x change s passes h e. record { row = h.row; kind = h.kind; read = h.read; flags = h.holds.flags; said = e ∙ said_lines (line (relation_text h.holds.flags)) change h.holds.said; true_of = h.holds.answer.1 }) p
+      (λ x s passes h. record { row = h.row; kind = h.kind; read = h.read; flags = h.holds.flags; said = h.holds.said; true_of = h.holds.answer.1 }) p
   accepted_true (Bound extremum name part) p =
       one_true entry.Poly name (bound (is_max extremum) part) (SaysExtremum (is_max extremum) part text) (poly_of old name) (poly_at old earlier g name)
-      (λ x change s passes h e. record {
+      (λ x s passes h. record {
         row = h.row;
         read = h.read;
         bound = h.holds.bound;
-        said = e ∙ said_lines (line (bound_text x.gens h.holds.bound)) change h.holds.said;
+        said = h.holds.said;
         true_of = h.holds.true_of;
         shown = shown_by laws.witness (is_max extremum) h.row x h.holds.bound (set_proper earlier name x s) h.holds.answer;
         first = h.holds.answer;
       }) p
-  accepted_true (Write name form) p =
-      one_true entry.Poly name (write form) (λ q. (q.topology ≡ Closed) × (text ≡ file_of form q)) (poly_of old name) (poly_at old earlier g name) (λ x change s passes h e. (one_topology x.topology Closed passes.1.1.0, e ∙ said_lines (file_of form x) change h)) p
-  accepted_true (Read out form) p = p.lines_are ∙ said_lines [] p.change p.does
-  accepted_true Nothing p = p.lines_are ∙ said_lines [] p.change p.does
-  accepted_true (Psize name) p = one_true entry.Powerset name psize (λ u. text ≡ line (members_text u)) (powerset_of old name) (powerset_at old earlier g name) (λ x change s passes h e. e ∙ said_lines (line (members_text x)) change h) p
+  accepted_true (Write name form) p = one_true entry.Poly name (write form) (λ q. (q.topology ≡ Closed) × (text ≡ file_of form q)) (poly_of old name) (poly_at old earlier g name) (λ x s passes h. (one_topology x.topology Closed passes.1.1.0, h)) p
+  accepted_true (Read out form) p = said (says []) p
+  accepted_true Nothing p = said (says []) p
+  accepted_true (Psize name) p = one_true entry.Powerset name psize (λ u. text ≡ line (members_text u)) (powerset_of old name) (powerset_at old earlier g name) (λ x s passes h. h) p
   accepted_true (Covers one other) p =
-      two_true entry.Powerset AreAlikeUnions one other covers (SaysCover text) (powerset_of old one) (powerset_of old other) (powerset_at old earlier g one) (powerset_at old earlier g other) (λ x y passes. are_alike_unions x y no_fault passes)
-      (λ x y change h e. cover_says x y change text h e) p
-  accepted_true (Ranking name) p =
-      one_true entry.Poly name ranking (SaysRanking text) (poly_of old name) (poly_at old earlier g name)
-      (λ x change s passes h e. ranking_says laws.ranking x change text (is_closed_relation x no_fault passes) h e) p
+      two_true entry.Powerset AreAlikeUnions one other covers (SaysCover text) (powerset_of old one) (powerset_of old other) (powerset_at old earlier g one) (powerset_at old earlier g other) (λ x y passes. are_alike_unions x y no_fault passes) (λ x y h. cover_says x y text h) p
+  accepted_true (Ranking name) p = one_true entry.Poly name ranking (SaysRanking text) (poly_of old name) (poly_at old earlier g name) (λ x s passes h. ranking_says laws.ranking x text (is_closed_relation x no_fault passes) h) p
   accepted_true (ShapeContains one other) p =
-      two_true entry.Shape HaveOneDim one other shape_contains (λ x y. SaysTruth text (Includes x y)) (shape_of old one) (shape_of old other) (shape_at old earlier g one) (shape_at old earlier g other) (λ x y passes. have_one_dim x y no_fault passes) (λ x y change h e. told_true (Includes x y) change text h e) p
+      two_true entry.Shape HaveOneDim one other shape_contains (λ x y. SaysTruth text (Includes x y)) (shape_of old one) (shape_of old other) (shape_at old earlier g one) (shape_at old earlier g other) (λ x y passes. have_one_dim x y no_fault passes) (λ x y h. told_true (Includes x y) text h) p
   accepted_true (ShapePrint name) p =
-      one_true entry.Shape name shape_print (SaysBounds text) (shape_of old name) (shape_at old earlier g name) (λ x change s passes h e. bounds_say laws.cons x change text (entry_kept earlier name (entry.Shape x) s) h e) p
-  accepted_true (Cons out top n part) p = p.lines_are ∙ put_ok as_poly out (λ r. SaysConstraints n part (λ cs. IsResultOfConstraints (topology_of top) cs r)) p.change p.does
-  accepted_true (Gens out top n part) p = p.lines_are ∙ put_ok as_poly out (λ r. SaysGenerators n part (λ gs. IsResultOfGenerators (topology_of top) gs r)) p.change p.does
-  accepted_true (Space space out top n) p = p.lines_are ∙ put_ok as_poly out (IsSpace space (topology_of top) n) p.change p.does
-  accepted_true (Copy out other) p = one_ok (copy old out) (poly_of old other) (λ x change h. put_ok as_poly out (λ r. r ≡ x) change h) p
+      one_true entry.Shape name shape_print (SaysBounds text) (shape_of old name) (shape_at old earlier g name) (λ x s passes h. bounds_say laws.cons x text (entry_kept earlier name (entry.Shape x) s) h) p
+  accepted_true (Cons out top n part) p = made_ok as_poly out (cons (has_no_room old out) (topology_of top) n part) p
+  accepted_true (Gens out top n part) p = made_ok as_poly out (gens (has_no_room old out) (topology_of top) n part) p
+  accepted_true (Space space out top n) p = made_ok as_poly out (space_of space (has_no_room old out) (topology_of top) n) p
+  accepted_true (Copy out other) p = made_ok as_poly out (on_one (poly_of old other) (copy (has_no_room old out))) p
   accepted_true (Drop out) p = drop_ok out (entry_of old out) p
-  accepted_true (Add out part) p = one_ok (add out part) (poly_of old out) (λ x change h. put_ok as_poly out (λ r. SaysConstraints x.cons.dim part (λ cs. IsResultOfConstraints x.topology (more_constraints x.cons cs) r)) change h) p
-  accepted_true (Addgen out part) p = one_ok (addgen out part) (poly_of old out) (λ x change h. put_ok as_poly out (λ r. SaysGenerators x.gens.dim part (λ gs. IsResultOfGenerators x.topology (more_generators x.gens gs) r)) change h) p
-  accepted_true (OfTwo op out one other) p = two_ok (operated op old out) (poly_of old one) (poly_of old other) (λ x y change h. put_ok as_poly out (IsMadeBy op x y) change h) p
-  accepted_true (Closure out other) p = one_ok (closure old out) (poly_of old other) (λ x change h. put_ok as_poly out (IsResultOfClosure x) change h) p
-  accepted_true (Map by out other v rel part) p = one_ok (mapped_by by old out v rel part) (poly_of old other) (λ x change h. put_ok as_poly out (IsMappedBy by v rel part x) change h) p
-  accepted_true (Extend by out other n) p = one_ok (extended by old out n) (poly_of old other) (λ x change h. put_ok as_poly out (IsExtended by n x) change h) p
-  accepted_true (Remove out other vars) p = one_ok (remove old out vars) (poly_of old other) (λ x change h. put_ok as_poly out (IsRemoved vars x) change h) p
-  accepted_true (Widen out one other) p = two_ok (widen old out) (poly_of old one) (poly_of old other) (λ x y change h. put_ok as_poly out (IsWidening x y) change h.put) p
-  accepted_true (System out n locations) p = p.lines_are ∙ put_ok as_system out (IsEmptySystem n locations) p.change p.does
+  accepted_true (Add out part) p = made_ok as_poly out (on_one (poly_of old out) (add part)) p
+  accepted_true (Addgen out part) p = made_ok as_poly out (on_one (poly_of old out) (addgen part)) p
+  accepted_true (OfTwo op out one other) p = made_ok as_poly out (on_two (poly_of old one) (poly_of old other) (operated op (has_no_room old out))) p
+  accepted_true (Closure out other) p = made_ok as_poly out (on_one (poly_of old other) (closure (has_no_room old out))) p
+  accepted_true (Map by out other v rel part) p = made_ok as_poly out (on_one (poly_of old other) (mapped_by by (has_no_room old out) v rel part)) p
+  accepted_true (Extend by out other n) p = made_ok as_poly out (on_one (poly_of old other) (extended by (has_no_room old out) n)) p
+  accepted_true (Remove out other vars) p = made_ok as_poly out (on_one (poly_of old other) (remove (has_no_room old out) vars)) p
+  accepted_true (Widen out one other) p = made_ok as_poly out (on_two (poly_of old one) (poly_of old other) (widen (has_no_room old out))) p
+  accepted_true (System out n locations) p = made_ok as_system out (system (has_no_room old out) n locations) p
   accepted_true (Init out location other) p = changed_ok (init out location) (system_of old out) (poly_of old other) (λ s q change h. put_ok as_system out (λ r. r ≡ with_initial s location q) change h) p
   accepted_true (Trans out source target other) p =
       changed_ok (trans out source target) (system_of old out) (poly_of old other) (λ s q change h. put_ok as_system out (λ r. r ≡ with_transition s (record { source = source; target = target; relation = q })) change h) p
   accepted_true (Fixpoint s delay prefix) p = one_ok (fixpoint old delay prefix) (system_of old s) (λ x change h. all_ok prefix (AreReached x delay) change h) p
-  accepted_true (Pset out other) p = one_ok (pset old out) (poly_of old other) (λ x change h. put_ok as_powerset out (IsUnionOf x) change h) p
-  accepted_true (OfTwoPowersets op out one other) p = two_ok (of_two_powersets op old out) (powerset_of old one) (powerset_of old other) (λ x y change h. put_ok as_powerset out (IsPowersetOf op x y) change h) p
-  accepted_true (Member out s i) p = one_ok (member old out i) (powerset_of old s) (λ x change h. put_ok as_poly out (λ r. slice_get x.members (i - 1) ≡ Some r) change h) p
-  accepted_true (Rank out r) p = one_ok (rank old out) (poly_of old r) (λ x change h. put_ok as_poly out (IsRankingSet (x.cons.dim / 2) x) change h) p
-  accepted_true (ShapeOf out other) p = one_ok (shape old out) (poly_of old other) (λ x change h. put_ok as_shape out (IsShapeOfSet x) change h) p
-  accepted_true (Bounds out n part) p = p.lines_are ∙ put_ok as_shape out (λ s. SaysConstraints n part (λ cs. IsShapeOfConstraints cs s)) p.change p.does
-  accepted_true (OfTwoShapes op out one other) p = two_ok (of_two_shapes op old out) (shape_of old one) (shape_of old other) (λ x y change h. put_ok as_shape out (IsShapeBy op x y) change h) p
-  accepted_true (ShapePoly out s) p = one_ok (shape_poly old out) (shape_of old s) (λ x change h. put_ok as_poly out (IsPolyOfShape x) change h) p
-  accepted_true (Hybrid out s) p = one_ok (hybrid old out) (system_of old s) (λ x change h. put_ok as_hybrid out (IsStill x) change h) p
+  accepted_true (Pset out other) p = made_ok as_powerset out (on_one (poly_of old other) (pset (has_no_room old out))) p
+  accepted_true (OfTwoPowersets op out one other) p = made_ok as_powerset out (on_two (powerset_of old one) (powerset_of old other) (of_two_powersets op (has_no_room old out))) p
+  accepted_true (Member out s i) p = made_ok as_poly out (on_one (powerset_of old s) (member (has_no_room old out) i)) p
+  accepted_true (Rank out r) p = made_ok as_poly out (on_one (poly_of old r) (rank (has_no_room old out))) p
+  accepted_true (ShapeOf out other) p = made_ok as_shape out (on_one (poly_of old other) (shape (has_no_room old out))) p
+  accepted_true (Bounds out n part) p = made_ok as_shape out (bounds (has_no_room old out) n part) p
+  accepted_true (OfTwoShapes op out one other) p = made_ok as_shape out (on_two (shape_of old one) (shape_of old other) (of_two_shapes op (has_no_room old out))) p
+  accepted_true (ShapePoly out s) p = made_ok as_poly out (on_one (shape_of old s) (shape_poly (has_no_room old out))) p
+  accepted_true (Hybrid out s) p = made_ok as_hybrid out (on_one (system_of old s) (hybrid (has_no_room old out))) p
   accepted_true (SetPart part out location other) p = changed_ok (set_part part out location) (hybrid_of old out) (poly_of old other) (λ x q change h. put_ok as_hybrid out (λ r. r ≡ with_part part x location q) change h) p
   accepted_true (Reach h delay prefix) p = one_ok (reach old delay prefix) (hybrid_of old h) (λ x change i. all_ok prefix (AreReachedParts x delay) change i) p
 

@@ -12,9 +12,9 @@ use Rattle.optimum.specs.Suprema.{SupAnswer, IsTrueSup}
 use Rattle.optimum.specs.declared.outcome.Sup.{Sup}
 use Rattle.optimum.specs.declared.outcome.Sup.TheVariants as sup
 use Rattle.sample_rows.specs.Samples.{IsSample}
-use Rattle.calc_state.specs.Makers.{LeavesOnConstraints}
-use Rattle.calc_state.specs.Optima.{SearchLeaves, ShowsValues}
-use Rattle.calc_state.specs.Questions.{line}
+use Rattle.poly_commands.specs.Makers.{LeavesOnConstraints}
+use Rattle.poly_commands.specs.Optima.{SearchLeaves, ShowsValues}
+use Rattle.line_values.specs.Meaning.{line}
 use Rattle.calc_state.specs.Entries.{IsProper}
 use Rattle.calc_state.specs.Step.{Reply, Answered, Refused, Overflows}
 

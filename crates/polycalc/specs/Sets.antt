@@ -23,16 +23,16 @@ use Rattle.calc_state.specs.declared.entry.Entry.{Entry}
 use Rattle.calc_state.specs.declared.entry.Entry.TheVariants as entry
 use Rattle.calc_state.specs.Entries.{IsProper, IsKeptEntry}
 use Rattle.calc_state.specs.Table.{numbered}
-use Rattle.calc_state.specs.Makers.{SaysConstraints, SaysGenerators, more_constraints, more_generators, IsSpace}
-use Rattle.calc_state.specs.Results.{IsResult, IsResultOfConstraints, IsResultOfGenerators, IsResultOfClosure}
-use Rattle.calc_state.specs.Operators.{Fits, IsMadeBy, IsExtended}
-use Rattle.calc_state.specs.Affine.{IsRemoved, IsMappedBy}
+use Rattle.poly_commands.specs.Makers.{SaysConstraints, SaysGenerators, more_constraints, more_generators, IsSpace}
+use Rattle.poly_commands.specs.Results.{IsResult, IsResultOfConstraints, IsResultOfGenerators, IsResultOfClosure}
+use Rattle.poly_commands.specs.Operators.{Fits, IsMadeBy, IsExtended}
+use Rattle.poly_commands.specs.Affine.{IsRemoved, IsMappedBy}
 use Rattle.calc_state.specs.Systems.{IsEmptySystem, AreReached}
 use Rattle.calc_state.specs.Powersets.{IsPowersetOf}
 use Rattle.calc_state.specs.Shapes.{IsShapeOfSet, IsShapeOfConstraints, IsShapeBy, IsPolyOfShape}
 use Rattle.calc_state.specs.Hybrids.{IsStill, with_part, AreReachedParts}
 use Rattle.calc_state.specs.Meanings.{topology_of}
-use Rattle.calc_state.specs.Files.{format_of}
+use Rattle.poly_commands.specs.Files.{format_of}
 use Rattle.calc_state.specs.State.{OpenFile}
 use Rattle.polycalc.specs.Acts.{Act, Did, Took}
 

@@ -36,11 +36,12 @@ use Rattle.script_text.specs.declared.command.Command.{Command}
 use Rattle.script_text.specs.declared.command.Command.TheVariants.{Nothing, Has, Size, Print, Names, Compare, Isempty, Relation, Bound, Read, Write, Psize, Covers, Ranking, ShapeContains, ShapePrint}
 use Rattle.calc_state.specs.declared.entry.Entry.{Entry}
 use Rattle.calc_state.specs.declared.entry.Entry.TheVariants as entry
-use Rattle.calc_state.specs.Meaning.{answer_line}
-use Rattle.calc_state.specs.Questions.{line, size_text, spaced}
-use Rattle.calc_state.specs.Optima.{relation_text, bound_text, is_max}
+use Rattle.line_values.specs.Meaning.{answer_line, line}
+use Rattle.poly_commands.specs.Questions.{size_text}
+use Rattle.calc_state.specs.Names.{spaced}
+use Rattle.poly_commands.specs.Optima.{relation_text, bound_text, is_max}
 use Rattle.calc_state.specs.Powersets.{members_text, cover_line}
-use Rattle.calc_state.specs.Files.{file_of}
+use Rattle.poly_commands.specs.Files.{file_of}
 use Rattle.calc_state.specs.Step.{ok_line}
 use Rattle.polycalc.specs.Acts.{Act, Did, Took, Accepted, acts}
 use Rattle.polycalc.specs.Sets.{IsMade, AreAlike, AreAlikeUnions, HaveOneDim, IsEntryOf, names_of}

@@ -5,7 +5,7 @@ ghost use Rattle.poly_io.specs.Counts.{HasRisen};
 ghost use Rattle.poly_pair.specs.Polyhedra.{Polyhedron};
 ghost use Rattle.optimum.specs.Suprema.{SupAnswer};
 ghost use Rattle.optimum.specs.Showing.{shown_values};
-ghost use Rattle.calc_state.specs.Questions.{line};
+ghost use Rattle.line_values.specs.Meaning.{line};
 ghost use Rattle.calc_state.specs.Step.{Reply};
 ghost use Rattle.polycalc.specs.Samples.{SamplesTo, GivesSample, difference, sample_text, maximum_text};
 ghost use Rattle.polycalc.specs.Replies.{with_reply};

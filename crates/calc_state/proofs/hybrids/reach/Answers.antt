@@ -4,11 +4,10 @@ use Rattle.trans_sys.specs.Systems.{TransitionSystem}
 use Rattle.hybrid.specs.Systems.{HybridSystem}
 use Rattle.calc_state.specs.declared.systems.TheConstants.{MAX_DELAY}
 use Rattle.calc_state.specs.Table.{HasNoRoomForAll}
-use Rattle.calc_state.specs.Meaning.{on_one}
+use Rattle.line_values.specs.Meaning.{on_one}
 use Rattle.calc_state.specs.Hybrids.{reach}
-use Rattle.calc_state.specs.Performed.{IsPerformed}
-use Rattle.calc_state.proofs.MakerLemmas.{not_so}
-use Rattle.calc_state.proofs.MapLemmas.{map_leaves}
+use Rattle.line_values.specs.Performed.{IsPerformed}
+use Rattle.line_values.proofs.PerformedLemmas.{not_so, leaves}
 use Rattle.calc_state.proofs.HybridLemmas.{reach_passes}
 use Rattle.calc_state.proofs.hybrids.reach.Goals as goal
 
@@ -21,4 +20,4 @@ returns-in-Err g c =
     let passes = reach_passes c.args.names.now c.args.delay c.args.prefix h (λ (k : MAX_DELAY < c.args.delay). omega (arith, k, c.if-delay-gt-MAX_DELAY.false)) room in
     let found : option_copied c.args.h ≡ Some h = ap option_copied c.in-Some.is in
     subst (λ (o : Option HybridSystem). IsPerformed (on_one o (reach c.args.names.now c.args.delay c.args.prefix)) (Err c.from.result)) (sym found)
-    (rw c.from.ensures (map_leaves (reach c.args.names.now c.args.delay c.args.prefix h) c.in-Err.cause passes c.in-Err.ensures.overflow))
+    (rw c.from.ensures (leaves (reach c.args.names.now c.args.delay c.args.prefix h) c.in-Err.cause passes c.in-Err.ensures.overflow))

@@ -1,7 +1,7 @@
 use Rattle.std.proofs.Common.{sym, subst}
 use Rattle.script_text.specs.declared.command.Command.{Command}
 use Rattle.calc_state.specs.Meanings.{meaning}
-use Rattle.calc_state.specs.Performed.{IsPerformed}
+use Rattle.line_values.specs.Performed.{IsPerformed}
 use Rattle.calc_state.proofs.perform.combined.Goals as goal
 
 pub returns-in-OfTwo : goal.returns-in-OfTwo

@@ -4,11 +4,10 @@ use Rattle.gens_sys.specs.declared.kind.GenKind.TheVariants.{Point}
 use Rattle.expr_text.specs.Printed.{generator_text}
 use Rattle.powerset.specs.Powersets.{Union}
 use Rattle.powerset.specs.declared.covering.Cover.TheVariants.{Yes, No}
-use Rattle.calc_state.specs.Meaning.{on_two}
-use Rattle.calc_state.specs.Questions.{line}
+use Rattle.line_values.specs.Meaning.{on_two, line}
 use Rattle.calc_state.specs.Powersets.{covers}
-use Rattle.calc_state.specs.Performed.{IsPerformed}
-use Rattle.calc_state.proofs.MapLemmas.{map_leaves}
+use Rattle.line_values.specs.Performed.{IsPerformed}
+use Rattle.line_values.proofs.PerformedLemmas.{leaves}
 use Rattle.calc_state.proofs.PowersetLemmas.{compared, told}
 use Rattle.calc_state.proofs.powersets.covers.Goals as goal
 
@@ -39,4 +38,4 @@ returns-in-Err g c =
     let other : option_copied c.args.t ≡ Some t = ap option_copied c.in-Some-Some.is-1 in
     subst (λ (o : Option Union). IsPerformed (on_two o (option_copied c.args.t) covers) (Err c.from.result)) (sym one)
     (subst (λ (o : Option Union). IsPerformed (on_two (Some s) o covers) (Err c.from.result)) (sym other)
-    (rw c.from.ensures (map_leaves (covers s t) c.in-Err.cause (compared s t topologies dims) c.in-Err.ensures.overflow)))
+    (rw c.from.ensures (leaves (covers s t) c.in-Err.cause (compared s t topologies dims) c.in-Err.ensures.overflow)))

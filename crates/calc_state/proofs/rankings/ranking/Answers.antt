@@ -2,10 +2,10 @@ use Rattle.std.proofs.Common.{◌≡◌, ◌%◌, Option, Some, Err, sym, ap, su
 use Rattle.std.specs.Option.{option_copied}
 use Rattle.poly_pair.specs.Polyhedra.{Polyhedron}
 use Rattle.poly_pair.specs.declared.topology.Topology.TheVariants.{Closed}
-use Rattle.calc_state.specs.Meaning.{on_one}
+use Rattle.line_values.specs.Meaning.{on_one}
 use Rattle.calc_state.specs.Rankings.{ranking}
-use Rattle.calc_state.specs.Performed.{IsPerformed}
-use Rattle.calc_state.proofs.MapLemmas.{map_leaves}
+use Rattle.line_values.specs.Performed.{IsPerformed}
+use Rattle.line_values.proofs.PerformedLemmas.{leaves}
 use Rattle.calc_state.proofs.RankingLemmas.{ranking_passes, ranking_told}
 use Rattle.calc_state.proofs.rankings.ranking.Goals as goal
 
@@ -16,7 +16,7 @@ returns-in-Err g c =
     let even : r.cons.dim % 2 ≡ 0 = c.if-not-has_even_dim.ensures in
     let found : option_copied c.args.r ≡ Some r = ap option_copied c.in-Some.is in
     subst (λ (o : Option Polyhedron). IsPerformed (on_one o ranking) (Err c.from.result)) (sym found)
-    (rw c.from.ensures (map_leaves (ranking r) c.in-Err.cause (ranking_passes r closed even) c.in-Err.ensures.overflow))
+    (rw c.from.ensures (leaves (ranking r) c.in-Err.cause (ranking_passes r closed even) c.in-Err.ensures.overflow))
 
 pub returns : goal.returns
 returns g c =

@@ -1,21 +1,19 @@
 use Rattle.std.proofs.Common.{rules, Err, ap}
 use Rattle.std.specs.Option.{option_copied}
-use Rattle.bd_shape.specs.Shapes.{Includes}
-use Rattle.calc_state.specs.Order.{Passes}
-use Rattle.calc_state.specs.Meaning.{no_fault}
+use Rattle.line_values.specs.Order.{Passes}
+use Rattle.line_values.specs.Meaning.{no_fault}
 use Rattle.calc_state.specs.Shapes.{of_one_dim, shape_contains}
-use Rattle.calc_state.proofs.LatticeLemmas.{told}
-use Rattle.calc_state.proofs.MapLemmas.{map_leaves}
-use Rattle.calc_state.proofs.OperatorLemmas.{found_two}
+use Rattle.calc_state.proofs.ShapeLemmas.{contains_told}
+use Rattle.line_values.proofs.PerformedLemmas.{leaves, found_two}
 use Rattle.calc_state.proofs.shapes.shape_contains.Goals as goal
 
 pub returns-in_ok-answer-in-Ok : goal.returns-in_ok-answer-in-Ok
 returns-in_ok-answer-in-Ok c =
     let passes : Passes (of_one_dim c.in-Some-Some.s.now c.in-Some-Some.t.now no_fault) = search rules in
-    rw c.in-Some-Some.is-0 (rw c.in-Some-Some.is-1 (passes, told (Includes c.in-Some-Some.s.now c.in-Some-Some.t.now) c.in-Ok.holds c.in_ok-answer-in-Ok.field-0 c.in-Ok.ensures.contains c.in_ok-answer-in-Ok.ensures))
+    rw c.in-Some-Some.is-0 (rw c.in-Some-Some.is-1 (contains_told c.in-Some-Some.s.now c.in-Some-Some.t.now c.in-Ok.holds c.in_ok-answer-in-Ok.field-0 passes c.in-Ok.ensures.contains c.in_ok-answer-in-Ok.ensures))
 
 pub returns-in-Err : goal.returns-in-Err
 returns-in-Err c =
     let passes : Passes (of_one_dim c.in-Some-Some.s.now c.in-Some-Some.t.now no_fault) = search rules in
     found_two (option_copied c.args.s) (option_copied c.args.t) c.in-Some-Some.s.now c.in-Some-Some.t.now shape_contains (Err c.from.result) (ap option_copied c.in-Some-Some.is-0) (ap option_copied c.in-Some-Some.is-1)
-    (rw c.from.ensures (map_leaves (shape_contains c.in-Some-Some.s.now c.in-Some-Some.t.now) c.in-Err.cause passes c.in-Err.ensures.overflow))
+    (rw c.from.ensures (leaves (shape_contains c.in-Some-Some.s.now c.in-Some-Some.t.now) c.in-Err.cause passes c.in-Err.ensures.overflow))

@@ -3,11 +3,10 @@ use Rattle.std.specs.Option.{option_copied}
 use Rattle.trans_sys.specs.Systems.{TransitionSystem}
 use Rattle.calc_state.specs.declared.systems.TheConstants.{MAX_DELAY}
 use Rattle.calc_state.specs.Table.{HasNoRoomForAll}
-use Rattle.calc_state.specs.Meaning.{on_one}
+use Rattle.line_values.specs.Meaning.{on_one}
 use Rattle.calc_state.specs.Systems.{fixpoint}
-use Rattle.calc_state.specs.Performed.{IsPerformed}
-use Rattle.calc_state.proofs.MakerLemmas.{not_so}
-use Rattle.calc_state.proofs.MapLemmas.{map_leaves}
+use Rattle.line_values.specs.Performed.{IsPerformed}
+use Rattle.line_values.proofs.PerformedLemmas.{not_so, leaves}
 use Rattle.calc_state.proofs.SystemLemmas.{run_passes}
 use Rattle.calc_state.proofs.systems.fixpoint.Goals as goal
 
@@ -19,4 +18,4 @@ returns-in-Err g c =
     let passes = run_passes c.args.names.now c.args.delay c.args.prefix s (λ (k : MAX_DELAY < c.args.delay). omega (arith, k, c.if-delay-gt-MAX_DELAY.false)) room in
     let found : option_copied c.args.system ≡ Some s = ap option_copied c.in-Some.is in
     subst (λ (o : Option TransitionSystem). IsPerformed (on_one o (fixpoint c.args.names.now c.args.delay c.args.prefix)) (Err c.from.result)) (sym found)
-    (rw c.from.ensures (map_leaves (fixpoint c.args.names.now c.args.delay c.args.prefix s) c.in-Err.cause passes c.in-Err.ensures.overflow))
+    (rw c.from.ensures (leaves (fixpoint c.args.names.now c.args.delay c.args.prefix s) c.in-Err.cause passes c.in-Err.ensures.overflow))

@@ -1,6 +1,6 @@
 use Rattle.std.proofs.Common.{Err, subst}
 use Rattle.std.proofs.lemmas.Result.{on_ok_weaker}
-use Rattle.calc_state.specs.declared.refusal.StepErr.{StepErr}
+use Rattle.line_values.specs.declared.refusal.StepErr.{StepErr}
 use Rattle.calc_state.specs.Step.{Answered, Refused, Overflows}
 use Rattle.polycalc.specs.Conversions.{ConvertsTo, GivesConversion}
 use Rattle.polycalc.proofs.conversions.reply_to.Goals as goal

@@ -1,6 +1,6 @@
 use Rattle.std.proofs.Common.{Err, subst}
 use Rattle.std.proofs.lemmas.Result.{on_ok_weaker}
-use Rattle.calc_state.specs.declared.refusal.StepErr.{StepErr}
+use Rattle.line_values.specs.declared.refusal.StepErr.{StepErr}
 use Rattle.calc_state.specs.Step.{Overflows}
 use Rattle.calc_state.specs.Line.{Step, Gives}
 use Rattle.polycalc.proofs.runs.reply_to.Goals as goal

@@ -1,0 +1,11 @@
+use Rattle.std.proofs.Common.{◌∙◌, ℕ, List, ap}
+use Rattle.std.specs.Option.{option_copied}
+use Rattle.poly_commands.specs.Questions.{print}
+use Rattle.calc_state.specs.Table.{poly_of}
+use Rattle.calc_state.proofs.EffectLemmas.{say_one}
+use Rattle.calc_state.proofs.named.print.Goals as goal
+
+pub returns : goal.returns
+returns c =
+    let one = c.poly.ensures ∙ ap (λ (w : List ℕ). poly_of c.args.names.now w) c.bytes.ensures in
+    say_one (print c.args.side) (option_copied c.poly.result) (poly_of c.args.names.now c.args.p) c.print.result c.say.result one c.say.ensures c.print.ensures

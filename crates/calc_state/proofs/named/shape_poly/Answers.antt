@@ -1,0 +1,13 @@
+use Rattle.std.proofs.Common.{◌∙◌, ℕ, List, Bool, refl, ap}
+use Rattle.std.specs.Option.{option_copied}
+use Rattle.calc_state.specs.Shapes.{shape_poly}
+use Rattle.calc_state.specs.declared.entry.Entry.TheVariants as entry
+use Rattle.calc_state.specs.Table.{as_poly, has_no_room, shape_of}
+use Rattle.calc_state.proofs.EffectLemmas.{put_one}
+use Rattle.calc_state.proofs.named.shape_poly.Goals as goal
+
+pub returns : goal.returns
+returns g c =
+    let full = c.has_no_room-full.ensures ∙ ap (λ (w : List ℕ). has_no_room c.args.names.now w) c.bytes.ensures in
+    let one = c.shape-found.ensures ∙ ap (λ (w : List ℕ). shape_of c.args.names.now w) c.bytes-2.ensures in
+    put_one entry.Poly as_poly (λ x. refl) c.args.out (λ (b : Bool). shape_poly b) c.has_no_room-full.result (has_no_room c.args.names.now c.args.out) (option_copied c.shape-found.result) (shape_of c.args.names.now c.args.s) c.shape_poly.result c.put_poly.result full one c.put_poly.ensures c.shape_poly.ensures

@@ -1,0 +1,5 @@
+pub mod FaultOrder
+mod FractionTexts
+pub mod PerformedLemmas
+mod StrictTexts
+mod TextFaults

@@ -1,0 +1,27 @@
+-- What came of a command, from its operands, its tests and its arithmetic.
+use Rattle.std.proofs.Common.{◌≡◌, ◌∙◌, Bool, true, false, IsTrue, Result, Err, Option, Some, ◌↔◌, sym}
+use Rattle.row_core.specs.declared.errors.ConvErr.{ConvErr}
+use Rattle.row_core.specs.declared.errors.ConvErr.TheVariants as conversion
+use Rattle.row_core.specs.Refusals.{IsOverflowIn}
+use Rattle.line_values.specs.declared.refusal.StepErr.{StepErr}
+use Rattle.line_values.specs.Order.{Passes}
+use Rattle.line_values.specs.Refusals.{refusal_of_conversion}
+use Rattle.line_values.specs.Meaning.{Meaning, on_two}
+use Rattle.line_values.specs.Performed.{IsPerformed}
+
+-- what came of a command with the operands that were found
+pub found_two : {A B C : Type 0} (o : Option A) (u : Option B) (p : A) (q : B) (m : A → B → Meaning C) (result : Result C StepErr) → o ≡ Some p → u ≡ Some q → IsPerformed (m p q) result → IsPerformed (on_two o u m) result
+found_two o u p q m result first second is = rw first (rw second is)
+
+-- a test that isn't true
+pub not_so : (b : Bool) (P : Type 0) → IsTrue b ↔ P → b ≡ false → ¬ P
+not_so b P is e h = let never : true ≡ false = sym (is.1 h) ∙ e in cc
+
+-- the table isn't full
+pub not_full : (full : Bool) → full ≡ false → ¬ (IsTrue full)
+not_full full e h = let never : true ≡ false = sym h ∙ e in cc
+
+-- the arithmetic of a command was refused
+pub leaves : {A : Type 0} (m : Meaning A) (cause : ConvErr) → Passes m.conditions → IsOverflowIn m.overflows cause → IsPerformed m (Err (refusal_of_conversion cause))
+leaves m (conversion.Overflow over) passes is = (passes, is)
+leaves m conversion.Memory passes is = tt

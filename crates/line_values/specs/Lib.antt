@@ -1,0 +1,5 @@
+pub mod Meaning
+pub mod Order
+pub mod Performed
+pub mod Refusals
+pub mod Texts

@@ -1,0 +1,21 @@
+-- What came of the questions how polyhedra lie.
+use Rattle.std.proofs.Common.{◌≡◌, ℕ, List, Ok, Err, Result, Bool, false, IsTrue, ◌↔◌, sym, ◌∙◌, ap}
+use Rattle.row_core.specs.declared.errors.Overflow.{Overflow}
+use Rattle.row_core.specs.declared.errors.PairOver.{PairOver}
+use Rattle.poly_pair.specs.Polyhedra.{Polyhedron}
+use Rattle.lattice_ops.specs.Questions.{Answers, LeavesRange}
+use Rattle.line_values.specs.Meaning.{answer_line}
+use Rattle.poly_commands.specs.Lattice.{IsTold, IsTested, ShowsRows, shown_rows, shown_on}
+
+pub told : (Statement : Type 0) (holds : Bool) (text : List ℕ) → IsTrue holds ↔ Statement → text ≡ answer_line holds → IsTold Statement text
+told Statement holds text true_of said = record { holds = holds; true_of = true_of; said = said }
+
+pub tested : (Answer : Result Bool PairOver → Type 0) (Statement : Type 0) (holds : Bool) (text : List ℕ) → Answer (Ok holds) → IsTrue holds ↔ Statement → text ≡ answer_line holds → IsTested Answer Statement text
+tested Answer Statement holds text answer true_of said = record { told = record { holds = holds; true_of = true_of; said = said }; tested = answer }
+
+-- the rows of a pair, by whose constraint and whose generator it has
+pub shows : (Answer : Result Bool PairOver → Type 0) (p q : Polyhedron) (pair : PairOver) (turned : Bool) (over : Overflow) → Answer (Err pair) → pair.turned ≡ turned → over ≡ shown_on turned p q pair → ShowsRows Answer p q over
+shows Answer p q pair turned over leaves e shown = record { pair = pair; leaves = leaves; shown = shown ∙ ap (λ (side : Bool). shown_on side p q pair) (sym e) }
+
+pub shows_first : (p q : Polyhedron) (pair : PairOver) (over : Overflow) → LeavesRange p.cons.list q.gens.list false pair → over ≡ shown_rows p.cons q.gens pair → ShowsRows (Answers p.cons.list q.gens.list false) p q over
+shows_first p q pair over leaves shown = shows (Answers p.cons.list q.gens.list false) p q pair false over leaves leaves.turned shown

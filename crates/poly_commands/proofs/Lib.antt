@@ -1,0 +1,8 @@
+mod FractionLemmas
+mod LatticeLemmas
+mod MakerLemmas
+mod MapLemmas
+pub mod OperatorLemmas
+mod OptimaLemmas
+mod PointLemmas
+mod WideningLemmas

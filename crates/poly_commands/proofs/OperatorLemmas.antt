@@ -1,0 +1,38 @@
+-- What came of the commands that make a set of others.
+use Rattle.std.proofs.Common.{◌≡◌, ◌+◌, ◌≤◌, ◌<◌, ℕ, Bool, false, Result, Ok, Err, IfErr, sym, subst, arith}
+use Rattle.row_core.specs.declared.errors.ConvErr.{ConvErr}
+use Rattle.row_core.specs.declared.errors.ConvErr.TheVariants as conversion
+use Rattle.row_core.specs.Refusals.{IsOverflowIn}
+use Rattle.poly_pair.specs.Polyhedra.{Polyhedron}
+use Rattle.elapse.specs.Elapses.{IsElapseOverflow}
+use Rattle.script_text.specs.declared.command.Operator.{Operator}
+use Rattle.script_text.specs.declared.command.Operator.TheVariants.{Meet, Hull, Concat, Elapse}
+use Rattle.poly_pair.specs.declared.topology.TheConstants.{MAX_DIM}
+use Rattle.line_values.specs.Order.{Passes}
+use Rattle.line_values.specs.Meaning.{room, small, alike}
+use Rattle.line_values.proofs.PerformedLemmas.{not_full}
+use Rattle.poly_commands.specs.Operators.{fitting, Fits, LeavesBy}
+
+-- ---- tests that are passed, where there is room
+pub room_passes : (full : Bool) → full ≡ false → Passes (room full)
+room_passes full free = (λ k. k, (λ k. k, (λ k. k, (λ k. k, (λ k. k, (λ k. k, (λ k. k, (λ k. k, (λ k. k, (λ k. k, (λ k. k, (λ k. k, (not_full full free, (λ k. k, tt))))))))))))))
+
+pub small_passes : (n : ℕ) (full : Bool) → n ≤ MAX_DIM → full ≡ false → Passes (small n (room full))
+small_passes n full within free = (λ k. k, (λ k. k, (λ k. k, (λ k. k, (λ (k : MAX_DIM < n). absurd (omega (arith, k, within)), (λ k. k, (λ k. k, (λ k. k, (λ k. k, (λ k. k, (λ k. k, (λ k. k, (not_full full free, (λ k. k, tt))))))))))))))
+
+alike_passes : (p q : Polyhedron) (full : Bool) → p.topology ≡ q.topology → p.cons.dim ≡ q.cons.dim → full ≡ false → Passes (alike p q (room full))
+alike_passes p q full topology dim free = (λ k. k, (λ k. k topology, (λ k. k, (λ k. k dim, (λ k. k, (λ k. k, (λ k. k, (λ k. k, (λ k. k, (λ k. k, (λ k. k, (λ k. k, (not_full full free, (λ k. k, tt))))))))))))))
+
+pub operands_pass : (op : Operator) (p q : Polyhedron) (full : Bool) → Fits op p q → full ≡ false → Passes (fitting op p q (room full))
+operands_pass Concat p q full fits free =
+    (λ k. k, (λ k. k fits.0, (λ k. k, (λ k. k, (λ (k : MAX_DIM < p.cons.dim + q.cons.dim). absurd (omega (arith, k, fits.1)), (λ k. k, (λ k. k, (λ k. k, (λ k. k, (λ k. k, (λ k. k, (λ k. k, (not_full full free, (λ k. k, tt))))))))))))))
+operands_pass Meet p q full fits free = alike_passes p q full fits.0 fits.1 free
+operands_pass Hull p q full fits free = alike_passes p q full fits.0 fits.1 free
+operands_pass Elapse p q full fits free = alike_passes p q full fits.0 fits.1 free
+
+-- ---- refusals
+-- the time elapse was refused
+pub elapse_refused : (op : Operator) (p q : Polyhedron) (result : Result Polyhedron ConvErr) → op ≡ Elapse → IfErr result (IsElapseOverflow p q) → IfErr result (IsOverflowIn (LeavesBy op p q))
+elapse_refused op p q (Ok r) is refused = tt
+elapse_refused op p q (Err (conversion.Overflow over)) is refused = subst (λ (o : Operator). LeavesBy o p q over) (sym is) refused
+elapse_refused op p q (Err conversion.Memory) is refused = tt

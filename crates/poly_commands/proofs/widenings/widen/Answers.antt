@@ -1,0 +1,9 @@
+use Rattle.std.proofs.Common.{Bool, sym, subst}
+use Rattle.line_values.specs.Performed.{IsPerformed}
+use Rattle.poly_commands.specs.Widening.{widen}
+use Rattle.poly_commands.proofs.widenings.widen.Goals as goal
+
+pub returns : goal.returns
+returns g c =
+    let made = subst (λ (full : Bool). IsPerformed (widen full c.in-Some-Some.p.now c.in-Some-Some.q.now) c.widen_if_nested.result) (sym c.if-full.false) c.widen_if_nested.ensures in
+    rw c.in-Some-Some.is-0 (rw c.in-Some-Some.is-1 made)

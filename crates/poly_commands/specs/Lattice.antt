@@ -1,0 +1,86 @@
+-- What the command means that makes the closure, and those that ask how two polyhedra lie.
+use Rattle.std.specs.Prelude.{◌≡◌, ◌↔◌, List, ℕ, Bool, true, false, IsTrue, Result, Ok, Err}
+use Rattle.row_core.specs.declared.errors.Overflow.{Overflow}
+use Rattle.row_core.specs.declared.errors.PairOver.{PairOver}
+use Rattle.cons_sys.specs.Constraints.{Constraints, row_at}
+use Rattle.gens_sys.specs.Generators.{Generators}
+use Rattle.gens_sys.specs.Generators.{row_at as vector_at}
+use Rattle.pair_laws.specs.WorkLists.{LeavesOn}
+use Rattle.poly_pair.specs.Polyhedra.{Polyhedron, HasNoPoint}
+use Rattle.poly_pair.specs.TopologyLists.{list_width}
+use Rattle.lattice_ops.specs.Sets.{IsIncluded, HaveSamePoints, AreDisjoint, meet_list, closure_list}
+use Rattle.lattice_ops.specs.Questions.{Answers, AnswersEqual}
+use Rattle.script_text.specs.declared.command.Comparison.{Comparison}
+use Rattle.script_text.specs.declared.command.Comparison.TheVariants as by
+use Rattle.poly_commands.specs.Results.{IsResultOfClosure}
+use Rattle.line_values.specs.Meaning.{Meaning, no_fault, no_overflow, room, alike, answer_line}
+
+-- ---- makers
+-- closure OUT P
+abbrev pub closure : Bool → Polyhedron → Meaning Polyhedron
+closure full p = record {
+  conditions = room full;
+  overflows = LeavesOn (list_width p.topology p.cons.dim) p.cons.dim (closure_list p);
+  does = IsResultOfClosure p;
+}
+
+-- ---- questions
+-- yes is said where the statement is true, and else no
+pub record IsTold (Statement : Type 0) (text : List ℕ) : Type 0 where
+  pub holds : Bool
+  pub true_of : IsTrue holds ↔ Statement
+  pub said : text ≡ answer_line holds
+
+-- a test of pairs of rows in order tells whether the statement is true, and this is said
+pub record IsTested (Answer : Result Bool PairOver → Type 0) (Statement : Type 0) (text : List ℕ) : Type 0 where
+  pub told : IsTold Statement text
+  pub tested : Answer (Ok told.holds)
+
+-- the constraint and the generator of a pair
+abbrev pub shown_rows : Constraints → Generators → PairOver → Overflow
+shown_rows cs gs pair = record { kind = pair.kind; step = 0; left = row_at cs.list pair.left; right = vector_at gs.list pair.right; column = pair.column }
+
+-- a constraint of the one and a generator of the other, or the other way about
+abbrev pub shown_on : Bool → Polyhedron → Polyhedron → PairOver → Overflow
+shown_on false p q pair = shown_rows p.cons q.gens pair
+shown_on true p q pair = shown_rows q.cons p.gens pair
+
+-- the test comes to a pair that leaves the range, and its rows are shown
+pub record ShowsRows (Answer : Result Bool PairOver → Type 0) (p q : Polyhedron) (over : Overflow) : Type 0 where
+  pub pair : PairOver
+  pub leaves : Answer (Err pair)
+  pub shown : over ≡ shown_on pair.turned p q pair
+
+-- contains P Q
+abbrev pub contains : Polyhedron → Polyhedron → Meaning (List ℕ)
+contains p q = record {
+  conditions = alike p q no_fault;
+  overflows = ShowsRows (Answers p.cons.list q.gens.list false) p q;
+  does = IsTested (Answers p.cons.list q.gens.list false) (IsIncluded q p);
+}
+
+-- equal P Q
+abbrev pub equal : Polyhedron → Polyhedron → Meaning (List ℕ)
+equal p q = record {
+  conditions = alike p q no_fault;
+  overflows = ShowsRows (AnswersEqual p.topology p q) p q;
+  does = IsTested (AnswersEqual p.topology p q) (HaveSamePoints p q);
+}
+
+-- disjoint P Q
+abbrev pub disjoint : Polyhedron → Polyhedron → Meaning (List ℕ)
+disjoint p q = record {
+  conditions = alike p q no_fault;
+  overflows = LeavesOn (list_width p.topology p.cons.dim) p.cons.dim (meet_list p q);
+  does = IsTold (AreDisjoint p q);
+}
+
+-- contains, equal or disjoint P Q
+abbrev pub compared : Comparison → Polyhedron → Polyhedron → Meaning (List ℕ)
+compared by.Contains p q = contains p q
+compared by.Equal p q = equal p q
+compared by.Disjoint p q = disjoint p q
+
+-- isempty P
+abbrev pub isempty : Polyhedron → Meaning (List ℕ)
+isempty p = record { conditions = no_fault; overflows = no_overflow; does = IsTold (HasNoPoint p) }

@@ -1,0 +1,9 @@
+pub mod Affine
+pub mod Files
+pub mod Lattice
+pub mod Makers
+pub mod Operators
+pub mod Optima
+pub mod Questions
+pub mod Results
+pub mod Widening

@@ -1,0 +1,31 @@
+-- What the command means that makes the widening.
+use Rattle.std.specs.Prelude.{◌≢◌, ◌⊎◌, Bool, false, Ok}
+use Rattle.reply_text.specs.declared.faults.Fault.TheVariants as fault
+use Rattle.poly_pair.specs.declared.topology.Topology.TheVariants.{Closed}
+use Rattle.poly_pair.specs.Polyhedra.{Polyhedron}
+use Rattle.lattice_ops.specs.Sets.{IsIncluded}
+use Rattle.lattice_ops.specs.Questions.{Answers}
+use Rattle.widening.specs.Widenings.{IsWidening}
+use Rattle.widening.specs.Overflows.{LeavesOnWidening}
+use Rattle.line_values.specs.Order.{Conditions}
+use Rattle.line_values.specs.Meaning.{Meaning, room, alike}
+use Rattle.poly_commands.specs.Lattice.{ShowsRows}
+
+-- two operands, which have one topology, are closed, and the test of pairs in order doesn't come to one that shows that the first isn't included in the second
+abbrev pub nested : Polyhedron → Polyhedron → Conditions → Conditions
+nested p q others fault.NotClosed = p.topology ≢ Closed
+nested p q others fault.NotNested = Answers q.cons.list p.gens.list false (Ok false)
+nested p q others other = alike p q others other
+
+-- the first is included in the second, and this is their widening
+pub record IsWidened (p q r : Polyhedron) : Type 0 where
+  pub nested : IsIncluded p q
+  pub widening : IsWidening p q r
+
+-- widen OUT P Q
+abbrev pub widen : Bool → Polyhedron → Polyhedron → Meaning Polyhedron
+widen full p q = record {
+  conditions = nested p q (room full);
+  overflows = λ over. ShowsRows (Answers q.cons.list p.gens.list false) q p over ⊎ LeavesOnWidening p q over;
+  does = IsWidened p q;
+}

@@ -1,0 +1,36 @@
+//! The command that writes a file.
+ghost use Rattle.std.specs.Prelude.{◌≡◌};
+ghost use Rattle.std.specs.Option.{option_copied};
+ghost use Rattle.line_values.specs.Meaning.{on_one};
+ghost use Rattle.poly_commands.specs.Files.{format_of as named_format, write as write_of};
+ghost use Rattle.line_values.specs.Performed.{IsPerformed};
+
+use file_poly::{Format, write_file};
+use line_values::StepErr;
+use poly_pair::{Poly, Topology};
+use reply_text::{Fault, Text};
+use row_core::Memory;
+use std::alloc::Global;
+
+/// The list of a line's file, by whether its word is `ext`.
+pub fn format_of(ext: bool) -> Format
+    ensures { result ≡ named_format ext }
+{
+    if ext { Format::Ext } else { Format::Ine }
+}
+
+/// Writes the file of the constraints, or of the generators.
+pub fn write(alloc: Global, ext: bool, p: Option<&Poly>) -> Result<Text, StepErr>
+    ensures { IsPerformed (on_one (option_copied p.entry) (write_of ext)) result }
+{
+    let Some(p) = p else {
+        return Err(StepErr::Input(Fault::UnknownName));
+    };
+    if p.topology() != Topology::Closed {
+        return Err(StepErr::Input(Fault::NotClosed));
+    }
+    match write_file(alloc, format_of(ext), p) {
+        Ok(text) => Ok(text),
+        Err(Memory) => Err(StepErr::Memory),
+    }
+}

@@ -1,0 +1,150 @@
+//! The command that makes the closure, and those that ask how two polyhedra lie.
+ghost use Rattle.std.specs.Prelude.{◌≡◌, ◌<◌, length, IfOk};
+ghost use Rattle.std.specs.Option.{option_copied};
+ghost use Rattle.line_values.specs.Meaning.{on_one, on_two};
+ghost use Rattle.poly_commands.specs.Lattice.{compared, closure as make_closure, contains as ask_contains, equal as ask_equal, disjoint as ask_disjoint, isempty as ask_empty, shown_rows};
+ghost use Rattle.line_values.specs.Performed.{IsPerformed};
+
+use crate::questions::answer;
+use cons_sys::ConsSys;
+use gens_sys::GensSys;
+use line_values::StepErr;
+use poly_pair::Poly;
+use reply_text::{Fault, Text};
+use row_core::{Memory, Overflow, PairOver, RowBuf, Steps};
+use script_text::Comparison;
+use std::alloc::Global;
+use std::sync::ledger::Ledger;
+
+/// The smallest closed set that includes the polyhedron, in its topology.
+pub fn closure<L: Ledger>(
+    alloc: Global,
+    p: Option<&Poly>,
+    full: bool,
+    steps: &mut Steps<L>,
+) -> Result<Poly, StepErr>
+    ensures { IsPerformed (on_one (option_copied p.entry) (make_closure full)) result }
+{
+    let Some(p) = p else {
+        return Err(StepErr::Input(Fault::UnknownName));
+    };
+    if full {
+        return Err(StepErr::Input(Fault::TooManyNames));
+    }
+    match lattice_ops::closure(alloc, p, steps) {
+        Ok(made) => Ok(made),
+        Err(cause) => Err(StepErr::from(cause)),
+    }
+}
+
+/// Whether each point of the second is in the first.
+fn contains(alloc: Global, p: Option<&Poly>, q: Option<&Poly>) -> Result<Text, StepErr>
+    ensures { IsPerformed (on_two (option_copied p.entry) (option_copied q.entry) ask_contains) result }
+{
+    let (Some(p), Some(q)) = (p, q) else {
+        return Err(StepErr::Input(Fault::UnknownName));
+    };
+    if p.topology() != q.topology() {
+        return Err(StepErr::Input(Fault::TopologyMismatch));
+    }
+    if p.dim() != q.dim() {
+        return Err(StepErr::Input(Fault::DimMismatch));
+    }
+    match lattice_ops::contains(p, q) {
+        Ok(holds) => Ok(answer(alloc, holds)?),
+        Err(pair) => Err(StepErr::Overflow(shown(alloc, p.cons(), q.gens(), pair)?)),
+    }
+}
+
+/// Whether both have the same points.
+fn equal(alloc: Global, p: Option<&Poly>, q: Option<&Poly>) -> Result<Text, StepErr>
+    ensures { IsPerformed (on_two (option_copied p.entry) (option_copied q.entry) ask_equal) result }
+{
+    let (Some(p), Some(q)) = (p, q) else {
+        return Err(StepErr::Input(Fault::UnknownName));
+    };
+    if p.topology() != q.topology() {
+        return Err(StepErr::Input(Fault::TopologyMismatch));
+    }
+    if p.dim() != q.dim() {
+        return Err(StepErr::Input(Fault::DimMismatch));
+    }
+    match lattice_ops::equal(p, q) {
+        Ok(holds) => Ok(answer(alloc, holds)?),
+        Err(pair) if pair.turned => Err(StepErr::Overflow(shown(alloc, q.cons(), p.gens(), pair)?)),
+        Err(pair) => Err(StepErr::Overflow(shown(alloc, p.cons(), q.gens(), pair)?)),
+    }
+}
+
+/// The rows of a pair that leaves the range.
+pub(crate) fn shown(
+    alloc: Global,
+    cons: &ConsSys,
+    gens: &GensSys,
+    pair: PairOver,
+) -> Result<Overflow, Memory>
+    requires left { pair.left < length cons.now.list }
+    requires right { pair.right < length gens.now.list }
+    ensures { IfOk result (λ over. over ≡ shown_rows cons.now gens.now pair) }
+{
+    let left = RowBuf::new(alloc, cons.row(pair.left))?;
+    let right = RowBuf::new(alloc, gens.row(pair.right))?;
+    Ok(Overflow {
+        kind: pair.kind,
+        step: 0,
+        left,
+        right,
+        column: pair.column,
+    })
+}
+
+/// Whether no point is in both.
+fn disjoint<L: Ledger>(
+    alloc: Global,
+    p: Option<&Poly>,
+    q: Option<&Poly>,
+    steps: &mut Steps<L>,
+) -> Result<Text, StepErr>
+    ensures { IsPerformed (on_two (option_copied p.entry) (option_copied q.entry) ask_disjoint) result }
+{
+    let (Some(p), Some(q)) = (p, q) else {
+        return Err(StepErr::Input(Fault::UnknownName));
+    };
+    if p.topology() != q.topology() {
+        return Err(StepErr::Input(Fault::TopologyMismatch));
+    }
+    if p.dim() != q.dim() {
+        return Err(StepErr::Input(Fault::DimMismatch));
+    }
+    match lattice_ops::disjoint(alloc, p, q, steps) {
+        Ok(holds) => Ok(answer(alloc, holds)?),
+        Err(cause) => Err(StepErr::from(cause)),
+    }
+}
+
+/// How two polyhedra lie.
+pub fn compare<L: Ledger>(
+    alloc: Global,
+    by: Comparison,
+    p: Option<&Poly>,
+    q: Option<&Poly>,
+    steps: &mut Steps<L>,
+) -> Result<Text, StepErr>
+    ensures { IsPerformed (on_two (option_copied p.entry) (option_copied q.entry) (compared by)) result }
+{
+    match by {
+        Comparison::Contains => contains(alloc, p, q),
+        Comparison::Equal => equal(alloc, p, q),
+        Comparison::Disjoint => disjoint(alloc, p, q, steps),
+    }
+}
+
+/// Whether there is no point.
+pub fn isempty(alloc: Global, p: Option<&Poly>) -> Result<Text, StepErr>
+    ensures { IsPerformed (on_one (option_copied p.entry) ask_empty) result }
+{
+    let Some(p) = p else {
+        return Err(StepErr::Input(Fault::UnknownName));
+    };
+    Ok(answer(alloc, p.is_empty())?)
+}

@@ -1,0 +1,201 @@
+//! The commands that make, copy or change polyhedra.
+ghost use Rattle.std.specs.Prelude.{◌≡◌, ◌≤◌, ◌<◌, MatchBool, MatchOption, IfOk};
+ghost use Rattle.std.specs.Option.{option_copied};
+ghost use Rattle.grammar.specs.Form.{Matches};
+ghost use Rattle.grammar.specs.Grammar.{alone};
+ghost use Rattle.grammar.specs.Cases.{cons_cases, gens_cases};
+ghost use Rattle.script_text.specs.Commands.{is_strict};
+ghost use Rattle.poly_pair.specs.FirstLists.{LacksPoint};
+ghost use Rattle.poly_pair.specs.declared.topology.TheConstants.{MAX_DIM};
+ghost use Rattle.line_values.specs.Meaning.{on_one};
+ghost use Rattle.poly_commands.specs.Makers.{cons as make_cons, gens as make_gens, space_of, IsSpace, copy as make_copy, add as add_to, addgen as addgen_to};
+ghost use Rattle.line_values.specs.Performed.{IsPerformed};
+
+use expr_text::one_answer;
+use gens_sys::GensSys;
+use line_values::StepErr;
+use line_values::{constraints_of, generators_of};
+use poly_pair::{MAX_DIM, Poly, Topology, has_point_kind};
+use reply_text::Fault;
+use row_core::{Memory, Steps};
+use script_text::{Part, Space};
+use std::alloc::Global;
+use std::sync::ledger::Ledger;
+
+/// The dimension of a line, where it is within the limit.
+fn small_dim(n: u64) -> Option<usize>
+    ensures { MatchOption result (MAX_DIM < n) (λ dim. (dim ≡ n) × (dim ≤ MAX_DIM)) }
+{
+    if n > MAX_DIM as u64 {
+        return None;
+    }
+    Some(n as usize)
+}
+
+/// The polyhedron that the dimension alone determines: all points, or none.
+pub fn space(
+    alloc: Global,
+    space: Space,
+    topology: Topology,
+    n: u64,
+    full: bool,
+) -> Result<Poly, StepErr>
+    ensures { IsPerformed (space_of space full topology n) result }
+{
+    let Some(dim) = small_dim(n) else {
+        return Err(StepErr::Input(Fault::TooManyDims));
+    };
+    if full {
+        return Err(StepErr::Input(Fault::TooManyNames));
+    }
+    Ok(whole_or_empty(alloc, space, topology, dim)?)
+}
+
+/// All points, or none.
+fn whole_or_empty(
+    alloc: Global,
+    space: Space,
+    topology: Topology,
+    dim: usize,
+) -> Result<Poly, Memory>
+    requires { dim ≤ MAX_DIM }
+    ensures { IfOk result (IsSpace space topology dim) }
+{
+    match space {
+        Space::Universe => Poly::universe(alloc, topology, dim),
+        Space::Empty => Poly::empty(alloc, topology, dim),
+    }
+}
+
+/// A copy.
+pub fn copy(p: Option<&Poly>, full: bool) -> Result<Poly, StepErr>
+    ensures { IsPerformed (on_one (option_copied p.entry) (make_copy full)) result }
+{
+    let Some(p) = p else {
+        return Err(StepErr::Input(Fault::UnknownName));
+    };
+    if full {
+        return Err(StepErr::Input(Fault::TooManyNames));
+    }
+    Ok(p.try_copy()?)
+}
+
+/// The polyhedron of the points at which the constraints of a text hold.
+pub fn cons<L: Ledger>(
+    alloc: Global,
+    topology: Topology,
+    n: u64,
+    part: &Part,
+    full: bool,
+    steps: &mut Steps<L>,
+) -> Result<Poly, StepErr>
+    requires form { Matches (alone cons_cases) part.now.text }
+    requires told { part.now.strict ≡ is_strict part.now.text }
+    ensures { IsPerformed (make_cons full topology n part.now) result }
+{
+    let Some(dim) = small_dim(n) else {
+        return Err(StepErr::Input(Fault::TooManyDims));
+    };
+    let system = match constraints_of(alloc, topology, part, dim) {
+        Ok(system) => system,
+        Err(cause) => return Err(cause),
+    };
+    if full {
+        return Err(StepErr::Input(Fault::TooManyNames));
+    }
+    match Poly::from_cons(alloc, topology, &system, steps) {
+        Ok(made) => Ok(made),
+        Err(cause) => Err(StepErr::from(cause)),
+    }
+}
+
+/// The polyhedron of the points that the generators of a text generate.
+pub fn gens<L: Ledger>(
+    alloc: Global,
+    topology: Topology,
+    n: u64,
+    part: &Part,
+    full: bool,
+    steps: &mut Steps<L>,
+) -> Result<Poly, StepErr>
+    requires form { Matches (alone gens_cases) part.now.text }
+    requires told { part.now.strict ≡ is_strict part.now.text }
+    ensures { IsPerformed (make_gens full topology n part.now) result }
+{
+    one_answer();
+    let Some(dim) = small_dim(n) else {
+        return Err(StepErr::Input(Fault::TooManyDims));
+    };
+    let system = match generators_of(alloc, topology, part, dim) {
+        Ok(system) => system,
+        Err(cause) => return Err(cause),
+    };
+    if lacks_point(&system) {
+        return Err(StepErr::Input(Fault::NoPoint));
+    }
+    if full {
+        return Err(StepErr::Input(Fault::TooManyNames));
+    }
+    match Poly::from_gens(alloc, topology, &system, steps) {
+        Ok(made) => Ok(made),
+        Err(cause) => Err(StepErr::from(cause)),
+    }
+}
+
+/// Whether there are generators, and none is a point.
+fn lacks_point(gens: &GensSys) -> bool
+    ensures { MatchBool result (LacksPoint gens.now.list) (¬ (LacksPoint gens.now.list)) }
+{
+    !gens.is_empty() && !has_point_kind(gens)
+}
+
+/// The points of a polyhedron at which the constraints of a text hold.
+pub fn add<L: Ledger>(
+    alloc: Global,
+    p: Option<&Poly>,
+    part: &Part,
+    steps: &mut Steps<L>,
+) -> Result<Poly, StepErr>
+    requires form { Matches (alone cons_cases) part.now.text }
+    requires told { part.now.strict ≡ is_strict part.now.text }
+    ensures { IsPerformed (on_one (option_copied p.entry) (add_to part.now)) result }
+{
+    let Some(p) = p else {
+        return Err(StepErr::Input(Fault::UnknownName));
+    };
+    let topology = p.topology();
+    let more = match constraints_of(alloc, topology, part, p.dim()) {
+        Ok(more) => more,
+        Err(cause) => return Err(cause),
+    };
+    match p.add_cons(alloc, &more, steps) {
+        Ok(made) => Ok(made),
+        Err(cause) => Err(StepErr::from(cause)),
+    }
+}
+
+/// What the generators of a polyhedron and those of a text generate.
+pub fn addgen<L: Ledger>(
+    alloc: Global,
+    p: Option<&Poly>,
+    part: &Part,
+    steps: &mut Steps<L>,
+) -> Result<Poly, StepErr>
+    requires form { Matches (alone gens_cases) part.now.text }
+    requires told { part.now.strict ≡ is_strict part.now.text }
+    ensures { IsPerformed (on_one (option_copied p.entry) (addgen_to part.now)) result }
+{
+    one_answer();
+    let Some(p) = p else {
+        return Err(StepErr::Input(Fault::UnknownName));
+    };
+    let topology = p.topology();
+    let more = match generators_of(alloc, topology, part, p.dim()) {
+        Ok(more) => more,
+        Err(cause) => return Err(cause),
+    };
+    match p.add_gens(alloc, &more, steps) {
+        Ok(made) => Ok(made),
+        Err(cause) => Err(StepErr::from(cause)),
+    }
+}
