@@ -183,11 +183,7 @@ pub fn relation(alloc: Global, names: &Names, p: Text, part: Part) -> Result<Cha
     requires { Matches (alone con_cases) part.text }
     ensures { IsPerformed (tells (on_one (poly_of names.now p) (ask_relation part))) result }
 {
-    say(poly_commands::relation(
-        alloc,
-        names.poly(p.bytes()),
-        &part,
-    ))
+    say(poly_commands::relation(alloc, names.poly(p.bytes()), &part))
 }
 
 /// The greatest or the least value of the expression of a text on the polyhedron of a name.
@@ -362,10 +358,7 @@ pub fn extend<L: Ledger>(
 {
     let full = names.has_no_room(out.bytes());
     let found = names.poly(p.bytes());
-    put_poly(
-        out,
-        poly_commands::extend(alloc, by, found, n, full, steps),
-    )
+    put_poly(out, poly_commands::extend(alloc, by, found, n, full, steps))
 }
 
 /// The polyhedron of a name without the variables of a list.
@@ -381,10 +374,7 @@ pub fn remove<L: Ledger>(
 {
     let full = names.has_no_room(out.bytes());
     let found = names.poly(p.bytes());
-    put_poly(
-        out,
-        poly_commands::remove(alloc, found, &vars, full, steps),
-    )
+    put_poly(out, poly_commands::remove(alloc, found, &vars, full, steps))
 }
 
 /// The powerset of the polyhedron of a name.

@@ -14,8 +14,7 @@ ghost use Rattle.line_values.specs.Performed.{IsPerformed};
 
 use bd_shape::{Shape, ShapeErr, shape_from, shape_hull, shape_meet, shape_of, shape_rows};
 use expr_text::{one_answer, print_cons};
-use line_values::StepErr;
-use line_values::constraints_of;
+use line_values::{StepErr, constraints_of};
 use poly_commands::answer;
 use poly_pair::{MAX_DIM, Poly, Topology};
 use reply_text::{Fault, Text};
@@ -25,11 +24,7 @@ use std::alloc::Global;
 use std::sync::ledger::Ledger;
 
 /// The smallest shape that includes a closed polyhedron.
-pub fn shape_of_set(
-    alloc: Global,
-    p: Option<&Poly>,
-    full: bool,
-) -> Result<Shape, StepErr>
+pub fn shape_of_set(alloc: Global, p: Option<&Poly>, full: bool) -> Result<Shape, StepErr>
     ensures { IsPerformed (on_one (option_copied p.entry) (make_shape full)) result }
 {
     let Some(p) = p else {
@@ -71,12 +66,7 @@ fn bound_no_difference(made: &Result<Shape, ShapeErr>) -> bool
 }
 
 /// The shape of the points at which the constraints of a text hold.
-pub fn bounds(
-    alloc: Global,
-    n: u64,
-    part: &Part,
-    full: bool,
-) -> Result<Shape, StepErr>
+pub fn bounds(alloc: Global, n: u64, part: &Part, full: bool) -> Result<Shape, StepErr>
     requires form { Matches (alone cons_cases) part.now.text }
     requires told { part.now.strict ≡ is_strict part.now.text }
     ensures { IsPerformed (make_bounds full n part.now) result }
@@ -141,11 +131,7 @@ pub fn of_two_shapes(
 }
 
 /// Whether each point of the second shape is in the first.
-pub fn shape_contains(
-    alloc: Global,
-    s: Option<&Shape>,
-    t: Option<&Shape>,
-) -> Result<Text, StepErr>
+pub fn shape_contains(alloc: Global, s: Option<&Shape>, t: Option<&Shape>) -> Result<Text, StepErr>
     ensures { IsPerformed (on_two (option_copied s.entry) (option_copied t.entry) ask_contains) result }
 {
     let (Some(s), Some(t)) = (s, t) else {

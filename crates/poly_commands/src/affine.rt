@@ -13,8 +13,7 @@ ghost use Rattle.line_values.specs.Texts.{IsTextRefusal};
 ghost use Rattle.line_values.specs.Performed.{IsPerformed};
 
 use affine_ops::ImageRel;
-use line_values::StepErr;
-use line_values::fraction_of;
+use line_values::{StepErr, fraction_of};
 use poly_pair::Poly;
 use reply_text::Fault;
 use row_core::{ConvErr, Steps};

@@ -13,8 +13,7 @@ ghost use Rattle.line_values.specs.Performed.{IsPerformed};
 
 use expr_text::one_answer;
 use gens_sys::GensSys;
-use line_values::StepErr;
-use line_values::{constraints_of, generators_of};
+use line_values::{StepErr, constraints_of, generators_of};
 use poly_pair::{MAX_DIM, Poly, Topology, has_point_kind};
 use reply_text::Fault;
 use row_core::{Memory, Steps};

@@ -11,8 +11,7 @@ ghost use Rattle.line_values.specs.Performed.{IsPerformed};
 
 use expr_text::print_gen;
 use gens_sys::GensSys;
-use line_values::StepErr;
-use line_values::{constraint_of, expression_of};
+use line_values::{StepErr, constraint_of, expression_of};
 use optimum::{Relation, Sup, inf, shown, sup};
 use poly_pair::Poly;
 use reply_text::{Fault, Text};

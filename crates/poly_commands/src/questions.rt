@@ -11,8 +11,7 @@ ghost use Rattle.line_values.specs.Performed.{IsPerformed};
 
 use cons_sys::ConsSys;
 use expr_text::{print_cons, print_gens};
-use line_values::StepErr;
-use line_values::point_of;
+use line_values::{StepErr, point_of};
 use poly_pair::Poly;
 use reply_text::{Fault, Text};
 use row_core::{Memory, Overflow, PairOver, RowBuf};
