@@ -1,0 +1,4 @@
+pub mod RowValues
+pub mod BoxLemmas
+pub mod WayLemmas
+pub mod JoinLemmas
