@@ -48,8 +48,7 @@ module _ (up : Bool) (p : Polyhedron) (k : IsKept p) (fits : FitDimension p.gens
       let d = kept_dim p k in
       let t = f.lowest.multiple in
       let value : InRange (dot row (row_at p.gens.list b)) = last_stays row (row_at p.gens.list b) p.cons.dim w (let e = g.wide in omega (arith, e, d)) (f.reached b f.best.below).stays in
-      let divisor : InRange (cell (row_at p.gens.list b) p.gens.dim) = g.in_range p.gens.dim (pos 0) (let e = g.wide in omega (arith, e)) in
-      (
+      let divisor : InRange (cell (row_at p.gens.list b) p.gens.dim) = g.in_range p.gens.dim (pos 0) (let e = g.wide in omega (arith, e)) in (
         part_in_range t.times num (dot row (row_at p.gens.list b)) t.positive (ap (λ (x : List ℤ). cell x 0) t.same) value,
         part_in_range t.times den (cell (row_at p.gens.list b) p.gens.dim) t.positive (ap (λ (x : List ℤ). cell x 1) t.same) divisor,
       )

@@ -78,11 +78,7 @@ fn extremum(up: bool, p: &Poly, row: &[i128]) -> Result<Sup, PairOver>
     ensures over { IfErr result (SeekLeaves up row.now p.now.gens.dim p.now.gens.list) }
 {
     let _kept = (p.dim(), p.gens().dim());
-    if up {
-        sup(p, row)
-    } else {
-        inf(p, row)
-    }
+    if up { sup(p, row) } else { inf(p, row) }
 }
 
 /// The bound of a variable, above or below.
@@ -105,11 +101,7 @@ fn bound(alloc: Global, up: bool, p: &Poly, variable: usize) -> Result<Sup, Conv
 fn bound_kind(attained: bool) -> ConKind
     ensures { result ≡ bound_kind attained }
 {
-    if attained {
-        ConKind::Ge
-    } else {
-        ConKind::Gt
-    }
+    if attained { ConKind::Ge } else { ConKind::Gt }
 }
 
 /// Appends what an answer says of a variable, if anything.

@@ -22,12 +22,7 @@ fn push_primitive(system: &mut ConsSys, row: &[i128], kind: ConKind) -> Result<(
 }
 
 /// Appends the ways in which a constraint can fail.
-fn push_ways(
-    alloc: Global,
-    system: &mut ConsSys,
-    row: &[i128],
-    kind: ConKind,
-) -> Result<(), Memory>
+fn push_ways(alloc: Global, system: &mut ConsSys, row: &[i128], kind: ConKind) -> Result<(), Memory>
     requires wide { length row.now ≡ system.old.dim + 1 }
     requires in_range { AllInRange row.now }
     requires primitive { IsPrimitive row.now }
