@@ -68,8 +68,7 @@ fn find(alloc: Global, p: &Poly, bounds: &mut BoundTable, i: usize, j: usize) ->
         return Ok(());
     }
     let bound = supremum(alloc, p, i, j)?;
-    bounds.set(i, j, bound);
-    Ok(())
+    Ok(bounds.set(alloc, i, j, bound)?)
 }
 
 /// Finds the bounds of place `i` less each other place.

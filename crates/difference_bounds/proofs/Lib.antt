@@ -9,6 +9,7 @@ pub mod LeastSteps
 pub mod Tightness
 pub mod CellPlaces
 pub mod WordLemmas
+pub mod CellLemmas
 pub mod PassLemmas
 pub mod ChoiceLemmas
 pub mod Differences

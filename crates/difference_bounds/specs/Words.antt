@@ -1,5 +1,5 @@
 -- Bounds as words of 64 bits.
-use Rattle.std.specs.Prelude.{◌≡◌, ◌⊎◌, ℕ, ◌^◌, ◌<◌, List, length, ℤ, pos, neg_ℤ, ◌<ℤ◌, ◌≤ℤ◌, ⊤, Option, Some, None, true, false, Bool, get_or, slice_index_or}
+use Rattle.std.specs.Prelude.{◌≡◌, ◌⊎◌, ℕ, ◌^◌, ◌<◌, List, [], ◌∷◌, length, ℤ, pos, neg_ℤ, ◌<ℤ◌, ◌≤ℤ◌, int_lt, cond, ⊤, Option, Some, None, true, false, Bool, get_or, slice_index_or}
 use Rattle.difference_bounds.specs.declared.fraction.Fraction.{Fraction}
 use Rattle.difference_bounds.specs.Fractions.{IsBelow}
 use Rattle.difference_bounds.specs.Walks.{Bound}
@@ -40,10 +40,34 @@ pub record AreWords (cells : List Bound) (words : List ℤ) : Type 0 where
   pub full : length words ≡ length cells
   pub each : (q : ℕ) → q < length cells → IsWord (slice_index_or cells q None) (get_or words q (pos 0))
 
--- what a table keeps
-pub record IsStored (t : Table) (words : List ℤ) : Type 0 where
+-- ---- what a table keeps
+-- the word is that of no bound or of a short whole number
+abbrev pub IsTold : ℤ → Type 0
+IsTold w = (w ≡ absent) ⊎ IsShort w
+
+-- the bound that such a word tells
+abbrev pub told : ℤ → Bound
+told w = cond (int_lt w absent) (Some (whole w)) None
+
+-- the bound of a cell: what its word tells, or else the one that is kept
+abbrev pub kept : ℤ → Bound → Bound
+kept w b = cond (int_lt other w) (told w) b
+
+-- the bounds of the cells, by their words and the bounds that are kept
+abbrev pub cells_of : List ℤ → List Bound → List Bound
+cells_of [] bs = []
+cells_of (w ∷ ws) [] = kept w None ∷ cells_of ws []
+cells_of (w ∷ ws) (b ∷ bs) = kept w b ∷ cells_of ws bs
+
+-- bounds are kept for none of the cells, or each of them has room for one
+abbrev pub IsRoom : ℕ → List Bound → Type 0
+IsRoom n bs = (length bs ≡ 0) ⊎ (length bs ≡ n)
+
+-- a table, the words of its cells and the bounds that are kept
+pub record IsStored (t : Table) (words : List ℤ) (bounds : List Bound) : Type 0 where
   pub table : IsTable t
   pub worded : AreWords t.cells words
+  pub room : IsRoom (length words) bounds
 
 -- ---- steps
 -- the bound stays, or falls to a short whole number, where it is lowered to the sum of two others

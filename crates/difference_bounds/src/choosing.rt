@@ -1,9 +1,10 @@
 //! The lesser and the greater of two bounds.
-ghost use Rattle.std.specs.Prelude.{◌↔◌, ◌⊎◌, IsTrue, IfSome, IfOk, IfErr};
+ghost use Rattle.std.specs.Prelude.{◌≡◌, ◌≢◌, ◌↔◌, ◌⊎◌, Some, true, IsTrue, IfSome, IfOk, IfErr};
 ghost use Rattle.row_core.specs.Refusals.{IsOverflowIn};
 ghost use Rattle.difference_bounds.specs.Fractions.{IsFraction};
 ghost use Rattle.difference_bounds.specs.Laws.{IsLesser, IsRelaxed, IsGreater, IsCovered};
 ghost use Rattle.difference_bounds.specs.Combining.{IsChosen, IsPick};
+ghost use Rattle.difference_bounds.specs.Words.{IsWithinWords, other};
 ghost use Rattle.difference_bounds.specs.Overflows.{LeavesInLesser, LeavesInBoth, LeavesInRelaxing};
 
 use crate::fraction::Fraction;
@@ -107,7 +108,9 @@ pub(crate) fn chosen(
 /// Whether the second of two bounds is taken, if their words tell.
 #[inline]
 pub(crate) fn picked(choice: Choice, left: i64, right: i64) -> Option<bool>
-    ensures { IsPick choice left right result }
+    requires { IsWithinWords left }
+    ensures pick { IsPick choice left right result }
+    ensures told { result ≡ Some true → right ≢ other }
 {
     match choice {
         Choice::Lesser => compared(right, left),

@@ -9,7 +9,7 @@ ghost use Rattle.difference_bounds.specs.Passes.{IsPassing, HasNegative, HasNoNe
 
 use crate::choosing::relaxed;
 use crate::table::BoundTable;
-use crate::words::{ABSENT, Outcome, fraction_of, step};
+use crate::words::{ABSENT, Outcome, step};
 use row_core::ConvErr;
 use std::alloc::Global;
 
@@ -31,8 +31,7 @@ impl BoundTable {
         ensures overflow { IfErr result (IsOverflowIn (LeavesInRelaxing (bounds_of self.old i j) (bounds_of self.old i k) (bounds_of self.old k j))) }
     {
         let bound = relaxed(alloc, self.get(i, j), self.get(i, k), self.get(k, j))?;
-        self.set(i, j, bound);
-        Ok(())
+        Ok(self.set(alloc, i, j, bound)?)
     }
 
     /// Lowers the bound of place `i` less place `j` to the sum of those by way of place `k`.
@@ -49,7 +48,7 @@ impl BoundTable {
         match step(self.word(i, j), self.word(i, k), self.word(k, j)) {
             Outcome::Stays => Ok(()),
             Outcome::Falls(number) => {
-                self.set(i, j, Some(fraction_of(number)));
+                self.put(i, j, number);
                 Ok(())
             }
             Outcome::Unknown => self.relax_fractions(alloc, k, i, j),

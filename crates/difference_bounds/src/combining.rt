@@ -34,8 +34,7 @@ impl BoundTable {
         ensures overflow { IfErr result (IsOverflowIn (LeavesInLesser (bounds_of self.old i j) fraction)) }
     {
         let bound = lesser(alloc, self.get(i, j), fraction)?;
-        self.set(i, j, bound);
-        Ok(())
+        Ok(self.set(alloc, i, j, bound)?)
     }
 
     /// Takes in the bound of place `i` less place `j` of another table, as a fraction.
@@ -56,8 +55,7 @@ impl BoundTable {
         ensures overflow { IfErr result (IsOverflowIn (λ over. LeavesInBoth (bounds_of self.old i j) (bounds_of other.now i j) over ⊎ LeavesInBoth (bounds_of other.now i j) (bounds_of self.old i j) over)) }
     {
         let bound = chosen(alloc, choice, self.get(i, j), other.get(i, j))?;
-        self.set(i, j, bound);
-        Ok(())
+        Ok(self.set(alloc, i, j, bound)?)
     }
 
     /// Takes in the bound of place `i` less place `j` of another table.
@@ -81,7 +79,7 @@ impl BoundTable {
         let (left, right) = self.word_pair(other, i, j);
         match picked(choice, left, right) {
             Some(true) => {
-                self.take(other, i, j);
+                self.put(i, j, right);
                 Ok(())
             }
             Some(false) => Ok(()),

@@ -14,9 +14,6 @@ pub struct Fraction {
     pub den: i128,
 }
 
-/// 0.
-pub(crate) const ZERO: Fraction = Fraction { num: 0, den: 1 };
-
 /// The fraction in lowest terms.
 pub fn lowest(num: i128, den: i128) -> Fraction
     requires num { InRange num }

@@ -1,7 +1,7 @@
 //! Bounds as words of 64 bits: the sum of two short whole numbers is one addition, and their comparison one comparison.
-ghost use Rattle.std.specs.Prelude.{◌≡◌, length, IsTrue, IfSome};
+ghost use Rattle.std.specs.Prelude.{◌≡◌, ◌≢◌, length, ◌<ℤ◌, Some, true, IsTrue, IfSome};
 ghost use Rattle.difference_bounds.specs.Fractions.{IsFraction};
-ghost use Rattle.difference_bounds.specs.Words.{IsShort, IsWord, IsWithinWords, IsStep, IsComparison, AllCovered, whole};
+ghost use Rattle.difference_bounds.specs.Words.{IsShort, IsWord, IsWithinWords, IsStep, IsComparison, AllCovered, other, whole};
 
 use crate::fraction::Fraction;
 
@@ -9,7 +9,7 @@ use crate::fraction::Fraction;
 pub(crate) const ABSENT: i64 = 1 << 62;
 
 /// The word of a bound that isn't such a number. A sum with it is below each of theirs.
-const OTHER: i64 = -(1 << 62);
+pub(crate) const OTHER: i64 = -(1 << 62);
 
 /// Whole numbers below it in size are their own words.
 const LIMIT: i64 = 1 << 60;
@@ -86,7 +86,8 @@ pub(crate) fn step(bound: i64, to: i64, from: i64) -> Outcome
 /// Whether one bound is below another, if their words tell. None is above all.
 #[inline]
 pub(crate) fn compared(left: i64, right: i64) -> Option<bool>
-    ensures { IsComparison left right result }
+    ensures comparison { IsComparison left right result }
+    ensures lesser { result ≡ Some true → (left <ℤ right) × (left ≢ other) }
 {
     if right <= left {
         return if right == OTHER { None } else { Some(false) };

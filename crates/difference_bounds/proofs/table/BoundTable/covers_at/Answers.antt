@@ -10,7 +10,7 @@ pub returns-in-Some-clause-covers : goal.returns-in-Some-clause-covers
 returns-in-Some-clause-covers c =
     let first : SFits w64 c.word.result = search rules in
     let second : SFits w64 c.word-2.result = search rules in
-    let compares = simp to_z-of_z at c.in-Some.ensures in
+    let compares = simp to_z-of_z at c.in-Some.ensures.comparison in
     let left = bounds_of c.args.self.now c.args.i c.args.j in
     let right = bounds_of c.args.other.now c.args.i c.args.j in
     covered_by left right c.in-Some.below (compares left right c.word.ensures.word c.word-2.ensures.word)
