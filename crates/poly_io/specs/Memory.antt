@@ -13,10 +13,11 @@ pub record Feed : Type 0 where
   pub stock : Stock
   pub faults : Faults
 
--- bytes that are gathered in memory: those that are held, and the most that one call takes
+-- bytes that are gathered in memory: those that are held, the most that one call takes, and how often memory was refused
 pub record Store : Type 0 where
   pub held : List ℕ
   pub piece : ℕ
+  pub wants : ℕ
 
 -- such bytes, and the calls that fail
 pub record Shelf : Type 0 where

@@ -1,5 +1,6 @@
 use Rattle.std.specs.Prelude.{◌≡◌, ℕ, ◌≤◌, List, length, take, Option}
 use Rattle.std.specs.Io.KnownBytes.{append_known}
+use Rattle.poly_io.specs.Counts.{next_count}
 use Rattle.poly_io.specs.declared.writing.WriteAns.{WriteAns}
 use Rattle.poly_io.specs.declared.writing.WriteAns.TheVariants.{Took, Failed, Memory}
 
@@ -11,3 +12,9 @@ Writes old new bytes (Took n) = (1 ≤ n) × (n ≤ length bytes) × (new ≡ ap
 -- a failure, or want of memory, appends nothing
 Writes old new bytes Failed = new ≡ old
 Writes old new bytes Memory = new ≡ old
+
+-- how often memory was refused, after an answer
+abbrev pub wants_after : ℕ → WriteAns → ℕ
+wants_after count (Took n) = count
+wants_after count Failed = count
+wants_after count Memory = next_count count

@@ -121,6 +121,8 @@ impl<W: Write + Drop> Sink for StdSink<W> {
 
     ghost faults = { λ s. s.1 };
 
+    ghost wants = { λ _. 0 };
+
     /// What is taken is flushed at once. An error of the writer, a flush that fails and a write
     /// that takes no byte each count as a fault.
     fn write(&mut self, buf: &[u8]) -> WriteAns

@@ -97,6 +97,8 @@ pub fn write_all<W: Sink>(sink: &mut W, bytes: &[u8]) -> Result<(), WriteAllErr>
     ensures partly { (count : ℕ) × (W.held sink.new ≡ append_known (W.held sink.old) (take count bytes.now)) }
     ensures failed_by_fault { IsErrOf result WriteAllErr.Failed → HasRisen (W.faults sink.old) (W.faults sink.new) }
     ensures counted { W.faults sink.old ≤ W.faults sink.new }
+    ensures memory_by_want { IsErrOf result WriteAllErr.Memory → HasRisen (W.wants sink.old) (W.wants sink.new) }
+    ensures wants_counted { W.wants sink.old ≤ W.wants sink.new }
 {
     let mut at = 0;
     while at < bytes.len() {

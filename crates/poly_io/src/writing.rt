@@ -22,10 +22,15 @@ pub trait Sink {
     // How many faults there were so far.
     ghost faults: { Self → ℕ };
 
+    // How often memory was refused to it so far.
+    ghost wants: { Self → ℕ };
+
     /// Appends the first bytes of the buffer to what is held.
     fn write(&mut self, buf: &[u8]) -> WriteAns
         requires { 0 < length buf.now }
         ensures appended { Writes (held self.old) (held self.new) buf.now result }
         ensures failed_by_fault { result ≡ WriteAns.Failed → HasRisen (faults self.old) (faults self.new) }
-        ensures counted { faults self.old ≤ faults self.new };
+        ensures counted { faults self.old ≤ faults self.new }
+        ensures memory_by_want { result ≡ WriteAns.Memory → HasRisen (wants self.old) (wants self.new) }
+        ensures wants_counted { wants self.old ≤ wants self.new };
 }

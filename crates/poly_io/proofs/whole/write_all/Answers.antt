@@ -17,4 +17,5 @@ loop-at-preserved g c =
       written =
           append_known-take_more bytes at count (held c.args.sink.now) (held c.loop-at.sink) (held c.write.new.self) c.loop-at.invariant.written (c.in-Took.ensures.appended.2 ∙ whole);
       counted = omega (arith, c.in-Took.ensures.counted, c.loop-at.invariant.counted);
+      wanted = omega (arith, c.in-Took.ensures.wants_counted, c.loop-at.invariant.wanted);
     }

@@ -7,6 +7,7 @@ invariant-loop-at g l = record {
   within : l.at ≤ length l.bytes;
   written : g.W.Sink.held l.sink ≡ append_known (g.W.Sink.held l.fn.sink) (take l.at l.bytes);
   counted : g.W.Sink.faults l.fn.sink ≤ g.W.Sink.faults l.sink;
+  wanted : g.W.Sink.wants l.fn.sink ≤ g.W.Sink.wants l.sink;
 }
 
 abbrev pub decreases-loop-at : goal.decreases-loop-at
