@@ -19,7 +19,8 @@ use Rattle.calc_state.specs.Step.{Reply}
 use Rattle.calc_state.specs.Line.{Step}
 use Rattle.polycalc.specs.Replies.{Written, written, with_reply, reply_bytes, replies_bytes, is_answer, is_clean}
 use Rattle.polycalc.specs.Runs.{Run, at_end}
-use Rattle.polycalc.specs.Outcomes.{Completes, WritesPrefix, AnswersWhole, AnswersEarlier, Outcome}
+use Rattle.poly_io.specs.Counts.{HasRisen}
+use Rattle.polycalc.specs.Outcomes.{Completes, WritesPrefix, AnswersWhole, AnswersEarlier, AnswersFirst, Outcome}
 use Rattle.polycalc.specs.Endings.{Closes, done, refused, unwritten, unmade}
 use Rattle.polycalc.specs.declared.job.Job.TheVariants as job
 use Rattle.polycalc.specs.declared.status.Status.{Status}
@@ -135,6 +136,21 @@ prefix_of_cut all answered others old new state replies n e r h =
       held = h ∙ ap (λ (rs : List Reply). append_known old (take n (replies_bytes rs))) (sym (append-nil replies));
     }
 
+-- the first lines of some bytes are answered, and all replies to them are written
+first_of_cut : (all : List ℕ) (answered others : List (List ℕ)) (old new : Option (List ℕ)) (state : State) (replies : List Reply) → cut all ≡ answered ++ others →
+    Run (closed []) answered replies state → new ≡ append_known old (replies_bytes replies) → AnswersFirst all old new
+first_of_cut all answered others old new state replies e r h =
+    let p = parts_of_cut (lines all) answered others e in
+    record {
+      answered = p.first;
+      others = p.second;
+      cut = p.both;
+      state = state;
+      replies = replies;
+      run = run_of_part (lines all) answered others replies state p r;
+      held = h;
+    }
+
 -- all whole lines of some bytes are answered
 whole_of_cut : (all : List ℕ) (answered : List (List ℕ)) (last : List ℕ) (old new : Option (List ℕ)) (state : State) (replies : List Reply) → cut (all ++ 10 ∷ []) ≡ answered ++ last ∷ [] →
     Run (closed []) answered replies state → new ≡ append_known old (replies_bytes replies) → AnswersWhole all old new
@@ -151,14 +167,18 @@ whole_of_cut all answered last old new state replies e r h =
       held = h;
     }
 
+some_written : (given : List ℕ) (old now later : Option (List ℕ)) (state : State) (reader : Reading) (w : Written) (n : ℕ) (g : Goes given old now state reader w) → later ≡ append_known now (take n w.bytes) →
+    later ≡ append_known old (take (length g.flushed + n) (replies_bytes g.replies))
+some_written given old now later state reader w n g h =
+    h ∙ ap (λ (k : Option (List ℕ)). append_known k (take n w.bytes)) g.held ∙ sym (append_known-append old g.flushed (take n w.bytes))
+    ∙ ap (λ (x : List ℕ). append_known old x) (sym (front g.flushed w.bytes n) ∙ ap (take (length g.flushed + n)) g.bytes)
+
 -- a front of what was gathered is written
 pub front_of_goes : (given : List ℕ) (old now later : Option (List ℕ)) (state : State) (reader : Reading) (w : Written) (n : ℕ) → Goes given old now state reader w →
     later ≡ append_known now (take n w.bytes) → WritesPrefix given old later
 front_of_goes given old now later state reader w n g h =
     prefix_of_cut given g.done (cut (reader.pending ++ [])) old later state g.replies (length g.flushed + n)
-    (ap cut (sym (append-nil given)) ∙ g.cuts [] (λ (e : reader.ended ≡ true). refl)) g.run
-    (h ∙ ap (λ (k : Option (List ℕ)). append_known k (take n w.bytes)) g.held ∙ sym (append_known-append old g.flushed (take n w.bytes))
-    ∙ ap (λ (x : List ℕ). append_known old x) (sym (front g.flushed w.bytes n) ∙ ap (take (length g.flushed + n)) g.bytes))
+    (ap cut (sym (append-nil given)) ∙ g.cuts [] (λ (e : reader.ended ≡ true). refl)) g.run (some_written given old now later state reader w n g h)
 
 -- all that was gathered is written
 all_written : (given : List ℕ) (old now : Option (List ℕ)) (state : State) (reader : Reading) (w : Written) (g : Goes given old now state reader w) → w.bytes ≡ [] → now ≡ append_known old (replies_bytes g.replies)
@@ -269,13 +289,53 @@ goes_earlier given more old now state reader w g all going lacks q =
     }
 
 -- a line was taken, and its reply wasn't had
-pub goes_unanswered : (given more : List ℕ) (old now : Option (List ℕ)) (state : State) (reader new : Reading) (w : Written) → Goes given old now state reader w →
-    new.taken ≡ reader.taken + length more → IsStill more reader new → Answers more reader new Line → WritesPrefix (given ++ more) old now
-goes_unanswered given more old now state reader new w g t s a =
-    prefix_of_cut (given ++ more) g.done (new.line ∷ cut (new.pending ++ [])) old now state g.replies (length g.flushed + 0)
-    (ap cut (sym (append-nil (given ++ more)) ∙ append_assoc given more [])
-    ∙ g.cuts (more ++ []) (nothing_more more [] reader new t s (λ (e : new.ended ≡ true). refl)) ∙ ap (λ (x : List (List ℕ)). g.done ++ x) (a.0 [] (λ (e : new.ended ≡ true). refl)))
-    g.run (none_written given old now state reader w g)
+line_cut : (given more : List ℕ) (old now : Option (List ℕ)) (state : State) (reader new : Reading) (w : Written) (g : Goes given old now state reader w) →
+    new.taken ≡ reader.taken + length more → IsStill more reader new → Answers more reader new Line → cut (given ++ more) ≡ g.done ++ new.line ∷ cut (new.pending ++ [])
+line_cut given more old now state reader new w g t s a =
+    ap cut (sym (append-nil (given ++ more)) ∙ append_assoc given more [])
+    ∙ g.cuts (more ++ []) (nothing_more more [] reader new t s (λ (e : new.ended ≡ true). refl)) ∙ ap (λ (x : List (List ℕ)). g.done ++ x) (a.0 [] (λ (e : new.ended ≡ true). refl))
+
+-- all that was gathered before it is written
+pub goes_before : (given more : List ℕ) (old now later : Option (List ℕ)) (state : State) (reader new : Reading) (w : Written) → Goes given old now state reader w →
+    new.taken ≡ reader.taken + length more → IsStill more reader new → Answers more reader new Line → later ≡ append_known now w.bytes → AnswersFirst (given ++ more) old later
+goes_before given more old now later state reader new w g t s a h =
+    first_of_cut (given ++ more) g.done (new.line ∷ cut (new.pending ++ [])) old later state g.replies (line_cut given more old now state reader new w g t s a) g.run
+    (h ∙ ap (λ (k : Option (List ℕ)). append_known k w.bytes) g.held ∙ sym (append_known-append old g.flushed w.bytes) ∙ ap (append_known old) g.bytes)
+
+-- a front of it is written
+unanswered : (given more : List ℕ) (old now later : Option (List ℕ)) (state : State) (reader new : Reading) (w : Written) (n : ℕ) → Goes given old now state reader w →
+    new.taken ≡ reader.taken + length more → IsStill more reader new → Answers more reader new Line → later ≡ append_known now (take n w.bytes) → WritesPrefix (given ++ more) old later
+unanswered given more old now later state reader new w n g t s a h =
+    prefix_of_cut (given ++ more) g.done (new.line ∷ cut (new.pending ++ [])) old later state g.replies (length g.flushed + n) (line_cut given more old now state reader new w g t s a)
+    g.run (some_written given old now later state reader w n g h)
+
+pub goes_unanswered : (given more : List ℕ) (left old now later : Option (List ℕ)) (state : State) (reader new : Reading) (w : Written) (n : ℕ) (status : Status) → length (given ++ more) ≤ 2 ^ 26 → Goes given old now state reader w →
+    new.taken ≡ reader.taken + length more → IsStill more reader new → Answers more reader new Line → later ≡ append_known now (take n w.bytes) →
+    (status ≡ WriteFault) ⊎ (status ≡ Memory) → Outcome job.Run (given ++ more) left old later status
+goes_unanswered given more left old now later state reader new w n status few g t s a h (inl e) =
+    subst (λ (x : Status). Outcome job.Run (given ++ more) left old later x) (sym e) (few, unanswered given more old now later state reader new w n g t s a h)
+goes_unanswered given more left old now later state reader new w n status few g t s a h (inr e) =
+    subst (λ (x : Status). Outcome job.Run (given ++ more) left old later x) (sym e) (few, unanswered given more old now later state reader new w n g t s a h)
+
+-- the input has ended: all lines are among the first
+pub ended_before : (all : List ℕ) (old now : Option (List ℕ)) (state : State) (w : Written) → HasEnded all old now state w → AnswersFirst all old now
+ended_before all old now state w h = record {
+  answered = lines all;
+  others = [];
+  cut = sym (append-nil (lines all));
+  state = state;
+  replies = h.replies;
+  run = h.run;
+  held = h.held;
+}
+
+pub none_before : (held : Option (List ℕ)) → AnswersFirst [] held held
+none_before held = first_of_cut [] [] (cut []) held held (closed []) [] refl refl (sym (append_known-nil held))
+
+-- a count that has risen in a part of a call has risen in the call
+pub risen_since : (old mid new : ℕ) → old ≤ mid → HasRisen mid new → HasRisen old new
+risen_since old mid new h (inl k) = inl (omega (arith, h, k))
+risen_since old mid new h (inr e) = inr e
 
 -- nothing is a front of the replies to no line
 pub nothing_streamed : (held : Option (List ℕ)) → WritesPrefix [] held held

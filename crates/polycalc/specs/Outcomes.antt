@@ -58,6 +58,16 @@ pub record AnswersEarlier (script : List ℕ) (old new : Option (List ℕ)) : Ty
   pub few : length last ≤ 2 ^ 16
   pub answers : AnswersWhole earlier old new
 
+-- what was held, and behind it the replies of a run over the first lines of the script
+pub record AnswersFirst (script : List ℕ) (old new : Option (List ℕ)) : Type 0 where
+  pub answered : List (List ℕ)
+  pub others : List (List ℕ)
+  pub cut : lines script ≡ answered ++ others
+  pub state : State
+  pub replies : List Reply
+  pub run : Run (closed []) answered replies state
+  pub held : new ≡ append_known old (replies_bytes replies)
+
 -- ---- files that are converted
 -- what was held, and behind it the reply to the file; whether it is no fault and no overflow is told
 pub record Converts (want : Format) (file : List ℕ) (clean : Bool) (old new : Option (List ℕ)) : Type 0 where
@@ -119,6 +129,17 @@ abbrev pub AnswersFront : Job → List ℕ → Option (List ℕ) → Option (Lis
 AnswersFront job.Run script old new = AnswersEarlier script old new
 AnswersFront (job.Convert want) file old new = new ≡ old
 AnswersFront (job.Sample n) given old new = ⊥
+
+-- what is written where memory was wanted elsewhere than at the sink: the replies to the lines before, and of a file or a
+-- sample nothing
+abbrev pub AnswersBefore : Job → List ℕ → Option (List ℕ) → Option (List ℕ) → Type 0
+AnswersBefore job.Run script old new = AnswersFirst script old new
+AnswersBefore (job.Convert want) file old new = new ≡ old
+AnswersBefore (job.Sample n) given old new = new ≡ old
+
+-- the source gave some bytes, and that is written
+abbrev pub GivesUp : Job → Option (List ℕ) → Option (List ℕ) → Option (List ℕ) → Option (List ℕ) → Type 0
+GivesUp task left left_now old new = (given : List ℕ) × (left ≡ prepend_known given left_now) × AnswersBefore task given old new
 
 -- what came of a job, after the source gave these bytes and now has those left
 abbrev pub Outcome : Job → List ℕ → Option (List ℕ) → Option (List ℕ) → Option (List ℕ) → Status → Type 0

@@ -1,5 +1,5 @@
 //! Replies, gathered before they are written.
-ghost use Rattle.std.specs.Prelude.{◌≡◌, ◌∷◌, ◌++◌, [], List, false, OnOk};
+ghost use Rattle.std.specs.Prelude.{◌≡◌, ◌∷◌, ◌++◌, [], List, false, OnErr, OnOk};
 ghost use Rattle.calc_state.specs.Step.{Answered, Refused, Overflows};
 ghost use Rattle.polycalc.specs.Replies.{written, with_reply};
 
@@ -8,7 +8,7 @@ use row_core::{Memory, Overflow};
 use std::alloc::Global;
 use std::marker::Model;
 
-/// The bytes of replies in order, and whether none of them is a fault or an overflow.
+/// The bytes of replies in order, and whether none of them is a fault or an overflow. After want of memory both are as before.
 #[derive(Drop)]
 pub struct Replies {
     alloc: Global,
@@ -38,33 +38,35 @@ impl Replies {
 
     /// Adds the lines of an answer.
     pub fn add_answer(&mut self, text: &Text) -> Result<(), Memory>
-        ensures { OnOk result (self.new ≡ with_reply self.old (Answered text.now)) }
+        ensures added { OnOk result (self.new ≡ with_reply self.old (Answered text.now)) }
+        ensures wanting { OnErr result (self.new ≡ self.old) }
     {
         Ok(self.bytes.extend_from_slice(text.bytes())?)
     }
 
     /// Adds the line of a fault.
     pub fn add_fault(&mut self, fault: &Fault) -> Result<(), Memory>
-        ensures { OnOk result (self.new ≡ with_reply self.old (Refused fault.now)) }
+        ensures added { OnOk result (self.new ≡ with_reply self.old (Refused fault.now)) }
+        ensures wanting { OnErr result (self.new ≡ self.old) }
     {
-        let text = print_fault(self.alloc, fault)?;
-        self.add_refusal(text.bytes())
+        self.add_refusal(print_fault(self.alloc, fault)?)
     }
 
     /// Adds the line of an overflow.
     pub fn add_overflow(&mut self, over: &Overflow) -> Result<(), Memory>
-        ensures { OnOk result (self.new ≡ with_reply self.old (Overflows over.now)) }
+        ensures added { OnOk result (self.new ≡ with_reply self.old (Overflows over.now)) }
+        ensures wanting { OnErr result (self.new ≡ self.old) }
     {
-        let text = print_overflow(self.alloc, over)?;
-        self.add_refusal(text.bytes())
+        self.add_refusal(print_overflow(self.alloc, over)?)
     }
 
     // Adds the line of a fault or an overflow, and its line feed.
-    fn add_refusal(&mut self, line: &[u8]) -> Result<(), Memory>
-        ensures { OnOk result (self.new ≡ record { bytes = self.old.bytes ++ (line.now ++ 10 ∷ []); clean = false }) }
+    fn add_refusal(&mut self, mut line: Text) -> Result<(), Memory>
+        ensures added { OnOk result (self.new ≡ record { bytes = self.old.bytes ++ (line ++ 10 ∷ []); clean = false }) }
+        ensures wanting { OnErr result (self.new ≡ self.old) }
     {
-        self.bytes.extend_from_slice(line)?;
-        self.bytes.push(b'\n')?;
+        line.push(b"\n")?;
+        self.bytes.extend_from_slice(line.bytes())?;
         self.clean = false;
         Ok(())
     }

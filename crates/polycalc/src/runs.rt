@@ -1,13 +1,13 @@
 //! A run of the calculator over the lines of a source, as they come.
-ghost use Rattle.std.specs.Prelude.{◌≡◌, ℕ, ◌≤◌, List, [], OnOk};
-ghost use Rattle.std.specs.Io.KnownBytes.{prepend_known};
+ghost use Rattle.std.specs.Prelude.{◌≡◌, ℕ, ◌≤◌, ◌⊎◌, List, [], take, OnOk, OnErr};
+ghost use Rattle.std.specs.Io.KnownBytes.{append_known, prepend_known};
 ghost use Rattle.poly_io.specs.Counts.{HasRisen};
 ghost use Rattle.calc_state.specs.Step.{Reply};
 ghost use Rattle.calc_state.specs.Line.{Step};
 ghost use Rattle.polycalc.specs.Replies.{with_reply};
 ghost use Rattle.polycalc.specs.Runs.{at_end};
 ghost use Rattle.polycalc.specs.Endings.{Closes};
-ghost use Rattle.polycalc.specs.Outcomes.{Outcome};
+ghost use Rattle.polycalc.specs.Outcomes.{Outcome, GivesUp};
 ghost use Rattle.polycalc.specs.declared.job.Job.TheVariants as job;
 
 use crate::replies::Replies;
@@ -29,6 +29,8 @@ pub fn run_lines<S: Source, W: Sink, L: Ledger>(
         × Outcome job.Run given (S.left source.new) (W.held sink.old) (W.held sink.new) result }
     ensures read_fault { result ≡ Status.ReadFault → HasRisen (S.faults source.old) (S.faults source.new) }
     ensures write_fault { result ≡ Status.WriteFault → HasRisen (W.faults sink.old) (W.faults sink.new) }
+    ensures lines_before { result ≡ Status.Memory → ¬ (HasRisen (W.wants sink.old) (W.wants sink.new))
+        → GivesUp job.Run (S.left source.old) (S.left source.new) (W.held sink.old) (W.held sink.new) }
 {
     let Ok(mut reader) = LineReader::new(alloc) else {
         return Status::Memory;
@@ -43,7 +45,7 @@ pub fn run_lines<S: Source, W: Sink, L: Ledger>(
             LineAns::TooLong => return Status::InputTooLong,
         }
         let Ok(()) = reply_to(&mut calc, reader.line(), steps, &mut replies) else {
-            return Status::Memory;
+            return give_up(sink, &replies);
         };
         if !reader.has_line() {
             match write_all(sink, replies.bytes()) {
@@ -61,6 +63,7 @@ fn end_script<W: Sink>(calc: &mut Calc, replies: &mut Replies, sink: &mut W) -> 
     ensures closes { Closes (at_end calc.old) replies.old.clean (W.held sink.old) (W.held sink.new) result }
     ensures no_fewer { W.faults sink.old ≤ W.faults sink.new }
     ensures fault { result ≡ Status.WriteFault → HasRisen (W.faults sink.old) (W.faults sink.new) }
+    ensures untouched { result ≡ Status.Memory → ¬ (HasRisen (W.wants sink.old) (W.wants sink.new)) → W.held sink.new ≡ W.held sink.old }
 {
     let Err(fault) = calc.finish() else {
         return if replies.is_clean() {
@@ -79,14 +82,31 @@ fn end_script<W: Sink>(calc: &mut Calc, replies: &mut Replies, sink: &mut W) -> 
     }
 }
 
-// One line's step, and its reply.
+// The end of a run for want of memory: the replies to the lines before are written.
+fn give_up<W: Sink>(sink: &mut W, replies: &Replies) -> Status
+    ensures status { (result ≡ Status.WriteFault) ⊎ (result ≡ Status.Memory) }
+    ensures partly { (count : ℕ) × (W.held sink.new ≡ append_known (W.held sink.old) (take count replies.now.bytes)) }
+    ensures whole { result ≡ Status.Memory → ¬ (HasRisen (W.wants sink.old) (W.wants sink.new))
+        → W.held sink.new ≡ append_known (W.held sink.old) replies.now.bytes }
+    ensures no_fewer { W.faults sink.old ≤ W.faults sink.new }
+    ensures fault { result ≡ Status.WriteFault → HasRisen (W.faults sink.old) (W.faults sink.new) }
+{
+    let gathered = replies.bytes();
+    match write_all(sink, gathered) {
+        Err(WriteAllErr::Failed) => Status::WriteFault,
+        Ok(()) | Err(WriteAllErr::Memory) => Status::Memory,
+    }
+}
+
+// One line's step, and its reply. After want of memory the replies are as before.
 fn reply_to<L: Ledger>(
     calc: &mut Calc,
     line: &[u8],
     steps: &mut Steps<L>,
     replies: &mut Replies,
 ) -> Result<(), Memory>
-    ensures { OnOk result ((reply : Reply) × Step calc.old line.now reply calc.new × (replies.new ≡ with_reply replies.old reply)) }
+    ensures answered { OnOk result ((reply : Reply) × Step calc.old line.now reply calc.new × (replies.new ≡ with_reply replies.old reply)) }
+    ensures wanting { OnErr result (replies.new ≡ replies.old) }
 {
     match calc.step(line, steps) {
         Ok(text) => replies.add_answer(&text),

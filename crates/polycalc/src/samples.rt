@@ -37,6 +37,7 @@ pub fn write_sample<W: Sink, L: Ledger>(
 ) -> Status
     ensures outcome { (left : Option (List ℕ)) → Outcome (job.Sample n) [] left (W.held sink.old) (W.held sink.new) result }
     ensures write_fault { result ≡ Status.WriteFault → HasRisen (W.faults sink.old) (W.faults sink.new) }
+    ensures untouched { result ≡ Status.Memory → ¬ (HasRisen (W.wants sink.old) (W.wants sink.new)) → W.held sink.new ≡ W.held sink.old }
 {
     let mut replies = Replies::new(alloc);
     let Ok(()) = reply_to(alloc, n, steps, &mut replies) else {

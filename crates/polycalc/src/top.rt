@@ -3,7 +3,7 @@ ghost use Rattle.std.specs.Prelude.{◌≡◌, ◌≢◌, ℕ, ◌+◌, ◌^◌,
 ghost use Rattle.std.specs.Io.KnownBytes.{prepend_known};
 ghost use Rattle.poly_io.specs.Counts.{HasRisen};
 ghost use Rattle.polycalc.specs.Words.{IsAskedBy};
-ghost use Rattle.polycalc.specs.Outcomes.{Outcome, Ends, Stops, IsAnswered, IsSampleAnswered, WritesFront, AnswersRead, AnswersFront};
+ghost use Rattle.polycalc.specs.Outcomes.{Outcome, Ends, Stops, IsAnswered, IsSampleAnswered, WritesFront, AnswersRead, AnswersFront, AnswersBefore, GivesUp};
 ghost use Rattle.polycalc.specs.declared.job.Job.{Job as AnyJob};
 ghost use Rattle.polycalc.specs.declared.job.Job.TheVariants.{Sample};
 
@@ -64,6 +64,10 @@ pub fn polycalc<S: Source, W: Sink, L: Ledger>(
     ensures whole_lines { result ≡ Status.ReadFault → Stops words.now (S.left source.old) (S.left source.new) (W.held sink.old) (W.held sink.new) AnswersRead }
     // Where the script is too long, those that it gave before the last read are.
     ensures earlier_lines { result ≡ Status.InputTooLong → Stops words.now (S.left source.old) (S.left source.new) (W.held sink.old) (W.held sink.new) AnswersFront }
+    // Where memory was wanted elsewhere than at the sink, the lines before are answered, each with its whole reply; of a file
+    // and of a sample nothing is written.
+    ensures lines_before { result ≡ Status.Memory → ¬ (HasRisen (W.wants sink.old) (W.wants sink.new))
+        → Stops words.now (S.left source.old) (S.left source.new) (W.held sink.old) (W.held sink.new) AnswersBefore }
     // A front of the replies is written, whatever else went wrong.
     ensures partly { (result ≡ Status.WriteFault) ⊎ (result ≡ Status.Memory) ⊎ (result ≡ Status.InputTooLong)
         → Stops words.now (S.left source.old) (S.left source.new) (W.held sink.old) (W.held sink.new) WritesFront }
@@ -88,6 +92,8 @@ fn do_job<S: Source, W: Sink, L: Ledger>(
     ensures read_fault { result ≡ Status.ReadFault → HasRisen (S.faults source.old) (S.faults source.new) }
     ensures unread { (n : ℕ) → job ≡ Sample n → source.new ≡ source.old }
     ensures write_fault { result ≡ Status.WriteFault → HasRisen (W.faults sink.old) (W.faults sink.new) }
+    ensures lines_before { result ≡ Status.Memory → ¬ (HasRisen (W.wants sink.old) (W.wants sink.new))
+        → GivesUp job (S.left source.old) (S.left source.new) (W.held sink.old) (W.held sink.new) }
 {
     match job {
         Job::Run => run_lines(alloc, source, sink, steps),

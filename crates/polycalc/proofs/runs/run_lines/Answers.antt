@@ -1,4 +1,4 @@
-use Rattle.std.proofs.Common.{◌≡◌, ℕ, List, ◌++◌, [], take, true, false, ap, sym, refl, subst, ◌∙◌, arith, inl, inr}
+use Rattle.std.proofs.Common.{◌≡◌, ℕ, List, ◌++◌, [], take, true, false, ap, sym, refl, subst, ◌∙◌, arith, inl, inr, Err}
 use Rattle.std.specs.Prelude.{Contains}
 use Rattle.poly_io.specs.Cut.{LacksFeed}
 use Rattle.std.specs.Io.KnownBytes.{append_known, prepend_known}
@@ -9,8 +9,10 @@ use Rattle.poly_io.proofs.Known.{prepend_known-then, prepend_known-nil}
 use Rattle.calc_state.specs.Line.{Step}
 use Rattle.calc_state.specs.State.{State}
 use Rattle.polycalc.specs.Replies.{Written, written}
-use Rattle.polycalc.proofs.StreamLaws.{Goes, start_reading, goes_start, goes_line, goes_written, front_of_goes, goes_end, written_at_end, ends_script, goes_failed, goes_too_long, goes_earlier, goes_unanswered, nothing_streamed, few_taken, size_given, match_true}
+use Rattle.polycalc.proofs.StreamLaws.{Goes, start_reading, goes_start, goes_line, goes_written, front_of_goes, goes_end, written_at_end, ends_script, goes_failed, goes_too_long, goes_earlier, goes_unanswered, goes_before, ended_before, none_before, nothing_streamed, few_taken, size_given, match_true, risen_since}
 use Rattle.polycalc.specs.Runs.{at_end}
+use Rattle.polycalc.specs.Outcomes.{AnswersFirst}
+use Rattle.polycalc.specs.declared.status.Status.TheVariants.{ReadFault, WriteFault, Memory}
 use Rattle.polycalc.proofs.EndLaws.{never_unread}
 use Rattle.polycalc.proofs.runs.run_lines.Goals as goal
 
@@ -33,6 +35,7 @@ loop-calc-init g c =
       omega arith,
       omega arith,
       omega (arith, ap (λ (r : Reading). r.taken) fresh),
+      omega arith,
     )
 
 pub end_script-requires : goal.end_script-requires
@@ -102,13 +105,13 @@ returns-in_default-reply_to-clause-outcome g c =
     let left = g.S.Source.left in
     let held = g.W.Sink.held in
     let few = few_taken (Line ≡ TooLong) c.next.new.self.taken e.too_long (λ (i : Line ≡ TooLong). cc) in
-    let size = size_given h.0 a.0 c.loop-calc.reader c.next.new.self h.2.size a.2 in (
+    let size = size_given h.0 a.0 c.loop-calc.reader c.next.new.self h.2.size a.2 in
+    let p = c.give_up.ensures.partly in
+    let same : c.reply_to.new.replies ≡ c.loop-calc.replies = c.in_default-reply_to.ensures.wanting in (
       h.0 ++ a.0,
       prepend_known-then h.0 a.0 (left c.args.source.now) (left c.loop-calc.source) (left c.next.new.source) h.1 a.1,
-      (
-        omega (arith, few, size),
-        goes_unanswered h.0 a.0 (held c.args.sink.now) (held c.loop-calc.sink) c.loop-calc.calc c.loop-calc.reader c.next.new.self c.loop-calc.replies h.2 a.2 e.still a.3,
-      ),
+      goes_unanswered h.0 a.0 (left c.next.new.source) (held c.args.sink.now) (held c.loop-calc.sink) (held c.give_up.new.sink) c.loop-calc.calc c.loop-calc.reader c.next.new.self c.loop-calc.replies p.0 c.give_up.result
+          (omega (arith, few, size)) h.2 a.2 e.still a.3 (p.1 ∙ ap (λ (w : Written). append_known (held c.loop-calc.sink) (take p.0 w.bytes)) same) c.give_up.ensures.status,
     )
 
 pub loop-calc-preserved-in-Ok-write_all : goal.loop-calc-preserved-in-Ok-write_all
@@ -119,7 +122,7 @@ loop-calc-preserved-in-Ok-write_all g c =
     let left = g.S.Source.left in
     let held = g.W.Sink.held in
     let new = c.next.new.self in
-    let s = c.in-Ok-reply_to.ensures in
+    let s = c.in-Ok-reply_to.ensures.answered in
     let few = few_taken (Line ≡ TooLong) new.taken e.too_long (λ (i : Line ≡ TooLong). cc) in
     let size = size_given h.0 a.0 c.loop-calc.reader new h.2.size a.2 in
     let step : Step c.loop-calc.calc new.line s.0 c.reply_to.new.calc = subst (λ (x : List ℕ). Step c.loop-calc.calc x s.0 c.reply_to.new.calc) c.line.ensures s.1 in
@@ -137,6 +140,7 @@ loop-calc-preserved-in-Ok-write_all g c =
       omega (arith, h.5, e.counted),
       omega (arith, h.6, c.write_all.ensures.counted),
       few,
+      omega (arith, h.8, c.write_all.ensures.wants_counted),
     )
 
 pub returns-in-Err-Failed-clause-outcome : goal.returns-in-Err-Failed-clause-outcome
@@ -147,7 +151,7 @@ returns-in-Err-Failed-clause-outcome g c =
     let left = g.S.Source.left in
     let held = g.W.Sink.held in
     let new = c.next.new.self in
-    let s = c.in-Ok-reply_to.ensures in
+    let s = c.in-Ok-reply_to.ensures.answered in
     let few = few_taken (Line ≡ TooLong) new.taken e.too_long (λ (i : Line ≡ TooLong). cc) in
     let size = size_given h.0 a.0 c.loop-calc.reader new h.2.size a.2 in
     let step : Step c.loop-calc.calc new.line s.0 c.reply_to.new.calc = subst (λ (x : List ℕ). Step c.loop-calc.calc x s.0 c.reply_to.new.calc) c.line.ensures s.1 in
@@ -173,7 +177,7 @@ returns-in-Err-Memory-clause-outcome g c =
     let left = g.S.Source.left in
     let held = g.W.Sink.held in
     let new = c.next.new.self in
-    let s = c.in-Ok-reply_to.ensures in
+    let s = c.in-Ok-reply_to.ensures.answered in
     let few = few_taken (Line ≡ TooLong) new.taken e.too_long (λ (i : Line ≡ TooLong). cc) in
     let size = size_given h.0 a.0 c.loop-calc.reader new h.2.size a.2 in
     let step : Step c.loop-calc.calc new.line s.0 c.reply_to.new.calc = subst (λ (x : List ℕ). Step c.loop-calc.calc x s.0 c.reply_to.new.calc) c.line.ensures s.1 in
@@ -199,7 +203,7 @@ loop-calc-preserved g c =
     let left = g.S.Source.left in
     let held = g.W.Sink.held in
     let new = c.next.new.self in
-    let s = c.in-Ok-reply_to.ensures in
+    let s = c.in-Ok-reply_to.ensures.answered in
     let few = few_taken (Line ≡ TooLong) new.taken e.too_long (λ (i : Line ≡ TooLong). cc) in
     let size = size_given h.0 a.0 c.loop-calc.reader new h.2.size a.2 in
     let step : Step c.loop-calc.calc new.line s.0 c.reply_to.new.calc = subst (λ (x : List ℕ). Step c.loop-calc.calc x s.0 c.reply_to.new.calc) c.line.ensures s.1 in
@@ -215,8 +219,56 @@ loop-calc-preserved g c =
       omega (arith, h.5, e.counted),
       h.6,
       few,
+      h.8,
     )
 
 pub returns-in-End-clause-read_fault : goal.returns-in-End-clause-read_fault
 returns-in-End-clause-read_fault g c =
     λ e. absurd (never_unread (at_end c.loop-calc.calc) c.loop-calc.replies.clean (g.W.Sink.held c.loop-calc.sink) (g.W.Sink.held c.end_script.new.sink) c.end_script.result c.end_script.ensures.closes e)
+
+pub returns-in_default-reply_to-clause-read_fault : goal.returns-in_default-reply_to-clause-read_fault
+returns-in_default-reply_to-clause-read_fault g c =
+    λ e. elim c.give_up.ensures.status [
+      | inl x ↦ (let no : WriteFault ≡ ReadFault = sym x ∙ e in cc)
+      | inr y ↦ (let no : Memory ≡ ReadFault = sym y ∙ e in cc)
+    ]
+
+pub returns-in_default-clause-lines_before : goal.returns-in_default-clause-lines_before
+returns-in_default-clause-lines_before g c = λ memory calm. ([], sym (prepend_known-nil (g.S.Source.left c.args.source.now)), none_before (g.W.Sink.held c.args.sink.now))
+
+pub returns-in-End-clause-lines_before : goal.returns-in-End-clause-lines_before
+returns-in-End-clause-lines_before g c = λ memory calm.
+    let h = c.loop-calc.invariant in
+    let e = c.in-End.ensures in
+    let a = e.given in
+    let left = g.S.Source.left in
+    let held = g.W.Sink.held in
+    let wants = g.W.Sink.wants in
+    let same = c.end_script.ensures.untouched memory (λ r. calm (risen_since (wants c.args.sink.now) (wants c.loop-calc.sink) (wants c.end_script.new.sink) h.8 r)) in (
+      h.0 ++ a.0,
+      prepend_known-then h.0 a.0 (left c.args.source.now) (left c.loop-calc.source) (left c.next.new.source) h.1 a.1,
+      subst (λ later. AnswersFirst (h.0 ++ a.0) (held c.args.sink.now) later) (sym same)
+          (ended_before (h.0 ++ a.0) (held c.args.sink.now) (held c.loop-calc.sink) c.loop-calc.calc c.loop-calc.replies
+          (goes_end h.0 a.0 (held c.args.sink.now) (held c.loop-calc.sink) c.loop-calc.calc c.loop-calc.reader c.next.new.self c.loop-calc.replies h.2 h.3 a.2 e.still a.3)),
+    )
+
+pub returns-in_default-reply_to-clause-lines_before : goal.returns-in_default-reply_to-clause-lines_before
+returns-in_default-reply_to-clause-lines_before g c = λ memory calm.
+    let h = c.loop-calc.invariant in
+    let e = c.in-Line.ensures in
+    let a = e.given in
+    let left = g.S.Source.left in
+    let held = g.W.Sink.held in
+    let wants = g.W.Sink.wants in
+    let same : c.reply_to.new.replies ≡ c.loop-calc.replies = c.in_default-reply_to.ensures.wanting in
+    let whole = c.give_up.ensures.whole memory (λ r. calm (risen_since (wants c.args.sink.now) (wants c.loop-calc.sink) (wants c.give_up.new.sink) h.8 r)) in (
+      h.0 ++ a.0,
+      prepend_known-then h.0 a.0 (left c.args.source.now) (left c.loop-calc.source) (left c.next.new.source) h.1 a.1,
+      goes_before h.0 a.0 (held c.args.sink.now) (held c.loop-calc.sink) (held c.give_up.new.sink) c.loop-calc.calc c.loop-calc.reader c.next.new.self c.loop-calc.replies
+          h.2 a.2 e.still a.3 (whole ∙ ap (λ (w : Written). append_known (held c.loop-calc.sink) w.bytes) same),
+    )
+
+pub returns-in-Err-Memory-clause-lines_before : goal.returns-in-Err-Memory-clause-lines_before
+returns-in-Err-Memory-clause-lines_before g c = λ memory calm.
+    let wants = g.W.Sink.wants in
+    absurd (calm (risen_since (wants c.args.sink.now) (wants c.loop-calc.sink) (wants c.write_all.new.sink) c.loop-calc.invariant.8 (c.in-Err-Memory.ensures.memory_by_want (ap Err c.in-Err-Memory.field-0-is))))

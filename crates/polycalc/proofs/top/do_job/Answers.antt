@@ -1,7 +1,8 @@
 use Rattle.std.proofs.Common.{[], sym, subst}
 use Rattle.poly_io.proofs.Known.{prepend_known-nil}
-use Rattle.polycalc.specs.Outcomes.{Outcome}
+use Rattle.polycalc.specs.Outcomes.{Outcome, GivesUp}
 use Rattle.polycalc.specs.declared.job.Job.{Job}
+use Rattle.polycalc.specs.declared.job.Job.TheVariants as job
 use Rattle.polycalc.proofs.JobLaws.{never_reads}
 use Rattle.polycalc.proofs.top.do_job.Goals as goal
 
@@ -19,3 +20,24 @@ returns-in-Sample-clause-read_fault g c = λ e.
     let left = g.S.Source.left c.args.source.now in
     let held = g.W.Sink.held in
     absurd (never_reads c.in-Sample.n [] left (held c.args.sink.now) (held c.write_sample.new.sink) c.write_sample.result (c.write_sample.ensures.outcome left) e)
+
+pub returns-in-Run-clause-lines_before : goal.returns-in-Run-clause-lines_before
+returns-in-Run-clause-lines_before g c = λ memory calm.
+    let left = g.S.Source.left in
+    let held = g.W.Sink.held in
+    subst (λ (task : Job). GivesUp task (left c.args.source.now) (left c.run_lines.new.source) (held c.args.sink.now) (held c.run_lines.new.sink)) (sym c.in-Run.is) (c.run_lines.ensures.lines_before memory calm)
+
+pub returns-in-Convert-clause-lines_before : goal.returns-in-Convert-clause-lines_before
+returns-in-Convert-clause-lines_before g c = λ memory calm.
+    let o = c.convert_file.ensures.outcome in
+    let left = g.S.Source.left in
+    let held = g.W.Sink.held in
+    subst (λ (task : Job). GivesUp task (left c.args.source.now) (left c.convert_file.new.source) (held c.args.sink.now) (held c.convert_file.new.sink)) (sym c.in-Convert.is)
+    (o.0, o.1, c.convert_file.ensures.untouched memory calm)
+
+pub returns-in-Sample-clause-lines_before : goal.returns-in-Sample-clause-lines_before
+returns-in-Sample-clause-lines_before g c = λ memory calm.
+    let left = g.S.Source.left in
+    let held = g.W.Sink.held in
+    subst (λ (task : Job). GivesUp task (left c.args.source.now) (left c.args.source.now) (held c.args.sink.now) (held c.write_sample.new.sink)) (sym c.in-Sample.is)
+    ([], sym (prepend_known-nil (left c.args.source.now)), c.write_sample.ensures.untouched memory calm)

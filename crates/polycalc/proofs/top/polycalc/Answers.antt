@@ -51,6 +51,11 @@ returns-in-Some-clause-earlier_lines g c =
     let o = c.do_job.ensures.outcome in
     when_too_long c.args.words.now c.in-Some.job o.0 (g.S.Source.left c.args.source.now) (g.S.Source.left c.do_job.new.source) (g.W.Sink.held c.args.sink.now) (g.W.Sink.held c.do_job.new.sink) c.do_job.result c.in-Some.ensures o.1 o.2
 
+pub returns-in-Some-clause-lines_before : goal.returns-in-Some-clause-lines_before
+returns-in-Some-clause-lines_before g c = λ memory calm.
+    let p = c.do_job.ensures.lines_before memory calm in
+    record { job = c.in-Some.job; asked = c.in-Some.ensures; given = p.0; gave = p.1; writes = p.2 }
+
 pub returns-in-Some-clause-partly : goal.returns-in-Some-clause-partly
 returns-in-Some-clause-partly g c =
     let o = c.do_job.ensures.outcome in
