@@ -1,5 +1,5 @@
 //! A list of constraints over one dimension.
-ghost use Rattle.std.specs.Prelude.{◌≡◌, ◌+◌, ◌-◌, ◌^◌, ◌<◌, ◌==◌, ◌↔◌, [], ◌++◌, length, MatchResult, IfOk, IsTrue, Err};
+ghost use Rattle.std.specs.Prelude.{◌≡◌, ◌+◌, ◌-◌, ◌^◌, ◌<◌, ◌==◌, ◌↔◌, [], ◌∷◌, ◌++◌, length, MatchResult, IfOk, IsTrue, Err};
 ghost use Rattle.row_core.specs.Range.{AllInRange};
 ghost use Rattle.row_core.specs.Content.{IsPrimitive};
 ghost use Rattle.row_core.specs.Points.{IsPoint};
@@ -46,6 +46,16 @@ impl ConsSys {
         }
     }
 
+    /// Returns the empty list of constraints over `dim` variables, with room for some of them.
+    pub fn with_room(alloc: Global, dim: usize, constraints: usize) -> Result<ConsSys, Memory>
+        requires { dim < 2 ^ 32 - 2 }
+        ensures dim { IfOk result (λ system. system.dim ≡ dim) }
+        ensures empty { IfOk result (λ system. system.list ≡ []) }
+    {
+        let rows = MarkedRows::with_room(alloc, dim + 1, constraints)?;
+        Ok(ConsSys { alloc, dim, rows })
+    }
+
     /// Appends a copy of the constraint, its row made primitive. After want of memory the list is as
     /// before.
     pub fn push(&mut self, row: &[i128], kind: ConKind) -> Result<(), Memory>
@@ -55,6 +65,19 @@ impl ConsSys {
         ensures list { MatchResult result (λ _. Gains self.old.list self.new.list row.now kind) (λ _. self.new.list ≡ self.old.list) }
     {
         self.rows.push_primitive(row, kind)?;
+        Ok(())
+    }
+
+    /// Appends a copy of a constraint whose row is primitive already. After want of memory the list is as
+    /// before.
+    pub fn push_primitive(&mut self, row: &[i128], kind: ConKind) -> Result<(), Memory>
+        requires wide { length row.now ≡ self.old.dim + 1 }
+        requires in_range { AllInRange row.now }
+        requires primitive { IsPrimitive row.now }
+        ensures dim { self.new.dim ≡ self.old.dim }
+        ensures list { MatchResult result (λ _. self.new.list ≡ self.old.list ++ (row.now, kind) ∷ []) (λ _. self.new.list ≡ self.old.list) }
+    {
+        self.rows.push_copy(row, kind)?;
         Ok(())
     }
 

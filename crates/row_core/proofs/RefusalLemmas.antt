@@ -1,5 +1,4 @@
 -- Overflows of a kind are those of a wider kind.
-use Rattle.std.specs.Prelude.{⊤}
 use Rattle.row_core.specs.declared.errors.Overflow.{Overflow}
 use Rattle.row_core.specs.declared.errors.ConvErr.{ConvErr}
 use Rattle.row_core.specs.declared.errors.ConvErr.TheVariants as conversion

@@ -180,6 +180,16 @@ impl RowList {
         }
     }
 
+    /// Returns the empty list of that width, with room for some rows.
+    pub fn with_room(alloc: Global, width: usize, rows: usize) -> Result<RowList, Memory>
+        requires { width < 2 ^ 32 }
+        ensures width { IfOk result (λ list. list.width ≡ width) }
+        ensures empty { IfOk result (λ list. list.rows ≡ []) }
+    {
+        let marked = MarkedRows::with_room(alloc, width, rows)?;
+        Ok(RowList { width, marked })
+    }
+
     /// Appends a copy of a row. After want of memory the list is as before.
     pub fn push(&mut self, row: &[i128], eq: bool) -> Result<(), Memory>
         requires wide { length row.now ≡ self.old.width }

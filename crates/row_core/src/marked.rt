@@ -15,7 +15,7 @@ use crate::primitive::make_primitive;
 use std::alloc::{AllocError, Global};
 use std::marker::Model;
 
-/// How many rows the first one makes room for.
+/// How many rows the first one makes room for where none was made before.
 const LEAST_ROWS: usize = 4;
 
 /// Where the cells of a row stand, and its mark.
@@ -55,7 +55,7 @@ fn make_room(cells: &mut Vec<i128>, width: usize) -> Result<(), AllocError>
     ensures len { vec_len cells.new ≡ vec_len cells.old }
     ensures room { OnOk result (vec_len cells.new + width ≤ vec_capacity cells.new) }
 {
-    if cells.is_empty() {
+    if cells.capacity() == 0 {
         return cells.reserve(LEAST_ROWS * width);
     }
     cells.reserve(width)
@@ -117,12 +117,22 @@ impl<M: Copy> MarkedRows<M> {
         }
     }
 
-    /// Appends a row. The first one is taken over without a copy. After want of memory the list is as
-    /// before, and the row is dropped.
+    /// Returns the empty list, with room for some rows of a width.
+    pub fn with_room(alloc: Global, width: usize, rows: usize) -> Result<MarkedRows<M>, Memory>
+        ensures { IfOk result (λ list. list ≡ []) }
+    {
+        let places = rows.checked_mul(width).ok_or(Memory)?;
+        let cells = Vec::with_capacity(alloc, places)?;
+        let spans = Vec::with_capacity(alloc, rows)?;
+        Ok(MarkedRows { cells, spans })
+    }
+
+    /// Appends a row. The first one is taken over without a copy, if no room was made for it. After want
+    /// of memory the list is as before, and the row is dropped.
     pub fn push(&mut self, row: RowBuf, mark: M) -> Result<(), Memory>
         ensures { MatchResult result (λ _. self.new ≡ self.old ++ (row, mark) ∷ []) (λ _. self.new ≡ self.old) }
     {
-        if !self.spans.is_empty() {
+        if self.cells.capacity() > 0 || !self.spans.is_empty() {
             return self.push_copy(row.cells(), mark);
         }
         self.spans.reserve(1)?;
