@@ -1,5 +1,5 @@
 //! A list of generators over one dimension.
-ghost use Rattle.std.specs.Prelude.{◌≡◌, ◌+◌, ◌-◌, ◌^◌, ◌<◌, ◌==◌, ◌↔◌, [], ◌++◌, length, MatchResult, IfOk, Err};
+ghost use Rattle.std.specs.Prelude.{◌≡◌, ◌+◌, ◌-◌, ◌^◌, ◌<◌, ◌==◌, ◌↔◌, [], ◌∷◌, ◌++◌, length, MatchResult, IfOk, Err};
 ghost use Rattle.row_core.specs.Vectors.{cell};
 ghost use Rattle.row_core.specs.Range.{AllInRange};
 ghost use Rattle.gens_sys.specs.Kinds.{HasBadDivisor, IsZeroDirection};
@@ -45,6 +45,16 @@ impl GensSys {
         }
     }
 
+    /// Returns the empty list of generators over `dim` variables, with room for some of them.
+    pub fn with_room(alloc: Global, dim: usize, generators: usize) -> Result<GensSys, Memory>
+        requires { dim < 2 ^ 32 - 2 }
+        ensures dim { IfOk result (λ system. system.dim ≡ dim) }
+        ensures empty { IfOk result (λ system. system.list ≡ []) }
+    {
+        let rows = MarkedRows::with_room(alloc, dim + 1, generators)?;
+        Ok(GensSys { alloc, dim, rows })
+    }
+
     /// Appends a copy of the vector, made primitive.
     ///
     /// # Errors
@@ -62,6 +72,17 @@ impl GensSys {
     {
         self.check(row, kind)?;
         self.store(row, kind)?;
+        Ok(())
+    }
+
+    /// Appends a copy of a vector that is primitive already and fits its kind. After want of memory the
+    /// list is as before.
+    pub fn push_primitive(&mut self, row: &[i128], kind: GenKind) -> Result<(), Memory>
+        requires { IsGenerator self.old.dim (row.now, kind) }
+        ensures dim { self.new.dim ≡ self.old.dim }
+        ensures list { MatchResult result (λ _. self.new.list ≡ self.old.list ++ (row.now, kind) ∷ []) (λ _. self.new.list ≡ self.old.list) }
+    {
+        self.rows.push_copy(row, kind)?;
         Ok(())
     }
 
