@@ -49,4 +49,5 @@ pub mod LikeRays
 pub mod ZeroFaces
 pub mod FactorLemmas
 pub mod VectorLemmas
+pub mod KeyLemmas
 pub mod Rankings

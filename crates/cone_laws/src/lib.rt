@@ -6,6 +6,7 @@ pub mod combination;
 pub mod duality;
 pub mod echelon;
 pub mod extreme_rays;
+mod keys;
 pub mod members;
 pub mod order;
 pub mod steps;
