@@ -24,7 +24,9 @@ fn shared_bits(a: u64, b: u64) -> usize
     (a & b).count_ones() as usize
 }
 
-/// The number of places that are true in both rows.
+/// The number of places that are true in both rows. Where the caller knows how many words a row has, the
+/// loop is compiled for these.
+#[inline(always)]
 pub fn count_and(a: &[u64], b: &[u64]) -> usize
     requires few { count_by (λ i. place a.now i && place b.now i) (range_with_len 0 (length a.now * 64)) < 2 ^ 64 }
     requires second { length b.now ≡ length a.now }

@@ -51,7 +51,7 @@ pub fn and_into(dst: &mut [u64], a: &[u64], b: &[u64])
 }
 
 /// Whether each place that is true in both `a` and `b` is true in `c`, word by word.
-#[inline]
+#[inline(always)]
 fn is_subset_by_words(a: &[u64], b: &[u64], c: &[u64]) -> bool
     requires second { length b.now ≡ length a.now }
     requires third { length c.now ≡ length a.now }
@@ -65,7 +65,9 @@ fn is_subset_by_words(a: &[u64], b: &[u64], c: &[u64]) -> bool
     true
 }
 
-/// Whether each place that is true in both `a` and `b` is true in `c`.
+/// Whether each place that is true in both `a` and `b` is true in `c`. Where the caller knows that rows have
+/// a few words, it is compiled for these.
+#[inline(always)]
 pub fn is_subset_of_and(a: &[u64], b: &[u64], c: &[u64]) -> bool
     requires second { length b.now ≡ length a.now }
     requires third { length c.now ≡ length a.now }
