@@ -4,3 +4,4 @@ pub mod WrittenRows
 pub mod Counting
 pub mod SingleWords
 pub mod CopiedRows
+pub mod NextSharing

@@ -1,9 +1,9 @@
--- Conjunctions of rows of words.
-use Rattle.std.proofs.Common.{◌≡◌, ℕ, suc, zero, ◌+◌, ◌*◌, ◌<◌, bit_and, List, [], ◌∷◌, ◌++◌, length, get_or, take, drop, refl, sym, ap, ◌∙◌, arith, length-drop}
+-- Rows of words, and conjunctions of two.
+use Rattle.std.proofs.Common.{◌≡◌, ℕ, suc, zero, ◌+◌, ◌*◌, ◌-◌, ◌<◌, ◌≤◌, bit_and, List, [], ◌∷◌, ◌++◌, length, get_or, take, drop, refl, sym, ap, ◌∙◌, subst, arith, length-drop}
 use Rattle.std.proofs.lemmas.List.{get_or-drop, get_or_append_left, get_or_default, append_assoc}
 use Rattle.row_core.specs.Flat.{Flat, entries_at, rows_of, IsLaidOut}
 use Rattle.sat_matrix.specs.Words.{and_words}
-use Rattle.row_core.proofs.Flat.{seen_flat, seen, length_row, push_seen}
+use Rattle.row_core.proofs.Flat.{seen_flat, seen, length_row, row_within, push_seen}
 
 pub and_words_step : (k : ℕ) (x y : ℕ) (xs ys : List ℕ) → and_words (take (k + 1) xs) (take (k + 1) ys) ≡ and_words (take k xs) (take k ys) ++ bit_and (get_or xs k 0) (get_or ys k 0) ∷ [] → and_words (take (suc k + 1) (x ∷ xs)) (take (suc k + 1) (y ∷ ys)) ≡ bit_and x y ∷ (and_words (take k xs) (take k ys) ++ bit_and (get_or xs k 0) (get_or ys k 0) ∷ [])
 and_words_step k x y xs ys h =
@@ -43,3 +43,16 @@ push_and_seen w n s len room cells t i j laid wide e in_i in_j =
     push_seen w n s len room cells t (λ _. and_words first second) laid wide e (length-and_words first second (wide_i ∙ sym wide_j) ∙ wide_i) ∙
     ap (λ r. t.rows ++ and_words r second ∷ []) (sym (k.row i below_i)) ∙
     ap (λ r. t.rows ++ and_words (entries_at t.rows i) r ∷ []) (sym (k.row j below_j))
+
+-- ---- row i, where the width is handed over
+pub wide_within : (v w n s len room i : ℕ) (cells : List ℕ) (t : Flat ℕ) → v ≡ t.width → IsLaidOut w n s len room → seen_flat w n s cells ≡ t → i < length t.rows → i * v + v ≤ len
+wide_within v w n s len room i cells t same laid e below =
+    subst (λ (u : ℕ). i * u + u ≤ len) (sym (same ∙ (seen w n s cells t e).width)) (row_within w n s len room i cells t laid e below)
+
+pub wide_row : (v w n s i : ℕ) (cells : List ℕ) (t : Flat ℕ) → v ≡ t.width → seen_flat w n s cells ≡ t → i < length t.rows → take (i * v + v - i * v) (drop (i * v) cells) ≡ entries_at t.rows i
+wide_row v w n s i cells t same e below =
+    let k = seen w n s cells t e in
+    let size : i * v + v - i * v ≡ v = omega arith in
+    ap (λ (m : ℕ). take m (drop (i * v) cells)) size
+    ∙ ap (λ (m : ℕ). take m (drop (i * m) cells)) (same ∙ k.width)
+    ∙ sym (k.row i (omega (arith, k.count, below)))

@@ -2,3 +2,4 @@ pub mod Tables
 pub mod Counts
 pub mod ZeroTables
 pub mod Words
+pub mod Searches

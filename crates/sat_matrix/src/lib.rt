@@ -4,6 +4,7 @@
 #![tactic(auto)]
 
 mod matrix;
+mod searches;
 mod words;
 
 pub use matrix::SatMatrix;

@@ -4,6 +4,7 @@ ghost use Rattle.row_core.specs.Flat.{marked};
 ghost use Rattle.sat_matrix.specs.Tables.{Table, bits_of, bit_at, conjunction, transposed, Covers, HasThird, IsRectangular};
 ghost use Rattle.sat_matrix.specs.Counts.{ones};
 ghost use Rattle.sat_matrix.specs.Words.{bits_in, IsTable};
+ghost use Rattle.sat_matrix.specs.Searches.{IsFirstFrom, Shares};
 
 use crate::words::WordRows;
 use row_core::Memory;
@@ -243,15 +244,20 @@ impl SatMatrix {
         requires second { j < length self.now.rows }
         ensures { IsTrue result ↔ HasThird self.now i j }
     {
-        if self.words.width() == 1 {
-            return self.words.has_third_word(i, j);
-        }
-        for k in 0..self.len() {
-            if k != i && k != j && self.covers(i, j, k) {
-                return true;
-            }
-        }
-        false
+        self.words.has_third_row(i, j)
+    }
+
+    /// The first position from `from` on at which the list names a row that shares at least `least` true places
+    /// with row `i`, or the list's length where there is none.
+    pub fn next_sharing(&self, i: usize, among: &[usize], from: usize, least: usize) -> usize
+        requires row { i < length self.now.rows }
+        requires among { (q : ℕ) → q < length among.now → slice_index_or among.now q 0 < length self.now.rows }
+        requires from { from ≤ length among.now }
+        ensures { IsFirstFrom (Shares self.now.rows i among.now least) from (length among.now) result }
+    {
+        let _columns = self.columns();
+        let _width = self.words.width();
+        self.words.next_sharing(i, among, from, least)
     }
 
     /// Whether row `k` is true wherever rows `i` and `j` both are.

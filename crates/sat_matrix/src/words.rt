@@ -64,8 +64,20 @@ impl WordRows {
         ensures values { result.now ≡ entries_at self.now.rows i }
         ensures wide { length result.now ≡ self.now.width }
     {
-        let start = i * self.width;
-        &self.cells[start..start + self.width]
+        self.row_as_wide(self.width, i)
+    }
+
+    /// Lends row `i`. The width is handed over, so that a loop of a caller that knows it is compiled for it.
+    #[inline(always)]
+    pub fn row_as_wide(&self, width: usize, i: usize) -> &[u64]
+        requires width { width ≡ self.now.width }
+        requires row { i < length self.now.rows }
+        ensures values { result.now ≡ entries_at self.now.rows i }
+        ensures wide { length result.now ≡ self.now.width }
+    {
+        let cells = &self.cells;
+        let start = i * width;
+        &cells[start..start + width]
     }
 
     /// Whether some row other than `i` and `j` has each bit that both have, where each row is one

@@ -1,0 +1,12 @@
+use Rattle.std.proofs.Common.{get_or, arith}
+use Rattle.sat_matrix.proofs.NextSharing.{places_fit, next_seen}
+use Rattle.sat_matrix.proofs.matrix.SatMatrix.next_sharing.Goals as goal
+
+pub next_sharing-requires-clause-few : goal.next_sharing-requires-clause-few
+next_sharing-requires-clause-few c q h =
+    places_fit c.self.inside.columns c.self.inside.words c.args.self.now c.self.invariant c.width-width.ensures.rectangular c.self.view_is c.args.i (get_or c.args.among.now q 0)
+    c.columns-columns.ensures.rectangular (omega (arith, c.columns-columns.ensures.value)) c.requires.row (c.requires.among q h)
+
+pub returns : goal.returns
+returns c =
+    next_seen c.self.inside.columns c.self.inside.words c.args.self.now c.self.invariant c.width-width.ensures.rectangular c.self.view_is c.args.i c.args.least c.args.from c.next_sharing.result c.args.among.now c.requires.row c.requires.among c.next_sharing.ensures
