@@ -13,7 +13,7 @@ pub(crate) fn listed(alloc: Global, vectors: &VectorList, eq: bool) -> Result<Ro
     requires { AreMarked eq vectors.now.rows }
     ensures { IfOk result (λ list. list ≡ vectors.now) }
 {
-    let mut list = RowList::new(alloc, vectors.width());
+    let mut list = RowList::with_room(alloc, vectors.width(), vectors.len())?;
     for index in 0..vectors.len() {
         list.push(vectors.row(index), eq)?;
     }
@@ -25,7 +25,7 @@ fn stored(alloc: Global, list: &RowList, eq: bool) -> Result<VectorList, Memory>
     requires { AreMarked eq list.now.rows }
     ensures { IfOk result (λ vectors. vectors ≡ list.now) }
 {
-    let mut vectors = VectorList::new(alloc, list.width());
+    let mut vectors = VectorList::with_room(alloc, list.width(), list.len())?;
     for index in 0..list.len() {
         vectors.push(list.row(index), eq)?;
     }
