@@ -15,8 +15,8 @@ use Rattle.cone_laws.specs.Steps.{sign, pair_at}
 use Rattle.row_core.proofs.Ring.{zero-mul, mul-zero}
 use Rattle.cone_laws.specs.Combinations.{IsCombined}
 use Rattle.chernikova.specs.Changes.{value_at, AreLowered, AreOthersLowered, with_upward, AreMade, HasMade, IsGrown, IsPairCombined, IsPairAt, is_on, pair_on, index_at, AreRising, AreOn, IsAdjacent, pair_of, IsBefore, IsFoundAt, AreFound, AreAllFound, AreAllCrosses}
-use Rattle.chernikova.specs.declared.ray_step.Side.{Side}
-use Rattle.chernikova.specs.declared.ray_step.Side.TheVariants.{Above, Below}
+use Rattle.chernikova.specs.declared.adjacency.Side.{Side}
+use Rattle.chernikova.specs.declared.adjacency.Side.TheVariants.{Above, Below}
 use Rattle.cone_laws.proofs.FactorLemmas.{magnitude_above, above_zero, not_above, under_zero, not_under}
 use Rattle.chernikova.proofs.VectorLemmas.{row_at-push_before, row_at-push_last, marked_push}
 

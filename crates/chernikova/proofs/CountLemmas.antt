@@ -29,7 +29,7 @@ fewer_both (false ∷ xs) (y ∷ ys) = fewer_both xs ys
 one_more_true : (a b : ℕ) → a ≡ b → 1 + a ≡ 1 + b
 one_more_true a b e = omega arith
 
-both_turned : (xs ys : List Bool) → ones (conjunction xs ys) ≡ ones (conjunction ys xs)
+pub both_turned : (xs ys : List Bool) → ones (conjunction xs ys) ≡ ones (conjunction ys xs)
 both_turned [] [] = refl
 both_turned [] (y ∷ ys) = refl
 both_turned (x ∷ xs) [] = refl
@@ -153,4 +153,4 @@ module _ (width : ℕ) (rows : List Row) (k : ℕ) (lines rays : List (List ℤ)
 pub counts_decide : (width : ℕ) (rows lines : List Row) (k : ℕ) (rays : List (List ℤ)) (table : Table) (least : ℕ) → k ≤ length rows → IsSystem (Upto width rows k) (vectors lines) rays → IsZeroTable rows k rays table → least ≡ width - (length lines + 2) → CountsDecide least table
 counts_decide width rows lines k rays table least fits sys zeros e =
     subst (λ (n : ℕ). CountsDecide n table) (omega (arith, e, length-vectors lines))
-    (record { too_few = too_few width rows k (vectors lines) rays table fits sys zeros; first_more = one_more width rows k (vectors lines) rays table fits sys zeros; second_more = second_more width rows k (vectors lines) rays table fits sys zeros })
+    (record { too_few = too_few width rows k (vectors lines) rays table fits sys zeros; one_more = record { first_more = one_more width rows k (vectors lines) rays table fits sys zeros; second_more = second_more width rows k (vectors lines) rays table fits sys zeros } })

@@ -10,6 +10,7 @@ pub mod NextStates
 pub mod Counts
 pub mod Rankings
 pub mod CountLemmas
+pub mod Apart
 pub mod Prefixes
 pub mod Slack
 pub mod Reordered

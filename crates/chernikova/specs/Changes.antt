@@ -5,8 +5,8 @@ use Rattle.sat_matrix.specs.Tables.{Table, HasThird}
 use Rattle.row_core.specs.Flat.{marked}
 use Rattle.cone_laws.specs.Steps.{sign, pair_at}
 use Rattle.cone_laws.specs.Combinations.{IsCombined}
-use Rattle.chernikova.specs.declared.ray_step.Side.{Side}
-use Rattle.chernikova.specs.declared.ray_step.Side.TheVariants.{Above, Below}
+use Rattle.chernikova.specs.declared.adjacency.Side.{Side}
+use Rattle.chernikova.specs.declared.adjacency.Side.TheVariants.{Above, Below}
 pub use Rattle.cone_laws.specs.MarkedLists.{AreLists}
 
 -- value i

@@ -7,6 +7,7 @@
 //! - [`add_rows`] takes further rows into such a system.
 #![tactic(auto)]
 
+mod adjacency;
 mod beside;
 mod better_order;
 mod cone;

@@ -5,10 +5,11 @@ ghost use Rattle.chernikova.specs.Faults.{IsFaultAt};
 ghost use Rattle.chernikova.specs.Conversion.{IsState, IsOutcome, IsChanged};
 ghost use Rattle.chernikova.specs.Plans.{IsPlan, combinations_of};
 
+use crate::adjacency::{crossings, least_shared};
 use crate::fault::{Fault, Part};
 use crate::line_step::line_step;
 use crate::plan::Plan;
-use crate::ray_step::{crossings, least_shared, ray_step};
+use crate::ray_step::ray_step;
 use crate::scratch::Scratch;
 use crate::system::System;
 use crate::values::{last_crossing, marks, values};

@@ -2,7 +2,7 @@ use Rattle.std.specs.Prelude.{ℕ, List}
 use Rattle.std.proofs.Common.{sym, subst}
 use Rattle.chernikova.specs.Changes.{AreFound}
 use Rattle.chernikova.proofs.ChangeLemmas.{found_none}
-use Rattle.chernikova.proofs.ray_step.pairs_from.Goals as goal
+use Rattle.chernikova.proofs.adjacency.pairs_from.Goals as goal
 
 pub loop-position-init : goal.loop-position-init
 loop-position-init c =

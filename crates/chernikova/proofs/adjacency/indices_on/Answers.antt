@@ -7,8 +7,8 @@ use Rattle.row_core.specs.Range.{InRange}
 use Rattle.cone_laws.proofs.FactorLemmas.{fits}
 use Rattle.chernikova.specs.Changes.{value_at, is_on, AreOn}
 use Rattle.chernikova.proofs.ChangeLemmas.{on_none, on_push, on_pass}
-use Rattle.chernikova.proofs.ray_step.indices_on.Goals as goal
-use Rattle.chernikova.proofs.ray_step.indices_on.Goals.{then-has+in_ok-push, else-has}
+use Rattle.chernikova.proofs.adjacency.indices_on.Goals as goal
+use Rattle.chernikova.proofs.adjacency.indices_on.Goals.{then-has+in_ok-push, else-has}
 
 pub loop-index-init : goal.loop-index-init
 loop-index-init c =

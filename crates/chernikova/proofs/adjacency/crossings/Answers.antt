@@ -1,10 +1,10 @@
 use Rattle.std.specs.Prelude.{ℕ, List, length}
 use Rattle.std.proofs.Common.{sym, subst}
-use Rattle.chernikova.specs.declared.ray_step.Side.{Side}
-use Rattle.chernikova.specs.declared.ray_step.Side.TheVariants.{Above, Below}
+use Rattle.chernikova.specs.declared.adjacency.Side.{Side}
+use Rattle.chernikova.specs.declared.adjacency.Side.TheVariants.{Above, Below}
 use Rattle.chernikova.specs.Changes.{AreOn}
 use Rattle.chernikova.proofs.ChangeLemmas.{crosses_all}
-use Rattle.chernikova.proofs.ray_step.crossings.Goals as goal
+use Rattle.chernikova.proofs.adjacency.crossings.Goals as goal
 
 pub returns : goal.returns
 returns c =
