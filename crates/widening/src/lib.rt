@@ -14,6 +14,7 @@
 mod inequalities;
 mod kept;
 pub mod laws;
+mod least;
 mod runs;
 mod table;
 mod turns;
