@@ -50,7 +50,7 @@ pub(crate) fn kept(alloc: Global, keep: &[bool]) -> Result<Vec<usize>, AllocErro
     ensures kept { IfOk result (λ v. AreKept keep.now v.items (length keep.now)) }
     ensures rising { IfOk result (λ v. Rise v.items) }
 {
-    let mut kept = Vec::new(alloc);
+    let mut kept = Vec::with_capacity(alloc, keep.len())?;
     for index in 0..keep.len() {
         push_if(keep[index], &mut kept, index)?;
     }
@@ -62,7 +62,7 @@ fn with_variables(alloc: Global, dim: usize, rays: &RowList) -> Result<Vec<bool>
     requires { rays.now.width ≡ dim + 2 }
     ensures { IfOk result (λ v. HaveVariables dim rays.now.rows v.items (length rays.now.rows)) }
 {
-    let mut keep = Vec::new(alloc);
+    let mut keep = Vec::with_capacity(alloc, rays.len())?;
     for index in 0..rays.len() {
         keep.push(has_variable(dim, rays.row(index)))?;
     }
@@ -156,7 +156,7 @@ pub(crate) fn constraints_of(
     ensures dim { IfOk result (λ cons. cons.dim ≡ dim) }
     ensures list { IfOk result (λ cons. AreConstraintsOf dim lines.now.rows rays.now.rows order.now cons.list) }
 {
-    let mut cons = ConsSys::new(alloc, dim);
+    let mut cons = ConsSys::with_room(alloc, dim, lines.len().saturating_add(order.len()))?;
     push_con_lines(alloc, dim, &mut cons, lines)?;
     push_con_rays(alloc, dim, &mut cons, rays, order)?;
     Ok(cons)
@@ -300,7 +300,7 @@ pub(crate) fn generators_of(
     ensures dim { IfOk result (λ gens. gens.dim ≡ dim) }
     ensures list { IfOk result (λ gens. AreGeneratorsOf dim lines.now.rows rays.now.rows order.now gens.list) }
 {
-    let mut gens = GensSys::new(alloc, dim);
+    let mut gens = GensSys::with_room(alloc, dim, lines.len().saturating_add(order.len()))?;
     push_gen_lines(alloc, dim, &mut gens, lines)?;
     push_gen_rays(alloc, dim, &mut gens, rays, order)?;
     Ok(gens)

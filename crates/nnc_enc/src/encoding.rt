@@ -118,7 +118,7 @@ pub fn encode_cons(alloc: Global, cons: &ConsSys) -> Result<RowList, Memory>
     ensures rows { IfOk result (λ list. list.rows ≡ encoded_constraints cons.now) }
 {
     let dim = cons.dim();
-    let mut list = RowList::new(alloc, dim + 2);
+    let mut list = RowList::with_room(alloc, dim + 2, cons.len().saturating_add(2))?;
     push_height_row(alloc, &mut list, dim)?;
     push_bound_row(alloc, &mut list, dim)?;
     push_constraints(alloc, &mut list, cons)?;
@@ -131,7 +131,7 @@ pub fn encode_further_cons(alloc: Global, cons: &ConsSys) -> Result<RowList, Mem
     ensures width { IfOk result (λ list. list.width ≡ cons.now.dim + 2) }
     ensures rows { IfOk result (λ list. list.rows ≡ map (encoded_constraint cons.now.dim) cons.now.list) }
 {
-    let mut list = RowList::new(alloc, cons.dim() + 2);
+    let mut list = RowList::with_room(alloc, cons.dim() + 2, cons.len())?;
     push_constraints(alloc, &mut list, cons)?;
     Ok(list)
 }
@@ -166,7 +166,7 @@ pub fn encode_gens(alloc: Global, gens: &GensSys) -> Result<RowList, Memory>
     ensures rows { IfOk result (λ list. list.rows ≡ encoded_generators gens.now.dim gens.now.list) }
 {
     let dim = gens.dim();
-    let mut list = RowList::new(alloc, dim + 2);
+    let mut list = RowList::with_room(alloc, dim + 2, gens.len().saturating_mul(2))?;
     for index in 0..gens.len() {
         push_encoded(alloc, &mut list, dim, gens.row(index), gens.kind(index))?;
     }
