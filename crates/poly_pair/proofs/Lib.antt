@@ -1,5 +1,4 @@
 pub mod RowLemmas
-pub mod GeneratorLemmas
 pub mod CountLemmas
 pub mod FitLemmas
 pub mod UniverseLemmas
