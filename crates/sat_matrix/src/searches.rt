@@ -55,6 +55,7 @@ impl WordRows {
     }
 
     /// Whether some row other than `i` and `j` has each bit that both have.
+    #[inline(never)]
     pub fn has_third_row(&self, i: usize, j: usize) -> bool
         requires first { i < length self.now.rows }
         requires second { j < length self.now.rows }
@@ -80,7 +81,8 @@ impl WordRows {
         let first = self.row_as_wide(width, i);
         let second = self.row_as_wide(width, j);
         for k in 0..self.len() {
-            if k != i && k != j && is_subset_of_and(first, second, self.row_as_wide(width, k)) {
+            let row = self.row_as_wide(width, k);
+            if is_subset_of_and(first, second, row) && k != i && k != j {
                 return true;
             }
         }

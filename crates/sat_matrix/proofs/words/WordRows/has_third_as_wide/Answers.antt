@@ -5,19 +5,19 @@ use Rattle.sat_bits.specs.Places.{IsSubsetOfAnd}
 use Rattle.row_core.specs.Flat.{entries_at}
 use Rattle.sat_matrix.specs.Words.{IsThirdRow}
 use Rattle.sat_matrix.proofs.words.WordRows.has_third_as_wide.Goals as goal
-use Rattle.sat_matrix.proofs.words.WordRows.has_third_as_wide.Goals.{else-k-i-via-then-k-i+then-k-j+else-is_subset_of_and, else-k-i-via-then-k-i+else-k-j, else-k-i-via-else-k-i}
+use Rattle.sat_matrix.proofs.words.WordRows.has_third_as_wide.Goals.{else-is_subset_of_and-via-then-is_subset_of_and+then-k-i+else-k-j, else-is_subset_of_and-via-then-is_subset_of_and+else-k-i, else-is_subset_of_and-via-else-is_subset_of_and}
 
 pub loop-k-preserved : goal.loop-k-preserved
 loop-k-preserved c =
     below_more _ _ c.loop-k.invariant
-    (λ third. elim c.else-k-i.branch [
-      | else-k-i-via-then-k-i+then-k-j+else-is_subset_of_and w ↦
+    (λ third. elim c.else-is_subset_of_and.branch [
+      | else-is_subset_of_and-via-else-is_subset_of_and w ↦
           let P : List ℕ → Type 0 = λ row. IsSubsetOfAnd row (entries_at c.args.self.now.rows c.args.j) (entries_at c.args.self.now.rows c.loop-k.k) in
           let Q : List ℕ → Type 0 = λ row. IsSubsetOfAnd c.row_as_wide-first.result.now row (entries_at c.args.self.now.rows c.loop-k.k) in
           let R : List ℕ → Type 0 = λ row. IsSubsetOfAnd c.row_as_wide-first.result.now c.row_as_wide-second.result.now row in
-          false≢true (subst IsTrue w.if-is_subset_of_and.false (w.is_subset_of_and.ensures.1 (subst R (sym w.row_as_wide.ensures.values) (subst Q (sym c.row_as_wide-second.ensures.values) (subst P (sym c.row_as_wide-first.ensures.values) third.covers)))))
-      | else-k-i-via-then-k-i+else-k-j w ↦ third.not_second (omega (arith, w.if-k-j.false))
-      | else-k-i-via-else-k-i w ↦ third.not_first (omega (arith, w.if-k-i.false))
+          false≢true (subst IsTrue w.if-is_subset_of_and.false (c.is_subset_of_and.ensures.1 (subst R (sym c.row_as_wide-row.ensures.values) (subst Q (sym c.row_as_wide-second.ensures.values) (subst P (sym c.row_as_wide-first.ensures.values) third.covers)))))
+      | else-is_subset_of_and-via-then-is_subset_of_and+then-k-i+else-k-j w ↦ third.not_second (omega (arith, w.if-k-j.false))
+      | else-is_subset_of_and-via-then-is_subset_of_and+else-k-i w ↦ third.not_first (omega (arith, w.if-k-i.false))
     ])
 
 pub returns : goal.returns
