@@ -1,27 +1,31 @@
 //! How many places are true.
-ghost use Rattle.std.specs.Prelude.{◌≡◌, ◌*◌, ◌^◌, ◌<◌, ◌&&◌, length, bit_and};
+ghost use Rattle.std.specs.Prelude.{◌≡◌, ◌*◌, ◌^◌, ◌<◌, ◌&&◌, length};
 ghost use Rattle.std.specs.Int.RustNames.{count_ones};
 ghost use Rattle.std.specs.List.{range_with_len, count_by};
 ghost use Rattle.sat_bits.specs.Places.{place};
 
+/// The number of bits of a word.
+#[inline]
+fn bits(word: u64) -> usize
+    ensures { result ≡ count_ones word }
+{
+    word.count_ones() as usize
+}
+
 /// The number of true places.
+#[inline]
 pub fn count(a: &[u64]) -> usize
     requires { count_by (place a.now) (range_with_len 0 (length a.now * 64)) < 2 ^ 64 }
     ensures { result ≡ count_by (place a.now) (range_with_len 0 (length a.now * 64)) }
 {
+    if a.len() == 1 {
+        return bits(a[0]);
+    }
     let mut total = 0;
     for word in 0..a.len() {
         total += a[word].count_ones() as usize;
     }
     total
-}
-
-/// The number of bits that two words share.
-#[inline]
-fn shared_bits(a: u64, b: u64) -> usize
-    ensures { result ≡ count_ones (bit_and a b) }
-{
-    (a & b).count_ones() as usize
 }
 
 /// The number of places that are true in both rows. Where the caller knows how many words a row has, the
@@ -33,7 +37,7 @@ pub fn count_and(a: &[u64], b: &[u64]) -> usize
     ensures { result ≡ count_by (λ i. place a.now i && place b.now i) (range_with_len 0 (length a.now * 64)) }
 {
     if a.len() == 1 {
-        return shared_bits(a[0], b[0]);
+        return bits(a[0] & b[0]);
     }
     let mut total = 0;
     for word in 0..a.len() {

@@ -11,7 +11,7 @@ returns-then-a-eq1 c =
     let word : ℕ = bit_and (slice_index_or c.args.a.now 0 0) (slice_index_or c.args.b.now 0 0) in
     let more = count_more both 0 word (omega (arith, and_le_l (slice_index_or c.args.a.now 0 0) (slice_index_or c.args.b.now 0 0), (c.type_inv.a 0).fits)) (λ j h. both_in c.args.a.now c.args.b.now 0 j h) in
     let whole : count_by both (range_with_len 0 (length c.args.a.now * 64)) ≡ count_by both (range_with_len 0 64) = ap (λ (n : ℕ). count_by both (range_with_len 0 (n * 64))) c.if-a-eq1.true in
-    omega (arith, c.shared_bits.ensures, whole, more)
+    omega (arith, c.bits.ensures, whole, more)
 
 pub overflow_add-total : goal.overflow_add-total
 overflow_add-total c =
