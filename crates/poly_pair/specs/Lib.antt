@@ -11,5 +11,6 @@ pub mod Refusals
 pub mod Entries
 pub mod Axes
 pub mod Starts
+pub mod Zeros
 pub mod Additions
 pub mod Spanning

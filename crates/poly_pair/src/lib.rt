@@ -24,6 +24,7 @@ mod storing;
 mod storing_generators;
 mod systems;
 mod topology;
+mod zeros;
 
 pub use errors::GenErr;
 pub use lists::{constraint_list, generator_list};
