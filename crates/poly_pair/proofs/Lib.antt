@@ -12,12 +12,11 @@ mod OkLemmas
 mod SimplifiedSystems
 mod UniverseForms
 mod PairLemmas
-mod ZeroMarks
+mod ZeroTables
 mod Divisors
 mod StartSystems
 mod NeededDivisor
 mod Starts
-mod StartDots
 mod Additions
 mod GeneratorRefusals
 pub mod SpanningSystems

@@ -1,4 +1,4 @@
-use Rattle.std.specs.Prelude.{◌≡◌, ℕ, List, [], length, filter, not, drop, ℤ, pos, All}
+use Rattle.std.specs.Prelude.{◌≡◌, ℕ, ◌+◌, List, [], length, filter, not, drop, ℤ, pos, All}
 use Rattle.row_core.specs.Vectors.{dot}
 use Rattle.row_core.specs.Lists.{Row, Pointwise, vectors}
 use Rattle.sat_matrix.specs.Tables.{Table}
@@ -21,6 +21,7 @@ KeepsZeros p table = p.topology ≡ Closed → ¬ (p.gens.list ≡ []) → ArePa
 -- the rows of the table from one on tell on which rows of the list the rays are 0
 pub record TellsFrom (from : ℕ) (list : List Row) (rays : List (List ℤ)) (table : Table) : Type 0 where
   pub columns : table.columns ≡ length list
+  pub many : length table.rows ≡ from + length rays
   pub each : Pointwise (TellsZeros list (length list)) rays (drop from table.rows)
 
 -- each of the vectors is 0 on each row of the list

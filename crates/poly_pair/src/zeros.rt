@@ -1,8 +1,9 @@
 //! Which constraints of a closed set with a point are 0 on which of its generators.
-ghost use Rattle.std.specs.Prelude.{◌≡◌, ◌+◌, ◌++◌, ◌∷◌, [], not, true, List, length, map, drop, replicate, IfOk, OnOk};
+ghost use Rattle.std.specs.Prelude.{◌≡◌, ◌+◌, ◌<◌, ◌≤◌, ◌++◌, ◌∷◌, [], not, true, List, length, map, drop, replicate, IfOk, OnOk, ℤ};
 ghost use Rattle.row_core.specs.Flat.{marked};
-ghost use Rattle.row_core.specs.Lists.{Row, vectors};
+ghost use Rattle.row_core.specs.Lists.{Row, vectors, system_rows};
 ghost use Rattle.chernikova.specs.Changes.{AreLists};
+ghost use Rattle.sat_matrix.specs.Tables.{bits_of};
 ghost use Rattle.sat_matrix.specs.ZeroTables.{IsZeroTable};
 ghost use Rattle.pair_laws.specs.WorkLists.{divisor_row, generator_list};
 ghost use Rattle.pair_laws.specs.StoredForms.{is_divisor_row};
@@ -53,6 +54,22 @@ fn push_rows_of(table: &mut SatMatrix, other: &SatMatrix) -> Result<(), Memory>
     Ok(())
 }
 
+/// Appends a row of another table, that of a ray, where the ray isn't `(0, .., 0, 1)`.
+fn push_kept_row(table: &mut SatMatrix, dim: usize, ray: &[i128], zeros: &SatMatrix, row: usize)
+    requires spare { 0 < table.old.spare }
+    requires wide { length ray.now ≡ dim + 1 }
+    requires columns { zeros.now.columns ≡ table.old.columns }
+    requires row { row < length zeros.now.rows }
+    ensures columns { table.new.columns ≡ table.old.columns }
+    ensures rows { table.new.rows ≡ table.old.rows ++ marked (not (is_divisor_row dim ray.now) ∷ []) (bits_of zeros.now.rows row ∷ []) }
+    ensures spare { table.old.spare ≤ table.new.spare + 1 }
+{
+    if is_divisor(dim, ray) {
+        return;
+    }
+    table.push_row_of(zeros, row);
+}
+
 /// Appends the rows of another table, from one on, of the rays that aren't `(0, .., 0, 1)`.
 fn push_kept_rows(
     table: &mut SatMatrix,
@@ -70,9 +87,7 @@ fn push_kept_rows(
     let _rows = zeros.len();
     table.reserve(rays.len())?;
     for index in 0..rays.len() {
-        if !is_divisor(dim, rays.row(index)) {
-            table.push_row_of(zeros, from + index);
-        }
+        push_kept_row(table, dim, rays.row(index), zeros, from + index);
     }
     Ok(())
 }
@@ -104,7 +119,7 @@ pub(crate) fn turned_zeros(
     lines: usize,
     sat: &SatMatrix,
 ) -> Result<SatMatrix, Memory>
-    ensures { IfOk result (λ turned. (list first rest : List Row) → length first ≡ lines → AreZeroOn list (vectors first) → IsZeroTable list (length list) (vectors rest) sat.now → IsZeroTable (first ++ rest) (length (first ++ rest)) (vectors list) turned) }
+    ensures { IfOk result (λ turned. (list : List Row) (first rest : List (List ℤ)) → length first ≡ lines → AreZeroOn list first → IsZeroTable list (length list) rest sat.now → IsZeroTable (system_rows first rest) (length (system_rows first rest)) (vectors list) turned) }
 {
     let mut whole = SatMatrix::new(alloc, sat.columns());
     push_full_rows(&mut whole, lines)?;
