@@ -11,7 +11,7 @@ use Rattle.sat_bits.proofs.PlaceLemmas.{places_and}
 use Rattle.sat_matrix.proofs.WordRows.{length-and_words}
 use Rattle.row_core.specs.Flat.{Flat, entries_at, HasOneWidth, marked}
 pub use Rattle.row_core.proofs.PointwiseLemmas.{marked-map, all_marked}
-use Rattle.sat_matrix.specs.Tables.{Table, bits_of, bit_at, conjunction, transposed, Covers}
+use Rattle.sat_matrix.specs.Tables.{Table, bits_of, bit_at, conjunction, Covers}
 use Rattle.sat_matrix.specs.Words.{bits_in, and_words, IsPadded, IsTable, IsPlaceSet}
 
 pub length-conjunction : (xs ys : List Bool) → length xs ≡ length ys → length (conjunction xs ys) ≡ length xs
@@ -232,7 +232,3 @@ column_seen columns words new t table e rows none =
     ap (λ (rs : List (List Bool)). make rs new.spare) (rows ∙ longer_rows columns words.rows table.padded)
     ∙ ap (λ (n : ℕ). make (map (λ (row : List Bool). row ++ false ∷ []) (map (bits_in columns) words.rows)) n) none
     ∙ ap with_column e
-
--- ---- columns
-pub transposed_more : (c : ℕ) (rows : List (List Bool)) → transposed (c + 1) rows ≡ transposed c rows ++ map (λ row. get_or row c false) rows ∷ []
-transposed_more c rows = map-range_with_len_more (λ j. map (λ row. get_or row j false) rows) 0 c c (omega arith)

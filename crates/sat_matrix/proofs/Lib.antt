@@ -1,5 +1,6 @@
 pub mod WordRows
 pub mod BitRows
+pub mod Columns
 pub mod WrittenRows
 pub mod Counting
 pub mod SingleWords

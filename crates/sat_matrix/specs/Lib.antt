@@ -1,4 +1,5 @@
 pub mod Tables
+pub mod Columns
 pub mod Counts
 pub mod ZeroTables
 pub mod Words

@@ -1,6 +1,8 @@
 //! The table.
 ghost use Rattle.std.specs.Prelude.{◌≡◌, ℕ, ◌+◌, ◌<◌, ◌≤◌, ◌↔◌, List, [], ◌∷◌, ◌++◌, length, map, max, replicate, Bool, true, false, ◌-◌, slice_set, IsTrue, OnOk, OnErr, IfOk, slice_index_or};
 ghost use Rattle.row_core.specs.Flat.{marked};
+ghost use Rattle.sat_bits.specs.Places.{place};
+ghost use Rattle.sat_matrix.specs.Columns.{IsBitOf, IsColumnMarked};
 ghost use Rattle.sat_matrix.specs.Tables.{Table, bits_of, bit_at, conjunction, transposed, Covers, HasThird, IsRectangular};
 ghost use Rattle.sat_matrix.specs.Counts.{ones};
 ghost use Rattle.sat_matrix.specs.Words.{bits_in, IsTable};
@@ -180,39 +182,37 @@ impl SatMatrix {
     pub fn transpose(&self) -> Result<SatMatrix, Memory>
         ensures { IfOk result (λ turned. turned ≡ record { columns = length self.now.rows; rows = transposed self.now.columns self.now.rows; spare = 0 }) }
     {
-        let mut turned = SatMatrix::new(self.alloc, self.len());
-        turned.reserve(self.columns())?;
-        for column in 0..self.columns() {
-            turned.push_column(self, column);
+        let mut turned = all_false(self.alloc, self.len(), self.columns())?;
+        for row in 0..self.len() {
+            turned.mark_column(row, self.words.row(row));
         }
+        let _columns = turned.columns();
         Ok(turned)
     }
 
-    // Appends a column of another table as a row.
-    fn push_column(&mut self, table: &SatMatrix, column: usize)
-        requires spare { 0 < self.old.spare }
-        requires wide { length table.now.rows ≡ self.old.columns }
-        requires column { column < table.now.columns }
-        ensures columns { self.new.columns ≡ self.old.columns }
-        ensures rows { self.new.rows ≡ self.old.rows ++ map (λ row. slice_index_or row column false) table.now.rows ∷ [] }
-        ensures spare { self.new.spare + 1 ≡ self.old.spare }
+    // Makes the places of a column true at the rows that the true places of a row of words number.
+    fn mark_column(&mut self, column: usize, words: &[u64])
+        requires column { column < self.old.columns }
+        requires within { (i : ℕ) → IsTrue (place words.now i) → i < length self.old.rows }
+        ensures { IsColumnMarked column (λ i. IsTrue (place words.now i)) self.old self.new }
     {
-        let last = self.len();
-        self.push_false();
-        self.copy_column(last, table, column);
+        for index in 0..words.len() {
+            self.mark_word(column, index, words[index]);
+        }
     }
 
-    // Writes a column of another table over a row.
-    fn copy_column(&mut self, last: usize, table: &SatMatrix, column: usize)
-        requires last { last < length self.old.rows }
-        requires wide { length table.now.rows ≡ self.old.columns }
-        requires column { column < table.now.columns }
-        ensures { self.new ≡ record self.old { rows = slice_set self.old.rows last (map (λ row. slice_index_or row column false) table.now.rows) } }
+    // Makes the places of a column true at the rows that the bits of the word at an index number.
+    fn mark_word(&mut self, column: usize, index: usize, word: u64)
+        requires column { column < self.old.columns }
+        requires within { (i : ℕ) → IsBitOf index word i → i < length self.old.rows }
+        ensures { IsColumnMarked column (IsBitOf index word) self.old self.new }
     {
-        let _columns = self.columns();
-        for row in 0..table.len() {
-            let bit = table.get(row, column);
-            self.set(last, row, bit);
+        let (_rows, _columns) = (self.len(), self.columns());
+        let mut rest = word;
+        while rest != 0 {
+            let bit = rest.trailing_zeros();
+            self.set(index * 64 + bit as usize, column, true);
+            rest &= !(1 << bit);
         }
     }
 
@@ -282,4 +282,18 @@ impl Clone for SatMatrix {
             words: self.words.clone()?,
         })
     }
+}
+
+// A table of false.
+fn all_false(alloc: Global, columns: usize, rows: usize) -> Result<SatMatrix, Memory>
+    ensures columns { IfOk result (λ table. table.columns ≡ columns) }
+    ensures rows { IfOk result (λ table. table.rows ≡ replicate rows (replicate columns false)) }
+    ensures spare { IfOk result (λ table. table.spare ≡ 0) }
+{
+    let mut table = SatMatrix::new(alloc, columns);
+    table.reserve(rows)?;
+    for _row in 0..rows {
+        table.push_false();
+    }
+    Ok(table)
 }
