@@ -1,5 +1,5 @@
 //! Texts of bytes.
-ghost use Rattle.std.specs.Prelude.{◌≡◌, ℕ, ◌==◌, nat_eq, List, [], ◌++◌, length, decimal, Decides, MatchResult};
+ghost use Rattle.std.specs.Prelude.{◌≡◌, ℕ, ◌==◌, nat_eq, List, [], ◌∷◌, ◌++◌, length, decimal, Decides, MatchResult};
 ghost use Rattle.std.specs.Cmp;
 ghost use Rattle.std.specs.Cmp.Lexicographic.{pointwise};
 ghost use Rattle.std.proofs.lemmas.Cmp.{nat_list_eq_equiv};
@@ -41,6 +41,15 @@ impl Text {
         Ok(())
     }
 
+    /// Appends a byte. After want of memory the text is as before.
+    #[inline]
+    pub fn push_byte(&mut self, byte: u8) -> Result<(), Memory>
+        ensures { MatchResult result (λ _. self.new ≡ self.old ++ byte ∷ []) (λ _. self.new ≡ self.old) }
+    {
+        self.bytes.push(byte)?;
+        Ok(())
+    }
+
     /// Appends a number in decimal digits. After want of memory the text is as before.
     pub fn push_unsigned(&mut self, number: u64) -> Result<(), Memory>
         ensures { MatchResult result (λ _. self.new ≡ self.old ++ decimal number) (λ _. self.new ≡ self.old) }
@@ -53,7 +62,16 @@ impl Text {
     pub fn push_signed(&mut self, number: i128) -> Result<(), Memory>
         ensures { MatchResult result (λ _. self.new ≡ self.old ++ signed_decimal number) (λ _. self.new ≡ self.old) }
     {
-        self.push(Buffer::new().format(number).as_bytes())
+        let size = number.unsigned_abs();
+        if size >= 10 {
+            return self.push(Buffer::new().format(number).as_bytes());
+        }
+        let digit = b'0' + size as u8;
+        if number < 0 {
+            self.push(&[b'-', digit])
+        } else {
+            self.push_byte(digit)
+        }
     }
 
     /// Lends the bytes.
