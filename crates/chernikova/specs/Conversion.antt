@@ -1,4 +1,4 @@
-use Rattle.std.specs.Prelude.{◌≡◌, ℕ, ◌+◌, ◌^◌, ◌<◌, ◌≤◌, ⊤, Bool, List, length, map, sum, ℤ, pos, slice_index_or}
+use Rattle.std.specs.Prelude.{◌≡◌, ℕ, ◌+◌, ◌^◌, ◌<◌, ◌≤◌, ⊤, Bool, true, false, List, length, map, sum, ℤ, pos, slice_index_or}
 use Rattle.row_core.specs.Vectors.{dot}
 use Rattle.row_core.specs.Lists.{Row, Rows, row_at, is_eq_at, vectors}
 use Rattle.row_core.specs.declared.errors.ConvErr.{ConvErr}
@@ -7,6 +7,7 @@ use Rattle.cone_laws.specs.Cones.{Upto}
 use Rattle.cone_laws.specs.Canon.{vector_at, IsSystem}
 use Rattle.cone_laws.specs.Steps.{stays, IsLineStep}
 use Rattle.cone_laws.specs.SystemLaws.{HasSystemOf}
+use Rattle.cone_laws.specs.UniqueLaws.{AdmitSame}
 use Rattle.cone_laws.specs.Leaves.{Leaves}
 use Rattle.chernikova.specs.declared.system.System.{System}
 use Rattle.chernikova.specs.declared.step.Change.{Change}
@@ -79,3 +80,8 @@ IsCountedBeforeFrom width rows from total Memory = ⊤
 -- of all rows up to that of its step
 abbrev pub IsCountedBefore : ℕ → List Row → ℕ → ConvErr → Type 0
 IsCountedBefore width rows total error = IsCountedBeforeFrom width rows 0 total error
+
+-- whether the first k rows admit other vectors than the first of them up to an index
+abbrev pub TellsChange : ℕ → List Row → ℕ → ℕ → Bool → Type 0
+TellsChange width rows from k true = ¬ (AdmitSame width rows from rows k)
+TellsChange width rows from k false = AdmitSame width rows from rows k

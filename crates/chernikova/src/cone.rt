@@ -26,3 +26,11 @@ impl Clone for Cone {
         })
     }
 }
+
+/// What further rows make of a system: that of all rows, and whether they admit other vectors than the
+/// rows before them.
+#[derive(Debug, Drop)]
+pub struct Added {
+    pub cone: Cone,
+    pub changed: bool,
+}

@@ -1,5 +1,5 @@
 //! The conversion.
-ghost use Rattle.std.specs.Prelude.{◌≡◌, ℕ, ◌+◌, ◌^◌, ◌-◌, ◌<◌, ◌≤◌, List, length, pos, true, IfOk, IfErr, MatchResult, OnOk};
+ghost use Rattle.std.specs.Prelude.{◌≡◌, ℕ, ◌+◌, ◌^◌, ◌-◌, ◌<◌, ◌≤◌, List, length, pos, true, IfOk, IfErr, MatchResult};
 ghost use Rattle.row_core.specs.Lists.{row_at, vectors, AreMarked};
 ghost use Rattle.cone_laws.specs.Cones.{Upto};
 ghost use Rattle.cone_laws.specs.Canon.{Canon, IsSystem};
@@ -8,9 +8,9 @@ ghost use Rattle.cone_laws.specs.SystemLaws.{HasSystemOf};
 ghost use Rattle.row_core.specs.Range.{AllInRange};
 ghost use Rattle.sat_matrix.specs.ZeroTables.{IsZeroTable};
 ghost use Rattle.chernikova.specs.Changes.{AreLists};
-ghost use Rattle.chernikova.specs.Conversion.{IsState, IsAtStep, IsCountedUpto, IsCountedBetween, IsCountedBefore, IsCountedBeforeFrom, IsRealOverflow, IsRealOverflowFrom};
+ghost use Rattle.chernikova.specs.Conversion.{IsState, IsAtStep, IsCountedUpto, IsCountedBetween, IsCountedBefore, IsCountedBeforeFrom, IsRealOverflow, IsRealOverflowFrom, TellsChange};
 
-use crate::cone::Cone;
+use crate::cone::{Added, Cone};
 use crate::lists::reopened;
 use crate::order::sorted;
 use crate::scratch::Scratch;
@@ -121,7 +121,8 @@ pub fn convert<L: Ledger>(
     Ok(sorted(alloc, cone)?)
 }
 
-/// What [`convert`] gives on a list, from the system of its first `from` rows with its table. The rays may
+/// What [`convert`] gives on a list, from the system of its first `from` rows with its table, and whether
+/// the further rows changed it: they didn't where each line and ray of it meets them all. The rays may
 /// stand in any order.
 ///
 /// # Errors
@@ -133,14 +134,15 @@ pub fn add_rows<L: Ledger>(
     rows: &RowList,
     from: usize,
     steps: &mut Steps<L>,
-) -> Result<Cone, ConvErr>
+) -> Result<Added, ConvErr>
     requires from { from ≤ length rows.now.rows }
     requires system { IsSystem (Upto rows.now.width rows.now.rows from) (vectors cone.lines.rows) (vectors cone.rays.rows) }
     requires lists { AreLists rows.now.width cone.lines cone.rays }
     requires sat { IsZeroTable rows.now.rows from (vectors cone.rays.rows) cone.sat }
-    ensures canon { IfOk result (λ cone. Canon (Upto rows.now.width rows.now.rows (length rows.now.rows)) (vectors cone.lines.rows) (vectors cone.rays.rows)) }
-    ensures lists { IfOk result (λ cone. AreLists rows.now.width cone.lines cone.rays) }
-    ensures sat { IfOk result (λ cone. IsZeroTable rows.now.rows (length rows.now.rows) (vectors cone.rays.rows) cone.sat) }
+    ensures canon { IfOk result (λ added. Canon (Upto rows.now.width rows.now.rows (length rows.now.rows)) (vectors added.cone.lines.rows) (vectors added.cone.rays.rows)) }
+    ensures lists { IfOk result (λ added. AreLists rows.now.width added.cone.lines added.cone.rays) }
+    ensures sat { IfOk result (λ added. IsZeroTable rows.now.rows (length rows.now.rows) (vectors added.cone.rays.rows) added.cone.sat) }
+    ensures changed { IfOk result (λ added. TellsChange rows.now.width rows.now.rows from (length rows.now.rows) added.changed) }
     ensures overflow { IfErr result (IsRealOverflowFrom rows.now.width rows.now.rows from) }
     ensures no_fewer { steps.old ≤ steps.new }
     ensures counted { IsCountedBetween rows.now.width rows.now.rows from (length rows.now.rows) (steps.new - steps.old) }
@@ -148,6 +150,7 @@ pub fn add_rows<L: Ledger>(
 {
     let _narrow = rows.width();
     let mut system = reopened(alloc, cone)?;
-    take_rows(alloc, &mut system, rows, from, steps)?;
-    Ok(sorted(alloc, system)?)
+    let changed = take_rows(alloc, &mut system, rows, from, steps)?;
+    let cone = sorted(alloc, system)?;
+    Ok(Added { cone, changed })
 }

@@ -4,7 +4,7 @@
 //!
 //! - [`convert`] takes in one row after another, and [`Cone`] is what it gives.
 //! - [`convert_in_better_order`] gives the same, by whichever of two orders of the rows is done first.
-//! - [`add_rows`] takes further rows into such a system.
+//! - [`add_rows`] takes further rows into such a system; [`Added`] also tells whether they changed it.
 #![tactic(auto)]
 
 mod adjacency;
@@ -28,5 +28,5 @@ mod vectors;
 mod zeros;
 
 pub use better_order::convert_in_better_order;
-pub use cone::Cone;
+pub use cone::{Added, Cone};
 pub use conversion::{add_rows, convert};

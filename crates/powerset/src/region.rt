@@ -244,8 +244,12 @@ impl Region {
         let cons = cons.followed_by(alloc, more.cons())?;
         let from = list.len();
         let list = rows_followed(list, rows)?;
-        let cone = add_rows(alloc, cone, &list, from, steps)?;
-        Ok(Region { cons, list, cone })
+        let added = add_rows(alloc, cone, &list, from, steps)?;
+        Ok(Region {
+            cons,
+            list,
+            cone: added.cone,
+        })
     }
 
     /// A copy.

@@ -18,13 +18,13 @@ add_rows-requires-clause-lists g c = (front_cone c.self.inside.cons c.self.insid
 pub add_rows-requires-clause-sat : goal.add_rows-requires-clause-sat
 add_rows-requires-clause-sat g c = (front_cone c.self.inside.cons c.self.inside.list c.rows-rows.result.now c.in_ok-list.list c.len-from.result c.self.inside.cone c.self.invariant c.in_ok-list.ensures.width c.in_ok-list.ensures.rows c.len-from.ensures).zeros
 
-pub returns-in_err-cone-clause-overflow : goal.returns-in_err-cone-clause-overflow
-returns-in_err-cone-clause-overflow g c =
+pub returns-in_err-added-clause-overflow : goal.returns-in_err-added-clause-overflow
+returns-in_err-added-clause-overflow g c =
     let width : c.in_ok-list.list.width ≡ c.args.self.dim + 2 = c.in_ok-list.ensures.width ∙ c.self.invariant.width ∙ ap (λ (cs : Constraints). cs.dim + 2) c.self.view_is in
     let taken : c.self.inside.list.rows ≡ encoded_constraints c.args.self = c.self.invariant.rows ∙ ap encoded_constraints c.self.view_is in
     let all : c.in_ok-list.list.rows ≡ encoded_constraints (followed c.args.self c.args.more.now) = c.in_ok-list.ensures.rows ∙ joined_list c.args.self c.args.more.now c.self.inside.list.rows c.rows-rows.result.now.rows c.requires taken c.rows-rows.ensures.rows in
-    let known : IsOverflowIn (LeavesOnList (followed c.args.self c.args.more.now)) c.in_err-cone.field-0.0 = list_overflow (followed c.args.self c.args.more.now) c.in_ok-list.list.width c.len-from.result c.in_ok-list.list.rows c.in_err-cone.field-0.0 width all c.in_err-cone.ensures.overflow in
-    search (rules, known, c.from_residual-in_err-cone.ensures)
+    let known : IsOverflowIn (LeavesOnList (followed c.args.self c.args.more.now)) c.in_err-added.field-0.0 = list_overflow (followed c.args.self c.args.more.now) c.in_ok-list.list.width c.len-from.result c.in_ok-list.list.rows c.in_err-added.field-0.0 width all c.in_err-added.ensures.overflow in
+    search (rules, known, c.from_residual-in_err-added.ensures)
 
 pub invariant_of-result : goal.invariant_of-result
 invariant_of-result g c =
@@ -32,8 +32,8 @@ invariant_of-result g c =
     let taken : c.self.inside.list.rows ≡ encoded_constraints c.args.self = c.self.invariant.rows ∙ ap encoded_constraints c.self.view_is in
     let all : c.in_ok-list.list.rows ≡ encoded_constraints (followed c.args.self c.args.more.now) = c.in_ok-list.ensures.rows ∙ joined_list c.args.self c.args.more.now c.self.inside.list.rows c.rows-rows.result.now.rows c.requires taken c.rows-rows.ensures.rows in
     let both : c.in_ok-cons.cons ≡ followed c.args.self c.args.more.now = same_constraints c.in_ok-cons.cons c.args.self.dim (c.args.self.list ++ c.args.more.now.list) (c.in_ok-cons.ensures.dim ∙ ap (λ (cs : Constraints). cs.dim) c.self.view_is) (c.in_ok-cons.ensures.list ∙ ap (λ (cs : Constraints). cs.list ++ c.cons-2.result.now.list) c.self.view_is ∙ ap (λ (cs : Constraints). c.args.self.list ++ cs.list) c.cons-2.ensures) in
-    subst (λ (cs : Constraints). HasListAndCone cs c.in_ok-list.list c.in_ok-cone.cone) (sym both) (record {
+    subst (λ (cs : Constraints). HasListAndCone cs c.in_ok-list.list c.in_ok-added.added.cone) (sym both) (record {
       width = width;
       rows = all;
-      canonical = has_cone (followed c.args.self c.args.more.now) c.in_ok-list.list.width c.in_ok-list.list.rows c.in_ok-cone.cone width all c.in_ok-cone.ensures.canon c.in_ok-cone.ensures.lists c.in_ok-cone.ensures.sat;
+      canonical = has_cone (followed c.args.self c.args.more.now) c.in_ok-list.list.width c.in_ok-list.list.rows c.in_ok-added.added.cone width all c.in_ok-added.ensures.canon c.in_ok-added.ensures.lists c.in_ok-added.ensures.sat;
     })
