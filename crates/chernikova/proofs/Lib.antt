@@ -15,3 +15,5 @@ pub mod Prefixes
 pub mod Slack
 pub mod Reordered
 pub mod PlacedCones
+pub mod Positions
+pub mod Told

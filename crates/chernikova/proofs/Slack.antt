@@ -11,7 +11,7 @@ use Rattle.chernikova.specs.declared.plan.Plan.{Plan}
 use Rattle.chernikova.specs.declared.plan.Plan.TheVariants as plan
 use Rattle.chernikova.specs.Conversion.{IsState, IsCountedBetween, IsCountedUpto}
 use Rattle.chernikova.specs.Plans.{IsPlan, combinations_of}
-use Rattle.chernikova.proofs.Counts.{count_line, count_pairs, counted_more, counted_all}
+use Rattle.chernikova.proofs.Counts.{count_none, count_line, count_pairs, counted_more, counted_all}
 use Rattle.chernikova.proofs.VectorLemmas.{length-vectors}
 
 -- numbers of which none is above the one at its index, with a sum of their own
@@ -55,8 +55,9 @@ counted_less width rows from k total less h below =
 pub plan_counted : (width : ℕ) (rows : List Row) (k : ℕ) (cone : System) (p : Plan) (number : ℕ) → k < length rows → IsState width rows k cone → IsPlan rows k cone p → number ≤ combinations_of cone p → HasSystemOf width rows (k + 1) number
 plan_counted width rows k cone (plan.Line index line_values ray_values) number below state is_plan bound =
     count_line width rows k cone.lines.rows cone.rays.rows _ index number below state.system refl is_plan.crossing (omega (arith, bound, is_plan.crossing.below, length-vectors cone.lines.rows))
+plan_counted width rows k cone (plan.Same values) number below state is_plan bound = count_none width rows k number below (omega (arith, bound))
 plan_counted width rows k cone (plan.Ray values marks pairs) number below state is_plan bound =
-    count_pairs width rows k (vectors cone.lines.rows) (vectors cone.rays.rows) _ values.items cone.sat pairs.items number below state.system state.zeros refl is_plan.are_values is_plan.flat is_plan.crosses bound
+    count_pairs width rows k (vectors cone.lines.rows) (vectors cone.rays.rows) _ values.items cone.sat pairs.items number below state.system state.zeros refl is_plan.cutting.0.are_values is_plan.cutting.0.flat is_plan.crosses bound
 
 -- what is left of the vectors of the next system may be counted on top
 pub spared_counted : (width : ℕ) (rows : List Row) (k : ℕ) (cone : System) (number made spared : ℕ) → IsState width rows k cone → HasSystemOf width rows k number → number ≤ made → spared ≡ length cone.lines.rows + length cone.rays.rows - made → HasSystemOf width rows k (number + spared)

@@ -14,6 +14,7 @@ use Rattle.chernikova.specs.declared.step.Change.{Change}
 use Rattle.chernikova.specs.declared.step.Change.TheVariants as change
 use Rattle.sat_matrix.specs.ZeroTables.{IsZeroTable}
 use Rattle.chernikova.specs.Systems.{values_on}
+use Rattle.chernikova.specs.Plans.{IsMet}
 use Rattle.chernikova.specs.Changes.{AreLists, AreAllCrosses, IsRayChange}
 
 -- the lines and rays are the system of the first k rows, and the table tells the rows on which each ray is 0
@@ -40,6 +41,7 @@ pub record IsRayOutcome (width : ℕ) (row : Row) (cone : System) (rays : Rows) 
 -- what a step with the row makes of a system, and the system that it leaves: the same, or that with the next rays
 abbrev pub IsOutcome : ℕ → Row → System → System → Change → Type 0
 IsOutcome width row cone left (change.Line lines rays) = (left ≡ cone) × IsLineOutcome width row cone lines rays
+IsOutcome width row cone left (change.Same values) = (left ≡ cone) × IsMet row cone values.items
 IsOutcome width row cone left (change.Ray values marks pairs) = (left ≡ record cone { rays = left.rays }) × IsRayOutcome width row cone left.rays values.items marks.items pairs.items
 
 -- what a step with row k makes of the system of the rows before it, and the system that it leaves

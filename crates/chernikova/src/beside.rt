@@ -8,21 +8,26 @@ use crate::conversion::start;
 use crate::row_order::{is_as_listed, places, reordered, sorted_order};
 use crate::scratch::Scratch;
 use crate::system::System;
-use crate::taking::take_row_within;
+use crate::taking::{Outcome, take_row_within};
 use crate::vectors::VectorList;
 use row_core::{Memory, RowList, Steps};
 use sat_matrix::SatMatrix;
 use std::alloc::Global;
 use std::sync::ledger::Ledger;
 
-/// How many pairs the conversion in the list's order tests before the other begins.
-const PAIRS_BEFORE: u64 = 20_000;
+/// How many looks at rays the conversion in the list's order is expected to take before the other begins.
+const LOOKS_BEFORE: u64 = 20_000;
 
-/// Of how many pairs of the conversion in the list's order the other tests one.
-const SHARE: u64 = 16;
+/// For how many looks of the conversion in the list's order the other has one.
+const SHARE: u64 = 24;
+
+/// The same where the other took in more rows.
+const SHARE_AHEAD: u64 = 2;
 
 /// A conversion in sorted order: its rows, the place among them of each row of the list, and the system
-/// of those that were taken in. It has begun or not, and runs until an overflow ends it.
+/// of those that were taken in. It has begun or not, and runs until an overflow ends it. The search for the
+/// pairs of the rows so far was expected to look at `looked` rays, and that of the next row at `awaited`; the
+/// next row asks for `needed` combinations.
 #[derive(Drop)]
 pub(crate) struct Beside {
     begun: bool,
@@ -32,6 +37,8 @@ pub(crate) struct Beside {
     pub(crate) system: System,
     scratch: Scratch,
     taken: usize,
+    looked: u64,
+    awaited: u64,
     needed: u128,
 }
 
@@ -53,6 +60,8 @@ impl Beside {
             system,
             scratch: Scratch::new(alloc),
             taken: 0,
+            looked: 0,
+            awaited: 0,
             needed: 0,
         }
     }
@@ -83,16 +92,18 @@ impl Beside {
             system,
             scratch: Scratch::new(alloc),
             taken: 0,
+            looked: 0,
+            awaited: 0,
             needed: 0,
         })
     }
 
-    // Begins where the conversion in the list's order has tested enough pairs, if there is memory for it.
-    fn begin(&mut self, alloc: Global, list: &RowList, tested: u64)
+    // Begins where the conversion in the list's order looks at enough rays, if there is memory for it.
+    fn begin(&mut self, alloc: Global, list: &RowList, looks: u64)
         requires { IsBeside list.now.width list.now.rows self.old }
         ensures { IsBeside list.now.width list.now.rows self.new }
     {
-        if self.begun || tested < PAIRS_BEFORE {
+        if self.begun || looks < LOOKS_BEFORE {
             return;
         }
         match Beside::started(alloc, list) {
@@ -101,19 +112,35 @@ impl Beside {
         }
     }
 
-    // Whether it is to take in a row, beside a conversion that tested so many pairs and took in so many rows.
-    fn has_turn(&self, tested: u64, taken: usize, slack: u128) -> bool
-        ensures { IsTrue result → (self.now.running ≡ true) × (self.now.taken < length self.now.rows.rows) }
-    {
-        let has_share = self.scratch.tested.saturating_mul(SHARE) < tested;
-        self.running
-            && self.taken < self.rows.len()
-            && self.needed <= slack
-            && (has_share || self.taken > taken)
+    // How many more looks it may take, beside a conversion that takes so many and took in so many rows.
+    fn looks_left(&self, looks: u64, taken: usize) -> u64 {
+        let share = if self.taken > taken {
+            SHARE_AHEAD
+        } else {
+            SHARE
+        };
+        (looks / share).saturating_sub(self.looked)
     }
 
-    // Takes in a row where the slack allows its combinations. An overflow or want of memory ends it.
-    fn advance<L: Ledger>(&mut self, alloc: Global, slack: &mut u128, steps: &mut Steps<L>)
+    // Whether it is to take in a row within so many looks.
+    fn has_turn(&self, looks_left: u64, slack: u128) -> bool
+        ensures { IsTrue result → (self.now.running ≡ true) × (self.now.taken < length self.now.rows.rows) }
+    {
+        self.running
+            && self.taken < self.rows.len()
+            && self.awaited < looks_left
+            && self.needed <= slack
+    }
+
+    // Takes in a row within so many looks, where the slack allows its combinations. An overflow or want of
+    // memory ends it.
+    fn advance<L: Ledger>(
+        &mut self,
+        alloc: Global,
+        looks_left: u64,
+        slack: &mut u128,
+        steps: &mut Steps<L>,
+    )
         requires row { self.old.taken < length self.old.rows.rows }
         requires state { IsState self.old.rows.width self.old.rows.rows self.old.taken self.old.system }
         ensures beside { (width : ℕ) (rows : List Row) → IsRunning width rows self.old → IsBeside width rows self.new }
@@ -124,21 +151,29 @@ impl Beside {
         let _count = self.rows.len();
         let scratch = &mut self.scratch;
         let system = &mut self.system;
-        let needed = match take_row_within(alloc, scratch, system, &self.rows, row, slack, steps) {
-            Ok(needed) => needed,
+        let rows = &self.rows;
+        let taken = take_row_within(alloc, scratch, system, rows, row, looks_left, slack, steps);
+        let outcome = match taken {
+            Ok(outcome) => outcome,
             Err(_) => {
                 self.running = false;
                 return;
             }
         };
-        match needed {
-            Some(number) => {
-                self.needed = number;
+        let looks = match outcome {
+            Outcome::Taken { looks } => looks,
+            Outcome::Dear { looks } => {
+                self.awaited = looks;
                 return;
             }
-            None => {}
-        }
+            Outcome::Many { combinations } => {
+                self.needed = combinations;
+                return;
+            }
+        };
         self.taken = row + 1;
+        self.looked = self.looked.saturating_add(looks);
+        self.awaited = 0;
         self.needed = 0;
     }
 
@@ -147,7 +182,7 @@ impl Beside {
         &mut self,
         alloc: Global,
         list: &RowList,
-        tested: u64,
+        looks: u64,
         taken: usize,
         slack: &mut u128,
         steps: &mut Steps<L>,
@@ -158,20 +193,21 @@ impl Beside {
         ensures within { steps.new + slack.new ≤ steps.old + slack.old }
     {
         for _turn in 0..list.len() {
-            if !self.has_turn(tested, taken, *slack) {
+            let looks_left = self.looks_left(looks, taken);
+            if !self.has_turn(looks_left, *slack) {
                 return;
             }
-            self.advance(alloc, slack, steps);
+            self.advance(alloc, looks_left, slack, steps);
         }
     }
 
-    /// Begins where the conversion in the list's order has tested enough pairs, and takes in rows as long
-    /// as it has turns beside that conversion.
+    /// Begins where the conversion in the list's order looks at enough rays, those of its next row among
+    /// them, and takes in rows as long as it has turns beside that conversion.
     pub(crate) fn follow<L: Ledger>(
         &mut self,
         alloc: Global,
         list: &RowList,
-        tested: u64,
+        looks: u64,
         taken: usize,
         slack: &mut u128,
         steps: &mut Steps<L>,
@@ -181,8 +217,8 @@ impl Beside {
         ensures no_fewer { steps.old ≤ steps.new }
         ensures within { steps.new + slack.new ≤ steps.old + slack.old }
     {
-        self.begin(alloc, list, tested);
-        self.catch_up(alloc, list, tested, taken, slack, steps);
+        self.begin(alloc, list, looks);
+        self.catch_up(alloc, list, looks, taken, slack, steps);
     }
 
     /// Takes in the rows that are left, as far as the slack allows.

@@ -3,9 +3,10 @@ ghost use Rattle.std.specs.Prelude.{◌≡◌, ℕ, ◌+◌, ◌-◌, ◌^◌, �
 ghost use Rattle.row_core.specs.Lists.{vectors, AreMarked};
 ghost use Rattle.cone_laws.specs.Cones.{Upto};
 ghost use Rattle.cone_laws.specs.Canon.{Canon};
+ghost use Rattle.cone_laws.specs.SystemLaws.{HasSystemOf};
 ghost use Rattle.sat_matrix.specs.ZeroTables.{IsZeroTable};
 ghost use Rattle.chernikova.specs.Changes.{AreLists};
-ghost use Rattle.chernikova.specs.Conversion.{IsState, IsCountedUpto, IsCountedBefore, IsRealOverflow};
+ghost use Rattle.chernikova.specs.Conversion.{IsState, IsAtStep, IsCountedUpto, IsCountedBefore, IsRealOverflow};
 ghost use Rattle.chernikova.specs.RowOrders.{bits_at, IsPlaced};
 ghost use Rattle.chernikova.specs.Beside.{IsBeside, IsDone};
 
@@ -13,13 +14,17 @@ use crate::beside::Beside;
 use crate::cone::Cone;
 use crate::conversion::start;
 use crate::order::{rearranged, sorted};
+use crate::ray_step::least_shared;
 use crate::scratch::Scratch;
 use crate::system::System;
-use crate::taking::take_row_sparing;
+use crate::taking::{row_position, take_row_sparing};
 use row_core::{ConvErr, Memory, RowList, Steps};
 use sat_matrix::SatMatrix;
 use std::alloc::Global;
 use std::sync::ledger::Ledger;
+
+/// As how many looks at rays it counts that there is one more.
+const LOOKS_OF_A_RAY: u64 = 8;
 
 /// The table with its columns in the order of the places.
 fn in_list_order(alloc: Global, sat: &SatMatrix, places: &[usize]) -> Result<SatMatrix, Memory>
@@ -49,6 +54,44 @@ fn answered(alloc: Global, beside: Beside) -> Result<Cone, Memory>
     })
 }
 
+/// Takes row `k` into the system unless the other conversion, which has its turns before the pairs of the
+/// row are sought, then has all rows, and tells whether it has.
+fn take_row_beside<L: Ledger>(
+    alloc: Global,
+    scratch: &mut Scratch,
+    cone: &mut System,
+    beside: &mut Beside,
+    rows: &RowList,
+    k: usize,
+    looks: &mut u64,
+    slack: &mut u128,
+    steps: &mut Steps<L>,
+) -> Result<bool, ConvErr>
+    requires row { k < length rows.now.rows }
+    requires state { IsState rows.now.width rows.now.rows k cone.old }
+    requires beside { IsBeside rows.now.width rows.now.rows beside.old }
+    ensures beside { IsBeside rows.now.width rows.now.rows beside.new }
+    ensures done { IfOk result (λ other. MatchBool other (IsDone rows.now.width rows.now.rows beside.new) (IsState rows.now.width rows.now.rows (k + 1) cone.new)) }
+    ensures overflow { IfErr result (IsRealOverflow rows.now.width rows.now.rows) }
+    ensures step { IfErr result (IsAtStep k) }
+    ensures no_fewer { steps.old ≤ steps.new }
+    ensures counted { HasSystemOf rows.now.width rows.now.rows (k + 1) (steps.new + slack.new - (steps.old + slack.old)) }
+{
+    let position = row_position(alloc, scratch, cone, rows, k)?;
+    let least = least_shared(rows.width(), cone.lines.len());
+    *looks = looks.saturating_add(position.looks(&cone.sat, least));
+    beside.follow(alloc, rows, *looks, k, slack, steps);
+    if beside.is_done(rows) {
+        return Ok(true);
+    }
+    let count = cone.rays.len();
+    let spared = take_row_sparing(alloc, scratch, cone, position, rows, k, steps)?;
+    *slack = slack.saturating_add(spared);
+    let gained = cone.rays.len().saturating_sub(count) as u64;
+    *looks = looks.saturating_add(gained.saturating_mul(LOOKS_OF_A_RAY));
+    Ok(false)
+}
+
 /// Takes in rows in both orders until one of the conversions has all, and tells whether the other has.
 fn race<L: Ledger>(
     alloc: Global,
@@ -66,14 +109,15 @@ fn race<L: Ledger>(
     ensures counted_before { IfErr result (IsCountedBefore rows.now.width rows.now.rows (steps.new - steps.old)) }
 {
     let mut scratch = Scratch::new(alloc);
+    let mut looks = 0u64;
     let mut slack = 0u128;
     for k in 0..rows.len() {
-        beside.follow(alloc, rows, scratch.tested, k, &mut slack, steps);
-        if beside.is_done(rows) {
-            return Ok(true);
-        }
-        match take_row_sparing(alloc, &mut scratch, cone, rows, k, steps) {
-            Ok(spared) => slack = slack.saturating_add(spared),
+        let scratch = &mut scratch;
+        match take_row_beside(
+            alloc, scratch, cone, beside, rows, k, &mut looks, &mut slack, steps,
+        ) {
+            Ok(false) => {}
+            Ok(true) => return Ok(true),
             Err(error) => {
                 beside.go_on(alloc, rows, &mut slack, steps);
                 if beside.is_done(rows) {
@@ -87,8 +131,9 @@ fn race<L: Ledger>(
 }
 
 /// What [`convert`] gives, by the better of two orders: the rows are taken in as they are listed and, once
-/// many pairs of rays were tested, beside that in sorted order, until one conversion has all rows. What
-/// the second counts is bounded by what the first leaves of the systems of its rows.
+/// the search for pairs of rays looks at many, beside that in sorted order, until one conversion has all
+/// rows. Before a row whose search is dear the second has turns in proportion to it. What the second counts
+/// is bounded by what the first leaves of the systems of its rows.
 ///
 /// [`convert`]: crate::convert
 ///

@@ -1,5 +1,5 @@
 //! The conversion.
-ghost use Rattle.std.specs.Prelude.{◌≡◌, ℕ, ◌+◌, ◌^◌, ◌-◌, ◌<◌, ◌≤◌, List, length, pos, true, IfOk, IfErr, MatchResult};
+ghost use Rattle.std.specs.Prelude.{◌≡◌, ℕ, ◌+◌, ◌^◌, ◌-◌, ◌<◌, ◌≤◌, List, length, pos, true, IfOk, IfErr, MatchResult, OnOk};
 ghost use Rattle.row_core.specs.Lists.{row_at, vectors, AreMarked};
 ghost use Rattle.cone_laws.specs.Cones.{Upto};
 ghost use Rattle.cone_laws.specs.Canon.{Canon, IsSystem};
@@ -49,7 +49,7 @@ pub(crate) fn start(alloc: Global, width: usize, rows: &RowList) -> Result<Syste
     Ok(System { lines, rays, sat })
 }
 
-/// Takes row `k` into the system.
+/// Takes row `k` into the system, and tells whether it changed it.
 fn take_row<L: Ledger>(
     alloc: Global,
     scratch: &mut Scratch,
@@ -57,39 +57,45 @@ fn take_row<L: Ledger>(
     rows: &RowList,
     k: usize,
     steps: &mut Steps<L>,
-) -> Result<(), ConvErr>
+) -> Result<bool, ConvErr>
     requires row { k < length rows.now.rows }
     requires state { IsState rows.now.width rows.now.rows k cone.old }
     ensures state { MatchResult result (λ _. IsState rows.now.width rows.now.rows (k + 1) cone.new) (IsRealOverflow rows.now.width rows.now.rows) }
+    ensures changed { IfOk result (TellsChange rows.now.width rows.now.rows k (k + 1)) }
     ensures step { IfErr result (IsAtStep k) }
     ensures no_fewer { steps.old ≤ steps.new }
     ensures counted { HasSystemOf rows.now.width rows.now.rows (k + 1) (steps.new - steps.old) }
 {
     let plan = plan_row(alloc, scratch, cone, rows, k)?;
-    take_planned(alloc, scratch, cone, plan, rows, k, steps)
+    let changed = plan.changes();
+    take_planned(alloc, scratch, cone, plan, rows, k, steps)?;
+    Ok(changed)
 }
 
-/// Takes all further rows into the system of the first `from` of them.
+/// Takes all further rows into the system of the first `from` of them, and tells whether they changed it.
 fn take_rows<L: Ledger>(
     alloc: Global,
     cone: &mut System,
     rows: &RowList,
     from: usize,
     steps: &mut Steps<L>,
-) -> Result<(), ConvErr>
+) -> Result<bool, ConvErr>
     requires from { from ≤ length rows.now.rows }
     requires state { IsState rows.now.width rows.now.rows from cone.old }
     ensures state { OnOk result (IsState rows.now.width rows.now.rows (length rows.now.rows) cone.new) }
+    ensures changed { IfOk result (TellsChange rows.now.width rows.now.rows from (length rows.now.rows)) }
     ensures overflow { IfErr result (IsRealOverflowFrom rows.now.width rows.now.rows from) }
     ensures no_fewer { steps.old ≤ steps.new }
     ensures counted { IsCountedBetween rows.now.width rows.now.rows from (length rows.now.rows) (steps.new - steps.old) }
     ensures counted_before { IfErr result (IsCountedBeforeFrom rows.now.width rows.now.rows from (steps.new - steps.old)) }
 {
     let mut scratch = Scratch::new(alloc);
+    let mut changed = false;
     for k in from..rows.len() {
-        take_row(alloc, &mut scratch, cone, rows, k, steps)?;
+        let row_changes = take_row(alloc, &mut scratch, cone, rows, k, steps)?;
+        changed |= row_changes;
     }
-    Ok(())
+    Ok(changed)
 }
 
 /// The canonical system of the cone of the rows: all vectors on which each equality is 0 and each

@@ -15,6 +15,7 @@ mod conversion;
 mod fault;
 mod line_step;
 mod lists;
+mod looks;
 mod order;
 mod plan;
 mod ray_step;

@@ -1,8 +1,42 @@
-//! What the step with a row is to do.
-ghost use Rattle.std.specs.Prelude.{◌≡◌};
-ghost use Rattle.chernikova.specs.Plans.{combinations_of};
+//! How a row lies to a system, and what the step with it is to do.
+ghost use Rattle.std.specs.Prelude.{◌≡◌, length};
+ghost use Rattle.chernikova.specs.Plans.{HasValues, changes_system, combinations_of};
 
+use crate::looks::looks;
 use crate::system::System;
+use sat_matrix::SatMatrix;
+
+/// How a row lies to a system.
+#[derive(Drop)]
+pub(crate) enum Position {
+    /// The row isn't 0 on the line at the index, and 0 on each later one: the values of the lines and of
+    /// the rays.
+    Crossing {
+        index: usize,
+        line_values: Vec<i128>,
+        ray_values: Vec<i128>,
+    },
+    /// The row is 0 on all lines, and each ray meets it: the values of the rays.
+    Met {
+        values: Vec<i128>,
+    },
+    /// The row is 0 on all lines, and some ray doesn't meet it: the values of the rays.
+    Cutting {
+        values: Vec<i128>,
+    },
+}
+
+impl Position {
+    /// How many rays the search for adjacent pairs is expected to look at.
+    pub(crate) fn looks(&self, zeros: &SatMatrix, least: usize) -> u64
+        requires { HasValues (length zeros.now.rows) self.now }
+    {
+        match self {
+            Position::Cutting { values } => looks(values, zeros, least),
+            _ => 0,
+        }
+    }
+}
 
 /// What the step with a row is to do with a system.
 #[derive(Drop)]
@@ -13,6 +47,10 @@ pub(crate) enum Plan {
         index: usize,
         line_values: Vec<i128>,
         ray_values: Vec<i128>,
+    },
+    /// Each line and ray meets the row, and stays: the values of the rays.
+    Same {
+        values: Vec<i128>,
     },
     /// The row is 0 on all lines: the values of the rays, which of them stay, and the pairs to combine.
     Ray {
@@ -32,7 +70,18 @@ impl Plan {
                 let vectors = cone.lines.len() as u128 + cone.rays.len() as u128;
                 vectors.saturating_sub(1)
             }
+            Plan::Same { .. } => 0,
             Plan::Ray { pairs, .. } => pairs.len() as u128,
+        }
+    }
+
+    /// Whether the step changes the lines or the rays.
+    pub(crate) fn changes(&self) -> bool
+        ensures { result ≡ changes_system self.now }
+    {
+        match self {
+            Plan::Same { .. } => false,
+            _ => true,
         }
     }
 }

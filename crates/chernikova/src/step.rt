@@ -1,20 +1,20 @@
 //! One step: a row is taken in.
-ghost use Rattle.std.specs.Prelude.{◌≡◌, ℕ, ◌+◌, ◌-◌, ◌<◌, ◌≤◌, List, length, OnOk, OnErr, MatchResult};
+ghost use Rattle.std.specs.Prelude.{◌≡◌, ℕ, ◌+◌, ◌-◌, ◌<◌, ◌≤◌, List, length, IfOk, OnOk, OnErr, MatchResult};
 ghost use Rattle.row_core.specs.Lists.{row_at, is_eq_at, vectors};
 ghost use Rattle.chernikova.specs.Faults.{IsFaultAt};
 ghost use Rattle.chernikova.specs.Conversion.{IsState, IsOutcome, IsChanged};
-ghost use Rattle.chernikova.specs.Plans.{IsPlan, combinations_of};
+ghost use Rattle.chernikova.specs.Plans.{IsPosition, IsPlan, combinations_of};
 
 use crate::adjacency::{crossings, least_shared};
 use crate::fault::{Fault, Part};
 use crate::line_step::line_step;
-use crate::plan::Plan;
+use crate::plan::{Plan, Position};
 use crate::ray_step::ray_step;
 use crate::scratch::Scratch;
 use crate::system::System;
-use crate::values::{last_crossing, marks, values};
+use crate::values::{all_meet, last_crossing, marks, values};
 use crate::vectors::VectorList;
-use crate::zeros::{after_line_step, after_ray_step};
+use crate::zeros::{after_line_step, after_ray_step, push_zeros};
 use row_core::{Memory, RowList, Steps, all_narrow};
 use std::alloc::Global;
 use std::mem;
@@ -28,6 +28,10 @@ pub(crate) enum Change {
         lines: VectorList,
         rays: VectorList,
     },
+    /// Each line and ray meets the row, and stays: the values of the rays.
+    Same {
+        values: Vec<i128>,
+    },
     /// The row is 0 on all lines, and the rays are those of the next system: the values of the old ones,
     /// which of them stayed, and the pairs that were combined.
     Ray {
@@ -37,41 +41,74 @@ pub(crate) enum Change {
     },
 }
 
-/// What the step with row `k` is to do with the system of the rows before it.
-pub(crate) fn planned(
+/// How row `k` lies to the system of the rows before it.
+pub(crate) fn position(
     alloc: Global,
     scratch: &mut Scratch,
     cone: &System,
     rows: &RowList,
     k: usize,
-) -> Result<Plan, Fault>
+) -> Result<Position, Fault>
     requires row { k < length rows.now.rows }
     requires state { IsState rows.now.width rows.now.rows k cone.now }
-    ensures { MatchResult result (IsPlan rows.now.rows k cone.now) (IsFaultAt rows.now.rows k (vectors cone.now.lines.rows) (vectors cone.now.rays.rows)) }
+    ensures { MatchResult result (IsPosition rows.now.rows k cone.now) (IsFaultAt rows.now.rows k (vectors cone.now.lines.rows) (vectors cone.now.rays.rows)) }
 {
     let row = rows.row(k);
-    let eq = rows.is_eq(k);
     let narrow = all_narrow(row);
     let lines_place = &mut scratch.line_values;
     let line_values = values(alloc, lines_place, Part::Lines, &cone.lines, row, narrow)?;
     let rays_place = &mut scratch.ray_values;
     let ray_values = values(alloc, rays_place, Part::Rays, &cone.rays, row, narrow)?;
     if let Some(index) = last_crossing(&line_values) {
-        return Ok(Plan::Line {
+        return Ok(Position::Crossing {
             index,
             line_values,
             ray_values,
         });
     }
-    let marks = marks(alloc, &mut scratch.marks, eq, &ray_values)?;
-    let least = least_shared(rows.width(), cone.lines.len());
-    let pairs = crossings(alloc, scratch, &ray_values, &cone.sat, least)?;
     scratch.line_values = line_values;
-    Ok(Plan::Ray {
-        values: ray_values,
-        marks,
-        pairs,
-    })
+    if all_meet(rows.is_eq(k), &ray_values) {
+        return Ok(Position::Met { values: ray_values });
+    }
+    Ok(Position::Cutting { values: ray_values })
+}
+
+/// What the step with row `k` is to do with the system of the rows before it, from how the row lies to it.
+pub(crate) fn planned(
+    alloc: Global,
+    scratch: &mut Scratch,
+    cone: &System,
+    position: Position,
+    rows: &RowList,
+    k: usize,
+) -> Result<Plan, Memory>
+    requires row { k < length rows.now.rows }
+    requires state { IsState rows.now.width rows.now.rows k cone.now }
+    requires position { IsPosition rows.now.rows k cone.now position }
+    ensures { IfOk result (IsPlan rows.now.rows k cone.now) }
+{
+    match position {
+        Position::Crossing {
+            index,
+            line_values,
+            ray_values,
+        } => Ok(Plan::Line {
+            index,
+            line_values,
+            ray_values,
+        }),
+        Position::Met { values } => Ok(Plan::Same { values }),
+        Position::Cutting { values } => {
+            let marks = marks(alloc, &mut scratch.marks, rows.is_eq(k), &values)?;
+            let least = least_shared(rows.width(), cone.lines.len());
+            let pairs = crossings(alloc, scratch, &values, &cone.sat, least)?;
+            Ok(Plan::Ray {
+                values,
+                marks,
+                pairs,
+            })
+        }
+    }
 }
 
 /// Does with the system what is planned for row `k`. After a fault the system is as before.
@@ -113,6 +150,7 @@ pub(crate) fn carried_out<L: Ledger>(
             scratch.ray_values = ray_values;
             Ok(Change::Line { lines, rays })
         }
+        Plan::Same { values } => Ok(Change::Same { values }),
         Plan::Ray {
             values,
             marks,
@@ -146,6 +184,11 @@ pub(crate) fn apply_change(
             after_line_step(&mut cone.sat, rows.is_eq(k))?;
             scratch.lines = mem::replace(&mut cone.lines, lines);
             scratch.rays = mem::replace(&mut cone.rays, rays);
+            Ok(())
+        }
+        Change::Same { values } => {
+            push_zeros(&mut cone.sat, &values)?;
+            scratch.ray_values = values;
             Ok(())
         }
         Change::Ray {

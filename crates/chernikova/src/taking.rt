@@ -1,17 +1,49 @@
 //! A row is taken in, where a number allows its combinations.
-ghost use Rattle.std.specs.Prelude.{◌≡◌, ℕ, ◌+◌, ◌-◌, ◌<◌, ◌≤◌, List, length, IfOk, IfErr, MatchResult, MatchOption};
+ghost use Rattle.std.specs.Prelude.{◌≡◌, ℕ, ◌+◌, ◌-◌, ◌<◌, ◌≤◌, List, length, IfOk, IfErr, MatchResult};
 ghost use Rattle.cone_laws.specs.SystemLaws.{HasSystemOf};
 ghost use Rattle.chernikova.specs.Conversion.{IsState, IsAtStep, IsRealOverflow};
-ghost use Rattle.chernikova.specs.Plans.{IsPlan, combinations_of};
+ghost use Rattle.chernikova.specs.Plans.{IsPosition, IsPlan, combinations_of};
+ghost use Rattle.chernikova.specs.Beside.{IsOutcomeOfRow};
 
 use crate::fault::shown;
-use crate::plan::Plan;
+use crate::plan::{Plan, Position};
+use crate::ray_step::least_shared;
 use crate::scratch::Scratch;
-use crate::step::{apply_change, carried_out, planned};
+use crate::step::{apply_change, carried_out, planned, position};
 use crate::system::System;
 use row_core::{ConvErr, RowList, Steps};
 use std::alloc::Global;
 use std::sync::ledger::Ledger;
+
+/// What came of a row that was to be taken in within bounds.
+#[derive(Clone, Copy)]
+pub(crate) enum Outcome {
+    /// It was taken in, and the search for its pairs was expected to look at so many rays.
+    Taken { looks: u64 },
+    /// That search is expected to look at so many rays.
+    Dear { looks: u64 },
+    /// It asks for so many combinations.
+    Many { combinations: u128 },
+}
+
+/// How row `k` lies to the system of the rows before it.
+pub(crate) fn row_position(
+    alloc: Global,
+    scratch: &mut Scratch,
+    cone: &System,
+    rows: &RowList,
+    k: usize,
+) -> Result<Position, ConvErr>
+    requires row { k < length rows.now.rows }
+    requires state { IsState rows.now.width rows.now.rows k cone.now }
+    ensures position { MatchResult result (IsPosition rows.now.rows k cone.now) (IsRealOverflow rows.now.width rows.now.rows) }
+    ensures step { IfErr result (IsAtStep k) }
+{
+    match position(alloc, scratch, cone, rows, k) {
+        Ok(position) => Ok(position),
+        Err(fault) => Err(ConvErr::Overflow(shown(alloc, cone, rows, k, fault)?)),
+    }
+}
 
 /// What row `k` asks of the system of the rows before it.
 pub(crate) fn plan_row(
@@ -26,10 +58,8 @@ pub(crate) fn plan_row(
     ensures plan { MatchResult result (IsPlan rows.now.rows k cone.now) (IsRealOverflow rows.now.width rows.now.rows) }
     ensures step { IfErr result (IsAtStep k) }
 {
-    match planned(alloc, scratch, cone, rows, k) {
-        Ok(plan) => Ok(plan),
-        Err(fault) => Err(ConvErr::Overflow(shown(alloc, cone, rows, k, fault)?)),
-    }
+    let position = row_position(alloc, scratch, cone, rows, k)?;
+    Ok(planned(alloc, scratch, cone, position, rows, k)?)
 }
 
 /// Takes row `k` into the system as planned.
@@ -56,53 +86,62 @@ pub(crate) fn take_planned<L: Ledger>(
     }
 }
 
-/// Takes row `k` into the system, and gives the number of its vectors less that of the combinations.
+/// Takes row `k` into the system from how it lies to it, and gives the number of its vectors less that of
+/// the combinations.
 pub(crate) fn take_row_sparing<L: Ledger>(
     alloc: Global,
     scratch: &mut Scratch,
     cone: &mut System,
+    position: Position,
     rows: &RowList,
     k: usize,
     steps: &mut Steps<L>,
 ) -> Result<u128, ConvErr>
     requires row { k < length rows.now.rows }
     requires state { IsState rows.now.width rows.now.rows k cone.old }
+    requires position { IsPosition rows.now.rows k cone.old position }
     ensures state { MatchResult result (λ _. IsState rows.now.width rows.now.rows (k + 1) cone.new) (IsRealOverflow rows.now.width rows.now.rows) }
     ensures step { IfErr result (IsAtStep k) }
     ensures no_fewer { steps.old ≤ steps.new }
     ensures counted { HasSystemOf rows.now.width rows.now.rows (k + 1) (steps.new - steps.old) }
     ensures spared { IfOk result (λ spared. HasSystemOf rows.now.width rows.now.rows (k + 1) (steps.new - steps.old + spared)) }
 {
-    let plan = plan_row(alloc, scratch, cone, rows, k)?;
+    let plan = planned(alloc, scratch, cone, position, rows, k)?;
     let made = plan.combinations(cone);
     take_planned(alloc, scratch, cone, plan, rows, k, steps)?;
     let vectors = cone.lines.len() as u128 + cone.rays.len() as u128;
     Ok(vectors.saturating_sub(made))
 }
 
-/// Takes row `k` into the system where the slack allows its combinations, which are taken from it, and
-/// gives their number where it doesn't.
+/// Takes row `k` into the system where the search for its pairs is expected to look at fewer rays than so
+/// many, and where the slack allows its combinations, which are taken from it.
 pub(crate) fn take_row_within<L: Ledger>(
     alloc: Global,
     scratch: &mut Scratch,
     cone: &mut System,
     rows: &RowList,
     k: usize,
+    looks_below: u64,
     slack: &mut u128,
     steps: &mut Steps<L>,
-) -> Result<Option<u128>, ConvErr>
+) -> Result<Outcome, ConvErr>
     requires row { k < length rows.now.rows }
     requires state { IsState rows.now.width rows.now.rows k cone.old }
-    ensures state { IfOk result (λ needed. MatchOption needed (IsState rows.now.width rows.now.rows (k + 1) cone.new) (λ number. cone.new ≡ cone.old)) }
+    ensures state { IfOk result (IsOutcomeOfRow rows.now.width rows.now.rows k cone.old cone.new) }
     ensures no_fewer { steps.old ≤ steps.new }
     ensures within { steps.new + slack.new ≤ steps.old + slack.old }
 {
-    let plan = plan_row(alloc, scratch, cone, rows, k)?;
-    let needed = plan.combinations(cone);
-    if needed > *slack {
-        return Ok(Some(needed));
+    let position = row_position(alloc, scratch, cone, rows, k)?;
+    let looks = position.looks(&cone.sat, least_shared(rows.width(), cone.lines.len()));
+    if looks >= looks_below {
+        return Ok(Outcome::Dear { looks });
     }
-    *slack -= needed;
+    let plan = planned(alloc, scratch, cone, position, rows, k)?;
+    let combinations = plan.combinations(cone);
+    if combinations > *slack {
+        return Ok(Outcome::Many { combinations });
+    }
+    *slack -= combinations;
     take_planned(alloc, scratch, cone, plan, rows, k, steps)?;
-    Ok(None)
+    Ok(Outcome::Taken { looks })
 }

@@ -1,11 +1,12 @@
 //! The values of vectors on a row.
-ghost use Rattle.std.specs.Prelude.{◌≡◌, ◌≢◌, ℕ, ◌^◌, ◌<◌, ◌≤◌, Bool, [], length, map, pos, All, IsTrue, MatchResult, MatchOption, IfOk, OnOk, slice_index_or};
+ghost use Rattle.std.specs.Prelude.{◌≡◌, ◌≢◌, ℕ, ◌^◌, ◌<◌, ◌≤◌, Bool, [], length, map, pos, All, IsTrue, MatchBool, MatchResult, MatchOption, IfOk, OnOk, slice_index_or};
 ghost use Rattle.row_core.specs.Vectors.{dot};
 ghost use Rattle.row_core.specs.Range.{InRange};
 ghost use Rattle.row_core.specs.Narrow.{AllNarrow};
 ghost use Rattle.cone_laws.specs.Steps.{stays};
 ghost use Rattle.row_core.specs.Lists.{row_at, vectors};
 ghost use Rattle.chernikova.specs.Systems.{values_on};
+ghost use Rattle.chernikova.specs.Plans.{AllStay, SomeGoes};
 ghost use Rattle.chernikova.specs.Faults.{IsValuesFault};
 
 use crate::fault::{Fault, Part, Place};
@@ -81,6 +82,18 @@ fn meets(eq: bool, value: i128) -> bool
     ensures { result ≡ stays eq value }
 {
     if eq { value == 0 } else { value >= 0 }
+}
+
+/// Whether all vectors meet the row, from their values on it.
+pub(crate) fn all_meet(eq: bool, values: &[i128]) -> bool
+    ensures { MatchBool result (AllStay eq values.now) (SomeGoes eq values.now) }
+{
+    for index in 0..values.len() {
+        if !meets(eq, values[index]) {
+            return false;
+        }
+    }
+    true
 }
 
 /// Which vectors meet the row, from their values on it.

@@ -20,7 +20,7 @@ fn is_zero(value: i128) -> bool
 }
 
 /// Appends a column that is true where the values are 0.
-fn push_zeros(zeros: &mut SatMatrix, values: &[i128]) -> Result<(), Memory>
+pub(crate) fn push_zeros(zeros: &mut SatMatrix, values: &[i128]) -> Result<(), Memory>
     requires { length values.now ≡ length zeros.old.rows }
     ensures { OnOk result (HasColumn (map (λ value. int_eq value (pos 0)) values.now) zeros.old zeros.new) }
 {

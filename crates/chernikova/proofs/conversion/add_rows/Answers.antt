@@ -15,13 +15,13 @@ take_rows-requires-clause-state g c =
     (record { narrow = c.width-narrow.ensures.narrow; lists = c.requires.lists; system = c.requires.system; zeros = c.requires.sat })
 
 pub sorted-requires-clause-as_many : goal.sorted-requires-clause-as_many
-sorted-requires-clause-as_many g c = c.in_ok-take_rows.ensures.state.zeros.each.as_many ∙ length-vectors c.take_rows.new.cone.rays.rows
+sorted-requires-clause-as_many g c = c.in_ok-changed.ensures.state.zeros.each.as_many ∙ length-vectors c.take_rows.new.cone.rays.rows
 
 pub returns-clause-canon : goal.returns-clause-canon
-returns-clause-canon g c = rearranged_canon _ _ _ c.take_rows.new.cone c.in_ok-sorted.field-0 c.in_ok-take_rows.ensures.state c.in_ok-sorted.ensures
+returns-clause-canon g c = rearranged_canon _ _ _ c.take_rows.new.cone c.in_ok-cone.cone c.in_ok-changed.ensures.state c.in_ok-cone.ensures
 
 pub returns-clause-lists : goal.returns-clause-lists
-returns-clause-lists g c = rearranged_lists _ _ _ c.take_rows.new.cone c.in_ok-sorted.field-0 c.in_ok-take_rows.ensures.state c.in_ok-sorted.ensures
+returns-clause-lists g c = rearranged_lists _ _ _ c.take_rows.new.cone c.in_ok-cone.cone c.in_ok-changed.ensures.state c.in_ok-cone.ensures
 
 pub returns-clause-sat : goal.returns-clause-sat
-returns-clause-sat g c = rearranged_zeros _ _ _ c.take_rows.new.cone c.in_ok-sorted.field-0 c.in_ok-take_rows.ensures.state c.in_ok-sorted.ensures
+returns-clause-sat g c = rearranged_zeros _ _ _ c.take_rows.new.cone c.in_ok-cone.cone c.in_ok-changed.ensures.state c.in_ok-cone.ensures

@@ -34,7 +34,7 @@ returns-in_err-ray_step-in-Ray-clause-outcome g c =
     let Q : List (ℕ × ℕ) → Type 0 = λ pairs. AreAllCrosses c.in-Ray.values.items c.args.cone.now.sat pairs in
     let p = err_from_is_err_and c.from_residual-in_err-ray_step-in-Ray.result c.from_residual-in_err-ray_step-in-Ray.ensures.1 in
     rw (p.1, p.2)
-    (pair_fault_at rows c.args.k (row_at rows c.args.k) lines rays c.deref-in-Ray.result.now c.deref-in-Ray-3.result.now c.args.cone.now.sat c.in_err-ray_step-in-Ray.field-0.0 refl (c.deref-in-Ray.ensures.value ∙ plan.are_values) plan.flat
+    (pair_fault_at rows c.args.k (row_at rows c.args.k) lines rays c.deref-in-Ray.result.now c.deref-in-Ray-3.result.now c.args.cone.now.sat c.in_err-ray_step-in-Ray.field-0.0 refl (c.deref-in-Ray.ensures.value ∙ plan.cutting.0.are_values) plan.cutting.0.flat
     c.requires.state.zeros (subst V (sym c.deref-in-Ray.ensures.value) (subst Q (sym c.deref-in-Ray-3.ensures.value) plan.crosses)) c.in_err-ray_step-in-Ray.ensures.change)
 
 pub returns-in_ok-lines-in-Line-clause-outcome : goal.returns-in_ok-lines-in-Line-clause-outcome

@@ -9,15 +9,15 @@ returns-in_err-plan-clause-counted g c = count_none c.args.rows.now.width c.args
 
 pub returns-in_err-take_planned-clause-counted : goal.returns-in_err-take_planned-clause-counted
 returns-in_err-take_planned-clause-counted g c =
-    plan_counted c.args.rows.now.width c.args.rows.now.rows c.args.k c.args.cone.now c.in_ok-plan.plan (c.take_planned.new.steps - c.args.steps.now) c.requires.row c.requires.state c.in_ok-plan.ensures.plan (omega (arith, c.take_planned.ensures.counted))
+    plan_counted c.args.rows.now.width c.args.rows.now.rows c.args.k c.args.cone.now c.in_ok-plan.plan (c.take_planned.new.steps - c.args.steps.now) c.requires.row c.requires.state c.in_ok-plan.ensures (omega (arith, c.take_planned.ensures.counted))
 
 pub returns-clause-counted : goal.returns-clause-counted
 returns-clause-counted g c =
-    plan_counted c.args.rows.now.width c.args.rows.now.rows c.args.k c.args.cone.now c.in_ok-plan.plan (c.take_planned.new.steps - c.args.steps.now) c.requires.row c.requires.state c.in_ok-plan.ensures.plan (omega (arith, c.take_planned.ensures.counted))
+    plan_counted c.args.rows.now.width c.args.rows.now.rows c.args.k c.args.cone.now c.in_ok-plan.plan (c.take_planned.new.steps - c.args.steps.now) c.requires.row c.requires.state c.in_ok-plan.ensures (omega (arith, c.take_planned.ensures.counted))
 
 pub returns-clause-spared : goal.returns-clause-spared
 returns-clause-spared g c =
     spared_counted c.args.rows.now.width c.args.rows.now.rows (c.args.k + 1) c.take_planned.new.cone (c.take_planned.new.steps - c.args.steps.now) c.combinations-made.result _ c.in_ok-take_planned.ensures.state
-    (plan_counted c.args.rows.now.width c.args.rows.now.rows c.args.k c.args.cone.now c.in_ok-plan.plan (c.take_planned.new.steps - c.args.steps.now) c.requires.row c.requires.state c.in_ok-plan.ensures.plan (omega (arith, c.take_planned.ensures.counted)))
+    (plan_counted c.args.rows.now.width c.args.rows.now.rows c.args.k c.args.cone.now c.in_ok-plan.plan (c.take_planned.new.steps - c.args.steps.now) c.requires.row c.requires.state c.in_ok-plan.ensures (omega (arith, c.take_planned.ensures.counted)))
     (omega (arith, c.take_planned.ensures.counted, c.combinations-made.ensures))
     (omega arith)

@@ -1,0 +1,49 @@
+use Rattle.std.specs.Prelude.{ℤ, List, Bool}
+use Rattle.std.proofs.Common.{ap, subst, ◌∙◌}
+use Rattle.row_core.specs.Lists.{row_at, vectors}
+use Rattle.cone_laws.specs.Steps.{IsLastCrossing}
+use Rattle.chernikova.specs.Systems.{values_on}
+use Rattle.chernikova.specs.Plans.{AllStay, SomeGoes}
+use Rattle.chernikova.proofs.PlacedCones.{first_of, second_of}
+use Rattle.chernikova.proofs.StepLemmas.{last_from, flat_from}
+use Rattle.chernikova.proofs.step.position.Goals as goal
+
+pub returns-in-Some : goal.returns-in-Some
+returns-in-Some c =
+    let lines = vectors c.args.cone.now.lines.rows in
+    let P : List ℤ → Type 0 = λ a. IsLastCrossing a (vectors c.args.cone.now.lines.rows) c.in-Some.index in
+    record {
+      crossing = subst P c.row-row.ensures.value (last_from c.row-row.result.now lines c.deref.result.now c.in-Some.index (c.deref.ensures.value ∙ c.in_ok-line_values.ensures.values) c.in-Some.ensures);
+      are_line_values = c.in_ok-line_values.ensures.values ∙ ap (λ a. values_on a (vectors c.args.cone.now.lines.rows)) c.row-row.ensures.value;
+      are_ray_values = c.in_ok-ray_values.ensures.values ∙ ap (λ a. values_on a (vectors c.args.cone.now.rays.rows)) c.row-row.ensures.value;
+      lines_in_range = c.in_ok-line_values.ensures.in_range;
+      rays_in_range = c.in_ok-ray_values.ensures.in_range;
+    }
+
+pub returns-then-all_meet : goal.returns-then-all_meet
+returns-then-all_meet c =
+    let rows = c.args.rows.now.rows in
+    let lines = vectors c.args.cone.now.lines.rows in
+    let A : Bool → Type 0 = λ eq. AllStay eq c.in_ok-ray_values.ray_values.items in
+    let B : List ℤ → Type 0 = λ vs. AllStay c.is_eq.result vs in (
+      record {
+        flat = flat_from (row_at rows c.args.k) lines c.deref.result.now (c.deref.ensures.value ∙ c.in_ok-line_values.ensures.values ∙ ap (λ a. values_on a (vectors c.args.cone.now.lines.rows)) c.row-row.ensures.value) c.in_default.ensures;
+        are_values = c.in_ok-ray_values.ensures.values ∙ ap (λ a. values_on a (vectors c.args.cone.now.rays.rows)) c.row-row.ensures.value;
+        in_range = c.in_ok-ray_values.ensures.in_range;
+      },
+      subst A c.is_eq.ensures (subst B c.deref-2.ensures.value (first_of c.all_meet.result (AllStay c.is_eq.result c.deref-2.result.now) (SomeGoes c.is_eq.result c.deref-2.result.now) c.if-all_meet.true c.all_meet.ensures)),
+    )
+
+pub returns : goal.returns
+returns c =
+    let rows = c.args.rows.now.rows in
+    let lines = vectors c.args.cone.now.lines.rows in
+    let A : Bool → Type 0 = λ eq. SomeGoes eq c.in_ok-ray_values.ray_values.items in
+    let B : List ℤ → Type 0 = λ vs. SomeGoes c.is_eq.result vs in (
+      record {
+        flat = flat_from (row_at rows c.args.k) lines c.deref.result.now (c.deref.ensures.value ∙ c.in_ok-line_values.ensures.values ∙ ap (λ a. values_on a (vectors c.args.cone.now.lines.rows)) c.row-row.ensures.value) c.in_default.ensures;
+        are_values = c.in_ok-ray_values.ensures.values ∙ ap (λ a. values_on a (vectors c.args.cone.now.rays.rows)) c.row-row.ensures.value;
+        in_range = c.in_ok-ray_values.ensures.in_range;
+      },
+      subst A c.is_eq.ensures (subst B c.deref-2.ensures.value (second_of c.all_meet.result (AllStay c.is_eq.result c.deref-2.result.now) (SomeGoes c.is_eq.result c.deref-2.result.now) c.if-all_meet.false c.all_meet.ensures)),
+    )
