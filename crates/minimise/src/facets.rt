@@ -10,7 +10,7 @@ use row_core::Memory;
 use sat_matrix::SatMatrix;
 use std::alloc::{AllocError, Global};
 
-/// So many rows are compared with each other at once.
+/// So many rows are compared with each other at once, and a row that is likely to stay with so many.
 const FEW_ROWS: usize = 64;
 
 /// The indices of rows in a list, and the rays on which each of them is 0.
@@ -85,13 +85,13 @@ fn greatest(alloc: Global, facets: Facets) -> Result<Facets, Memory>
     Ok(Facets { indices, zeros })
 }
 
-/// Whether the row is true only where one at the places is.
-fn is_led(zeros: &SatMatrix, places: &[usize], row: usize) -> bool
+/// Whether the row is seen to be true only where one at the first `tests` places is.
+fn is_led(zeros: &SatMatrix, places: &[usize], tests: usize, row: usize) -> bool
     requires row { row < length zeros.now.rows }
     requires places { All (λ p. p < length zeros.now.rows) places.now }
     ensures { IsTrue result → IsLedBy zeros.now.rows places.now row }
 {
-    for index in 0..places.len() {
+    for index in 0..tests.min(places.len()) {
         if zeros.covers(row, row, places[index]) {
             return true;
         }
@@ -99,8 +99,29 @@ fn is_led(zeros: &SatMatrix, places: &[usize], row: usize) -> bool
     false
 }
 
-/// Appends the place of the row unless it has fewer true places, or is true only where one at the places is.
+/// Appends the place of the row unless it is true only where one at the first `tests` places is.
 fn push_leader(
+    places: &mut Vec<usize>,
+    zeros: &SatMatrix,
+    tests: usize,
+    row: usize,
+) -> Result<(), AllocError>
+    requires row { row < length zeros.now.rows }
+    requires places { All (λ p. p < length zeros.now.rows) places.old.items }
+    ensures places { OnOk result (All (λ p. p < length zeros.now.rows) places.new.items) }
+    ensures others { OnOk result ((m : ℕ) → IsLedBy zeros.now.rows places.old.items m → IsLedBy zeros.now.rows places.new.items m) }
+    ensures led { OnOk result (IsLedBy zeros.now.rows places.new.items row) }
+{
+    if is_led(zeros, places, tests, row) {
+        return Ok(());
+    }
+    places.push(row)?;
+    Ok(())
+}
+
+/// Appends the place of a row with at least so many true places unless it is true only where one of the first
+/// is: few such rows go.
+fn push_long(
     places: &mut Vec<usize>,
     zeros: &SatMatrix,
     least: usize,
@@ -115,21 +136,53 @@ fn push_leader(
     if zeros.ones(row) < least {
         return Ok(());
     }
-    if is_led(zeros, places, row) {
+    push_leader(places, zeros, FEW_ROWS, row)
+}
+
+/// Appends the place of a row with fewer true places unless it is true only where one at the places is.
+fn push_short(
+    places: &mut Vec<usize>,
+    zeros: &SatMatrix,
+    least: usize,
+    row: usize,
+) -> Result<(), AllocError>
+    requires row { row < length zeros.now.rows }
+    requires places { All (λ p. p < length zeros.now.rows) places.old.items }
+    ensures places { OnOk result (All (λ p. p < length zeros.now.rows) places.new.items) }
+    ensures others { OnOk result ((m : ℕ) → IsLedBy zeros.now.rows places.old.items m → IsLedBy zeros.now.rows places.new.items m) }
+    ensures led { OnOk result (ones (bits_of zeros.now.rows row) < least → IsLedBy zeros.now.rows places.new.items row) }
+{
+    if zeros.ones(row) >= least {
         return Ok(());
     }
-    places.push(row)?;
-    Ok(())
+    push_leader(places, zeros, usize::MAX, row)
 }
 
 /// Appends places so that each row with at least so many true places is true only where one at them is.
-fn push_leaders(places: &mut Vec<usize>, zeros: &SatMatrix, least: usize) -> Result<(), AllocError>
+fn push_all_long(places: &mut Vec<usize>, zeros: &SatMatrix, least: usize) -> Result<(), AllocError>
     requires places { All (λ p. p < length zeros.now.rows) places.old.items }
     ensures places { OnOk result (All (λ p. p < length zeros.now.rows) places.new.items) }
     ensures led { OnOk result ((m : ℕ) → m < length zeros.now.rows → least ≤ ones (bits_of zeros.now.rows m) → IsLedBy zeros.now.rows places.new.items m) }
 {
     for row in 0..zeros.len() {
-        push_leader(places, zeros, least, row)?;
+        push_long(places, zeros, least, row)?;
+    }
+    Ok(())
+}
+
+/// Appends places so that each row with fewer true places is true only where one at them is.
+fn push_all_short(
+    places: &mut Vec<usize>,
+    zeros: &SatMatrix,
+    least: usize,
+) -> Result<(), AllocError>
+    requires places { All (λ p. p < length zeros.now.rows) places.old.items }
+    ensures places { OnOk result (All (λ p. p < length zeros.now.rows) places.new.items) }
+    ensures others { OnOk result ((m : ℕ) → IsLedBy zeros.now.rows places.old.items m → IsLedBy zeros.now.rows places.new.items m) }
+    ensures led { OnOk result ((m : ℕ) → m < length zeros.now.rows → ones (bits_of zeros.now.rows m) < least → IsLedBy zeros.now.rows places.new.items m) }
+{
+    for row in 0..zeros.len() {
+        push_short(places, zeros, least, row)?;
     }
     Ok(())
 }
@@ -141,8 +194,8 @@ fn leaders(alloc: Global, zeros: &SatMatrix, least: usize) -> Result<Vec<usize>,
     ensures led { IfOk result (λ v. (m : ℕ) → m < length zeros.now.rows → IsLedBy zeros.now.rows v.items m) }
 {
     let mut places = Vec::new(alloc);
-    push_leaders(&mut places, zeros, least)?;
-    push_leaders(&mut places, zeros, 0)?;
+    push_all_long(&mut places, zeros, least)?;
+    push_all_short(&mut places, zeros, least)?;
     Ok(places)
 }
 

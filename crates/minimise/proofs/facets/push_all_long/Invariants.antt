@@ -3,7 +3,7 @@ use Rattle.std.specs.Prelude.{All}
 use Rattle.sat_matrix.specs.Tables.{bits_of}
 use Rattle.sat_matrix.specs.Counts.{ones}
 use Rattle.minimise.specs.Facets.{IsLedBy}
-use Rattle.minimise.proofs.facets.push_leaders.Given as goal
+use Rattle.minimise.proofs.facets.push_all_long.Given as goal
 
 abbrev pub invariant-loop-row : goal.invariant-loop-row
 invariant-loop-row l = record {
