@@ -55,7 +55,6 @@ impl WordRows {
     }
 
     /// Whether some row other than `i` and `j` has each bit that both have.
-    #[inline(never)]
     pub fn has_third_row(&self, i: usize, j: usize) -> bool
         requires first { i < length self.now.rows }
         requires second { j < length self.now.rows }
