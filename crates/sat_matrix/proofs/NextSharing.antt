@@ -12,9 +12,6 @@ use Rattle.sat_matrix.proofs.Counting.{shared_seen, shared-le}
 pub places_along : (a b c d : List ℕ) → a ≡ c → b ≡ d → shared_places a b ≡ shared_places c d
 places_along a b c d e f = ap (λ (x : List ℕ). shared_places x b) e ∙ ap (λ (y : List ℕ). shared_places c y) f
 
-pub first_none : (holds : ℕ → Type 0) (from size next : ℕ) → from ≤ size → next ≡ size → ((q : ℕ) → from ≤ q → q < size → ¬ (holds q)) → IsFirstFrom holds from size next
-first_none holds from size next fits e none = record { behind = omega (arith, fits, e); within = omega (arith, e); before = λ q a b. none q a (omega (arith, b, e)); at = λ h. absurd (omega (arith, h, e)) }
-
 pub none_more : (holds : ℕ → Type 0) (from q : ℕ) → ((p : ℕ) → from ≤ p → p < q → ¬ (holds p)) → ¬ (holds q) → (p : ℕ) → from ≤ p → p < q + 1 → ¬ (holds p)
 none_more holds from q before here p a b h = elim (cases_eq p q) [
   | inl e ↦ here (subst holds e h)
