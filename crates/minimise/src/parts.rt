@@ -11,7 +11,7 @@ use crate::bases::basis;
 use crate::facets::{Facets, facets_of};
 use crate::fault::Fault;
 use crate::reduction::reduce;
-use row_core::{RowBuf, RowList, Steps};
+use row_core::{RowList, Steps};
 use sat_matrix::SatMatrix;
 use std::alloc::Global;
 use std::sync::ledger::Ledger;
@@ -39,10 +39,10 @@ fn reduced_rows<L: Ledger>(
     ensures reduced { MatchResult result (λ new. Pointwise (λ i r. IsReduced (vectors lines.now.rows) (row_at rows.now.rows i) r) kept.now (vectors new.rows)) (IsRowFault rows.now.rows (vectors lines.now.rows)) }
     ensures list { IfOk result (λ new. (new.width ≡ rows.now.width) × AreMarked false new.rows) }
 {
-    let mut new = RowList::new(alloc, lines.width());
+    let mut new = RowList::with_room(alloc, lines.width(), kept.len())?;
     for index in 0..kept.len() {
         let reduced = reduce(alloc, lines, rows.row(kept[index]), steps)?;
-        new.push_row(RowBuf::from_vec(reduced), false)?;
+        new.push(&reduced, false)?;
     }
     Ok(new)
 }

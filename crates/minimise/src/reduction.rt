@@ -87,8 +87,12 @@ pub(crate) fn reduce<L: Ledger>(
     ensures reduced { MatchResult result (λ v. IsReduced (vectors lines.now.rows) row.now v.items) (IsReduceFault (vectors lines.now.rows) row.now) }
     ensures in_range { IfOk result (λ v. AllInRange v.items) }
 {
-    let mut scratch = zeros(alloc, lines.width())?;
+    let width = lines.width();
     let mut reduced = RowBuf::primitive(alloc, row)?.into_vec();
+    if lines.is_empty() {
+        return Ok(reduced);
+    }
+    let mut scratch = zeros(alloc, width)?;
     for index in 0..lines.len() {
         let line = lines.row(index);
         let cleared = clear_at(&mut reduced, &mut scratch, line, pivot_of(line), steps);

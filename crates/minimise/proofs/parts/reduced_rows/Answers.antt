@@ -25,7 +25,7 @@ reduce-requires-clause-in_range g c = subst AllInRange (sym c.row.ensures.value)
 pub returns-in_err-reduced-clause-reduced : goal.returns-in_err-reduced-clause-reduced
 returns-in_err-reduced-clause-reduced g c =
     let rows = c.args.rows.now.rows in
-    let p = err_from_is_err_and c.from_residual.result c.from_residual.ensures.1 in
+    let p = err_from_is_err_and c.from_residual-in_err-reduced.result c.from_residual-in_err-reduced.ensures.1 in
     rw (p.1, p.2) (row_fault rows (vectors c.args.lines.now.rows) (get_or c.args.kept.now c.loop-index.index 0) c.row.result.now _ (c.requires.within c.loop-index.index 0 c.loop-index-test.true) c.row.ensures.value c.in_err-reduced.ensures.reduced)
 
 pub returns-in_err-reduced-clause-counted : goal.returns-in_err-reduced-clause-counted
@@ -36,8 +36,8 @@ returns-in_err-reduced-clause-counted g c =
     let most = mul-le-mul_right c.args.rows.now.width more in
     (omega (arith, inv.no_fewer, c.reduce.ensures.counted), omega (arith, inv.no_more, c.reduce.ensures.counted, narrow, c.requires.width, most))
 
-pub returns-in_err-push_row-clause-counted : goal.returns-in_err-push_row-clause-counted
-returns-in_err-push_row-clause-counted g c =
+pub returns-in_err-push-clause-counted : goal.returns-in_err-push-clause-counted
+returns-in_err-push-clause-counted g c =
     let inv = c.loop-index.invariant in
     let narrow = lines_narrow c.args.lines.now c.width.ensures.rows c.requires.echelon in
     let more : c.loop-index.index + 1 ≤ length c.args.kept.now = omega arith in
@@ -47,19 +47,19 @@ returns-in_err-push_row-clause-counted g c =
 pub loop-index-preserved : goal.loop-index-preserved
 loop-index-preserved g c =
     let inv = c.loop-index.invariant in
-    let pushed = c.in_ok-push_row.ensures.rows in
+    let pushed = c.in_ok-push.ensures.rows in
     let index = c.loop-index.index in
     let narrow = lines_narrow c.args.lines.now c.width.ensures.rows c.requires.echelon in
-    let made : IsReduced (vectors c.args.lines.now.rows) (row_at c.args.rows.now.rows (get_or c.args.kept.now c.loop-index.index 0)) c.from_vec.result =
-    subst (λ (v : List ℤ). IsReduced (vectors c.args.lines.now.rows) (row_at c.args.rows.now.rows (get_or c.args.kept.now c.loop-index.index 0)) v) (sym c.from_vec.ensures)
+    let made : IsReduced (vectors c.args.lines.now.rows) (row_at c.args.rows.now.rows (get_or c.args.kept.now c.loop-index.index 0)) c.deref.result.now =
+    subst (λ (v : List ℤ). IsReduced (vectors c.args.lines.now.rows) (row_at c.args.rows.now.rows (get_or c.args.kept.now c.loop-index.index 0)) v) (sym c.deref.ensures.value)
     (subst (λ (v : List ℤ). IsReduced (vectors c.args.lines.now.rows) v c.in_ok-reduced.reduced.items) c.row.ensures.value c.in_ok-reduced.ensures.reduced) in
     record {
-      width = c.in_ok-push_row.ensures.width ∙ inv.width;
+      width = c.in_ok-push.ensures.width ∙ inv.width;
       no_fewer = omega (arith, inv.no_fewer, c.reduce.ensures.counted);
       no_more = omega (arith, inv.no_more, c.reduce.ensures.counted, narrow, c.requires.width);
-      reduced = pointwise_more (λ (i : ℕ) (r : List ℤ). IsReduced (vectors c.args.lines.now.rows) (row_at c.args.rows.now.rows i) r) c.args.kept.now (vectors c.loop-index.new.rows) (vectors c.push_row.new.self.rows) index 0 c.from_vec.result c.loop-index-test.true inv.reduced made
-          (ap vectors pushed ∙ vectors_push c.loop-index.new.rows c.from_vec.result false);
-      marks = All-same (λ (row : Row). row.1 ≡ false) c.push_row.new.self.rows _ pushed (marked_push false c.loop-index.new.rows _ inv.marks);
+      reduced = pointwise_more (λ (i : ℕ) (r : List ℤ). IsReduced (vectors c.args.lines.now.rows) (row_at c.args.rows.now.rows i) r) c.args.kept.now (vectors c.loop-index.new.rows) (vectors c.push.new.self.rows) index 0 c.deref.result.now c.loop-index-test.true inv.reduced made
+          (ap vectors pushed ∙ vectors_push c.loop-index.new.rows c.deref.result.now false);
+      marks = All-same (λ (row : Row). row.1 ≡ false) c.push.new.self.rows _ pushed (marked_push false c.loop-index.new.rows _ inv.marks);
     }
 
 pub returns-clause-reduced : goal.returns-clause-reduced

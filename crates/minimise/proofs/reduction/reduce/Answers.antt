@@ -1,5 +1,5 @@
 use Rattle.std.proofs.Common.{◌≡◌, ◌+◌, ◌<◌, suc, ℕ, List, ℤ, [], length, take, drop, rules, arith, sym, ap, ◌∙◌, subst}
-use Rattle.std.proofs.lemmas.List.{take_at}
+use Rattle.std.proofs.lemmas.List.{take_at, nil_from_length}
 use Rattle.row_core.specs.Vectors.{cell}
 use Rattle.row_core.specs.Range.{AllInRange}
 use Rattle.row_core.specs.Content.{IsPrimitive}
@@ -22,6 +22,13 @@ loop-index-init g c = record {
   in_range = subst AllInRange (sym c.into_vec-reduced.ensures.value) c.in_ok-primitive.ensures.in_range;
 }
 
+pub returns-then-is_empty-clause-reduced : goal.returns-then-is_empty-clause-reduced
+returns-then-is_empty-clause-reduced g c =
+    let count : length c.args.lines.now.rows ≡ 0 = search rules in
+    let none : vectors c.args.lines.now.rows ≡ [] = nil_from_length (vectors c.args.lines.now.rows) (length-vectors c.args.lines.now.rows ∙ count) in
+    subst (λ (lines : List (List ℤ)). IsReduced lines c.args.row.now c.into_vec-reduced.result.items) (sym none)
+    (subst (λ (v : List ℤ). IsReduced [] c.args.row.now v) (sym c.into_vec-reduced.ensures.value) (reduced_none c.args.row.now c.in_ok-primitive.field-0 c.in_ok-primitive.ensures.primitive c.in_ok-primitive.ensures.width))
+
 pub pivot_of-requires : goal.pivot_of-requires
 pivot_of-requires g c =
     let rows = c.args.lines.now.rows in
@@ -41,7 +48,7 @@ left_of-requires-clause-right g c =
     let written : c.deref.result.now ≡ c.clear_at-cleared.new.row = c.deref.ensures.value ∙ take_at new (drop (length new) c.loop-index.reduced.items) c.loop-index.reduced.len (omega (arith, c.clear_at-cleared.ensures.widths.0, c.deref_mut.ensures.len)) in
     let wide : length c.deref.result.now ≡ c.args.lines.now.width = ap (λ (v : List ℤ). length v) written ∙ c.clear_at-cleared.ensures.widths.0 ∙ ap (λ (v : List ℤ). length v) c.deref_mut.ensures.value ∙ c.loop-index.invariant.reduced.wide ∙ c.requires.wide in (
       subst AllInRange (sym written) c.clear_at-cleared.ensures.in_range,
-      omega (arith, wide, c.width.ensures.narrow),
+      omega (arith, wide, c.width-width.ensures.narrow),
     )
 
 pub returns-in-Err-clause-reduced : goal.returns-in-Err-clause-reduced
