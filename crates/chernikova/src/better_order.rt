@@ -10,11 +10,11 @@ ghost use Rattle.chernikova.specs.Conversion.{IsState, IsAtStep, IsCountedUpto, 
 ghost use Rattle.chernikova.specs.RowOrders.{bits_at, IsPlaced};
 ghost use Rattle.chernikova.specs.Beside.{IsBeside, IsDone};
 
+use crate::adjacency::least_shared;
 use crate::beside::Beside;
 use crate::cone::Cone;
 use crate::conversion::start;
 use crate::order::{rearranged, sorted};
-use crate::ray_step::least_shared;
 use crate::scratch::Scratch;
 use crate::system::System;
 use crate::taking::{row_position, take_row_sparing};

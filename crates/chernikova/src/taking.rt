@@ -5,9 +5,9 @@ ghost use Rattle.chernikova.specs.Conversion.{IsState, IsAtStep, IsRealOverflow}
 ghost use Rattle.chernikova.specs.Plans.{IsPosition, IsPlan, combinations_of};
 ghost use Rattle.chernikova.specs.Beside.{IsOutcomeOfRow};
 
+use crate::adjacency::least_shared;
 use crate::fault::shown;
 use crate::plan::{Plan, Position};
-use crate::ray_step::least_shared;
 use crate::scratch::Scratch;
 use crate::step::{apply_change, carried_out, planned, position};
 use crate::system::System;
