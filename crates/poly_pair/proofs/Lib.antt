@@ -22,3 +22,5 @@ mod SameSets
 mod GeneratorRefusals
 pub mod SpanningSystems
 pub mod PairedSystems
+pub mod CanonicalSystems
+pub mod OtherSystems

@@ -14,3 +14,4 @@ pub mod Starts
 pub mod Zeros
 pub mod Additions
 pub mod Spanning
+pub mod OtherSystems

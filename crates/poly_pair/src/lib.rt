@@ -4,6 +4,7 @@
 //! - [`constraint_list`] and [`generator_list`] are the lists of rows that are converted for a system of
 //!   constraints or generators; [`Poly::from_rows`] and [`Poly::from_vectors`] take such lists.
 //! - [`spanning_generators`] gives generators of the set of a constraint list by one conversion.
+//! - [`generators_alone`] and [`constraints_alone`] give one system of a closed set by one conversion.
 //! - [`GenErr`] says why generators give no polyhedron.
 //!
 //! [`laws`] says what holds of the two systems of each polyhedron; further laws of closed ones are public
@@ -16,6 +17,7 @@ mod errors;
 pub mod laws;
 mod lists;
 mod making;
+mod other_system;
 mod pairing;
 mod poly;
 mod spanning;
@@ -29,6 +31,7 @@ mod zeros;
 pub use errors::GenErr;
 pub use lists::{constraint_list, generator_list};
 pub use making::has_point_kind;
+pub use other_system::{constraints_alone, generators_alone};
 pub use poly::Poly;
 pub use spanning::spanning_generators;
 pub use topology::{MAX_DIM, Topology};

@@ -1,0 +1,83 @@
+//! The generators of a closed set without its constraints, and its constraints without its generators, by one
+//! conversion.
+ghost use Rattle.std.specs.Prelude.{◌≡◌, ℕ, ◌+◌, ◌-◌, ◌^◌, ◌<◌, ◌≤◌, length, IfOk, IfErr};
+ghost use Rattle.chernikova.specs.Conversion.{IsRealOverflow, IsCountedUpto, IsCountedBefore};
+ghost use Rattle.pair_laws.specs.PointSets.{AreClosed, AreClosedKinds};
+ghost use Rattle.pair_laws.specs.WorkLists.{constraint_list, generator_list};
+ghost use Rattle.poly_pair.specs.FirstLists.{LacksPoint};
+ghost use Rattle.poly_pair.specs.OtherSystems.{AreStoredGenerators, AreStoredConstraints};
+ghost use Rattle.poly_pair.specs.declared.topology.TheConstants.{MAX_DIM};
+
+use crate::lists::{constraint_list, generator_list};
+use crate::making::false_constraints;
+use crate::storing::stored_constraints;
+use crate::storing_generators::stored_generators;
+use crate::systems::has_point;
+use crate::topology::{MAX_DIM, Topology};
+use chernikova::convert_in_better_order;
+use cons_sys::ConsSys;
+use gens_sys::GensSys;
+use row_core::{ConvErr, Steps};
+use std::alloc::Global;
+use std::sync::ledger::Ledger;
+
+/// The generators that the closed polyhedron of the constraints stores. Its constraints aren't made.
+///
+/// # Errors
+///
+/// An overflow is one of the conversion of the constraint list.
+pub fn generators_alone<L: Ledger>(
+    alloc: Global,
+    cons: &ConsSys,
+    steps: &mut Steps<L>,
+) -> Result<GensSys, ConvErr>
+    requires narrow { cons.now.dim ≤ MAX_DIM }
+    requires closed { AreClosed cons.now }
+    ensures stored { IfOk result (AreStoredGenerators cons.now) }
+    ensures overflow { IfErr result (IsRealOverflow (cons.now.dim + 1) (constraint_list cons.now)) }
+    ensures no_fewer { steps.old ≤ steps.new }
+    ensures counted { IsCountedUpto (cons.now.dim + 1) (constraint_list cons.now) (length (constraint_list cons.now)) (steps.new - steps.old) }
+    ensures counted_before { IfErr result (IsCountedBefore (cons.now.dim + 1) (constraint_list cons.now) (steps.new - steps.old)) }
+{
+    let rows = constraint_list(alloc, Topology::Closed, cons)?;
+    let dim = cons.dim();
+    let system = match convert_in_better_order(alloc, dim + 1, &rows, steps) {
+        Ok(system) => system,
+        Err(cause) => return Err(cause),
+    };
+    if !has_point(dim, &system.rays) {
+        return Ok(GensSys::new(alloc, dim));
+    }
+    Ok(stored_generators(alloc, dim, &system)?)
+}
+
+/// The constraints that the closed polyhedron of the generators stores. Its generators aren't made.
+///
+/// # Errors
+///
+/// An overflow is one of the conversion of the generator list.
+pub fn constraints_alone<L: Ledger>(
+    alloc: Global,
+    gens: &GensSys,
+    steps: &mut Steps<L>,
+) -> Result<ConsSys, ConvErr>
+    requires narrow { gens.now.dim ≤ MAX_DIM }
+    requires kinds { AreClosedKinds gens.now }
+    requires point { ¬ (LacksPoint gens.now.list) }
+    ensures stored { IfOk result (AreStoredConstraints gens.now) }
+    ensures overflow { IfErr result (IsRealOverflow (gens.now.dim + 1) (generator_list gens.now)) }
+    ensures no_fewer { steps.old ≤ steps.new }
+    ensures counted { IsCountedUpto (gens.now.dim + 1) (generator_list gens.now) (length (generator_list gens.now)) (steps.new - steps.old) }
+    ensures counted_before { IfErr result (IsCountedBefore (gens.now.dim + 1) (generator_list gens.now) (steps.new - steps.old)) }
+{
+    if gens.is_empty() {
+        return Ok(false_constraints(alloc, gens.dim())?);
+    }
+    let rows = generator_list(alloc, Topology::Closed, gens)?;
+    let dim = gens.dim();
+    let system = match convert_in_better_order(alloc, dim + 1, &rows, steps) {
+        Ok(system) => system,
+        Err(cause) => return Err(cause),
+    };
+    Ok(stored_constraints(alloc, dim, &system)?)
+}
