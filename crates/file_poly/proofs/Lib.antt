@@ -1,2 +1,3 @@
 mod FileKinds
 mod WrittenPolyhedra
+mod OtherFiles

@@ -2,9 +2,11 @@
 //!
 //! - [`read_file`] gives the list that a file holds, and [`Listed::polyhedron`] the polyhedron of the
 //!   list.
+//! - [`Listed::other_file`] gives the file of the other system of that polyhedron, which alone is made.
 //! - [`write_file`] gives the file of a polyhedron's constraints, or of its generators.
 #![tactic(auto)]
 
+mod converting;
 mod listed;
 mod reading;
 mod writing;
