@@ -11,6 +11,7 @@ pub mod Powersets
 pub mod Prints
 pub mod Rankings
 pub mod Reading
+pub mod Runs
 pub mod Shapes
 pub mod State
 pub mod Step

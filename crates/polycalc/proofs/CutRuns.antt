@@ -3,7 +3,7 @@ use Rattle.std.proofs.Common.{◌≡◌, ℕ, List, [], ◌∷◌, ◌++◌, map
 use Rattle.calc_state.specs.State.{State, closed}
 use Rattle.calc_state.specs.Step.{Reply}
 use Rattle.calc_state.proofs.CutLines.{step_of_cut}
-use Rattle.polycalc.specs.Runs.{Run}
+use Rattle.calc_state.specs.Runs.{Run}
 
 -- a run over lines that were cut is a run over the lines
 pub run_of_cut : (old : State) (whole : List (List ℕ)) (replies : List Reply) (new : State) → Run old (map (take 65536) whole) replies new → Run old whole replies new

@@ -9,7 +9,7 @@ use Rattle.reply_text.specs.declared.faults.Fault.TheVariants as fault
 use Rattle.calc_state.specs.State.{State, OpenFile}
 use Rattle.calc_state.specs.Step.{Reply, Refused}
 use Rattle.polycalc.specs.Replies.{Written, with_reply, reply_bytes, replies_bytes}
-use Rattle.polycalc.specs.Runs.{cut_off, at_end}
+use Rattle.calc_state.specs.Runs.{cut_off, at_end}
 use Rattle.polycalc.specs.Endings.{Closes, done, refused, unwritten, unmade}
 use Rattle.polycalc.specs.declared.status.Status.{Status}
 use Rattle.polycalc.specs.declared.status.Status.TheVariants as status

@@ -9,7 +9,7 @@ use Rattle.calc_state.specs.State.{closed}
 use Rattle.cdd_text.specs.Tokens.{number}
 use Rattle.cdd_text.specs.declared.format.Format.{Format}
 use Rattle.polycalc.specs.Words.{IsAskedBy, SpellsSize}
-use Rattle.polycalc.specs.Laws.{RunsAreComplete}
+use Rattle.calc_state.specs.Runs.{RunsAreComplete}
 use Rattle.polycalc.specs.Outcomes.{Completes, Converts, Samples, IsReadOut, Finishes, WritesFront, AnswersRead, AnswersFront, Outcome, Ends, Stops, IsRunAnswered, IsFileAnswered, IsSampleAnswered, IsAnswered}
 use Rattle.polycalc.specs.declared.job.Job.{Job}
 use Rattle.polycalc.specs.declared.job.Job.TheVariants as job

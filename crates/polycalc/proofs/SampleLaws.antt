@@ -17,7 +17,7 @@ use Rattle.sample_rows.specs.Samples.{IsSample}
 use Rattle.optimum.specs.Showing.{shown_values}
 use Rattle.line_values.specs.Meaning.{line}
 use Rattle.calc_state.specs.Step.{Reply, Answered, Refused, Overflows}
-use Rattle.polycalc.specs.Replies.{is_answer}
+use Rattle.calc_state.specs.Runs.{is_answer}
 use Rattle.polycalc.specs.Samples.{difference, sample_text, IsOfSample, IsSampleLine, LeavesOnSample, SamplesTo, MustSample}
 
 -- a sample that must be answered is

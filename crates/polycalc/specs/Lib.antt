@@ -1,13 +1,7 @@
 pub mod Words
 pub mod Replies
-pub mod Runs
 pub mod Conversions
 pub mod Samples
 pub mod Endings
 pub mod Outcomes
 pub mod Statuses
-pub mod Acts
-pub mod Sets
-pub mod Sameness
-pub mod Truth
-pub mod Laws

@@ -5,10 +5,10 @@ use Rattle.calc_state.specs.State.{State, closed}
 use Rattle.calc_state.specs.Step.{Reply}
 use Rattle.cdd_text.specs.declared.format.Format.{Format}
 use Rattle.polycalc.specs.Words.{IsAskedBy}
-use Rattle.polycalc.specs.Replies.{reply_bytes, replies_bytes, is_answer, is_clean}
+use Rattle.polycalc.specs.Replies.{reply_bytes, replies_bytes, is_clean}
 use Rattle.polycalc.specs.Conversions.{ConvertsTo, MustConvert}
 use Rattle.polycalc.specs.Samples.{SamplesTo, MustSample}
-use Rattle.polycalc.specs.Runs.{Run, IsComplete, at_end}
+use Rattle.calc_state.specs.Runs.{is_answer, Run, IsComplete, at_end}
 use Rattle.polycalc.specs.declared.job.Job.{Job}
 use Rattle.polycalc.specs.declared.job.Job.TheVariants as job
 use Rattle.polycalc.specs.declared.status.Status.{Status}

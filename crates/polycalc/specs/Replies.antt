@@ -1,6 +1,7 @@
-use Rattle.std.specs.Prelude.{ℕ, List, [], ◌∷◌, ◌++◌, Bool, true, false, ◌&&◌}
+use Rattle.std.specs.Prelude.{ℕ, List, [], ◌∷◌, ◌++◌, Bool, ◌&&◌}
 use Rattle.std.specs.List.{flat_map, list_all}
 use Rattle.calc_state.specs.Step.{Reply, Answered, Refused, Overflows}
+use Rattle.calc_state.specs.Runs.{is_answer}
 use Rattle.reply_text.specs.Faults.{fault_text}
 use Rattle.reply_text.specs.Overflows.{overflow_text}
 
@@ -13,12 +14,6 @@ reply_bytes (Overflows over) = overflow_text over ++ 10 ∷ []
 -- the bytes of replies in order
 abbrev pub replies_bytes : List Reply → List ℕ
 replies_bytes replies = flat_map reply_bytes replies
-
--- the reply is neither a fault nor an overflow
-abbrev pub is_answer : Reply → Bool
-is_answer (Answered text) = true
-is_answer (Refused fault) = false
-is_answer (Overflows over) = false
 
 -- no reply is a fault or an overflow
 abbrev pub is_clean : List Reply → Bool

@@ -8,9 +8,9 @@ ghost use Rattle.polycalc.specs.Words.{IsAskedBy};
 ghost use Rattle.polycalc.specs.declared.job.Job.{Job as AnyJob};
 
 mod arguments;
+mod completeness;
 mod conversions;
 mod job;
-mod laws;
 mod replies;
 mod runs;
 mod samples;

@@ -5,7 +5,7 @@ ghost use Rattle.poly_io.specs.Counts.{HasRisen};
 ghost use Rattle.calc_state.specs.Step.{Reply};
 ghost use Rattle.calc_state.specs.Line.{Step};
 ghost use Rattle.polycalc.specs.Replies.{with_reply};
-ghost use Rattle.polycalc.specs.Runs.{at_end};
+ghost use Rattle.calc_state.specs.Runs.{at_end};
 ghost use Rattle.polycalc.specs.Endings.{Closes};
 ghost use Rattle.polycalc.specs.Outcomes.{Outcome, GivesUp};
 ghost use Rattle.polycalc.specs.declared.job.Job.TheVariants as job;

@@ -7,9 +7,9 @@ ghost use Rattle.polycalc.specs.Outcomes.{Outcome, Ends, Stops, IsAnswered, IsSa
 ghost use Rattle.polycalc.specs.declared.job.Job.{Job as AnyJob};
 ghost use Rattle.polycalc.specs.declared.job.Job.TheVariants.{Sample};
 
+use crate::completeness::runs_are_complete;
 use crate::conversions::convert_file;
 use crate::job::Job;
-use crate::laws::runs_are_complete;
 use crate::runs::run_lines;
 use crate::samples::write_sample;
 use crate::status::Status;

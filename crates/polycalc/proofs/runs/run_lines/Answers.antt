@@ -10,7 +10,7 @@ use Rattle.calc_state.specs.Line.{Step}
 use Rattle.calc_state.specs.State.{State}
 use Rattle.polycalc.specs.Replies.{Written, written}
 use Rattle.polycalc.proofs.StreamLaws.{Goes, start_reading, goes_start, goes_line, goes_written, front_of_goes, goes_end, written_at_end, ends_script, goes_failed, goes_too_long, goes_earlier, goes_unanswered, goes_before, ended_before, none_before, nothing_streamed, few_taken, size_given, match_true, risen_since}
-use Rattle.polycalc.specs.Runs.{at_end}
+use Rattle.calc_state.specs.Runs.{at_end}
 use Rattle.polycalc.specs.Outcomes.{AnswersFirst}
 use Rattle.polycalc.specs.declared.status.Status.TheVariants.{ReadFault, WriteFault, Memory}
 use Rattle.polycalc.proofs.EndLaws.{never_unread}

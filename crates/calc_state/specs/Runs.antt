@@ -1,0 +1,39 @@
+-- Runs over lines.
+use Rattle.std.specs.Prelude.{◌≡◌, ℕ, List, [], ◌∷◌, Bool, true, false, Option, None, Some}
+use Rattle.reply_text.specs.declared.faults.Fault.TheVariants as fault
+use Rattle.calc_state.specs.State.{State, OpenFile}
+use Rattle.calc_state.specs.Step.{Reply, Answered, Refused, Overflows}
+use Rattle.calc_state.specs.Line.{Step, MustSucceed}
+
+-- the reply is neither a fault nor an overflow
+abbrev pub is_answer : Reply → Bool
+is_answer (Answered text) = true
+is_answer (Refused fault) = false
+is_answer (Overflows over) = false
+
+-- the calculator may give these replies to these lines, one step after another, and go from the old state to the new
+abbrev pub Run : State → List (List ℕ) → List Reply → State → Type 0
+Run old [] [] new = new ≡ old
+Run old (line ∷ lines) (reply ∷ replies) new = (mid : State) × Step old line reply mid × Run mid lines replies new
+Run old [] (reply ∷ replies) new = ⊥
+Run old (line ∷ lines) [] new = ⊥
+
+-- each line of the run that must succeed is answered
+abbrev pub IsComplete : (old : State) (lines : List (List ℕ)) (replies : List Reply) (new : State) → Run old lines replies new → Type 0
+IsComplete old [] [] new run = Unit {0}
+IsComplete old (line ∷ lines) (reply ∷ replies) new (mid, step, run) = (MustSucceed old line → is_answer reply ≡ true) × IsComplete mid lines replies new run
+IsComplete old [] (reply ∷ replies) new run = ⊥
+IsComplete old (line ∷ lines) [] new run = ⊥
+
+-- in each run each line that must succeed is answered
+abbrev pub RunsAreComplete : Type 0
+RunsAreComplete = (old : State) (lines : List (List ℕ)) (replies : List Reply) (new : State) (run : Run old lines replies new) → IsComplete old lines replies new run
+
+-- a file that is open is cut off by the end of the script
+abbrev pub cut_off : Option OpenFile → List Reply
+cut_off None = []
+cut_off (Some file) = Refused fault.Truncated ∷ []
+
+-- the reply to the end of a script
+abbrev pub at_end : State → List Reply
+at_end state = cut_off state.file

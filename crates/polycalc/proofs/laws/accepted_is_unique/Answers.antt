@@ -1,7 +1,0 @@
-use Rattle.std.proofs.Common.{[]}
-use Rattle.std.specs.Prelude.{None}
-use Rattle.polycalc.proofs.AcceptedRuns.{accepted_once}
-use Rattle.polycalc.proofs.laws.accepted_is_unique.Goals as goal
-
-pub returns : goal.returns
-returns c = λ lines replies all rest a b. accepted_once c.one_command.ensures None [] lines replies all rest a b

@@ -1,7 +1,0 @@
-use Rattle.std.proofs.Common.{[]}
-use Rattle.calc_state.specs.State.{closed}
-use Rattle.polycalc.proofs.DistinctNames.{run_distinct}
-use Rattle.polycalc.proofs.laws.names_are_distinct.Goals as goal
-
-pub returns : goal.returns
-returns c = λ lines replies new run. run_distinct c.names_stay_distinct.ensures.step (closed []) new lines replies c.names_stay_distinct.ensures.empty run

@@ -1,0 +1,88 @@
+-- What an accepted command says of its operands.
+use Rattle.std.proofs.Common.{◌≡◌, ◌≢◌, ℕ, ◌+◌, ◌%◌, ◌<◌, ◌≤◌, List, refl, inl, inr, arith}
+use Rattle.std.proofs.lemmas.Bool.{cases_lt}
+use Rattle.poly_pair.specs.Polyhedra.{Polyhedron}
+use Rattle.poly_pair.specs.declared.topology.Topology.{Topology}
+use Rattle.poly_pair.specs.declared.topology.Topology.TheVariants.{Closed, Nnc}
+use Rattle.powerset.specs.Powersets.{Union}
+use Rattle.bd_shape.specs.Shapes.{Region}
+use Rattle.script_text.specs.declared.command.Operator.{Operator}
+use Rattle.script_text.specs.declared.command.Operator.TheVariants as operator
+use Rattle.line_values.specs.Order.{Conditions, Passes}
+use Rattle.line_values.specs.Meaning.{alike}
+use Rattle.poly_commands.specs.Operators.{fitting, Fits}
+use Rattle.calc_state.specs.Powersets.{alike_unions, misses_member}
+use Rattle.calc_state.specs.Rankings.{relates_states}
+use Rattle.calc_state.specs.Shapes.{closed, of_one_dim}
+use Rattle.poly_commands.specs.Widening.{nested, IsWidened}
+use Rattle.run_laws.specs.Sets.{AreAlike, AreAlikeUnions, HaveOneDim, IsOfNested}
+
+-- ---- the operands of a command that passes its tests
+pub one_topology : (s t : Topology) → ¬ (s ≢ t) → s ≡ t
+one_topology Closed Closed h = refl
+one_topology Nnc Nnc h = refl
+one_topology Closed Nnc h = absurd (h (λ e. cc))
+one_topology Nnc Closed h = absurd (h (λ e. cc))
+
+at_most : (m n : ℕ) → ¬ (m < n) → n ≤ m
+at_most m n h =
+    elim (cases_lt m n) [
+      | inl less ↦ absurd (h less)
+      | inr least ↦ omega (arith, least)
+    ]
+
+one_number : (m n : ℕ) → ¬ (m ≢ n) → m ≡ n
+one_number m n h =
+    elim (cases_lt m n) [
+      | inl less ↦ absurd (h (λ e. omega (arith, less, e)))
+      | inr least ↦ elim (cases_lt n m) [
+        | inl more ↦ absurd (h (λ e. omega (arith, more, e)))
+        | inr most ↦ omega (arith, least, most)
+      ]
+    ]
+
+-- two polyhedra
+pub are_alike : (p q : Polyhedron) (others : Conditions) → Passes (alike p q others) → AreAlike p q
+are_alike p q others passes = record { topology = one_topology p.topology q.topology passes.1.0; dim = one_number p.cons.dim q.cons.dim passes.1.1.1.0 }
+
+-- those of an operator
+pub fit_operator : (op : Operator) (p q : Polyhedron) (others : Conditions) → Passes (fitting op p q others) → Fits op p q
+fit_operator operator.Concat p q others passes = (one_topology p.topology q.topology passes.1.0, at_most _ (p.cons.dim + q.cons.dim) passes.1.1.1.1.0)
+fit_operator operator.Meet p q others passes = (one_topology p.topology q.topology passes.1.0, one_number p.cons.dim q.cons.dim passes.1.1.1.0)
+fit_operator operator.Hull p q others passes = (one_topology p.topology q.topology passes.1.0, one_number p.cons.dim q.cons.dim passes.1.1.1.0)
+fit_operator operator.Elapse p q others passes = (one_topology p.topology q.topology passes.1.0, one_number p.cons.dim q.cons.dim passes.1.1.1.0)
+
+-- two powersets
+pub are_alike_unions : (s t : Union) (others : Conditions) → Passes (alike_unions s t others) → AreAlikeUnions s t
+are_alike_unions s t others passes = record { topology = one_topology s.topology t.topology passes.1.0; dim = one_number s.dim t.dim passes.1.1.1.0 }
+
+-- two shapes
+pub have_one_dim : (s t : Region) (others : Conditions) → Passes (of_one_dim s t others) → HaveOneDim s t
+have_one_dim s t others passes = one_number s.dim t.dim passes.1.1.1.0
+
+-- a closed polyhedron, and a closed relation of states
+pub is_closed : (p : Polyhedron) (others : Conditions) → Passes (closed p others) → p.topology ≡ Closed
+is_closed p others passes = one_topology p.topology Closed passes.1.1.0
+
+pub is_closed_relation : (r : Polyhedron) (others : Conditions) → Passes (relates_states r others) → r.topology ≡ Closed
+is_closed_relation r others passes = one_topology r.topology Closed passes.1.1.0
+
+pub is_even : (r : Polyhedron) (others : Conditions) → Passes (relates_states r others) → r.cons.dim % 2 ≡ 0
+is_even r others passes = one_number (r.cons.dim % 2) 0 passes.1.1.1.0
+
+-- the number of a member isn't 0
+pub is_counted : (count i : ℕ) (others : Conditions) → Passes (misses_member count i others) → 0 < i
+is_counted count i others passes =
+    elim (cases_lt 0 i) [
+      | inl more ↦ more
+      | inr most ↦ absurd (passes.1.1.1.1.1.0 (inl (omega (arith, most))))
+    ]
+
+-- a widening
+pub of_nested : (p q r : Polyhedron) (others : Conditions) → Passes (nested p q others) → IsWidened p q r → IsOfNested p q r
+of_nested p q r others passes h = record {
+  alike = record { topology = one_topology p.topology q.topology passes.1.0; dim = one_number p.cons.dim q.cons.dim passes.1.1.1.0 };
+  closed = one_topology p.topology Closed passes.1.1.0;
+  nested = h.nested;
+  is = h.widening;
+}

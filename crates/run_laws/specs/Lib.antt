@@ -1,0 +1,5 @@
+pub mod Acts
+pub mod Sets
+pub mod Sameness
+pub mod Truth
+pub mod Laws
