@@ -17,7 +17,6 @@ use Rattle.loop_analysis.specs.declared.loops.Assignment.{Assignment}
 use Rattle.loop_bounds.specs.declared.reading.Draft.{Draft}
 use Rattle.loop_bounds.specs.declared.reading.Draft.TheVariants.{Nothing, Dimension, Started, Whole}
 use Rattle.loop_bounds.specs.declared.reading.LoopErr.{LoopErr}
-use Rattle.loop_bounds.specs.declared.reading.LoopErr.TheVariants as loop_err
 use Rattle.loop_analysis.specs.Loops.{WhileLoop, with_assignment}
 
 -- ---- lines
@@ -34,32 +33,36 @@ HasPart word line = (part : List ℕ) × (line ≡ word ++ part)
 abbrev pub assignment_word : ℕ → List ℕ
 assignment_word j = variable_text j ++ codes " := "
 
--- the number of variables behind its word, as an expression without a variable
-pub record IsDimensionLine (line : List ℕ) (dim : ℕ) : Type 0 where
+-- behind the word with which the line begins stands a part with this property
+pub record IsBehind (word line : List ℕ) (P : List ℕ → Type 0) : Type 0 where
   pub part : List ℕ
-  pub behind : line ≡ codes "variables " ++ part
+  pub behind : line ≡ word ++ part
+  pub holds : P part
+
+-- a number of variables that isn't too large, as an expression without a variable
+pub record IsDimension (dim : ℕ) (part : List ℕ) : Type 0 where
   pub number : IsExpr 0 part (pos dim ∷ [])
   pub narrow : dim ≤ MAX_DIM
 
--- constraints behind a word, none of them strict
-pub record IsConstraintLine (word : List ℕ) (dim : ℕ) (line : List ℕ) (cs : Constraints) : Type 0 where
-  pub part : List ℕ
-  pub behind : line ≡ word ++ part
+-- constraints, none of them strict
+pub record IsClosedCons (dim : ℕ) (cs : Constraints) (part : List ℕ) : Type 0 where
   pub constraints : IsCons dim part cs
   pub closed : AreClosed cs
 
--- a variable, and behind `:=` the fraction that it becomes
-pub record IsAssignmentLine (dim : ℕ) (line : List ℕ) (a : Assignment) : Type 0 where
-  pub part : List ℕ
-  pub behind : line ≡ assignment_word a.variable ++ part
-  pub variable : a.variable < dim
-  pub value : IsFrac dim part a.value.expr a.value.den
+-- the fraction that the variable becomes
+pub record IsValue (dim variable : ℕ) (a : Assignment) (part : List ℕ) : Type 0 where
+  pub same : a.variable ≡ variable
+  pub below : variable < dim
+  pub fraction : IsFrac dim part a.value.expr a.value.den
+
+abbrev pub IsAssignmentLine : ℕ → List ℕ → Assignment → Type 0
+IsAssignmentLine dim line a = (variable : ℕ) × IsBehind (assignment_word variable) line (IsValue dim variable a)
 
 -- a line that isn't silent adds to what the lines before say: the number of variables, the constraints of the start, those of the guard, and then an assignment
 abbrev pub Adds : Draft → List ℕ → Draft → Type 0
-Adds Nothing line new = (dim : ℕ) × IsDimensionLine line dim × (new ≡ Dimension dim)
-Adds (Dimension dim) line new = (start : Constraints) × IsConstraintLine (codes "start ") dim line start × (new ≡ Started start)
-Adds (Started start) line new = (guard : Constraints) × IsConstraintLine (codes "while ") start.dim line guard × (new ≡ Whole (record { dim = start.dim; start = start; guard = guard; body = [] }))
+Adds Nothing line new = (dim : ℕ) × IsBehind (codes "variables ") line (IsDimension dim) × (new ≡ Dimension dim)
+Adds (Dimension dim) line new = (start : Constraints) × IsBehind (codes "start ") line (IsClosedCons dim start) × (new ≡ Started start)
+Adds (Started start) line new = (guard : Constraints) × IsBehind (codes "while ") line (IsClosedCons start.dim guard) × (new ≡ Whole (record { dim = start.dim; start = start; guard = guard; body = [] }))
 Adds (Whole l) line new = (a : Assignment) × IsAssignmentLine l.dim line a × (new ≡ Whole (with_assignment l a))
 
 abbrev pub Says : Draft → List ℕ → Draft → Type 0
@@ -82,11 +85,7 @@ abbrev pub refused_behind : ℕ → ReadErr → ReadErr
 refused_behind n (Input fault) = Input (behind_word n fault)
 refused_behind n Memory = Memory
 
--- the line doesn't begin with the word
-abbrev pub IsWordFault : List ℕ → List ℕ → Fault → Type 0
-IsWordFault word line fault = (¬ (HasPart word line)) × (fault ≡ Syntax 1)
-
--- what stands behind the word has a fault
+-- what stands behind the word has a fault, which is shown at its column in the line
 pub record IsPartFault (word line : List ℕ) (P : List ℕ → Fault → Type 0) (fault : Fault) : Type 0 where
   pub part : List ℕ
   pub behind : line ≡ word ++ part
@@ -94,55 +93,41 @@ pub record IsPartFault (word line : List ℕ) (P : List ℕ → Fault → Type 0
   pub is_cause : P part cause
   pub shown : fault ≡ behind_word (length word) cause
 
+-- the line doesn't begin with the word, or what stands behind it has a fault
+abbrev pub IsLineFault : List ℕ → List ℕ → (List ℕ → Fault → Type 0) → Fault → Type 0
+IsLineFault word line P fault = ((¬ (HasPart word line)) × (fault ≡ Syntax 1)) ⊎ IsPartFault word line P fault
+
 -- a number that is no dimension
-pub record IsNumberFault (line : List ℕ) (fault : Fault) : Type 0 where
-  pub part : List ℕ
-  pub behind : line ≡ codes "variables " ++ part
+pub record IsWrongNumber (part : List ℕ) : Type 0 where
   pub value : ℤ
   pub number : IsExpr 0 part (value ∷ [])
   pub outside : (value <ℤ pos 0) ⊎ (pos MAX_DIM <ℤ value)
-  pub shown : fault ≡ TooManyDims
 
 abbrev pub IsDimensionFault : List ℕ → Fault → Type 0
-IsDimensionFault line fault = IsWordFault (codes "variables ") line fault ⊎ (IsPartFault (codes "variables ") line (λ part. IsTextFault expr_cases part (IsValueFault (IsExprFault 0 part))) fault ⊎ IsNumberFault line fault)
+IsDimensionFault part fault = IsTextFault expr_cases part (IsValueFault (IsExprFault 0 part)) fault ⊎ (IsWrongNumber part × (fault ≡ TooManyDims))
 
 -- constraints of which one is strict
-pub record IsStrictFault (word : List ℕ) (dim : ℕ) (line : List ℕ) (fault : Fault) : Type 0 where
-  pub part : List ℕ
-  pub behind : line ≡ word ++ part
+pub record AreStrict (dim : ℕ) (part : List ℕ) : Type 0 where
   pub cs : Constraints
   pub constraints : IsCons dim part cs
   pub strict : ¬ (AreClosed cs)
-  pub shown : fault ≡ StrictInClosed
 
-abbrev pub IsConstraintFault : List ℕ → ℕ → List ℕ → Fault → Type 0
-IsConstraintFault word dim line fault = IsWordFault word line fault ⊎ (IsPartFault word line (λ part. IsTextFault cons_cases part (IsValueFault (IsConsFault dim part))) fault ⊎ IsStrictFault word dim line fault)
+abbrev pub IsConstraintFault : ℕ → List ℕ → Fault → Type 0
+IsConstraintFault dim part fault = IsTextFault cons_cases part (IsValueFault (IsConsFault dim part)) fault ⊎ (AreStrict dim part × (fault ≡ StrictInClosed))
 
--- no variable begins the line
-abbrev pub IsNoAssignment : List ℕ → Fault → Type 0
-IsNoAssignment line fault = ((j : ℕ) → j < MAX_DIM → ¬ (HasPart (assignment_word j) line)) × (fault ≡ Syntax 1)
+-- the loop doesn't have the variable, or its fraction has a fault
+abbrev pub IsVariableFault : ℕ → ℕ → List ℕ → Fault → Type 0
+IsVariableFault dim variable part fault = ((dim ≤ variable) × (fault ≡ OutOfRange)) ⊎ ((variable < dim) × IsTextFault frac_cases part (IsValueFault (IsFracFault dim part)) fault)
 
--- one that the loop doesn't have does
-pub record IsVariableFault (dim : ℕ) (line : List ℕ) (fault : Fault) : Type 0 where
-  pub variable : ℕ
-  pub above : dim ≤ variable
-  pub begins : HasPart (assignment_word variable) line
-  pub shown : fault ≡ OutOfRange
-
--- the fraction of a variable has a fault
-pub record IsFractionFault (dim : ℕ) (line : List ℕ) (fault : Fault) : Type 0 where
-  pub variable : ℕ
-  pub below : variable < dim
-  pub fraction : IsPartFault (assignment_word variable) line (λ part. IsTextFault frac_cases part (IsValueFault (IsFracFault dim part))) fault
-
+-- no variable begins the line, or one does and what stands behind it has a fault
 abbrev pub IsAssignmentFault : ℕ → List ℕ → Fault → Type 0
-IsAssignmentFault dim line fault = IsNoAssignment line fault ⊎ (IsVariableFault dim line fault ⊎ IsFractionFault dim line fault)
+IsAssignmentFault dim line fault = (((j : ℕ) → j < MAX_DIM → ¬ (HasPart (assignment_word j) line)) × (fault ≡ Syntax 1)) ⊎ ((j : ℕ) × IsPartFault (assignment_word j) line (IsVariableFault dim j) fault)
 
 -- the fault of a line that isn't silent, behind lines that say so much
 abbrev pub HasFault : Draft → List ℕ → Fault → Type 0
-HasFault Nothing line fault = IsDimensionFault line fault
-HasFault (Dimension dim) line fault = IsConstraintFault (codes "start ") dim line fault
-HasFault (Started start) line fault = IsConstraintFault (codes "while ") start.dim line fault
+HasFault Nothing line fault = IsLineFault (codes "variables ") line IsDimensionFault fault
+HasFault (Dimension dim) line fault = IsLineFault (codes "start ") line (IsConstraintFault dim) fault
+HasFault (Started start) line fault = IsLineFault (codes "while ") line (IsConstraintFault start.dim) fault
 HasFault (Whole l) line fault = IsAssignmentFault l.dim line fault
 
 -- a refusal is for such a fault; want of memory needs no cause
@@ -150,25 +135,8 @@ abbrev pub IsRefusedFor : (Fault → Type 0) → ReadErr → Type 0
 IsRefusedFor P (Input fault) = P fault
 IsRefusedFor P Memory = ⊤
 
-abbrev pub IsDimensionRefused : List ℕ → ReadErr → Type 0
-IsDimensionRefused line = IsRefusedFor (IsDimensionFault line)
-
-abbrev pub IsConstraintRefused : List ℕ → ℕ → List ℕ → ReadErr → Type 0
-IsConstraintRefused word dim line = IsRefusedFor (IsConstraintFault word dim line)
-
-abbrev pub IsAssignmentRefused : ℕ → List ℕ → ReadErr → Type 0
-IsAssignmentRefused dim line = IsRefusedFor (IsAssignmentFault dim line)
-
-abbrev pub IsAddRefused : Draft → List ℕ → ReadErr → Type 0
-IsAddRefused draft line = IsRefusedFor (HasFault draft line)
-
 abbrev pub IsLineRefused : Draft → List ℕ → ReadErr → Type 0
 IsLineRefused draft line = IsRefusedFor (λ fault. (¬ (IsSilent line)) × HasFault draft line fault)
-
--- the refusal of the line with this number
-abbrev pub refused_at : ℕ → ReadErr → LoopErr
-refused_at number (Input fault) = loop_err.Line number fault
-refused_at number Memory = loop_err.Memory
 
 -- ---- texts
 -- the lines in order, from the first, add to what was said before
@@ -214,6 +182,6 @@ pub record IsCutOff (text : List ℕ) (number : ℕ) (fault : Fault) : Type 0 wh
   pub counted : number ≡ min (length (lines_of text)) (2 ^ 64 - 1)
   pub shown : fault ≡ Truncated
 
+-- why a text spells no loop: a line is refused, or lines are missing
 abbrev pub IsTextRefused : List ℕ → LoopErr → Type 0
-IsTextRefused text (loop_err.Line number fault) = IsRefusedLine text number fault ⊎ IsCutOff text number fault
-IsTextRefused text loop_err.Memory = ⊤
+IsTextRefused text e = IsRefusedFor (λ fault. IsRefusedLine text e.line fault ⊎ IsCutOff text e.line fault) e.cause

@@ -4,13 +4,14 @@ use Rattle.std.specs.Io.KnownBytes.{append_known, IsAtEnd}
 use Rattle.row_core.specs.declared.errors.Overflow.{Overflow}
 use Rattle.cons_sys.specs.Constraints.{Constraints}
 use Rattle.reply_text.specs.declared.faults.Fault.{Fault}
+use Rattle.reply_text.specs.declared.faults.ReadErr.TheVariants.{Input}
 use Rattle.reply_text.specs.Faults.{fault_text}
 use Rattle.reply_text.specs.Overflows.{overflow_text}
 use Rattle.term_text.specs.Systems.{IsCons}
 use Rattle.expr_text.specs.Printed.{constraints_text}
 use Rattle.loop_bounds.specs.declared.status.Status.{Status}
 use Rattle.loop_bounds.specs.declared.status.Status.TheVariants.{Done, Refused, ReadFault, WriteFault, Memory, InputTooLong}
-use Rattle.loop_bounds.specs.declared.reading.LoopErr.TheVariants.{Line}
+use Rattle.loop_bounds.specs.declared.reading.LoopErr.{LoopErr}
 use Rattle.loop_analysis.specs.Loops.{WhileLoop}
 use Rattle.loop_analysis.specs.Runs.{HoldAtHead, HoldBehind}
 use Rattle.loop_analysis.specs.Analysis.{AreBoundsOf, LeavesInAnalysis}
@@ -20,8 +21,9 @@ use Rattle.loop_bounds.specs.Reading.{Spells, IsTextRefused}
 abbrev pub report_text : Constraints → Constraints → List ℕ
 report_text head behind = codes "head " ++ constraints_text head ++ codes "\nbehind " ++ constraints_text behind ++ codes "\n"
 
-abbrev pub refusal_text : ℕ → Fault → List ℕ
-refusal_text number fault = codes "line " ++ decimal number ++ codes " " ++ fault_text fault ++ codes "\n"
+-- the number of the line and its fault
+abbrev pub IsRefusalText : LoopErr → List ℕ → Type 0
+IsRefusalText refused text = (fault : Fault) × (refused.cause ≡ Input fault) × (text ≡ codes "line " ++ decimal refused.line ++ codes " " ++ fault_text fault ++ codes "\n")
 
 abbrev pub overflow_line : Overflow → List ℕ
 overflow_line over = overflow_text over ++ codes "\n"
@@ -46,10 +48,9 @@ pub record IsReport (text reply : List ℕ) : Type 0 where
 
 -- the line that is refused
 pub record IsRefusal (text reply : List ℕ) : Type 0 where
-  pub number : ℕ
-  pub fault : Fault
-  pub refused : IsTextRefused text (Line number fault)
-  pub written : reply ≡ refusal_text number fault
+  pub refused : LoopErr
+  pub is_refused : IsTextRefused text refused
+  pub written : IsRefusalText refused reply
 
 -- an overflow of the analysis
 pub record IsOverflow (text reply : List ℕ) : Type 0 where

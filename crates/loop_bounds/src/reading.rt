@@ -1,17 +1,17 @@
 //! Loops from their texts.
-ghost use Rattle.std.specs.Prelude.{◌≡◌, ◌⊎◌, ◌+◌, ◌-◌, ◌^◌, ◌<◌, ◌≤◌, ◌++◌, pos, ◌<ℤ◌, length, codes, Decides, IfOk, OnOk, IsTrue, ◌↔◌, MatchOption, MatchResult};
-ghost use Rattle.grammar.specs.Cases.{expr_cases, frac_cases, cons_cases};
-ghost use Rattle.row_core.specs.Vectors.{cell};
+ghost use Rattle.std.specs.Prelude.{◌≡◌, ◌≤◌, ◌<◌, ◌++◌, length, codes, Ok, Err, IfOk, IsTrue, ◌↔◌, MatchOption, MatchResult};
 ghost use Rattle.pair_laws.specs.PointSets.{AreClosed};
 ghost use Rattle.poly_pair.specs.declared.topology.TheConstants.{MAX_DIM};
+ghost use Rattle.reply_text.specs.declared.faults.Fault.TheVariants.{Syntax};
+ghost use Rattle.reply_text.specs.declared.faults.ReadErr.TheVariants.{Input};
 ghost use Rattle.loop_analysis.specs.Loops.{IsAssignment};
-ghost use Rattle.loop_bounds.specs.Reading.{IsSilent, HasPart, assignment_word, behind_word, refused_behind, IsDimensionLine, IsConstraintLine, IsAssignmentLine, Says, IsDimensionRefused, IsConstraintRefused, IsAssignmentRefused, Adds, IsAddRefused, IsLineRefused, IsDraft, IsPartial, refused_at, Spells, IsTextRefused};
+ghost use Rattle.loop_bounds.specs.Reading.{IsSilent, HasPart, IsBehind, assignment_word, refused_behind, IsDimension, IsClosedCons, IsValue, IsAssignmentLine, IsDimensionFault, IsConstraintFault, IsVariableFault, IsLineFault, IsAssignmentFault, IsRefusedFor, Adds, HasFault, Says, IsLineRefused, IsDraft, IsPartial, Spells, IsTextRefused};
 
 use cons_sys::{ConKind, ConsSys};
 use expr_text::{Fault, ReadErr, Text, read_cons, read_expr, read_frac};
 use loop_analysis::{Assignment, Loop};
 use poly_pair::MAX_DIM;
-use row_core::{Memory, RowBuf};
+use row_core::Memory;
 use std::alloc::Global;
 
 /// What the lines so far say.
@@ -29,11 +29,11 @@ pub enum Draft {
 
 /// Why a text isn't a loop.
 #[derive(Drop)]
-pub enum LoopErr {
-    /// The first line that is refused, counted from 1, and its fault.
-    Line(u64, Fault),
-    /// Want of memory.
-    Memory,
+pub struct LoopErr {
+    /// The first line that is refused, counted from 1.
+    pub line: u64,
+    /// Its fault, or want of memory.
+    pub cause: ReadErr,
 }
 
 /// Whether the line is empty or a comment.
@@ -43,98 +43,74 @@ fn is_silent(line: &[u8]) -> bool
     line.is_empty() || line[0] == b'#'
 }
 
-/// Whether two texts are the same.
-fn are_same(one: &[u8], other: &[u8]) -> bool
-    ensures { Decides result (one.now ≡ other.now) }
-{
-    one == other
-}
-
 /// What stands behind the word with which a line begins.
-#[tactic(auto, using(crate::proofs::ReadingLemmas::too_short, crate::proofs::ReadingLemmas::no_part, crate::proofs::ReadingLemmas::has_part))]
-fn part_of<'a>(line: &'a [u8], word: &[u8]) -> Option<&'a [u8]>
-    ensures { MatchOption result (¬ (HasPart word.now line.now)) (λ part. line.now ≡ word.now ++ part.now) }
+fn part_of<'a>(line: &'a [u8], word: &[u8]) -> Result<&'a [u8], ReadErr>
+    ensures { MatchResult result (λ part. line.now ≡ word.now ++ part.now) (λ cause. (¬ (HasPart word.now line.now)) × (cause ≡ Input (Syntax 1))) }
 {
-    if line.len() < word.len() {
-        return None;
-    }
-    if !are_same(&line[..word.len()], word) {
-        return None;
-    }
-    Some(&line[word.len()..])
+    line.strip_prefix(word)
+        .ok_or(ReadErr::Input(Fault::Syntax(1)))
 }
 
-/// The refusal of a part, at its column in the line.
-fn behind(word: &[u8], cause: ReadErr) -> ReadErr
-    ensures { result ≡ refused_behind (length word.now) cause }
+/// What was read of the part behind a word, where a fault is shown at its column in the line.
+fn read_behind<T>(word: &[u8], read: Result<T, ReadErr>) -> Result<T, ReadErr>
+    ensures { MatchResult read (λ x. result ≡ Ok x) (λ cause. result ≡ Err (refused_behind (length word.now) cause)) }
 {
-    match cause {
+    read.map_err(|cause| match cause {
         ReadErr::Input(Fault::Syntax(column)) => {
             ReadErr::Input(Fault::Syntax(column.saturating_add(word.len() as u64)))
         }
         other => other,
-    }
-}
-
-/// The number in a row without variables, as a number of variables.
-fn dimension_of(row: &RowBuf) -> Option<usize>
-    requires { length row.now ≡ 1 }
-    ensures { MatchOption result ((cell row.now 0 <ℤ pos 0) ⊎ (pos MAX_DIM <ℤ cell row.now 0)) (λ dim. (cell row.now 0 ≡ pos dim) × (dim ≤ MAX_DIM)) }
-{
-    let value = row.cells()[0];
-    if value < 0 || value > MAX_DIM as i128 {
-        return None;
-    }
-    Some(value as usize)
+    })
 }
 
 /// The number of variables.
-#[tactic(auto, using(crate::proofs::ReadingLemmas::number_wide, crate::proofs::ReadingLemmas::dimension_word, crate::proofs::ReadingLemmas::dimension_part, crate::proofs::ReadingLemmas::dimension_line, crate::proofs::ReadingLemmas::dimension_number))]
-fn read_dimension(alloc: Global, line: &[u8]) -> Result<usize, ReadErr>
-    ensures { MatchResult result (IsDimensionLine line.now) (IsDimensionRefused line.now) }
+#[tactic(auto, using(crate::proofs::ReadingLemmas::number_wide, crate::proofs::ReadingLemmas::dimension_read, crate::proofs::ReadingLemmas::wrong_number, crate::proofs::ReadingLemmas::no_number))]
+fn dimension_of(alloc: Global, part: &[u8]) -> Result<usize, ReadErr>
+    ensures { MatchResult result (λ dim. IsDimension dim part.now) (IsRefusedFor (IsDimensionFault part.now)) }
 {
-    let Some(part) = part_of(line, b"variables ") else {
-        return Err(ReadErr::Input(Fault::Syntax(1)));
-    };
-    let row = match read_expr(alloc, 0, part) {
-        Ok(row) => row,
-        Err(cause) => return Err(behind(b"variables ", cause)),
-    };
-    match dimension_of(&row) {
-        Some(dim) => Ok(dim),
-        None => Err(ReadErr::Input(Fault::TooManyDims)),
+    let row = read_expr(alloc, 0, part)?;
+    match usize::try_from(row.cells()[0]) {
+        Ok(dim) if dim <= MAX_DIM => Ok(dim),
+        _ => Err(ReadErr::Input(Fault::TooManyDims)),
     }
+}
+
+/// The number of variables behind its word.
+#[tactic(auto, using(crate::proofs::ReadingLemmas::no_word))]
+fn read_dimension(alloc: Global, line: &[u8]) -> Result<usize, ReadErr>
+    ensures { MatchResult result (λ dim. IsBehind (codes "variables ") line.now (IsDimension dim)) (IsRefusedFor (IsLineFault (codes "variables ") line.now IsDimensionFault)) }
+{
+    let word = b"variables ";
+    read_behind(word, dimension_of(alloc, part_of(line, word)?))
 }
 
 /// Whether no constraint is strict.
 fn are_closed(cons: &ConsSys) -> bool
     ensures { IsTrue result ↔ AreClosed cons.now }
 {
-    for index in 0..cons.len() {
-        if cons.kind(index) == ConKind::Gt {
-            return false;
-        }
-    }
-    true
+    cons.iter().all(|con| con.1 != ConKind::Gt)
 }
 
-/// The constraints behind a word.
-#[tactic(auto, using(crate::proofs::ReadingLemmas::constraint_word, crate::proofs::ReadingLemmas::constraint_part, crate::proofs::ReadingLemmas::constraint_strict, crate::proofs::ReadingLemmas::constraint_line))]
-fn read_constraints(alloc: Global, word: &[u8], dim: usize, line: &[u8]) -> Result<ConsSys, ReadErr>
+/// Constraints of which none is strict.
+#[tactic(auto, using(crate::proofs::ReadingLemmas::no_constraints, crate::proofs::ReadingLemmas::strict_constraints, crate::proofs::ReadingLemmas::closed_constraints))]
+fn constraints_of(alloc: Global, dim: usize, part: &[u8]) -> Result<ConsSys, ReadErr>
     requires { dim ≤ MAX_DIM }
-    ensures { MatchResult result (IsConstraintLine word.now dim line.now) (IsConstraintRefused word.now dim line.now) }
+    ensures { MatchResult result (λ cs. IsClosedCons dim cs part.now) (IsRefusedFor (IsConstraintFault dim part.now)) }
 {
-    let Some(part) = part_of(line, word) else {
-        return Err(ReadErr::Input(Fault::Syntax(1)));
-    };
-    let cons = match read_cons(alloc, dim, part) {
-        Ok(cons) => cons,
-        Err(cause) => return Err(behind(word, cause)),
-    };
+    let cons = read_cons(alloc, dim, part)?;
     if !are_closed(&cons) {
         return Err(ReadErr::Input(Fault::StrictInClosed));
     }
     Ok(cons)
+}
+
+/// The constraints behind a word.
+#[tactic(auto, using(crate::proofs::ReadingLemmas::no_word))]
+fn read_constraints(alloc: Global, word: &[u8], dim: usize, line: &[u8]) -> Result<ConsSys, ReadErr>
+    requires { dim ≤ MAX_DIM }
+    ensures { MatchResult result (λ cs. IsBehind word.now line.now (IsClosedCons dim cs)) (IsRefusedFor (IsLineFault word.now line.now (IsConstraintFault dim))) }
+{
+    read_behind(word, constraints_of(alloc, dim, part_of(line, word)?))
 }
 
 /// What begins an assignment to a variable.
@@ -150,44 +126,34 @@ fn assignment_word(alloc: Global, variable: usize) -> Result<Text, Memory>
     Ok(word)
 }
 
-/// The assignment to a variable, from what stands behind the word of its line.
-#[tactic(auto, using(crate::proofs::ReadingLemmas::variable_above, crate::proofs::ReadingLemmas::fraction_part, crate::proofs::ReadingLemmas::assignment_line, crate::proofs::ReadingLemmas::read_fits))]
-fn read_value(
+/// The assignment of a fraction to a variable.
+#[tactic(auto, using(crate::proofs::ReadingLemmas::no_fraction, crate::proofs::ReadingLemmas::fraction_read))]
+fn assignment_of(
     alloc: Global,
     dim: usize,
     variable: usize,
-    word: &Text,
     part: &[u8],
 ) -> Result<Assignment, ReadErr>
-    requires dim { dim ≤ MAX_DIM }
-    requires variable { variable < MAX_DIM }
-    requires word { word.now ≡ assignment_word variable }
-    ensures value { MatchResult result (IsAssignmentLine dim (word.now ++ part.now)) (IsAssignmentRefused dim (word.now ++ part.now)) }
-    ensures fits { IfOk result (IsAssignment dim) }
+    requires { dim ≤ MAX_DIM }
+    ensures { MatchResult result (λ a. IsValue dim variable a part.now × IsAssignment dim a) (IsRefusedFor (IsVariableFault dim variable part.now)) }
 {
     if variable >= dim {
         return Err(ReadErr::Input(Fault::OutOfRange));
     }
-    match read_frac(alloc, dim, part) {
-        Ok(value) => {
-            let _in_range = value.expr.cells();
-            Ok(Assignment { variable, value })
-        }
-        Err(cause) => Err(behind(word.bytes(), cause)),
-    }
+    let value = read_frac(alloc, dim, part)?;
+    let _in_range = value.expr.cells();
+    Ok(Assignment { variable, value })
 }
 
 /// An assignment of the body.
 fn read_assignment(alloc: Global, dim: usize, line: &[u8]) -> Result<Assignment, ReadErr>
     requires { dim ≤ MAX_DIM }
-    ensures value { MatchResult result (IsAssignmentLine dim line.now) (IsAssignmentRefused dim line.now) }
-    ensures fits { IfOk result (IsAssignment dim) }
+    ensures { MatchResult result (λ a. IsAssignmentLine dim line.now a × IsAssignment dim a) (IsRefusedFor (IsAssignmentFault dim line.now)) }
 {
     for variable in 0..MAX_DIM {
         let word = assignment_word(alloc, variable)?;
-        match part_of(line, word.bytes()) {
-            Some(part) => return read_value(alloc, dim, variable, &word, part),
-            None => {}
+        if let Ok(part) = part_of(line, word.bytes()) {
+            return read_behind(word.bytes(), assignment_of(alloc, dim, variable, part));
         }
     }
     Err(ReadErr::Input(Fault::Syntax(1)))
@@ -196,7 +162,7 @@ fn read_assignment(alloc: Global, dim: usize, line: &[u8]) -> Result<Assignment,
 /// What the lines say with one more that isn't silent.
 fn add_line(alloc: Global, draft: Draft, line: &[u8]) -> Result<Draft, ReadErr>
     requires { IsDraft draft }
-    ensures { MatchResult result (Adds draft line.now) (IsAddRefused draft line.now) }
+    ensures { MatchResult result (Adds draft line.now) (IsRefusedFor (HasFault draft line.now)) }
 {
     match draft {
         Draft::Nothing => Ok(Draft::Dimension(read_dimension(alloc, line)?)),
@@ -224,25 +190,13 @@ fn read_line(alloc: Global, draft: Draft, line: &[u8]) -> Result<Draft, ReadErr>
     add_line(alloc, draft, line)
 }
 
-/// The refusal of the line with this number.
-fn refused_at(number: u64, cause: ReadErr) -> LoopErr
-    ensures { result ≡ refused_at number cause }
-{
-    match cause {
-        ReadErr::Input(fault) => LoopErr::Line(number, fault),
-        ReadErr::Memory => LoopErr::Memory,
-    }
-}
-
 /// The loop, where the lines give all of it.
 fn whole(draft: Draft) -> Option<Loop>
     ensures { MatchOption result (IsPartial draft) (λ l. draft ≡ Draft.Whole l) }
 {
     match draft {
-        Draft::Nothing => None,
-        Draft::Dimension(_) => None,
-        Draft::Started(_) => None,
         Draft::Whole(program) => Some(program),
+        _ => None,
     }
 }
 
@@ -261,11 +215,15 @@ pub fn read_loop(alloc: Global, text: &[u8]) -> Result<Loop, LoopErr>
         number = number.saturating_add(1);
         draft = match read_line(alloc, draft, line) {
             Ok(next) => next,
-            Err(cause) => return Err(refused_at(number, cause)),
+            Err(cause) => return Err(LoopErr {
+                line: number,
+                cause,
+            }),
         };
     }
-    match whole(draft) {
-        Some(program) => Ok(program),
-        None => Err(LoopErr::Line(number, Fault::Truncated)),
-    }
+    let cause = ReadErr::Input(Fault::Truncated);
+    whole(draft).ok_or(LoopErr {
+        line: number,
+        cause,
+    })
 }

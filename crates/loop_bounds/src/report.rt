@@ -1,8 +1,9 @@
 //! Replies as text.
 ghost use Rattle.std.specs.Prelude.{◌≡◌, IfOk};
-ghost use Rattle.loop_bounds.specs.Replies.{report_text, refusal_text, overflow_line};
+ghost use Rattle.loop_bounds.specs.Replies.{report_text, IsRefusalText, overflow_line};
 
-use expr_text::{Fault, Text, print_cons, print_fault, print_overflow};
+use crate::reading::LoopErr;
+use expr_text::{ReadErr, Text, print_cons, print_fault, print_overflow};
 use loop_analysis::Bounds;
 use row_core::{Memory, Overflow};
 use std::alloc::Global;
@@ -21,12 +22,15 @@ pub fn report(alloc: Global, bounds: &Bounds) -> Result<Text, Memory>
 }
 
 /// The line of a refused line.
-pub fn refusal(alloc: Global, number: u64, fault: &Fault) -> Result<Text, Memory>
-    ensures { IfOk result (λ text. text ≡ refusal_text number fault.now) }
+pub fn refusal(alloc: Global, refused: &LoopErr) -> Result<Text, Memory>
+    ensures { IfOk result (λ text. IsRefusalText refused.now text) }
 {
+    let ReadErr::Input(fault) = &refused.cause else {
+        return Err(Memory);
+    };
     let mut text = Text::new(alloc);
     text.push(b"line ")?;
-    text.push_unsigned(number)?;
+    text.push_unsigned(refused.line)?;
     text.push(b" ")?;
     text.push(print_fault(alloc, fault)?.bytes())?;
     text.push(b"\n")?;

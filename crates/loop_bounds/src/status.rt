@@ -5,33 +5,26 @@ ghost use Rattle.loop_bounds.specs.Statuses.{code_of};
 
 use std::process::ExitCode;
 
-/// How a call ended.
+/// How a call ended. The codes are those of `polycalc`.
 #[derive(Clone, Copy)]
 pub enum Status {
     /// The bounds were written.
-    Done,
+    Done = 0,
     /// The line of a refusal or of an overflow was written.
-    Refused,
+    Refused = 1,
     /// A read failed.
-    ReadFault,
+    ReadFault = 3,
     /// A write failed.
-    WriteFault,
+    WriteFault = 4,
     /// Memory was refused.
-    Memory,
+    Memory = 5,
     /// The source gave more than 2^26 bytes.
-    InputTooLong,
+    InputTooLong = 6,
 }
 
-/// The program's end with this status. The codes are those of `polycalc`.
+/// The program's end with this status.
 pub fn exit_code(status: Status) -> ExitCode
     ensures { exit_status result ≡ code_of status }
 {
-    ExitCode::from(match status {
-        Status::Done => 0,
-        Status::Refused => 1,
-        Status::ReadFault => 3,
-        Status::WriteFault => 4,
-        Status::Memory => 5,
-        Status::InputTooLong => 6,
-    })
+    ExitCode::from(status as u8)
 }

@@ -4,7 +4,7 @@ ghost use Rattle.std.specs.Io.KnownBytes.{prepend_known};
 ghost use Rattle.poly_io.specs.Counts.{HasRisen};
 ghost use Rattle.loop_bounds.specs.Replies.{IsReply, Outcome};
 
-use crate::reading::{LoopErr, read_loop};
+use crate::reading::read_loop;
 use crate::report::{overflow, refusal, report};
 use crate::status::Status;
 use expr_text::{Text, constraints_are_read_back};
@@ -31,11 +31,10 @@ fn reply_to<L: Ledger>(alloc: Global, text: &[u8], steps: &mut Steps<L>) -> Resu
     constraints_are_read_back();
     let program = match read_loop(alloc, text) {
         Ok(program) => program,
-        Err(LoopErr::Line(number, fault)) => {
-            let text = refusal(alloc, number, &fault)?;
+        Err(refused) => {
+            let text = refusal(alloc, &refused)?;
             return Ok(Reply { text, found: false });
         }
-        Err(LoopErr::Memory) => return Err(Memory),
     };
     match find_bounds(alloc, &program, steps) {
         Ok(bounds) => {
