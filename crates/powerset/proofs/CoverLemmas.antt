@@ -8,11 +8,11 @@ use Rattle.std.proofs.lemmas.List.Elements.{All-map, All-weaker, All-contains, C
 use Rattle.row_core.specs.Points.{IsPoint}
 use Rattle.cons_sys.specs.Constraints.{Constraints, In}
 use Rattle.poly_pair.specs.Polyhedra.{Polyhedron}
-use Rattle.powerset.specs.Inequalities.{inequalities, AreInequalities}
-use Rattle.powerset.specs.Branches.{HoldsInSome, HoldsInNone, AreCovered}
+use Rattle.cover_search.specs.Inequalities.{inequalities, AreInequalities}
+use Rattle.cover_search.specs.Branches.{HoldsInSome, HoldsInNone, AreCovered}
 use Rattle.powerset.specs.Powersets.{Union, IsKeptUnion, IsMember, IsInUnion}
 use Rattle.powerset.specs.Covers.{Covers, IsCounterPoint, systems_of, HasUncovered}
-use Rattle.powerset.proofs.InequalityLemmas.{inequalities_hold, are_inequalities}
+use Rattle.cover_search.proofs.InequalityLemmas.{inequalities_hold, are_inequalities}
 
 -- ---- what a search answers
 pub when_none : {X : Type 0} (found : Option X) (A : Type 0) (B : X → Type 0) → is_some found ≡ false → MatchOption found A B → A

@@ -18,7 +18,7 @@ use Rattle.row_core.specs.Refusals.{IsOverflowIn}
 use Rattle.powerset.specs.Powersets.{Union, IsKeptUnion, IsMember}
 use Rattle.powerset.specs.Reductions.{IsReduced, HaveOneDimension}
 use Rattle.powerset.specs.Joins.{pairs_of, IsMeetOf, AreMeets, HasMeets, LeavesOnMeet}
-use Rattle.powerset.proofs.BranchLemmas.{all_at}
+use Rattle.cover_search.proofs.BranchLemmas.{all_at}
 
 -- ---- parts
 pub reduced_all : (P : Polyhedron → Type 0) (members part : List Polyhedron) → IsReduced members part → All P members → All P part

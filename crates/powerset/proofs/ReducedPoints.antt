@@ -13,7 +13,7 @@ use Rattle.powerset.specs.Powersets.{IsInUnion}
 use Rattle.powerset.specs.Reductions.{IsSuperseded, IsLeftOut, IsReduced}
 use Rattle.powerset.specs.UnionLaws.{AreOfDimension, ReductionKeepsPoints, IsIrredundant, ReductionIsIrredundant}
 use Rattle.powerset.proofs.Climbs.{climbs}
-use Rattle.powerset.proofs.BranchLemmas.{all_at}
+use Rattle.cover_search.proofs.BranchLemmas.{all_at}
 use Rattle.powerset.proofs.ReductionLemmas.{same_back}
 use Rattle.row_core.proofs.PointwiseLemmas.{all_marked}
 

@@ -17,7 +17,7 @@ use Rattle.poly_pair.specs.Polyhedra.{Polyhedron, HasNoPoint}
 use Rattle.lattice_ops.specs.Sets.{IsIncluded, HaveSamePoints}
 use Rattle.row_core.specs.Refusals.{IsOverflowIn}
 use Rattle.powerset.specs.Reductions.{Supersedes, IsSuperseded, IsLeftOut, AreMarks, LeavesInEither, LeavesBetween}
-use Rattle.powerset.proofs.BranchLemmas.{same_at}
+use Rattle.cover_search.proofs.BranchLemmas.{same_at}
 
 -- ---- one member and another
 pub same_back : (p q : Polyhedron) → p.cons.dim ≡ q.cons.dim → HaveSamePoints p q → IsIncluded q p

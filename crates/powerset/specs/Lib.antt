@@ -1,8 +1,3 @@
-pub mod Inequalities
-pub mod Regions
-pub mod Branches
-pub mod Pieces
-pub mod Parts
 pub mod Powersets
 pub mod Covers
 pub mod Reductions

@@ -1,17 +1,13 @@
 //! Whether one union covers another.
 ghost use Rattle.std.specs.Prelude.{◌≡◌, All, IfErr, IfOk, MatchOption};
 ghost use Rattle.poly_pair.specs.Polyhedra.{Polyhedron};
-ghost use Rattle.powerset.specs.Inequalities.{AreInequalities};
+ghost use Rattle.cover_search.specs.Inequalities.{AreInequalities};
 ghost use Rattle.row_core.specs.Refusals.{IsOverflowIn};
-ghost use Rattle.powerset.specs.Branches.{LeavesOnBranch, AreCovered, IsUncovered};
+ghost use Rattle.cover_search.specs.Branches.{AreCovered};
 ghost use Rattle.powerset.specs.Covers.{IsCover, systems_of, LeavesOnCover, HasUncovered, LeavesOnSome};
 
-use crate::pieces::{Piece, turn};
 use crate::powersets::Powerset;
-use crate::region::Region;
-use crate::search::search;
-use crate::walls::Walls;
-use cons_sys::ConsSys;
+use cover_search::{Walls, uncovered};
 use poly_pair::Poly;
 use row_core::{ConvErr, Memory, RowBuf, Steps};
 use std::alloc::Global;
@@ -24,55 +20,6 @@ pub enum Cover {
     Yes,
     /// This point of the other union isn't.
     No(RowBuf),
-}
-
-/// A point at which the first constraints hold and none of the systems does, if there is one. The set is parted by one
-/// inequality after another; of the two parts, that on which it doesn't hold is outside of its system, and goes first.
-fn uncovered_by_branches<L: Ledger>(
-    alloc: Global,
-    first: &ConsSys,
-    systems: &[Walls],
-    steps: &mut Steps<L>,
-) -> Result<Option<RowBuf>, ConvErr>
-    requires dims { All (λ rows. rows.dim ≡ first.now.dim) systems.now }
-    requires inequalities { All AreInequalities systems.now }
-    ensures found { IfOk result (λ found. MatchOption found (AreCovered first.now systems.now) (IsUncovered first.now systems.now)) }
-    ensures overflow { IfErr result (IsOverflowIn (LeavesOnBranch first.now systems.now)) }
-{
-    let mut pending = Vec::new(alloc);
-    let region = Region::new(alloc, first, steps)?;
-    pending.push(Piece {
-        region,
-        passed: 0,
-        row: 0,
-    })?;
-    while let Some(piece) = pending.pop() {
-        let found = turn(alloc, systems, piece, &mut pending, steps)?;
-        if found.is_some() {
-            return Ok(found);
-        }
-    }
-    Ok(None)
-}
-
-/// The same, by a search that passes by the systems that a part of the set doesn't meet. Where a number leaves the range
-/// in it, the search over branches decides.
-fn uncovered<L: Ledger>(
-    alloc: Global,
-    first: &ConsSys,
-    systems: &[Walls],
-    steps: &mut Steps<L>,
-) -> Result<Option<RowBuf>, ConvErr>
-    requires dims { All (λ rows. rows.dim ≡ first.now.dim) systems.now }
-    requires inequalities { All AreInequalities systems.now }
-    ensures found { IfOk result (λ found. MatchOption found (AreCovered first.now systems.now) (IsUncovered first.now systems.now)) }
-    ensures overflow { IfErr result (IsOverflowIn (LeavesOnBranch first.now systems.now)) }
-{
-    match search(alloc, first, systems, steps) {
-        Ok(found) => Ok(found),
-        Err(ConvErr::Memory) => Err(ConvErr::Memory),
-        Err(ConvErr::Overflow(_)) => uncovered_by_branches(alloc, first, systems, steps),
-    }
 }
 
 /// The inequalities of each polyhedron.

@@ -7,19 +7,11 @@
 //! [`laws`] says what these mean in words of points.
 #![tactic(auto)]
 
-mod contacts;
 mod covering;
-mod halfspaces;
-mod inequalities;
 mod joining;
 pub mod laws;
-mod parts;
-mod pieces;
 mod powersets;
 mod reducing;
-mod region;
-mod search;
-mod walls;
 
 pub use covering::{Cover, covers};
 pub use joining::{join, pmeet};

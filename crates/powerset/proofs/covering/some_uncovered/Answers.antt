@@ -3,7 +3,7 @@ use Rattle.std.specs.Prelude.{All, is_some}
 use Rattle.std.proofs.lemmas.List.Elements.{All-more}
 use Rattle.cons_sys.specs.Constraints.{Constraints}
 use Rattle.poly_pair.specs.Polyhedra.{Polyhedron}
-use Rattle.powerset.specs.Branches.{AreCovered, IsUncovered}
+use Rattle.cover_search.specs.Branches.{AreCovered, IsUncovered}
 use Rattle.powerset.proofs.CoverLemmas.{when_none, take_all}
 use Rattle.powerset.proofs.covering.some_uncovered.Goals as goal
 

@@ -1,0 +1,9 @@
+pub mod InequalityLemmas
+pub mod BranchLemmas
+pub mod PieceLemmas
+pub mod LongerLists
+pub mod SplitLemmas
+pub mod TurnLemmas
+pub mod RegionLemmas
+pub mod KeptRows
+pub mod PartLemmas

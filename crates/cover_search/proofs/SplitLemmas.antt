@@ -1,0 +1,54 @@
+-- The parts of a piece by one inequality.
+use Rattle.std.proofs.Common.{◌≡◌, inl, inr, ◌+◌, ◌<◌, List, [], ◌∷◌, ◌++◌, length, ℤ, sym, ◌∙◌, subst, ap, arith}
+use Rattle.std.specs.Prelude.{All}
+use Rattle.std.proofs.lemmas.List.Elements.{All-head}
+use Rattle.row_core.specs.declared.errors.ConvErr.{ConvErr}
+use Rattle.row_core.specs.declared.errors.ConvErr.TheVariants as conversion
+use Rattle.cons_sys.specs.declared.kind.ConKind.TheVariants.{Eq}
+use Rattle.cons_sys.specs.Constraints.{Constraint, Constraints, constraint_at, Satisfies, In}
+use Rattle.cover_search.specs.declared.pieces.Piece.{Piece}
+use Rattle.cover_search.specs.Inequalities.{AreInequalities, complement}
+use Rattle.row_core.specs.Refusals.{IsOverflowIn}
+use Rattle.cover_search.specs.Regions.{LeavesOnList, HoldNowhere, LiesIn}
+use Rattle.cover_search.specs.Pieces.{with_one, inner_part, outer_part, IsInner, goes_on, IsSplit, outer_alone, both, LeavesInSplit}
+use Rattle.cover_search.proofs.InequalityLemmas.{all_left, all_right, complement_excludes}
+
+-- where constraints hold on all of a piece, no point of it is in the part with their complement
+module _ (rows : Constraints) (piece : Piece) (other : Constraints) (proper : AreInequalities rows) (below : piece.row < length rows.list) where
+  first_of : (v : List ℤ) (c : Constraint) → other.list ≡ c ∷ [] → In other v → Satisfies v c
+  first_of v c e h = All-head (Satisfies v) c [] (subst (All (Satisfies v)) e h)
+
+  last_of : (v : List ℤ) (c : Constraint) → In (with_one piece.region c) v → Satisfies v c
+  last_of v c h = All-head (Satisfies v) c [] (all_right (Satisfies v) piece.region.list (c ∷ []) h)
+
+  rest_of : (v : List ℤ) (c : Constraint) → In (with_one piece.region c) v → In piece.region v
+  rest_of v c h = all_left (Satisfies v) piece.region.list (c ∷ []) h
+
+  pub no_inner : other.list ≡ complement (constraint_at rows.list piece.row) ∷ [] → LiesIn piece.region other → HoldNowhere (inner_part rows piece).region
+  no_inner e lies v pt h = complement_excludes (constraint_at rows.list piece.row) v (proper piece.row ([], Eq) below)
+      (first_of v (complement (constraint_at rows.list piece.row)) e (lies v pt (rest_of v (constraint_at rows.list piece.row) h)))
+      (last_of v (constraint_at rows.list piece.row) h)
+
+  pub no_outer : other.list ≡ constraint_at rows.list piece.row ∷ [] → LiesIn piece.region other → HoldNowhere (outer_part rows piece).region
+  no_outer e lies v pt h = complement_excludes (constraint_at rows.list piece.row) v (proper piece.row ([], Eq) below)
+      (last_of v (complement (constraint_at rows.list piece.row)) h)
+      (first_of v (constraint_at rows.list piece.row) e (lies v pt (rest_of v (complement (constraint_at rows.list piece.row)) h)))
+
+-- ---- what was appended
+pub goes_on_with : (rows : Constraints) (piece inner : Piece) (old new : List Piece) → inner ≡ inner_part rows piece → piece.row + 1 < length rows.list → new ≡ old ++ inner ∷ [] → IsInner rows piece old new
+goes_on_with rows piece inner old new e l g = subst (IsInner rows piece old) (sym (g ∙ ap (λ (p : Piece). old ++ p ∷ []) e)) (goes_on l)
+
+pub split_outside : (rows : Constraints) (piece : Piece) (old new : List Piece) → piece.row < length rows.list → HoldNowhere (inner_part rows piece).region → new ≡ old ++ outer_part rows piece ∷ [] → IsSplit rows piece old new
+split_outside rows piece old new below n e = subst (IsSplit rows piece old) (sym e) (outer_alone below n)
+
+pub split_across : (rows : Constraints) (piece copy : Piece) (old middle new : List Piece) → piece.row < length rows.list → IsInner rows piece old middle → copy ≡ piece → new ≡ middle ++ outer_part rows copy ∷ [] → IsSplit rows piece old new
+split_across rows piece copy old middle new below i e g = subst (IsSplit rows piece old) (sym (g ∙ ap (λ (p : Piece). middle ++ outer_part rows p ∷ []) e)) (both below i)
+
+-- ---- overflows
+pub outer_leaves : (rows : Constraints) (piece : Piece) (error : ConvErr) → piece.row < length rows.list → IsOverflowIn (LeavesOnList (outer_part rows piece).region) error → IsOverflowIn (LeavesInSplit rows piece) error
+outer_leaves rows piece (conversion.Overflow over) below l = record { below = below; leaves = inl l }
+outer_leaves rows piece conversion.Memory below l = tt
+
+pub inner_leaves : (rows : Constraints) (piece : Piece) (error : ConvErr) → piece.row + 1 < length rows.list → IsOverflowIn (LeavesOnList (inner_part rows piece).region) error → IsOverflowIn (LeavesInSplit rows piece) error
+inner_leaves rows piece (conversion.Overflow over) below l = record { below = omega (arith, below); leaves = inr (below, l) }
+inner_leaves rows piece conversion.Memory below l = tt

@@ -1,0 +1,60 @@
+use Rattle.std.proofs.Common.{◌≡◌, ◌<◌, [], ◌∷◌, ◌++◌, sym, ◌∙◌, subst, ap, rules, List, true, false}
+use Rattle.std.specs.Prelude.{All, is_some}
+use Rattle.std.proofs.lemmas.List.Elements.{All-nil, All-push, All-head}
+use Rattle.cover_search.specs.declared.pieces.Piece.{Piece}
+use Rattle.row_core.specs.Refusals.{IsOverflowIn}
+use Rattle.cover_search.specs.Branches.{LeavesOnBranch}
+use Rattle.cover_search.specs.Pieces.{IsPiece, all_still}
+use Rattle.cover_search.proofs.InequalityLemmas.{all_left, all_right}
+use Rattle.cover_search.proofs.TurnLemmas.{AreAllTold, first_piece, first_told, is_within, turn_pieces, turn_told, turn_falls, turn_leaves, first_leaves, answered, went_on}
+use Rattle.cover_search.proofs.branches.by_branches.Goals as goal
+
+pub returns-in_err-region-clause-overflow : goal.returns-in_err-region-clause-overflow
+returns-in_err-region-clause-overflow g c = let known : IsOverflowIn (LeavesOnBranch c.args.first.now c.args.systems.now) c.in_err-region.field-0.0 = first_leaves c.args.first.now c.args.systems.now c.in_err-region.field-0.0 c.in_err-region.ensures.overflow in search (rules, known, c.from_residual.ensures)
+
+pub loop-piece-init : goal.loop-piece-init
+loop-piece-init g c =
+    let items : c.push.new.self.items ≡ [] ++ record { region = c.in_ok-region.region; passed = 0; row = 0 } ∷ [] = c.in_ok-push.ensures.items ∙ ap (λ (ps : List Piece). ps ++ record { region = c.in_ok-region.region; passed = 0; row = 0 } ∷ []) c.new-pending.ensures.items in
+    record {
+      pieces = subst (All (IsPiece c.args.first.now c.args.systems.now)) (sym items) (All-push (IsPiece c.args.first.now c.args.systems.now) [] (record { region = c.in_ok-region.region; passed = 0; row = 0 }) (All-nil (IsPiece c.args.first.now c.args.systems.now)) (first_piece c.args.first.now c.args.systems.now c.in_ok-region.region c.in_ok-region.ensures.region));
+      told = first_told c.args.first.now c.args.systems.now c.in_ok-region.region c.push.new.self.items c.in_ok-region.ensures.region items;
+    }
+
+pub turn-requires-clause-within : goal.turn-requires-clause-within
+turn-requires-clause-within g c =
+    let all : All (IsPiece c.args.first.now c.args.systems.now) (c.pop.new.self.items ++ c.in-Some.piece ∷ []) = subst (All (IsPiece c.args.first.now c.args.systems.now)) c.in-Some.ensures.items c.loop-piece.invariant.pieces in
+    is_within c.args.first.now c.args.systems.now c.in-Some.piece (All-head (IsPiece c.args.first.now c.args.systems.now) c.in-Some.piece [] (all_right (IsPiece c.args.first.now c.args.systems.now) c.pop.new.self.items (c.in-Some.piece ∷ []) all)) c.requires.dims
+
+pub loop-piece-preserved : goal.loop-piece-preserved
+loop-piece-preserved g c =
+    let all : All (IsPiece c.args.first.now c.args.systems.now) (c.pop.new.self.items ++ c.in-Some.piece ∷ []) = subst (All (IsPiece c.args.first.now c.args.systems.now)) c.in-Some.ensures.items c.loop-piece.invariant.pieces in
+    let p = All-head (IsPiece c.args.first.now c.args.systems.now) c.in-Some.piece [] (all_right (IsPiece c.args.first.now c.args.systems.now) c.pop.new.self.items (c.in-Some.piece ∷ []) all) in
+    let none : is_some c.in_ok-found.found ≡ false = cc in
+    let t = went_on c.args.first.now c.args.systems.now c.requires.inequalities c.in-Some.piece p c.pop.new.self.items c.turn.new.pending.items c.in_ok-found.found none c.in_ok-found.ensures.turn in
+    record {
+      pieces = turn_pieces c.args.first.now c.args.systems.now c.in-Some.piece p c.pop.new.self.items c.turn.new.pending.items t (all_left (IsPiece c.args.first.now c.args.systems.now) c.pop.new.self.items (c.in-Some.piece ∷ []) all);
+      told = turn_told c.args.first.now c.args.systems.now c.in-Some.piece p c.requires.inequalities c.pop.new.self.items c.turn.new.pending.items t (subst (AreAllTold c.args.first.now c.args.systems.now) c.in-Some.ensures.items c.loop-piece.invariant.told);
+    }
+
+pub loop-piece-smaller : goal.loop-piece-smaller
+loop-piece-smaller g c =
+    let all : All (IsPiece c.args.first.now c.args.systems.now) (c.pop.new.self.items ++ c.in-Some.piece ∷ []) = subst (All (IsPiece c.args.first.now c.args.systems.now)) c.in-Some.ensures.items c.loop-piece.invariant.pieces in
+    let p = All-head (IsPiece c.args.first.now c.args.systems.now) c.in-Some.piece [] (all_right (IsPiece c.args.first.now c.args.systems.now) c.pop.new.self.items (c.in-Some.piece ∷ []) all) in
+    let none : is_some c.in_ok-found.found ≡ false = cc in
+    let t = went_on c.args.first.now c.args.systems.now c.requires.inequalities c.in-Some.piece p c.pop.new.self.items c.turn.new.pending.items c.in_ok-found.found none c.in_ok-found.ensures.turn in
+    let falls : all_still c.args.systems.now c.turn.new.pending.items < all_still c.args.systems.now c.loop-piece.pending.items = subst (λ (ps : List Piece). all_still c.args.systems.now c.turn.new.pending.items < all_still c.args.systems.now ps) (sym c.in-Some.ensures.items) (turn_falls c.args.first.now c.args.systems.now c.in-Some.piece p c.pop.new.self.items c.turn.new.pending.items t) in
+    falls
+
+pub returns-in_err-found-clause-overflow : goal.returns-in_err-found-clause-overflow
+returns-in_err-found-clause-overflow g c =
+    let all : All (IsPiece c.args.first.now c.args.systems.now) (c.pop.new.self.items ++ c.in-Some.piece ∷ []) = subst (All (IsPiece c.args.first.now c.args.systems.now)) c.in-Some.ensures.items c.loop-piece.invariant.pieces in
+    let p = All-head (IsPiece c.args.first.now c.args.systems.now) c.in-Some.piece [] (all_right (IsPiece c.args.first.now c.args.systems.now) c.pop.new.self.items (c.in-Some.piece ∷ []) all) in
+    let known : IsOverflowIn (LeavesOnBranch c.args.first.now c.args.systems.now) c.in_err-found.field-0.0 = turn_leaves c.args.first.now c.args.systems.now c.in-Some.piece p c.in_err-found.field-0.0 c.in_err-found.ensures.overflow in
+    search (rules, known, c.from_residual-in_err-found.ensures)
+
+pub returns-then-is_some-clause-found : goal.returns-then-is_some-clause-found
+returns-then-is_some-clause-found g c =
+    let all : All (IsPiece c.args.first.now c.args.systems.now) (c.pop.new.self.items ++ c.in-Some.piece ∷ []) = subst (All (IsPiece c.args.first.now c.args.systems.now)) c.in-Some.ensures.items c.loop-piece.invariant.pieces in
+    let p = All-head (IsPiece c.args.first.now c.args.systems.now) c.in-Some.piece [] (all_right (IsPiece c.args.first.now c.args.systems.now) c.pop.new.self.items (c.in-Some.piece ∷ []) all) in
+    let some : is_some c.in_ok-found.found ≡ true = cc in
+    answered c.args.first.now c.args.systems.now c.requires.inequalities c.in-Some.piece p c.pop.new.self.items c.turn.new.pending.items c.in_ok-found.found some c.in_ok-found.ensures.turn

@@ -1,0 +1,5 @@
+use Rattle.cover_search.specs.Parts.{IsPartedBy}
+use Rattle.cover_search.proofs.parts.part_by.Given as goal
+
+abbrev pub invariant-loop-index : goal.invariant-loop-index
+invariant-loop-index g l = IsPartedBy l.walls l.index l.fn.region l.numbers l.initial.pending.items l.pending.items l.rest

@@ -1,0 +1,54 @@
+use Rattle.std.proofs.Common.{◌≡◌, ◌<◌, [], ◌∷◌, ◌++◌, sym, ◌∙◌, subst, ap, List, true, false}
+use Rattle.std.specs.Prelude.{All, is_some}
+use Rattle.std.proofs.lemmas.List.Elements.{All-nil, All-push, All-head}
+use Rattle.cover_search.specs.declared.parts.Part.{Part}
+use Rattle.cover_search.specs.Parts.{IsPart, all_rows, all_to_come}
+use Rattle.cover_search.proofs.InequalityLemmas.{all_left, all_right}
+use Rattle.cover_search.proofs.PartLemmas.{AreAllTold, first_part, first_told, none_left, own_part, own_dims, turn_parts, turn_told, turn_falls, answered, went_on}
+use Rattle.cover_search.proofs.search.search.Goals as goal
+
+pub loop-part-init : goal.loop-part-init
+loop-part-init g c =
+    let part : Part = record { region = c.in_ok-region.region; met = c.in_ok-met.met } in
+    let items : c.push.new.self.items ≡ [] ++ part ∷ [] = c.in_ok-push.ensures.items ∙ ap (λ (ps : List Part). ps ++ part ∷ []) c.new-pending.ensures.items in
+    record {
+      parts = subst (All (IsPart c.args.first.now c.args.systems.now)) (sym items) (All-push (IsPart c.args.first.now c.args.systems.now) [] part (All-nil (IsPart c.args.first.now c.args.systems.now)) (first_part c.args.first.now c.args.systems.now part c.in_ok-region.ensures.region c.in_ok-met.ensures.below c.in_ok-met.ensures.all));
+      told = first_told c.args.first.now c.args.systems.now part c.push.new.self.items c.in_ok-region.ensures.region items;
+    }
+
+pub settle-requires-clause-dims : goal.settle-requires-clause-dims
+settle-requires-clause-dims g c =
+    let all : All (IsPart c.args.first.now c.args.systems.now) (c.pop.new.self.items ++ c.in-Some.part ∷ []) = subst (All (IsPart c.args.first.now c.args.systems.now)) c.in-Some.ensures.items c.loop-part.invariant.parts in
+    own_dims c.args.first.now c.args.systems.now c.in-Some.part (All-head (IsPart c.args.first.now c.args.systems.now) c.in-Some.part [] (all_right (IsPart c.args.first.now c.args.systems.now) c.pop.new.self.items (c.in-Some.part ∷ []) all)) c.requires.dims
+
+pub settle-requires-clause-part : goal.settle-requires-clause-part
+settle-requires-clause-part g c =
+    let all : All (IsPart c.args.first.now c.args.systems.now) (c.pop.new.self.items ++ c.in-Some.part ∷ []) = subst (All (IsPart c.args.first.now c.args.systems.now)) c.in-Some.ensures.items c.loop-part.invariant.parts in
+    own_part c.args.first.now c.args.systems.now c.in-Some.part (All-head (IsPart c.args.first.now c.args.systems.now) c.in-Some.part [] (all_right (IsPart c.args.first.now c.args.systems.now) c.pop.new.self.items (c.in-Some.part ∷ []) all))
+
+pub loop-part-preserved : goal.loop-part-preserved
+loop-part-preserved g c =
+    let all : All (IsPart c.args.first.now c.args.systems.now) (c.pop.new.self.items ++ c.in-Some.part ∷ []) = subst (All (IsPart c.args.first.now c.args.systems.now)) c.in-Some.ensures.items c.loop-part.invariant.parts in
+    let p = All-head (IsPart c.args.first.now c.args.systems.now) c.in-Some.part [] (all_right (IsPart c.args.first.now c.args.systems.now) c.pop.new.self.items (c.in-Some.part ∷ []) all) in
+    let none : is_some c.in_ok-found.found ≡ false = cc in
+    let s = went_on c.args.first.now c.args.systems.now c.in-Some.part p c.pop.new.self.items c.settle.new.pending.items c.in_ok-found.found none c.in_ok-found.ensures in
+    record {
+      parts = turn_parts c.args.first.now c.args.systems.now c.in-Some.part p c.pop.new.self.items c.settle.new.pending.items s (all_left (IsPart c.args.first.now c.args.systems.now) c.pop.new.self.items (c.in-Some.part ∷ []) all);
+      told = turn_told c.args.first.now c.args.systems.now c.in-Some.part p c.pop.new.self.items c.settle.new.pending.items s (subst (AreAllTold c.args.first.now c.args.systems.now) c.in-Some.ensures.items c.loop-part.invariant.told);
+    }
+
+pub loop-part-smaller : goal.loop-part-smaller
+loop-part-smaller g c =
+    let all : All (IsPart c.args.first.now c.args.systems.now) (c.pop.new.self.items ++ c.in-Some.part ∷ []) = subst (All (IsPart c.args.first.now c.args.systems.now)) c.in-Some.ensures.items c.loop-part.invariant.parts in
+    let p = All-head (IsPart c.args.first.now c.args.systems.now) c.in-Some.part [] (all_right (IsPart c.args.first.now c.args.systems.now) c.pop.new.self.items (c.in-Some.part ∷ []) all) in
+    let none : is_some c.in_ok-found.found ≡ false = cc in
+    let s = went_on c.args.first.now c.args.systems.now c.in-Some.part p c.pop.new.self.items c.settle.new.pending.items c.in_ok-found.found none c.in_ok-found.ensures in
+    let falls : all_to_come (all_rows c.args.systems.now) c.settle.new.pending.items < all_to_come (all_rows c.args.systems.now) c.loop-part.pending.items = subst (λ (ps : List Part). all_to_come (all_rows c.args.systems.now) c.settle.new.pending.items < all_to_come (all_rows c.args.systems.now) ps) (sym c.in-Some.ensures.items) (turn_falls c.args.first.now c.args.systems.now c.in-Some.part p c.pop.new.self.items c.settle.new.pending.items s) in
+    falls
+
+pub returns-then-is_some : goal.returns-then-is_some
+returns-then-is_some g c =
+    let all : All (IsPart c.args.first.now c.args.systems.now) (c.pop.new.self.items ++ c.in-Some.part ∷ []) = subst (All (IsPart c.args.first.now c.args.systems.now)) c.in-Some.ensures.items c.loop-part.invariant.parts in
+    let p = All-head (IsPart c.args.first.now c.args.systems.now) c.in-Some.part [] (all_right (IsPart c.args.first.now c.args.systems.now) c.pop.new.self.items (c.in-Some.part ∷ []) all) in
+    let some : is_some c.in_ok-found.found ≡ true = cc in
+    answered c.args.first.now c.args.systems.now c.in-Some.part p c.pop.new.self.items c.settle.new.pending.items c.in_ok-found.found some c.in_ok-found.ensures

@@ -1,0 +1,5 @@
+pub mod Inequalities
+pub mod Regions
+pub mod Branches
+pub mod Pieces
+pub mod Parts

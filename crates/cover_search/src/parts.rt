@@ -1,0 +1,181 @@
+//! Parts of a set, and how a system parts one of them.
+ghost use Rattle.std.specs.Prelude.{◌≡◌, ◌+◌, ◌<◌, ◌≤◌, length, IfErr, IfOk, MatchOption, OnOk, All};
+ghost use Rattle.cover_search.specs.Inequalities.{AreInequalities};
+ghost use Rattle.cover_search.specs.Parts.{HoldFrom, IsPushed, IsLeft, IsParted, IsCutOf, IsCutBy, IsNext, IsFollowed, IsPart, IsSettled, IsMissed};
+ghost use Rattle.cover_search.specs.Regions.{IsPointIn};
+
+use crate::contacts::{Cut, Plan, plan_of};
+use crate::region::Region;
+use crate::walls::Walls;
+use row_core::{ConvErr, RowBuf, Steps};
+use std::alloc::Global;
+use std::sync::ledger::Ledger;
+
+/// A part of a set that is left to be covered, with the numbers of the systems that it may meet.
+#[derive(Debug, Drop)]
+pub(crate) struct Part {
+    pub(crate) region: Region,
+    pub(crate) met: Vec<usize>,
+}
+
+/// Appends the part of a set on which an inequality of the system doesn't hold.
+fn push_outside<L: Ledger>(
+    alloc: Global,
+    walls: &Walls,
+    index: usize,
+    region: Region,
+    numbers: &[usize],
+    pending: &mut Vec<Part>,
+    steps: &mut Steps<L>,
+) -> Result<(), ConvErr>
+    requires dim { walls.now.dim ≡ region.dim }
+    requires index { index < length walls.now.list }
+    ensures { OnOk result (IsPushed walls.now index region numbers.now pending.old.items pending.new.items) }
+{
+    let outside = walls.inner().complement(alloc, index)?;
+    let region = region.narrowed(alloc, &outside, steps)?;
+    let met = Vec::from_slice(alloc, numbers)?;
+    pending.push(Part { region, met })?;
+    Ok(())
+}
+
+/// What is left of a set behind an inequality of the system: all of it where that is seen to hold on it. Else the part
+/// on which it doesn't hold is appended, and the other is left.
+fn rest_of<L: Ledger>(
+    alloc: Global,
+    walls: &Walls,
+    index: usize,
+    region: Region,
+    numbers: &[usize],
+    pending: &mut Vec<Part>,
+    steps: &mut Steps<L>,
+) -> Result<Region, ConvErr>
+    requires dim { walls.now.dim ≡ region.dim }
+    requires index { index < length walls.now.list }
+    requires inequalities { AreInequalities walls.now }
+    ensures { IfOk result (IsLeft walls.now index region numbers.now pending.old.items pending.new.items) }
+{
+    if region.keeps(walls.inner(), index) {
+        return Ok(region);
+    }
+    let copy = region.copied()?;
+    push_outside(alloc, walls, index, copy, numbers, pending, steps)?;
+    let inside = walls.inner().one(alloc, index)?;
+    region.narrowed(alloc, &inside, steps)
+}
+
+/// Appends the parts of a set outside of the system, whose inequalities behind number `last` hold on the set.
+fn part_by<L: Ledger>(
+    alloc: Global,
+    walls: &Walls,
+    last: usize,
+    region: Region,
+    numbers: &[usize],
+    pending: &mut Vec<Part>,
+    steps: &mut Steps<L>,
+) -> Result<(), ConvErr>
+    requires dim { walls.now.dim ≡ region.dim }
+    requires last { last < length walls.now.list }
+    requires behind { HoldFrom region walls.now (last + 1) }
+    requires inequalities { AreInequalities walls.now }
+    ensures { OnOk result (IsParted walls.now region numbers.now pending.old.items pending.new.items) }
+{
+    let mut rest = region;
+    for index in 0..last {
+        rest = rest_of(alloc, walls, index, rest, numbers, pending, steps)?;
+    }
+    push_outside(alloc, walls, last, rest, numbers, pending, steps)?;
+    Ok(())
+}
+
+/// Appends the parts of a set outside of the system of a cut.
+fn cut_by<L: Ledger>(
+    alloc: Global,
+    systems: &[Walls],
+    cut: Cut,
+    region: Region,
+    numbers: &[usize],
+    pending: &mut Vec<Part>,
+    steps: &mut Steps<L>,
+) -> Result<(), ConvErr>
+    requires dims { All (λ rows. rows.dim ≡ region.dim) systems.now }
+    requires inequalities { All AreInequalities systems.now }
+    requires system { cut.system < length systems.now }
+    requires cut { IsCutOf systems.now region cut }
+    ensures { OnOk result (IsCutBy systems.now cut region numbers.now pending.old.items pending.new.items) }
+{
+    let walls = &systems[cut.system];
+    part_by(alloc, walls, cut.last, region, numbers, pending, steps)?;
+    Ok(())
+}
+
+/// Follows a plan: appends the parts outside of the system that comes next. Without one the point is given.
+#[tactic(auto, using(crate::proofs::PartLemmas::next_cut, crate::proofs::PartLemmas::next_below))]
+fn follow<L: Ledger>(
+    alloc: Global,
+    systems: &[Walls],
+    plan: Plan,
+    region: Region,
+    point: RowBuf,
+    pending: &mut Vec<Part>,
+    steps: &mut Steps<L>,
+) -> Result<Option<RowBuf>, ConvErr>
+    requires dims { All (λ rows. rows.dim ≡ region.dim) systems.now }
+    requires inequalities { All AreInequalities systems.now }
+    requires next { IsNext systems.now region plan.met.items plan.next }
+    ensures { IfOk result (IsFollowed systems.now plan region point pending.old.items pending.new.items) }
+{
+    match plan.next {
+        None => Ok(Some(point)),
+        Some(cut) => {
+            cut_by(alloc, systems, cut, region, &plan.met, pending, steps)?;
+            Ok(None)
+        }
+    }
+}
+
+/// Takes a part that has a point: gives it where the part meets no system, and else its parts outside of the one that it
+/// crosses least, behind those that are pending. A part that is seen to lie in one system has none.
+fn settle_at<L: Ledger>(
+    alloc: Global,
+    systems: &[Walls],
+    part: Part,
+    point: RowBuf,
+    pending: &mut Vec<Part>,
+    steps: &mut Steps<L>,
+) -> Result<Option<RowBuf>, ConvErr>
+    requires dims { All (λ rows. rows.dim ≡ part.region.dim) systems.now }
+    requires inequalities { All AreInequalities systems.now }
+    requires part { IsPart part.region systems.now part }
+    requires point { IsPointIn part.region point }
+    ensures { IfOk result (λ found. MatchOption found (IsSettled systems.now part pending.old.items pending.new.items) (IsMissed systems.now part.region)) }
+{
+    let planned = plan_of(alloc, systems, &part.region, &part.met)?;
+    match planned {
+        None => Ok(None),
+        Some(plan) => {
+            let found = follow(alloc, systems, plan, part.region, point, pending, steps)?;
+            Ok(found)
+        }
+    }
+}
+
+/// Takes a part: gives a point of it that no system has, or appends parts of it. A part without a point has none.
+pub(crate) fn settle<L: Ledger>(
+    alloc: Global,
+    systems: &[Walls],
+    part: Part,
+    pending: &mut Vec<Part>,
+    steps: &mut Steps<L>,
+) -> Result<Option<RowBuf>, ConvErr>
+    requires dims { All (λ rows. rows.dim ≡ part.region.dim) systems.now }
+    requires inequalities { All AreInequalities systems.now }
+    requires part { IsPart part.region systems.now part }
+    ensures { IfOk result (λ found. MatchOption found (IsSettled systems.now part pending.old.items pending.new.items) (IsMissed systems.now part.region)) }
+{
+    let seen = part.region.point(alloc)?;
+    match seen {
+        None => Ok(None),
+        Some(point) => settle_at(alloc, systems, part, point, pending, steps),
+    }
+}

@@ -1,0 +1,244 @@
+//! Pieces of a set, and their parts by one inequality.
+ghost use Rattle.std.specs.Prelude.{◌≡◌, ◌+◌, ◌^◌, ◌<◌, ◌≤◌, ◌++◌, ◌∷◌, [], length, IfErr, IfOk, MatchOption, OnOk, All, IsTrue};
+ghost use Rattle.cover_search.specs.Inequalities.{AreInequalities};
+ghost use Rattle.row_core.specs.Refusals.{IsOverflowIn};
+ghost use Rattle.cover_search.specs.Regions.{LeavesOnList, HoldNowhere};
+ghost use Rattle.cover_search.specs.Pieces.{outer_part, inner_part, IsInner, IsSplit, LeavesInSplit, IsWithin, LiesInSome, IsTurn, IsFound, LeavesInTurn};
+
+use crate::halfspaces::Halfspaces;
+use crate::region::Region;
+use crate::walls::Walls;
+use row_core::{ConvErr, Memory, RowBuf, Steps};
+use std::alloc::Global;
+use std::sync::ledger::Ledger;
+
+/// A part of a set that is left to be covered. It is outside of the first systems, and some inequalities of the next
+/// one hold on it.
+#[derive(Debug, Drop)]
+pub(crate) struct Piece {
+    pub(crate) region: Region,
+    pub(crate) passed: usize,
+    pub(crate) row: usize,
+}
+
+impl Piece {
+    /// A copy.
+    fn copied(&self) -> Result<Piece, Memory>
+        ensures { IfOk result (λ piece. piece ≡ self.now) }
+    {
+        let region = self.region.copied()?;
+        Ok(Piece {
+            region,
+            passed: self.passed,
+            row: self.row,
+        })
+    }
+
+    /// Whether the piece is seen to have no point at which the next inequality of the next system holds.
+    fn is_outside(&self, alloc: Global, rows: &Halfspaces) -> Result<bool, Memory>
+        requires dim { rows.now.dim ≡ self.now.region.dim }
+        requires row { self.now.row < length rows.now.list }
+        requires inequalities { AreInequalities rows.now }
+        ensures { IfOk result (λ outside. IsTrue outside → HoldNowhere (inner_part rows.now self.now).region) }
+    {
+        let outside = rows.complement(alloc, self.row)?;
+        Ok(self.region.lies_in(&outside))
+    }
+
+    /// Whether it is seen to have no point at which that doesn't hold.
+    fn is_inside(&self, alloc: Global, rows: &Halfspaces) -> Result<bool, Memory>
+        requires dim { rows.now.dim ≡ self.now.region.dim }
+        requires row { self.now.row < length rows.now.list }
+        requires inequalities { AreInequalities rows.now }
+        ensures { IfOk result (λ inside. IsTrue inside → HoldNowhere (outer_part rows.now self.now).region) }
+    {
+        let inside = rows.one(alloc, self.row)?;
+        Ok(self.region.lies_in(&inside))
+    }
+
+    /// The part on which it doesn't hold.
+    fn outer<L: Ledger>(
+        self,
+        alloc: Global,
+        rows: &Halfspaces,
+        steps: &mut Steps<L>,
+    ) -> Result<Piece, ConvErr>
+        requires dim { rows.now.dim ≡ self.region.dim }
+        requires passed { self.passed + 1 < 2 ^ 64 }
+        requires row { self.row < length rows.now.list }
+        ensures part { IfOk result (λ part. part ≡ outer_part rows.now self) }
+        ensures overflow { IfErr result (IsOverflowIn (LeavesOnList (outer_part rows.now self).region)) }
+    {
+        let outside = rows.complement(alloc, self.row)?;
+        let passed = self.passed + 1;
+        let region = self.region.narrowed(alloc, &outside, steps)?;
+        Ok(Piece {
+            region,
+            passed,
+            row: 0,
+        })
+    }
+
+    /// The part on which it holds.
+    fn inner<L: Ledger>(
+        self,
+        alloc: Global,
+        rows: &Halfspaces,
+        steps: &mut Steps<L>,
+    ) -> Result<Piece, ConvErr>
+        requires dim { rows.now.dim ≡ self.region.dim }
+        requires row { self.row < length rows.now.list }
+        requires row_fits { self.row + 1 < 2 ^ 64 }
+        ensures part { IfOk result (λ part. part ≡ inner_part rows.now self) }
+        ensures overflow { IfErr result (IsOverflowIn (LeavesOnList (inner_part rows.now self).region)) }
+    {
+        let inside = rows.one(alloc, self.row)?;
+        let row = self.row + 1;
+        let passed = self.passed;
+        let region = self.region.narrowed(alloc, &inside, steps)?;
+        Ok(Piece {
+            region,
+            passed,
+            row,
+        })
+    }
+}
+
+/// Appends the part of a piece on which the next inequality of the system holds, if it isn't the last: then the part is
+/// within the system.
+fn push_inner<L: Ledger>(
+    alloc: Global,
+    rows: &Halfspaces,
+    piece: Piece,
+    pending: &mut Vec<Piece>,
+    steps: &mut Steps<L>,
+) -> Result<(), ConvErr>
+    requires dim { rows.now.dim ≡ piece.region.dim }
+    requires row { piece.row < length rows.now.list }
+    ensures part { OnOk result (IsInner rows.now piece pending.old.items pending.new.items) }
+    ensures overflow { IfErr result (IsOverflowIn (LeavesInSplit rows.now piece)) }
+{
+    let end = rows.len();
+    if piece.row + 1 == end {
+        return Ok(());
+    }
+    let inner = piece.inner(alloc, rows, steps)?;
+    pending.push(inner)?;
+    Ok(())
+}
+
+/// Appends the part on which it doesn't hold.
+fn push_outer<L: Ledger>(
+    alloc: Global,
+    rows: &Halfspaces,
+    piece: Piece,
+    pending: &mut Vec<Piece>,
+    steps: &mut Steps<L>,
+) -> Result<(), ConvErr>
+    requires dim { rows.now.dim ≡ piece.region.dim }
+    requires passed { piece.passed + 1 < 2 ^ 64 }
+    requires row { piece.row < length rows.now.list }
+    ensures part { OnOk result (pending.new.items ≡ pending.old.items ++ outer_part rows.now piece ∷ []) }
+    ensures overflow { IfErr result (IsOverflowIn (LeavesInSplit rows.now piece)) }
+{
+    let outer = piece.outer(alloc, rows, steps)?;
+    pending.push(outer)?;
+    Ok(())
+}
+
+/// Appends both parts, the one on which it doesn't hold last.
+fn push_both<L: Ledger>(
+    alloc: Global,
+    rows: &Halfspaces,
+    piece: Piece,
+    pending: &mut Vec<Piece>,
+    steps: &mut Steps<L>,
+) -> Result<(), ConvErr>
+    requires dim { rows.now.dim ≡ piece.region.dim }
+    requires passed { piece.passed + 1 < 2 ^ 64 }
+    requires row { piece.row < length rows.now.list }
+    ensures parts { OnOk result (IsSplit rows.now piece pending.old.items pending.new.items) }
+    ensures overflow { IfErr result (IsOverflowIn (LeavesInSplit rows.now piece)) }
+{
+    let copy = piece.copied()?;
+    push_inner(alloc, rows, piece, pending, steps)?;
+    push_outer(alloc, rows, copy, pending, steps)?;
+    Ok(())
+}
+
+/// Appends the parts of a piece on which the next inequality of the system holds and on which it doesn't, the latter
+/// last. A part that is within the system, or is seen to have no point, is left out.
+fn split<L: Ledger>(
+    alloc: Global,
+    rows: &Halfspaces,
+    piece: Piece,
+    pending: &mut Vec<Piece>,
+    steps: &mut Steps<L>,
+) -> Result<(), ConvErr>
+    requires dim { rows.now.dim ≡ piece.region.dim }
+    requires passed { piece.passed + 1 < 2 ^ 64 }
+    requires row { piece.row ≤ length rows.now.list }
+    requires inequalities { AreInequalities rows.now }
+    ensures parts { OnOk result (IsSplit rows.now piece pending.old.items pending.new.items) }
+    ensures overflow { IfErr result (IsOverflowIn (LeavesInSplit rows.now piece)) }
+{
+    if piece.row == rows.len() {
+        return Ok(());
+    }
+    let outside = piece.is_outside(alloc, rows)?;
+    if outside {
+        push_outer(alloc, rows, piece, pending, steps)?;
+        return Ok(());
+    }
+    let inside = piece.is_inside(alloc, rows)?;
+    if inside {
+        push_inner(alloc, rows, piece, pending, steps)?;
+        return Ok(());
+    }
+    push_both(alloc, rows, piece, pending, steps)
+}
+
+/// Whether the piece is seen to lie in one of the systems that are still to come, before any of its inequalities is taken.
+fn lies_in_some(systems: &[Walls], piece: &Piece) -> bool
+    requires { All (λ rows. rows.dim ≡ piece.now.region.dim) systems.now }
+    ensures { IsTrue result → LiesInSome systems.now piece.now.region }
+{
+    if piece.row > 0 {
+        return false;
+    }
+    for index in piece.passed..systems.len() {
+        if piece.region.lies_in(systems[index].inner()) {
+            return true;
+        }
+    }
+    false
+}
+
+/// Takes a piece: gives a point of it where it is outside of all systems, and else its parts by the next system, behind
+/// the pieces that are pending. A piece without a point has none, nor has one that is seen to lie in one system.
+pub(crate) fn turn<L: Ledger>(
+    alloc: Global,
+    systems: &[Walls],
+    piece: Piece,
+    pending: &mut Vec<Piece>,
+    steps: &mut Steps<L>,
+) -> Result<Option<RowBuf>, ConvErr>
+    requires within { IsWithin systems.now piece }
+    requires inequalities { All AreInequalities systems.now }
+    ensures turn { IfOk result (λ found. MatchOption found (IsTurn systems.now piece pending.old.items pending.new.items) (IsFound systems.now piece)) }
+    ensures overflow { IfErr result (IsOverflowIn (LeavesInTurn systems.now piece)) }
+{
+    let point = match piece.region.point(alloc)? {
+        Some(point) => point,
+        None => return Ok(None),
+    };
+    if piece.passed == systems.len() {
+        return Ok(Some(point));
+    }
+    if lies_in_some(systems, &piece) {
+        return Ok(None);
+    }
+    let passed = piece.passed;
+    split(alloc, systems[passed].inner(), piece, pending, steps)?;
+    Ok(None)
+}

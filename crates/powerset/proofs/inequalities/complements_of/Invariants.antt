@@ -1,9 +1,0 @@
-use Rattle.std.proofs.Common.{◌≡◌, map, take}
-use Rattle.powerset.specs.Inequalities.{complement}
-use Rattle.powerset.proofs.inequalities.complements_of.Given as goal
-
-abbrev pub invariant-loop-index : goal.invariant-loop-index
-invariant-loop-index l = record {
-  dim : l.system.dim ≡ l.rows.dim;
-  list : l.system.list ≡ map complement (take l.index l.rows.list);
-}

@@ -1,8 +1,0 @@
-use Rattle.std.proofs.Common.{ℕ, ◌<◌}
-use Rattle.row_core.specs.Vectors.{cell, dot}
-use Rattle.row_core.specs.Lists.{row_at}
-use Rattle.powerset.specs.Regions.{IsKept}
-use Rattle.powerset.proofs.region.is_kept_on.Given as goal
-
-abbrev pub invariant-loop-index : goal.invariant-loop-index
-invariant-loop-index l = (i : ℕ) → i < l.index → IsKept l.strict (dot l.row (row_at l.list.rows i)) (cell (row_at l.list.rows i) l.column)

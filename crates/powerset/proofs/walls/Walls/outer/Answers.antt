@@ -1,9 +1,0 @@
-use Rattle.std.proofs.Common.{◌∙◌, List, map, sym, subst, ap}
-use Rattle.std.specs.Prelude.{All}
-use Rattle.cons_sys.specs.Constraints.{Constraint, Constraints}
-use Rattle.powerset.specs.Inequalities.{IsInequality, complement}
-use Rattle.powerset.proofs.PartLemmas.{complements_proper}
-use Rattle.powerset.proofs.walls.Walls.outer.Goals as goal
-
-pub returns-clause-inequalities : goal.returns-clause-inequalities
-returns-clause-inequalities c h = subst (All IsInequality) (sym (c.self.invariant.list ∙ ap (λ (cs : Constraints). map complement cs.list) c.self.view_is)) (complements_proper c.args.self.now.list h)
