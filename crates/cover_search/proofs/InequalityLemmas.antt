@@ -1,6 +1,7 @@
 -- The inequalities of a system, and their complements.
-use Rattle.std.proofs.Common.{◌≡◌, ◌⊎◌, inl, inr, List, [], ◌∷◌, ◌++◌, flat_map, length, ◌+◌, ℤ, pos, neg_ℤ, ◌≤ℤ◌, ◌<ℤ◌, subst, arith}
+use Rattle.std.proofs.Common.{◌≡◌, ◌⊎◌, inl, inr, ℕ, List, [], ◌∷◌, ◌++◌, map, flat_map, length, ◌+◌, ℤ, pos, neg_ℤ, ◌≤ℤ◌, ◌<ℤ◌, subst, arith}
 use Rattle.std.specs.Prelude.{◌↔◌, All}
+use Rattle.std.proofs.Math.ListN.{get_or-map}
 use Rattle.std.proofs.lemmas.Int.{ints}
 use Rattle.std.proofs.lemmas.List.{get_or_append_left, get_or-append-add, length-append}
 use Rattle.std.proofs.lemmas.List.Elements.{All-nil, All-cons, All-head, All-tail, All-append}
@@ -9,7 +10,7 @@ use Rattle.cone_laws.specs.Cones.{negated}
 use Rattle.cone_laws.proofs.Ring.{by_sign}
 use Rattle.cone_laws.proofs.MemberLemmas.{negated_dot}
 use Rattle.cons_sys.specs.declared.kind.ConKind.TheVariants.{Eq, Ge, Gt}
-use Rattle.cons_sys.specs.Constraints.{Constraint, Constraints, Satisfies, In}
+use Rattle.cons_sys.specs.Constraints.{Constraint, Constraints, constraint_at, Satisfies, In}
 use Rattle.cover_search.specs.Inequalities.{halves, inequalities, IsInequality, AreInequalities, complement}
 
 -- ---- parts of a list
@@ -62,6 +63,10 @@ pub complement_excludes : (c : Constraint) (v : List ℤ) → IsInequality c →
 complement_excludes (a, Eq) v i k h = i
 complement_excludes (a, Ge) v i k h = not_both (dot a v) (dot (negated a) v) (negated_dot a v) h k
 complement_excludes (a, Gt) v i k h = not_both_strict (dot a v) (dot (negated a) v) (negated_dot a v) h k
+
+-- the complement at a place of a list of them
+pub complement_at : (list : List Constraint) (i : ℕ) → constraint_at (map complement list) i ≡ complement (constraint_at list i)
+complement_at list i = get_or-map complement list i ([], Eq)
 
 -- ---- the inequalities of a system
 least_negated : (x y : ℤ) → y ≡ neg_ℤ x → pos 0 ≤ℤ x → pos 0 ≤ℤ y → x ≡ pos 0

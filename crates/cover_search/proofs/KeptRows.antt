@@ -1,5 +1,5 @@
 -- An inequality whose row is kept by the lines and rays of a set holds on the set.
-use Rattle.std.proofs.Common.{◌≡◌, ◌⊎◌, inl, inr, ℕ, ◌+◌, ◌<◌, ◌≤◌, List, [], ◌∷◌, map, length, Bool, ℤ, pos, neg_ℤ, ◌+ℤ◌, ◌*ℤ◌, ◌≤ℤ◌, ◌<ℤ◌, true, false, sym, ◌∙◌, subst, ap, arith}
+use Rattle.std.proofs.Common.{◌≡◌, ◌⊎◌, inl, inr, ℕ, ◌+◌, ◌<◌, ◌≤◌, List, [], ◌∷◌, map, length, get_or, Bool, ℤ, pos, neg_ℤ, ◌+ℤ◌, ◌*ℤ◌, ◌≤ℤ◌, ◌<ℤ◌, true, false, sym, ◌∙◌, subst, ap, arith}
 use Rattle.std.specs.Prelude.{All}
 use Rattle.std.proofs.Math.ListN.{get_or-map}
 use Rattle.std.proofs.lemmas.Bool.{cases_lt}
@@ -32,6 +32,10 @@ upto_next P n h p i b = by_case (cases_lt i n)
     by_case : (i < n) ⊎ (n ≤ i) → P i
     by_case (inl l) = h i l
     by_case (inr l) = let e : n ≡ i = omega (arith, b, l) in subst P e p
+
+-- the row at a place of an encoded list
+pub encoded_at : (dim : ℕ) (list : List Constraint) (i : ℕ) → i < length list → get_or (map (encoded_constraint dim) list) i ([], false) ≡ encoded_constraint dim (constraint_at list i)
+encoded_at dim list i b = get_or_default (map (encoded_constraint dim) list) i ([], false) (encoded_constraint dim ([], Eq)) (omega (arith, length-map list (encoded_constraint dim), b)) ∙ get_or-map (encoded_constraint dim) list i ([], Eq)
 
 -- ---- numbers
 bound_with : (x n : ℤ) → (m : ℤ) × (n ≤ℤ m) × (x ≤ℤ m)
@@ -182,12 +186,9 @@ module _ (cs : Constraints) (fit : FitDimension cs) (cone : Cone) (has : HasCone
   pub kept_holds : (hs : Constraints) → FitDimension hs → hs.dim ≡ cs.dim → AreInequalities hs → (index : ℕ) → index < length hs.list → (rows : List Row) (row : List ℤ) (kept : Bool) (column : ℕ) → rows ≡ map (encoded_constraint hs.dim) hs.list → row ≡ row_at rows index → kept ≡ is_strict (kind_at hs.list index) → column ≡ cs.dim → All (λ l. dot row l ≡ pos 0) lines → All (λ r. IsKept kept (dot row r) (cell r column)) rays → HoldsOn cs (constraint_at hs.list index)
   kept_holds hs fits same proper index below rows row kept column rows_are row_is kept_is column_is on_lines on_rays =
       let c = constraint_at hs.list index in
-      let is : row ≡ (encoded_constraint cs.dim c).0 = row_is ∙ ap (λ (rs : List Row). row_at rs index) rows_are ∙ encoded_at hs.dim hs.list index below ∙ ap (λ (n : ℕ). (encoded_constraint n c).0) same in
+      let is : row ≡ (encoded_constraint cs.dim c).0 = row_is ∙ ap (λ (rs : List Row). row_at rs index) rows_are ∙ ap (λ (r : Row). r.0) (encoded_at hs.dim hs.list index below) ∙ ap (λ (n : ℕ). (encoded_constraint n c).0) same in
       holds c (proper index ([], Eq) below) ((fits.each index ([], Eq) below).wide ∙ ap (λ (n : ℕ). n + 1) same)
       (subst (λ (r : List ℤ). All (λ l. dot r l ≡ pos 0) lines) is on_lines)
       (subst (λ (s : Bool). All (λ r. IsKept s (dot (encoded_constraint cs.dim c).0 r) (cell r cs.dim)) rays) kept_is
       (subst (λ (n : ℕ). All (λ r. IsKept kept (dot (encoded_constraint cs.dim c).0 r) (cell r n)) rays) column_is
       (subst (λ (a : List ℤ). All (λ r. IsKept kept (dot a r) (cell r column)) rays) is on_rays)))
-    where
-      encoded_at : (dim : ℕ) (list : List Constraint) (i : ℕ) → i < length list → row_at (map (encoded_constraint dim) list) i ≡ (encoded_constraint dim (constraint_at list i)).0
-      encoded_at dim list i b = ap (λ (r : Row). r.0) (get_or_default (map (encoded_constraint dim) list) i ([], false) (encoded_constraint dim ([], Eq)) (omega (arith, length-map list (encoded_constraint dim), b)) ∙ get_or-map (encoded_constraint dim) list i ([], Eq))

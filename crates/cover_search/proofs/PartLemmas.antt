@@ -13,9 +13,9 @@ use Rattle.cover_search.specs.declared.contacts.Cut.{Cut}
 use Rattle.cover_search.specs.declared.contacts.Plan.{Plan}
 use Rattle.cover_search.specs.declared.parts.Part.{Part}
 use Rattle.cover_search.specs.Inequalities.{IsInequality, AreInequalities, complement}
-use Rattle.cover_search.specs.Regions.{HoldNowhere, HoldsOn, IsPointIn, LiesIn}
+use Rattle.cover_search.specs.Regions.{with_one, HoldNowhere, HoldsOn, IsPointIn, LiesIn}
 use Rattle.cover_search.specs.Branches.{HoldsInSome, HoldsInNone, AreCovered, IsUncovered}
-use Rattle.cover_search.specs.Pieces.{with_one, LiesInSome}
+use Rattle.cover_search.specs.Pieces.{LiesInSome}
 use Rattle.cover_search.specs.Parts.{AreApart, HoldFrom, IsOf, IsOpenIn, as_number, IsApartAt, IsCutOf, IsNext, IsPlan, IsTaken, IsMet, IsPushed, IsLeft, IsInSomePart, IsOutside, IsPartedBy, IsParted, IsCutBy, IsFollowed, IsPart, all_rows, to_come, all_to_come, IsSettled, IsMissed}
 use Rattle.cover_search.proofs.InequalityLemmas.{all_left, all_right, complement_excludes, holds_or_complement}
 use Rattle.cover_search.proofs.BranchLemmas.{same_at}
@@ -31,11 +31,8 @@ pub complements_proper : (rows : List Constraint) → All IsInequality rows → 
 complements_proper rows h = All-map IsInequality complement rows (All-weaker IsInequality (λ (c : Constraint). IsInequality (complement c)) opposite_proper rows h)
 
 -- where the complement of an inequality holds on the set, no point of it is in the system
-pub apart_by : (cs rows outer : Constraints) (index : ℕ) → AreInequalities rows → index < length rows.list → outer.list ≡ map complement rows.list → HoldsOn cs (constraint_at outer.list index) → AreApart cs rows
-apart_by cs rows outer index proper below e h v pt holds inside =
-    complement_excludes (constraint_at rows.list index) v (proper index ([], Eq) below)
-    (subst (Satisfies v) (ap (λ (xs : List Constraint). constraint_at xs index) e ∙ get_or-map complement rows.list index ([], Eq)) (h v pt holds))
-    (inside index ([], Eq) below)
+pub apart_by : (cs rows : Constraints) (index : ℕ) → AreInequalities rows → index < length rows.list → HoldsOn cs (complement (constraint_at rows.list index)) → AreApart cs rows
+apart_by cs rows index proper below h v pt holds inside = complement_excludes (constraint_at rows.list index) v (proper index ([], Eq) below) (h v pt holds) (inside index ([], Eq) below)
 
 -- where all inequalities hold on the set, it lies in the system
 pub lies_by : (cs rows : Constraints) → HoldFrom cs rows 0 → LiesIn cs rows

@@ -26,6 +26,7 @@ use Rattle.cone_laws.proofs.Columns.{cell-scale, length-scale}
 use Rattle.chernikova.specs.declared.cone.Cone.{Cone}
 use Rattle.chernikova.specs.Conversion.{IsRealOverflowFrom}
 use Rattle.chernikova.proofs.Prefixes.{front_system, front_zeros}
+use Rattle.cons_sys.specs.declared.kind.ConKind.{ConKind}
 use Rattle.cons_sys.specs.Constraints.{Constraint, Constraints, FitDimension, In}
 use Rattle.cons_sys.proofs.SystemLemmas.{In-same_point}
 use Rattle.nnc_enc.specs.Encoding.{encoded_constraint, encoded_constraints, height_row, bound_row, lowered, Codes}
@@ -35,27 +36,26 @@ use Rattle.nnc_enc.proofs.LineLemmas.{no_height_no_point}
 use Rattle.nnc_enc.proofs.MarkLemmas.{length-vectors, vector_at-vectors}
 use Rattle.poly_pair.specs.Conversions.{HaveNoPoint}
 use Rattle.row_core.specs.Refusals.{IsOverflowIn}
-use Rattle.cover_search.specs.Regions.{LeavesOnList, followed, HoldNowhere, IsPointIn, HasCone, HasListAndCone, LiesIn, IsValidOn}
+use Rattle.cover_search.specs.Regions.{LeavesOnList, with_one, HoldNowhere, IsPointIn, HasCone, HasListAndCone}
 use Rattle.cover_search.proofs.LongerLists.{leaves_longer}
 
 -- ---- lists
--- the rows of further constraints stand behind the list
-pub list_followed : (cs more : Constraints) → encoded_constraints (followed cs more) ≡ encoded_constraints cs ++ map (encoded_constraint cs.dim) more.list
-list_followed cs more = ap (λ (rs : List Row). height_row cs.dim ∷ bound_row cs.dim ∷ rs) (map-append (encoded_constraint cs.dim) cs.list more.list)
+-- the row of one more constraint stands behind the list
+pub list_with_one : (cs : Constraints) (c : Constraint) → encoded_constraints (with_one cs c) ≡ encoded_constraints cs ++ encoded_constraint cs.dim c ∷ []
+list_with_one cs c = ap (λ (rs : List Row). height_row cs.dim ∷ bound_row cs.dim ∷ rs) (map-append (encoded_constraint cs.dim) cs.list (c ∷ []))
 
 -- an overflow of a list is one of the longer list
-pub list_longer : (cs more : Constraints) (over : Overflow) → LeavesOnList cs over → LeavesOnList (followed cs more) over
-list_longer cs more over l =
-    subst (λ (rs : List Row). Leaves (cs.dim + 2) rs over) (sym (list_followed cs more))
-    (leaves_longer (cs.dim + 2) (encoded_constraints cs) (map (encoded_constraint cs.dim) more.list) over l)
+pub list_longer : (cs : Constraints) (c : Constraint) (over : Overflow) → LeavesOnList cs over → LeavesOnList (with_one cs c) over
+list_longer cs c over l =
+    subst (λ (rs : List Row). Leaves (cs.dim + 2) rs over) (sym (list_with_one cs c))
+    (leaves_longer (cs.dim + 2) (encoded_constraints cs) (encoded_constraint cs.dim c ∷ []) over l)
 
-pub joined_list : (cs more : Constraints) (taken rows : List Row) → more.dim ≡ cs.dim → taken ≡ encoded_constraints cs → rows ≡ map (encoded_constraint more.dim) more.list → taken ++ rows ≡ encoded_constraints (followed cs more)
-joined_list cs more taken rows d e f =
-    ap (λ (rs : List Row). rs ++ rows) e ∙ ap (λ (rs : List Row). encoded_constraints cs ++ rs) f
-    ∙ ap (λ (n : ℕ). encoded_constraints cs ++ map (encoded_constraint n) more.list) d ∙ sym (list_followed cs more)
-
-pub same_constraints : (cs : Constraints) (n : ℕ) (list : List Constraint) → cs.dim ≡ n → cs.list ≡ list → cs ≡ record { dim = n; list = list }
+same_constraints : (cs : Constraints) (n : ℕ) (list : List Constraint) → cs.dim ≡ n → cs.list ≡ list → cs ≡ record { dim = n; list = list }
 same_constraints cs n list e f = ap (λ (k : ℕ). record { dim = k; list = cs.list }) e ∙ ap (λ (l : List Constraint). record { dim = n; list = l }) f
+
+-- a constraint was appended
+pub one_more : (cs new : Constraints) (row : List ℤ) (kind : ConKind) (c : Constraint) → new.dim ≡ cs.dim → new.list ≡ cs.list ++ (row, kind) ∷ [] → row ≡ c.0 → kind ≡ c.1 → new ≡ with_one cs c
+one_more cs new row kind c e f g h = same_constraints new cs.dim (cs.list ++ c ∷ []) e (f ∙ ap (λ (r : List ℤ). cs.list ++ (r, kind) ∷ []) g ∙ ap (λ (k : ConKind). cs.list ++ (c.0, k) ∷ []) h)
 
 -- ---- systems
 -- the system of the first rows of a list, with its table
@@ -75,14 +75,14 @@ has_cone cs width all cone e f canon lists zeros = record {
 }
 
 -- the system of the rows at the front of a list
-pub front_cone : (cs : Constraints) (taken more : Rows) (all : Rows) (from : ℕ) (cone : Cone) → HasListAndCone cs taken cone → all.width ≡ taken.width → all.rows ≡ taken.rows ++ more.rows → from ≡ length taken.rows → IsFront all from cone
+pub front_cone : (cs : Constraints) (taken : Rows) (more : List Row) (all : Rows) (from : ℕ) (cone : Cone) → HasListAndCone cs taken cone → all.width ≡ taken.width → all.rows ≡ taken.rows ++ more → from ≡ length taken.rows → IsFront all from cone
 front_cone cs taken more all from cone h w r n =
     subst (λ (k : ℕ). IsFront all k cone) (sym n)
     (subst (λ (v : ℕ). IsFrontOf v all.rows (length taken.rows) cone) (sym (w ∙ h.width))
     (subst (λ (rs : List Row). IsFrontOf (cs.dim + 2) rs (length taken.rows) cone) (sym r) (record {
-      system = front_system (cs.dim + 2) taken.rows more.rows (vectors cone.lines.rows) (vectors cone.rays.rows) (subst (λ (rs : List Row). IsSystem (ConeOf (cs.dim + 2) rs) (vectors cone.lines.rows) (vectors cone.rays.rows)) (sym h.rows) h.canonical.canon.system);
+      system = front_system (cs.dim + 2) taken.rows more (vectors cone.lines.rows) (vectors cone.rays.rows) (subst (λ (rs : List Row). IsSystem (ConeOf (cs.dim + 2) rs) (vectors cone.lines.rows) (vectors cone.rays.rows)) (sym h.rows) h.canonical.canon.system);
       lists = h.canonical.lists;
-      zeros = front_zeros taken.rows more.rows (vectors cone.rays.rows) cone.sat (subst (λ (rs : List Row). IsZeroTable rs (length rs) (vectors cone.rays.rows) cone.sat) (sym h.rows) h.canonical.zeros);
+      zeros = front_zeros taken.rows more (vectors cone.rays.rows) cone.sat (subst (λ (rs : List Row). IsZeroTable rs (length rs) (vectors cone.rays.rows) cone.sat) (sym h.rows) h.canonical.zeros);
     })))
 
 -- a copy is the same system, but for the room in its table
@@ -152,25 +152,6 @@ module _ (cs : Constraints) (fit : FitDimension cs) (cone : Cone) (has : HasCone
       }) coded_in;
     }
 
--- ---- inclusion
-meets_valid : (row : Row) (lines rays : List (List ℤ)) (v : List ℤ) → IsValidOn row lines rays → Spans lines rays v → Meets v row
-meets_valid row lines rays v h s = subst (λ (eq : Bool). MatchBool eq (dot row.0 v ≡ pos 0) (pos 0 ≤ℤ dot row.0 v)) (sym h.inequality) (at_least_zero_on_spanned row.0 lines rays v h.on_lines h.on_rays s)
-
-pub valid_lies_in : (cs ds : Constraints) (cone : Cone) (rows : List Row) → FitDimension cs → FitDimension ds → ds.dim ≡ cs.dim → HasCone cs cone → rows ≡ map (encoded_constraint ds.dim) ds.list → All (λ (row : Row). IsValidOn row (vectors cone.lines.rows) (vectors cone.rays.rows)) rows → LiesIn cs ds
-valid_lies_in cs ds cone rows fit_c fit_d e has f valid v pt h =
-    (constraints_are_coded ds v fit_d pt_d).1 (subst (λ (n : ℕ). Codes n (ConeOf (n + 2) (encoded_constraints ds)) v) (sym e) (codes_within cs.dim (ConeOf (cs.dim + 2) (encoded_constraints cs)) (ConeOf (cs.dim + 2) (encoded_constraints ds)) v within ((constraints_are_coded cs v fit_c pt).0 h)))
-  where
-    pt_d : IsPoint ds.dim v
-    pt_d = subst (λ (n : ℕ). IsPoint n v) (sym e) pt
-
-    within : (u : List ℤ) → ConeOf (cs.dim + 2) (encoded_constraints cs) u → ConeOf (cs.dim + 2) (encoded_constraints ds) u
-    within u m =
-        let all = cone_meets (cs.dim + 2) (encoded_constraints cs) u m in
-        let spans = has.canon.system.generates.spans u m in
-        cone_from (cs.dim + 2) (encoded_constraints ds) u m.wide
-        (All-cons (Meets u) (height_row ds.dim) (bound_row ds.dim ∷ map (encoded_constraint ds.dim) ds.list) (subst (λ (n : ℕ). Meets u (height_row n)) (sym e) (All-head (Meets u) (height_row cs.dim) (bound_row cs.dim ∷ map (encoded_constraint cs.dim) cs.list) all))
-        (All-cons (Meets u) (bound_row ds.dim) (map (encoded_constraint ds.dim) ds.list) (subst (λ (n : ℕ). Meets u (bound_row n)) (sym e) (All-head (Meets u) (bound_row cs.dim) (map (encoded_constraint cs.dim) cs.list) (All-tail (Meets u) (height_row cs.dim) (bound_row cs.dim ∷ map (encoded_constraint cs.dim) cs.list) all)))
-        (subst (All (Meets u)) f (All-weaker (λ (row : Row). IsValidOn row (vectors cone.lines.rows) (vectors cone.rays.rows)) (Meets u) (λ row w. meets_valid row (vectors cone.lines.rows) (vectors cone.rays.rows) u w spans) rows valid))))
-
+-- ---- vectors
 pub all_vectors : (P : List ℤ → Type 0) (rows : List Row) → ((i : ℕ) → i < length rows → P (row_at rows i)) → All P (vectors rows)
 all_vectors P rows h = All-from_get_or P (vectors rows) [] (λ i b. subst P (sym (vector_at-vectors rows i)) (h i (omega (arith, b, length-vectors rows))))

@@ -9,30 +9,27 @@ use Rattle.cons_sys.specs.Constraints.{Constraint, Constraints, constraint_at, S
 use Rattle.cover_search.specs.declared.pieces.Piece.{Piece}
 use Rattle.cover_search.specs.Inequalities.{AreInequalities, complement}
 use Rattle.row_core.specs.Refusals.{IsOverflowIn}
-use Rattle.cover_search.specs.Regions.{LeavesOnList, HoldNowhere, LiesIn}
-use Rattle.cover_search.specs.Pieces.{with_one, inner_part, outer_part, IsInner, goes_on, IsSplit, outer_alone, both, LeavesInSplit}
+use Rattle.cover_search.specs.Regions.{LeavesOnList, with_one, HoldNowhere, HoldsOn}
+use Rattle.cover_search.specs.Pieces.{inner_part, outer_part, IsInner, goes_on, IsSplit, outer_alone, both, LeavesInSplit}
 use Rattle.cover_search.proofs.InequalityLemmas.{all_left, all_right, complement_excludes}
 
--- where constraints hold on all of a piece, no point of it is in the part with their complement
-module _ (rows : Constraints) (piece : Piece) (other : Constraints) (proper : AreInequalities rows) (below : piece.row < length rows.list) where
-  first_of : (v : List ℤ) (c : Constraint) → other.list ≡ c ∷ [] → In other v → Satisfies v c
-  first_of v c e h = All-head (Satisfies v) c [] (subst (All (Satisfies v)) e h)
-
+-- where an inequality holds at no point of a piece, or at each, one of its parts has none
+module _ (rows : Constraints) (piece : Piece) (proper : AreInequalities rows) (below : piece.row < length rows.list) where
   last_of : (v : List ℤ) (c : Constraint) → In (with_one piece.region c) v → Satisfies v c
   last_of v c h = All-head (Satisfies v) c [] (all_right (Satisfies v) piece.region.list (c ∷ []) h)
 
   rest_of : (v : List ℤ) (c : Constraint) → In (with_one piece.region c) v → In piece.region v
   rest_of v c h = all_left (Satisfies v) piece.region.list (c ∷ []) h
 
-  pub no_inner : other.list ≡ complement (constraint_at rows.list piece.row) ∷ [] → LiesIn piece.region other → HoldNowhere (inner_part rows piece).region
-  no_inner e lies v pt h = complement_excludes (constraint_at rows.list piece.row) v (proper piece.row ([], Eq) below)
-      (first_of v (complement (constraint_at rows.list piece.row)) e (lies v pt (rest_of v (constraint_at rows.list piece.row) h)))
-      (last_of v (constraint_at rows.list piece.row) h)
+  pub no_inner : HoldsOn piece.region (complement (constraint_at rows.list piece.row)) → HoldNowhere (inner_part rows piece).region
+  no_inner holds v pt h =
+      let c = constraint_at rows.list piece.row in
+      complement_excludes c v (proper piece.row ([], Eq) below) (holds v pt (rest_of v c h)) (last_of v c h)
 
-  pub no_outer : other.list ≡ constraint_at rows.list piece.row ∷ [] → LiesIn piece.region other → HoldNowhere (outer_part rows piece).region
-  no_outer e lies v pt h = complement_excludes (constraint_at rows.list piece.row) v (proper piece.row ([], Eq) below)
-      (last_of v (complement (constraint_at rows.list piece.row)) h)
-      (first_of v (constraint_at rows.list piece.row) e (lies v pt (rest_of v (complement (constraint_at rows.list piece.row)) h)))
+  pub no_outer : HoldsOn piece.region (constraint_at rows.list piece.row) → HoldNowhere (outer_part rows piece).region
+  no_outer holds v pt h =
+      let c = constraint_at rows.list piece.row in
+      complement_excludes c v (proper piece.row ([], Eq) below) (last_of v (complement c) h) (holds v pt (rest_of v (complement c) h))
 
 -- ---- what was appended
 pub goes_on_with : (rows : Constraints) (piece inner : Piece) (old new : List Piece) → inner ≡ inner_part rows piece → piece.row + 1 < length rows.list → new ≡ old ++ inner ∷ [] → IsInner rows piece old new

@@ -10,7 +10,7 @@ use Rattle.cons_sys.specs.Constraints.{Constraint, Constraints, constraint_at, S
 use Rattle.cover_search.specs.declared.pieces.Piece.{Piece}
 use Rattle.cover_search.specs.Inequalities.{AreInequalities, complement}
 use Rattle.row_core.specs.Refusals.{IsOverflowIn}
-use Rattle.cover_search.specs.Regions.{LeavesOnList, followed, HoldNowhere}
+use Rattle.cover_search.specs.Regions.{LeavesOnList, with_one, HoldNowhere}
 use Rattle.cover_search.specs.Branches.{choice, begins, chooses, LeavesOnBranch, HoldsInSome, AreCovered, IsUncovered}
 use Rattle.cover_search.specs.Pieces.{inner_part, outer_part, front_of, IsRowOf, IsPiece, IsInSome, all_still, IsWithin, IsTurn, IsFound, LeavesInSplit, LeavesInTurn, LiesInSome}
 use Rattle.cover_search.proofs.InequalityLemmas.{all_left}
@@ -116,12 +116,12 @@ module _ (first : Constraints) (systems : List Constraints) where
     }
     part_leaves rows over at below (inr (more, l)) =
         let next : Constraint = complement (constraint_at rows.list (piece.row + 1)) in
-        let whole = list_longer (inner_part rows piece).region (record { dim = first.dim; list = next ∷ [] }) over l in
+        let whole = list_longer (inner_part rows piece).region next over l in
         record {
           passed = piece.passed + 1;
           list = p.list ++ choice rows.list (piece.row + 1);
           branch = chooses rows (piece.row + 1) p.branch at more;
-          leaves = of_list (followed (inner_part rows piece).region (record { dim = first.dim; list = next ∷ [] })) over (p.list ++ choice rows.list (piece.row + 1)) p.same_dim
+          leaves = of_list (with_one (inner_part rows piece).region next) over (p.list ++ choice rows.list (piece.row + 1)) p.same_dim
               (ap (λ (xs : List Constraint). xs ++ next ∷ []) (inner_list first systems piece rows p at below) ∙ append_assoc p.list (take (piece.row + 1) rows.list) (next ∷ [])) whole;
         }
 

@@ -3,12 +3,8 @@ use Rattle.cons_sys.specs.Constraints.{Constraint, Constraints, constraint_at, I
 use Rattle.cover_search.specs.Inequalities.{complement}
 use Rattle.row_core.specs.declared.errors.Overflow.{Overflow}
 use Rattle.cover_search.specs.Branches.{IsBranch}
-use Rattle.cover_search.specs.Regions.{LeavesOnList, HoldNowhere, IsPointIn, LiesIn}
+use Rattle.cover_search.specs.Regions.{LeavesOnList, with_one, HoldNowhere, IsPointIn, LiesIn}
 use Rattle.cover_search.specs.declared.pieces.Piece.{Piece}
-
--- the constraints and then one more
-abbrev pub with_one : Constraints → Constraint → Constraints
-with_one cs c = record { dim = cs.dim; list = cs.list ++ c ∷ [] }
 
 -- ---- parts of a piece
 -- the part on which the next inequality holds

@@ -1,8 +1,8 @@
-use Rattle.std.specs.Prelude.{◌≡◌, ◌⊎◌, ◌+◌, List, ◌++◌, map, length, Bool, true, false, All, ℤ, pos, ◌≤ℤ◌, ◌<ℤ◌, ◌+ℤ◌}
+use Rattle.std.specs.Prelude.{◌≡◌, ◌⊎◌, ◌+◌, List, [], ◌∷◌, ◌++◌, map, length, Bool, true, All, ℤ, pos, ◌≤ℤ◌, ◌<ℤ◌, ◌+ℤ◌}
 use Rattle.row_core.specs.Content.{IsPrimitive}
 use Rattle.row_core.specs.Points.{IsPoint}
 use Rattle.row_core.specs.Vectors.{dot}
-use Rattle.row_core.specs.Lists.{Row, Rows, vectors}
+use Rattle.row_core.specs.Lists.{Rows, vectors}
 use Rattle.row_core.specs.declared.errors.Overflow.{Overflow}
 use Rattle.sat_matrix.specs.ZeroTables.{IsZeroTable}
 use Rattle.cone_laws.specs.Members.{ConeOf}
@@ -18,9 +18,9 @@ use Rattle.nnc_enc.specs.Encoding.{encoded_constraint, encoded_constraints}
 abbrev pub LeavesOnList : Constraints → Overflow → Type 0
 LeavesOnList cs over = Leaves (cs.dim + 2) (encoded_constraints cs) over
 
--- the constraints and then further ones
-abbrev pub followed : Constraints → Constraints → Constraints
-followed cs more = record { dim = cs.dim; list = cs.list ++ more.list }
+-- the constraints and then one more
+abbrev pub with_one : Constraints → Constraint → Constraints
+with_one cs c = record { dim = cs.dim; list = cs.list ++ c ∷ [] }
 
 -- ---- points
 -- the constraints hold at no point
@@ -55,12 +55,6 @@ pub record HasListAndCone (cs : Constraints) (list : Rows) (cone : Cone) : Type 
 -- each point at which the first constraints hold is one at which the others do
 abbrev pub LiesIn : Constraints → Constraints → Type 0
 LiesIn cs ds = (v : List ℤ) → IsPoint cs.dim v → In cs v → In ds v
-
--- the row is an inequality that is 0 on each line and at least 0 on each ray
-pub record IsValidOn (row : Row) (lines rays : List (List ℤ)) : Type 0 where
-  pub inequality : row.1 ≡ false
-  pub on_lines : All (λ l. dot row.0 l ≡ pos 0) lines
-  pub on_rays : All (λ r. pos 0 ≤ℤ dot row.0 r) rays
 
 -- the constraint holds at each point at which the system does
 abbrev pub HoldsOn : Constraints → Constraint → Type 0

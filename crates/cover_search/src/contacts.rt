@@ -37,7 +37,7 @@ pub(crate) struct Plan {
 }
 
 /// How a set lies to a system.
-fn contact_of(region: &Region, walls: &Walls) -> Contact
+pub(crate) fn contact_of(region: &Region, walls: &Walls) -> Contact
     requires dim { walls.now.dim ≡ region.now.dim }
     requires inequalities { AreInequalities walls.now }
     ensures { IsContact region.now walls.now result }
@@ -45,8 +45,8 @@ fn contact_of(region: &Region, walls: &Walls) -> Contact
     let mut crossed = 0;
     let mut end = 0;
     for index in 0..walls.len() {
-        if !region.keeps(walls.inner(), index) {
-            if region.keeps(walls.outer(), index) {
+        if !region.is_inside(walls, index) {
+            if region.is_outside(walls, index) {
                 return Contact::Apart;
             }
             crossed += 1;

@@ -1,10 +1,9 @@
 //! Half-spaces: inequalities with the rows that encode them.
-ghost use Rattle.std.specs.Prelude.{◌≡◌, ◌+◌, ◌<◌, ◌∷◌, [], length, map, IfOk};
-ghost use Rattle.cons_sys.specs.Constraints.{constraint_at};
+ghost use Rattle.std.specs.Prelude.{◌≡◌, ◌+◌, length, map, IfOk};
 ghost use Rattle.nnc_enc.specs.Encoding.{encoded_constraint};
 ghost use Rattle.cover_search.specs.Inequalities.{inequalities, complement};
 
-use crate::inequalities::{complement_of, complements_of, inequalities_of, one_of};
+use crate::inequalities::{complements_of, inequalities_of};
 use cons_sys::ConsSys;
 use nnc_enc::encode_further_cons;
 use row_core::{Memory, RowList};
@@ -51,24 +50,6 @@ impl Halfspaces {
         ensures list { IfOk result (λ h. h.list ≡ map complement self.now.list) }
     {
         Halfspaces::encoded(alloc, complements_of(alloc, &self.cons)?)
-    }
-
-    /// One of these inequalities.
-    pub(crate) fn one(&self, alloc: Global, index: usize) -> Result<Halfspaces, Memory>
-        requires { index < length self.now.list }
-        ensures dim { IfOk result (λ h. h.dim ≡ self.now.dim) }
-        ensures list { IfOk result (λ h. h.list ≡ constraint_at self.now.list index ∷ []) }
-    {
-        Halfspaces::encoded(alloc, one_of(alloc, &self.cons, index)?)
-    }
-
-    /// The complement of one of them.
-    pub(crate) fn complement(&self, alloc: Global, index: usize) -> Result<Halfspaces, Memory>
-        requires { index < length self.now.list }
-        ensures dim { IfOk result (λ h. h.dim ≡ self.now.dim) }
-        ensures list { IfOk result (λ h. h.list ≡ complement (constraint_at self.now.list index) ∷ []) }
-    {
-        Halfspaces::encoded(alloc, complement_of(alloc, &self.cons, index)?)
     }
 
     /// The number of inequalities.

@@ -1,8 +1,7 @@
 //! The inequalities of a system, and their complements.
-ghost use Rattle.std.specs.Prelude.{◌≡◌, ◌+◌, ◌-◌, ◌^◌, ◌<◌, ◌++◌, ◌∷◌, [], length, map, IfOk, OnOk};
+ghost use Rattle.std.specs.Prelude.{◌≡◌, ◌+◌, ◌-◌, ◌^◌, ◌++◌, ◌∷◌, [], length, map, IfOk, OnOk};
 ghost use Rattle.row_core.specs.Range.{AllInRange};
 ghost use Rattle.row_core.specs.Content.{IsPrimitive};
-ghost use Rattle.cons_sys.specs.Constraints.{constraint_at};
 ghost use Rattle.cover_search.specs.Inequalities.{halves, inequalities, is_strict, opposite, complement};
 
 use cons_sys::{ConKind, ConsSys};
@@ -10,7 +9,11 @@ use row_core::{Memory, RowBuf};
 use std::alloc::Global;
 
 /// Appends a primitive row, which is stored as it is.
-fn push_primitive(system: &mut ConsSys, row: &[i128], kind: ConKind) -> Result<(), Memory>
+pub(crate) fn push_primitive(
+    system: &mut ConsSys,
+    row: &[i128],
+    kind: ConKind,
+) -> Result<(), Memory>
     requires wide { length row.now ≡ system.old.dim + 1 }
     requires in_range { AllInRange row.now }
     requires primitive { IsPrimitive row.now }
@@ -77,29 +80,6 @@ pub(crate) fn is_strict(kind: ConKind) -> bool
         ConKind::Ge => false,
         ConKind::Gt => true,
     }
-}
-
-/// A system of the one inequality.
-pub(crate) fn one_of(alloc: Global, rows: &ConsSys, index: usize) -> Result<ConsSys, Memory>
-    requires { index < length rows.now.list }
-    ensures dim { IfOk result (λ system. system.dim ≡ rows.now.dim) }
-    ensures list { IfOk result (λ system. system.list ≡ constraint_at rows.now.list index ∷ []) }
-{
-    let mut system = ConsSys::new(alloc, rows.dim());
-    push_primitive(&mut system, rows.row(index), rows.kind(index))?;
-    Ok(system)
-}
-
-/// A system of its complement.
-pub(crate) fn complement_of(alloc: Global, rows: &ConsSys, index: usize) -> Result<ConsSys, Memory>
-    requires { index < length rows.now.list }
-    ensures dim { IfOk result (λ system. system.dim ≡ rows.now.dim) }
-    ensures list { IfOk result (λ system. system.list ≡ complement (constraint_at rows.now.list index) ∷ []) }
-{
-    let mut system = ConsSys::new(alloc, rows.dim());
-    let turned = RowBuf::negated(alloc, rows.row(index))?;
-    push_primitive(&mut system, turned.cells(), opposite(rows.kind(index)))?;
-    Ok(system)
 }
 
 /// The complements of all inequalities, in order.

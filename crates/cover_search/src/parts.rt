@@ -32,8 +32,7 @@ fn push_outside<L: Ledger>(
     requires index { index < length walls.now.list }
     ensures { OnOk result (IsPushed walls.now index region numbers.now pending.old.items pending.new.items) }
 {
-    let outside = walls.inner().complement(alloc, index)?;
-    let region = region.narrowed(alloc, &outside, steps)?;
+    let region = region.outside(alloc, walls, index, steps)?;
     let met = Vec::from_slice(alloc, numbers)?;
     pending.push(Part { region, met })?;
     Ok(())
@@ -55,13 +54,12 @@ fn rest_of<L: Ledger>(
     requires inequalities { AreInequalities walls.now }
     ensures { IfOk result (IsLeft walls.now index region numbers.now pending.old.items pending.new.items) }
 {
-    if region.keeps(walls.inner(), index) {
+    if region.is_inside(walls, index) {
         return Ok(region);
     }
     let copy = region.copied()?;
     push_outside(alloc, walls, index, copy, numbers, pending, steps)?;
-    let inside = walls.inner().one(alloc, index)?;
-    region.narrowed(alloc, &inside, steps)
+    region.inside(alloc, walls, index, steps)
 }
 
 /// Appends the parts of a set outside of the system, whose inequalities behind number `last` hold on the set.

@@ -2,10 +2,10 @@
 ghost use Rattle.std.specs.Prelude.{◌≡◌, ◌+◌, ◌^◌, ◌<◌, ◌≤◌, ◌++◌, ◌∷◌, [], length, IfErr, IfOk, MatchOption, OnOk, All, IsTrue};
 ghost use Rattle.cover_search.specs.Inequalities.{AreInequalities};
 ghost use Rattle.row_core.specs.Refusals.{IsOverflowIn};
-ghost use Rattle.cover_search.specs.Regions.{LeavesOnList, HoldNowhere};
+ghost use Rattle.cover_search.specs.Regions.{LeavesOnList};
 ghost use Rattle.cover_search.specs.Pieces.{outer_part, inner_part, IsInner, IsSplit, LeavesInSplit, IsWithin, LiesInSome, IsTurn, IsFound, LeavesInTurn};
 
-use crate::halfspaces::Halfspaces;
+use crate::contacts::{Contact, contact_of};
 use crate::region::Region;
 use crate::walls::Walls;
 use row_core::{ConvErr, Memory, RowBuf, Steps};
@@ -34,44 +34,21 @@ impl Piece {
         })
     }
 
-    /// Whether the piece is seen to have no point at which the next inequality of the next system holds.
-    fn is_outside(&self, alloc: Global, rows: &Halfspaces) -> Result<bool, Memory>
-        requires dim { rows.now.dim ≡ self.now.region.dim }
-        requires row { self.now.row < length rows.now.list }
-        requires inequalities { AreInequalities rows.now }
-        ensures { IfOk result (λ outside. IsTrue outside → HoldNowhere (inner_part rows.now self.now).region) }
-    {
-        let outside = rows.complement(alloc, self.row)?;
-        Ok(self.region.lies_in(&outside))
-    }
-
-    /// Whether it is seen to have no point at which that doesn't hold.
-    fn is_inside(&self, alloc: Global, rows: &Halfspaces) -> Result<bool, Memory>
-        requires dim { rows.now.dim ≡ self.now.region.dim }
-        requires row { self.now.row < length rows.now.list }
-        requires inequalities { AreInequalities rows.now }
-        ensures { IfOk result (λ inside. IsTrue inside → HoldNowhere (outer_part rows.now self.now).region) }
-    {
-        let inside = rows.one(alloc, self.row)?;
-        Ok(self.region.lies_in(&inside))
-    }
-
-    /// The part on which it doesn't hold.
+    /// The part on which the next inequality of the next system doesn't hold.
     fn outer<L: Ledger>(
         self,
         alloc: Global,
-        rows: &Halfspaces,
+        walls: &Walls,
         steps: &mut Steps<L>,
     ) -> Result<Piece, ConvErr>
-        requires dim { rows.now.dim ≡ self.region.dim }
+        requires dim { walls.now.dim ≡ self.region.dim }
         requires passed { self.passed + 1 < 2 ^ 64 }
-        requires row { self.row < length rows.now.list }
-        ensures part { IfOk result (λ part. part ≡ outer_part rows.now self) }
-        ensures overflow { IfErr result (IsOverflowIn (LeavesOnList (outer_part rows.now self).region)) }
+        requires row { self.row < length walls.now.list }
+        ensures part { IfOk result (λ part. part ≡ outer_part walls.now self) }
+        ensures overflow { IfErr result (IsOverflowIn (LeavesOnList (outer_part walls.now self).region)) }
     {
-        let outside = rows.complement(alloc, self.row)?;
         let passed = self.passed + 1;
-        let region = self.region.narrowed(alloc, &outside, steps)?;
+        let region = self.region.outside(alloc, walls, self.row, steps)?;
         Ok(Piece {
             region,
             passed,
@@ -83,19 +60,18 @@ impl Piece {
     fn inner<L: Ledger>(
         self,
         alloc: Global,
-        rows: &Halfspaces,
+        walls: &Walls,
         steps: &mut Steps<L>,
     ) -> Result<Piece, ConvErr>
-        requires dim { rows.now.dim ≡ self.region.dim }
-        requires row { self.row < length rows.now.list }
+        requires dim { walls.now.dim ≡ self.region.dim }
+        requires row { self.row < length walls.now.list }
         requires row_fits { self.row + 1 < 2 ^ 64 }
-        ensures part { IfOk result (λ part. part ≡ inner_part rows.now self) }
-        ensures overflow { IfErr result (IsOverflowIn (LeavesOnList (inner_part rows.now self).region)) }
+        ensures part { IfOk result (λ part. part ≡ inner_part walls.now self) }
+        ensures overflow { IfErr result (IsOverflowIn (LeavesOnList (inner_part walls.now self).region)) }
     {
-        let inside = rows.one(alloc, self.row)?;
         let row = self.row + 1;
         let passed = self.passed;
-        let region = self.region.narrowed(alloc, &inside, steps)?;
+        let region = self.region.inside(alloc, walls, self.row, steps)?;
         Ok(Piece {
             region,
             passed,
@@ -108,21 +84,21 @@ impl Piece {
 /// within the system.
 fn push_inner<L: Ledger>(
     alloc: Global,
-    rows: &Halfspaces,
+    walls: &Walls,
     piece: Piece,
     pending: &mut Vec<Piece>,
     steps: &mut Steps<L>,
 ) -> Result<(), ConvErr>
-    requires dim { rows.now.dim ≡ piece.region.dim }
-    requires row { piece.row < length rows.now.list }
-    ensures part { OnOk result (IsInner rows.now piece pending.old.items pending.new.items) }
-    ensures overflow { IfErr result (IsOverflowIn (LeavesInSplit rows.now piece)) }
+    requires dim { walls.now.dim ≡ piece.region.dim }
+    requires row { piece.row < length walls.now.list }
+    ensures part { OnOk result (IsInner walls.now piece pending.old.items pending.new.items) }
+    ensures overflow { IfErr result (IsOverflowIn (LeavesInSplit walls.now piece)) }
 {
-    let end = rows.len();
+    let end = walls.len();
     if piece.row + 1 == end {
         return Ok(());
     }
-    let inner = piece.inner(alloc, rows, steps)?;
+    let inner = piece.inner(alloc, walls, steps)?;
     pending.push(inner)?;
     Ok(())
 }
@@ -130,18 +106,18 @@ fn push_inner<L: Ledger>(
 /// Appends the part on which it doesn't hold.
 fn push_outer<L: Ledger>(
     alloc: Global,
-    rows: &Halfspaces,
+    walls: &Walls,
     piece: Piece,
     pending: &mut Vec<Piece>,
     steps: &mut Steps<L>,
 ) -> Result<(), ConvErr>
-    requires dim { rows.now.dim ≡ piece.region.dim }
+    requires dim { walls.now.dim ≡ piece.region.dim }
     requires passed { piece.passed + 1 < 2 ^ 64 }
-    requires row { piece.row < length rows.now.list }
-    ensures part { OnOk result (pending.new.items ≡ pending.old.items ++ outer_part rows.now piece ∷ []) }
-    ensures overflow { IfErr result (IsOverflowIn (LeavesInSplit rows.now piece)) }
+    requires row { piece.row < length walls.now.list }
+    ensures part { OnOk result (pending.new.items ≡ pending.old.items ++ outer_part walls.now piece ∷ []) }
+    ensures overflow { IfErr result (IsOverflowIn (LeavesInSplit walls.now piece)) }
 {
-    let outer = piece.outer(alloc, rows, steps)?;
+    let outer = piece.outer(alloc, walls, steps)?;
     pending.push(outer)?;
     Ok(())
 }
@@ -149,20 +125,20 @@ fn push_outer<L: Ledger>(
 /// Appends both parts, the one on which it doesn't hold last.
 fn push_both<L: Ledger>(
     alloc: Global,
-    rows: &Halfspaces,
+    walls: &Walls,
     piece: Piece,
     pending: &mut Vec<Piece>,
     steps: &mut Steps<L>,
 ) -> Result<(), ConvErr>
-    requires dim { rows.now.dim ≡ piece.region.dim }
+    requires dim { walls.now.dim ≡ piece.region.dim }
     requires passed { piece.passed + 1 < 2 ^ 64 }
-    requires row { piece.row < length rows.now.list }
-    ensures parts { OnOk result (IsSplit rows.now piece pending.old.items pending.new.items) }
-    ensures overflow { IfErr result (IsOverflowIn (LeavesInSplit rows.now piece)) }
+    requires row { piece.row < length walls.now.list }
+    ensures parts { OnOk result (IsSplit walls.now piece pending.old.items pending.new.items) }
+    ensures overflow { IfErr result (IsOverflowIn (LeavesInSplit walls.now piece)) }
 {
     let copy = piece.copied()?;
-    push_inner(alloc, rows, piece, pending, steps)?;
-    push_outer(alloc, rows, copy, pending, steps)?;
+    push_inner(alloc, walls, piece, pending, steps)?;
+    push_outer(alloc, walls, copy, pending, steps)?;
     Ok(())
 }
 
@@ -170,44 +146,43 @@ fn push_both<L: Ledger>(
 /// last. A part that is within the system, or is seen to have no point, is left out.
 fn split<L: Ledger>(
     alloc: Global,
-    rows: &Halfspaces,
+    walls: &Walls,
     piece: Piece,
     pending: &mut Vec<Piece>,
     steps: &mut Steps<L>,
 ) -> Result<(), ConvErr>
-    requires dim { rows.now.dim ≡ piece.region.dim }
+    requires dim { walls.now.dim ≡ piece.region.dim }
     requires passed { piece.passed + 1 < 2 ^ 64 }
-    requires row { piece.row ≤ length rows.now.list }
-    requires inequalities { AreInequalities rows.now }
-    ensures parts { OnOk result (IsSplit rows.now piece pending.old.items pending.new.items) }
-    ensures overflow { IfErr result (IsOverflowIn (LeavesInSplit rows.now piece)) }
+    requires row { piece.row ≤ length walls.now.list }
+    requires inequalities { AreInequalities walls.now }
+    ensures parts { OnOk result (IsSplit walls.now piece pending.old.items pending.new.items) }
+    ensures overflow { IfErr result (IsOverflowIn (LeavesInSplit walls.now piece)) }
 {
-    if piece.row == rows.len() {
+    if piece.row == walls.len() {
         return Ok(());
     }
-    let outside = piece.is_outside(alloc, rows)?;
-    if outside {
-        push_outer(alloc, rows, piece, pending, steps)?;
+    if piece.region.is_outside(walls, piece.row) {
+        push_outer(alloc, walls, piece, pending, steps)?;
         return Ok(());
     }
-    let inside = piece.is_inside(alloc, rows)?;
-    if inside {
-        push_inner(alloc, rows, piece, pending, steps)?;
+    if piece.region.is_inside(walls, piece.row) {
+        push_inner(alloc, walls, piece, pending, steps)?;
         return Ok(());
     }
-    push_both(alloc, rows, piece, pending, steps)
+    push_both(alloc, walls, piece, pending, steps)
 }
 
 /// Whether the piece is seen to lie in one of the systems that are still to come, before any of its inequalities is taken.
 fn lies_in_some(systems: &[Walls], piece: &Piece) -> bool
-    requires { All (λ rows. rows.dim ≡ piece.now.region.dim) systems.now }
+    requires dims { All (λ rows. rows.dim ≡ piece.now.region.dim) systems.now }
+    requires inequalities { All AreInequalities systems.now }
     ensures { IsTrue result → LiesInSome systems.now piece.now.region }
 {
     if piece.row > 0 {
         return false;
     }
     for index in piece.passed..systems.len() {
-        if piece.region.lies_in(systems[index].inner()) {
+        if let Contact::Within = contact_of(&piece.region, &systems[index]) {
             return true;
         }
     }
@@ -239,6 +214,6 @@ pub(crate) fn turn<L: Ledger>(
         return Ok(None);
     }
     let passed = piece.passed;
-    split(alloc, systems[passed].inner(), piece, pending, steps)?;
+    split(alloc, &systems[passed], piece, pending, steps)?;
     Ok(None)
 }

@@ -5,14 +5,15 @@ ghost use Rattle.row_core.specs.Range.{InRange, AllInRange};
 ghost use Rattle.row_core.specs.Content.{IsPrimitiveOf};
 ghost use Rattle.row_core.specs.Lists.{row_at, vectors};
 ghost use Rattle.poly_pair.specs.Conversions.{HaveNoPoint};
-ghost use Rattle.nnc_enc.specs.Encoding.{lowered};
+ghost use Rattle.nnc_enc.specs.Encoding.{encoded_constraint, lowered};
 ghost use Rattle.row_core.specs.Refusals.{IsOverflowIn};
 ghost use Rattle.cons_sys.specs.Constraints.{constraint_at};
-ghost use Rattle.cover_search.specs.Inequalities.{AreInequalities};
-ghost use Rattle.cover_search.specs.Regions.{LeavesOnList, followed, HoldNowhere, IsPointIn, LiesIn, IsValidOn, HoldsOn, IsKept};
+ghost use Rattle.cover_search.specs.Inequalities.{AreInequalities, complement};
+ghost use Rattle.cover_search.specs.Regions.{LeavesOnList, with_one, HoldNowhere, IsPointIn, HoldsOn, IsKept};
 
 use crate::halfspaces::Halfspaces;
-use crate::inequalities::is_strict;
+use crate::inequalities::{is_strict, push_primitive};
+use crate::walls::Walls;
 use chernikova::{Cone, add_rows, convert};
 use cons_sys::ConsSys;
 use nnc_enc::encode_cons;
@@ -40,17 +41,24 @@ impl Model for Region {
     ghost invariant = { λ r. HasListAndCone r.cons r.list r.cone };
 }
 
-/// The rows, and then further ones.
-fn rows_followed(list: RowList, more: &RowList) -> Result<RowList, Memory>
-    requires { more.now.width ≡ list.width }
-    ensures width { IfOk result (λ all. all.width ≡ list.width) }
-    ensures rows { IfOk result (λ all. all.rows ≡ list.rows ++ more.now.rows) }
+/// Appends one of the inequalities to constraints, and its row to the list that encodes these.
+fn push_one(
+    cons: &mut ConsSys,
+    list: &mut RowList,
+    halfspaces: &Halfspaces,
+    index: usize,
+) -> Result<(), Memory>
+    requires dim { halfspaces.now.dim ≡ cons.old.dim }
+    requires width { list.old.width ≡ cons.old.dim + 2 }
+    requires index { index < length halfspaces.now.list }
+    ensures cons { OnOk result (cons.new ≡ with_one cons.old (constraint_at halfspaces.now.list index)) }
+    ensures width { list.new.width ≡ list.old.width }
+    ensures rows { OnOk result (list.new.rows ≡ list.old.rows ++ encoded_constraint cons.old.dim (constraint_at halfspaces.now.list index) ∷ []) }
 {
-    let mut all = list;
-    for index in 0..more.len() {
-        all.push(more.row(index), more.is_eq(index))?;
-    }
-    Ok(all)
+    let given = halfspaces.cons();
+    let encoded = halfspaces.rows();
+    push_primitive(cons, given.row(index), given.kind(index))?;
+    list.push(encoded.row(index), encoded.is_eq(index))
 }
 
 /// The first ray that is positive at the column.
@@ -98,26 +106,6 @@ fn is_zero_on(row: &[i128], list: &RowList) -> bool
     true
 }
 
-/// Whether the row is at least 0 on each vector. A dot that leaves the range answers no.
-fn is_least_on(row: &[i128], list: &RowList) -> bool
-    requires wide { length row.now ≡ list.now.width }
-    requires narrow { length row.now < 2 ^ 32 }
-    requires in_range { AllInRange row.now }
-    ensures { IsTrue result → All (λ v. pos 0 ≤ℤ dot row.now v) (vectors list.now.rows) }
-{
-    for index in 0..list.len() {
-        match dot(row, list.row(index)) {
-            Ok(value) => {
-                if value < 0 {
-                    return false;
-                }
-            }
-            Err(_) => return false,
-        }
-    }
-    true
-}
-
 /// Whether the value of the row of an inequality on a vector is at least 0 or, of a strict one, above 0 without the
 /// height, which stands in the column. A dot that leaves the range answers no.
 fn is_kept(strict: bool, column: usize, row: &[i128], vector: &[i128]) -> bool
@@ -148,48 +136,10 @@ fn is_kept_on(strict: bool, column: usize, row: &[i128], list: &RowList) -> bool
     true
 }
 
-/// Whether the row is an inequality that is valid on what the system spans.
-fn is_valid(row: &[i128], eq: bool, cone: &Cone) -> bool
-    requires lines { length row.now ≡ cone.now.lines.width }
-    requires rays { length row.now ≡ cone.now.rays.width }
-    requires narrow { length row.now < 2 ^ 32 }
-    requires in_range { AllInRange row.now }
-    ensures { IsTrue result → IsValidOn (row.now, eq) (vectors cone.now.lines.rows) (vectors cone.now.rays.rows) }
-{
-    if eq || !is_zero_on(row, &cone.lines) {
-        return false;
-    }
-    is_least_on(row, &cone.rays)
-}
-
-/// Whether each row is one.
-fn are_valid(rows: &RowList, cone: &Cone) -> bool
-    requires lines { rows.now.width ≡ cone.now.lines.width }
-    requires rays { rows.now.width ≡ cone.now.rays.width }
-    ensures { IsTrue result → All (λ row. IsValidOn row (vectors cone.now.lines.rows) (vectors cone.now.rays.rows)) rows.now.rows }
-{
-    let _narrow = rows.width();
-    for index in 0..rows.len() {
-        if !is_valid(rows.row(index), rows.is_eq(index), cone) {
-            return false;
-        }
-    }
-    true
-}
-
 impl Region {
-    /// Whether the constraints are seen to hold at all of these points. Where a number leaves the range the answer is no.
-    pub(crate) fn lies_in(&self, halfspaces: &Halfspaces) -> bool
-        requires { halfspaces.now.dim ≡ self.now.dim }
-        ensures { IsTrue result → LiesIn self.now halfspaces.now }
-    {
-        let _fit = (self.cons.dim(), halfspaces.cons().dim());
-        are_valid(halfspaces.rows(), &self.cone)
-    }
-
     /// Whether one of the inequalities is seen to hold at all of these points. Where a number leaves the range the answer
     /// is no.
-    pub(crate) fn keeps(&self, halfspaces: &Halfspaces, index: usize) -> bool
+    fn keeps(&self, halfspaces: &Halfspaces, index: usize) -> bool
         requires dim { halfspaces.now.dim ≡ self.now.dim }
         requires index { index < length halfspaces.now.list }
         requires inequalities { AreInequalities halfspaces.now }
@@ -203,6 +153,26 @@ impl Region {
             return false;
         }
         is_kept_on(strict, dim, row, &self.cone.rays)
+    }
+
+    /// Whether an inequality of a system is seen to hold at all of these points.
+    pub(crate) fn is_inside(&self, walls: &Walls, index: usize) -> bool
+        requires dim { walls.now.dim ≡ self.now.dim }
+        requires index { index < length walls.now.list }
+        requires inequalities { AreInequalities walls.now }
+        ensures { IsTrue result → HoldsOn self.now (constraint_at walls.now.list index) }
+    {
+        self.keeps(walls.inner(), index)
+    }
+
+    /// Whether it is seen to hold at none.
+    pub(crate) fn is_outside(&self, walls: &Walls, index: usize) -> bool
+        requires dim { walls.now.dim ≡ self.now.dim }
+        requires index { index < length walls.now.list }
+        requires inequalities { AreInequalities walls.now }
+        ensures { IsTrue result → HoldsOn self.now (complement (constraint_at walls.now.list index)) }
+    {
+        self.keeps(walls.outer(), index)
     }
 
     /// The points at which constraints hold.
@@ -224,32 +194,72 @@ impl Region {
         Ok(Region { cons, list, cone })
     }
 
-    /// Those of these points at which further constraints hold.
-    ///
-    /// # Errors
-    ///
-    /// An overflow is one of the conversion of the list of all constraints.
-    pub(crate) fn narrowed<L: Ledger>(
+    /// Those of these points at which one of the inequalities holds.
+    fn narrowed<L: Ledger>(
         self,
         alloc: Global,
-        more: &Halfspaces,
+        halfspaces: &Halfspaces,
+        index: usize,
         steps: &mut Steps<L>,
     ) -> Result<Region, ConvErr>
-        requires { more.now.dim ≡ self.dim }
-        ensures region { IfOk result (λ r. r ≡ followed self more.now) }
-        ensures overflow { IfErr result (IsOverflowIn (LeavesOnList (followed self more.now))) }
+        requires dim { halfspaces.now.dim ≡ self.dim }
+        requires index { index < length halfspaces.now.list }
+        ensures region { IfOk result (λ r. r ≡ with_one self (constraint_at halfspaces.now.list index)) }
+        ensures overflow { IfErr result (IsOverflowIn (LeavesOnList (with_one self (constraint_at halfspaces.now.list index)))) }
     {
-        let Region { cons, list, cone } = self;
-        let rows = more.rows();
-        let cons = cons.followed_by(alloc, more.cons())?;
+        let Region {
+            mut cons,
+            mut list,
+            cone,
+        } = self;
         let from = list.len();
-        let list = rows_followed(list, rows)?;
+        push_one(&mut cons, &mut list, halfspaces, index)?;
         let added = add_rows(alloc, cone, &list, from, steps)?;
         Ok(Region {
             cons,
             list,
             cone: added.cone,
         })
+    }
+
+    /// Those of these points at which an inequality of a system holds.
+    ///
+    /// # Errors
+    ///
+    /// An overflow is one of the conversion of the list of all constraints.
+    pub(crate) fn inside<L: Ledger>(
+        self,
+        alloc: Global,
+        walls: &Walls,
+        index: usize,
+        steps: &mut Steps<L>,
+    ) -> Result<Region, ConvErr>
+        requires dim { walls.now.dim ≡ self.dim }
+        requires index { index < length walls.now.list }
+        ensures region { IfOk result (λ r. r ≡ with_one self (constraint_at walls.now.list index)) }
+        ensures overflow { IfErr result (IsOverflowIn (LeavesOnList (with_one self (constraint_at walls.now.list index)))) }
+    {
+        self.narrowed(alloc, walls.inner(), index, steps)
+    }
+
+    /// Those at which it doesn't.
+    ///
+    /// # Errors
+    ///
+    /// As [`Region::inside`].
+    pub(crate) fn outside<L: Ledger>(
+        self,
+        alloc: Global,
+        walls: &Walls,
+        index: usize,
+        steps: &mut Steps<L>,
+    ) -> Result<Region, ConvErr>
+        requires dim { walls.now.dim ≡ self.dim }
+        requires index { index < length walls.now.list }
+        ensures region { IfOk result (λ r. r ≡ with_one self (complement (constraint_at walls.now.list index))) }
+        ensures overflow { IfErr result (IsOverflowIn (LeavesOnList (with_one self (complement (constraint_at walls.now.list index))))) }
+    {
+        self.narrowed(alloc, walls.outer(), index, steps)
     }
 
     /// A copy.

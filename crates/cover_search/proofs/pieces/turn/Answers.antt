@@ -1,9 +1,8 @@
-use Rattle.std.proofs.Common.{◌≡◌, ◌∙◌, inr, Some, sym, subst, ap, rules, arith}
+use Rattle.std.proofs.Common.{◌≡◌, ◌∙◌, inr, Some, sym, ap, rules, arith}
 use Rattle.std.specs.Prelude.{slice_get}
 use Rattle.std.proofs.lemmas.Option.{slice_get-get_or}
 use Rattle.row_core.specs.Refusals.{IsOverflowIn}
-use Rattle.cons_sys.specs.Constraints.{Constraints}
-use Rattle.cover_search.specs.Pieces.{IsSplit, LeavesInSplit, LeavesInTurn}
+use Rattle.cover_search.specs.Pieces.{LeavesInTurn}
 use Rattle.cover_search.proofs.TurnLemmas.{next_leaves}
 use Rattle.cover_search.proofs.pieces.turn.Goals as goal
 
@@ -11,11 +10,11 @@ pub returns-in_err-split-clause-overflow : goal.returns-in_err-split-clause-over
 returns-in_err-split-clause-overflow g c =
     let rows = c.index-systems-passed.result in
     let at : slice_get c.args.systems.now c.args.piece.passed ≡ Some rows = slice_get-get_or c.args.systems.now c.args.piece.passed rows (omega arith) ∙ ap Some (sym c.index-systems-passed.is) in
-    let known : IsOverflowIn (LeavesInTurn c.args.systems.now c.args.piece) c.in_err-split.field-0.0 = next_leaves c.args.systems.now c.args.piece rows c.in_err-split.field-0.0 at (subst (λ (r : Constraints). IsOverflowIn (LeavesInSplit r c.args.piece) c.in_err-split.field-0.0) c.inner.ensures c.in_err-split.ensures.overflow) in
+    let known : IsOverflowIn (LeavesInTurn c.args.systems.now c.args.piece) c.in_err-split.field-0.0 = next_leaves c.args.systems.now c.args.piece rows c.in_err-split.field-0.0 at c.in_err-split.ensures.overflow in
     search (rules, known, c.from_residual-in_err-split.ensures)
 
 pub returns-clause-turn : goal.returns-clause-turn
 returns-clause-turn g c =
     let rows = c.index-systems-passed.result in
     let at : slice_get c.args.systems.now c.args.piece.passed ≡ Some rows = slice_get-get_or c.args.systems.now c.args.piece.passed rows (omega arith) ∙ ap Some (sym c.index-systems-passed.is) in
-    inr (rows, at, subst (λ (r : Constraints). IsSplit r c.args.piece c.args.pending.now.items c.split.new.pending.items) c.inner.ensures c.in_ok-split.ensures.parts)
+    inr (rows, at, c.in_ok-split.ensures.parts)

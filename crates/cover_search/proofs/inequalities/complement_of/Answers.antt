@@ -1,6 +1,0 @@
-use Rattle.std.proofs.Common.{sym, subst}
-use Rattle.row_core.specs.Content.{IsPrimitive}
-use Rattle.cover_search.proofs.inequalities.complement_of.Goals as goal
-
-pub push_primitive-requires-clause-primitive : goal.push_primitive-requires-clause-primitive
-push_primitive-requires-clause-primitive c = subst IsPrimitive (sym c.cells.ensures.value) (c.in_ok-turned.ensures.primitive (subst IsPrimitive (sym c.row.ensures.value) c.row.ensures.primitive))
