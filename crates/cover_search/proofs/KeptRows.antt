@@ -18,7 +18,7 @@ use Rattle.cone_laws.proofs.Columns.{cell-negated, dot-add, dot_comm, length-sca
 use Rattle.cone_laws.proofs.Spanning.{at_least_zero_on_spanned}
 use Rattle.chernikova.specs.declared.cone.Cone.{Cone}
 use Rattle.cons_sys.specs.declared.kind.ConKind.TheVariants.{Eq, Ge, Gt}
-use Rattle.cons_sys.specs.Constraints.{Constraint, Constraints, FitDimension, constraint_at, kind_at, In}
+use Rattle.cons_sys.specs.Constraints.{Constraint, Constraints, FitDimension, constraint_at, kind_at}
 use Rattle.nnc_enc.specs.Encoding.{encoded_constraint, encoded_constraints, height_row, raised}
 use Rattle.nnc_enc.proofs.EncodedRows.{constraints_are_coded, constraints_encode, constraint_value, cell_insert}
 use Rattle.nnc_enc.proofs.EncodedDuals.{height_at}

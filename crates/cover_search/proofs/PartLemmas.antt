@@ -1,10 +1,9 @@
 -- Parts of a set.
 use Rattle.std.proofs.Common.{◌≡◌, ◌⊎◌, inl, inr, ℕ, zero, suc, ◌+◌, ◌-◌, ◌*◌, ◌<◌, ◌≤◌, List, [], ◌∷◌, ◌++◌, map, length, slice_get, get_or, Option, Some, None, ℤ, refl, sym, ◌∙◌, subst, ap, append_assoc, append-nil, true, false, arith}
 use Rattle.std.specs.Prelude.{All, Contains, MatchOption, is_some}
-use Rattle.std.proofs.Math.ListN.{get_or-map}
 use Rattle.std.proofs.lemmas.Bool.{cases_lt}
 use Rattle.std.proofs.lemmas.List.{length-append, get_or_default}
-use Rattle.std.proofs.lemmas.List.Elements.{All-nil, All-head, All-push, All-append, All-map, All-weaker, All-from_get_or, All-contains, Contains-append_left, Contains-append_right, Contains-push, Contains-push_cases}
+use Rattle.std.proofs.lemmas.List.Elements.{All-nil, All-head, All-push, All-append, All-map, All-weaker, All-from_get_or, Contains-append_left, Contains-append_right, Contains-push, Contains-push_cases}
 use Rattle.std.proofs.lemmas.Option.{slice_get_within, slice_get-get_or, get_or_from_slice_get}
 use Rattle.row_core.specs.Points.{IsPoint}
 use Rattle.cons_sys.specs.declared.kind.ConKind.TheVariants.{Eq, Ge, Gt}
@@ -14,9 +13,9 @@ use Rattle.cover_search.specs.declared.contacts.Plan.{Plan}
 use Rattle.cover_search.specs.declared.parts.Part.{Part}
 use Rattle.cover_search.specs.Inequalities.{IsInequality, AreInequalities, complement}
 use Rattle.cover_search.specs.Regions.{with_one, HoldNowhere, HoldsOn, IsPointIn, LiesIn}
-use Rattle.cover_search.specs.Branches.{HoldsInSome, HoldsInNone, AreCovered, IsUncovered}
+use Rattle.cover_search.specs.Branches.{HoldsInSome, AreCovered, IsUncovered}
 use Rattle.cover_search.specs.Pieces.{LiesInSome}
-use Rattle.cover_search.specs.Parts.{AreApart, HoldFrom, IsOf, IsOpenIn, as_number, IsApartAt, IsCutOf, IsNext, IsPlan, IsTaken, IsMet, IsPushed, IsLeft, IsInSomePart, IsOutside, IsPartedBy, IsParted, IsCutBy, IsFollowed, IsPart, all_rows, to_come, all_to_come, IsSettled, IsMissed}
+use Rattle.cover_search.specs.Parts.{AreApart, HoldFrom, IsOf, IsOpenIn, as_number, IsApartAt, IsCutOf, IsNext, IsPlan, IsMet, IsPushed, IsLeft, IsInSomePart, IsOutside, IsPartedBy, IsParted, IsCutBy, IsFollowed, IsPart, all_rows, to_come, all_to_come, IsSettled, IsMissed}
 use Rattle.cover_search.proofs.InequalityLemmas.{all_left, all_right, complement_excludes, holds_or_complement}
 use Rattle.cover_search.proofs.BranchLemmas.{same_at}
 use Rattle.cover_search.proofs.PieceLemmas.{listed_at}

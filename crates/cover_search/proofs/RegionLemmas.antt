@@ -1,14 +1,12 @@
 -- The system of the encoded list of constraints, and the points that it codes.
-use Rattle.std.proofs.Common.{◌≡◌, ◌⊎◌, inl, inr, ℕ, ◌+◌, ◌<◌, List, [], ◌∷◌, ◌++◌, map, length, ℤ, pos, ◌*ℤ◌, ◌≤ℤ◌, ◌<ℤ◌, sym, ◌∙◌, subst, ap, arith, Bool, MatchBool}
+use Rattle.std.proofs.Common.{◌≡◌, ◌⊎◌, inl, inr, ℕ, ◌+◌, ◌<◌, List, [], ◌∷◌, ◌++◌, length, ℤ, pos, ◌*ℤ◌, ◌≤ℤ◌, ◌<ℤ◌, sym, ◌∙◌, subst, ap, arith}
 use Rattle.std.specs.Prelude.{All}
-use Rattle.std.proofs.lemmas.List.Elements.{All-from_get_or, All-cons, All-head, All-tail, All-weaker}
-use Rattle.cone_laws.specs.Cones.{Upto, Spans, Meets}
-use Rattle.cone_laws.proofs.Spanning.{at_least_zero_on_spanned}
-use Rattle.cone_laws.proofs.MemberLemmas.{cone_meets, cone_from}
+use Rattle.std.proofs.lemmas.List.Elements.{All-from_get_or}
+use Rattle.cone_laws.specs.Cones.{Upto}
 use Rattle.std.proofs.lemmas.Int.{ints}
 use Rattle.std.proofs.lemmas.List.{map-append}
 use Rattle.std.proofs.lemmas.List.Edits.{get_or-remove_above, length-remove}
-use Rattle.row_core.specs.Vectors.{cell, dot}
+use Rattle.row_core.specs.Vectors.{cell}
 use Rattle.row_core.specs.Content.{IsPrimitiveOf}
 use Rattle.row_core.specs.Points.{IsPoint}
 use Rattle.row_core.specs.Lists.{Row, Rows, row_at, vectors}
@@ -29,9 +27,9 @@ use Rattle.chernikova.proofs.Prefixes.{front_system, front_zeros}
 use Rattle.cons_sys.specs.declared.kind.ConKind.{ConKind}
 use Rattle.cons_sys.specs.Constraints.{Constraint, Constraints, FitDimension, In}
 use Rattle.cons_sys.proofs.SystemLemmas.{In-same_point}
-use Rattle.nnc_enc.specs.Encoding.{encoded_constraint, encoded_constraints, height_row, bound_row, lowered, Codes}
+use Rattle.nnc_enc.specs.Encoding.{encoded_constraint, encoded_constraints, height_row, bound_row, lowered}
 use Rattle.nnc_enc.proofs.EncodedRows.{constraints_are_coded, constraints_encode}
-use Rattle.nnc_enc.proofs.CodedLemmas.{coded_by, scale_one, codes_within}
+use Rattle.nnc_enc.proofs.CodedLemmas.{coded_by, scale_one}
 use Rattle.nnc_enc.proofs.LineLemmas.{no_height_no_point}
 use Rattle.nnc_enc.proofs.MarkLemmas.{length-vectors, vector_at-vectors}
 use Rattle.poly_pair.specs.Conversions.{HaveNoPoint}

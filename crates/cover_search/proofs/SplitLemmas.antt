@@ -1,6 +1,5 @@
 -- The parts of a piece by one inequality.
 use Rattle.std.proofs.Common.{◌≡◌, inl, inr, ◌+◌, ◌<◌, List, [], ◌∷◌, ◌++◌, length, ℤ, sym, ◌∙◌, subst, ap, arith}
-use Rattle.std.specs.Prelude.{All}
 use Rattle.std.proofs.lemmas.List.Elements.{All-head}
 use Rattle.row_core.specs.declared.errors.ConvErr.{ConvErr}
 use Rattle.row_core.specs.declared.errors.ConvErr.TheVariants as conversion

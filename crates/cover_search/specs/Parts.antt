@@ -1,10 +1,9 @@
 use Rattle.std.specs.Prelude.{◌≡◌, ◌⊎◌, ℕ, zero, suc, ◌+◌, ◌*◌, ◌<◌, ◌≤◌, List, [], ◌∷◌, ◌++◌, length, slice_get, slice_index_or, Option, Some, None, MatchOption, ℤ, Contains, All}
 use Rattle.row_core.specs.Points.{IsPoint}
-use Rattle.cons_sys.specs.Constraints.{Constraint, Constraints, constraint_at, Satisfies, In}
+use Rattle.cons_sys.specs.Constraints.{Constraints, constraint_at, Satisfies, In}
 use Rattle.cover_search.specs.Inequalities.{complement}
 use Rattle.cover_search.specs.Branches.{HoldsInSome, HoldsInNone}
 use Rattle.cover_search.specs.Regions.{with_one, HoldsOn, LiesIn, IsPointIn}
-use Rattle.cover_search.specs.Pieces.{LiesInSome}
 use Rattle.cover_search.specs.declared.contacts.Contact.{Contact}
 use Rattle.cover_search.specs.declared.contacts.Contact.TheVariants.{Within, Apart, Across}
 use Rattle.cover_search.specs.declared.contacts.Cut.{Cut}

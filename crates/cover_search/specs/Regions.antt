@@ -1,7 +1,6 @@
-use Rattle.std.specs.Prelude.{◌≡◌, ◌⊎◌, ◌+◌, List, [], ◌∷◌, ◌++◌, map, length, Bool, true, All, ℤ, pos, ◌≤ℤ◌, ◌<ℤ◌, ◌+ℤ◌}
+use Rattle.std.specs.Prelude.{◌≡◌, ◌⊎◌, ◌+◌, List, [], ◌∷◌, ◌++◌, map, length, Bool, true, ℤ, pos, ◌≤ℤ◌, ◌<ℤ◌, ◌+ℤ◌}
 use Rattle.row_core.specs.Content.{IsPrimitive}
 use Rattle.row_core.specs.Points.{IsPoint}
-use Rattle.row_core.specs.Vectors.{dot}
 use Rattle.row_core.specs.Lists.{Rows, vectors}
 use Rattle.row_core.specs.declared.errors.Overflow.{Overflow}
 use Rattle.sat_matrix.specs.ZeroTables.{IsZeroTable}

@@ -1,4 +1,4 @@
-use Rattle.std.proofs.Common.{◌≡◌, Some, false, sym, subst, ap, ◌∙◌, arith, Bool, MatchBool}
+use Rattle.std.proofs.Common.{◌≡◌, Some, false, sym, subst, ap, ◌∙◌, Bool, MatchBool}
 use Rattle.std.specs.Prelude.{slice_get}
 use Rattle.std.proofs.lemmas.Option.{slice_get-get_or}
 use Rattle.cover_search.specs.Parts.{IsMet}

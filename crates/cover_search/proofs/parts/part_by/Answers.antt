@@ -1,4 +1,4 @@
-use Rattle.std.proofs.Common.{◌<◌, ◌+◌, length, subst, arith, ℕ, ◌≡◌}
+use Rattle.std.proofs.Common.{◌<◌, length, subst, arith, ℕ, ◌≡◌}
 use Rattle.cover_search.specs.Parts.{IsPartedBy}
 use Rattle.cover_search.proofs.PartLemmas.{parted_next, parted_last}
 use Rattle.cover_search.proofs.parts.part_by.Goals as goal

@@ -4,7 +4,7 @@ use Rattle.std.proofs.lemmas.List.Elements.{All-nil, All-push, All-head}
 use Rattle.cover_search.specs.declared.parts.Part.{Part}
 use Rattle.cover_search.specs.Parts.{IsPart, all_rows, all_to_come}
 use Rattle.cover_search.proofs.InequalityLemmas.{all_left, all_right}
-use Rattle.cover_search.proofs.PartLemmas.{AreAllTold, first_part, first_told, none_left, own_part, own_dims, turn_parts, turn_told, turn_falls, answered, went_on}
+use Rattle.cover_search.proofs.PartLemmas.{AreAllTold, first_part, first_told, own_part, own_dims, turn_parts, turn_told, turn_falls, answered, went_on}
 use Rattle.cover_search.proofs.search.search.Goals as goal
 
 pub loop-part-init : goal.loop-part-init

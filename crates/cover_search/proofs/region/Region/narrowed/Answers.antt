@@ -1,4 +1,4 @@
-use Rattle.std.proofs.Common.{◌≡◌, ◌+◌, List, ◌++◌, ◌∷◌, [], sym, ◌∙◌, subst, ap, rules}
+use Rattle.std.proofs.Common.{◌≡◌, ◌+◌, List, ◌++◌, ◌∷◌, [], sym, ◌∙◌, ap, rules}
 use Rattle.row_core.specs.Lists.{Row}
 use Rattle.row_core.specs.Refusals.{IsOverflowIn}
 use Rattle.cons_sys.specs.Constraints.{Constraints, constraint_at}

@@ -1,6 +1,6 @@
-use Rattle.std.proofs.Common.{◌∙◌, List, map, sym, subst, ap}
+use Rattle.std.proofs.Common.{◌∙◌, map, sym, subst, ap}
 use Rattle.std.specs.Prelude.{All}
-use Rattle.cons_sys.specs.Constraints.{Constraint, Constraints}
+use Rattle.cons_sys.specs.Constraints.{Constraints}
 use Rattle.cover_search.specs.Inequalities.{IsInequality, complement}
 use Rattle.cover_search.proofs.PartLemmas.{complements_proper}
 use Rattle.cover_search.proofs.walls.Walls.outer.Goals as goal
