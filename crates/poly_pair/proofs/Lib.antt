@@ -18,7 +18,6 @@ mod StartSystems
 mod NeededDivisor
 mod Starts
 mod Additions
-mod SameSets
 mod GeneratorRefusals
 pub mod SpanningSystems
 pub mod PairedSystems
