@@ -196,7 +196,6 @@ pub(crate) fn crossings(
 {
     let above = indices_on(alloc, &mut scratch.above, Side::Above, values)?;
     let below = indices_on(alloc, &mut scratch.below, Side::Below, values)?;
-    scratch.count_tests(above.len(), below.len());
     let place = &mut scratch.pairs;
     let pairs = pairs_of(alloc, place, &above, &below, zeros, least)?;
     scratch.above = above;

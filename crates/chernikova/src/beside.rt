@@ -218,6 +218,9 @@ impl Beside {
         ensures within { steps.new + slack.new ≤ steps.old + slack.old }
     {
         self.begin(alloc, list, looks);
+        if !self.running {
+            return;
+        }
         self.catch_up(alloc, list, looks, taken, slack, steps);
     }
 

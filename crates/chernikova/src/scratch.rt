@@ -9,11 +9,9 @@ use std::mem;
 /// Room for the numbers of most conversions, so that their lists grow once.
 const LEAST_ROOM: usize = 32;
 
-/// Lists that one step leaves to the next, which needs no new memory for as many elements; and how many
-/// pairs of rays were tested.
+/// Lists that one step leaves to the next, which needs no new memory for as many elements.
 #[derive(Drop)]
 pub(crate) struct Scratch {
-    pub(crate) tested: u64,
     pub(crate) line_values: Vec<i128>,
     pub(crate) ray_values: Vec<i128>,
     pub(crate) marks: Vec<bool>,
@@ -30,7 +28,6 @@ impl Scratch {
     /// Returns empty lists.
     pub(crate) fn new(alloc: Global) -> Scratch {
         Scratch {
-            tested: 0,
             line_values: Vec::new(alloc),
             ray_values: Vec::new(alloc),
             marks: Vec::new(alloc),
@@ -42,12 +39,6 @@ impl Scratch {
             lines: VectorList::new(alloc, 0),
             rays: VectorList::new(alloc, 0),
         }
-    }
-
-    /// Counts the pairs of the rays above and below a row.
-    pub(crate) fn count_tests(&mut self, above: usize, below: usize) {
-        let pairs = (above as u64).saturating_mul(below as u64);
-        self.tested = self.tested.saturating_add(pairs);
     }
 }
 
