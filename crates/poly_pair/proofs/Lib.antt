@@ -18,6 +18,7 @@ mod StartSystems
 mod NeededDivisor
 mod Starts
 mod Additions
+mod SameSets
 mod GeneratorRefusals
 pub mod SpanningSystems
 pub mod PairedSystems
