@@ -1,6 +1,7 @@
 -- What came of a command, from what came of what it makes or says.
 use Rattle.std.proofs.Common.{◌≡◌, ℕ, List, Bool, Result, Ok, Err, Option, Some, refl, sym, subst}
 use Rattle.std.specs.Prelude.{MatchOption}
+use Rattle.script_text.specs.declared.command.Command.{Command}
 use Rattle.line_values.specs.declared.refusal.StepErr.{StepErr}
 use Rattle.line_values.specs.declared.refusal.StepErr.TheVariants as err
 use Rattle.line_values.specs.Meaning.{Meaning, on_one, on_two}
@@ -8,6 +9,12 @@ use Rattle.line_values.specs.Performed.{IsPerformed}
 use Rattle.calc_state.specs.declared.entry.Entry.{Entry}
 use Rattle.calc_state.specs.declared.change.Change.{Change}
 use Rattle.calc_state.specs.Effects.{puts, tells, placed, replied}
+use Rattle.calc_state.specs.Meanings.{meaning}
+use Rattle.calc_state.specs.Table.{Table}
+
+-- what came of a command that is this one
+pub performed_as : (table : Table) (command spelled : Command) (result : Result Change StepErr) → command ≡ spelled → IsPerformed (meaning table spelled) result → IsPerformed (meaning table command) result
+performed_as table command spelled result e is = subst (λ (c : Command). IsPerformed (meaning table c) result) (sym e) is
 
 -- the entry of a kind that was made is put under the name
 module _ {A : Type 0} (make : A → Entry) (kind : Option Entry → Option A) (found : (a : A) → kind (Some (make a)) ≡ Some a) (out : List ℕ) where
@@ -21,15 +28,18 @@ module _ {A : Type 0} (make : A → Entry) (kind : Option Entry → Option A) (f
   put_performed m made result e is = subst (λ (r : Result Change StepErr). IsPerformed (puts kind out m) r) (sym e) (placed_performed m made is)
 
   -- by a command without operands, with one or with two, where the table is full or not
-  pub put_none : (m : Bool → Meaning A) (full has_none : Bool) (made : Result A StepErr) (result : Result Change StepErr) → full ≡ has_none → result ≡ placed make out made → IsPerformed (m full) made → IsPerformed (puts kind out (m has_none)) result
-  put_none m full has_none made result e put is = put_performed (m has_none) made result put (subst (λ (b : Bool). IsPerformed (m b) made) e is)
+  pub put_none : (m : Bool → Meaning A) (made : Result A StepErr) {full has_none : Bool} {result : Result Change StepErr} → full ≡ has_none → result ≡ placed make out made → IsPerformed (m full) made → IsPerformed (puts kind out (m has_none)) result
+  put_none m made {full} {has_none} {result} e put is = put_performed (m has_none) made result put (subst (λ (b : Bool). IsPerformed (m b) made) e is)
 
-  pub put_one : {B : Type 0} (m : Bool → B → Meaning A) (full has_none : Bool) (o u : Option B) (made : Result A StepErr) (result : Result Change StepErr) → full ≡ has_none → o ≡ u → result ≡ placed make out made → IsPerformed (on_one o (m full)) made → IsPerformed (puts kind out (on_one u (m has_none))) result
-  put_one {B} m full has_none o u made result e f put is =
+  pub put_found : {B : Type 0} (m : B → Meaning A) (made : Result A StepErr) {o u : Option B} {result : Result Change StepErr} → o ≡ u → result ≡ placed make out made → IsPerformed (on_one o m) made → IsPerformed (puts kind out (on_one u m)) result
+  put_found {B} m made {o} {u} {result} f put is = put_performed (on_one u m) made result put (subst (λ (x : Option B). IsPerformed (on_one x m) made) f is)
+
+  pub put_one : {B : Type 0} (m : Bool → B → Meaning A) (made : Result A StepErr) {full has_none : Bool} {o u : Option B} {result : Result Change StepErr} → full ≡ has_none → o ≡ u → result ≡ placed make out made → IsPerformed (on_one o (m full)) made → IsPerformed (puts kind out (on_one u (m has_none))) result
+  put_one {B} m made {full} {has_none} {o} {u} {result} e f put is =
       put_performed (on_one u (m has_none)) made result put (subst (λ (b : Bool). IsPerformed (on_one u (m b)) made) e (subst (λ (x : Option B). IsPerformed (on_one x (m full)) made) f is))
 
-  pub put_two : {B C : Type 0} (m : Bool → B → C → Meaning A) (full has_none : Bool) (o u : Option B) (v w : Option C) (made : Result A StepErr) (result : Result Change StepErr) → full ≡ has_none → o ≡ u → v ≡ w → result ≡ placed make out made → IsPerformed (on_two o v (m full)) made → IsPerformed (puts kind out (on_two u w (m has_none))) result
-  put_two {B} {C} m full has_none o u v w made result e f h put is =
+  pub put_two : {B C : Type 0} (m : Bool → B → C → Meaning A) (made : Result A StepErr) {full has_none : Bool} {o u : Option B} {v w : Option C} {result : Result Change StepErr} → full ≡ has_none → o ≡ u → v ≡ w → result ≡ placed make out made → IsPerformed (on_two o v (m full)) made → IsPerformed (puts kind out (on_two u w (m has_none))) result
+  put_two {B} {C} m made {full} {has_none} {o} {u} {v} {w} {result} e f h put is =
       put_performed (on_two u w (m has_none)) made result put (subst (λ (b : Bool). IsPerformed (on_two u w (m b)) made) e
       (subst (λ (x : Option C). IsPerformed (on_two u x (m full)) made) h (subst (λ (x : Option B). IsPerformed (on_two x v (m full)) made) f is)))
 
@@ -40,11 +50,11 @@ replied_performed m (Err (err.Input f)) is = is
 replied_performed m (Err (err.Overflow over)) is = is
 replied_performed m (Err err.Memory) is = tt
 
-pub say_none : (m : Meaning (List ℕ)) (told : Result (List ℕ) StepErr) (result : Result Change StepErr) → result ≡ replied told → IsPerformed m told → IsPerformed (tells m) result
-say_none m told result e is = subst (λ (r : Result Change StepErr). IsPerformed (tells m) r) (sym e) (replied_performed m told is)
+pub say_none : (m : Meaning (List ℕ)) (told : Result (List ℕ) StepErr) {result : Result Change StepErr} → result ≡ replied told → IsPerformed m told → IsPerformed (tells m) result
+say_none m told {result} e is = subst (λ (r : Result Change StepErr). IsPerformed (tells m) r) (sym e) (replied_performed m told is)
 
-pub say_one : {B : Type 0} (m : B → Meaning (List ℕ)) (o u : Option B) (told : Result (List ℕ) StepErr) (result : Result Change StepErr) → o ≡ u → result ≡ replied told → IsPerformed (on_one o m) told → IsPerformed (tells (on_one u m)) result
-say_one {B} m o u told result f e is = say_none (on_one u m) told result e (subst (λ (x : Option B). IsPerformed (on_one x m) told) f is)
+pub say_one : {B : Type 0} (m : B → Meaning (List ℕ)) (told : Result (List ℕ) StepErr) {o u : Option B} {result : Result Change StepErr} → o ≡ u → result ≡ replied told → IsPerformed (on_one o m) told → IsPerformed (tells (on_one u m)) result
+say_one {B} m told {o} {u} f e is = say_none (on_one u m) told e (subst (λ (x : Option B). IsPerformed (on_one x m) told) f is)
 
-pub say_two : {B C : Type 0} (m : B → C → Meaning (List ℕ)) (o u : Option B) (v w : Option C) (told : Result (List ℕ) StepErr) (result : Result Change StepErr) → o ≡ u → v ≡ w → result ≡ replied told → IsPerformed (on_two o v m) told → IsPerformed (tells (on_two u w m)) result
-say_two {B} {C} m o u v w told result f h e is = say_none (on_two u w m) told result e (subst (λ (x : Option C). IsPerformed (on_two u x m) told) h (subst (λ (x : Option B). IsPerformed (on_two x v m) told) f is))
+pub say_two : {B C : Type 0} (m : B → C → Meaning (List ℕ)) (told : Result (List ℕ) StepErr) {o u : Option B} {v w : Option C} {result : Result Change StepErr} → o ≡ u → v ≡ w → result ≡ replied told → IsPerformed (on_two o v m) told → IsPerformed (tells (on_two u w m)) result
+say_two {B} {C} m told {o} {u} {v} {w} f h e is = say_none (on_two u w m) told e (subst (λ (x : Option C). IsPerformed (on_two u x m) told) h (subst (λ (x : Option B). IsPerformed (on_two x v m) told) f is))

@@ -5,7 +5,8 @@ use Rattle.poly_pair.specs.declared.topology.Topology.TheVariants.{Closed}
 use Rattle.trans_sys.specs.Systems.{TransitionSystem}
 use Rattle.hybrid.specs.Systems.{HybridSystem, IsKeptHybrid}
 use Rattle.calc_state.specs.declared.systems.TheConstants.{MAX_DELAY}
-use Rattle.calc_state.specs.Table.{Table, HasNoRoomForAll}
+use Rattle.name_table.specs.Table.{HasNoRoomForAll}
+use Rattle.calc_state.specs.Table.{Table}
 use Rattle.line_values.specs.Order.{Passes}
 use Rattle.calc_state.specs.Hybrids.{IsStill, reach}
 

@@ -13,5 +13,4 @@ pub mod SaysOnce
 mod ShapeLemmas
 pub mod StepLemmas
 mod SystemLemmas
-mod TableLemmas
 mod UniquePrints

@@ -3,11 +3,9 @@ use Rattle.std.proofs.Common.{◌≡◌, ℕ, ◌/◌, ◌%◌, Bool, IsTrue, Li
 use Rattle.poly_pair.specs.declared.topology.Topology.TheVariants.{Closed}
 use Rattle.poly_pair.specs.Polyhedra.{Polyhedron}
 use Rattle.ranking.specs.Rankings.{IsRankingSet}
-use Rattle.ranking.specs.PrintedRankings.{IsRankingText}
-use Rattle.calc_state.specs.Entries.{IsProper}
 use Rattle.line_values.specs.Order.{Passes}
-use Rattle.line_values.specs.Meaning.{room, no_fault, line}
-use Rattle.calc_state.specs.Rankings.{relates_states, ranking}
+use Rattle.line_values.specs.Meaning.{room, no_fault}
+use Rattle.calc_state.specs.Rankings.{relates_states, ranking, IsRankingLine}
 use Rattle.line_values.specs.Performed.{IsPerformed}
 
 -- a closed relation of states, and a name for which there is room
@@ -18,5 +16,5 @@ pub ranking_passes : (r : Polyhedron) → r.topology ≡ Closed → r.cons.dim %
 ranking_passes r closed even = (λ k. k, (λ k. k, (λ k. k closed, (λ k. k even, (λ k. k, (λ k. k, (λ k. k, (λ k. k, (λ k. k, (λ k. k, (λ k. k, (λ k. k, (λ k. k, (λ k. k, tt))))))))))))))
 
 -- one of the functions was told
-pub ranking_told : (r functions : Polyhedron) (text lines : List ℕ) → r.topology ≡ Closed → r.cons.dim % 2 ≡ 0 → IsRankingSet (r.cons.dim / 2) r functions → IsProper functions → IsRankingText functions text → lines ≡ line text → IsPerformed (ranking r) (Ok lines)
-ranking_told r functions text lines closed even is proper told said = (ranking_passes r closed even, record { functions = functions; is = is; proper = proper; text = text; told = told; said = said })
+pub ranking_told : (r functions : Polyhedron) (lines : List ℕ) → r.topology ≡ Closed → r.cons.dim % 2 ≡ 0 → IsRankingSet (r.cons.dim / 2) r functions → IsRankingLine functions lines → IsPerformed (ranking r) (Ok lines)
+ranking_told r functions lines closed even is told = (ranking_passes r closed even, record { functions = functions; is = is; proper = told.proper; text = told.text; told = told.told; said = told.said })

@@ -1,5 +1,6 @@
 -- What a command does in the table: what is said, put or taken out.
-use Rattle.std.specs.Prelude.{◌≡◌, ℕ, List, Option, Some, MatchOption, Result, Ok, Err}
+use Rattle.std.specs.Prelude.{◌≡◌, ℕ, List, Option, Some, MatchOption, Result, Ok, Err, Vec}
+use Rattle.std.specs.declared.alloc.Global.{Global}
 use Rattle.poly_pair.specs.Polyhedra.{Polyhedron}
 use Rattle.trans_sys.specs.Systems.{TransitionSystem}
 use Rattle.line_values.specs.declared.refusal.StepErr.{StepErr}
@@ -51,6 +52,11 @@ tells m = record { conditions = m.conditions; overflows = m.overflows; does = Is
 abbrev pub placed : {A : Type 0} → (A → Entry) → List ℕ → Result A StepErr → Result Change StepErr
 placed kind out (Ok made) = Ok (Puts out (kind made))
 placed kind out (Err cause) = Err cause
+
+-- what came of making polyhedra, as a change of the table
+abbrev pub all_placed : List ℕ → Result (Vec Polyhedron Global) StepErr → Result Change StepErr
+all_placed prefix (Ok sets) = Ok (PutsAll prefix sets)
+all_placed prefix (Err cause) = Err cause
 
 -- what came of a question, as a change of the table
 abbrev pub replied : Result (List ℕ) StepErr → Result Change StepErr

@@ -5,7 +5,8 @@ use Rattle.poly_pair.specs.declared.topology.Topology.TheVariants.{Closed, Nnc}
 use Rattle.script_text.specs.declared.command.Command.{Command}
 use Rattle.script_text.specs.declared.command.Command.TheVariants.{Nothing, Cons, Gens, Space, Copy, Drop, Add, Addgen, Has, Size, Print, Names, OfTwo, Closure, Compare, Isempty, Relation, Bound, Map, Extend, Remove, Widen, Read, Write, System, Init, Trans, Fixpoint, Pset, OfTwoPowersets, Member, Psize, Covers, Rank, Ranking, ShapeOf, Bounds, OfTwoShapes, ShapeContains, ShapePrint, ShapePoly, Hybrid, SetPart, Reach}
 use Rattle.calc_state.specs.declared.change.Change.{Change}
-use Rattle.calc_state.specs.Table.{Table, entry_of, poly_of, system_of, powerset_of, shape_of, hybrid_of, as_poly, as_system, as_powerset, as_shape, as_hybrid, has_no_room}
+use Rattle.name_table.specs.Table.{entry_of, has_no_room}
+use Rattle.calc_state.specs.Table.{Table, poly_of, system_of, powerset_of, shape_of, hybrid_of, as_poly, as_system, as_powerset, as_shape, as_hybrid}
 use Rattle.calc_state.specs.Effects.{puts, tells}
 use Rattle.line_values.specs.Meaning.{Meaning, on_one, on_two, says}
 use Rattle.poly_commands.specs.Makers.{cons, gens, space_of, copy, add, addgen}

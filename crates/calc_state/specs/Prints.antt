@@ -5,7 +5,7 @@ use Rattle.poly_pair.specs.declared.topology.Topology.TheVariants.{Closed}
 use Rattle.lattice_ops.specs.Sets.{HaveSamePoints}
 use Rattle.line_values.specs.Meaning.{line}
 use Rattle.poly_commands.specs.Questions.{side_text}
-use Rattle.calc_state.specs.Entries.{IsProper}
+use Rattle.poly_commands.specs.Proper.{IsProper}
 
 -- two closed polyhedra of one dimension have the same points exactly where `print cons` shows equal bytes, and exactly where `print gens` does
 abbrev pub PrintsTellPoints : Type 0

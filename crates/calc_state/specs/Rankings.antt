@@ -6,7 +6,7 @@ use Rattle.poly_pair.specs.Polyhedra.{Polyhedron}
 use Rattle.ranking.specs.Rankings.{IsRankingSet}
 use Rattle.ranking.specs.PrintedRankings.{IsRankingText}
 use Rattle.ranking.specs.Refusals.{LeavesInRanking}
-use Rattle.calc_state.specs.Entries.{IsProper}
+use Rattle.poly_commands.specs.Proper.{IsProper}
 use Rattle.line_values.specs.Order.{Conditions}
 use Rattle.line_values.specs.Meaning.{Meaning, no_fault, room, line}
 
@@ -23,6 +23,13 @@ rank full r = record {
   overflows = LeavesInRanking (r.cons.dim / 2) r.gens;
   does = IsRankingSet (r.cons.dim / 2) r;
 }
+
+-- one of the functions is said, or that there is none
+pub record IsRankingLine (functions : Polyhedron) (lines : List ℕ) : Type 0 where
+  pub proper : IsProper functions
+  pub text : List ℕ
+  pub told : IsRankingText functions text
+  pub said : lines ≡ line text
 
 -- one of the ranking functions is said, or that there is none: the polyhedron of the functions keeps what each polyhedron keeps, so that the relation decides what is said
 pub record IsRankingTold (r : Polyhedron) (lines : List ℕ) : Type 0 where

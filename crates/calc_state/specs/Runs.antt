@@ -1,7 +1,8 @@
 -- Runs over lines.
 use Rattle.std.specs.Prelude.{◌≡◌, ℕ, List, [], ◌∷◌, Bool, true, false, Option, None, Some}
 use Rattle.reply_text.specs.declared.faults.Fault.TheVariants as fault
-use Rattle.calc_state.specs.State.{State, OpenFile}
+use Rattle.poly_commands.specs.OpenFiles.{OpenFile}
+use Rattle.calc_state.specs.State.{State}
 use Rattle.calc_state.specs.Step.{Reply, Answered, Refused, Overflows}
 use Rattle.calc_state.specs.Line.{Step, MustSucceed}
 

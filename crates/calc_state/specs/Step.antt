@@ -10,8 +10,10 @@ use Rattle.calc_state.specs.declared.change.Change.{Change}
 use Rattle.calc_state.specs.declared.change.Change.TheVariants.{Says, Puts, PutsAll, TakesOut}
 use Rattle.line_values.specs.declared.refusal.StepErr.{StepErr}
 use Rattle.line_values.specs.declared.refusal.StepErr.TheVariants as err
-use Rattle.calc_state.specs.Table.{Table, put, put_each, numbered_sets, without}
-use Rattle.calc_state.specs.Entries.{IsProper, IsKeptEntry}
+use Rattle.name_table.specs.Table.{put, put_each, without}
+use Rattle.calc_state.specs.Table.{Table, numbered_sets}
+use Rattle.poly_commands.specs.Proper.{IsProper}
+use Rattle.calc_state.specs.Entries.{IsKeptEntry}
 use Rattle.line_values.specs.Order.{IsFirst, Passes}
 use Rattle.line_values.specs.Meaning.{Meaning}
 use Rattle.calc_state.specs.Meanings.{meaning}

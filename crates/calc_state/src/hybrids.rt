@@ -3,16 +3,17 @@ ghost use Rattle.std.specs.Prelude.{ℕ, List};
 ghost use Rattle.std.specs.Option.{option_copied};
 ghost use Rattle.line_values.specs.Meaning.{on_one};
 ghost use Rattle.calc_state.specs.Hybrids.{hybrid as make_hybrid, set_part, reach as run_hybrid};
+ghost use Rattle.calc_state.specs.Effects.{all_placed};
 ghost use Rattle.calc_state.specs.Changes.{as_entry, IsTested};
 ghost use Rattle.line_values.specs.Performed.{IsPerformed};
 ghost use Rattle.calc_state.specs.declared.entry.Entry.TheVariants as entry;
 
-use crate::change::Change;
-use crate::names::Names;
+use crate::entry::Entry;
 use crate::parts::{HybridChange, PartChange};
 use crate::systems::MAX_DELAY;
 use hybrid::Hybrid;
 use line_values::StepErr;
+use name_table::Names;
 use poly_pair::{Poly, Topology};
 use reply_text::{Fault, Text};
 use row_core::Steps;
@@ -67,16 +68,16 @@ pub fn replaced_part(
     }
 }
 
-/// Puts the states of each location that the automaton may come to under a numbered name.
+/// The states of each location that the automaton may come to, where there is room for their numbered names.
 pub fn reach<L: Ledger>(
     alloc: Global,
-    names: &Names,
+    names: &Names<Entry>,
     h: Option<&Hybrid>,
     delay: u64,
-    prefix: Text,
+    prefix: &Text,
     steps: &mut Steps<L>,
-) -> Result<Change, StepErr>
-    ensures { IsPerformed (on_one (option_copied h.entry) (run_hybrid names.now delay prefix)) result }
+) -> Result<Vec<Poly>, StepErr>
+    ensures { IsPerformed (on_one (option_copied h.entry) (run_hybrid names.now delay prefix.now)) (all_placed prefix.now result) }
 {
     let Some(h) = h else {
         return Err(StepErr::Input(Fault::UnknownName));
@@ -88,7 +89,7 @@ pub fn reach<L: Ledger>(
         return Err(StepErr::Input(Fault::TooManyNames));
     }
     match hybrid::reach(alloc, h, delay as u32, steps) {
-        Ok(sets) => Ok(Change::PutsAll(prefix, sets)),
+        Ok(sets) => Ok(sets),
         Err(cause) => Err(StepErr::from(cause)),
     }
 }

@@ -12,14 +12,11 @@ mod entry;
 mod hybrids;
 mod laws;
 mod listing;
-mod named;
-mod names;
 mod operands;
 mod parts;
 mod perform;
 mod powersets;
 mod rankings;
-mod reading;
 mod shapes;
 mod systems;
 

@@ -1,29 +1,26 @@
 //! The commands that tell the names, and that take one out.
 ghost use Rattle.std.specs.Prelude.{◌≡◌};
+ghost use Rattle.name_table.specs.Table.{entry_of};
 ghost use Rattle.line_values.specs.Performed.{IsPerformed};
-ghost use Rattle.calc_state.specs.Table.{entry_of};
 ghost use Rattle.calc_state.specs.Names.{names as tell_names, drop_of};
 
 use crate::change::Change;
-use crate::names::Names;
+use crate::entry::Entry;
 use line_values::StepErr;
+use name_table::Names;
 use reply_text::{Fault, Text};
-use std::alloc::Global;
 
 /// The number of names, and the names in order.
-pub fn name_list(alloc: Global, names: &Names) -> Result<Text, StepErr>
+pub fn name_list(names: &Names<Entry>) -> Result<Text, StepErr>
     ensures { IsPerformed (tell_names names.now) result }
 {
-    let mut text = Text::new(alloc);
-    text.push(b"names ")?;
-    text.push_unsigned(names.len() as u64)?;
-    names.push_names(&mut text)?;
+    let mut text = names.list()?;
     text.push(b"\n")?;
     Ok(text)
 }
 
 /// Takes a name out.
-pub fn drop_name(names: &Names, name: Text) -> Result<Change, StepErr>
+pub fn drop_name(names: &Names<Entry>, name: Text) -> Result<Change, StepErr>
     ensures { IsPerformed (drop_of name (entry_of names.now name)) result }
 {
     match names.get(name.bytes()) {

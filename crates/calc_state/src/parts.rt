@@ -1,11 +1,18 @@
 //! Changes of a part of a transition system or of a hybrid automaton.
-ghost use Rattle.std.specs.Prelude.{◌≡◌, OnOk, OnErr};
+ghost use Rattle.std.specs.Prelude.{◌≡◌, Some, OnOk, OnErr};
+ghost use Rattle.name_table.specs.Table.{entry_of, put};
 ghost use Rattle.trans_sys.specs.Systems.{IsKeptSystem};
 ghost use Rattle.hybrid.specs.Systems.{IsKeptHybrid};
-ghost use Rattle.calc_state.specs.Changes.{changed_system, changed_hybrid, FitsSystem, FitsHybrid};
+ghost use Rattle.calc_state.specs.Changes.{changed_system, changed_hybrid, changed_part, FitsSystem, FitsHybrid, FitsPart, named_change};
+ghost use Rattle.calc_state.specs.Entries.{IsKeptEntry};
+ghost use Rattle.calc_state.specs.declared.entry.Entry.{Entry as AnyEntry};
 
+use crate::entry::Entry;
 use hybrid::Hybrid;
+use line_values::StepErr;
+use name_table::Names;
 use poly_pair::Poly;
+use reply_text::Text;
 use row_core::Memory;
 use trans_sys::System;
 
@@ -34,6 +41,32 @@ pub enum HybridChange {
     Invariant(usize, Poly),
     /// The flow of a location is replaced.
     Flow(usize, Poly),
+}
+
+/// The change with the name of its entry.
+pub fn of_entry(
+    name: Text,
+    change: Result<PartChange, StepErr>,
+) -> Result<(Text, PartChange), StepErr>
+    ensures { result ≡ named_change name change }
+{
+    match change {
+        Ok(change) => Ok((name, change)),
+        Err(cause) => Err(cause),
+    }
+}
+
+/// Changes a part of the entry under the name, if one is there. After want of memory the table is as before.
+pub fn change_under(names: &mut Names<Entry>, name: &[u8], change: PartChange) -> Result<(), Memory>
+    requires { (e : AnyEntry) → entry_of names.old name.now ≡ Some e → FitsPart e change }
+    ensures ok { OnOk result ((e : AnyEntry) → entry_of names.old name.now ≡ Some e → names.new ≡ put names.old name.now (changed_part e change)) }
+    ensures kept { OnOk result ((e : AnyEntry) → entry_of names.old name.now ≡ Some e → IsKeptEntry (changed_part e change)) }
+    ensures err { OnErr result (names.new ≡ names.old) }
+{
+    match names.get_mut(name) {
+        Some(entry) => entry.change_part(change),
+        None => Ok(()),
+    }
 }
 
 impl SystemChange {

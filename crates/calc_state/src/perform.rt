@@ -6,14 +6,27 @@ ghost use Rattle.line_values.specs.Performed.{IsPerformed};
 ghost use Rattle.calc_state.specs.Changes.{ChangesPart, IsTestedIn};
 ghost use Rattle.calc_state.specs.Families.{Makes, Asks, Combines, AsksKinds, MakesKinds};
 
-use crate::change::{Change, say};
-use crate::hybrids::reach;
+use crate::change::{
+    Change, put_hybrid, put_numbered, put_poly, put_powerset, put_shape, put_system, say,
+};
+use crate::entry::Entry;
+use crate::hybrids::{hybrid, reach, replaced_part};
 use crate::listing::{drop_name, name_list};
-use crate::named;
-use crate::names::Names;
-use crate::parts::PartChange;
-use crate::systems::fixpoint;
+use crate::operands::{
+    hybrid_at, hybrid_under, is_full, is_max, poly_at, poly_under, powerset_at, shape_at,
+    system_at, system_under, topology_of,
+};
+use crate::parts::{PartChange, of_entry};
+use crate::powersets::{covers, member, of_two_powersets, pset, psize};
+use crate::rankings::{rank, ranking};
+use crate::shapes::{bounds, of_two_shapes, shape_contains, shape_of_set, shape_poly, shape_print};
+use crate::systems::{added_transition, fixpoint, replaced_initial, system};
 use line_values::StepErr;
+use name_table::Names;
+use poly_commands::{
+    add, addgen, bound, closure, compare, cons, copy, extend, gens, has, isempty, mapped_by,
+    of_two, print, relation, remove, size, space, widen, write,
+};
 use reply_text::Text;
 use row_core::Steps;
 use script_text::Command;
@@ -23,7 +36,7 @@ use std::sync::ledger::Ledger;
 /// What a command that makes or changes a polyhedron by its words does, or why it is refused.
 fn made<L: Ledger>(
     alloc: Global,
-    names: &Names,
+    names: &Names<Entry>,
     command: Command,
     steps: &mut Steps<L>,
 ) -> Result<Change, StepErr>
@@ -38,23 +51,41 @@ fn made<L: Ledger>(
             top,
             n,
             cons: part,
-        } => named::cons(alloc, names, out, top, n, part, steps),
+        } => {
+            let full = is_full(names, &out);
+            put_poly(out, cons(alloc, topology_of(top), n, &part, full, steps))
+        }
         Command::Gens {
             out,
             top,
             n,
             gens: part,
-        } => named::gens(alloc, names, out, top, n, part, steps),
+        } => {
+            let full = is_full(names, &out);
+            put_poly(out, gens(alloc, topology_of(top), n, &part, full, steps))
+        }
         Command::Space {
             space: kind,
             out,
             top,
             n,
-        } => named::space(alloc, names, kind, out, top, n),
-        Command::Copy { out, p } => named::copy(names, out, p),
+        } => {
+            let full = is_full(names, &out);
+            put_poly(out, space(alloc, kind, topology_of(top), n, full))
+        }
+        Command::Copy { out, p } => {
+            let full = is_full(names, &out);
+            put_poly(out, copy(poly_at(names, p), full))
+        }
         Command::Drop { name } => drop_name(names, name),
-        Command::Add { p, cons: part } => named::add(alloc, names, p, part, steps),
-        Command::Addgen { p, gens: part } => named::addgen(alloc, names, p, part, steps),
+        Command::Add { p, cons: part } => {
+            let made = add(alloc, poly_under(names, &p), &part, steps);
+            put_poly(p, made)
+        }
+        Command::Addgen { p, gens: part } => {
+            let made = addgen(alloc, poly_under(names, &p), &part, steps);
+            put_poly(p, made)
+        }
         _ => unreachable!(),
     }
 }
@@ -62,7 +93,7 @@ fn made<L: Ledger>(
 /// What a question does, or why it is refused.
 fn asked<L: Ledger>(
     alloc: Global,
-    names: &Names,
+    names: &Names<Entry>,
     command: Command,
     steps: &mut Steps<L>,
 ) -> Result<Change, StepErr>
@@ -72,15 +103,20 @@ fn asked<L: Ledger>(
     ensures { IsPerformed (meaning names.now command) result }
 {
     match command {
-        Command::Has { p, point: part } => named::has(alloc, names, p, part),
-        Command::Size { p } => named::size(alloc, names, p),
-        Command::Print { side, p } => named::print(alloc, names, side, p),
-        Command::Names => say(name_list(alloc, names)),
-        Command::Compare { by, p, q } => named::compare(alloc, names, by, p, q, steps),
-        Command::Isempty { p } => named::isempty(alloc, names, p),
-        Command::Relation { p, con: part } => named::relation(alloc, names, p, part),
-        Command::Bound { of, p, expr: part } => named::bound(alloc, names, of, p, part),
-        Command::Write { p, form } => named::write(alloc, names, p, form),
+        Command::Has { p, point } => say(has(alloc, poly_at(names, p), &point)),
+        Command::Size { p } => say(size(alloc, poly_at(names, p))),
+        Command::Print { side, p } => say(print(alloc, side, poly_at(names, p))),
+        Command::Names => say(name_list(names)),
+        Command::Compare { by, p, q } => {
+            let one = poly_at(names, p);
+            say(compare(alloc, by, one, poly_at(names, q), steps))
+        }
+        Command::Isempty { p } => say(isempty(alloc, poly_at(names, p))),
+        Command::Relation { p, con } => say(relation(alloc, poly_at(names, p), &con)),
+        Command::Bound { of, p, expr } => {
+            say(bound(alloc, is_max(of), poly_at(names, p), &expr))
+        }
+        Command::Write { p, form } => say(write(alloc, form, poly_at(names, p))),
         _ => unreachable!(),
     }
 }
@@ -88,7 +124,7 @@ fn asked<L: Ledger>(
 /// What a command that puts a set made of one or two others, or an image of one, does, or why it is refused.
 fn combined<L: Ledger>(
     alloc: Global,
-    names: &Names,
+    names: &Names<Entry>,
     command: Command,
     steps: &mut Steps<L>,
 ) -> Result<Change, StepErr>
@@ -98,9 +134,20 @@ fn combined<L: Ledger>(
     ensures { IsPerformed (meaning names.now command) result }
 {
     match command {
-        Command::OfTwo { op, out, p, q } => named::of_two(alloc, names, op, out, p, q, steps),
-        Command::Closure { out, p } => named::closure(alloc, names, out, p, steps),
-        Command::Widen { out, p, q } => named::widen(alloc, names, out, p, q, steps),
+        Command::OfTwo { op, out, p, q } => {
+            let full = is_full(names, &out);
+            let one = poly_at(names, p);
+            put_poly(out, of_two(alloc, op, one, poly_at(names, q), full, steps))
+        }
+        Command::Closure { out, p } => {
+            let full = is_full(names, &out);
+            put_poly(out, closure(alloc, poly_at(names, p), full, steps))
+        }
+        Command::Widen { out, p, q } => {
+            let full = is_full(names, &out);
+            let one = poly_at(names, p);
+            put_poly(out, widen(alloc, one, poly_at(names, q), full, steps))
+        }
         Command::Map {
             by,
             out,
@@ -108,9 +155,19 @@ fn combined<L: Ledger>(
             v,
             rel,
             frac,
-        } => named::map(alloc, names, by, out, p, v, rel, frac, steps),
-        Command::Extend { by, out, p, n } => named::extend(alloc, names, by, out, p, n, steps),
-        Command::Remove { out, p, vars } => named::remove(alloc, names, out, p, vars, steps),
+        } => {
+            let full = is_full(names, &out);
+            let found = poly_at(names, p);
+            put_poly(out, mapped_by(alloc, by, found, v, rel, &frac, full, steps))
+        }
+        Command::Extend { by, out, p, n } => {
+            let full = is_full(names, &out);
+            put_poly(out, extend(alloc, by, poly_at(names, p), n, full, steps))
+        }
+        Command::Remove { out, p, vars } => {
+            let full = is_full(names, &out);
+            put_poly(out, remove(alloc, poly_at(names, p), &vars, full, steps))
+        }
         _ => unreachable!(),
     }
 }
@@ -118,7 +175,7 @@ fn combined<L: Ledger>(
 /// What a question of a powerset, of a shape or of a relation does, or why it is refused.
 fn asked_of_kinds<L: Ledger>(
     alloc: Global,
-    names: &Names,
+    names: &Names<Entry>,
     command: Command,
     steps: &mut Steps<L>,
 ) -> Result<Change, StepErr>
@@ -126,19 +183,26 @@ fn asked_of_kinds<L: Ledger>(
     ensures { IsPerformed (meaning names.now command) result }
 {
     match command {
-        Command::Psize { s } => named::psize(alloc, names, s),
-        Command::Covers { s, t } => named::covers(alloc, names, s, t, steps),
-        Command::Ranking { r } => named::ranking(alloc, names, r, steps),
-        Command::ShapeContains { s, t } => named::shape_contains(alloc, names, s, t),
-        Command::ShapePrint { s } => named::shape_print(alloc, names, s),
+        Command::Psize { s } => say(psize(alloc, powerset_at(names, s))),
+        Command::Covers { s, t } => {
+            let one = powerset_at(names, s);
+            say(covers(alloc, one, powerset_at(names, t), steps))
+        }
+        Command::Ranking { r } => say(ranking(alloc, poly_at(names, r), steps)),
+        Command::ShapeContains { s, t } => {
+            let one = shape_at(names, s);
+            say(shape_contains(alloc, one, shape_at(names, t)))
+        }
+        Command::ShapePrint { s } => say(shape_print(alloc, shape_at(names, s))),
         _ => unreachable!(),
     }
 }
 
-/// What a command that puts a powerset, a shape or an automaton, or a set made of one, does, or why it is refused.
+/// What a command that puts a system, a powerset, a shape or an automaton, or a set made of one, does, or why it is
+/// refused.
 fn made_of_kinds<L: Ledger>(
     alloc: Global,
-    names: &Names,
+    names: &Names<Entry>,
     command: Command,
     steps: &mut Steps<L>,
 ) -> Result<Change, StepErr>
@@ -148,19 +212,49 @@ fn made_of_kinds<L: Ledger>(
     ensures { IsPerformed (meaning names.now command) result }
 {
     match command {
-        Command::Pset { out, p } => named::pset(alloc, names, out, p),
+        Command::System { out, n, l } => {
+            let full = is_full(names, &out);
+            put_system(out, system(alloc, n, l, full))
+        }
+        Command::Pset { out, p } => {
+            let full = is_full(names, &out);
+            put_powerset(out, pset(alloc, poly_at(names, p), full))
+        }
         Command::OfTwoPowersets { op, out, s, t } => {
-            named::of_two_powersets(alloc, names, op, out, s, t, steps)
+            let full = is_full(names, &out);
+            let one = powerset_at(names, s);
+            let other = powerset_at(names, t);
+            put_powerset(out, of_two_powersets(alloc, op, one, other, full, steps))
         }
-        Command::Member { out, s, i } => named::member(names, out, s, i),
-        Command::Rank { out, r } => named::rank(alloc, names, out, r, steps),
-        Command::ShapeOf { out, p } => named::shape_of_set(alloc, names, out, p),
-        Command::Bounds { out, n, cons } => named::bounds(alloc, names, out, n, cons),
+        Command::Member { out, s, i } => {
+            let full = is_full(names, &out);
+            put_poly(out, member(powerset_at(names, s), i, full))
+        }
+        Command::Rank { out, r } => {
+            let full = is_full(names, &out);
+            put_poly(out, rank(alloc, poly_at(names, r), full, steps))
+        }
+        Command::ShapeOf { out, p } => {
+            let full = is_full(names, &out);
+            put_shape(out, shape_of_set(alloc, poly_at(names, p), full))
+        }
+        Command::Bounds { out, n, cons } => {
+            let full = is_full(names, &out);
+            put_shape(out, bounds(alloc, n, &cons, full))
+        }
         Command::OfTwoShapes { op, out, s, t } => {
-            named::of_two_shapes(alloc, names, op, out, s, t)
+            let full = is_full(names, &out);
+            let one = shape_at(names, s);
+            put_shape(out, of_two_shapes(alloc, op, one, shape_at(names, t), full))
         }
-        Command::ShapePoly { out, s } => named::shape_poly(alloc, names, out, s, steps),
-        Command::Hybrid { out, s } => named::hybrid(alloc, names, out, s),
+        Command::ShapePoly { out, s } => {
+            let full = is_full(names, &out);
+            put_poly(out, shape_poly(alloc, shape_at(names, s), full, steps))
+        }
+        Command::Hybrid { out, s } => {
+            let full = is_full(names, &out);
+            put_hybrid(out, hybrid(alloc, system_at(names, s), full))
+        }
         _ => unreachable!(),
     }
 }
@@ -168,7 +262,7 @@ fn made_of_kinds<L: Ledger>(
 /// What a command does, or why it is refused.
 pub fn change_of<L: Ledger>(
     alloc: Global,
-    names: &Names,
+    names: &Names<Entry>,
     command: Command,
     steps: &mut Steps<L>,
 ) -> Result<Change, StepErr>
@@ -206,7 +300,8 @@ pub fn change_of<L: Ledger>(
         | Command::Ranking { .. }
         | Command::ShapeContains { .. }
         | Command::ShapePrint { .. } => { asked_of_kinds(alloc, names, command, steps) }
-        Command::Pset { .. }
+        Command::System { .. }
+        | Command::Pset { .. }
         | Command::OfTwoPowersets { .. }
         | Command::Member { .. }
         | Command::Rank { .. }
@@ -215,26 +310,37 @@ pub fn change_of<L: Ledger>(
         | Command::OfTwoShapes { .. }
         | Command::ShapePoly { .. }
         | Command::Hybrid { .. } => { made_of_kinds(alloc, names, command, steps) }
-        Command::System { out, n, l } => named::system(alloc, names, out, n, l),
         Command::Fixpoint { s, delay, prefix } => {
-            fixpoint(alloc, names, names.system(s.bytes()), delay, prefix, steps)
+            let made = fixpoint(alloc, names, system_at(names, s), delay, &prefix, steps);
+            put_numbered(prefix, made)
         }
         Command::Reach { h, delay, prefix } => {
-            reach(alloc, names, names.hybrid(h.bytes()), delay, prefix, steps)
+            let made = reach(alloc, names, hybrid_at(names, h), delay, &prefix, steps);
+            put_numbered(prefix, made)
         }
         Command::Init { .. } | Command::Trans { .. } | Command::SetPart { .. } => unreachable!(),
     }
 }
 
 /// The name and the change of a command that changes a part of an entry, or why it is refused.
-pub fn part_change_of(names: &Names, command: Command) -> Result<(Text, PartChange), StepErr>
+pub fn part_change_of(names: &Names<Entry>, command: Command) -> Result<(Text, PartChange), StepErr>
     requires { ChangesPart command }
     ensures { IsTestedIn (meaning names.now command) names.now result }
 {
     match command {
-        Command::Init { s, loc, p } => named::init(names, s, loc, p),
-        Command::Trans { s, loc, loc2, r } => named::trans(names, s, loc, loc2, r),
-        Command::SetPart { part, h, loc, p } => named::set_part(names, part, h, loc, p),
+        Command::Init { s, loc, p } => {
+            let change = replaced_initial(system_under(names, &s), loc, poly_at(names, p));
+            of_entry(s, change)
+        }
+        Command::Trans { s, loc, loc2, r } => {
+            let relation = poly_at(names, r);
+            let change = added_transition(system_under(names, &s), loc, loc2, relation);
+            of_entry(s, change)
+        }
+        Command::SetPart { part, h, loc, p } => {
+            let change = replaced_part(part, hybrid_under(names, &h), loc, poly_at(names, p));
+            of_entry(h, change)
+        }
         _ => unreachable!(),
     }
 }

@@ -4,15 +4,16 @@ ghost use Rattle.std.specs.Option.{option_copied};
 ghost use Rattle.poly_pair.specs.Polyhedra.{Polyhedron};
 ghost use Rattle.line_values.specs.Meaning.{on_one};
 ghost use Rattle.calc_state.specs.Systems.{system as make_system, init, trans, fixpoint as run_system};
+ghost use Rattle.calc_state.specs.Effects.{all_placed};
 ghost use Rattle.calc_state.specs.Changes.{as_entry, IsTested};
 ghost use Rattle.line_values.specs.Performed.{IsPerformed};
 ghost use Rattle.calc_state.specs.declared.entry.Entry.TheVariants as entry;
 
-use crate::change::Change;
-use crate::names::Names;
+use crate::entry::Entry;
 use crate::parts::{PartChange, SystemChange};
 use fixpoint::run;
 use line_values::StepErr;
+use name_table::Names;
 use poly_pair::{Poly, Topology};
 use reply_text::{Fault, Text};
 use row_core::Steps;
@@ -92,16 +93,16 @@ pub fn added_transition(
     Ok(PartChange::System(change))
 }
 
-/// Puts the set of each location in the limit of the system's rounds under a numbered name.
+/// The set of each location in the limit of the system's rounds, where there is room for their numbered names.
 pub fn fixpoint<L: Ledger>(
     alloc: Global,
-    names: &Names,
+    names: &Names<Entry>,
     system: Option<&System>,
     delay: u64,
-    prefix: Text,
+    prefix: &Text,
     steps: &mut Steps<L>,
-) -> Result<Change, StepErr>
-    ensures { IsPerformed (on_one (option_copied system.entry) (run_system names.now delay prefix)) result }
+) -> Result<Vec<Poly>, StepErr>
+    ensures { IsPerformed (on_one (option_copied system.entry) (run_system names.now delay prefix.now)) (all_placed prefix.now result) }
 {
     let Some(system) = system else {
         return Err(StepErr::Input(Fault::UnknownName));
@@ -113,7 +114,7 @@ pub fn fixpoint<L: Ledger>(
         return Err(StepErr::Input(Fault::TooManyNames));
     }
     match run(alloc, system, delay as u32, steps) {
-        Ok(sets) => Ok(Change::PutsAll(prefix, sets)),
+        Ok(sets) => Ok(sets),
         Err(cause) => Err(StepErr::from(cause)),
     }
 }

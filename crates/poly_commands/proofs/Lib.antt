@@ -1,3 +1,4 @@
+mod FileLemmas
 mod FractionLemmas
 mod LatticeLemmas
 mod MakerLemmas

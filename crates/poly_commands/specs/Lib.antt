@@ -2,8 +2,10 @@ pub mod Affine
 pub mod Files
 pub mod Lattice
 pub mod Makers
+pub mod OpenFiles
 pub mod Operators
 pub mod Optima
+pub mod Proper
 pub mod Questions
 pub mod Results
 pub mod Widening

@@ -11,7 +11,9 @@ mod lattice;
 mod makers;
 mod operators;
 mod optima;
+mod proper;
 mod questions;
+mod reading;
 mod widenings;
 
 pub use affine::{mapped_by, remove};
@@ -20,5 +22,7 @@ pub use lattice::{closure, compare, isempty};
 pub use makers::{add, addgen, cons, copy, gens, space};
 pub use operators::{extend, of_two};
 pub use optima::{bound, relation};
+pub use proper::is_proper;
 pub use questions::{answer, has, print, size};
+pub use reading::{OpenFile, read_whole};
 pub use widenings::widen;

@@ -15,7 +15,7 @@ use Rattle.sample_rows.specs.Samples.{IsSample}
 use Rattle.poly_commands.specs.Makers.{LeavesOnConstraints}
 use Rattle.poly_commands.specs.Optima.{SearchLeaves, ShowsValues}
 use Rattle.line_values.specs.Meaning.{line}
-use Rattle.calc_state.specs.Entries.{IsProper}
+use Rattle.poly_commands.specs.Proper.{IsProper}
 use Rattle.calc_state.specs.Step.{Reply, Answered, Refused, Overflows}
 
 -- the row of B - A

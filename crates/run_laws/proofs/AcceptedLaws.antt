@@ -29,7 +29,7 @@ use Rattle.script_text.specs.declared.command.Comparison.TheVariants as comparis
 use Rattle.script_text.specs.declared.command.Command.{Command}
 use Rattle.script_text.specs.declared.command.Command.TheVariants.{Nothing, Has, Size, Print, Names, Compare, Isempty, Relation, Bound, Read, Write, Psize, Covers, Ranking, ShapeContains, ShapePrint}
 use Rattle.script_text.specs.Line.{SpellsOne}
-use Rattle.calc_state.specs.Table.{HasDistinctNames}
+use Rattle.name_table.specs.Table.{HasDistinctNames}
 use Rattle.line_values.specs.Meaning.{answer_line, line}
 use Rattle.poly_commands.specs.Questions.{size_text, side_text}
 use Rattle.poly_commands.specs.Optima.{with_word, relation_text, bound_text, is_max}
@@ -37,7 +37,7 @@ use Rattle.calc_state.specs.Powersets.{members_text}
 use Rattle.poly_commands.specs.Files.{file_of}
 use Rattle.calc_state.specs.declared.entry.Entry.{Entry}
 use Rattle.calc_state.specs.declared.entry.Entry.TheVariants as entry
-use Rattle.calc_state.specs.Entries.{IsProper}
+use Rattle.poly_commands.specs.Proper.{IsProper}
 use Rattle.calc_state.specs.Laws.{KeepsNamesDistinct}
 use Rattle.expr_text.specs.Printed.{constraints_text, generators_text}
 use Rattle.run_laws.specs.Acts.{Act, Did, Took, Accepted, acts}

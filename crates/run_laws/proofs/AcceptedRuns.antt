@@ -3,9 +3,11 @@ use Rattle.std.proofs.Common.{◌≡◌, ℕ, List, [], ◌∷◌, refl, sym, �
 use Rattle.std.specs.Prelude.{Option, None, Some}
 use Rattle.script_text.specs.declared.command.Command.{Command}
 use Rattle.script_text.specs.Line.{Spells, SpellsOne}
-use Rattle.calc_state.specs.Table.{Table, HasDistinctNames}
+use Rattle.name_table.specs.Table.{HasDistinctNames}
+use Rattle.calc_state.specs.Table.{Table}
 use Rattle.calc_state.specs.Meanings.{meaning}
-use Rattle.calc_state.specs.State.{State, OpenFile, with_line, opens}
+use Rattle.poly_commands.specs.OpenFiles.{OpenFile, with_line}
+use Rattle.calc_state.specs.State.{State, opens}
 use Rattle.calc_state.specs.Reading.{IsRead}
 use Rattle.calc_state.specs.Step.{Reply, Answered, Refused, Overflows, IsAccepted}
 use Rattle.calc_state.specs.Line.{StepFrom}

@@ -1,6 +1,6 @@
 -- After a run no two entries of the table have the same name.
 use Rattle.std.proofs.Common.{ℕ, List, [], ◌∷◌, sym, subst}
-use Rattle.calc_state.specs.Table.{HasDistinctNames}
+use Rattle.name_table.specs.Table.{HasDistinctNames}
 use Rattle.calc_state.specs.State.{State}
 use Rattle.calc_state.specs.Step.{Reply}
 use Rattle.calc_state.specs.Laws.{KeepsNamesDistinct}

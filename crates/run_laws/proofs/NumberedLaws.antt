@@ -13,7 +13,8 @@ use Rattle.script_text.specs.declared.command.LocationPart.TheVariants.{Invarian
 use Rattle.script_text.specs.declared.command.Command.TheVariants.{System, Init, Trans, Hybrid, SetPart}
 use Rattle.calc_state.specs.declared.entry.Entry.{Entry}
 use Rattle.calc_state.specs.declared.entry.Entry.TheVariants as entry
-use Rattle.calc_state.specs.Table.{Table, entry_of, put, put_each, numbered, numbered_sets}
+use Rattle.name_table.specs.Table.{entry_of, put, put_each, numbered}
+use Rattle.calc_state.specs.Table.{Table, numbered_sets}
 use Rattle.calc_state.specs.Hybrids.{with_part}
 use Rattle.run_laws.specs.Acts.{Act, Did, Took}
 use Rattle.run_laws.specs.Sets.{sets, locations_of, is_numbered, with_numbered, GivesSystem, GivesHybrid, GivesEntry, IsEntryOf}

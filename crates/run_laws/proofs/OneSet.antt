@@ -29,8 +29,9 @@ use Rattle.script_text.specs.declared.command.Command.{Command}
 use Rattle.script_text.specs.declared.command.Command.TheVariants.{Cons, Gens, Space, Copy, Add, Addgen, OfTwo, Closure, Map, Extend, Remove, Widen, System, Init, Trans, Fixpoint, Pset, OfTwoPowersets, Member, Rank, ShapeOf, Bounds, OfTwoShapes, ShapePoly, Hybrid, SetPart, Reach}
 use Rattle.calc_state.specs.declared.entry.Entry.{Entry}
 use Rattle.calc_state.specs.declared.entry.Entry.TheVariants as entry
-use Rattle.calc_state.specs.State.{OpenFile}
-use Rattle.calc_state.specs.Entries.{IsProper, IsKeptEntry}
+use Rattle.poly_commands.specs.OpenFiles.{OpenFile}
+use Rattle.poly_commands.specs.Proper.{IsProper}
+use Rattle.calc_state.specs.Entries.{IsKeptEntry}
 use Rattle.poly_commands.specs.Makers.{SaysConstraints, SaysGenerators, more_generators, IsSpace}
 use Rattle.poly_commands.specs.Results.{IsResultOfConstraints, IsResultOfGenerators, IsResultOfClosure}
 use Rattle.poly_commands.specs.Operators.{Fits, IsMadeBy, IsExtended}

@@ -21,7 +21,7 @@ use Rattle.calc_state.specs.declared.entry.Entry.{Entry}
 use Rattle.calc_state.specs.declared.entry.Entry.TheVariants as entry
 use Rattle.calc_state.specs.Systems.{IsEmptySystem, AreReached}
 use Rattle.calc_state.specs.Hybrids.{AreReachedParts}
-use Rattle.calc_state.specs.Table.{numbered}
+use Rattle.name_table.specs.Table.{numbered}
 use Rattle.run_laws.specs.Sets.{IsMadeAs, IsChangedBy, IsReachedSet}
 use Rattle.run_laws.specs.Sameness.{AreSamePolyhedra, AreSameEntries}
 use Rattle.run_laws.proofs.OneForm.{OneForm, one_closed}

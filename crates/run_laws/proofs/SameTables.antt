@@ -6,7 +6,8 @@ use Rattle.std.specs.Map.{keys_of}
 use Rattle.std.specs.List.{AllByRecursion, IsDistinct}
 use Rattle.std.proofs.lemmas.Slice.Eq.{bytes_eq-Decides}
 use Rattle.calc_state.specs.declared.entry.Entry.{Entry}
-use Rattle.calc_state.specs.Table.{Table, entry_of}
+use Rattle.name_table.specs.Table.{entry_of}
+use Rattle.calc_state.specs.Table.{Table}
 use Rattle.run_laws.specs.Acts.{Act}
 use Rattle.run_laws.specs.Sets.{IsEntryOf}
 use Rattle.run_laws.specs.Sameness.{AreSameEntries, AreSameTables}

@@ -18,8 +18,9 @@ use Rattle.calc_state.specs.declared.entry.Entry.{Entry}
 use Rattle.calc_state.specs.declared.entry.Entry.TheVariants as entry
 use Rattle.calc_state.specs.declared.change.Change.{Change}
 use Rattle.calc_state.specs.declared.change.Change.TheVariants.{Says, Puts, PutsAll, TakesOut}
-use Rattle.calc_state.specs.Entries.{IsProper}
-use Rattle.calc_state.specs.Table.{Table, entry_of, as_poly, poly_of, as_system, system_of, as_powerset, powerset_of, as_shape, shape_of, as_hybrid, hybrid_of, put, put_each, numbered, numbered_sets, has_no_room, HasDistinctNames}
+use Rattle.poly_commands.specs.Proper.{IsProper}
+use Rattle.name_table.specs.Table.{entry_of, put, put_each, numbered, has_no_room, HasDistinctNames}
+use Rattle.calc_state.specs.Table.{Table, as_poly, poly_of, as_system, system_of, as_powerset, powerset_of, as_shape, shape_of, as_hybrid, hybrid_of, numbered_sets}
 use Rattle.line_values.specs.Order.{Passes}
 use Rattle.line_values.specs.Meaning.{Meaning, on_one, on_two, room, says}
 use Rattle.calc_state.specs.Effects.{IsReply, IsPutAs, AreAllPut, IsTakenOut, puts, tells}
@@ -40,7 +41,8 @@ use Rattle.calc_state.specs.Shapes.{shape, IsShapeOfSet, IsShapeOfConstraints, o
 use Rattle.calc_state.specs.Hybrids.{hybrid, IsStill, set_part, with_part, reach, AreReachedParts}
 use Rattle.widening.proofs.Places.{all_at}
 use Rattle.poly_commands.specs.Files.{write, format_of}
-use Rattle.calc_state.specs.State.{State, OpenFile, closed}
+use Rattle.poly_commands.specs.OpenFiles.{OpenFile}
+use Rattle.calc_state.specs.State.{State, closed}
 use Rattle.calc_state.specs.Reading.{IsRead}
 use Rattle.calc_state.specs.Step.{Reply, IsAccepted, PutsProper, after}
 use Rattle.calc_state.specs.Laws.{KeepsNamesDistinct}

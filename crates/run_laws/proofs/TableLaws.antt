@@ -7,7 +7,8 @@ use Rattle.std.specs.List.{list_any, AllByRecursion, IsDistinct}
 use Rattle.std.proofs.lemmas.Slice.Eq.{bytes_eq-Decides}
 use Rattle.std.proofs.lemmas.Map.Made.{IsDistinct-from_AllPairs}
 use Rattle.calc_state.specs.declared.entry.Entry.{Entry}
-use Rattle.calc_state.specs.Table.{Table, entry_of, put, without, HasDistinctNames}
+use Rattle.name_table.specs.Table.{entry_of, put, without, HasDistinctNames}
+use Rattle.calc_state.specs.Table.{Table}
 use Rattle.run_laws.specs.Sets.{with_name, less_name}
 
 -- ---- the entry under a name

@@ -23,14 +23,16 @@ use Rattle.calc_state.specs.declared.entry.Entry.{Entry}
 use Rattle.calc_state.specs.declared.entry.Entry.TheVariants as entry
 use Rattle.calc_state.specs.declared.change.Change.{Change}
 use Rattle.calc_state.specs.declared.change.Change.TheVariants.{Says, Puts, PutsAll, TakesOut}
-use Rattle.calc_state.specs.Entries.{IsProper}
-use Rattle.calc_state.specs.Table.{Table, entry_of, as_poly, poly_of, as_system, system_of, as_powerset, powerset_of, as_shape, shape_of, as_hybrid, hybrid_of, has_no_room, HasDistinctNames}
+use Rattle.poly_commands.specs.Proper.{IsProper}
+use Rattle.name_table.specs.Table.{entry_of, has_no_room, HasDistinctNames}
+use Rattle.calc_state.specs.Table.{Table, as_poly, poly_of, as_system, system_of, as_powerset, powerset_of, as_shape, shape_of, as_hybrid, hybrid_of}
 use Rattle.line_values.specs.Order.{Passes}
 use Rattle.line_values.specs.Meaning.{Meaning, on_one, on_two, no_fault, line, says}
 use Rattle.calc_state.specs.Effects.{IsPutAs, AreAllPut, IsTakenOut, puts, tells}
 use Rattle.calc_state.specs.Meanings.{meaning, topology_of}
 use Rattle.poly_commands.specs.Makers.{cons, gens, space_of, copy, add, addgen}
-use Rattle.calc_state.specs.Names.{names as tell_names, drop_of, spaced, names_text}
+use Rattle.name_table.specs.Listing.{spaced, names_text}
+use Rattle.calc_state.specs.Names.{names as tell_names, drop_of}
 use Rattle.poly_commands.specs.Questions.{has, size, print, size_text, side_text}
 use Rattle.poly_commands.specs.Optima.{relation, bound, is_max}
 use Rattle.poly_commands.specs.Lattice.{closure, compared, isempty, IsTold}

@@ -3,7 +3,8 @@ use Rattle.std.specs.Prelude.{◌≡◌, ◌⊎◌, ℕ, List, [], ◌∷◌, ma
 use Rattle.cdd_text.specs.Files.{IsEnd}
 use Rattle.script_text.specs.Line.{Spells}
 use Rattle.script_text.specs.declared.command.Command.{Command}
-use Rattle.calc_state.specs.State.{OpenFile, with_line, opens}
+use Rattle.poly_commands.specs.OpenFiles.{OpenFile, with_line}
+use Rattle.calc_state.specs.State.{opens}
 use Rattle.calc_state.specs.Step.{Reply, Answered, Refused, Overflows}
 
 -- what is accepted: a command, or a whole file, with its last line

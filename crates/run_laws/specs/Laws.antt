@@ -7,7 +7,8 @@ use Rattle.poly_pair.specs.declared.topology.Topology.TheVariants.{Nnc}
 use Rattle.powerset.specs.declared.covering.Cover.TheVariants.{No}
 use Rattle.script_text.specs.declared.command.Command.TheVariants.{Size, Print, Bound, Covers}
 use Rattle.calc_state.specs.declared.entry.Entry.{Entry}
-use Rattle.calc_state.specs.Table.{Table, entry_of, poly_of}
+use Rattle.name_table.specs.Table.{entry_of}
+use Rattle.calc_state.specs.Table.{Table, poly_of}
 use Rattle.calc_state.specs.Powersets.{cover_line}
 use Rattle.calc_state.specs.State.{State, closed}
 use Rattle.calc_state.specs.Step.{Reply}

@@ -21,8 +21,9 @@ use Rattle.script_text.specs.declared.command.Command.{Command}
 use Rattle.script_text.specs.declared.command.Command.TheVariants.{Cons, Gens, Space, Copy, Drop, Add, Addgen, OfTwo, Closure, Map, Extend, Remove, Widen, System, Init, Trans, Fixpoint, Pset, OfTwoPowersets, Member, Rank, ShapeOf, Bounds, OfTwoShapes, ShapePoly, Hybrid, SetPart, Reach}
 use Rattle.calc_state.specs.declared.entry.Entry.{Entry}
 use Rattle.calc_state.specs.declared.entry.Entry.TheVariants as entry
-use Rattle.calc_state.specs.Entries.{IsProper, IsKeptEntry}
-use Rattle.calc_state.specs.Table.{numbered}
+use Rattle.poly_commands.specs.Proper.{IsProper}
+use Rattle.calc_state.specs.Entries.{IsKeptEntry}
+use Rattle.name_table.specs.Table.{numbered}
 use Rattle.poly_commands.specs.Makers.{SaysConstraints, SaysGenerators, more_constraints, more_generators, IsSpace}
 use Rattle.poly_commands.specs.Results.{IsResult, IsResultOfConstraints, IsResultOfGenerators, IsResultOfClosure}
 use Rattle.poly_commands.specs.Operators.{Fits, IsMadeBy, IsExtended}
@@ -33,7 +34,7 @@ use Rattle.calc_state.specs.Shapes.{IsShapeOfSet, IsShapeOfConstraints, IsShapeB
 use Rattle.calc_state.specs.Hybrids.{IsStill, with_part, AreReachedParts}
 use Rattle.calc_state.specs.Meanings.{topology_of}
 use Rattle.poly_commands.specs.Files.{format_of}
-use Rattle.calc_state.specs.State.{OpenFile}
+use Rattle.poly_commands.specs.OpenFiles.{OpenFile}
 use Rattle.run_laws.specs.Acts.{Act, Did, Took}
 
 -- ---- what is made

@@ -1,6 +1,6 @@
 //! Laws of runs.
 ghost use Rattle.std.specs.Prelude.{◌≡◌, ℕ, List, [], false};
-ghost use Rattle.calc_state.specs.Table.{HasDistinctNames};
+ghost use Rattle.name_table.specs.Table.{HasDistinctNames};
 ghost use Rattle.calc_state.specs.State.{State, closed};
 ghost use Rattle.calc_state.specs.Step.{Reply};
 ghost use Rattle.calc_state.specs.Line.{Step};

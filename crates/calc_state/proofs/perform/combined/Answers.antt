@@ -1,23 +1,27 @@
-use Rattle.std.proofs.Common.{sym, subst}
-use Rattle.script_text.specs.declared.command.Command.{Command}
-use Rattle.calc_state.specs.Meanings.{meaning}
-use Rattle.line_values.specs.Performed.{IsPerformed}
+use Rattle.std.proofs.Common.{refl}
+use Rattle.poly_commands.specs.Operators.{operated, extended}
+use Rattle.poly_commands.specs.Lattice.{closure}
+use Rattle.poly_commands.specs.Widening.{widen}
+use Rattle.poly_commands.specs.Affine.{mapped_by, remove}
+use Rattle.calc_state.specs.declared.entry.Entry.TheVariants as entry
+use Rattle.calc_state.specs.Table.{as_poly}
+use Rattle.calc_state.proofs.EffectLemmas.{performed_as, put_one, put_two}
 use Rattle.calc_state.proofs.perform.combined.Goals as goal
 
 pub returns-in-OfTwo : goal.returns-in-OfTwo
-returns-in-OfTwo g c = subst (λ (command : Command). IsPerformed (meaning c.args.names.now command) c.of_two.result) (sym c.in-OfTwo.is) c.of_two.ensures
+returns-in-OfTwo g c = performed_as c.args.names.now c.args.command _ c.put_poly.result c.in-OfTwo.is (put_two entry.Poly as_poly (λ x. refl) c.in-OfTwo.out (operated c.in-OfTwo.op) c.of_two.result c.is_full-full.ensures c.poly_at-one.ensures c.poly_at.ensures c.put_poly.ensures c.of_two.ensures)
 
 pub returns-in-Closure : goal.returns-in-Closure
-returns-in-Closure g c = subst (λ (command : Command). IsPerformed (meaning c.args.names.now command) c.closure.result) (sym c.in-Closure.is) c.closure.ensures
+returns-in-Closure g c = performed_as c.args.names.now c.args.command _ c.put_poly-in-Closure.result c.in-Closure.is (put_one entry.Poly as_poly (λ x. refl) c.in-Closure.out closure c.closure.result c.is_full-full-in-Closure.ensures c.poly_at-in-Closure.ensures c.put_poly-in-Closure.ensures c.closure.ensures)
 
 pub returns-in-Widen : goal.returns-in-Widen
-returns-in-Widen g c = subst (λ (command : Command). IsPerformed (meaning c.args.names.now command) c.widen.result) (sym c.in-Widen.is) c.widen.ensures
+returns-in-Widen g c = performed_as c.args.names.now c.args.command _ c.put_poly-in-Widen.result c.in-Widen.is (put_two entry.Poly as_poly (λ x. refl) c.in-Widen.out widen c.widen.result c.is_full-full-in-Widen.ensures c.poly_at-one-in-Widen.ensures c.poly_at-in-Widen.ensures c.put_poly-in-Widen.ensures c.widen.ensures)
 
 pub returns-in-Map : goal.returns-in-Map
-returns-in-Map g c = subst (λ (command : Command). IsPerformed (meaning c.args.names.now command) c.map.result) (sym c.in-Map.is) c.map.ensures
+returns-in-Map g c = performed_as c.args.names.now c.args.command _ c.put_poly-in-Map.result c.in-Map.is (put_one entry.Poly as_poly (λ x. refl) c.in-Map.out (λ b. mapped_by c.in-Map.by b c.in-Map.v c.in-Map.rel c.in-Map.frac) c.mapped_by.result c.is_full-full-in-Map.ensures c.poly_at-found.ensures c.put_poly-in-Map.ensures c.mapped_by.ensures)
 
 pub returns-in-Extend : goal.returns-in-Extend
-returns-in-Extend g c = subst (λ (command : Command). IsPerformed (meaning c.args.names.now command) c.extend.result) (sym c.in-Extend.is) c.extend.ensures
+returns-in-Extend g c = performed_as c.args.names.now c.args.command _ c.put_poly-in-Extend.result c.in-Extend.is (put_one entry.Poly as_poly (λ x. refl) c.in-Extend.out (λ b. extended c.in-Extend.by b c.in-Extend.n) c.extend.result c.is_full-full-in-Extend.ensures c.poly_at-in-Extend.ensures c.put_poly-in-Extend.ensures c.extend.ensures)
 
 pub returns-in-Remove : goal.returns-in-Remove
-returns-in-Remove g c = subst (λ (command : Command). IsPerformed (meaning c.args.names.now command) c.remove.result) (sym c.in-Remove.is) c.remove.ensures
+returns-in-Remove g c = performed_as c.args.names.now c.args.command _ c.put_poly-in-Remove.result c.in-Remove.is (put_one entry.Poly as_poly (λ x. refl) c.in-Remove.out (λ b. remove b c.in-Remove.vars) c.remove.result c.is_full-full-in-Remove.ensures c.poly_at-in-Remove.ensures c.put_poly-in-Remove.ensures c.remove.ensures)

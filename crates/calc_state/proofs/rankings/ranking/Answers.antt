@@ -18,9 +18,9 @@ returns-in-Err g c =
     subst (λ (o : Option Polyhedron). IsPerformed (on_one o ranking) (Err c.from.result)) (sym found)
     (rw c.from.ensures (leaves (ranking r) c.in-Err.cause (ranking_passes r closed even) c.in-Err.ensures.overflow))
 
-pub returns : goal.returns
-returns g c =
+pub returns-in_ok-ranking_line-in-Ok : goal.returns-in_ok-ranking_line-in-Ok
+returns-in_ok-ranking_line-in-Ok g c =
     let r : Polyhedron = c.in-Some.r.now in
     let closed : r.topology ≡ Closed = c.if-not-is_closed.ensures in
     let even : r.cons.dim % 2 ≡ 0 = c.if-not-has_even_dim.ensures in
-    rw c.in-Some.is (ranking_told r c.in-Ok.functions c.in_ok-text.text c.push.new.self closed even c.in-Ok.ensures.points c.is_proper.ensures c.in_ok-text.ensures c.in_ok-push.ensures)
+    rw c.in-Some.is (ranking_told r c.in-Ok.functions c.in_ok-ranking_line-in-Ok.field-0 closed even c.in-Ok.ensures.points c.in_ok-ranking_line-in-Ok.ensures)

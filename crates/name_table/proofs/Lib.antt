@@ -1,0 +1,3 @@
+pub mod DistinctNames
+mod ListingLemmas
+pub mod TableLemmas

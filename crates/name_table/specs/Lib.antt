@@ -1,0 +1,4 @@
+pub mod Keys
+pub mod Lending
+pub mod Listing
+pub mod Table
