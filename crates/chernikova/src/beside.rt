@@ -18,6 +18,10 @@ use std::sync::ledger::Ledger;
 /// How many looks at rays the conversion in the list's order is expected to take before the other begins.
 const LOOKS_BEFORE: u64 = 20_000;
 
+/// How many such looks times rows that are left, where fewer than a quarter of the rows are: the other has
+/// to take in all rows, and few are then spared.
+const LOOKS_AT_THE_END: u64 = 700_000;
+
 /// For how many looks of the conversion in the list's order the other has one.
 const SHARE: u64 = 24;
 
@@ -40,6 +44,14 @@ pub(crate) struct Beside {
     looked: u64,
     awaited: u64,
     needed: u128,
+}
+
+/// Whether a second conversion is likely to pay beside one that takes so many looks and took in so many of
+/// the rows.
+fn pays(looks: u64, rows: usize, taken: usize) -> bool {
+    let left = rows.saturating_sub(taken) as u64;
+    let is_early = left >= rows as u64 / 4;
+    looks >= LOOKS_BEFORE && (is_early || looks.saturating_mul(left) >= LOOKS_AT_THE_END)
 }
 
 impl Beside {
@@ -99,11 +111,11 @@ impl Beside {
     }
 
     // Begins where the conversion in the list's order looks at enough rays, if there is memory for it.
-    fn begin(&mut self, alloc: Global, list: &RowList, looks: u64)
+    fn begin(&mut self, alloc: Global, list: &RowList, looks: u64, taken: usize)
         requires { IsBeside list.now.width list.now.rows self.old }
         ensures { IsBeside list.now.width list.now.rows self.new }
     {
-        if self.begun || looks < LOOKS_BEFORE {
+        if self.begun || !pays(looks, list.len(), taken) {
             return;
         }
         match Beside::started(alloc, list) {
@@ -217,7 +229,7 @@ impl Beside {
         ensures no_fewer { steps.old ≤ steps.new }
         ensures within { steps.new + slack.new ≤ steps.old + slack.old }
     {
-        self.begin(alloc, list, looks);
+        self.begin(alloc, list, looks, taken);
         if !self.running {
             return;
         }
