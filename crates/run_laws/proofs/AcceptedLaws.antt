@@ -243,7 +243,7 @@ same_answers laws (a ∷ all) (b ∷ rest) e t u =
     (accepted_answered laws (acts all) a.act a.answer b.answer t.0 there, same_answers laws all rest others t.1 u.1)
 
 -- ---- runs
-pub accepted_decide : KeepsNamesDistinct → HasDistinctNames [] → OneMeaning → ReadBack → AcceptedDecide
+pub accepted_decide : KeepsNamesDistinct → HasDistinctNames {E = Entry} [] → OneMeaning → ReadBack → AcceptedDecide
 accepted_decide keeps empty laws read lines others r s new other all rest run next a b same =
     let t = run_truthful keeps empty read lines r new run in
     let u = run_truthful keeps empty read others s other next in

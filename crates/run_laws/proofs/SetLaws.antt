@@ -379,7 +379,7 @@ module _ (old new : Table) (earlier : List Act) (text : List ℕ) (a : Agrees ol
 
 -- ---- runs
 -- the table before the first line
-pub nothing_agrees : HasDistinctNames [] → Agrees [] []
+pub nothing_agrees : HasDistinctNames {E = Entry} [] → Agrees [] []
 nothing_agrees distinct = record { distinct = distinct; sets = λ name e h. h; names = refl }
 
 pub agrees_command : (old new : Table) (earlier : List Act) (c : Command) (text : List ℕ) → Agrees old earlier → HasDistinctNames new → IsAccepted (meaning old c) old text new → Agrees new (Did c ∷ earlier)
@@ -403,7 +403,7 @@ there_of table all name e None laws f s h = absurd (s e h)
 there_of table all name e (Some kept) laws f s h = record { kept = kept; there = f; same = one_entry laws all name e kept h s }
 
 -- the table has under each name what was accepted gives it
-pub as_commanded : KeepsNamesDistinct → HasDistinctNames [] → OneForm → (lines : List (List ℕ)) (replies : List Reply) (new : State) → Run (closed []) lines replies new → AreAsCommanded lines replies new.names
+pub as_commanded : KeepsNamesDistinct → HasDistinctNames {E = Entry} [] → OneForm → (lines : List (List ℕ)) (replies : List Reply) (new : State) → Run (closed []) lines replies new → AreAsCommanded lines replies new.names
 as_commanded keeps empty laws lines replies new run =
     let t = run_told AgreesAll keeps agreeing (closed []) [] lines replies new empty (nothing_agrees empty) run in
     let given : (name : List ℕ) (e : Entry) → entry_of new.names name ≡ Some e → IsEntryOf (acts t.all) name e = λ name e f. subst (λ (o : Option Entry). StandsAlone o (IsEntryOf (acts t.all) name)) f (t.holds.sets name) in

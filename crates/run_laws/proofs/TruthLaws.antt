@@ -241,9 +241,9 @@ telling laws = record {
 }
 
 -- what a run accepts, with the table that agrees with it and true answers
-pub run_truthful : KeepsNamesDistinct → HasDistinctNames [] → ReadBack → (lines : List (List ℕ)) (replies : List Reply) (new : State) → Run (closed []) lines replies new → Told IsToldTruly None [] lines replies new
+pub run_truthful : KeepsNamesDistinct → HasDistinctNames {E = Entry} [] → ReadBack → (lines : List (List ℕ)) (replies : List Reply) (new : State) → Run (closed []) lines replies new → Told IsToldTruly None [] lines replies new
 run_truthful keeps empty laws lines replies new run = run_told IsToldTruly keeps (telling laws) (closed []) [] lines replies new empty (nothing_agrees empty, tt) run
 
-pub answers_true : KeepsNamesDistinct → HasDistinctNames [] → ReadBack → AnswersAreTrue
+pub answers_true : KeepsNamesDistinct → HasDistinctNames {E = Entry} [] → ReadBack → AnswersAreTrue
 answers_true keeps empty laws lines replies new run =
     let t = run_truthful keeps empty laws lines replies new run in record { all = t.all; accepted = t.accepted; truthful = t.holds.1 }
