@@ -5,6 +5,6 @@
 mod laws;
 
 pub use laws::{
-    accepted_decide, accepted_is_unique, answers_are_true, names_are_distinct, refusals_change_nothing,
-    sets_are_as_commanded,
+    accepted_decide, accepted_is_unique, answers_are_true, names_are_distinct,
+    refusals_change_nothing, sets_are_as_commanded,
 };
