@@ -10,8 +10,8 @@ ghost use Rattle.minimise.specs.Parts.{AreParts};
 use crate::bases::basis;
 use crate::facets::{Facets, facets_of};
 use crate::fault::Fault;
-use crate::reduction::reduce;
-use row_core::{RowList, Steps};
+use crate::reduction::{reduce, zeros};
+use row_core::{Memory, RowList, Steps, make_primitive};
 use sat_matrix::SatMatrix;
 use std::alloc::Global;
 use std::sync::ledger::Ledger;
@@ -22,6 +22,22 @@ pub(crate) struct Parts {
     pub(crate) equalities: RowList,
     pub(crate) facets: Facets,
     pub(crate) reduced: RowList,
+}
+
+/// The rows at the indices, each made primitive.
+fn primitive_rows(alloc: Global, rows: &RowList, kept: &[usize]) -> Result<RowList, Memory>
+    requires within { All (λ i. i < length rows.now.rows) kept.now }
+    ensures reduced { IfOk result (λ new. Pointwise (λ i r. IsReduced [] (row_at rows.now.rows i) r) kept.now (vectors new.rows)) }
+    ensures list { IfOk result (λ new. (new.width ≡ rows.now.width) × AreMarked false new.rows) }
+{
+    let mut new = RowList::with_room(alloc, rows.width(), kept.len())?;
+    let mut row = zeros(alloc, rows.width())?;
+    for index in 0..kept.len() {
+        row.copy_from_slice(rows.row(kept[index]));
+        make_primitive(&mut row);
+        new.push(&row, false)?;
+    }
+    Ok(new)
 }
 
 /// The rows at the indices, each reduced by the lines.
@@ -39,6 +55,9 @@ fn reduced_rows<L: Ledger>(
     ensures reduced { MatchResult result (λ new. Pointwise (λ i r. IsReduced (vectors lines.now.rows) (row_at rows.now.rows i) r) kept.now (vectors new.rows)) (IsRowFault rows.now.rows (vectors lines.now.rows)) }
     ensures list { IfOk result (λ new. (new.width ≡ rows.now.width) × AreMarked false new.rows) }
 {
+    if lines.is_empty() {
+        return Ok(primitive_rows(alloc, rows, kept)?);
+    }
     let mut new = RowList::with_room(alloc, lines.width(), kept.len())?;
     for index in 0..kept.len() {
         let reduced = reduce(alloc, lines, rows.row(kept[index]), steps)?;

@@ -89,9 +89,6 @@ pub(crate) fn reduce<L: Ledger>(
 {
     let width = lines.width();
     let mut reduced = RowBuf::primitive(alloc, row)?.into_vec();
-    if lines.is_empty() {
-        return Ok(reduced);
-    }
     let mut scratch = zeros(alloc, width)?;
     for index in 0..lines.len() {
         let line = lines.row(index);

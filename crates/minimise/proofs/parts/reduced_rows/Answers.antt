@@ -1,12 +1,12 @@
 use Rattle.std.specs.Prelude.{false}
-use Rattle.std.proofs.Common.{◌≡◌, ◌+◌, ◌≤◌, List, ℤ, ℕ, length, get_or, arith, sym, ap, ◌∙◌, subst}
+use Rattle.std.proofs.Common.{rules, ◌≡◌, ◌+◌, ◌≤◌, List, [], ℤ, ℕ, length, get_or, arith, sym, ap, ◌∙◌, subst}
 use Rattle.std.proofs.Math.Nat.{mul-le-mul_right}
 use Rattle.std.proofs.lemmas.Result.{err_from_is_err_and}
-use Rattle.std.proofs.lemmas.List.{take_all}
+use Rattle.std.proofs.lemmas.List.{take_all, nil_from_length}
 use Rattle.std.proofs.lemmas.List.Elements.{All-same}
 use Rattle.row_core.specs.Range.{AllInRange}
 use Rattle.row_core.specs.Lists.{Row, row_at, vectors, Pointwise}
-use Rattle.cone_laws.proofs.VectorLemmas.{vectors_push, marked_push}
+use Rattle.cone_laws.proofs.VectorLemmas.{length-vectors, vectors_push, marked_push}
 use Rattle.minimise.specs.Bases.{IsReduced}
 use Rattle.minimise.proofs.Widths.{lines_narrow}
 use Rattle.minimise.proofs.PointwiseLists.{pointwise_more}
@@ -65,3 +65,9 @@ loop-index-preserved g c =
 pub returns-clause-reduced : goal.returns-clause-reduced
 returns-clause-reduced g c =
     subst (λ (is : List ℕ). Pointwise (λ (i : ℕ) (r : List ℤ). IsReduced (vectors c.args.lines.now.rows) (row_at c.args.rows.now.rows i) r) is (vectors c.loop-index.new.rows)) (take_all c.loop-index.index c.args.kept.now (omega arith)) c.loop-index.invariant.reduced
+
+pub returns-then-is_empty-clause-reduced : goal.returns-then-is_empty-clause-reduced
+returns-then-is_empty-clause-reduced g c =
+    let count : length c.args.lines.now.rows ≡ 0 = search rules in
+    let none : vectors c.args.lines.now.rows ≡ [] = nil_from_length (vectors c.args.lines.now.rows) (length-vectors c.args.lines.now.rows ∙ count) in
+    subst (λ (lines : List (List ℤ)). Pointwise (λ i r. IsReduced lines (row_at c.args.rows.now.rows i) r) c.args.kept.now (vectors c.in_ok-primitive_rows.field-0.rows)) (sym none) c.in_ok-primitive_rows.ensures.reduced

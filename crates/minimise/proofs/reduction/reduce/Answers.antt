@@ -22,13 +22,6 @@ loop-index-init g c = record {
   in_range = subst AllInRange (sym c.into_vec-reduced.ensures.value) c.in_ok-primitive.ensures.in_range;
 }
 
-pub returns-then-is_empty-clause-reduced : goal.returns-then-is_empty-clause-reduced
-returns-then-is_empty-clause-reduced g c =
-    let count : length c.args.lines.now.rows ≡ 0 = search rules in
-    let none : vectors c.args.lines.now.rows ≡ [] = nil_from_length (vectors c.args.lines.now.rows) (length-vectors c.args.lines.now.rows ∙ count) in
-    subst (λ (lines : List (List ℤ)). IsReduced lines c.args.row.now c.into_vec-reduced.result.items) (sym none)
-    (subst (λ (v : List ℤ). IsReduced [] c.args.row.now v) (sym c.into_vec-reduced.ensures.value) (reduced_none c.args.row.now c.in_ok-primitive.field-0 c.in_ok-primitive.ensures.primitive c.in_ok-primitive.ensures.width))
-
 pub pivot_of-requires : goal.pivot_of-requires
 pivot_of-requires g c =
     let rows = c.args.lines.now.rows in
