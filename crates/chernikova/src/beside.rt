@@ -2,13 +2,14 @@
 ghost use Rattle.std.specs.Prelude.{◌≡◌, ℕ, ◌+◌, ◌<◌, ◌≤◌, List, length, true, false, IsTrue, IfOk};
 ghost use Rattle.row_core.specs.Lists.{Row};
 ghost use Rattle.chernikova.specs.Conversion.{IsState};
-ghost use Rattle.chernikova.specs.Beside.{IsBeside, IsRunning, IsDone};
+ghost use Rattle.chernikova.specs.Beside.{IsBeside, IsPlanned, IsRunning, IsDone};
 
 use crate::conversion::start;
+use crate::plan::Plan;
 use crate::row_order::{is_as_listed, places, reordered, sorted_order};
 use crate::scratch::Scratch;
 use crate::system::System;
-use crate::taking::{Outcome, take_row_within};
+use crate::taking::{Search, plan_row_within, take_planned};
 use crate::vectors::VectorList;
 use row_core::{Memory, RowList, Steps};
 use sat_matrix::SatMatrix;
@@ -16,22 +17,20 @@ use std::alloc::Global;
 use std::sync::ledger::Ledger;
 
 /// How many looks at rays the conversion in the list's order is expected to take before the other begins.
-const LOOKS_BEFORE: u64 = 20_000;
+const LOOKS_BEFORE: u64 = 10_000;
 
 /// How many such looks times rows that are left, where fewer than a quarter of the rows are: the other has
 /// to take in all rows, and few are then spared.
-const LOOKS_AT_THE_END: u64 = 700_000;
+const LOOKS_AT_THE_END: u64 = 1_000_000;
 
-/// For how many looks of the conversion in the list's order the other has one.
+/// For how many looks of the conversion in the list's order the other has one, unless it took in more rows: then
+/// it has as many.
 const SHARE: u64 = 24;
-
-/// The same where the other took in more rows.
-const SHARE_AHEAD: u64 = 2;
 
 /// A conversion in sorted order: its rows, the place among them of each row of the list, and the system
 /// of those that were taken in. It has begun or not, and runs until an overflow ends it. The search for the
-/// pairs of the rows so far was expected to look at `looked` rays, and that of the next row at `awaited`; the
-/// next row asks for `needed` combinations.
+/// pairs of the rows so far was expected to look at `looked` rays, and that of the next row at `awaited`. What
+/// the next row asks for is `plan`, once that is known, with `needed` combinations.
 #[derive(Drop)]
 pub(crate) struct Beside {
     begun: bool,
@@ -43,6 +42,7 @@ pub(crate) struct Beside {
     taken: usize,
     looked: u64,
     awaited: u64,
+    plan: Option<Plan>,
     needed: u128,
 }
 
@@ -74,6 +74,7 @@ impl Beside {
             taken: 0,
             looked: 0,
             awaited: 0,
+            plan: None,
             needed: 0,
         }
     }
@@ -106,6 +107,7 @@ impl Beside {
             taken: 0,
             looked: 0,
             awaited: 0,
+            plan: None,
             needed: 0,
         })
     }
@@ -127,11 +129,11 @@ impl Beside {
     // How many more looks it may take, beside a conversion that takes so many and took in so many rows.
     fn looks_left(&self, looks: u64, taken: usize) -> u64 {
         let share = if self.taken > taken {
-            SHARE_AHEAD
+            looks
         } else {
-            SHARE
+            looks / SHARE
         };
-        (looks / share).saturating_sub(self.looked)
+        share.saturating_sub(self.looked)
     }
 
     // Whether it is to take in a row within so many looks.
@@ -140,51 +142,65 @@ impl Beside {
     {
         self.running
             && self.taken < self.rows.len()
-            && self.awaited < looks_left
+            && (self.plan.is_some() || self.awaited < looks_left)
             && self.needed <= slack
     }
 
-    // Takes in a row within so many looks, where the slack allows its combinations. An overflow or want of
-    // memory ends it.
-    fn advance<L: Ledger>(
-        &mut self,
-        alloc: Global,
-        looks_left: u64,
-        slack: &mut u128,
-        steps: &mut Steps<L>,
-    )
+    // Finds what the next row asks for, unless it is known, where the search looks at fewer rays than so many.
+    // An overflow or want of memory ends it.
+    fn plan_next(&mut self, alloc: Global, looks_left: u64)
         requires row { self.old.taken < length self.old.rows.rows }
         requires state { IsState self.old.rows.width self.old.rows.rows self.old.taken self.old.system }
+        requires planned { IsPlanned self.old }
+        ensures row { self.new.taken < length self.new.rows.rows }
+        ensures state { IsState self.new.rows.width self.new.rows.rows self.new.taken self.new.system }
+        ensures planned { IsPlanned self.new }
+        ensures running { (width : ℕ) (rows : List Row) → IsRunning width rows self.old → IsRunning width rows self.new }
+    {
+        if self.plan.is_some() {
+            return;
+        }
+        let scratch = &mut self.scratch;
+        let (system, rows) = (&self.system, &self.rows);
+        match plan_row_within(alloc, scratch, system, rows, self.taken, looks_left) {
+            Ok(Search::Found { looks, plan }) => {
+                self.looked = self.looked.saturating_add(looks);
+                self.plan = Some(plan);
+            }
+            Ok(Search::Dear { looks }) => self.awaited = looks,
+            Err(_) => self.running = false,
+        }
+    }
+
+    // Takes in the next row, if it is known what it asks for and the slack allows its combinations. An overflow
+    // or want of memory ends it.
+    fn take_in<L: Ledger>(&mut self, alloc: Global, slack: &mut u128, steps: &mut Steps<L>)
+        requires row { self.old.taken < length self.old.rows.rows }
+        requires state { IsState self.old.rows.width self.old.rows.rows self.old.taken self.old.system }
+        requires planned { IsPlanned self.old }
         ensures beside { (width : ℕ) (rows : List Row) → IsRunning width rows self.old → IsBeside width rows self.new }
         ensures no_fewer { steps.old ≤ steps.new }
         ensures within { steps.new + slack.new ≤ steps.old + slack.old }
     {
+        let Some(plan) = self.plan.take() else {
+            return;
+        };
+        let combinations = plan.combinations(&self.system);
+        if combinations > *slack {
+            self.needed = combinations;
+            self.plan = Some(plan);
+            return;
+        }
+        *slack -= combinations;
         let row = self.taken;
         let _count = self.rows.len();
         let scratch = &mut self.scratch;
         let system = &mut self.system;
-        let rows = &self.rows;
-        let taken = take_row_within(alloc, scratch, system, rows, row, looks_left, slack, steps);
-        let outcome = match taken {
-            Ok(outcome) => outcome,
-            Err(_) => {
-                self.running = false;
-                return;
-            }
-        };
-        let looks = match outcome {
-            Outcome::Taken { looks } => looks,
-            Outcome::Dear { looks } => {
-                self.awaited = looks;
-                return;
-            }
-            Outcome::Many { combinations } => {
-                self.needed = combinations;
-                return;
-            }
+        let Ok(()) = take_planned(alloc, scratch, system, plan, &self.rows, row, steps) else {
+            self.running = false;
+            return;
         };
         self.taken = row + 1;
-        self.looked = self.looked.saturating_add(looks);
         self.awaited = 0;
         self.needed = 0;
     }
@@ -209,7 +225,8 @@ impl Beside {
             if !self.has_turn(looks_left, *slack) {
                 return;
             }
-            self.advance(alloc, looks_left, slack, steps);
+            self.plan_next(alloc, looks_left);
+            self.take_in(alloc, slack, steps);
         }
     }
 

@@ -24,7 +24,7 @@ use std::alloc::Global;
 use std::sync::ledger::Ledger;
 
 /// As how many looks at rays it counts that there is one more.
-const LOOKS_OF_A_RAY: u64 = 8;
+const LOOKS_OF_A_RAY: u64 = 24;
 
 /// The table with its columns in the order of the places.
 fn in_list_order(alloc: Global, sat: &SatMatrix, places: &[usize]) -> Result<SatMatrix, Memory>

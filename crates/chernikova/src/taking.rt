@@ -1,9 +1,9 @@
-//! A row is taken in, where a number allows its combinations.
+//! What a row asks of a system, and its taking in.
 ghost use Rattle.std.specs.Prelude.{◌≡◌, ℕ, ◌+◌, ◌-◌, ◌<◌, ◌≤◌, List, length, IfOk, IfErr, MatchResult};
 ghost use Rattle.cone_laws.specs.SystemLaws.{HasSystemOf};
 ghost use Rattle.chernikova.specs.Conversion.{IsState, IsAtStep, IsRealOverflow};
 ghost use Rattle.chernikova.specs.Plans.{IsPosition, IsPlan, combinations_of};
-ghost use Rattle.chernikova.specs.Beside.{IsOutcomeOfRow};
+ghost use Rattle.chernikova.specs.Beside.{IsSearchOfRow};
 
 use crate::adjacency::least_shared;
 use crate::fault::shown;
@@ -15,15 +15,13 @@ use row_core::{ConvErr, RowList, Steps};
 use std::alloc::Global;
 use std::sync::ledger::Ledger;
 
-/// What came of a row that was to be taken in within bounds.
-#[derive(Clone, Copy)]
-pub(crate) enum Outcome {
-    /// It was taken in, and the search for its pairs was expected to look at so many rays.
-    Taken { looks: u64 },
-    /// That search is expected to look at so many rays.
+/// What came of a search that was to look at fewer rays than so many.
+#[derive(Drop)]
+pub(crate) enum Search {
+    /// What the row asks of the system; the search was expected to look at so many rays.
+    Found { looks: u64, plan: Plan },
+    /// It is expected to look at so many rays.
     Dear { looks: u64 },
-    /// It asks for so many combinations.
-    Many { combinations: u128 },
 }
 
 /// How row `k` lies to the system of the rows before it.
@@ -113,35 +111,25 @@ pub(crate) fn take_row_sparing<L: Ledger>(
     Ok(vectors.saturating_sub(made))
 }
 
-/// Takes row `k` into the system where the search for its pairs is expected to look at fewer rays than so
-/// many, and where the slack allows its combinations, which are taken from it.
-pub(crate) fn take_row_within<L: Ledger>(
+/// What row `k` asks of the system of the rows before it, where the search for its pairs is expected to look at
+/// fewer rays than so many.
+pub(crate) fn plan_row_within(
     alloc: Global,
     scratch: &mut Scratch,
-    cone: &mut System,
+    cone: &System,
     rows: &RowList,
     k: usize,
     looks_below: u64,
-    slack: &mut u128,
-    steps: &mut Steps<L>,
-) -> Result<Outcome, ConvErr>
+) -> Result<Search, ConvErr>
     requires row { k < length rows.now.rows }
-    requires state { IsState rows.now.width rows.now.rows k cone.old }
-    ensures state { IfOk result (IsOutcomeOfRow rows.now.width rows.now.rows k cone.old cone.new) }
-    ensures no_fewer { steps.old ≤ steps.new }
-    ensures within { steps.new + slack.new ≤ steps.old + slack.old }
+    requires state { IsState rows.now.width rows.now.rows k cone.now }
+    ensures { IfOk result (IsSearchOfRow rows.now.rows k cone.now) }
 {
     let position = row_position(alloc, scratch, cone, rows, k)?;
     let looks = position.looks(&cone.sat, least_shared(rows.width(), cone.lines.len()));
     if looks >= looks_below {
-        return Ok(Outcome::Dear { looks });
+        return Ok(Search::Dear { looks });
     }
     let plan = planned(alloc, scratch, cone, position, rows, k)?;
-    let combinations = plan.combinations(cone);
-    if combinations > *slack {
-        return Ok(Outcome::Many { combinations });
-    }
-    *slack -= combinations;
-    take_planned(alloc, scratch, cone, plan, rows, k, steps)?;
-    Ok(Outcome::Taken { looks })
+    Ok(Search::Found { looks, plan })
 }

@@ -27,4 +27,5 @@ returns c = λ runs.
       reordered = reordered_from c.args.list.now.rows c.in_ok-rows.rows.rows c.in_ok-order.order.items c.in_ok-places.places.items c.in_ok-order.ensures (c.in_ok-rows.ensures.rows ∙ ap (λ is. map (row_of c.args.list.now.rows) is) c.deref-3.ensures.value) (subst A c.deref-2.ensures.value c.in_ok-places.ensures);
       taken = omega arith;
       state = subst P c.width.ensures.value c.in_ok-system.ensures;
+      planned = tt;
     }

@@ -1,5 +1,0 @@
-use Rattle.chernikova.proofs.Positions.{has_values}
-use Rattle.chernikova.proofs.taking.take_row_within.Goals as goal
-
-pub looks-looks-requires : goal.looks-looks-requires
-looks-looks-requires g c = has_values c.args.rows.now.width c.args.rows.now.rows c.args.k c.args.cone.now c.in_ok-position.position c.requires.state c.in_ok-position.ensures.position
