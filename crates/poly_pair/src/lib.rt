@@ -13,6 +13,7 @@
 
 mod adding;
 mod axes;
+mod both_systems;
 mod errors;
 pub mod laws;
 mod lists;
@@ -33,5 +34,5 @@ pub use lists::{constraint_list, generator_list};
 pub use making::has_point_kind;
 pub use other_system::{constraints_alone, generators_alone};
 pub use poly::Poly;
-pub use spanning::spanning_generators;
+pub use spanning::{spanning_generators, spanning_generators_from};
 pub use topology::{MAX_DIM, Topology};

@@ -1,0 +1,16 @@
+use Rattle.poly_pair.specs.declared.topology.Topology.TheVariants.{Closed}
+use Rattle.poly_pair.proofs.ListLemmas.{constraints_of_rows}
+use Rattle.poly_pair.proofs.BothSystems.{both_start, generators_of_both, generators_stored}
+use Rattle.poly_pair.proofs.poly.Poly.from_both.Goals as goal
+
+pub systems_of_start-requires-clause-start : goal.systems_of_start-requires-clause-start
+systems_of_start-requires-clause-start g c = both_start c.args.cons.now c.args.gens.now c.in_ok-list.list.rows c.dim-dim.result c.in_ok-start.start c.args.zeros.now c.dim-dim.ensures.value c.in_ok-list.ensures.rows c.requires.same_dim c.requires.system c.in_ok-start.ensures.lists c.in_ok-start.ensures.lines c.in_ok-start.ensures.rays c.requires.zeros c.in_ok-start.ensures.zeros
+
+pub returns-clause-constraints : goal.returns-clause-constraints
+returns-clause-constraints g c = constraints_of_rows Closed c.dim-dim.result c.args.cons.now c.in_ok-list.list.rows c.in_ok-made.made c.dim-dim.ensures.value c.requires.closed c.in_ok-list.ensures.fit c.in_ok-list.ensures.rows c.in_ok-made.ensures.points
+
+pub returns-clause-generators : goal.returns-clause-generators
+returns-clause-generators g c = generators_of_both c.args.cons.now c.args.gens.now c.requires.same_dim c.requires.closed c.requires.kinds c.in_ok-list.ensures.fit c.dim-vectors.ensures.rows c.requires.system c.in_ok-made.made (returns-clause-constraints g c)
+
+pub returns-clause-stored_of_generators : goal.returns-clause-stored_of_generators
+returns-clause-stored_of_generators g c = generators_stored c.args.gens.now c.in_ok-made.made c.dim-kept.ensures.kept (returns-clause-generators g c) c.requires.kinds c.dim-vectors.ensures.rows c.requires.point
