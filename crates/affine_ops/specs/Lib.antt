@@ -1,9 +1,11 @@
 pub mod Maps
 pub mod MappedLists
+pub mod CarriedSystems
 pub mod Results
 pub mod Refusals
 pub mod Shadows
 pub mod Posts
+pub mod PostLists
 pub mod Relations
 pub mod RelationLaws
 pub mod ImageResults

@@ -3,7 +3,9 @@
 //! - [`image`] and [`preimage`] replace a variable by what stands in an [`ImageRel`] to an expression.
 //! - [`embed`], [`project`] and [`remove_dims`] add and take away variables.
 //! - [`concat`] gives the product of two sets.
-//! - [`shadow`] keeps some columns of the points at which constraints hold.
+//! - [`shadow`] keeps some columns of the points at which constraints hold, and [`shadow_from`] begins with the
+//!   stored pair of a polyhedron.
+//! - [`post_from`] is the set of all successors of the states of a set by a relation.
 //!
 //! [`laws`] says which of them undo each other, and what images by relations are.
 #![tactic(auto)]
@@ -11,8 +13,10 @@
 mod columns;
 mod dimensions;
 mod images;
+mod inverse_maps;
 pub mod laws;
 mod mapped;
+mod posts;
 mod pulled;
 mod refusals;
 mod related;
@@ -22,5 +26,6 @@ mod substitution;
 
 pub use dimensions::{concat, embed, project, remove_dims};
 pub use images::{image, preimage};
+pub use posts::{later_variables, post_from};
 pub use relations::ImageRel;
-pub use shadows::shadow;
+pub use shadows::{shadow, shadow_from};

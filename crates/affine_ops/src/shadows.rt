@@ -1,17 +1,45 @@
 //! The points of constraints with some of their columns alone.
-ghost use Rattle.std.specs.Prelude.{ℕ, ◌<◌, ◌≤◌, length, All, IfOk, IfErr};
+ghost use Rattle.std.specs.Prelude.{◌≡◌, ℕ, ◌<◌, ◌≤◌, length, All, IfOk, IfErr};
 ghost use Rattle.poly_pair.specs.TopologyLists.{AreConstraintsFor};
 ghost use Rattle.poly_pair.specs.declared.topology.TheConstants.{MAX_DIM};
+ghost use Rattle.poly_pair.specs.declared.topology.Topology.TheVariants.{Closed};
+ghost use Rattle.poly_pair.specs.Spanning.{BeginsWith, IsSpanningIfAny};
 ghost use Rattle.affine_ops.specs.Maps.{picked};
 ghost use Rattle.affine_ops.specs.Refusals.{IsOverflowIn};
 ghost use Rattle.affine_ops.specs.Shadows.{IsShadow, IsStoredOfShadow, LeavesOnShadow};
 
 use crate::mapped::{generated, picked_generators};
 use cons_sys::ConsSys;
-use poly_pair::{MAX_DIM, Poly, Topology, spanning_generators};
+use gens_sys::GensSys;
+use poly_pair::{MAX_DIM, Poly, Topology, spanning_generators, spanning_generators_from};
 use row_core::{ConvErr, Steps};
 use std::alloc::Global;
 use std::sync::ledger::Ledger;
+
+/// What the columns alone make of generators of the points at which constraints hold, if there is such a point.
+fn shadow_of_generators<L: Ledger>(
+    alloc: Global,
+    topology: Topology,
+    cons: &ConsSys,
+    found: Option<GensSys>,
+    columns: &[usize],
+    steps: &mut Steps<L>,
+) -> Result<Poly, ConvErr>
+    requires found { IsSpanningIfAny topology cons.now found }
+    requires columns { All (λ (j : ℕ). j < cons.now.dim) columns.now }
+    requires narrow { length columns.now ≤ MAX_DIM }
+    ensures points { IfOk result (IsShadow topology (picked columns.now cons.now.dim) (length columns.now) cons.now) }
+    ensures stored { IfOk result (IsStoredOfShadow topology (picked columns.now cons.now.dim) (length columns.now) cons.now) }
+    ensures overflow { IfErr result (IsOverflowIn (LeavesOnShadow topology (picked columns.now cons.now.dim) (length columns.now) cons.now)) }
+    ensures no_fewer { steps.old ≤ steps.new }
+{
+    let _dim = cons.dim();
+    let Some(gens) = found else {
+        return Ok(Poly::empty(alloc, topology, columns.len())?);
+    };
+    let mapped = picked_generators(alloc, &gens, columns)?;
+    generated(alloc, topology, &mapped, steps)
+}
 
 /// The points that those at which constraints hold become where the columns alone are kept, in their order.
 ///
@@ -37,13 +65,36 @@ pub fn shadow<L: Ledger>(
     ensures overflow { IfErr result (IsOverflowIn (LeavesOnShadow topology (picked columns.now cons.now.dim) (length columns.now) cons.now)) }
     ensures no_fewer { steps.old ≤ steps.new }
 {
-    let found = match spanning_generators(alloc, topology, cons, steps) {
-        Ok(found) => found,
-        Err(cause) => return Err(cause),
-    };
-    let Some(gens) = found else {
-        return Ok(Poly::empty(alloc, topology, columns.len())?);
-    };
-    let mapped = picked_generators(alloc, &gens, columns)?;
-    generated(alloc, topology, &mapped, steps)
+    match spanning_generators(alloc, topology, cons, steps) {
+        Ok(found) => shadow_of_generators(alloc, topology, cons, found, columns, steps),
+        Err(cause) => Err(cause),
+    }
+}
+
+/// What [`shadow`] gives on constraints that begin with those of a closed polyhedron, from its stored pair.
+///
+/// # Errors
+///
+/// Those of [`shadow`].
+pub fn shadow_from<L: Ledger>(
+    alloc: Global,
+    p: &Poly,
+    cons: &ConsSys,
+    columns: &[usize],
+    steps: &mut Steps<L>,
+) -> Result<Poly, ConvErr>
+    requires closed { p.now.topology ≡ Closed }
+    requires kinds { AreConstraintsFor Closed cons.now }
+    requires begins { BeginsWith p.now.cons cons.now }
+    requires columns { All (λ (j : ℕ). j < cons.now.dim) columns.now }
+    requires narrow { length columns.now ≤ MAX_DIM }
+    ensures points { IfOk result (IsShadow Closed (picked columns.now cons.now.dim) (length columns.now) cons.now) }
+    ensures stored { IfOk result (IsStoredOfShadow Closed (picked columns.now cons.now.dim) (length columns.now) cons.now) }
+    ensures overflow { IfErr result (IsOverflowIn (LeavesOnShadow Closed (picked columns.now cons.now.dim) (length columns.now) cons.now)) }
+    ensures no_fewer { steps.old ≤ steps.new }
+{
+    match spanning_generators_from(alloc, p, cons, steps) {
+        Ok(found) => shadow_of_generators(alloc, Topology::Closed, cons, found, columns, steps),
+        Err(cause) => Err(cause),
+    }
 }

@@ -1,2 +1,1 @@
-pub mod PairSets
 pub mod SystemTurns

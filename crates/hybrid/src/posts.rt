@@ -7,7 +7,7 @@ ghost use Rattle.affine_ops.specs.Posts.{IsPost};
 ghost use Rattle.hybrid.specs.Steps.{behind, LeavesOnPost};
 
 use crate::parts::part_in;
-use affine_ops::{embed, remove_dims};
+use affine_ops::{embed, post_from, remove_dims};
 use poly_pair::{MAX_DIM, Poly};
 use row_core::{ConvErr, Memory, Steps};
 use std::alloc::Global;
@@ -24,9 +24,8 @@ fn first_variables(alloc: Global, count: usize) -> Result<Vec<usize>, Memory>
     Ok(vars)
 }
 
-/// All successors of the states of a set by a relation, whose variables are those of a state and then those of
-/// its successor.
-pub(crate) fn post<L: Ledger>(
+/// The successors, by the set with as many free variables behind its own.
+fn post_of_embedded<L: Ledger>(
     alloc: Global,
     set: &Poly,
     relation: &Poly,
@@ -50,4 +49,26 @@ pub(crate) fn post<L: Ledger>(
     };
     let vars = first_variables(alloc, dim)?;
     remove_dims(alloc, &pairs, &vars, steps)
+}
+
+/// All successors of the states of a set by a relation, whose variables are those of a state and then those of
+/// its successor. The stored pair of the relation is taken first; where that comes to an overflow, the set with
+/// free variables is.
+pub(crate) fn post<L: Ledger>(
+    alloc: Global,
+    set: &Poly,
+    relation: &Poly,
+    steps: &mut Steps<L>,
+) -> Result<Poly, ConvErr>
+    requires narrow { set.now.cons.dim + set.now.cons.dim ≤ MAX_DIM }
+    requires set { IsClosedOver set.now.cons.dim set.now }
+    requires relation { IsClosedOver (2 * set.now.cons.dim) relation.now }
+    ensures post { IfOk result (IsPost set.now relation.now) }
+    ensures overflow { IfErr result (IsOverflowIn (LeavesOnPost set.now relation.now)) }
+{
+    match post_from(alloc, set, relation, steps) {
+        Ok(successors) => Ok(successors),
+        Err(ConvErr::Memory) => Err(ConvErr::Memory),
+        Err(ConvErr::Overflow(_)) => post_of_embedded(alloc, set, relation, steps),
+    }
 }

@@ -1,4 +1,4 @@
-pub mod ValueLists
+pub mod ZeroLists
 pub mod KeptLists
 pub mod SideLists
 pub mod StoredSets

@@ -1,0 +1,96 @@
+//! Images under a map that can be undone, from the stored pair.
+ghost use Rattle.std.specs.Prelude.{◌≡◌, ◌≢◌, ⊤, ◌+◌, ◌^◌, ◌<◌, ◌≤◌, length, pos, ◌<ℤ◌, unsigned_abs, IfOk, MatchBool, MatchOption};
+ghost use Rattle.row_core.specs.Vectors.{cell};
+ghost use Rattle.row_core.specs.Range.{InRange, AllInRange};
+ghost use Rattle.poly_pair.specs.Polyhedra.{IsOfGenerators};
+ghost use Rattle.poly_pair.specs.Parts.{AreStoredOfGenerators};
+ghost use Rattle.affine_ops.specs.Maps.{substituted};
+ghost use Rattle.affine_ops.specs.MappedLists.{IsMappedSystem};
+ghost use Rattle.affine_ops.specs.CarriedSystems.{IsInverseRow, HaveNoLine, CanBeCarried};
+
+use crate::pulled::preimage_constraints;
+use gens_sys::{GenKind, GensSys};
+use poly_pair::{Poly, Topology};
+use row_core::{ConvErr, Memory, RowBuf, Steps};
+use std::alloc::Global;
+use std::sync::ledger::Ledger;
+
+/// The expression that, over the size of the variable's part, undoes the map that replaces the variable.
+fn inverse_row(alloc: Global, var: usize, expr: &[i128], den: i128) -> Result<Vec<i128>, Memory>
+    requires var { var < length expr.now }
+    requires narrow { length expr.now < 2 ^ 32 }
+    requires part { cell expr.now var ≢ pos 0 }
+    requires in_range { AllInRange expr.now }
+    requires den_in_range { InRange den }
+    ensures row { IfOk result (λ row. IsInverseRow var expr.now den row.items (pos (unsigned_abs (cell expr.now var)))) }
+    ensures in_range { IfOk result (λ row. AllInRange row.items) }
+{
+    if expr[var] < 0 {
+        let mut row = Vec::from_slice(alloc, expr)?;
+        row[var] = -den;
+        return Ok(row);
+    }
+    let mut row = RowBuf::negated(alloc, expr)?.into_vec();
+    row[var] = den;
+    Ok(row)
+}
+
+/// Whether some generator is a line.
+fn has_line(gens: &GensSys) -> bool
+    ensures { MatchBool result ⊤ (HaveNoLine gens.now.list) }
+{
+    for index in 0..gens.len() {
+        if gens.kind(index) == GenKind::Line {
+            return true;
+        }
+    }
+    false
+}
+
+/// Whether the map can be undone, and the set has a stored pair without a line to be mapped.
+fn can_be_carried(p: &Poly, var: usize, expr: &[i128], gens: &GensSys) -> bool
+    requires var { var < length expr.now }
+    ensures { MatchBool result (CanBeCarried p.now (cell expr.now var) gens.now) ⊤ }
+{
+    p.topology() == Topology::Closed && !p.is_empty() && expr[var] != 0 && !has_line(gens)
+}
+
+/// The polyhedron of the mapped generators of a closed set with a point and without a line, where the map can
+/// be undone. Its constraints are mapped the other way, and nothing is converted. There is no answer elsewhere, or
+/// where a number leaves the range.
+pub(crate) fn carried_image<L: Ledger>(
+    alloc: Global,
+    p: &Poly,
+    var: usize,
+    expr: &[i128],
+    den: i128,
+    gens: &GensSys,
+    steps: &mut Steps<L>,
+) -> Result<Option<Poly>, Memory>
+    requires var { var < p.now.cons.dim }
+    requires wide { length expr.now ≡ p.now.cons.dim + 1 }
+    requires in_range { AllInRange expr.now }
+    requires den_in_range { InRange den }
+    requires positive { pos 0 <ℤ den }
+    requires mapped { IsMappedSystem (substituted var expr.now den) p.now.cons.dim p.now.gens gens.now }
+    ensures points { IfOk result (λ found. MatchOption found ⊤ (IsOfGenerators p.now.topology gens.now)) }
+    ensures stored { IfOk result (λ found. MatchOption found ⊤ (AreStoredOfGenerators p.now.topology gens.now)) }
+    ensures no_fewer { steps.old ≤ steps.new }
+{
+    let _dim = p.dim();
+    let _vectors = p.gens().dim();
+    if !can_be_carried(p, var, expr, gens) {
+        return Ok(None);
+    }
+    let row = inverse_row(alloc, var, expr, den)?;
+    let cons = match preimage_constraints(alloc, p.cons(), var, &row, expr[var].abs(), steps) {
+        Ok(cons) => cons,
+        Err(ConvErr::Overflow(_)) => return Ok(None),
+        Err(ConvErr::Memory) => return Err(Memory),
+    };
+    match Poly::from_both(alloc, &cons, gens, p.zeros(), steps) {
+        Ok(image) => Ok(Some(image)),
+        Err(ConvErr::Overflow(_)) => Ok(None),
+        Err(ConvErr::Memory) => Err(Memory),
+    }
+}

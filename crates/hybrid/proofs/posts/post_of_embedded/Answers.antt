@@ -1,0 +1,51 @@
+use Rattle.std.proofs.Common.{◌≡◌, inr, ℕ, ◌+◌, ◌<◌, ◌≤◌, List, length, sym, ap, ◌∙◌, subst, arith, All}
+use Rattle.std.proofs.lemmas.Result.{IfOk-weaker, IfErr-weaker}
+use Rattle.row_core.specs.declared.errors.ConvErr.{ConvErr}
+use Rattle.row_core.specs.declared.errors.ConvErr.TheVariants as conversion
+use Rattle.affine_ops.specs.Maps.{without, remaining, kept_variables}
+use Rattle.affine_ops.specs.Results.{IsImage, IsPreimage}
+use Rattle.row_core.specs.Refusals.{IsOverflowIn}
+use Rattle.affine_ops.specs.Refusals.{LeavesOnMapped}
+use Rattle.affine_ops.specs.Posts.{IsPost}
+use Rattle.hybrid.specs.Steps.{IsEmbedded, behind, LeavesOnPost}
+use Rattle.hybrid.proofs.PostSets.{behind_below, pairs_dim, post_of}
+use Rattle.hybrid.proofs.posts.post_of_embedded.Goals as goal
+
+pub remove_dims-requires : goal.remove_dims-requires
+remove_dims-requires g c =
+    let n = c.args.set.now.cons.dim in
+    let is : c.deref.result.now ≡ behind n = c.deref.ensures.value ∙ c.in_ok-vars.ensures ∙ ap behind c.dim-dim.ensures.value in
+    let embedded : IsEmbedded c.args.set.now c.in-Ok.embedded = subst (λ (k : ℕ). IsPreimage (without n (n + k)) (n + k) c.args.set.now c.in-Ok.embedded) c.dim-dim.ensures.value c.in-Ok.ensures.points in
+    let twice : c.in-Ok-part_in.pairs.cons.dim ≡ n + n = pairs_dim c.args.set.now c.args.relation.now c.in-Ok.embedded c.in-Ok-part_in.pairs c.requires.set c.requires.relation embedded c.in-Ok-part_in.ensures.part in
+    subst (All (λ (i : ℕ). i < c.in-Ok-part_in.pairs.cons.dim)) (sym is) (behind_below n c.in-Ok-part_in.pairs.cons.dim (omega (arith, twice)))
+
+pub returns-clause-post : goal.returns-clause-post
+returns-clause-post g c = IfOk-weaker c.remove_dims.result (IsImage (remaining c.in-Ok-part_in.pairs.cons.dim c.deref.result.now) (length (kept_variables c.in-Ok-part_in.pairs.cons.dim c.deref.result.now)) c.in-Ok-part_in.pairs) (IsPost c.args.set.now c.args.relation.now)
+    (λ post i. post_of c.args.set.now c.args.relation.now c.in-Ok.embedded c.in-Ok-part_in.pairs c.requires.set c.requires.relation embedded c.in-Ok-part_in.ensures.part post (subst (λ (xs : List ℕ). IsImage (remaining c.in-Ok-part_in.pairs.cons.dim xs) (length (kept_variables c.in-Ok-part_in.pairs.cons.dim xs)) c.in-Ok-part_in.pairs post) is i))
+    c.remove_dims.ensures.points
+  where
+    is : c.deref.result.now ≡ behind c.args.set.now.cons.dim
+    is = c.deref.ensures.value ∙ c.in_ok-vars.ensures ∙ ap behind c.dim-dim.ensures.value
+
+    embedded : IsEmbedded c.args.set.now c.in-Ok.embedded
+    embedded = subst (λ (k : ℕ). IsPreimage (without c.args.set.now.cons.dim (c.args.set.now.cons.dim + k)) (c.args.set.now.cons.dim + k) c.args.set.now c.in-Ok.embedded) c.dim-dim.ensures.value c.in-Ok.ensures.points
+
+pub returns-clause-overflow : goal.returns-clause-overflow
+returns-clause-overflow g c = IfErr-weaker c.remove_dims.result (IsOverflowIn (LeavesOnMapped (remaining c.in-Ok-part_in.pairs.cons.dim c.deref.result.now) (length (kept_variables c.in-Ok-part_in.pairs.cons.dim c.deref.result.now)) c.in-Ok-part_in.pairs)) (IsOverflowIn (LeavesOnPost c.args.set.now c.args.relation.now)) by c.remove_dims.ensures.overflow
+  where
+    is : c.deref.result.now ≡ behind c.args.set.now.cons.dim
+    is = c.deref.ensures.value ∙ c.in_ok-vars.ensures ∙ ap behind c.dim-dim.ensures.value
+
+    embedded : IsEmbedded c.args.set.now c.in-Ok.embedded
+    embedded = subst (λ (k : ℕ). IsPreimage (without c.args.set.now.cons.dim (c.args.set.now.cons.dim + k)) (c.args.set.now.cons.dim + k) c.args.set.now c.in-Ok.embedded) c.dim-dim.ensures.value c.in-Ok.ensures.points
+
+    by : (e : ConvErr) → IsOverflowIn (LeavesOnMapped (remaining c.in-Ok-part_in.pairs.cons.dim c.deref.result.now) (length (kept_variables c.in-Ok-part_in.pairs.cons.dim c.deref.result.now)) c.in-Ok-part_in.pairs) e → IsOverflowIn (LeavesOnPost c.args.set.now c.args.relation.now) e
+    by (conversion.Overflow over) l = inr (inr (record {
+      embedded = c.in-Ok.embedded;
+      is_embedded = embedded;
+      embedded_kept = c.dim-kept.ensures.kept;
+      pairs = c.in-Ok-part_in.pairs;
+      are_pairs = c.in-Ok-part_in.ensures.part;
+      leaves = subst (λ (xs : List ℕ). LeavesOnMapped (remaining c.in-Ok-part_in.pairs.cons.dim xs) (length (kept_variables c.in-Ok-part_in.pairs.cons.dim xs)) c.in-Ok-part_in.pairs over) is l;
+    }))
+    by conversion.Memory l = tt
