@@ -1,7 +1,7 @@
-ghost use Rattle.std.specs.Prelude.{◌≡◌, map, IfOk, OnOk};
+ghost use Rattle.std.specs.Prelude.{◌≡◌, [], map, IfOk, OnOk};
 ghost use Rattle.grammar.specs.Shape.{shape};
 ghost use Rattle.grammar.specs.Derivative.{after_rows, row_ends as row_ends_form, some_ends as some_ends_form};
-ghost use Rattle.grammar.specs.Rows.{shapes_of};
+ghost use Rattle.grammar.specs.Rows.{rows_of, shapes_of};
 ghost use Rattle.grammar.specs.SameRows.{SameRows};
 ghost use Rattle.grammar.specs.Verdict.{IsVerdict};
 
@@ -26,14 +26,27 @@ pub fn column_of(alloc: Global, form: &Re, text: &[u8]) -> Result<Verdict, Alloc
 {
     let mut rows = Rows::new(alloc);
     let mut spare = Rows::new(alloc);
+    column_from(form, text, &mut rows, &mut spare)
+}
+
+// The verdict, by rows that follow the form. Both lend their memory.
+fn column_from<'a>(
+    form: &Re<'a>,
+    text: &[u8],
+    rows: &mut Rows<'a>,
+    spare: &mut Rows<'a>,
+) -> Result<Verdict, AllocError>
+    requires { rows_of rows.old ≡ [] }
+    ensures { IfOk result (IsVerdict (shape form.now) text.now) }
+{
     rows.push(&Rest::Row(&[*form]))?;
     for (index, byte) in text.iter().enumerate() {
-        advance(*byte, &mut rows, &mut spare)?;
+        advance(*byte, rows, spare)?;
         if rows.is_empty() {
             return Ok(Verdict::RefusedAt(index + 1));
         }
     }
-    if some_ends(&rows) {
+    if some_ends(rows) {
         Ok(Verdict::Accepted)
     } else {
         Ok(Verdict::RefusedAt(text.len() + 1))

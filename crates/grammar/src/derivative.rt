@@ -50,16 +50,14 @@ pub fn push_after<'a>(
             push_after(byte, second, rest, out)
         }
         Re::Many(inner) => push_after(byte, inner, &Rest::Then(&*form, &*rest), out),
+        Re::UpTo(0, _) => Ok(()),
         Re::UpTo(most, inner) => {
-            if most > 0 {
-                push_after(
-                    byte,
-                    inner,
-                    &Rest::Then(&Re::UpTo(most - 1, inner), &*rest),
-                    out,
-                )?;
-            }
-            Ok(())
+            push_after(
+                byte,
+                inner,
+                &Rest::Then(&Re::UpTo(most - 1, inner), &*rest),
+                out,
+            )
         }
         Re::Named(rule) => push_after(byte, &body_of(rule), rest, out),
     }

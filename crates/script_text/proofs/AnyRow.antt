@@ -1,11 +1,13 @@
 -- Some row, and no row, of a list of rows.
-use Rattle.std.proofs.Common.{◌≡◌, ℕ, List, [], ◌∷◌, Bool, true, false, Some, zero, suc, map, arith, subst, sym, inl, inr}
-use Rattle.std.specs.Prelude.{Contains, ◌⊎◌, if◌then◌else◌}
-use Rattle.std.specs.Str.{bytes_eq}
+use Rattle.std.proofs.Common.{◌≡◌, ℕ, List, [], ◌∷◌, zero, suc, map, arith, subst, sym, inl, inr}
+use Rattle.std.specs.Prelude.{Contains, ◌⊎◌, slice_index, slice_index_or}
 use Rattle.grammar.specs.Form.{Matches, Begins, AnyMatches, AnyBegins}
 use Rattle.script_text.specs.Rows.{shape_of, row_form, rows}
+use Rattle.script_text.specs.Slots.{slot}
+use Rattle.script_text.specs.declared.choice.TheConstants.{PLACES}
 use Rattle.script_text.specs.declared.row.Row.{Row}
-use Rattle.script_text.proofs.RowLaws.{row_among, named_right}
+use Rattle.script_text.specs.declared.row.Row.TheVariants.{Nothing}
+use Rattle.script_text.proofs.RowLaws.{candidates}
 
 head_or_tail : (x : Row) (xs : List Row) (r : Row) → Contains (x ∷ xs) r → (x ≡ r) ⊎ Contains xs r
 head_or_tail x xs r (zero, h, e) = inl e
@@ -14,20 +16,17 @@ head_or_tail x xs r (suc k, h, e) = inr (k, omega arith, e)
 nowhere : (r : Row) → Contains [] r → ⊥
 nowhere r (k, h, e) = omega arith
 
-choose : (x : Row) (xs : List Row) (w : List ℕ) (r : Row) (t : Bool) → (if t then Some x else row_among xs w) ≡ Some r → (x ≡ r) ⊎ (row_among xs w ≡ Some r)
-choose x xs w r true e = inl cc
-choose x xs w r false e = inr e
-
 later : (x : Row) (xs : List Row) (r : Row) → Contains xs r → Contains (x ∷ xs) r
 later x xs r (k, h, e) = (suc k, omega arith, e)
 
--- a row that a word tells among others is one of them
-among : (rs : List Row) (w : List ℕ) (r : Row) → row_among rs w ≡ Some r → Contains rs r
-among [] w r e = cc
-among (x ∷ xs) w r e = elim (choose x xs w r (bytes_eq w (shape_of x).command) e) [ inl h ↦ (0, omega arith, h) | inr h ↦ later x xs r (among xs w r h) ]
+-- what stands at a place, or nothing
+placed : (xs : List Row) (i : ℕ) (r : Row) → slice_index_or xs i Nothing ≡ r → (r ≡ Nothing) ⊎ Contains xs r
+placed [] i r e = inl (sym e)
+placed (x ∷ xs) zero r e = inr (0, omega arith, e)
+placed (x ∷ xs) (suc i) r e = elim (placed xs i r e) [ inl h ↦ inl h | inr c ↦ inr (later x xs r c) ]
 
 pub row_in : (r : Row) → Contains rows r
-row_in r = among rows (shape_of r).command r (named_right r)
+row_in r = elim (placed rows (slice_index PLACES (slot (shape_of r).command)) r (candidates r)) [ inl h ↦ (0, omega arith, sym h) | inr c ↦ c ]
 
 pub any_matches : (rs : List Row) (r : Row) (w : List ℕ) → Contains rs r → Matches (row_form r) w → AnyMatches (map row_form rs) w
 any_matches [] r w c m = absurd (nowhere r c)

@@ -1,10 +1,12 @@
 //! The row of a line.
-ghost use Rattle.std.specs.Prelude.{◌≡◌, MatchOption, MatchResult, eqb, map};
+ghost use Rattle.std.specs.Prelude.{◌≡◌, ◌<◌, MatchOption, MatchResult, eqb, map, slice_index_or};
 ghost use Rattle.std.specs.List.{common_prefix_len};
 ghost use Rattle.grammar.specs.Form.{Matches, IsColumn, IsColumnOfAny};
 ghost use Rattle.script_text.specs.Rows.{nothing_form, row_form, rows, command_word, IsCommandWord};
+ghost use Rattle.script_text.specs.Slots.{slot, candidate};
 ghost use Rattle.script_text.specs.Words.{past_blanks, word_of, behind_word};
 ghost use Rattle.script_text.specs.declared.row.Row.{Row as AnyRow};
+ghost use Rattle.script_text.specs.declared.row.Row.TheVariants as row;
 
 use crate::command::{
     Comparison, Extension, Extremum, LocationPart, Mapping, Operator, PowersetOperator,
@@ -15,7 +17,7 @@ use crate::row::{
     ThreeNames, TwoNames, TwoNamesNumber,
 };
 use crate::shapes::{nothing_verdict, rest_verdict};
-use crate::words::past_blanks;
+use crate::words::{is_word, past_blanks};
 use grammar::Verdict;
 
 const ROWS: [Row; 56] = [
@@ -77,67 +79,62 @@ const ROWS: [Row; 56] = [
     Row::NameNumberPrefix(NameNumberPrefix::Reach),
 ];
 
+/// The place among the rows of the one whose word has the slot, and 0 where no word has it.
+const PLACES: [u8; 256] = [
+    0, 0, 50, 0, 12, 0, 0, 0, 0, 0, 0, 0, 0, 0, 0, 15, 0, 45, 0, 11, 0, 26, 29, 0, 0, 0, 0, 35, 25,
+    0, 0, 10, 0, 37, 0, 2, 0, 0, 21, 0, 0, 51, 0, 20, 0, 0, 0, 0, 19, 0, 0, 0, 23, 40, 0, 0, 0, 0,
+    49, 0, 0, 0, 0, 0, 0, 0, 0, 13, 0, 0, 0, 0, 0, 48, 0, 0, 0, 0, 22, 0, 0, 33, 0, 0, 0, 0, 0, 0,
+    0, 0, 0, 0, 0, 0, 0, 18, 0, 0, 0, 0, 0, 0, 0, 36, 0, 0, 0, 0, 0, 0, 0, 0, 0, 0, 0, 0, 0, 0, 3,
+    0, 30, 0, 0, 0, 0, 0, 0, 0, 0, 0, 0, 7, 0, 0, 0, 0, 0, 0, 0, 0, 0, 0, 0, 0, 0, 0, 0, 0, 0, 0,
+    0, 0, 17, 0, 0, 0, 0, 38, 24, 0, 0, 0, 0, 0, 0, 0, 0, 46, 54, 1, 41, 42, 0, 16, 0, 0, 0, 0, 0,
+    28, 0, 0, 44, 32, 0, 0, 34, 0, 0, 0, 0, 0, 0, 0, 6, 0, 4, 0, 0, 0, 39, 53, 0, 0, 0, 0, 0, 0, 0,
+    0, 0, 43, 47, 0, 8, 31, 0, 5, 0, 0, 0, 52, 0, 14, 0, 27, 0, 0, 0, 0, 0, 0, 0, 0, 9, 0, 0, 0, 0,
+    0, 0, 0, 0, 0, 0, 0, 0, 0, 55, 0, 0, 0, 0, 0, 0, 0,
+];
+
+/// The slot of a word, by its length, its first two letters and its last: a perfect hash (Sprugnoli, 1977), so no two
+/// command words have the same.
+fn slot(word: &[u8]) -> usize
+    ensures value { result ≡ slot word.now }
+    ensures within { result < 256 }
+{
+    if word.len() < 3 {
+        return 0;
+    }
+    let last = word[word.len() - 1];
+    (word.len() + 4 * usize::from(word[0]) + 15 * usize::from(word[1]) + 8 * usize::from(last))
+        % 256
+}
+
+/// The row at a place; that of a blank line where there is none.
+fn row_at(rows: &[Row], place: usize) -> Row
+    ensures { result ≡ slice_index_or rows.now place row.Nothing }
+{
+    match rows.get(place) {
+        Some(row) => *row,
+        None => Row::Nothing,
+    }
+}
+
+/// The only row whose command word the word may be.
+fn candidate(word: &[u8]) -> Row
+    ensures { result ≡ candidate word.now }
+{
+    row_at(&ROWS, usize::from(PLACES[slot(word)]))
+}
+
 /// The row that the command word names.
 fn named(word: &[u8]) -> Option<Row>
     ensures { MatchOption result ((row : AnyRow) → ¬ (IsCommandWord row word.now)) (λ row. IsCommandWord row word.now) }
 {
-    match word {
-        b"cons" => Some(Row::SpaceAndPart(SpaceAndPart::Cons)),
-        b"gens" => Some(Row::SpaceAndPart(SpaceAndPart::Gens)),
-        b"universe" => Some(Row::Space(Space::Universe)),
-        b"empty" => Some(Row::Space(Space::Empty)),
-        b"copy" => Some(Row::TwoNames(TwoNames::Copy)),
-        b"drop" => Some(Row::OneName(OneName::Drop)),
-        b"add" => Some(Row::NameAndPart(NameAndPart::Add)),
-        b"addgen" => Some(Row::NameAndPart(NameAndPart::Addgen)),
-        b"has" => Some(Row::NameAndPart(NameAndPart::Has)),
-        b"size" => Some(Row::OneName(OneName::Size)),
-        b"print" => Some(Row::Print),
-        b"names" => Some(Row::Names),
-        b"meet" => Some(Row::ThreeNames(ThreeNames::OfTwo(Operator::Meet))),
-        b"hull" => Some(Row::ThreeNames(ThreeNames::OfTwo(Operator::Hull))),
-        b"closure" => Some(Row::TwoNames(TwoNames::Closure)),
-        b"contains" => Some(Row::TwoNames(TwoNames::Compare(Comparison::Contains))),
-        b"equal" => Some(Row::TwoNames(TwoNames::Compare(Comparison::Equal))),
-        b"disjoint" => Some(Row::TwoNames(TwoNames::Compare(Comparison::Disjoint))),
-        b"isempty" => Some(Row::OneName(OneName::Isempty)),
-        b"relation" => Some(Row::NameAndPart(NameAndPart::Relation)),
-        b"max" => Some(Row::NameAndPart(NameAndPart::Bound(Extremum::Max))),
-        b"min" => Some(Row::NameAndPart(NameAndPart::Bound(Extremum::Min))),
-        b"image" => Some(Row::Map(Mapping::Image)),
-        b"preimage" => Some(Row::Map(Mapping::Preimage)),
-        b"embed" => Some(Row::TwoNamesNumber(TwoNamesNumber::Extend(Extension::Embed))),
-        b"project" => Some(Row::TwoNamesNumber(TwoNamesNumber::Extend(Extension::Project))),
-        b"remove" => Some(Row::Remove),
-        b"concat" => Some(Row::ThreeNames(ThreeNames::OfTwo(Operator::Concat))),
-        b"elapse" => Some(Row::ThreeNames(ThreeNames::OfTwo(Operator::Elapse))),
-        b"widen" => Some(Row::ThreeNames(ThreeNames::Widen)),
-        b"read" => Some(Row::NameFormat(NameFormat::Read)),
-        b"write" => Some(Row::NameFormat(NameFormat::Write)),
-        b"system" => Some(Row::System),
-        b"init" => Some(Row::NameNumberName(NameNumberName::Init)),
-        b"trans" => Some(Row::Trans),
-        b"fixpoint" => Some(Row::NameNumberPrefix(NameNumberPrefix::Fixpoint)),
-        b"pset" => Some(Row::TwoNames(TwoNames::Pset)),
-        b"join" => Some(Row::ThreeNames(ThreeNames::OfTwoPowersets(PowersetOperator::Join))),
-        b"pmeet" => Some(Row::ThreeNames(ThreeNames::OfTwoPowersets(PowersetOperator::Meet))),
-        b"member" => Some(Row::TwoNamesNumber(TwoNamesNumber::Member)),
-        b"psize" => Some(Row::OneName(OneName::Psize)),
-        b"covers" => Some(Row::TwoNames(TwoNames::Covers)),
-        b"rank" => Some(Row::TwoNames(TwoNames::Rank)),
-        b"ranking" => Some(Row::OneName(OneName::Ranking)),
-        b"shape" => Some(Row::TwoNames(TwoNames::ShapeOf)),
-        b"bounds" => Some(Row::Bounds),
-        b"smeet" => Some(Row::ThreeNames(ThreeNames::OfTwoShapes(ShapeOperator::Meet))),
-        b"shull" => Some(Row::ThreeNames(ThreeNames::OfTwoShapes(ShapeOperator::Hull))),
-        b"scontains" => Some(Row::TwoNames(TwoNames::ShapeContains)),
-        b"sprint" => Some(Row::OneName(OneName::ShapePrint)),
-        b"spoly" => Some(Row::TwoNames(TwoNames::ShapePoly)),
-        b"hybrid" => Some(Row::TwoNames(TwoNames::Hybrid)),
-        b"inv" => Some(Row::NameNumberName(NameNumberName::SetPart(LocationPart::Invariant))),
-        b"flow" => Some(Row::NameNumberName(NameNumberName::SetPart(LocationPart::Flow))),
-        b"reach" => Some(Row::NameNumberPrefix(NameNumberPrefix::Reach)),
-        _ => None,
+    if word.is_empty() {
+        return None;
+    }
+    let row = candidate(word);
+    if is_word(word, command_word(row)) {
+        Some(row)
+    } else {
+        None
     }
 }
 

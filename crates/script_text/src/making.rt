@@ -2,10 +2,10 @@
 ghost use Rattle.std.specs.Prelude.{◌≡◌, ℕ, List, ◌∷◌, length, take_while, IfOk, MatchResult};
 ghost use Rattle.term_text.specs.Reading.{is_digit, is_upper};
 ghost use Rattle.reply_text.specs.declared.faults.ReadErr.TheVariants as read_err;
-ghost use Rattle.script_text.specs.Commands.{command_of, number_of, is_word, is_strict, begins_strict, part_from, relation_of};
+ghost use Rattle.script_text.specs.Commands.{command_of, number_of, is_strict, begins_strict, part_from, relation_of};
 ghost use Rattle.script_text.specs.Fields.{fields_in};
 ghost use Rattle.script_text.specs.Variables.{variable_of, variables_of};
-ghost use Rattle.script_text.specs.Words.{part_of};
+ghost use Rattle.script_text.specs.Words.{nth_word, part_of};
 ghost use Rattle.script_text.specs.declared.row.Row.TheVariants as row;
 
 use crate::command::{Command, Mapping, Part, Rel, Space};
@@ -14,7 +14,7 @@ use crate::row::{
     ThreeNames, TwoNames, TwoNamesNumber,
 };
 use crate::variables::VarList;
-use crate::words::{part_of, sign_of, split_word, three_words, two_words};
+use crate::words::{is_word, part_of, sign_of, split_word, three_words, two_words};
 use reply_text::{ReadErr, Text};
 use row_core::Memory;
 use std::alloc::Global;
@@ -60,11 +60,34 @@ fn part(alloc: Global, rest: &[u8]) -> Result<Part, Memory>
     })
 }
 
-/// Whether the word is this one.
-fn is_word(word: &[u8], other: &[u8]) -> bool
-    ensures { result ≡ is_word word.now other.now }
+/// Copies of the first two words.
+fn two_texts(alloc: Global, rest: &[u8]) -> Result<(Text, Text), Memory>
+    ensures { IfOk result (λ t. (t.0 ≡ nth_word 0 rest.now) × (t.1 ≡ nth_word 1 rest.now)) }
 {
-    word == other
+    let (first, second) = two_words(rest);
+    let first = text(alloc, first)?;
+    let second = text(alloc, second)?;
+    Ok((first, second))
+}
+
+/// Copies of the first three words.
+fn three_texts(alloc: Global, rest: &[u8]) -> Result<(Text, Text, Text), Memory>
+    ensures { IfOk result (λ t. (t.0 ≡ nth_word 0 rest.now) × (t.1 ≡ nth_word 1 rest.now) × (t.2 ≡ nth_word 2 rest.now)) }
+{
+    let (first, behind) = split_word(rest);
+    let first = text(alloc, first)?;
+    let (second, third) = two_texts(alloc, behind)?;
+    Ok((first, second, third))
+}
+
+/// A copy of the first word, and the part behind the colon.
+fn text_and_part(alloc: Global, rest: &[u8]) -> Result<(Text, Part), Memory>
+    ensures { IfOk result (λ t. (t.0 ≡ nth_word 0 rest.now) × (t.1 ≡ part_from (part_of rest.now))) }
+{
+    let (first, _) = split_word(rest);
+    let first = text(alloc, first)?;
+    let part = part(alloc, rest)?;
+    Ok((first, part))
 }
 
 /// The number that digits spell; `u64::MAX` stands for all greater ones too.
@@ -155,9 +178,7 @@ fn of_one_name(alloc: Global, kind: OneName, rest: &[u8]) -> Result<Command, Rea
 fn of_name_part(alloc: Global, kind: NameAndPart, rest: &[u8]) -> Result<Command, ReadErr>
     ensures { MatchResult result (λ c. c ≡ command_of (row.NameAndPart kind) (fields_in rest.now)) (λ e. e ≡ read_err.Memory) }
 {
-    let (first, _) = split_word(rest);
-    let p = text(alloc, first)?;
-    let part = part(alloc, rest)?;
+    let (p, part) = text_and_part(alloc, rest)?;
     Ok(match kind {
         NameAndPart::Add => Command::Add { p, cons: part },
         NameAndPart::Addgen => Command::Addgen { p, gens: part },
@@ -171,9 +192,7 @@ fn of_name_part(alloc: Global, kind: NameAndPart, rest: &[u8]) -> Result<Command
 fn of_two_names(alloc: Global, kind: TwoNames, rest: &[u8]) -> Result<Command, ReadErr>
     ensures { MatchResult result (λ c. c ≡ command_of (row.TwoNames kind) (fields_in rest.now)) (λ e. e ≡ read_err.Memory) }
 {
-    let (first, second) = two_words(rest);
-    let p = text(alloc, first)?;
-    let q = text(alloc, second)?;
+    let (p, q) = two_texts(alloc, rest)?;
     Ok(match kind {
         TwoNames::Copy => Command::Copy { out: p, p: q },
         TwoNames::Closure => Command::Closure { out: p, p: q },
@@ -192,10 +211,7 @@ fn of_two_names(alloc: Global, kind: TwoNames, rest: &[u8]) -> Result<Command, R
 fn of_three_names(alloc: Global, kind: ThreeNames, rest: &[u8]) -> Result<Command, ReadErr>
     ensures { MatchResult result (λ c. c ≡ command_of (row.ThreeNames kind) (fields_in rest.now)) (λ e. e ≡ read_err.Memory) }
 {
-    let (first, second, third) = three_words(rest);
-    let out = text(alloc, first)?;
-    let p = text(alloc, second)?;
-    let q = text(alloc, third)?;
+    let (out, p, q) = three_texts(alloc, rest)?;
     Ok(match kind {
         ThreeNames::OfTwo(op) => Command::OfTwo { op, out, p, q },
         ThreeNames::Widen => Command::Widen { out, p, q },
@@ -231,11 +247,10 @@ fn of_space(alloc: Global, space: Space, rest: &[u8]) -> Result<Command, ReadErr
 fn of_space_part(alloc: Global, kind: SpaceAndPart, rest: &[u8]) -> Result<Command, ReadErr>
     ensures { MatchResult result (λ c. c ≡ command_of (row.SpaceAndPart kind) (fields_in rest.now)) (λ e. e ≡ read_err.Memory) }
 {
-    let (first, second, third) = three_words(rest);
-    let out = text(alloc, first)?;
+    let (out, part) = text_and_part(alloc, rest)?;
+    let (_, second, third) = three_words(rest);
     let top = is_word(second, b"nnc");
     let n = number(third);
-    let part = part(alloc, rest)?;
     Ok(match kind {
         SpaceAndPart::Cons => Command::Cons {
             out,
@@ -256,9 +271,8 @@ fn of_space_part(alloc: Global, kind: SpaceAndPart, rest: &[u8]) -> Result<Comma
 fn of_two_names_number(alloc: Global, kind: TwoNamesNumber, rest: &[u8]) -> Result<Command, ReadErr>
     ensures { MatchResult result (λ c. c ≡ command_of (row.TwoNamesNumber kind) (fields_in rest.now)) (λ e. e ≡ read_err.Memory) }
 {
-    let (first, second, third) = three_words(rest);
-    let out = text(alloc, first)?;
-    let p = text(alloc, second)?;
+    let (out, p) = two_texts(alloc, rest)?;
+    let (_, _, third) = three_words(rest);
     let n = number(third);
     Ok(match kind {
         TwoNamesNumber::Extend(by) => Command::Extend { by, out, p, n },
@@ -270,14 +284,16 @@ fn of_two_names_number(alloc: Global, kind: TwoNamesNumber, rest: &[u8]) -> Resu
 fn of_map(alloc: Global, by: Mapping, rest: &[u8]) -> Result<Command, ReadErr>
     ensures { MatchResult result (λ c. c ≡ command_of (row.Map by) (fields_in rest.now)) (λ e. e ≡ read_err.Memory) }
 {
-    let (first, second, third) = three_words(rest);
+    let frac = part(alloc, rest)?;
+    let (out, p) = two_texts(alloc, rest)?;
+    let (_, _, third) = three_words(rest);
     Ok(Command::Map {
         by,
-        out: text(alloc, first)?,
-        p: text(alloc, second)?,
+        out,
+        p,
         v: variable(third),
         rel: relation(sign_of(rest)),
-        frac: part(alloc, rest)?,
+        frac,
     })
 }
 
@@ -345,12 +361,9 @@ fn print_command(alloc: Global, rest: &[u8]) -> Result<Command, ReadErr>
 fn remove_command(alloc: Global, rest: &[u8]) -> Result<Command, ReadErr>
     ensures { MatchResult result (λ c. c ≡ command_of row.Remove (fields_in rest.now)) (λ e. e ≡ read_err.Memory) }
 {
-    let (first, second) = two_words(rest);
-    Ok(Command::Remove {
-        out: text(alloc, first)?,
-        p: text(alloc, second)?,
-        vars: variables(alloc, part_of(rest))?,
-    })
+    let vars = variables(alloc, part_of(rest))?;
+    let (out, p) = two_texts(alloc, rest)?;
+    Ok(Command::Remove { out, p, vars })
 }
 
 /// `system`, with a name and two numbers.
@@ -369,11 +382,12 @@ fn system_command(alloc: Global, rest: &[u8]) -> Result<Command, ReadErr>
 fn bounds_command(alloc: Global, rest: &[u8]) -> Result<Command, ReadErr>
     ensures { MatchResult result (λ c. c ≡ command_of row.Bounds (fields_in rest.now)) (λ e. e ≡ read_err.Memory) }
 {
-    let (first, second) = two_words(rest);
+    let (out, cons) = text_and_part(alloc, rest)?;
+    let (_, second) = two_words(rest);
     Ok(Command::Bounds {
-        out: text(alloc, first)?,
+        out,
         n: number(second),
-        cons: part(alloc, rest)?,
+        cons,
     })
 }
 

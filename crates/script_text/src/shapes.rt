@@ -1,4 +1,5 @@
 //! What stands behind a command word, decided by a machine for each shape of lines.
+ghost use Rattle.grammar.specs.Machine.{Decides};
 ghost use Rattle.grammar.specs.Verdict.{IsVerdict};
 ghost use Rattle.script_text.specs.Rows.{nothing_form, rest_form, shape_of};
 ghost use Rattle.script_text.specs.declared.row.Row.TheVariants as row;
@@ -9,28 +10,54 @@ use crate::tables::{
     NAME_NAT_NAT_NAME, NAME_NAT_PREFIX, NO_WORDS, NOTHING, ONE_NAME, OPTIMUM, PRINT, RELATION,
     REMOVE, SPACE, THREE_NAMES, TWO_NAMES, TWO_NAMES_NAT,
 };
-use grammar::Verdict;
+use grammar::{Machine, Verdict};
 
-/// Whether the text is what may stand behind the command word, a name and a part.
-fn name_part_verdict(kind: NameAndPart, rest: &[u8]) -> Verdict
-    ensures { IsVerdict (rest_form (shape_of (row.NameAndPart kind))) rest.now result }
+/// The machine of a name and a part.
+fn name_part_machine(kind: NameAndPart) -> Machine<'static>
+    ensures { Decides result.classes.now result.steps.now result.ends.now (rest_form (shape_of (row.NameAndPart kind))) }
 {
     match kind {
-        NameAndPart::Add => ADD.column(rest),
-        NameAndPart::Addgen => ADDGEN.column(rest),
-        NameAndPart::Has => HAS.column(rest),
-        NameAndPart::Relation => RELATION.column(rest),
-        NameAndPart::Bound(_) => OPTIMUM.column(rest),
+        NameAndPart::Add => ADD,
+        NameAndPart::Addgen => ADDGEN,
+        NameAndPart::Has => HAS,
+        NameAndPart::Relation => RELATION,
+        NameAndPart::Bound(_) => OPTIMUM,
     }
 }
 
-/// Whether the text is what may stand behind the command word, a name, a topology, a number and a part.
-fn space_part_verdict(kind: SpaceAndPart, rest: &[u8]) -> Verdict
-    ensures { IsVerdict (rest_form (shape_of (row.SpaceAndPart kind))) rest.now result }
+/// The machine of a name, a topology, a number and a part.
+fn space_part_machine(kind: SpaceAndPart) -> Machine<'static>
+    ensures { Decides result.classes.now result.steps.now result.ends.now (rest_form (shape_of (row.SpaceAndPart kind))) }
 {
     match kind {
-        SpaceAndPart::Cons => CONS.column(rest),
-        SpaceAndPart::Gens => GENS.column(rest),
+        SpaceAndPart::Cons => CONS,
+        SpaceAndPart::Gens => GENS,
+    }
+}
+
+/// The machine of what may stand behind the command word of the row.
+fn machine_of(row: Row) -> Machine<'static>
+    ensures { Decides result.classes.now result.steps.now result.ends.now (rest_form (shape_of row)) }
+{
+    match row {
+        Row::Nothing => NO_WORDS,
+        Row::Names => NO_WORDS,
+        Row::OneName(_) => ONE_NAME,
+        Row::NameAndPart(kind) => name_part_machine(kind),
+        Row::TwoNames(_) => TWO_NAMES,
+        Row::ThreeNames(_) => THREE_NAMES,
+        Row::Space(_) => SPACE,
+        Row::SpaceAndPart(kind) => space_part_machine(kind),
+        Row::TwoNamesNumber(_) => TWO_NAMES_NAT,
+        Row::Map(_) => IMAGE,
+        Row::NameFormat(_) => FILE,
+        Row::NameNumberName(_) => NAME_NAT_NAME,
+        Row::NameNumberPrefix(_) => NAME_NAT_PREFIX,
+        Row::Print => PRINT,
+        Row::Remove => REMOVE,
+        Row::System => NAME_NAT_NAT,
+        Row::Trans => NAME_NAT_NAT_NAME,
+        Row::Bounds => BOUNDS,
     }
 }
 
@@ -39,26 +66,7 @@ fn space_part_verdict(kind: SpaceAndPart, rest: &[u8]) -> Verdict
 pub fn rest_verdict(row: Row, rest: &[u8]) -> Verdict
     ensures { IsVerdict (rest_form (shape_of row)) rest.now result }
 {
-    match row {
-        Row::Nothing => NO_WORDS.column(rest),
-        Row::Names => NO_WORDS.column(rest),
-        Row::OneName(_) => ONE_NAME.column(rest),
-        Row::NameAndPart(kind) => name_part_verdict(kind, rest),
-        Row::TwoNames(_) => TWO_NAMES.column(rest),
-        Row::ThreeNames(_) => THREE_NAMES.column(rest),
-        Row::Space(_) => SPACE.column(rest),
-        Row::SpaceAndPart(kind) => space_part_verdict(kind, rest),
-        Row::TwoNamesNumber(_) => TWO_NAMES_NAT.column(rest),
-        Row::Map(_) => IMAGE.column(rest),
-        Row::NameFormat(_) => FILE.column(rest),
-        Row::NameNumberName(_) => NAME_NAT_NAME.column(rest),
-        Row::NameNumberPrefix(_) => NAME_NAT_PREFIX.column(rest),
-        Row::Print => PRINT.column(rest),
-        Row::Remove => REMOVE.column(rest),
-        Row::System => NAME_NAT_NAT.column(rest),
-        Row::Trans => NAME_NAT_NAT_NAME.column(rest),
-        Row::Bounds => BOUNDS.column(rest),
-    }
+    machine_of(row).column(rest)
 }
 
 /// Whether the line is blank, or a comment alone.

@@ -1,5 +1,6 @@
 //! The words of a line.
 ghost use Rattle.std.specs.Prelude.{◌≡◌, ◌≤◌, length, take_while, reverse};
+ghost use Rattle.script_text.specs.Commands.{is_word};
 ghost use Rattle.script_text.specs.Words.{is_blank, is_sign, is_in_word, is_before_sign, is_before_comment, past_blanks, before_blanks, word_of, behind_word, nth_word, before_comment, from_sign, sign_len, sign_of, part_of};
 
 /// How many blanks stand in front.
@@ -35,6 +36,13 @@ fn word_len(text: &[u8]) -> usize
     text.iter()
         .take_while(|b| !(**b == b' ' || **b == b'\t' || **b == b'#' || is_sign(**b)))
         .count()
+}
+
+/// Whether the word is this one.
+pub fn is_word(word: &[u8], other: &[u8]) -> bool
+    ensures { result ≡ is_word word.now other.now }
+{
+    word == other
 }
 
 /// The text without the blanks in front.

@@ -2,7 +2,7 @@ use Rattle.std.proofs.Common.{◌≡◌, [], take}
 use Rattle.grammar.specs.Shape.{shape}
 use Rattle.grammar.specs.Rows.{shapes_of}
 use Rattle.grammar.proofs.Columns.{Means}
-use Rattle.grammar.proofs.column.column_of.Given as goal
+use Rattle.grammar.proofs.column.column_from.Given as goal
 
 abbrev pub invariant-loop-index : goal.invariant-loop-index
 invariant-loop-index l = record {

@@ -4,7 +4,7 @@ use Rattle.grammar.specs.Rows.{rows_of, shapes_of}
 use Rattle.grammar.proofs.Columns.{Means, means_start, means_step, column_within, column_behind, matches_from_end}
 use Rattle.grammar.proofs.Lives.{shape_lives}
 use Rattle.grammar.proofs.RowSteps.{no_rows}
-use Rattle.grammar.proofs.column.column_of.Goals as goal
+use Rattle.grammar.proofs.column.column_from.Goals as goal
 
 pub loop-index-init : goal.loop-index-init
 loop-index-init c =
@@ -39,8 +39,8 @@ returns-then-some_ends c =
     matches_from_end (shape c.args.form.now) c.args.text.now (shapes_of c.loop-index.rows)
     (subst (λ x. Means (shape c.args.form.now) x (shapes_of c.loop-index.rows)) whole c.loop-index.invariant.means) (sym c.some_ends.ensures ∙ c.if-some_ends.true)
 
-pub returns : goal.returns
-returns c =
+pub returns-else-some_ends : goal.returns-else-some_ends
+returns-else-some_ends c =
     let whole : take c.loop-index.index c.args.text.now ≡ c.args.text.now = take_all c.loop-index.index c.args.text.now (omega arith) in
     column_behind (shape c.args.form.now) c.args.text.now (shapes_of c.loop-index.rows)
     (subst (λ x. Means (shape c.args.form.now) x (shapes_of c.loop-index.rows)) whole c.loop-index.invariant.means)

@@ -1,0 +1,15 @@
+use Rattle.std.specs.Prelude.{◌≡◌, ◌+◌, List, ℤ, pos, negsuc, length}
+use Rattle.std.proofs.Common.{arith, rules, ap, sym, replicate, ◌∙◌}
+use Rattle.bd_shape.specs.Differences.{with_place, difference}
+use Rattle.bd_shape.proofs.DifferenceRows.{length_difference, written_back}
+use Rattle.bd_shape.proofs.rows.difference.Goals as goal
+
+pub returns : goal.returns
+returns c =
+    let entries = c.in_ok-entries.entries in
+    let zeros : c.in_ok-entries.entries.items ≡ replicate (c.args.dim + 1) (pos 0) = search rules in
+    let put : c.put_both.new.row ≡ difference c.args.dim c.args.i c.args.j =
+    c.put_both.ensures ∙ ap (λ (row : List ℤ). with_place (with_place row c.args.i (pos 1)) c.args.j (negsuc 0)) (c.as_mut_slice.ensures.value ∙ zeros) in
+    let all : length c.put_both.new.row ≡ c.in_ok-entries.entries.len =
+    ap length put ∙ length_difference c.args.dim c.args.i c.args.j ∙ sym c.in_ok-entries.ensures.len in
+    c.from_vec.ensures ∙ written_back entries.len entries.items c.put_both.new.row all (omega (arith, c.in_ok-entries.entries.ok)) ∙ put
