@@ -1,9 +1,9 @@
 pub mod CutLines
 mod DistinctNames
-mod EffectLemmas
 mod HybridLemmas
 mod LatticeOnce
 pub mod LineLemmas
+mod OnPolyhedra
 mod OptimaOnce
 mod PowersetLemmas
 mod QuestionLemmas
@@ -13,4 +13,3 @@ pub mod SaysOnce
 mod ShapeLemmas
 pub mod StepLemmas
 mod SystemLemmas
-mod UniquePrints

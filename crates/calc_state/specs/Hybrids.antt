@@ -7,10 +7,9 @@ use Rattle.hybrid.specs.Systems.{HybridSystem, with_invariant, with_flow}
 use Rattle.hybrid.specs.Reaches.{AreReached, LeavesInReach, IncludeInitial, AreClosedUnderFlow, AreClosedUnderJumps}
 use Rattle.script_text.specs.declared.command.LocationPart.{LocationPart}
 use Rattle.script_text.specs.declared.command.LocationPart.TheVariants.{Invariant, Flow}
-use Rattle.calc_state.specs.declared.change.Change.{Change}
-use Rattle.calc_state.specs.Table.{Table, as_hybrid}
+use Rattle.calc_state.specs.Table.{Table, as_hybrid, Change}
 use Rattle.line_values.specs.Meaning.{Meaning, no_overflow, room}
-use Rattle.calc_state.specs.Effects.{IsPutAs, AreAllPut}
+use Rattle.line_values.specs.Effects.{IsPutAs, AreAllPut}
 use Rattle.calc_state.specs.Systems.{misfits, run_conditions}
 
 -- ---- making

@@ -1,14 +1,11 @@
 pub mod Changes
-pub mod Effects
 pub mod Entries
 pub mod Families
 pub mod Hybrids
 pub mod Laws
 pub mod Line
 pub mod Meanings
-pub mod Names
 pub mod Powersets
-pub mod Prints
 pub mod Rankings
 pub mod Reading
 pub mod Runs

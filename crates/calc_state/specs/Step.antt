@@ -1,17 +1,16 @@
 -- The steps of the calculator.
-use Rattle.std.specs.Prelude.{◌≡◌, ℕ, List, [], ◌∷◌, ◌++◌, Result, Ok, Err, All, codes}
+use Rattle.std.specs.Prelude.{◌≡◌, ℕ, List, Result, Ok, Err, All}
 use Rattle.row_core.specs.declared.errors.Overflow.{Overflow}
-use Rattle.row_core.specs.declared.errors.Memory.{Memory}
 use Rattle.reply_text.specs.declared.faults.Fault.{Fault}
 use Rattle.script_text.specs.declared.command.Command.{Command}
 use Rattle.script_text.specs.declared.command.Command.TheVariants.{Has, Size, Print, Names, Compare, Isempty, Relation, Bound, Write, Psize, ShapePrint}
 use Rattle.script_text.specs.declared.command.Comparison.TheVariants as comparison
-use Rattle.calc_state.specs.declared.change.Change.{Change}
-use Rattle.calc_state.specs.declared.change.Change.TheVariants.{Says, Puts, PutsAll, TakesOut}
+use Rattle.line_values.specs.declared.change.Change.TheVariants.{Puts, PutsAll}
+use Rattle.line_values.specs.Effects.{lines_of, after as after_of}
 use Rattle.line_values.specs.declared.refusal.StepErr.{StepErr}
 use Rattle.line_values.specs.declared.refusal.StepErr.TheVariants as err
-use Rattle.name_table.specs.Table.{put, put_each, without}
-use Rattle.calc_state.specs.Table.{Table, numbered_sets}
+use Rattle.calc_state.specs.declared.entry.Entry.TheVariants as entry
+use Rattle.calc_state.specs.Table.{Table, Change}
 use Rattle.poly_commands.specs.Proper.{IsProper}
 use Rattle.calc_state.specs.Entries.{IsKeptEntry}
 use Rattle.line_values.specs.Order.{IsFirst, Passes}
@@ -27,26 +26,9 @@ pub data Reply : Type 0 where
   -- the arithmetic of the line leaves the range
   Overflows : Overflow → Reply
 
--- the reply to a line that makes or changes something
-abbrev pub ok_line : List ℕ
-ok_line = codes "ok" ++ 10 ∷ []
-
--- the lines of the reply
-abbrev pub lines_of : Change → List ℕ
-lines_of (Says text) = text
-lines_of other = ok_line
-
 -- the table after the change
 abbrev pub after : Table → Change → Table
-after table (Says text) = table
-after table (Puts name e) = put table name e
-after table (PutsAll prefix sets) = put_each table (numbered_sets prefix 0 sets.items)
-after table (TakesOut name) = without table name
-
--- the change is made and its lines are given, or memory ran out and the table is as before
-abbrev pub Shows : Table → Change → Result (List ℕ) Memory → Table → Type 0
-Shows old change (Ok lines) new = (lines ≡ lines_of change) × (new ≡ after old change)
-Shows old change (Err memory) new = new ≡ old
+after table change = after_of entry.Poly table change
 
 -- what a change puts keeps what its kind keeps
 abbrev pub PutsProper : Change → Type 0

@@ -3,7 +3,7 @@ ghost use Rattle.std.specs.Prelude.{ℕ, List};
 ghost use Rattle.std.specs.Option.{option_copied};
 ghost use Rattle.line_values.specs.Meaning.{on_one};
 ghost use Rattle.calc_state.specs.Hybrids.{hybrid as make_hybrid, set_part, reach as run_hybrid};
-ghost use Rattle.calc_state.specs.Effects.{all_placed};
+ghost use Rattle.line_values.specs.Effects.{all_placed};
 ghost use Rattle.calc_state.specs.Changes.{as_entry, IsTested};
 ghost use Rattle.line_values.specs.Performed.{IsPerformed};
 ghost use Rattle.calc_state.specs.declared.entry.Entry.TheVariants as entry;

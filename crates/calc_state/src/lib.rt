@@ -2,8 +2,7 @@
 //!
 //! - [`Calc`] is the calculator, and [`Calc::step`] takes a line, and [`Calc::finish`] ends a script.
 //! - [`StepErr`] says why a line was not accepted.
-//! - [`one_first`], [`one_reply`], [`names_stay_distinct`] and [`prints_tell_points`] are laws of the
-//!   definitions that the contracts cite.
+//! - [`one_first`], [`one_reply`] and [`names_stay_distinct`] are laws of the definitions that the contracts cite.
 #![tactic(auto)]
 
 mod calc;
@@ -11,7 +10,6 @@ mod change;
 mod entry;
 mod hybrids;
 mod laws;
-mod listing;
 mod operands;
 mod parts;
 mod perform;
@@ -21,5 +19,5 @@ mod shapes;
 mod systems;
 
 pub use calc::Calc;
-pub use laws::{names_stay_distinct, one_first, one_reply, prints_tell_points};
+pub use laws::{names_stay_distinct, one_first, one_reply};
 pub use line_values::StepErr;

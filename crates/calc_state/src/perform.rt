@@ -1,176 +1,27 @@
 //! What each command does, from the table as it stands.
-ghost use Rattle.std.specs.Prelude.{◌≡◌};
 ghost use Rattle.script_text.specs.Line.{PartsMatch, PartsTold};
 ghost use Rattle.calc_state.specs.Meanings.{meaning};
 ghost use Rattle.line_values.specs.Performed.{IsPerformed};
 ghost use Rattle.calc_state.specs.Changes.{ChangesPart, IsTestedIn};
-ghost use Rattle.calc_state.specs.Families.{Makes, Asks, Combines, AsksKinds, MakesKinds};
+ghost use Rattle.calc_state.specs.Families.{AsksKinds, MakesKinds};
 
-use crate::change::{
-    Change, put_hybrid, put_numbered, put_poly, put_powerset, put_shape, put_system, say,
-};
+use crate::change::{put_hybrid, put_powerset, put_shape, put_system};
 use crate::entry::Entry;
 use crate::hybrids::{hybrid, reach, replaced_part};
-use crate::listing::{drop_name, name_list};
-use crate::operands::{
-    hybrid_at, hybrid_under, is_full, is_max, poly_at, poly_under, powerset_at, shape_at,
-    system_at, system_under, topology_of,
-};
+use crate::operands::{hybrid_at, hybrid_under, powerset_at, shape_at, system_at, system_under};
 use crate::parts::{PartChange, of_entry};
 use crate::powersets::{covers, member, of_two_powersets, pset, psize};
 use crate::rankings::{rank, ranking};
 use crate::shapes::{bounds, of_two_shapes, shape_contains, shape_of_set, shape_poly, shape_print};
 use crate::systems::{added_transition, fixpoint, replaced_initial, system};
-use line_values::StepErr;
+use line_values::{Change, StepErr, put_numbered, put_poly, say};
 use name_table::Names;
-use poly_commands::{
-    add, addgen, bound, closure, compare, cons, copy, extend, gens, has, isempty, mapped_by,
-    of_two, print, relation, remove, size, space, widen, write,
-};
+use poly_commands::{is_full, perform, poly_at};
 use reply_text::Text;
 use row_core::Steps;
 use script_text::Command;
 use std::alloc::Global;
 use std::sync::ledger::Ledger;
-
-/// What a command that makes or changes a polyhedron by its words does, or why it is refused.
-fn made<L: Ledger>(
-    alloc: Global,
-    names: &Names<Entry>,
-    command: Command,
-    steps: &mut Steps<L>,
-) -> Result<Change, StepErr>
-    requires forms { PartsMatch command }
-    requires told { PartsTold command }
-    requires family { Makes command }
-    ensures { IsPerformed (meaning names.now command) result }
-{
-    match command {
-        Command::Cons {
-            out,
-            top,
-            n,
-            cons: part,
-        } => {
-            let full = is_full(names, &out);
-            put_poly(out, cons(alloc, topology_of(top), n, &part, full, steps))
-        }
-        Command::Gens {
-            out,
-            top,
-            n,
-            gens: part,
-        } => {
-            let full = is_full(names, &out);
-            put_poly(out, gens(alloc, topology_of(top), n, &part, full, steps))
-        }
-        Command::Space {
-            space: kind,
-            out,
-            top,
-            n,
-        } => {
-            let full = is_full(names, &out);
-            put_poly(out, space(alloc, kind, topology_of(top), n, full))
-        }
-        Command::Copy { out, p } => {
-            let full = is_full(names, &out);
-            put_poly(out, copy(poly_at(names, p), full))
-        }
-        Command::Drop { name } => drop_name(names, name),
-        Command::Add { p, cons: part } => {
-            let made = add(alloc, poly_under(names, &p), &part, steps);
-            put_poly(p, made)
-        }
-        Command::Addgen { p, gens: part } => {
-            let made = addgen(alloc, poly_under(names, &p), &part, steps);
-            put_poly(p, made)
-        }
-        _ => unreachable!(),
-    }
-}
-
-/// What a question does, or why it is refused.
-fn asked<L: Ledger>(
-    alloc: Global,
-    names: &Names<Entry>,
-    command: Command,
-    steps: &mut Steps<L>,
-) -> Result<Change, StepErr>
-    requires forms { PartsMatch command }
-    requires told { PartsTold command }
-    requires family { Asks command }
-    ensures { IsPerformed (meaning names.now command) result }
-{
-    match command {
-        Command::Has { p, point } => say(has(alloc, poly_at(names, p), &point)),
-        Command::Size { p } => say(size(alloc, poly_at(names, p))),
-        Command::Print { side, p } => say(print(alloc, side, poly_at(names, p))),
-        Command::Names => say(name_list(names)),
-        Command::Compare { by, p, q } => {
-            let one = poly_at(names, p);
-            say(compare(alloc, by, one, poly_at(names, q), steps))
-        }
-        Command::Isempty { p } => say(isempty(alloc, poly_at(names, p))),
-        Command::Relation { p, con } => say(relation(alloc, poly_at(names, p), &con)),
-        Command::Bound { of, p, expr } => {
-            say(bound(alloc, is_max(of), poly_at(names, p), &expr))
-        }
-        Command::Write { p, form } => say(write(alloc, form, poly_at(names, p))),
-        _ => unreachable!(),
-    }
-}
-
-/// What a command that puts a set made of one or two others, or an image of one, does, or why it is refused.
-fn combined<L: Ledger>(
-    alloc: Global,
-    names: &Names<Entry>,
-    command: Command,
-    steps: &mut Steps<L>,
-) -> Result<Change, StepErr>
-    requires forms { PartsMatch command }
-    requires told { PartsTold command }
-    requires family { Combines command }
-    ensures { IsPerformed (meaning names.now command) result }
-{
-    match command {
-        Command::OfTwo { op, out, p, q } => {
-            let full = is_full(names, &out);
-            let one = poly_at(names, p);
-            put_poly(out, of_two(alloc, op, one, poly_at(names, q), full, steps))
-        }
-        Command::Closure { out, p } => {
-            let full = is_full(names, &out);
-            put_poly(out, closure(alloc, poly_at(names, p), full, steps))
-        }
-        Command::Widen { out, p, q } => {
-            let full = is_full(names, &out);
-            let one = poly_at(names, p);
-            put_poly(out, widen(alloc, one, poly_at(names, q), full, steps))
-        }
-        Command::Map {
-            by,
-            out,
-            p,
-            v,
-            rel,
-            frac,
-        } => {
-            let full = is_full(names, &out);
-            let found = poly_at(names, p);
-            put_poly(out, mapped_by(alloc, by, found, v, rel, &frac, full, steps))
-        }
-        Command::Extend { by, out, p, n } => {
-            let full = is_full(names, &out);
-            put_poly(out, extend(alloc, by, poly_at(names, p), n, full, steps))
-        }
-        Command::Remove { out, p, vars } => {
-            let full = is_full(names, &out);
-            put_poly(out, remove(alloc, poly_at(names, p), &vars, full, steps))
-        }
-        _ => unreachable!(),
-    }
-}
 
 /// What a question of a powerset, of a shape or of a relation does, or why it is refused.
 fn asked_of_kinds<L: Ledger>(
@@ -178,7 +29,7 @@ fn asked_of_kinds<L: Ledger>(
     names: &Names<Entry>,
     command: Command,
     steps: &mut Steps<L>,
-) -> Result<Change, StepErr>
+) -> Result<Change<Entry>, StepErr>
     requires family { AsksKinds command }
     ensures { IsPerformed (meaning names.now command) result }
 {
@@ -205,7 +56,7 @@ fn made_of_kinds<L: Ledger>(
     names: &Names<Entry>,
     command: Command,
     steps: &mut Steps<L>,
-) -> Result<Change, StepErr>
+) -> Result<Change<Entry>, StepErr>
     requires forms { PartsMatch command }
     requires told { PartsTold command }
     requires family { MakesKinds command }
@@ -265,36 +116,13 @@ pub fn change_of<L: Ledger>(
     names: &Names<Entry>,
     command: Command,
     steps: &mut Steps<L>,
-) -> Result<Change, StepErr>
+) -> Result<Change<Entry>, StepErr>
     requires forms { PartsMatch command }
     requires told { PartsTold command }
     requires whole { ¬ (ChangesPart command) }
     ensures { IsPerformed (meaning names.now command) result }
 {
     match command {
-        Command::Nothing | Command::Read { .. } => Ok(Change::Says(Text::new(alloc))),
-        Command::Cons { .. }
-        | Command::Gens { .. }
-        | Command::Space { .. }
-        | Command::Copy { .. }
-        | Command::Drop { .. }
-        | Command::Add { .. }
-        | Command::Addgen { .. } => { made(alloc, names, command, steps) }
-        Command::Has { .. }
-        | Command::Size { .. }
-        | Command::Print { .. }
-        | Command::Names
-        | Command::Compare { .. }
-        | Command::Isempty { .. }
-        | Command::Relation { .. }
-        | Command::Bound { .. }
-        | Command::Write { .. } => { asked(alloc, names, command, steps) }
-        Command::OfTwo { .. }
-        | Command::Closure { .. }
-        | Command::Widen { .. }
-        | Command::Map { .. }
-        | Command::Extend { .. }
-        | Command::Remove { .. } => { combined(alloc, names, command, steps) }
         Command::Psize { .. }
         | Command::Covers { .. }
         | Command::Ranking { .. }
@@ -319,6 +147,7 @@ pub fn change_of<L: Ledger>(
             put_numbered(prefix, made)
         }
         Command::Init { .. } | Command::Trans { .. } | Command::SetPart { .. } => unreachable!(),
+        command => perform(alloc, names, command, steps),
     }
 }
 

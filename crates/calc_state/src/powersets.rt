@@ -1,24 +1,17 @@
 //! The commands that make and combine powersets, and those that ask about them.
-ghost use Rattle.std.specs.Prelude.{◌≡◌, ◌++◌, ◌∷◌, [], ◌≤◌, codes, IfOk, IfErr};
+ghost use Rattle.std.specs.Prelude.{◌≡◌, IfOk, IfErr};
 ghost use Rattle.std.specs.Option.{option_copied};
-ghost use Rattle.row_core.specs.Points.{IsPoint};
-ghost use Rattle.row_core.specs.Content.{IsPrimitive};
 ghost use Rattle.row_core.specs.Refusals.{IsOverflowIn};
-ghost use Rattle.gens_sys.specs.declared.kind.GenKind.TheVariants.{Point};
-ghost use Rattle.expr_text.specs.Printed.{generator_text};
-ghost use Rattle.poly_pair.specs.declared.topology.TheConstants.{MAX_DIM};
-ghost use Rattle.line_values.specs.Meaning.{on_one, on_two, line};
+ghost use Rattle.line_values.specs.Meaning.{on_one, on_two};
 ghost use Rattle.calc_state.specs.Powersets.{pset as make_pset, of_two_powersets as make_of_two, member as make_member, psize as tell_size, covers as ask_covers, IsPowersetOf, LeavesInPowersets, members_text};
 ghost use Rattle.line_values.specs.Performed.{IsPerformed};
 
-use expr_text::print_gen;
-use gens_sys::{GenKind, GenPushErr, GensSys};
-use line_values::StepErr;
+use line_values::{StepErr, no_with_point};
 use poly_commands::answer;
 use poly_pair::Poly;
 use powerset::{Cover, Powerset, join, pmeet};
 use reply_text::{Fault, Text};
-use row_core::{ConvErr, Memory, RowBuf, Steps};
+use row_core::{ConvErr, Memory, Steps};
 use script_text::PowersetOperator;
 use std::alloc::Global;
 use std::sync::ledger::Ledger;
@@ -143,38 +136,7 @@ pub fn covers<L: Ledger>(
     }
     match powerset::covers(alloc, s, t, steps) {
         Ok(Cover::Yes) => Ok(answer(alloc, true)?),
-        Ok(Cover::No(point)) => Ok(uncovered(alloc, dim, point)?),
+        Ok(Cover::No(point)) => Ok(no_with_point(alloc, dim, point)?),
         Err(cause) => Err(StepErr::from(cause)),
-    }
-}
-
-/// The line `no` with a point.
-fn uncovered(alloc: Global, dim: usize, point: RowBuf) -> Result<Text, Memory>
-    requires narrow { dim ≤ MAX_DIM }
-    requires point { IsPoint dim point }
-    requires primitive { IsPrimitive point }
-    ensures { IfOk result (λ text. text ≡ line (codes "no " ++ generator_text dim (point, Point))) }
-{
-    let gens = only_point(alloc, dim, point)?;
-    let mut text = Text::new(alloc);
-    text.push(b"no ")?;
-    text.push(print_gen(alloc, &gens, 0)?.bytes())?;
-    text.push(b"\n")?;
-    Ok(text)
-}
-
-/// The system of the one point.
-fn only_point(alloc: Global, dim: usize, point: RowBuf) -> Result<GensSys, Memory>
-    requires narrow { dim ≤ MAX_DIM }
-    requires point { IsPoint dim point }
-    requires primitive { IsPrimitive point }
-    ensures dim { IfOk result (λ gens. gens.dim ≡ dim) }
-    ensures list { IfOk result (λ gens. gens.list ≡ (point, Point) ∷ []) }
-{
-    let mut gens = GensSys::new(alloc, dim);
-    match gens.push_row(point, GenKind::Point) {
-        Ok(()) => Ok(gens),
-        Err(GenPushErr::Memory) => Err(Memory),
-        Err(_) => unreachable!(),
     }
 }

@@ -4,7 +4,7 @@ ghost use Rattle.std.specs.Option.{option_copied};
 ghost use Rattle.poly_pair.specs.Polyhedra.{Polyhedron};
 ghost use Rattle.line_values.specs.Meaning.{on_one};
 ghost use Rattle.calc_state.specs.Systems.{system as make_system, init, trans, fixpoint as run_system};
-ghost use Rattle.calc_state.specs.Effects.{all_placed};
+ghost use Rattle.line_values.specs.Effects.{all_placed};
 ghost use Rattle.calc_state.specs.Changes.{as_entry, IsTested};
 ghost use Rattle.line_values.specs.Performed.{IsPerformed};
 ghost use Rattle.calc_state.specs.declared.entry.Entry.TheVariants as entry;

@@ -1,3 +1,5 @@
+mod ChangeLemmas
+pub mod EffectLemmas
 pub mod FaultOrder
 mod FractionTexts
 pub mod PerformedLemmas

@@ -1,13 +1,21 @@
-//! Why a line is refused, and what the parts of a line say.
+//! Why a line is refused, what the parts of a line say, and what a command says or does to the table of names.
 //!
 //! - [`StepErr`] says why a line was not accepted.
 //! - [`constraints_of`], [`generators_of`], [`point_of`], [`constraint_of`], [`expression_of`] and
 //!   [`fraction_of`] read the part of a line, or give its first fault.
+//! - [`Change`] is what an accepted command does, over entries of which some are polyhedra ([`PolyEntry`]), and
+//!   [`no_with_point`] an answer.
 #![tactic(auto)]
 
+mod change;
+mod entry;
+mod points;
 mod refusal;
 mod texts;
 
+pub use change::{Change, ok, put_entry, put_numbered, put_poly, say};
+pub use entry::PolyEntry;
+pub use points::no_with_point;
 pub use refusal::StepErr;
 pub use texts::{
     constraint_of, constraints_of, expression_of, fraction_of, generators_of, point_of,

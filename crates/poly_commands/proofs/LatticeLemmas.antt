@@ -1,17 +1,30 @@
 -- What came of the questions how polyhedra lie.
 use Rattle.std.proofs.Common.{◌≡◌, ℕ, List, Ok, Err, Result, Bool, false, IsTrue, ◌↔◌, sym, ◌∙◌, ap}
+use Rattle.row_core.specs.declared.errors.ConvErr.{ConvErr}
+use Rattle.row_core.specs.declared.errors.ConvErr.TheVariants as conversion
 use Rattle.row_core.specs.declared.errors.Overflow.{Overflow}
 use Rattle.row_core.specs.declared.errors.PairOver.{PairOver}
+use Rattle.chernikova.specs.Conversion.{IsRealOverflow}
 use Rattle.poly_pair.specs.Polyhedra.{Polyhedron}
+use Rattle.poly_pair.specs.TopologyLists.{list_width}
+use Rattle.lattice_ops.specs.Sets.{meet_list}
 use Rattle.lattice_ops.specs.Questions.{Answers, LeavesRange}
-use Rattle.line_values.specs.Meaning.{answer_line}
-use Rattle.poly_commands.specs.Lattice.{IsTold, IsTested, ShowsRows, shown_rows, shown_on}
+use Rattle.line_values.specs.Order.{Passes}
+use Rattle.line_values.specs.Meaning.{alike, no_fault, answer_line}
+use Rattle.line_values.specs.Performed.{IsPerformed}
+use Rattle.line_values.specs.Refusals.{refusal_of_conversion}
+use Rattle.poly_commands.specs.Lattice.{disjoint, IsTold, IsTested, ShowsRows, shown_rows, shown_on}
 
 pub told : (Statement : Type 0) (holds : Bool) (text : List ℕ) → IsTrue holds ↔ Statement → text ≡ answer_line holds → IsTold Statement text
 told Statement holds text true_of said = record { holds = holds; true_of = true_of; said = said }
 
 pub tested : (Answer : Result Bool PairOver → Type 0) (Statement : Type 0) (holds : Bool) (text : List ℕ) → Answer (Ok holds) → IsTrue holds ↔ Statement → text ≡ answer_line holds → IsTested Answer Statement text
 tested Answer Statement holds text answer true_of said = record { told = record { holds = holds; true_of = true_of; said = said }; tested = answer }
+
+-- the conversion of the list of both left the range
+pub disjoint_leaves : (p q : Polyhedron) (e : ConvErr) → Passes (alike p q no_fault) → IsRealOverflow (list_width p.topology p.cons.dim) (meet_list p q) e → IsPerformed (disjoint p q) (Err (refusal_of_conversion e))
+disjoint_leaves p q (conversion.Overflow over) passes leaves = (passes, leaves)
+disjoint_leaves p q conversion.Memory passes leaves = tt
 
 -- the rows of a pair, by whose constraint and whose generator it has
 pub shows : (Answer : Result Bool PairOver → Type 0) (p q : Polyhedron) (pair : PairOver) (turned : Bool) (over : Overflow) → Answer (Err pair) → pair.turned ≡ turned → over ≡ shown_on turned p q pair → ShowsRows Answer p q over

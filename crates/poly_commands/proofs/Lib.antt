@@ -6,4 +6,5 @@ mod MapLemmas
 pub mod OperatorLemmas
 mod OptimaLemmas
 mod PointLemmas
+mod UniquePrints
 mod WideningLemmas

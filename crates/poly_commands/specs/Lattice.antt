@@ -5,6 +5,7 @@ use Rattle.row_core.specs.declared.errors.PairOver.{PairOver}
 use Rattle.cons_sys.specs.Constraints.{Constraints, row_at}
 use Rattle.gens_sys.specs.Generators.{Generators}
 use Rattle.gens_sys.specs.Generators.{row_at as vector_at}
+use Rattle.cone_laws.specs.Leaves.{Leaves}
 use Rattle.pair_laws.specs.WorkLists.{LeavesOn}
 use Rattle.poly_pair.specs.Polyhedra.{Polyhedron, HasNoPoint}
 use Rattle.poly_pair.specs.TopologyLists.{list_width}
@@ -71,7 +72,7 @@ equal p q = record {
 abbrev pub disjoint : Polyhedron → Polyhedron → Meaning (List ℕ)
 disjoint p q = record {
   conditions = alike p q no_fault;
-  overflows = LeavesOn (list_width p.topology p.cons.dim) p.cons.dim (meet_list p q);
+  overflows = Leaves (list_width p.topology p.cons.dim) (meet_list p q);
   does = IsTold (AreDisjoint p q);
 }
 

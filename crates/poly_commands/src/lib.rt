@@ -1,14 +1,19 @@
-//! The commands on polyhedra, from the operands that a line names to what it makes or says of them.
+//! The commands on polyhedra and on the table of names, from a line's words to what it does or why it is refused.
 //!
-//! A maker is told whether the table of names is full, and answers the set; a question answers its line. Each
-//! does what its meaning says: the first fault in the order of faults, an overflow of its own arithmetic, or an
-//! answer that is right.
+//! [`perform`] looks the operands up, in a table of which some entries are polyhedra, and hands them to the command's
+//! function. A maker is told whether the table of names is full, and answers the set; a question answers its line.
+//! Each does what its meaning says: the first fault in the order of faults, an overflow of its own arithmetic, or an
+//! answer that is right. [`prints_tell_points`] is a law of what is printed.
 #![tactic(auto)]
 
 mod affine;
+mod commands;
 mod files;
 mod lattice;
+mod laws;
 mod makers;
+mod names;
+mod operands;
 mod operators;
 mod optima;
 mod proper;
@@ -16,13 +21,9 @@ mod questions;
 mod reading;
 mod widenings;
 
-pub use affine::{mapped_by, remove};
-pub use files::{format_of, write};
-pub use lattice::{closure, compare, isempty};
-pub use makers::{add, addgen, cons, copy, gens, space};
-pub use operators::{extend, of_two};
-pub use optima::{bound, relation};
+pub use commands::perform;
+pub use laws::prints_tell_points;
+pub use operands::{is_full, poly_at, poly_under};
 pub use proper::is_proper;
-pub use questions::{answer, has, print, size};
+pub use questions::answer;
 pub use reading::{OpenFile, read_whole};
-pub use widenings::widen;

@@ -3,12 +3,11 @@ use Rattle.std.proofs.Common.{◌≡◌, ℕ, List, refl, ap, ◌∙◌, subst}
 use Rattle.std.specs.Prelude.{Option, None, Some, MatchOption}
 use Rattle.calc_state.specs.declared.entry.Entry.{Entry}
 use Rattle.calc_state.specs.declared.entry.Entry.TheVariants as entry
-use Rattle.calc_state.specs.declared.change.Change.{Change}
-use Rattle.calc_state.specs.declared.change.Change.TheVariants.{Says, Puts, PutsAll, TakesOut}
+use Rattle.line_values.specs.declared.change.Change.TheVariants.{Says, Puts, PutsAll, TakesOut}
 use Rattle.calc_state.specs.Entries.{IsKeptEntry}
-use Rattle.calc_state.specs.Table.{as_poly, as_system, as_powerset, as_shape, as_hybrid}
+use Rattle.calc_state.specs.Table.{as_poly, as_system, as_powerset, as_shape, as_hybrid, Change}
 use Rattle.calc_state.specs.Changes.{as_entry}
-use Rattle.calc_state.specs.Effects.{IsPutAs}
+use Rattle.line_values.specs.Effects.{IsPutAs}
 use Rattle.calc_state.specs.Step.{PutsProper}
 use Rattle.run_laws.specs.Sets.{IsMadeAs}
 

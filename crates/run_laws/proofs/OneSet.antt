@@ -40,7 +40,7 @@ use Rattle.calc_state.specs.Systems.{AreReached}
 use Rattle.calc_state.specs.Powersets.{IsPowersetOf}
 use Rattle.calc_state.specs.Shapes.{IsShapeOfSet, IsShapeOfConstraints, IsShapeBy, IsPolyOfShape}
 use Rattle.calc_state.specs.Hybrids.{IsStill, with_part, AreReachedParts}
-use Rattle.calc_state.specs.Meanings.{topology_of}
+use Rattle.poly_commands.specs.Meanings.{topology_of}
 use Rattle.poly_commands.specs.Files.{format_of}
 use Rattle.run_laws.specs.Acts.{Act, Did, Took}
 use Rattle.run_laws.specs.Sets.{IsMade, IsCut, IsCutOf, IsAdded, IsJoined, IsOfFit, IsOfClosed, IsOfNested, IsMemberAt, IsRankedBy, AreAlikeUnions, HaveOneDim, sets, GivesPoly, GivesSystem, GivesPowerset, GivesShape, GivesHybrid, GivesEntry, GivesFile, IsEntryOf, IsSetOf}

@@ -21,24 +21,24 @@ use Rattle.script_text.specs.declared.command.Command.{Command}
 use Rattle.script_text.specs.declared.command.Command.TheVariants.{Nothing, Cons, Gens, Space, Copy, Drop, Add, Addgen, Has, Size, Print, Names, OfTwo, Closure, Compare, Isempty, Relation, Bound, Map, Extend, Remove, Widen, Read, Write, System, Init, Trans, Fixpoint, Pset, OfTwoPowersets, Member, Psize, Covers, Rank, Ranking, ShapeOf, Bounds, OfTwoShapes, ShapeContains, ShapePrint, ShapePoly, Hybrid, SetPart, Reach}
 use Rattle.calc_state.specs.declared.entry.Entry.{Entry}
 use Rattle.calc_state.specs.declared.entry.Entry.TheVariants as entry
-use Rattle.calc_state.specs.declared.change.Change.{Change}
-use Rattle.calc_state.specs.declared.change.Change.TheVariants.{Says, Puts, PutsAll, TakesOut}
+use Rattle.line_values.specs.declared.change.Change.TheVariants.{Says, Puts, PutsAll, TakesOut}
 use Rattle.poly_commands.specs.Proper.{IsProper}
 use Rattle.name_table.specs.Table.{entry_of, has_no_room, HasDistinctNames}
-use Rattle.calc_state.specs.Table.{Table, as_poly, poly_of, as_system, system_of, as_powerset, powerset_of, as_shape, shape_of, as_hybrid, hybrid_of}
+use Rattle.calc_state.specs.Table.{Table, as_poly, poly_of, as_system, system_of, as_powerset, powerset_of, as_shape, shape_of, as_hybrid, hybrid_of, Change}
 use Rattle.line_values.specs.Order.{Passes}
 use Rattle.line_values.specs.Meaning.{Meaning, on_one, on_two, no_fault, line, says}
-use Rattle.calc_state.specs.Effects.{IsPutAs, AreAllPut, IsTakenOut, puts, tells}
-use Rattle.calc_state.specs.Meanings.{meaning, topology_of}
+use Rattle.line_values.specs.Effects.{IsPutAs, AreAllPut, IsTakenOut, puts, tells, lines_of, ok_line}
+use Rattle.poly_commands.specs.Meanings.{topology_of}
+use Rattle.calc_state.specs.Meanings.{meaning}
 use Rattle.poly_commands.specs.Makers.{cons, gens, space_of, copy, add, addgen}
 use Rattle.name_table.specs.Listing.{spaced, names_text}
-use Rattle.calc_state.specs.Names.{names as tell_names, drop_of}
+use Rattle.poly_commands.specs.Names.{names as tell_names, drop_of}
 use Rattle.poly_commands.specs.Questions.{has, size, print, size_text, side_text}
 use Rattle.poly_commands.specs.Optima.{relation, bound, is_max}
 use Rattle.poly_commands.specs.Lattice.{closure, compared, isempty, IsTold}
 use Rattle.poly_commands.specs.Operators.{operated, extended}
 use Rattle.poly_commands.specs.Affine.{mapped_by, remove}
-use Rattle.calc_state.specs.Step.{Reply, IsAccepted, lines_of, ok_line}
+use Rattle.calc_state.specs.Step.{Reply, IsAccepted}
 use Rattle.poly_commands.specs.Widening.{widen}
 use Rattle.calc_state.specs.Systems.{system, AreReached, init, trans, fixpoint}
 use Rattle.trans_sys.specs.Systems.{with_initial, with_transition}

@@ -42,7 +42,7 @@ use Rattle.name_table.specs.Listing.{spaced}
 use Rattle.poly_commands.specs.Optima.{relation_text, bound_text, is_max}
 use Rattle.calc_state.specs.Powersets.{members_text, cover_line}
 use Rattle.poly_commands.specs.Files.{file_of}
-use Rattle.calc_state.specs.Step.{ok_line}
+use Rattle.line_values.specs.Effects.{ok_line}
 use Rattle.run_laws.specs.Acts.{Act, Did, Took, Accepted, acts}
 use Rattle.run_laws.specs.Sets.{IsMade, AreAlike, AreAlikeUnions, HaveOneDim, IsEntryOf, names_of}
 

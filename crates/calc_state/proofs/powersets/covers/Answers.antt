@@ -19,14 +19,14 @@ returns-in_ok-answer-in-Ok-Yes g c =
     let dims : s.dim ≡ t.dim = search rules in
     rw c.in-Some-Some.is-0 (rw c.in-Some-Some.is-1 (told s t Yes c.in_ok-answer-in-Ok-Yes.field-0 topologies dims (rw c.in-Ok-Yes.field-0-is at c.in-Ok-Yes.ensures.answer) c.in_ok-answer-in-Ok-Yes.ensures))
 
-pub returns-in_ok-uncovered-in-Ok-No : goal.returns-in_ok-uncovered-in-Ok-No
-returns-in_ok-uncovered-in-Ok-No g c =
+pub returns-in_ok-no_with_point-in-Ok-No : goal.returns-in_ok-no_with_point-in-Ok-No
+returns-in_ok-no_with_point-in-Ok-No g c =
     let s : Union = c.in-Some-Some.s.now in
     let t : Union = c.in-Some-Some.t.now in
     let topologies : s.topology ≡ t.topology = search rules in
     let dims : s.dim ≡ t.dim = search rules in
-    let said = c.in_ok-uncovered-in-Ok-No.ensures ∙ ap (λ (n : ℕ). line (codes "no " ++ generator_text n (c.in-Ok-No.point, Point))) c.dim-dim.ensures.value in
-    rw c.in-Some-Some.is-0 (rw c.in-Some-Some.is-1 (told s t (No c.in-Ok-No.point) c.in_ok-uncovered-in-Ok-No.field-0 topologies dims (rw c.in-Ok-No.field-0-is at c.in-Ok-No.ensures.answer) said))
+    let said = c.in_ok-no_with_point-in-Ok-No.ensures ∙ ap (λ (n : ℕ). line (codes "no " ++ generator_text n (c.in-Ok-No.point, Point))) c.dim-dim.ensures.value in
+    rw c.in-Some-Some.is-0 (rw c.in-Some-Some.is-1 (told s t (No c.in-Ok-No.point) c.in_ok-no_with_point-in-Ok-No.field-0 topologies dims (rw c.in-Ok-No.field-0-is at c.in-Ok-No.ensures.answer) said))
 
 pub returns-in-Err : goal.returns-in-Err
 returns-in-Err g c =

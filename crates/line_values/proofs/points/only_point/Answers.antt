@@ -3,7 +3,7 @@ use Rattle.std.specs.Prelude.{ℤ}
 use Rattle.gens_sys.specs.Generators.{Generator}
 use Rattle.gens_sys.specs.declared.kind.GenKind.TheVariants.{Point}
 use Rattle.row_core.proofs.OnePrimitive.{stored_as_is}
-use Rattle.calc_state.proofs.powersets.only_point.Goals as goal
+use Rattle.line_values.proofs.points.only_point.Goals as goal
 
 pub returns-in-Ok-clause-list : goal.returns-in-Ok-clause-list
 returns-in-Ok-clause-list c =

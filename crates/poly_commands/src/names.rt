@@ -2,16 +2,14 @@
 ghost use Rattle.std.specs.Prelude.{◌≡◌};
 ghost use Rattle.name_table.specs.Table.{entry_of};
 ghost use Rattle.line_values.specs.Performed.{IsPerformed};
-ghost use Rattle.calc_state.specs.Names.{names as tell_names, drop_of};
+ghost use Rattle.poly_commands.specs.Names.{names as tell_names, drop_of};
 
-use crate::change::Change;
-use crate::entry::Entry;
-use line_values::StepErr;
+use line_values::{Change, PolyEntry, StepErr};
 use name_table::Names;
 use reply_text::{Fault, Text};
 
 /// The number of names, and the names in order.
-pub fn name_list(names: &Names<Entry>) -> Result<Text, StepErr>
+pub fn name_list<E: PolyEntry>(names: &Names<E>) -> Result<Text, StepErr>
     ensures { IsPerformed (tell_names names.now) result }
 {
     let mut text = names.list()?;
@@ -20,7 +18,7 @@ pub fn name_list(names: &Names<Entry>) -> Result<Text, StepErr>
 }
 
 /// Takes a name out.
-pub fn drop_name(names: &Names<Entry>, name: Text) -> Result<Change, StepErr>
+pub fn drop_name<E: PolyEntry>(names: &Names<E>, name: Text) -> Result<Change<E>, StepErr>
     ensures { IsPerformed (drop_of name (entry_of names.now name)) result }
 {
     match names.get(name.bytes()) {

@@ -21,7 +21,7 @@ use Rattle.lattice_ops.specs.Sets.{HaveSamePoints}
 use Rattle.line_values.specs.Meaning.{line}
 use Rattle.poly_commands.specs.Questions.{side_text}
 use Rattle.poly_commands.specs.Proper.{IsProper}
-use Rattle.calc_state.specs.Prints.{PrintsTellPoints}
+use Rattle.poly_commands.specs.Prints.{PrintsTellPoints}
 
 -- the laws that are cited: a closed set is stored in one way, by systems of one dimension; both hold the same points; what is printed is read back
 pub record PrintLaws : Type 0 where

@@ -1,5 +1,5 @@
-use Rattle.calc_state.proofs.UniquePrints.{prints_tell_points}
-use Rattle.calc_state.proofs.laws.prints_tell_points.Goals as goal
+use Rattle.poly_commands.proofs.UniquePrints.{prints_tell_points}
+use Rattle.poly_commands.proofs.laws.prints_tell_points.Goals as goal
 
 pub returns : goal.returns
 returns c = prints_tell_points (record {
