@@ -1,5 +1,6 @@
-// The lines of bench/make_loops.py by the Parma Polyhedra Library: reads them on standard input, and answers each
-// by a line on standard output, as a program over PPL's C++ calls would, with PPL's own printing of constraints.
+// The lines of bench/make_loops.py and of bench/make_systems.py by the Parma Polyhedra Library: reads them on standard
+// input, and answers each by a line on standard output, as a program over PPL's C++ calls would, with PPL's own
+// printing of constraints.
 #include <cctype>
 #include <gmpxx.h>
 #include <iostream>
@@ -8,6 +9,7 @@
 #include <ppl.hh>
 #include <sstream>
 #include <string>
+#include <vector>
 
 namespace ppl = Parma_Polyhedra_Library;
 using ppl::Constraint_System;
@@ -101,12 +103,98 @@ struct Reader {
 
 static std::map<std::string, Set> names;
 
+struct Transition {
+  std::size_t source, target;
+  ppl::C_Polyhedron relation;
+};
+
+struct System {
+  ppl::dimension_type dim = 0;
+  std::vector<ppl::C_Polyhedron> initial;
+  std::vector<Transition> transitions;
+};
+
+static std::map<std::string, System> systems;
+
+// What the states of a set lead to by a relation between a state and its successor.
+static ppl::C_Polyhedron post(const ppl::C_Polyhedron& set, const Transition& transition, ppl::dimension_type dim) {
+  ppl::C_Polyhedron pairs(set);
+  pairs.add_space_dimensions_and_embed(dim);
+  pairs.intersection_assign(transition.relation);
+  ppl::Variables_Set before;
+  for (ppl::dimension_type i = 0; i < dim; ++i)
+    before.insert(i);
+  pairs.remove_space_dimensions(before);
+  return pairs;
+}
+
+// The sets that rounds of all transitions leave as they are, each with so many updates before it is widened.
+static std::vector<ppl::C_Polyhedron> limit(const System& s, unsigned delay) {
+  std::vector<ppl::C_Polyhedron> sets = s.initial;
+  std::vector<unsigned> left(sets.size(), delay);
+  for (bool changed = true; changed;) {
+    changed = false;
+    for (const Transition& t : s.transitions) {
+      if (sets[t.source].is_empty())
+        continue;
+      ppl::C_Polyhedron next = post(sets[t.source], t, s.dim);
+      ppl::C_Polyhedron& old = sets[t.target];
+      if (old.contains(next))
+        continue;
+      next.poly_hull_assign(old);
+      if (left[t.target] > 0)
+        --left[t.target];
+      else
+        next.H79_widening_assign(old);
+      old = next;
+      changed = true;
+    }
+  }
+  return sets;
+}
+
+static std::string system_answer(const std::string& line) {
+  std::istringstream words(line);
+  std::string word, name, set;
+  words >> word >> name;
+  System& s = systems[name];
+  if (word == "system") {
+    std::size_t locations;
+    words >> s.dim >> locations;
+    s.initial.assign(locations, ppl::C_Polyhedron(s.dim, ppl::EMPTY));
+    s.transitions.clear();
+    return "ok";
+  }
+  std::size_t source, target;
+  words >> source;
+  if (word == "init") {
+    words >> set;
+    s.initial[source] = *names[set].closed;
+    return "ok";
+  }
+  if (word == "trans") {
+    words >> target >> set;
+    s.transitions.push_back({source, target, *names[set].closed});
+    return "ok";
+  }
+  words >> set;
+  std::vector<ppl::C_Polyhedron> sets = limit(s, source);
+  for (std::size_t i = 0; i < sets.size(); ++i) {
+    Set result;
+    result.closed.reset(new ppl::C_Polyhedron(sets[i]));
+    names[set + std::to_string(i)] = std::move(result);
+  }
+  return "ok";
+}
+
 static std::string answer(const std::string& line) {
   std::size_t colon = line.find(':');
   std::istringstream words(line.substr(0, colon));
   const char* part = colon == std::string::npos ? "" : line.c_str() + colon + 1;
   std::string word, out, one, two;
   words >> word >> out >> one >> two;
+  if (word == "system" || word == "init" || word == "trans" || word == "fixpoint")
+    return system_answer(line);
   if (word == "cons") {
     Constraint_System all = Reader(part).constraints();
     all.set_space_dimension(std::stoi(two));
