@@ -1,12 +1,14 @@
 -- The successors in pairs, by the constraints of these and by columns.
 use Rattle.std.specs.List.{range_with_len}
 use Rattle.std.proofs.Common.{◌≡◌, ℕ, zero, suc, ◌+◌, ◌*◌, ◌<◌, List, [], ◌∷◌, ◌++◌, length, drop, ℤ, refl, sym, ap, ◌∙◌, subst, arith, All}
+use Rattle.std.specs.Prelude.{Option, Some, None}
 use Rattle.std.proofs.lemmas.List.FromFn.{get_or-range_with_len, length-range_with_len}
 use Rattle.std.proofs.lemmas.List.Elements.{All-append, All-from_get_or}
 use Rattle.row_core.specs.Points.{IsPoint, IsSamePoint}
 use Rattle.row_core.specs.declared.errors.ConvErr.{ConvErr}
 use Rattle.row_core.specs.declared.errors.ConvErr.TheVariants as conversion
 use Rattle.cons_sys.specs.Constraints.{Constraint, Constraints, In, Satisfies}
+use Rattle.gens_sys.specs.Generators.{Generators}
 use Rattle.pair_laws.specs.PointSets.{IsWithin, AreClosed, IsClosedKind}
 use Rattle.pair_laws.proofs.ListLemmas.{All-left, All-right}
 use Rattle.poly_pair.specs.declared.topology.Topology.TheVariants.{Closed}
@@ -14,9 +16,9 @@ use Rattle.poly_pair.specs.TopologyLists.{AreConstraintsFor}
 use Rattle.poly_pair.specs.Polyhedra.{Polyhedron, IsKept}
 use Rattle.poly_pair.proofs.StoredLemmas.{kept_constraints}
 use Rattle.affine_ops.specs.Maps.{with_zeros, without, picked}
-use Rattle.affine_ops.specs.Posts.{IsStepTo, IsPost, HasPairOf, AreSuccessors}
+use Rattle.affine_ops.specs.Posts.{IsStepTo, IsPost, SpanPostIfAny, HasPairOf, AreSuccessors}
 use Rattle.affine_ops.specs.Refusals.{IsOverflowIn}
-use Rattle.affine_ops.specs.Shadows.{IsShadow, LeavesOnShadow}
+use Rattle.affine_ops.specs.Shadows.{HasSource, IsShadow, SpanShadowIfAny, LeavesOnShadow}
 use Rattle.affine_ops.proofs.AddedVariables.{remaining_back, kept_last}
 use Rattle.affine_ops.proofs.PulledSets.{MeetsAt, pulled_holds, holds_pulled}
 use Rattle.affine_ops.proofs.PulledResults.{pulled_kinds, padded_meets}
@@ -89,14 +91,14 @@ module _ (p relation steps : Constraints) (s : IsStepSystem p relation steps) wh
     holds = subst (All (Satisfies v)) (sym s.joined) (All-append (Satisfies v) relation.list s.front (All-right (Satisfies v) s.front relation.list w.holds) (All-left (Satisfies v) s.front relation.list w.holds));
   }
 
+  pub turned_pair : (dim : ℕ) (y : List ℤ) → HasPairOf dim steps y → HasPairOf dim turned y
+  turned_pair dim y h = record { pair = h.pair; within = turned_within h.pair h.within; target = h.target }
+
+  pub pair_turned : (dim : ℕ) (y : List ℤ) → HasPairOf dim turned y → HasPairOf dim steps y
+  pair_turned dim y h = record { pair = h.pair; within = within_turned h.pair h.within; target = h.target }
+
   pub turned_successors : (dim : ℕ) (r : Polyhedron) → AreSuccessors dim steps r → AreSuccessors dim turned r
-  turned_successors dim r are = record {
-    over = are.over;
-    points = λ y pt. (
-      (λ h. let of = (are.points y pt).0 h in record { pair = of.pair; within = turned_within of.pair of.within; target = of.target }),
-      (λ h. (are.points y pt).1 (record { pair = h.pair; within = within_turned h.pair h.within; target = h.target })),
-    );
-  }
+  turned_successors dim r are = record { over = are.over; points = λ y pt. ((λ h. turned_pair dim y ((are.points y pt).0 h)), (λ h. (are.points y pt).1 (pair_turned dim y h))) }
 
   pub steps_closed : AreClosed turned → AreClosed steps
   steps_closed h = subst (All IsClosed) (sym s.joined) (All-append IsClosed relation.list s.front (All-right IsClosed s.front relation.list h) (All-left IsClosed s.front relation.list h))
@@ -128,14 +130,43 @@ later_is n d v twice wide =
     subst (λ (k : ℕ). picked (later n) k v ≡ drop n v) e
     (ap (λ (columns : List ℕ). picked columns (n + n) v) (sym (kept_last n n)) ∙ remaining_back n n v (omega (arith, wide, e)))
 
+pair_of_source : (n : ℕ) (cs : Constraints) → cs.dim ≡ 2 * n → (y : List ℤ) → HasSource (picked (later n) cs.dim) cs y → HasPairOf n cs y
+pair_of_source n cs twice y h = record { pair = h.source; within = h.within; target = subst (IsSamePoint y) (later_is n cs.dim h.source twice h.within.point.wide) h.same }
+
+source_of_pair : (n : ℕ) (cs : Constraints) → cs.dim ≡ 2 * n → (y : List ℤ) → HasPairOf n cs y → HasSource (picked (later n) cs.dim) cs y
+source_of_pair n cs twice y h = record { source = h.pair; within = h.within; same = subst (IsSamePoint y) (sym (later_is n cs.dim h.pair twice h.within.point.wide)) h.target }
+
 pub successors_of_shadow : (n : ℕ) (cs : Constraints) → cs.dim ≡ 2 * n → (r : Polyhedron) → IsShadow Closed (picked (later n) cs.dim) (length (later n)) cs r → AreSuccessors n cs r
 successors_of_shadow n cs twice r s = record {
   over = record { same_topology = s.over.same_topology; same_dim = s.over.same_dim ∙ later_many n };
   points = λ y pt. let points = s.points y (subst (λ (d : ℕ). IsPoint d y) (sym (later_many n)) pt) in (
-    (λ h. let source = points.0 h in record { pair = source.source; within = source.within; target = subst (IsSamePoint y) (later_is n cs.dim source.source twice source.within.point.wide) source.same }),
-    (λ h. points.1 (record { source = h.pair; within = h.within; same = subst (IsSamePoint y) (sym (later_is n cs.dim h.pair twice h.within.point.wide)) h.target })),
+    (λ h. pair_of_source n cs twice y (points.0 h)),
+    (λ h. points.1 (source_of_pair n cs twice y h)),
   );
 }
+
+-- ---- generators of the successors
+module _ (p relation : Polyhedron) (steps : Constraints) (twice : relation.cons.dim ≡ 2 * p.cons.dim) (s : IsStepSystem p.cons relation.cons steps) where
+  both : steps.dim ≡ 2 * p.cons.dim
+  both = s.same_dim ∙ twice
+
+  step_of_source : (y : List ℤ) → HasSource (picked (later p.cons.dim) steps.dim) steps y → IsStepTo p.cons relation.cons y
+  step_of_source y h = step_of_pair p.cons relation.cons (turned p.cons relation.cons steps s) twice (turned_pairs p.cons relation.cons steps s) y (turned_pair p.cons relation.cons steps s p.cons.dim y (pair_of_source p.cons.dim steps both y h))
+
+  pair_of_step_to : (y : List ℤ) → IsStepTo p.cons relation.cons y → HasPairOf p.cons.dim steps y
+  pair_of_step_to y h = pair_turned p.cons relation.cons steps s p.cons.dim y (pair_of_step p.cons relation.cons (turned p.cons relation.cons steps s) twice (turned_pairs p.cons relation.cons steps s) y h)
+
+  pub spans_post : (found : Option Generators) → SpanShadowIfAny Closed (picked (later p.cons.dim) steps.dim) (length (later p.cons.dim)) steps found → SpanPostIfAny p relation found
+  spans_post None none = λ y h. let pair = pair_of_step_to y h in none pair.pair pair.within
+  spans_post (Some gs) span = record {
+    same_dim = span.is_system.mapped.same_dim ∙ later_many p.cons.dim;
+    kinds = span.kinds;
+    point = span.point;
+    points = λ y pt. let points = span.points y (subst (λ (d : ℕ). IsPoint d y) (sym (later_many p.cons.dim)) pt) in (
+      (λ h. step_of_source y (points.0 h)),
+      (λ h. points.1 (source_of_pair p.cons.dim steps both y (pair_of_step_to y h))),
+    );
+  }
 
 pub steps_overflow : (p relation : Polyhedron) (steps : Constraints) → IsStepSystem p.cons relation.cons steps → (e : ConvErr) → IsOverflowIn (LeavesOnShadow Closed (picked (later p.cons.dim) steps.dim) p.cons.dim steps) e → IsOverflowIn (LeavesOnSteps p relation) e
 steps_overflow p relation steps s (conversion.Overflow over) l = record { steps = steps; are_steps = s; leaves = l }

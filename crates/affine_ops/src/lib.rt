@@ -2,10 +2,11 @@
 //!
 //! - [`image`] and [`preimage`] replace a variable by what stands in an [`ImageRel`] to an expression.
 //! - [`embed`], [`project`] and [`remove_dims`] add and take away variables.
-//! - [`concat`] gives the product of two sets.
-//! - [`shadow`] keeps some columns of the points at which constraints hold, and [`shadow_from`] begins with the
-//!   stored pair of a polyhedron.
-//! - [`post_from`] is the set of all successors of the states of a set by a relation.
+//! - [`concat`] gives the product of two sets, and [`padded_constraints`] constraints over more variables.
+//! - [`shadow`] keeps some columns of the points at which constraints hold, [`shadow_from`] begins with the stored
+//!   pair of a polyhedron, and [`shadow_generators_from`] gives generators alone.
+//! - [`post_from`] is the set of all successors of the states of a set by a relation, and [`post_generators`] gives
+//!   generators of it.
 //!
 //! [`laws`] says which of them undo each other, and what images by relations are.
 #![tactic(auto)]
@@ -26,6 +27,7 @@ mod substitution;
 
 pub use dimensions::{concat, embed, project, remove_dims};
 pub use images::{image, preimage};
-pub use posts::{later_variables, post_from};
+pub use posts::{later_variables, post_from, post_generators};
+pub use pulled::padded_constraints;
 pub use relations::ImageRel;
-pub use shadows::{shadow, shadow_from};
+pub use shadows::{shadow, shadow_from, shadow_generators_from};

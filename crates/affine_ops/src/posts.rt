@@ -3,12 +3,13 @@ ghost use Rattle.std.specs.Prelude.{◌≡◌, ◌*◌, ◌≤◌, IfOk, IfErr};
 ghost use Rattle.poly_pair.specs.declared.topology.Topology.TheVariants.{Closed};
 ghost use Rattle.poly_pair.specs.declared.topology.TheConstants.{MAX_DIM};
 ghost use Rattle.affine_ops.specs.Refusals.{IsOverflowIn};
-ghost use Rattle.affine_ops.specs.Posts.{IsPost};
+ghost use Rattle.affine_ops.specs.Posts.{IsPost, SpanPostIfAny};
 ghost use Rattle.affine_ops.specs.PostLists.{later, IsStepSystem, LeavesOnSteps};
 
 use crate::pulled::padded_constraints;
-use crate::shadows::shadow_from;
+use crate::shadows::{shadow_from, shadow_generators_from};
 use cons_sys::ConsSys;
+use gens_sys::GensSys;
 use poly_pair::{MAX_DIM, Poly};
 use row_core::{ConvErr, Memory, Steps};
 use std::alloc::Global;
@@ -60,4 +61,28 @@ pub fn post_from<L: Ledger>(
     let pairs = step_constraints(alloc, p.cons(), relation.cons())?;
     let columns = later_variables(alloc, p.dim())?;
     shadow_from(alloc, relation, &pairs, &columns, steps)
+}
+
+/// Generators of what [`post_from`] gives, or nothing where no state of the set has a successor.
+///
+/// # Errors
+///
+/// An overflow is one of the conversion of the list of the relation's constraints and then the set's.
+pub fn post_generators<L: Ledger>(
+    alloc: Global,
+    p: &Poly,
+    relation: &Poly,
+    steps: &mut Steps<L>,
+) -> Result<Option<GensSys>, ConvErr>
+    requires closed { p.now.topology ≡ Closed }
+    requires closed_relation { relation.now.topology ≡ Closed }
+    requires dim { relation.now.cons.dim ≡ 2 * p.now.cons.dim }
+    ensures generators { IfOk result (SpanPostIfAny p.now relation.now) }
+    ensures overflow { IfErr result (IsOverflowIn (LeavesOnSteps p.now relation.now)) }
+    ensures no_fewer { steps.old ≤ steps.new }
+{
+    prove!(relation.dim() <= MAX_DIM);
+    let pairs = step_constraints(alloc, p.cons(), relation.cons())?;
+    let columns = later_variables(alloc, p.dim())?;
+    shadow_generators_from(alloc, relation, &pairs, &columns, steps)
 }

@@ -3,7 +3,8 @@ use Rattle.std.proofs.Common.{sym, ◌∙◌, ap, subst}
 use Rattle.std.proofs.lemmas.List.Elements.{All-get_or, All-push, All-append}
 use Rattle.row_core.specs.Vectors.{dot}
 use Rattle.row_core.specs.Points.{IsSamePoint}
-use Rattle.cons_sys.specs.Constraints.{Constraint, Constraints, constraint_at, IsConstraint, FitDimension, Satisfies, In}
+use Rattle.cons_sys.specs.Constraints.{Constraint, Constraints, constraint_at, row_at, kind_at, IsConstraint, FitDimension, Satisfies, In}
+use Rattle.cons_sys.specs.declared.kind.ConKind.{ConKind}
 use Rattle.cons_sys.specs.declared.kind.ConKind.TheVariants.{Eq}
 use Rattle.row_core.proofs.DotLemmas.{dot-scale}
 use Rattle.cons_sys.proofs.Signs.{same_sign, Allows-same_sign}
@@ -11,6 +12,13 @@ use Rattle.cons_sys.proofs.Signs.{same_sign, Allows-same_sign}
 -- constraint i fits the dimension
 pub IsConstraint-at : (cs : Constraints) (i : ℕ) → FitDimension cs → i < length cs.list → IsConstraint cs.dim (constraint_at cs.list i)
 IsConstraint-at cs i fits h = All-get_or (IsConstraint cs.dim) cs.list i ([], Eq) h fits.each
+
+-- a row and a kind make a constraint
+pub one_constraint : (list : List Constraint) (i : ℕ) (row : List ℤ) (kind : ConKind) → row_at list i ≡ row → kind_at list i ≡ kind → constraint_at list i ≡ (row, kind)
+one_constraint list i row kind e f = pair (constraint_at list i) e f
+  where
+    pair : (c : Constraint) → c.0 ≡ row → c.1 ≡ kind → c ≡ (row, kind)
+    pair (r, k) e f = let p : (r, k) ≡ (row, kind) = cc in p
 
 -- one constraint more fits
 pub FitDimension-push : (dim : ℕ) (list : List Constraint) (c : Constraint) → FitDimension (record { dim = dim; list = list }) → IsConstraint dim c → FitDimension (record { dim = dim; list = list ++ c ∷ [] })

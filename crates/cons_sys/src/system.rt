@@ -1,10 +1,10 @@
 //! A list of constraints over one dimension.
-ghost use Rattle.std.specs.Prelude.{◌≡◌, ◌+◌, ◌-◌, ◌^◌, ◌<◌, ◌==◌, ◌↔◌, [], ◌∷◌, ◌++◌, length, MatchResult, IfOk, IsTrue, Err};
+ghost use Rattle.std.specs.Prelude.{◌≡◌, ◌+◌, ◌-◌, ◌^◌, ◌<◌, ◌==◌, ◌↔◌, [], ◌∷◌, ◌++◌, length, MatchResult, IfOk, IsTrue, Err, Contains};
 ghost use Rattle.row_core.specs.Range.{AllInRange};
 ghost use Rattle.row_core.specs.Content.{IsPrimitive};
 ghost use Rattle.row_core.specs.Points.{IsPoint};
 ghost use Rattle.row_core.specs.declared.PairOver.{PairOver};
-ghost use Rattle.cons_sys.specs.Constraints.{Constraints, FitDimension, Gains, In, row_at, kind_at};
+ghost use Rattle.cons_sys.specs.Constraints.{Constraints, FitDimension, Gains, In, constraint_at, row_at, kind_at};
 ghost use Rattle.cons_sys.specs.declared.kind.ConKind.{ConKind};
 ghost use Rattle.cons_sys.specs.Testing.{Answers, AnswersAt, LeavesRange};
 
@@ -14,11 +14,22 @@ use std::alloc::{AllocError, Global};
 use std::marker::Model;
 
 /// Constraints over one dimension. Each row is kept primitive.
-#[derive(Debug, Drop)]
+#[derive(Debug)]
 pub struct ConsSys {
     alloc: Global,
     dim: usize,
     rows: MarkedRows<ConKind>,
+}
+
+// Written by hand, so that a function that drops a system calls this one, and doesn't free each part itself.
+impl Drop for ConsSys {
+    fn drop(self) {
+        let ConsSys {
+            alloc: _,
+            dim: _,
+            rows: _,
+        } = self;
+    }
 }
 
 /// The constraints of a system that are still to come, each row with its kind.
@@ -153,6 +164,26 @@ impl ConsSys {
         ensures { result ≡ kind_at self.now.list i }
     {
         self.rows.mark(i)
+    }
+
+    /// Whether constraint `i` has the row and the kind.
+    fn is_at(&self, i: usize, row: &[i128], kind: ConKind) -> bool
+        requires { i < length self.now.list }
+        ensures { IsTrue result ↔ (constraint_at self.now.list i ≡ (row.now, kind)) }
+    {
+        self.kind(i) == kind && self.row(i) == row
+    }
+
+    /// Whether a constraint with the row and the kind stands in the list.
+    pub fn has(&self, row: &[i128], kind: ConKind) -> bool
+        ensures { IsTrue result ↔ Contains self.now.list (row.now, kind) }
+    {
+        for i in 0..self.len() {
+            if self.is_at(i, row, kind) {
+                return true;
+            }
+        }
+        false
     }
 
     /// Lends the constraints in order, each row with its kind.

@@ -1,11 +1,13 @@
 -- The turns of a system.
-use Rattle.std.proofs.Common.{◌≡◌, ◌⊎◌, inr, ℕ, ◌<◌, List, [], ◌∷◌, length, Option, Some, None, slice_get, ℤ, refl, sym, ap, ◌∙◌, subst, All}
+use Rattle.std.proofs.Common.{◌≡◌, ◌⊎◌, inr, ℕ, ◌<◌, List, length, Option, Some, None, slice_get, slice_index_or, ℤ, refl, sym, ap, ◌∙◌, subst}
 use Rattle.std.proofs.lemmas.Option.{slice_get_within}
 use Rattle.row_core.specs.Points.{IsPoint}
 use Rattle.row_core.specs.declared.errors.Overflow.{Overflow}
 use Rattle.row_core.specs.declared.errors.ConvErr.{ConvErr}
 use Rattle.row_core.specs.declared.errors.ConvErr.TheVariants as conversion
-use Rattle.cons_sys.specs.Constraints.{In}
+use Rattle.cons_sys.specs.Constraints.{Constraint, In, FitDimension as FitConstraints}
+use Rattle.gens_sys.specs.Generators.{Generators}
+use Rattle.set_laws.specs.Asking.{IsMember}
 use Rattle.poly_pair.specs.declared.topology.Topology.{Topology}
 use Rattle.poly_pair.specs.declared.topology.Topology.TheVariants.{Closed}
 use Rattle.poly_pair.specs.Polyhedra.{Polyhedron, IsKept, IsOver}
@@ -14,19 +16,19 @@ use Rattle.trans_sys.specs.Systems.{TransitionSystem, IsTransition, IsKeptSystem
 use Rattle.pair_laws.specs.WorkLists.{LeavesOn}
 use Rattle.poly_pair.specs.TopologyLists.{list_width, generators_of}
 use Rattle.poly_pair.specs.Refusals.{IsOverflowOn}
-use Rattle.lattice_ops.specs.Sets.{IsHull, both_generators}
-use Rattle.lattice_ops.specs.Growing.{IsGrown}
+use Rattle.lattice_ops.specs.Sets.{IsValidOn, IsHull, both_generators}
+use Rattle.lattice_ops.specs.Growing.{IsGrown, IsHullWith, IsGrownBy}
+use Rattle.lattice_ops.proofs.KeptSets.{constraint_for}
 use Rattle.row_core.specs.Refusals.{IsOverflowIn}
-use Rattle.widening.specs.Widenings.{IsPartOf}
 use Rattle.poly_pair.specs.ClosedPolyhedra.{IsClosedOver}
 use Rattle.widening.specs.RunLaws as run
 use Rattle.widening.specs.RunLaws.{AreProper, IsAbove, AreTaken, IsTaken, IsFound, JoinOne}
 use Rattle.widening.proofs.Places.{same_at, has_at, all_at}
 use Rattle.widening.proofs.TurnLemmas.{enlarged}
 use Rattle.widening.proofs.OneRun.{one_set}
-use Rattle.affine_ops.specs.Posts.{IsPost, IsStepTo}
+use Rattle.affine_ops.specs.Posts.{IsPost, IsStepTo, SpanPost}
 use Rattle.fixpoint.specs.PostLists.{LeavesOnPost}
-use Rattle.fixpoint.specs.Runs.{IsJoined, IsJoinedBy, LeavesOnHull, target_of, JoinsBy, LeavesBy, turns_of}
+use Rattle.fixpoint.specs.Runs.{IsValidOnPost, IsJoined, IsJoinedBy, LeavesOnHull, target_of, JoinsBy, LeavesBy, turns_of}
 use Rattle.fixpoint.specs.RunLaws.{AreClosedUnder}
 
 pub initial_sets : (s : TransitionSystem) → IsKeptSystem s → run.AreSetsOf s.dim (length s.initial) s.initial
@@ -37,33 +39,19 @@ over_closed : (topology : Topology) (dim d : ℕ) (p : Polyhedron) → topology 
 over_closed topology dim d p e f k o = record { kept = k; over = record { same_topology = o.same_topology ∙ e; same_dim = o.same_dim ∙ f } }
 
 module _ (d : ℕ) (source relation old : Polyhedron) (s : IsClosedOver d source) (o : IsClosedOver d old) where
-  post_closed : (post : Polyhedron) → IsPost source relation post → IsKept post → IsClosedOver d post
-  post_closed post p k = record { kept = k; over = record { same_topology = p.over.same_topology; same_dim = p.over.same_dim ∙ s.over.same_dim } }
-
   joined_closed : (joined : Polyhedron) → IsJoined source relation old joined → IsClosedOver d joined
-  joined_closed joined j = over_closed old.topology old.cons.dim d joined o.over.same_topology o.over.same_dim j.joined_kept j.is_hull.over
+  joined_closed joined j = over_closed old.topology old.cons.dim d joined o.over.same_topology o.over.same_dim j.kept j.over
 
   pub joined_above : (joined : Polyhedron) → IsJoined source relation old joined → IsAbove d old joined
-  joined_above joined j = record { closed = joined_closed joined j; includes = λ v pt h. (j.is_hull.points v pt).1 (λ c is in_old in_post. in_old v pt h) }
+  joined_above joined j = record { closed = joined_closed joined j; includes = λ v pt h. (j.points v pt).1 (λ c is on_old on_post. on_old v pt h) }
 
   pub joined_takes : (joined : Polyhedron) → IsJoined source relation old joined → (y : List ℤ) → IsPoint d y → IsStepTo source.cons relation.cons y → In joined.cons y
-  joined_takes joined j y pt h =
-      let c = post_closed j.post j.is_post j.post_kept in
-      let in_post : In j.post.cons y = (j.is_post.points y (subst (λ (n : ℕ). IsPoint n y) (sym s.over.same_dim) pt)).1 h in
-      (j.is_hull.points y (subst (λ (n : ℕ). IsPoint n y) (sym o.over.same_dim) pt)).1 (λ a is valid_old valid. valid y (subst (λ (n : ℕ). IsPoint n y) (sym c.over.same_dim) pt) in_post)
-
-  one_post : (one other : Polyhedron) → IsPost source relation one → IsKept one → IsPost source relation other → IsKept other → one ≡ other
-  one_post one other p k q l =
-      one_set d one other (post_closed one p k) (post_closed other q l)
-      (λ v pt. let at = subst (λ (n : ℕ). IsPoint n v) p.over.same_dim pt in ((λ h. (q.points v at).1 ((p.points v at).0 h)), (λ h. (p.points v at).1 ((q.points v at).0 h))))
+  joined_takes joined j y pt h = (j.points y (subst (λ (n : ℕ). IsPoint n y) (sym o.over.same_dim) pt)).1 (λ c is on_old on_post. on_post y (subst (λ (n : ℕ). IsPoint n y) (sym s.over.same_dim) pt) h)
 
   pub one_joined : (one other : Polyhedron) → IsJoined source relation old one → IsJoined source relation old other → one ≡ other
   one_joined one other j k =
       one_set d one other (joined_closed one j) (joined_closed other k)
-      (λ v pt. let at = subst (λ (n : ℕ). IsPoint n v) j.is_hull.over.same_dim pt in ((λ h. (hull.points v at).1 ((j.is_hull.points v at).0 h)), (λ h. (j.is_hull.points v at).1 ((hull.points v at).0 h))))
-    where
-      hull : IsHull old j.post other
-      hull = subst (λ (p : Polyhedron). IsHull old p other) (one_post k.post j.post k.is_post k.post_kept j.is_post j.post_kept) k.is_hull
+      (λ v pt. let at = subst (λ (n : ℕ). IsPoint n v) j.over.same_dim pt in ((λ h. (k.points v at).1 ((j.points v at).0 h)), (λ h. (j.points v at).1 ((k.points v at).0 h))))
 
 -- ---- turns
 module _ (s : TransitionSystem) where
@@ -113,12 +101,69 @@ module _ (s : TransitionSystem) where
 
 -- ---- what a turn finds
 -- by the hull of a set and a post
-pub found_of : (source relation old post : Polyhedron) → IsClosedOver old.cons.dim source → IsClosedOver old.cons.dim old → IsPost source relation post → IsKept post → (o : Option Polyhedron) → IsGrown old post o → IsFound (IsJoined source relation old) old o
-found_of source relation old post s o p k None h = record { joined = h.hull; is_joined = record { post = post; is_post = p; post_kept = k; is_hull = h.is_hull; joined_kept = h.kept }; same = h.same }
-found_of source relation old post s o p k (Some hull) h = record { is_joined = j; enlarged = enlarged old.cons.dim old hull o (joined_above old.cons.dim source relation old s o hull j) h.differs }
+module _ (source relation old post : Polyhedron) (s : IsClosedOver old.cons.dim source) (o : IsClosedOver old.cons.dim old) (p : IsPost source relation post) where
+  at_source : (y : List ℤ) → IsPoint post.cons.dim y → IsPoint source.cons.dim y
+  at_source y pt = subst (λ (n : ℕ). IsPoint n y) p.over.same_dim pt
+
+  valid_on_steps : (c : Constraint) → IsValidOn post c → IsValidOnPost source relation c
+  valid_on_steps c valid y pt h = valid y (subst (λ (n : ℕ). IsPoint n y) (sym p.over.same_dim) pt) ((p.points y pt).1 h)
+
+  valid_on_set : (c : Constraint) → IsValidOnPost source relation c → IsValidOn post c
+  valid_on_set c valid y pt h = valid y (at_source y pt) ((p.points y (at_source y pt)).0 h)
+
+  joined_of_hull : (hull : Polyhedron) → IsHull old post hull → IsKept hull → IsJoined source relation old hull
+  joined_of_hull hull h k = record {
+    over = h.over;
+    points = λ v pt. (
+      (λ w c is on_old on_post. (h.points v pt).0 w c is on_old (valid_on_set c on_post)),
+      (λ all. (h.points v pt).1 (λ c is on_old on_post. all c is on_old (valid_on_steps c on_post))),
+    );
+    kept = k;
+  }
+
+  pub found_of : (found : Option Polyhedron) → IsGrown old post found → IsFound (IsJoined source relation old) old found
+  found_of None h = record { joined = h.hull; is_joined = joined_of_hull h.hull h.is_hull h.kept; same = h.same }
+  found_of (Some hull) h = let j = joined_of_hull hull h.is_hull h.kept in record { is_joined = j; enlarged = enlarged old.cons.dim old hull o (joined_above old.cons.dim source relation old s o hull j) h.differs }
+
+-- where the set has all successors it is what the turn joins
+pub found_same : (source relation old : Polyhedron) → IsKept old → FitConstraints old.cons → ((y : List ℤ) → IsPoint source.cons.dim y → IsStepTo source.cons relation.cons y → In old.cons y) → IsFound (IsJoined source relation old) old None
+found_same source relation old k fit within = record { joined = old; is_joined = joined; same = λ v pt. ((λ h. h), (λ h. h)) }
   where
-    j : IsJoined source relation old hull
-    j = record { post = post; is_post = p; post_kept = k; is_hull = h.is_hull; joined_kept = h.kept }
+    joined : IsJoined source relation old old
+    joined = record {
+      over = record { same_topology = refl; same_dim = refl };
+      points = λ v pt. (
+        (λ h c is on_old on_post. on_old v pt h),
+        (λ all i c h. all (slice_index_or old.cons.list i c) (constraint_for old.topology old.cons.dim old (record { same_topology = refl; same_dim = refl }) k fit i c h) (λ w at holds. holds i c h) (λ y at step. within y at step i c h)),
+      );
+      kept = k;
+    }
+
+-- by generators of the post
+module _ (source relation old : Polyhedron) (s : IsClosedOver old.cons.dim source) (o : IsClosedOver old.cons.dim old) (fit : FitConstraints old.cons) where
+  pub found_without : ((y : List ℤ) → ¬ (IsStepTo source.cons relation.cons y)) → IsFound (IsJoined source relation old) old None
+  found_without none = found_same source relation old o.kept fit (λ y pt h. absurd (none y h))
+
+  module _ (gs : Generators) (span : SpanPost source relation gs) where
+    to_source : (v : List ℤ) → IsPoint gs.dim v → IsPoint source.cons.dim v
+    to_source v pt = subst (λ (n : ℕ). IsPoint n v) span.same_dim pt
+
+    member : (y : List ℤ) → IsPoint source.cons.dim y → IsStepTo source.cons relation.cons y → IsMember gs y
+    member y pt h = record { point = subst (λ (n : ℕ). IsPoint n y) (sym span.same_dim) pt; spanned = (span.points y pt).1 h }
+
+    joined_of_spanned : (hull : Polyhedron) → IsHullWith old gs hull → IsKept hull → IsJoined source relation old hull
+    joined_of_spanned hull h k = record {
+      over = h.over;
+      points = λ v pt. (
+        (λ w c is on_old on_post. (h.points v pt).0 w c is on_old (λ y m. on_post y (to_source y m.point) ((span.points y (to_source y m.point)).0 m.spanned))),
+        (λ all. (h.points v pt).1 (λ c is on_old on_gs. all c is on_old (λ y at step. on_gs y (member y at step)))),
+      );
+      kept = k;
+    }
+
+    pub found_by_generators : (found : Option Polyhedron) → IsGrownBy old gs found → IsFound (IsJoined source relation old) old found
+    found_by_generators None h = found_same source relation old o.kept fit (λ y pt step. h y (member y pt step))
+    found_by_generators (Some hull) h = let j = joined_of_spanned hull h.is_hull h.kept in record { is_joined = j; enlarged = enlarged old.cons.dim old hull o (joined_above old.cons.dim source relation old s o hull j) h.differs }
 
 -- by the transition at a place
 module _ (s : TransitionSystem) (k : ℕ) (t : Transition) (sets : List Polyhedron) (source old : Polyhedron) (at : slice_get s.transitions k ≡ Some t) (has_source : slice_get sets t.source ≡ Some source) (has_old : slice_get sets t.target ≡ Some old) where

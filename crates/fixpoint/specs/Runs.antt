@@ -1,23 +1,28 @@
-use Rattle.std.specs.Prelude.{◌≡◌, ◌⊎◌, ℕ, List, length, slice_get, Option, Some, None}
+use Rattle.std.specs.Prelude.{◌≡◌, ◌⊎◌, ◌↔◌, ℕ, List, length, slice_get, Option, Some, None, ℤ}
+use Rattle.row_core.specs.Points.{IsPoint}
 use Rattle.row_core.specs.declared.errors.Overflow.{Overflow}
+use Rattle.cons_sys.specs.Constraints.{Constraint, In, Satisfies}
 use Rattle.pair_laws.specs.WorkLists.{generator_list, LeavesOnClosed}
-use Rattle.poly_pair.specs.Polyhedra.{Polyhedron, IsKept}
+use Rattle.poly_pair.specs.TopologyConstraints.{IsConstraintFor}
+use Rattle.poly_pair.specs.Polyhedra.{Polyhedron, IsKept, IsOver}
 use Rattle.trans_sys.specs.declared.transition.Transition.{Transition}
 use Rattle.trans_sys.specs.Systems.{TransitionSystem}
-use Rattle.lattice_ops.specs.Sets.{IsHull, both_generators}
+use Rattle.lattice_ops.specs.Sets.{IsValidOn, both_generators}
 use Rattle.widening.specs.Runs as run
 use Rattle.widening.specs.Runs.{TurnList}
-use Rattle.affine_ops.specs.Posts.{IsPost}
+use Rattle.affine_ops.specs.Posts.{IsPost, IsStepTo}
 use Rattle.fixpoint.specs.PostLists.{LeavesOnPost}
 
 -- ---- turns
--- the hull of the set of the target and the post of that of the source
+-- the constraint holds at each successor of a state of the set
+abbrev pub IsValidOnPost : Polyhedron → Polyhedron → Constraint → Type 0
+IsValidOnPost source relation c = (y : List ℤ) → IsPoint source.cons.dim y → IsStepTo source.cons relation.cons y → Satisfies y c
+
+-- the hull of the set of the target and the post of that of the source: the points at which each constraint holds that is valid on both
 pub record IsJoined (source relation old joined : Polyhedron) : Type 0 where
-  pub post : Polyhedron
-  pub is_post : IsPost source relation post
-  pub post_kept : IsKept post
-  pub is_hull : IsHull old post joined
-  pub joined_kept : IsKept joined
+  pub over : IsOver old.topology old.cons.dim joined
+  pub points : (v : List ℤ) → IsPoint old.cons.dim v → In joined.cons v ↔ ((c : Constraint) → IsConstraintFor old.topology old.cons.dim c → IsValidOn old c → IsValidOnPost source relation c → Satisfies v c)
+  pub kept : IsKept joined
 
 -- what a transition joins to the set of its target, where these are the sets
 pub record IsJoinedBy (transition : Transition) (sets : List Polyhedron) (joined : Polyhedron) : Type 0 where

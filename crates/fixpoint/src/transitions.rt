@@ -7,7 +7,8 @@ ghost use Rattle.fixpoint.specs.PostLists.{LeavesOnPost};
 ghost use Rattle.fixpoint.specs.Runs.{IsJoined, LeavesOnHull};
 
 use crate::successors::post;
-use lattice_ops::grown;
+use affine_ops::post_generators;
+use lattice_ops::{grown, grown_by};
 use poly_pair::Poly;
 use row_core::{ConvErr, Steps};
 use std::alloc::Global;
@@ -15,8 +16,33 @@ use std::sync::ledger::Ledger;
 use trans_sys::System;
 use widening::Turns;
 
-/// What the set of a transition's target grows to by the post of that of its source, if it grows.
-fn joined<L: Ledger>(
+/// What [`joined`] gives, by generators of the post, which isn't made where the set of the target has all that they
+/// span.
+fn joined_by_generators<L: Ledger>(
+    alloc: Global,
+    source: &Poly,
+    relation: &Poly,
+    old: &Poly,
+    steps: &mut Steps<L>,
+) -> Result<Option<Poly>, ConvErr>
+    requires source { IsClosedOver old.now.cons.dim source.now }
+    requires relation { IsClosedOver (2 * old.now.cons.dim) relation.now }
+    requires old { IsClosedOver old.now.cons.dim old.now }
+    ensures { IfOk result (IsFound (IsJoined source.now relation.now old.now) old.now) }
+{
+    let _fit = old.cons().dim();
+    let found = match post_generators(alloc, source, relation, steps) {
+        Ok(found) => found,
+        Err(cause) => return Err(cause),
+    };
+    let Some(generators) = found else {
+        return Ok(None);
+    };
+    grown_by(alloc, old, &generators, steps)
+}
+
+/// What [`joined`] gives, by the post.
+fn joined_by_post<L: Ledger>(
     alloc: Global,
     source: &Poly,
     relation: &Poly,
@@ -35,6 +61,28 @@ fn joined<L: Ledger>(
     };
     let _kept = successors.dim();
     grown(alloc, old, &successors, steps)
+}
+
+/// What the set of a transition's target grows to by the post of that of its source, if it grows: by generators of
+/// the post, and behind an overflow of these by the post.
+fn joined<L: Ledger>(
+    alloc: Global,
+    source: &Poly,
+    relation: &Poly,
+    old: &Poly,
+    steps: &mut Steps<L>,
+) -> Result<Option<Poly>, ConvErr>
+    requires source { IsClosedOver old.now.cons.dim source.now }
+    requires relation { IsClosedOver (2 * old.now.cons.dim) relation.now }
+    requires old { IsClosedOver old.now.cons.dim old.now }
+    ensures found { IfOk result (IsFound (IsJoined source.now relation.now old.now) old.now) }
+    ensures overflow { IfErr result (IsOverflowIn (λ over. LeavesOnPost source.now relation.now over ⊎ LeavesOnHull source.now relation.now old.now over)) }
+{
+    match joined_by_generators(alloc, source, relation, old, steps) {
+        Ok(found) => Ok(found),
+        Err(ConvErr::Memory) => Err(ConvErr::Memory),
+        Err(ConvErr::Overflow(_)) => joined_by_post(alloc, source, relation, old, steps),
+    }
 }
 
 /// Lends the set of a location.

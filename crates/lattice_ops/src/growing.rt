@@ -1,16 +1,23 @@
 //! Sets that grow.
 ghost use Rattle.std.specs.Prelude.{◌≡◌, ◌↔◌, ◌-◌, ◌≤◌, length, IfOk, IfErr, IsTrue};
 ghost use Rattle.poly_pair.specs.declared.topology.Topology.{Topology};
-ghost use Rattle.poly_pair.specs.TopologyLists.{list_width, generators_of};
+ghost use Rattle.set_laws.specs.GeneratorLaws.{IsContained};
+ghost use Rattle.poly_pair.specs.TopologyLists.{AreGeneratorsFor, list_width, generators_of};
+ghost use Rattle.poly_pair.specs.FirstLists.{LacksPoint};
+ghost use Rattle.poly_pair.specs.Additions.{with_generators};
+ghost use Rattle.poly_pair.specs.Polyhedra.{IsKept};
 ghost use Rattle.poly_pair.specs.Starts.{CanStart};
 ghost use Rattle.poly_pair.specs.Conversions.{IsCountedFrom, IsCountedOn};
 ghost use Rattle.poly_pair.specs.Refusals.{IsOverflowOn, IsCountedBeforeOn, IsCountedBeforeOnFrom};
 ghost use Rattle.lattice_ops.specs.Sets.{HaveSamePoints, both_generators};
-ghost use Rattle.lattice_ops.specs.Growing.{IsGrown};
+ghost use Rattle.lattice_ops.specs.Growing.{IsGrown, IsHullWith, IsGrownBy};
 
 use crate::comparing::equal;
+use crate::containing::test_in_order;
+use crate::rows::rows_fit;
 use crate::sets::hull;
-use poly_pair::Poly;
+use gens_sys::GensSys;
+use poly_pair::{GenErr, Poly};
 use row_core::{ConvErr, Steps};
 use std::alloc::Global;
 use std::sync::ledger::Ledger;
@@ -60,4 +67,79 @@ pub fn grown<L: Ledger>(
         return Ok(None);
     }
     Ok(Some(joined))
+}
+
+/// Whether all points that the generators span are in the polyhedron, as far as no product leaves the range.
+fn includes_spanned(p: &Poly, gens: &GensSys) -> bool
+    requires dim { gens.now.dim ≡ p.now.cons.dim }
+    requires point { ¬ (LacksPoint gens.now.list) }
+    ensures { IsTrue result → IsContained p.now.cons gens.now }
+{
+    rows_fit(p);
+    let _fit = gens.dim();
+    match test_in_order(p.cons(), gens, false) {
+        Ok(within) => within,
+        Err(_) => false,
+    }
+}
+
+/// The smallest polyhedron of the topology that has the points of `p` and those that the generators span.
+fn hull_with<L: Ledger>(
+    alloc: Global,
+    p: &Poly,
+    gens: &GensSys,
+    steps: &mut Steps<L>,
+) -> Result<Poly, ConvErr>
+    requires dim { gens.now.dim ≡ p.now.cons.dim }
+    requires kinds { AreGeneratorsFor p.now.topology gens.now }
+    requires point { ¬ (LacksPoint gens.now.list) }
+    ensures points { IfOk result (IsHullWith p.now gens.now) }
+    ensures kept { IfOk result IsKept }
+    ensures overflow { IfErr result (IsOverflowOn (list_width p.now.topology p.now.cons.dim) p.now.cons.dim (generators_of p.now.topology (with_generators p.now gens.now))) }
+    ensures no_fewer { steps.old ≤ steps.new }
+{
+    rows_fit(p);
+    let _fit = gens.dim();
+    match p.add_gens(alloc, gens, steps) {
+        Ok(made) => {
+            rows_fit(&made);
+            Ok(made)
+        }
+        Err(GenErr::NoPoint) => unreachable!(),
+        Err(GenErr::Overflow(over)) => Err(ConvErr::Overflow(over)),
+        Err(GenErr::Memory) => Err(ConvErr::Memory),
+    }
+}
+
+/// What the closed polyhedron `p` grows to where generators are added, of which one is a point: the smallest that has
+/// the points of both, or none where `p` has all points that these span, which is tested first.
+///
+/// # Errors
+///
+/// An overflow is one of the conversion of the list of the generators of `p` and then these, or of its second list.
+pub fn grown_by<L: Ledger>(
+    alloc: Global,
+    p: &Poly,
+    gens: &GensSys,
+    steps: &mut Steps<L>,
+) -> Result<Option<Poly>, ConvErr>
+    requires closed { p.now.topology ≡ Topology.Closed }
+    requires dim { gens.now.dim ≡ p.now.cons.dim }
+    requires kinds { AreGeneratorsFor p.now.topology gens.now }
+    requires point { ¬ (LacksPoint gens.now.list) }
+    ensures grown { IfOk result (IsGrownBy p.now gens.now) }
+    ensures overflow { IfErr result (IsOverflowOn (list_width p.now.topology p.now.cons.dim) p.now.cons.dim (generators_of p.now.topology (with_generators p.now gens.now))) }
+    ensures no_fewer { steps.old ≤ steps.new }
+{
+    if includes_spanned(p, gens) {
+        return Ok(None);
+    }
+    let hull = match hull_with(alloc, p, gens, steps) {
+        Ok(hull) => hull,
+        Err(cause) => return Err(cause),
+    };
+    if same_set(&hull, p) {
+        return Ok(None);
+    }
+    Ok(Some(hull))
 }

@@ -1,7 +1,6 @@
 -- Where each turn joins one set, a turn, a round and a run have one outcome.
-use Rattle.std.proofs.Common.{◌≡◌, ◌⊎◌, inl, inr, ℕ, zero, suc, ◌+◌, ◌<◌, ◌≤◌, List, Option, Some, None, slice_get, ℤ, refl, sym, ap, ◌∙◌, subst, arith}
-use Rattle.row_core.specs.Points.{IsPoint}
-use Rattle.cons_sys.specs.Constraints.{Constraints, In}
+use Rattle.std.proofs.Common.{◌≡◌, ◌⊎◌, inl, inr, ℕ, zero, suc, ◌+◌, ◌<◌, ◌≤◌, List, Option, Some, None, slice_get, refl, sym, ap, ◌∙◌, subst, arith}
+use Rattle.cons_sys.specs.Constraints.{Constraints}
 use Rattle.gens_sys.specs.Generators.{Generators}
 use Rattle.pair_laws.specs.PointSets.{HoldSame}
 use Rattle.pair_laws.specs.StoredForms.{IsStored}
@@ -10,7 +9,6 @@ use Rattle.poly_pair.specs.declared.topology.Topology.{Topology}
 use Rattle.poly_pair.specs.declared.topology.Topology.TheVariants.{Closed}
 use Rattle.poly_pair.specs.Polyhedra.{Polyhedron, IsKept, IsStoredAs}
 use Rattle.widening.specs.declared.updates.Updated.{Updated}
-use Rattle.widening.specs.Widenings.{IsWidening}
 use Rattle.widening.specs.Updates.{IsUpdate}
 use Rattle.poly_pair.specs.ClosedPolyhedra.{IsClosedOver}
 use Rattle.widening.specs.WideningLaws.{OneWidening}

@@ -1,9 +1,8 @@
 -- What rounds keep, and what they include.
-use Rattle.std.proofs.Common.{◌≡◌, ℕ, ◌<◌, List, Some, length, slice_get, refl, sym, ◌∙◌, arith}
+use Rattle.std.proofs.Common.{ℕ, List, length, sym, ◌∙◌, arith}
 use Rattle.std.proofs.lemmas.List.{length-replicate}
 use Rattle.std.proofs.lemmas.Option.{slice_get_within}
 use Rattle.poly_pair.specs.Polyhedra.{Polyhedron}
-use Rattle.widening.specs.Widenings.{IsPartOf}
 use Rattle.poly_pair.specs.ClosedPolyhedra.{IsClosedOver}
 use Rattle.widening.specs.WideningLaws.{WideningIncludes}
 use Rattle.widening.specs.Runs.{RunTable, TurnList, IsRound, begins, takes, AreRounds, none, more, IsStable, start}

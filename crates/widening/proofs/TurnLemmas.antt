@@ -9,14 +9,13 @@ use Rattle.row_core.specs.declared.errors.ConvErr.{ConvErr}
 use Rattle.row_core.specs.declared.errors.ConvErr.TheVariants as conversion
 use Rattle.cons_sys.specs.Constraints.{In}
 use Rattle.pair_laws.specs.PointSets.{HoldSame}
-use Rattle.poly_pair.specs.declared.topology.Topology.TheVariants.{Closed}
 use Rattle.poly_pair.specs.Polyhedra.{Polyhedron, IsKept}
 use Rattle.widening.specs.declared.updates.Updated.{Updated}
 use Rattle.widening.specs.Widenings.{IsPartOf}
 use Rattle.widening.specs.Updates.{IsUpdate, IsUpdateOverflow}
 use Rattle.poly_pair.specs.ClosedPolyhedra.{IsClosedOver}
 use Rattle.widening.specs.WideningLaws.{IsEnlarged, WideningIncludes}
-use Rattle.widening.specs.Runs.{RunTable, TurnList, IsNoMove, IsMove, IsOutcome, placed, IsTurn}
+use Rattle.widening.specs.Runs.{RunTable, TurnList, IsMove, IsOutcome, placed, IsTurn}
 use Rattle.widening.specs.RunLaws.{IsTableOf, AreProper, IsAbove, IsLarger, IsFound, IsTaken}
 use Rattle.row_core.specs.Refusals.{IsOverflowIn}
 use Rattle.widening.specs.RunOverflows.{LeavesInTurn}

@@ -16,8 +16,8 @@ use Rattle.cons_sys.specs.declared.kind.ConKind.TheVariants.{Eq}
 use Rattle.cons_sys.specs.Constraints as cons
 use Rattle.cons_sys.specs.Constraints.{Constraint, Constraints}
 use Rattle.gens_sys.specs.declared.kind.GenKind.TheVariants.{Line}
-use Rattle.gens_sys.specs.Generators.{Generator, Generators, row_at}
-use Rattle.pair_laws.specs.WorkLists.{divisor_row, constraint_row, constraint_list, generator_row, generator_list}
+use Rattle.gens_sys.specs.Generators.{Generators, row_at}
+use Rattle.pair_laws.specs.WorkLists.{constraint_row, constraint_list, generator_row, generator_list}
 use Rattle.poly_pair.specs.Zeros.{ArePairZeros}
 use Rattle.widening.specs.Values.{AreZeroOnSame, HasZerosAmong, TellsGenerators, HasBits, StandsAmong}
 
@@ -26,7 +26,7 @@ pub negative_zero : (x y : ℤ) → y ≡ neg_ℤ x → (x ≡ pos 0) ↔ (y ≡
 negative_zero x y e = ((λ h. omega (arith, ints, e, h)), (λ h. omega (arith, ints, e, h)))
 
 -- a row and its negative are 0 on the same generators
-zero_negated : (row v : List ℤ) → (dot row v ≡ pos 0) ↔ (dot (negated row) v ≡ pos 0)
+pub zero_negated : (row v : List ℤ) → (dot row v ≡ pos 0) ↔ (dot (negated row) v ≡ pos 0)
 zero_negated row v = negative_zero (dot row v) (dot (negated row) v) (negated_dot row v)
 
 pub among_negated : (cs : List Constraint) (gs : Generators) (row : List ℤ) → HasZerosAmong cs gs row → HasZerosAmong cs gs (negated row)

@@ -1,4 +1,4 @@
-use Rattle.std.specs.Prelude.{◌≡◌, ◌⊎◌, ℕ, ◌+◌, ◌<◌, List, [], ◌∷◌, length, slice_get, Option, Some, None, All}
+use Rattle.std.specs.Prelude.{◌≡◌, ℕ, ◌<◌, List, length, slice_get, Option, Some, None, All}
 use Rattle.poly_pair.specs.Polyhedra.{Polyhedron}
 use Rattle.widening.specs.Widenings.{IsPartOf}
 use Rattle.poly_pair.specs.ClosedPolyhedra.{IsClosedOver}

@@ -1,4 +1,4 @@
-use Rattle.std.proofs.Common.{◌≡◌, ℕ, ◌<◌, ◌≤◌, List, length, arith, sym, ◌∙◌, subst, ap, All, IfOk, IfErr, rules}
+use Rattle.std.proofs.Common.{◌≡◌, ℕ, ◌<◌, ◌≤◌, List, length, sym, ◌∙◌, subst, ap, All, IfOk, IfErr, rules}
 use Rattle.std.proofs.lemmas.Result.{IfOk-weaker, IfErr-weaker}
 use Rattle.poly_pair.specs.declared.topology.Topology.TheVariants.{Closed}
 use Rattle.poly_pair.specs.declared.topology.TheConstants.{MAX_DIM}

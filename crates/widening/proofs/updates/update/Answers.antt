@@ -1,4 +1,4 @@
-use Rattle.std.proofs.Common.{◌≡◌, ℕ, ◌<◌, arith}
+use Rattle.std.proofs.Common.{◌≡◌, ℕ, arith}
 use Rattle.row_core.specs.declared.errors.ConvErr.{ConvErr}
 use Rattle.row_core.specs.declared.errors.ConvErr.TheVariants as conversion
 use Rattle.poly_pair.specs.Polyhedra.{Polyhedron}

@@ -1,4 +1,4 @@
-use Rattle.std.proofs.Common.{◌≡◌, sym, subst}
+use Rattle.std.proofs.Common.{sym, subst}
 use Rattle.poly_pair.specs.Polyhedra.{Polyhedron, HasNoPoint}
 use Rattle.widening.specs.Widenings.{IsWidening}
 use Rattle.widening.proofs.widenings.widen.Goals as goal

@@ -1,4 +1,4 @@
-use Rattle.std.specs.Prelude.{◌≡◌, ◌+◌, ◌∷◌, [], ◌++◌, ℕ, ℤ, Bool, List, length, IsTrue, ◌↔◌, pos}
+use Rattle.std.specs.Prelude.{◌≡◌, ◌+◌, ℕ, Bool, List, length}
 use Rattle.std.specs.Int.{w128}
 use Rattle.std.proofs.Common.{sym, ap, ◌∙◌, arith, subst}
 use Rattle.std.proofs.lemmas.Int.{to_z-of_z, fits_signed_from_abs}
