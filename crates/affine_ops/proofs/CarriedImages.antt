@@ -117,8 +117,13 @@ module _ (p : Polyhedron) (k : IsKept p) (gens_fit : FitDimension p.gens) (fit :
 pub machine_inverse : (var : ℕ) (expr : List ℤ) (den size : ℤ) (items lent : List ℤ) → to_z w128 (of_z w128 den) ≡ den → lent ≡ items → IsInverseRow var expr (to_z w128 (of_z w128 den)) items size → IsInverseRow var expr den lent size
 machine_inverse var expr den size items lent e d j = subst (λ (x : ℤ). IsInverseRow var expr x lent size) e (subst (λ (xs : List ℤ). IsInverseRow var expr (to_z w128 (of_z w128 den)) xs size) (sym d) j)
 
+machine_size : (a size : ℤ) → InRange a → size ≡ pos (unsigned_abs (to_z w128 (of_z w128 a))) → to_z w128 (of_z w128 size) ≡ pos (unsigned_abs a)
+machine_size a size r v =
+    ap (λ (z : ℤ). to_z w128 (of_z w128 z)) (v ∙ ap (λ (z : ℤ). pos (unsigned_abs z)) (back a r)) ∙ back (pos (unsigned_abs a)) (record { size = r.size })
+
+pub machine_in_range : (a size : ℤ) → InRange a → size ≡ pos (unsigned_abs (to_z w128 (of_z w128 a))) → InRange (to_z w128 (of_z w128 size))
+machine_in_range a size r v = subst InRange (sym (machine_size a size r v)) (record { size = r.size })
+
 pub machine_pulled : (p : Polyhedron) (var : ℕ) (a size : ℤ) (lent : List ℤ) (old cs : Constraints) → InRange a → size ≡ pos (unsigned_abs (to_z w128 (of_z w128 a))) → old ≡ p.cons → IsPulledSystem (pulled_back var lent (to_z w128 (of_z w128 size))) old.dim old cs → IsPulledSystem (pulled_back var lent (pos (unsigned_abs a))) p.cons.dim p.cons cs
 machine_pulled p var a size lent old cs r v same s =
-    let e : size ≡ pos (unsigned_abs a) = v ∙ ap (λ (z : ℤ). pos (unsigned_abs z)) (back a r) in
-    let f : to_z w128 (of_z w128 size) ≡ pos (unsigned_abs a) = ap (λ (z : ℤ). to_z w128 (of_z w128 z)) e ∙ back (pos (unsigned_abs a)) (record { size = r.size }) in
-    subst (λ (c : Constraints). IsPulledSystem (pulled_back var lent (pos (unsigned_abs a))) c.dim c cs) same (subst (λ (z : ℤ). IsPulledSystem (pulled_back var lent z) old.dim old cs) f s)
+    subst (λ (c : Constraints). IsPulledSystem (pulled_back var lent (pos (unsigned_abs a))) c.dim c cs) same (subst (λ (z : ℤ). IsPulledSystem (pulled_back var lent z) old.dim old cs) (machine_size a size r v) s)

@@ -6,7 +6,7 @@ ghost use Rattle.line_values.specs.Meaning.{on_one, on_two};
 ghost use Rattle.calc_state.specs.Powersets.{pset as make_pset, of_two_powersets as make_of_two, member as make_member, psize as tell_size, covers as ask_covers, IsPowersetOf, LeavesInPowersets, members_text};
 ghost use Rattle.line_values.specs.Performed.{IsPerformed};
 
-use line_values::{StepErr, no_with_point};
+use line_values::{StepErr, as_line, no_with_point};
 use poly_commands::answer;
 use poly_pair::Poly;
 use powerset::{Cover, Powerset, join, pmeet};
@@ -101,9 +101,7 @@ pub fn psize(alloc: Global, s: Option<&Powerset>) -> Result<Text, StepErr>
     let Some(s) = s else {
         return Err(StepErr::Input(Fault::UnknownName));
     };
-    let mut text = members(alloc, s)?;
-    text.push(b"\n")?;
-    Ok(text)
+    Ok(as_line(members(alloc, s)?)?)
 }
 
 fn members(alloc: Global, s: &Powerset) -> Result<Text, Memory>

@@ -6,7 +6,7 @@ ghost use Rattle.line_values.specs.Meaning.{on_one};
 ghost use Rattle.calc_state.specs.Rankings.{rank as make_rank, ranking as tell_ranking, IsRankingLine};
 ghost use Rattle.line_values.specs.Performed.{IsPerformed};
 
-use line_values::StepErr;
+use line_values::{StepErr, as_line};
 use poly_commands::is_proper;
 use poly_pair::{Poly, Topology};
 use ranking::{print_ranking, ranking_set};
@@ -86,7 +86,5 @@ fn ranking_line(alloc: Global, functions: &Poly) -> Result<Text, Memory>
     ensures { IfOk result (IsRankingLine functions.now) }
 {
     is_proper(functions);
-    let mut text = print_ranking(alloc, functions)?;
-    text.push(b"\n")?;
-    Ok(text)
+    as_line(print_ranking(alloc, functions)?)
 }

@@ -14,7 +14,7 @@ ghost use Rattle.line_values.specs.Performed.{IsPerformed};
 
 use bd_shape::{Shape, ShapeErr, shape_from, shape_hull, shape_meet, shape_of, shape_rows};
 use expr_text::{one_answer, print_cons};
-use line_values::{StepErr, constraints_of};
+use line_values::{StepErr, as_line, constraints_of};
 use poly_commands::answer;
 use poly_pair::{MAX_DIM, Poly, Topology};
 use reply_text::{Fault, Text};
@@ -161,9 +161,7 @@ fn shape_line(alloc: Global, s: &Shape) -> Result<Text, Memory>
     ensures { IfOk result (λ text. text ≡ line (constraints_text (shape_constraints s.now))) }
 {
     let rows = shape_rows(alloc, s)?;
-    let mut text = print_cons(alloc, &rows)?;
-    text.push(b"\n")?;
-    Ok(text)
+    as_line(print_cons(alloc, &rows)?)
 }
 
 /// The polyhedron of a shape's points.

@@ -1,5 +1,5 @@
 -- Numbers without a divisor: their rows are the integers that they spell.
-use Rattle.std.proofs.Common.{◌≡◌, ℕ, ◌*◌, ◌/◌, ◌^◌, ◌<◌, ◌==◌, zero, suc, List, [], ◌∷◌, ◌++◌, length, map, take, drop, cond, refl, sym, ◌∙◌, ap, subst, arith, Bool, true, false, length-drop}
+use Rattle.std.proofs.Common.{◌≡◌, ℕ, ◌*◌, ◌/◌, ◌^◌, ◌<◌, ◌==◌, zero, suc, List, [], ◌∷◌, ◌++◌, length, map, take, drop, cond, refl, sym, ◌∙◌, ap, subst, append_assoc, arith, Bool, true, false, length-drop}
 use Rattle.std.specs.Prelude.{All, ℤ, pos, unsigned_abs, ◌||◌}
 use Rattle.std.proofs.Math.IntN.{neg_ℤ}
 use Rattle.std.specs.List.{list_all, list_any, flat_map}
@@ -156,6 +156,12 @@ integers_refused w ts value.TooLarge forms rows h =
     let whole = all_whole ts forms in
     (all_divide ts whole, λ fit. h (subst (λ (l : List ℤ). AllInRange l) (all_same w ts whole rows) fit.integers))
 integers_refused w ts value.Memory forms rows h = tt
+
+-- one number is read
+pub integer_kept : (done whole next : List ℤ) (v : ℤ) (x : Token) (now rest : List Token) → done ++ map integer (texts now) ≡ whole → now ≡ x ∷ rest → v ≡ integer x.1 → next ≡ done ++ v ∷ [] → next ++ map integer (texts rest) ≡ whole
+integer_kept done whole next v x now rest e f g h =
+    (ap (λ (l : List ℤ). l ++ map integer (texts rest)) h ∙ append_assoc done (v ∷ []) (map integer (texts rest)))
+    ∙ (ap (λ (z : ℤ). done ++ z ∷ map integer (texts rest)) g ∙ (ap (λ (l : List Token). done ++ map integer (texts l)) (sym f) ∙ e))
 
 -- one number is out of the range
 pub integer_too_large : (done whole : List ℤ) (x : Token) (now rest : List Token) → done ++ map integer (texts now) ≡ whole → now ≡ x ∷ rest → ¬ (InRange (integer x.1)) → ¬ (AllInRange whole)

@@ -15,7 +15,7 @@ use crate::tokens::Tokens;
 const MAX_LINE: usize = 65_535;
 
 /// A file that is cut at the line that ends it.
-#[derive(Clone, Copy, Debug)]
+#[derive(Clone, Copy)]
 pub struct Cut<'a> {
     /// The lines before that line.
     pub file: &'a [u8],

@@ -11,7 +11,7 @@ use crate::format::Format;
 use crate::numbers::{capped, is_nat, is_word};
 
 /// What a line before `begin` does.
-#[derive(Clone, Copy, Debug, PartialEq, Eq)]
+#[derive(Clone, Copy, PartialEq, Eq)]
 pub enum Role {
     Begin,
     Kind(Format),
@@ -22,7 +22,7 @@ pub enum Role {
 }
 
 /// What the lines before `begin` say.
-#[derive(Clone, Copy, Debug)]
+#[derive(Clone, Copy)]
 pub struct Said<'a> {
     /// The kind that they name.
     pub kind: Option<Format>,
@@ -31,7 +31,7 @@ pub struct Said<'a> {
 }
 
 /// A heading, and what stands behind it.
-#[derive(Clone, Copy, Debug)]
+#[derive(Clone, Copy)]
 pub struct Head<'a> {
     pub said: Said<'a>,
     /// The lines behind `begin`.

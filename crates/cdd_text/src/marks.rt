@@ -11,7 +11,7 @@ use crate::numbers::capped;
 use std::alloc::Global;
 
 /// Why indices mark no rows.
-#[derive(Clone, Copy, Debug, PartialEq, Eq)]
+#[derive(Clone, Copy, PartialEq, Eq)]
 pub enum MarkErr {
     /// An index is 0, or greater than the number of rows.
     OutOfBounds,

@@ -9,7 +9,7 @@ use crate::cuts::{split_line, split_token};
 use std::marker::Model;
 
 /// The tokens that are still to come, each with the number of its line.
-#[derive(Debug, Drop)]
+#[derive(Drop)]
 pub struct Tokens<'a> {
     // What is left of a line.
     line: &'a [u8],

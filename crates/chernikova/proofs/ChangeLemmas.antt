@@ -14,7 +14,7 @@ use Rattle.chernikova.proofs.StateLemmas.{marked-append, marked_all}
 use Rattle.cone_laws.specs.Steps.{sign, pair_at}
 use Rattle.row_core.proofs.Ring.{zero-mul, mul-zero}
 use Rattle.cone_laws.specs.Combinations.{IsCombined}
-use Rattle.chernikova.specs.Changes.{value_at, AreLowered, AreOthersLowered, with_upward, AreMade, HasMade, IsGrown, IsPairCombined, IsPairAt, is_on, pair_on, index_at, AreRising, AreOn, IsAdjacent, pair_of, IsBefore, IsFoundAt, AreFound, AreAllFound, AreAllCrosses}
+use Rattle.chernikova.specs.Changes.{value_at, AreLowered, AreOthersLowered, with_upward, AreMade, HasMade, IsGrown, IsPairCombined, IsPairAt, is_on, pair_on, index_at, AreRising, AreOn, IsAdjacent, pair_of, IsBefore, IsFoundAt, AreFound, AreAllFound, AreAllCrosses, IsLineChange}
 use Rattle.chernikova.specs.declared.adjacency.Side.{Side}
 use Rattle.chernikova.specs.declared.adjacency.Side.TheVariants.{Above, Below}
 use Rattle.cone_laws.proofs.FactorLemmas.{magnitude_above, above_zero, not_above, under_zero, not_under}
@@ -348,3 +348,17 @@ kept_change marks old made cur new keep n as_many size grown is_keep is =
     ap vectors is ∙ ap (λ (ks : List Bool). vectors (marked ks cur)) is_keep ∙ ap (λ (rs : List Row). vectors (marked (marks ++ replicate n true) rs)) grown ∙
     ap vectors (marked-append marks (replicate n true) old made as_many) ∙ ap (λ (rs : List Row). vectors (marked marks old ++ rs)) (marked_all n made (sym size)) ∙
     map-append (λ (row : Row). row.0) (marked marks old) made ∙ ap (λ (vs : List (List ℤ)). vs ++ vectors made) (marked-map (λ (row : Row). row.0) marks old)
+
+-- the change that a line with the value u makes, from its parts
+pub line_change : (index : ℕ) (line_values ray_values : List ℤ) (eq : Bool) (lines rays new_lines kept new_rays : List Row) (u : ℤ) (line : List ℤ) → u ≡ value_at line_values index → line ≡ row_at lines index → AreOthersLowered u index line line_values lines new_lines → AreLowered u line ray_values rays 0 (length rays) [] kept → new_rays ≡ with_upward eq (value_at line_values index) line kept → IsLineChange index line_values ray_values eq lines rays new_lines new_rays
+line_change index line_values ray_values eq lines rays new_lines kept new_rays u line value is others lowered result =
+    let A : List ℤ → Type 0 = λ w. AreOthersLowered u index w line_values lines new_lines in
+    let B : ℤ → Type 0 = λ v. AreOthersLowered v index (row_at lines index) line_values lines new_lines in
+    let C : List ℤ → Type 0 = λ w. AreLowered u w ray_values rays 0 (length rays) [] kept in
+    let D : ℤ → Type 0 = λ v. AreLowered v (row_at lines index) ray_values rays 0 (length rays) [] kept in
+    record {
+      lines_lowered = subst B value (subst A is others);
+      kept = kept;
+      rays_lowered = subst D value (subst C is lowered);
+      result = result ∙ ap (λ w. with_upward eq (value_at line_values index) w kept) is;
+    }

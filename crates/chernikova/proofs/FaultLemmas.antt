@@ -47,6 +47,14 @@ line_fault_from_ray index line_values ray_values lines rays n (Combine left righ
     let Q : Part → Type 0 = λ p. CombinationLeaves (slice_index_or line_values index (pos 0)) (slice_index_or (part_values line_values ray_values p) right.index (pos 0)) (vector_at lines index) (vector_at (part_of lines rays p) right.index) column in
     (h.0, subst P (sym h.1) (omega (arith, h.3)), (λ e. different_part (sym h.1 ∙ ap (λ (p : Place). p.part) (e ∙ h.0))), subst Q (sym h.1) h.4)
 
+pub line_fault_from_line : (index : ℕ) (line_values ray_values : List ℤ) (lines rays : List (List ℤ)) (fault : Fault) → IsOtherFault (slice_index_or line_values index (pos 0)) index (vector_at lines index) line_values lines fault → IsLineFault index line_values ray_values lines rays fault
+line_fault_from_line index line_values ray_values lines rays Memory h = h
+line_fault_from_line index line_values ray_values lines rays (Dot vector column) h = h
+line_fault_from_line index line_values ray_values lines rays (Combine left right column) h =
+    let P : Part → Type 0 = λ p. right.index < length (part_of lines rays p) in
+    let Q : Part → Type 0 = λ p. CombinationLeaves (slice_index_or line_values index (pos 0)) (slice_index_or (part_values line_values ray_values p) right.index (pos 0)) (vector_at lines index) (vector_at (part_of lines rays p) right.index) column in
+    (h.0, subst P (sym h.1) h.3, (λ e. h.2 (ap (λ (p : Place). p.index) (e ∙ h.0))), subst Q (sym h.1) h.4)
+
 -- the fault of one pair of the rays that were there before
 pub pair_fault_before : (values : List ℤ) (pairs : List (ℕ × ℕ)) (pair : ℕ × ℕ) (old cur : List Row) (fault : Fault) → IsGrown old cur → Contains pairs pair → pair.0 < length old → pair.1 < length old → IsPairFault values (pair ∷ []) (vectors cur) fault → IsPairFault values pairs (vectors old) fault
 pair_fault_before values pairs pair old cur Memory grown held first second h = h

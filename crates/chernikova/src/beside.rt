@@ -31,7 +31,6 @@ const SHARE: u64 = 24;
 /// of those that were taken in. It has begun or not, and runs until an overflow ends it. The search for the
 /// pairs of the rows so far was expected to look at `looked` rays, and that of the next row at `awaited`. What
 /// the next row asks for is `plan`, once that is known, with `needed` combinations.
-#[derive(Drop)]
 pub(crate) struct Beside {
     begun: bool,
     running: bool,
@@ -44,6 +43,25 @@ pub(crate) struct Beside {
     awaited: u64,
     plan: Option<Plan>,
     needed: u128,
+}
+
+// Written out so that a function's proof has one call for a drop, where it would have each field at each return.
+impl Drop for Beside {
+    fn drop(self) {
+        let Self {
+            begun: _,
+            running: _,
+            rows: _,
+            places: _,
+            system: _,
+            scratch: _,
+            taken: _,
+            looked: _,
+            awaited: _,
+            plan: _,
+            needed: _,
+        } = self;
+    }
 }
 
 /// Whether a second conversion is likely to pay beside one that takes so many looks and took in so many of

@@ -38,14 +38,14 @@ fn in_list_order(alloc: Global, sat: &SatMatrix, places: &[usize]) -> Result<Sat
 }
 
 /// What a conversion in another order gives, with the columns of its table in the list's order.
-fn answered(alloc: Global, beside: Beside) -> Result<Cone, Memory>
-    requires as_many { length beside.system.sat.rows ≡ length beside.system.rays.rows }
-    requires lines { AreMarked true beside.system.lines.rows }
-    requires rays { AreMarked false beside.system.rays.rows }
-    requires places { All (λ i. i < beside.system.sat.columns) beside.places.items }
-    ensures { IfOk result (IsPlaced beside.system beside.places.items) }
+fn answered(alloc: Global, beside: &Beside) -> Result<Cone, Memory>
+    requires as_many { length beside.now.system.sat.rows ≡ length beside.now.system.rays.rows }
+    requires lines { AreMarked true beside.now.system.lines.rows }
+    requires rays { AreMarked false beside.now.system.rays.rows }
+    requires places { All (λ i. i < beside.now.system.sat.columns) beside.now.places.items }
+    ensures { IfOk result (IsPlaced beside.now.system beside.now.places.items) }
 {
-    let Cone { lines, rays, sat } = sorted(alloc, beside.system)?;
+    let Cone { lines, rays, sat } = sorted(alloc, &beside.system)?;
     let listed = in_list_order(alloc, &sat, &beside.places)?;
     Ok(Cone {
         lines,
@@ -160,7 +160,7 @@ pub fn convert_in_better_order<L: Ledger>(
     let mut beside = Beside::waiting(alloc);
     let other = race(alloc, &mut cone, &mut beside, rows, steps)?;
     if other {
-        return Ok(answered(alloc, beside)?);
+        return Ok(answered(alloc, &beside)?);
     }
-    Ok(sorted(alloc, cone)?)
+    Ok(sorted(alloc, &cone)?)
 }

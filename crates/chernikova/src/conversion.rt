@@ -124,7 +124,7 @@ pub fn convert<L: Ledger>(
 {
     let mut cone = start(alloc, width, rows)?;
     take_rows(alloc, &mut cone, rows, 0, steps)?;
-    Ok(sorted(alloc, cone)?)
+    Ok(sorted(alloc, &cone)?)
 }
 
 /// What [`convert`] gives on a list, from the system of its first `from` rows with its table, and whether
@@ -157,6 +157,6 @@ pub fn add_rows<L: Ledger>(
     let _narrow = rows.width();
     let mut system = reopened(alloc, cone)?;
     let changed = take_rows(alloc, &mut system, rows, from, steps)?;
-    let cone = sorted(alloc, system)?;
+    let cone = sorted(alloc, &system)?;
     Ok(Added { cone, changed })
 }

@@ -10,7 +10,6 @@ use std::mem;
 const LEAST_ROOM: usize = 32;
 
 /// Lists that one step leaves to the next, which needs no new memory for as many elements.
-#[derive(Drop)]
 pub(crate) struct Scratch {
     pub(crate) line_values: Vec<i128>,
     pub(crate) ray_values: Vec<i128>,
@@ -22,6 +21,24 @@ pub(crate) struct Scratch {
     pub(crate) row: Vec<i128>,
     pub(crate) lines: VectorList,
     pub(crate) rays: VectorList,
+}
+
+// Written out so that a function's proof has one call for a drop, where it would have each field at each return.
+impl Drop for Scratch {
+    fn drop(self) {
+        let Self {
+            line_values: _,
+            ray_values: _,
+            marks: _,
+            above: _,
+            below: _,
+            pairs: _,
+            keep: _,
+            row: _,
+            lines: _,
+            rays: _,
+        } = self;
+    }
 }
 
 impl Scratch {

@@ -1,5 +1,5 @@
 -- The inequalities of a system, and their complements.
-use Rattle.std.proofs.Common.{◌≡◌, ◌⊎◌, inl, inr, ℕ, List, [], ◌∷◌, ◌++◌, map, flat_map, length, ◌+◌, ℤ, pos, neg_ℤ, ◌≤ℤ◌, ◌<ℤ◌, subst, arith}
+use Rattle.std.proofs.Common.{◌≡◌, ◌⊎◌, inl, inr, ℕ, List, [], ◌∷◌, ◌++◌, map, flat_map, length, ◌+◌, ℤ, pos, neg_ℤ, ◌≤ℤ◌, ◌<ℤ◌, subst, ap, ◌∙◌, arith}
 use Rattle.std.specs.Prelude.{◌↔◌, All}
 use Rattle.std.proofs.Math.ListN.{get_or-map}
 use Rattle.std.proofs.lemmas.Int.{ints}
@@ -67,6 +67,9 @@ complement_excludes (a, Gt) v i k h = not_both_strict (dot a v) (dot (negated a)
 -- the complement at a place of a list of them
 pub complement_at : (list : List Constraint) (i : ℕ) → constraint_at (map complement list) i ≡ complement (constraint_at list i)
 complement_at list i = get_or-map complement list i ([], Eq)
+
+pub at_complements : (list complements : List Constraint) (i : ℕ) → complements ≡ map complement list → constraint_at complements i ≡ complement (constraint_at list i)
+at_complements list complements i e = ap (λ (cs : List Constraint). constraint_at cs i) e ∙ complement_at list i
 
 -- ---- the inequalities of a system
 least_negated : (x y : ℤ) → y ≡ neg_ℤ x → pos 0 ≤ℤ x → pos 0 ≤ℤ y → x ≡ pos 0

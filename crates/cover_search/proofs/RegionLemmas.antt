@@ -22,7 +22,7 @@ use Rattle.cone_laws.specs.MarkedLists.{AreLists}
 use Rattle.cone_laws.proofs.Ring.{by_sign}
 use Rattle.cone_laws.proofs.Columns.{cell-scale, length-scale}
 use Rattle.chernikova.specs.declared.cone.Cone.{Cone}
-use Rattle.chernikova.specs.Conversion.{IsRealOverflowFrom}
+use Rattle.chernikova.specs.Conversion.{IsRealOverflow, IsRealOverflowFrom}
 use Rattle.chernikova.proofs.Prefixes.{front_system, front_zeros}
 use Rattle.cons_sys.specs.declared.kind.ConKind.{ConKind}
 use Rattle.cons_sys.specs.Constraints.{Constraint, Constraints, FitDimension, In}
@@ -92,8 +92,12 @@ copied_region cs copied_cs list copied_list cone copy e f g h =
     subst (λ (ds : Constraints). HasListAndCone ds copied_list copy) (sym e)
     (subst (λ (rs : Rows). HasListAndCone cs rs copy) (sym f) (record { width = h.width; rows = h.rows; canonical = copied_cone cs cone copy g h.canonical }))
 
+pub whole_overflow : (cs : Constraints) (width : ℕ) (all : List Row) (error : ConvErr) → width ≡ cs.dim + 2 → all ≡ encoded_constraints cs → IsRealOverflow width all error → IsOverflowIn (LeavesOnList cs) error
+whole_overflow cs width all (conversion.Overflow over) e f l = subst (λ (n : ℕ). Leaves n (encoded_constraints cs) over) e (subst (λ (rs : List Row). Leaves width rs over) f l)
+whole_overflow cs width all conversion.Memory e f l = tt
+
 pub list_overflow : (cs : Constraints) (width from : ℕ) (all : List Row) (error : ConvErr) → width ≡ cs.dim + 2 → all ≡ encoded_constraints cs → IsRealOverflowFrom width all from error → IsOverflowIn (LeavesOnList cs) error
-list_overflow cs width from all (conversion.Overflow over) e f l = subst (λ (n : ℕ). Leaves n (encoded_constraints cs) over) e (subst (λ (rs : List Row). Leaves width rs over) f l.0)
+list_overflow cs width from all (conversion.Overflow over) e f l = whole_overflow cs width all (conversion.Overflow over) e f l.0
 list_overflow cs width from all conversion.Memory e f l = tt
 
 -- ---- points

@@ -13,11 +13,22 @@ use std::alloc::{AllocError, Global};
 use std::marker::Model;
 
 /// Generators over one dimension. Each vector is kept primitive.
-#[derive(Debug, Drop)]
+#[derive(Debug)]
 pub struct GensSys {
     alloc: Global,
     dim: usize,
     rows: MarkedRows<GenKind>,
+}
+
+// Written by hand, so that a function that drops a system calls this one, and doesn't free each part itself.
+impl Drop for GensSys {
+    fn drop(self) {
+        let GensSys {
+            alloc: _,
+            dim: _,
+            rows: _,
+        } = self;
+    }
 }
 
 /// The generators of a system that are still to come, each vector with its kind.

@@ -1,3 +1,4 @@
+mod AlikeBytes
 pub mod AvoidedByte
 pub mod CaseEquations
 pub mod Columns

@@ -1,5 +1,5 @@
 -- The turns of a hybrid system.
-use Rattle.std.proofs.Common.{◌≡◌, ◌⊎◌, inl, inr, ℕ, ◌+◌, ◌-◌, ◌<◌, List, length, Option, Some, None, slice_get, nat_lt, cond, Bool, true, false, refl, sym, ap, ◌∙◌, subst, arith, All}
+use Rattle.std.proofs.Common.{◌≡◌, ◌⊎◌, inl, inr, ℕ, ◌+◌, ◌-◌, ◌<◌, List, length, Option, Some, None, slice_get, nat_lt, cond, Bool, true, false, refl, sym, ap, ◌∙◌, subst, arith}
 use Rattle.row_core.specs.declared.errors.ConvErr.{ConvErr}
 use Rattle.row_core.specs.declared.errors.ConvErr.TheVariants as conversion
 use Rattle.poly_pair.specs.Polyhedra.{Polyhedron}

@@ -1,5 +1,5 @@
 -- The hull of a set and a post.
-use Rattle.std.proofs.Common.{◌≡◌, ◌⊎◌, inr, ℕ, List, Option, Some, None, ℤ, sym, ◌∙◌, subst}
+use Rattle.std.proofs.Common.{◌⊎◌, inr, ℕ, List, Option, Some, None, ℤ, sym, ◌∙◌, subst}
 use Rattle.row_core.specs.Points.{IsPoint}
 use Rattle.row_core.specs.declared.errors.Overflow.{Overflow}
 use Rattle.row_core.specs.declared.errors.ConvErr.{ConvErr}
@@ -12,7 +12,6 @@ use Rattle.poly_pair.specs.Refusals.{IsOverflowOn}
 use Rattle.lattice_ops.specs.Sets.{both_generators}
 use Rattle.lattice_ops.specs.Growing.{IsGrown}
 use Rattle.row_core.specs.Refusals.{IsOverflowIn}
-use Rattle.widening.specs.Widenings.{IsPartOf}
 use Rattle.widening.specs.RunLaws.{IsAbove, IsFound}
 use Rattle.widening.proofs.TurnLemmas.{enlarged}
 use Rattle.hybrid.specs.Turns.{IsHullWith, LeavesAfter}

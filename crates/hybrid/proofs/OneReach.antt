@@ -1,10 +1,8 @@
 -- Posts, turns and the answer are determined.
-use Rattle.std.proofs.Common.{◌≡◌, ◌⊎◌, inl, inr, ℕ, zero, suc, ◌<◌, List, [], ◌∷◌, length, Option, Some, None, slice_get, ℤ, refl, sym, ap, ◌∙◌, subst, arith, All}
+use Rattle.std.proofs.Common.{◌≡◌, ◌⊎◌, inl, inr, ℕ, suc, List, [], ◌∷◌, length, Some, None, slice_get, refl, sym, ap, ◌∙◌, subst, arith}
 use Rattle.std.proofs.lemmas.Option.{slice_get_within}
 use Rattle.row_core.specs.Points.{IsPoint}
-use Rattle.cons_sys.specs.Constraints.{In}
 use Rattle.poly_pair.specs.Polyhedra.{Polyhedron, IsKept, HasNoPoint}
-use Rattle.trans_sys.specs.declared.transition.Transition.{Transition}
 use Rattle.poly_pair.specs.ClosedPolyhedra.{IsClosedOver}
 use Rattle.elapse.specs.Elapses.{IsElapse}
 use Rattle.lattice_ops.specs.Sets.{IsHull}
@@ -17,7 +15,7 @@ use Rattle.widening.proofs.OneRun.{one_set, one_limit}
 use Rattle.hybrid.specs.Systems.{HybridSystem, IsKeptHybrid}
 use Rattle.affine_ops.specs.Posts.{IsPost}
 use Rattle.hybrid.specs.Steps.{IsPartIn, IsFlown, IsTimePost, IsJumpPost}
-use Rattle.hybrid.specs.Turns.{Turn, time, jump, IsHullWith, IsOfTime, IsOfJump, Joins, turn_at, turns_of}
+use Rattle.hybrid.specs.Turns.{Turn, time, jump, IsHullWith, Joins, turn_at, turns_of}
 use Rattle.hybrid.specs.Reaches.{AreParts, HasOneReach}
 use Rattle.hybrid.proofs.Closed.{part_closed, post_closed}
 use Rattle.hybrid.proofs.Joined.{hull_above}

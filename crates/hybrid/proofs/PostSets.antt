@@ -4,7 +4,6 @@ use Rattle.std.proofs.lemmas.List.FromFn.{get_or-range_with_len, length-range_wi
 use Rattle.std.proofs.lemmas.List.Elements.{All-from_get_or}
 use Rattle.row_core.specs.Points.{IsPoint, IsSamePoint}
 use Rattle.cons_sys.specs.Constraints.{In}
-use Rattle.pair_laws.specs.PointSets.{IsWithin}
 use Rattle.poly_pair.specs.Polyhedra.{Polyhedron}
 use Rattle.poly_pair.specs.ClosedPolyhedra.{IsClosedOver}
 use Rattle.affine_ops.specs.Maps.{without, remaining, kept_variables}

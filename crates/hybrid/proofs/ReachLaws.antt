@@ -1,14 +1,16 @@
 -- What the sets that are reached include.
-use Rattle.std.proofs.Common.{◌≡◌, ◌⊎◌, inl, inr, ℕ, zero, suc, ◌+◌, ◌-◌, ◌<◌, List, [], ◌∷◌, ◌++◌, length, Option, Some, None, slice_get, ℤ, refl, sym, ap, ◌∙◌, subst, arith, All}
+use Rattle.std.proofs.Common.{◌≡◌, ◌⊎◌, inl, inr, ℕ, zero, suc, ◌+◌, ◌-◌, ◌<◌, List, [], ◌∷◌, ◌++◌, length, Some, None, slice_get, ℤ, sym, ap, ◌∙◌, subst, arith}
 use Rattle.std.proofs.lemmas.Option.{slice_get_within}
 use Rattle.row_core.specs.Points.{IsPoint}
+use Rattle.row_core.specs.declared.errors.ConvErr.{ConvErr}
+use Rattle.row_core.specs.declared.errors.ConvErr.TheVariants as conversion
+use Rattle.row_core.specs.Refusals.{IsOverflowIn}
 use Rattle.cons_sys.specs.Constraints.{In}
 use Rattle.pair_laws.specs.PointSets.{IsWithin}
 use Rattle.poly_pair.specs.Polyhedra.{Polyhedron, HasNoPoint}
 use Rattle.trans_sys.specs.declared.transition.Transition.{Transition}
 use Rattle.poly_pair.specs.ClosedPolyhedra.{IsClosedOver}
-use Rattle.trans_sys.specs.Systems.{IsTransition}
-use Rattle.elapse.specs.ElapsedPoints.{IsMoved, IsElapsed}
+use Rattle.elapse.specs.ElapsedPoints.{IsMoved}
 use Rattle.widening.specs.RunLaws.{AreSetsOf, IncludeEach, AreTaken}
 use Rattle.widening.specs.Widenings.{IsPartOf}
 use Rattle.widening.proofs.Places.{some_same, same_at, has_at, all_at}
@@ -16,9 +18,9 @@ use Rattle.widening.proofs.OneRun.{one_set}
 use Rattle.hybrid.specs.Systems.{HybridSystem, IsKeptHybrid}
 use Rattle.affine_ops.specs.Posts.{IsStepTo}
 use Rattle.hybrid.specs.Steps.{IsPartIn, IsFlown, IsTimePost, IsJumpPost}
-use Rattle.hybrid.specs.Turns.{Turn, time, jump, IsOfTime, IsOfJump, Joins, turn_at, place_of, turns_of}
-use Rattle.hybrid.specs.Reaches.{IsPartAt, AreParts, IncludeInitial, AreClosedUnderFlow, AreClosedUnderJumps}
-use Rattle.hybrid.proofs.Closed.{part_closed, post_closed, time_closed, jump_closed}
+use Rattle.hybrid.specs.Turns.{Turn, jump, IsOfTime, IsOfJump, Joins, turn_at, place_of, turns_of}
+use Rattle.hybrid.specs.Reaches.{IsPartAt, AreParts, LeavesInPart, LeavesInParts, IncludeInitial, AreClosedUnderFlow, AreClosedUnderJumps}
+use Rattle.hybrid.proofs.Closed.{part_closed, time_closed, jump_closed}
 use Rattle.hybrid.proofs.Joined.{hull_above, hull_takes}
 use Rattle.hybrid.proofs.HybridTurns.{at_time, at_jump, set_at}
 
@@ -145,6 +147,11 @@ module _ (h : HybridSystem) (kept : IsKeptHybrid h) (sets parts : List Polyhedro
         let in_set : In set.0.cons y =
         here.1.1 y (point_at d here.0.cons.dim y (sym above.closed.over.same_dim) pt) (hull_takes (IsJumpPost j.source j.inv t.relation j.target_inv) d j.old old_closed here.0 j.is_joined c y pt in_post) in
         part_takes d set.0 inv target set_closed (of.each t.target target has_target inv set.0 has_inv set.1) y pt in_set inside
+
+-- an overflow at one location is one at some
+pub part_leaves : (invariants sets : List Polyhedron) (l : ℕ) (e : ConvErr) → IsOverflowIn (LeavesInPart invariants sets l) e → IsOverflowIn (LeavesInParts invariants sets) e
+part_leaves invariants sets l (conversion.Overflow over) p = (l, p)
+part_leaves invariants sets l conversion.Memory p = tt
 
 -- ---- lists of parts
 -- one more element at the end

@@ -1,6 +1,7 @@
 //! What an accepted command does to a table of names.
 ghost use Rattle.std.specs.Prelude.{◌≡◌, map, IfOk};
 ghost use Rattle.line_values.specs.Effects.{Shows, ok_line, placed, all_placed, replied};
+ghost use Rattle.line_values.specs.Meaning.{line};
 ghost use Rattle.line_values.specs.declared.change.Change.TheVariants as changes;
 
 use crate::entry::PolyEntry;
@@ -44,6 +45,14 @@ pub fn ok(alloc: Global) -> Result<Text, Memory>
 {
     let mut text = Text::new(alloc);
     text.push(b"ok\n")?;
+    Ok(text)
+}
+
+/// The text with the end of its line.
+pub fn as_line(mut text: Text) -> Result<Text, Memory>
+    ensures { IfOk result (λ told. told ≡ line text) }
+{
+    text.push(b"\n")?;
     Ok(text)
 }
 

@@ -13,7 +13,7 @@ mod points;
 mod refusal;
 mod texts;
 
-pub use change::{Change, ok, put_entry, put_numbered, put_poly, say};
+pub use change::{Change, as_line, ok, put_entry, put_numbered, put_poly, say};
 pub use entry::PolyEntry;
 pub use points::no_with_point;
 pub use refusal::StepErr;

@@ -6,7 +6,7 @@ ghost use Rattle.cone_laws.specs.Members.{ConeOf};
 ghost use Rattle.cone_laws.specs.MarkedLists.{AreLists};
 ghost use Rattle.sat_matrix.specs.ZeroTables.{IsZeroTable};
 ghost use Rattle.minimise.specs.Faults.{IsLeftFault};
-ghost use Rattle.minimise.specs.Parts.{IsArranged};
+ghost use Rattle.minimise.specs.Parts.{AreArranged, IsArranged};
 ghost use Rattle.minimise.specs.Simplified.{IsSimplified, IsDone};
 
 use crate::facets::full_rows;
@@ -39,22 +39,26 @@ pub enum Simplified {
     },
 }
 
+/// The rays of the parts in descending order, and the table of the second system.
+fn arranged_rays(alloc: Global, lines: usize, parts: &Parts) -> Result<(RowList, SatMatrix), Memory>
+    requires { length parts.now.facets.zeros.rows ≡ length parts.now.reduced.rows }
+    ensures { IfOk result (λ s. AreArranged lines parts.now parts.now.equalities s.0 s.1) }
+{
+    let order = descending(alloc, &parts.reduced)?;
+    let rays = picked(alloc, &parts.reduced, &order)?;
+    let sat = second_table(alloc, lines, &parts.facets.zeros, &order)?;
+    Ok((rays, sat))
+}
+
 /// The parts with the rays in descending order, and their table against as many lines and the rays of
 /// the first system.
 fn arranged(alloc: Global, lines: usize, parts: Parts) -> Result<Simplified, Memory>
     requires { length parts.facets.zeros.rows ≡ length parts.reduced.rows }
     ensures { IfOk result (IsArranged lines parts) }
 {
-    let Parts {
-        equalities,
-        facets,
-        reduced,
-    } = parts;
-    let order = descending(alloc, &reduced)?;
-    let rays = picked(alloc, &reduced, &order)?;
-    let sat = second_table(alloc, lines, &facets.zeros, &order)?;
+    let (rays, sat) = arranged_rays(alloc, lines, &parts)?;
     Ok(Simplified::Done {
-        lines: equalities,
+        lines: parts.equalities,
         rays,
         sat,
     })

@@ -4,7 +4,7 @@ ghost use Rattle.name_table.specs.Table.{entry_of};
 ghost use Rattle.line_values.specs.Performed.{IsPerformed};
 ghost use Rattle.poly_commands.specs.Names.{names as tell_names, drop_of};
 
-use line_values::{Change, PolyEntry, StepErr};
+use line_values::{Change, PolyEntry, StepErr, as_line};
 use name_table::Names;
 use reply_text::{Fault, Text};
 
@@ -12,9 +12,7 @@ use reply_text::{Fault, Text};
 pub fn name_list<E: PolyEntry>(names: &Names<E>) -> Result<Text, StepErr>
     ensures { IsPerformed (tell_names names.now) result }
 {
-    let mut text = names.list()?;
-    text.push(b"\n")?;
-    Ok(text)
+    Ok(as_line(names.list()?)?)
 }
 
 /// Takes a name out.

@@ -11,7 +11,7 @@ ghost use Rattle.line_values.specs.Performed.{IsPerformed};
 
 use cons_sys::ConsSys;
 use expr_text::{print_cons, print_gens};
-use line_values::{StepErr, point_of};
+use line_values::{StepErr, as_line, point_of};
 use poly_pair::Poly;
 use reply_text::{Fault, Text};
 use row_core::{Memory, Overflow, PairOver, RowBuf};
@@ -25,9 +25,7 @@ pub fn size(alloc: Global, p: Option<&Poly>) -> Result<Text, StepErr>
     let Some(p) = p else {
         return Err(StepErr::Input(Fault::UnknownName));
     };
-    let mut text = sizes(alloc, p)?;
-    text.push(b"\n")?;
-    Ok(text)
+    Ok(as_line(sizes(alloc, p)?)?)
 }
 
 fn sizes(alloc: Global, p: &Poly) -> Result<Text, Memory>
@@ -50,9 +48,7 @@ pub fn print(alloc: Global, side: bool, p: Option<&Poly>) -> Result<Text, StepEr
     let Some(p) = p else {
         return Err(StepErr::Input(Fault::UnknownName));
     };
-    let mut text = side_of(alloc, side, p)?;
-    text.push(b"\n")?;
-    Ok(text)
+    Ok(as_line(side_of(alloc, side, p)?)?)
 }
 
 fn side_of(alloc: Global, side: bool, p: &Poly) -> Result<Text, Memory>

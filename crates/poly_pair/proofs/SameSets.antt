@@ -1,6 +1,6 @@
 -- What a closed polyhedron stores is of a list that begins with its own, where further rows change nothing.
-use Rattle.std.proofs.Common.{◌≡◌, ◌∙◌, ◌+◌, ℕ, List, ◌++◌, [], length, ℤ, refl, sym, subst, inr, arith}
-use Rattle.row_core.specs.Lists.{Row, system_rows}
+use Rattle.std.proofs.Common.{◌≡◌, ◌+◌, ℕ, List, ◌++◌, [], length, ℤ, refl, sym, subst, inr, arith}
+use Rattle.row_core.specs.Lists.{Row}
 use Rattle.cone_laws.specs.Canon.{Canon}
 use Rattle.cone_laws.specs.Cones.{Upto}
 use Rattle.cone_laws.specs.Members.{ConeOf}

@@ -2,7 +2,7 @@
 use Rattle.std.specs.Prelude.{◌≡◌, ◌≢◌, ℕ, zero, suc, ◌+◌, ◌<◌, ◌↔◌, Bool, true, false, not, cond, List, [], ◌∷◌, ◌++◌, length, map, filter, drop, take, replicate, ℤ, pos, IsTrue, All}
 use Rattle.std.proofs.Common.{refl, sym, ap, ◌∙◌, arith, subst, inl, inr, ◌⊎◌, get_or, set}
 use Rattle.std.proofs.lemmas.List.{append_assoc, take_more, length-append, append-nil, length-take, length-drop, get_or-drop, length-set, length-map, length-replicate, get_or-set_same, get_or-set_other, get_or-map, get_or_default, get_or-replicate}
-use Rattle.std.proofs.lemmas.List.Elements.{All-head, All-tail, All-get_or, All-map, All-append}
+use Rattle.std.proofs.lemmas.List.Elements.{All-head, All-tail, All-map, All-append}
 use Rattle.std.proofs.lemmas.Bool.{cases_eq}
 use Rattle.row_core.specs.Flat.{marked}
 use Rattle.row_core.specs.Vectors.{cell, dot}

@@ -1,6 +1,10 @@
 //! The generators of a closed set without its constraints, and its constraints without its generators, by one
 //! conversion.
 ghost use Rattle.std.specs.Prelude.{◌≡◌, ℕ, ◌+◌, ◌-◌, ◌^◌, ◌<◌, ◌≤◌, length, IfOk, IfErr};
+ghost use Rattle.row_core.specs.Lists.{vectors};
+ghost use Rattle.cone_laws.specs.Canon.{Canon};
+ghost use Rattle.cone_laws.specs.Members.{ConeOf};
+ghost use Rattle.chernikova.specs.Changes.{AreLists};
 ghost use Rattle.chernikova.specs.Conversion.{IsRealOverflow, IsCountedUpto, IsCountedBefore};
 ghost use Rattle.pair_laws.specs.PointSets.{AreClosed, AreClosedKinds};
 ghost use Rattle.pair_laws.specs.WorkLists.{constraint_list, generator_list};
@@ -8,18 +12,34 @@ ghost use Rattle.poly_pair.specs.FirstLists.{LacksPoint};
 ghost use Rattle.poly_pair.specs.OtherSystems.{AreStoredGenerators, AreStoredConstraints};
 ghost use Rattle.poly_pair.specs.declared.topology.TheConstants.{MAX_DIM};
 
-use crate::lists::{constraint_list, generator_list};
+use crate::lists::generator_list;
 use crate::making::false_constraints;
+use crate::spanning::constraint_system;
 use crate::storing::stored_constraints;
 use crate::storing_generators::stored_generators;
 use crate::systems::has_point;
 use crate::topology::{MAX_DIM, Topology};
-use chernikova::convert_in_better_order;
+use chernikova::{Cone, convert_in_better_order};
 use cons_sys::ConsSys;
 use gens_sys::GensSys;
-use row_core::{ConvErr, Steps};
+use row_core::{ConvErr, Memory, Steps};
 use std::alloc::Global;
 use std::sync::ledger::Ledger;
+
+/// The generators that the closed polyhedron of the constraints stores, from the canonical system of their list.
+fn generators_of_system(alloc: Global, cons: &ConsSys, system: &Cone) -> Result<GensSys, Memory>
+    requires narrow { cons.now.dim ≤ MAX_DIM }
+    requires closed { AreClosed cons.now }
+    requires lists { AreLists (cons.now.dim + 1) system.now.lines system.now.rays }
+    requires canon { Canon (ConeOf (cons.now.dim + 1) (constraint_list cons.now)) (vectors system.now.lines.rows) (vectors system.now.rays.rows) }
+    ensures { IfOk result (AreStoredGenerators cons.now) }
+{
+    let dim = cons.dim();
+    if !has_point(dim, &system.rays) {
+        return Ok(GensSys::new(alloc, dim));
+    }
+    stored_generators(alloc, dim, system)
+}
 
 /// The generators that the closed polyhedron of the constraints stores. Its constraints aren't made.
 ///
@@ -39,16 +59,28 @@ pub fn generators_alone<L: Ledger>(
     ensures counted { IsCountedUpto (cons.now.dim + 1) (constraint_list cons.now) (length (constraint_list cons.now)) (steps.new - steps.old) }
     ensures counted_before { IfErr result (IsCountedBefore (cons.now.dim + 1) (constraint_list cons.now) (steps.new - steps.old)) }
 {
-    let rows = constraint_list(alloc, Topology::Closed, cons)?;
-    let dim = cons.dim();
-    let system = match convert_in_better_order(alloc, dim + 1, &rows, steps) {
-        Ok(system) => system,
-        Err(cause) => return Err(cause),
+    let made = {
+        let system = constraint_system(alloc, Topology::Closed, cons, steps)?;
+        generators_of_system(alloc, cons, &system)
     };
-    if !has_point(dim, &system.rays) {
-        return Ok(GensSys::new(alloc, dim));
-    }
-    Ok(stored_generators(alloc, dim, &system)?)
+    Ok(made?)
+}
+
+/// The canonical system of the generator list of a closed polyhedron.
+fn generator_system<L: Ledger>(
+    alloc: Global,
+    gens: &GensSys,
+    steps: &mut Steps<L>,
+) -> Result<Cone, ConvErr>
+    ensures canon { IfOk result (λ system. Canon (ConeOf (gens.now.dim + 1) (generator_list gens.now)) (vectors system.lines.rows) (vectors system.rays.rows)) }
+    ensures lists { IfOk result (λ system. AreLists (gens.now.dim + 1) system.lines system.rays) }
+    ensures overflow { IfErr result (IsRealOverflow (gens.now.dim + 1) (generator_list gens.now)) }
+    ensures no_fewer { steps.old ≤ steps.new }
+    ensures counted { IsCountedUpto (gens.now.dim + 1) (generator_list gens.now) (length (generator_list gens.now)) (steps.new - steps.old) }
+    ensures counted_before { IfErr result (IsCountedBefore (gens.now.dim + 1) (generator_list gens.now) (steps.new - steps.old)) }
+{
+    let rows = generator_list(alloc, Topology::Closed, gens)?;
+    convert_in_better_order(alloc, rows.width(), &rows, steps)
 }
 
 /// The constraints that the closed polyhedron of the generators stores. Its generators aren't made.
@@ -73,11 +105,10 @@ pub fn constraints_alone<L: Ledger>(
     if gens.is_empty() {
         return Ok(false_constraints(alloc, gens.dim())?);
     }
-    let rows = generator_list(alloc, Topology::Closed, gens)?;
-    let dim = gens.dim();
-    let system = match convert_in_better_order(alloc, dim + 1, &rows, steps) {
-        Ok(system) => system,
-        Err(cause) => return Err(cause),
+    let made = {
+        let dim = gens.dim();
+        let system = generator_system(alloc, gens, steps)?;
+        stored_constraints(alloc, dim, &system)
     };
-    Ok(stored_constraints(alloc, dim, &system)?)
+    Ok(made?)
 }

@@ -37,9 +37,13 @@ maximum_text sup.Empty = codes "empty"
 maximum_text sup.Unbounded = codes "unbounded"
 maximum_text (sup.At num den attained index) = signed_decimal num ++ codes "/" ++ signed_decimal den
 
--- the number of rows, how many constraints and how many generators are stored, and the maximum
+-- the number of rows, and how many constraints and how many generators are stored
+abbrev pub counts_text : ℕ → ℕ → ℕ → List ℕ
+counts_text n constraints generators = codes "sample " ++ decimal n ++ codes " constraints " ++ decimal constraints ++ codes " generators " ++ decimal generators
+
+-- these, and the maximum
 abbrev pub sample_text : ℕ → ℕ → ℕ → Sup → List ℕ
-sample_text n constraints generators maximum = codes "sample " ++ decimal n ++ codes " constraints " ++ decimal constraints ++ codes " generators " ++ decimal generators ++ codes " max " ++ maximum_text maximum
+sample_text n constraints generators maximum = counts_text n constraints generators ++ codes " max " ++ maximum_text maximum
 
 -- the text is the line of the sample: of its polyhedron, and of the maximum of B - A on it
 pub record IsSampleLine (n : ℕ) (text : List ℕ) : Type 0 where

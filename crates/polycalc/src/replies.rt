@@ -1,8 +1,12 @@
 //! Replies, gathered before they are written.
 ghost use Rattle.std.specs.Prelude.{◌≡◌, ◌∷◌, ◌++◌, [], List, false, OnErr, OnOk};
 ghost use Rattle.calc_state.specs.Step.{Answered, Refused, Overflows};
+ghost use Rattle.poly_io.specs.Counts.{HasRisen};
 ghost use Rattle.polycalc.specs.Replies.{written, with_reply};
+ghost use Rattle.polycalc.specs.Endings.{Writes};
 
+use crate::status::Status;
+use poly_io::{Sink, WriteAllErr, write_all};
 use reply_text::{Fault, Text, print_fault, print_overflow};
 use row_core::{Memory, Overflow};
 use std::alloc::Global;
@@ -83,6 +87,20 @@ impl Replies {
         ensures { result.now ≡ self.now.bytes }
     {
         self.bytes.as_slice()
+    }
+
+    /// Writes the bytes: `Done` where no reply is a fault or an overflow, and else `Refused`.
+    pub fn write<W: Sink>(&self, sink: &mut W) -> Status
+        ensures writes { Writes self.now (W.held sink.old) (W.held sink.new) result }
+        ensures fault { result ≡ Status.WriteFault → HasRisen (W.faults sink.old) (W.faults sink.new) }
+        ensures want { result ≡ Status.Memory → HasRisen (W.wants sink.old) (W.wants sink.new) }
+    {
+        match write_all(sink, self.bytes()) {
+            Ok(()) if self.is_clean() => Status::Done,
+            Ok(()) => Status::Refused,
+            Err(WriteAllErr::Failed) => Status::WriteFault,
+            Err(WriteAllErr::Memory) => Status::Memory,
+        }
     }
 
     /// Whether no reply is a fault or an overflow.

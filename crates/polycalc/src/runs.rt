@@ -1,10 +1,11 @@
 //! A run of the calculator over the lines of a source, as they come.
-ghost use Rattle.std.specs.Prelude.{◌≡◌, ℕ, ◌≤◌, ◌⊎◌, List, [], take, OnOk, OnErr};
+ghost use Rattle.std.specs.Prelude.{◌≡◌, ℕ, ◌≤◌, ◌⊎◌, List, [], take, false, OnOk, OnErr};
 ghost use Rattle.std.specs.Io.KnownBytes.{append_known, prepend_known};
 ghost use Rattle.poly_io.specs.Counts.{HasRisen};
 ghost use Rattle.calc_state.specs.Step.{Reply};
-ghost use Rattle.calc_state.specs.Line.{Step};
-ghost use Rattle.polycalc.specs.Replies.{with_reply};
+ghost use Rattle.calc_state.specs.Line.{Step, Gives};
+ghost use Rattle.polycalc.specs.Replies.{written, with_reply};
+ghost use Rattle.calc_state.specs.State.{closed};
 ghost use Rattle.calc_state.specs.Runs.{at_end};
 ghost use Rattle.polycalc.specs.Endings.{Closes};
 ghost use Rattle.polycalc.specs.Outcomes.{Outcome, GivesUp};
@@ -14,6 +15,7 @@ use crate::replies::Replies;
 use crate::status::Status;
 use calc_state::{Calc, StepErr};
 use poly_io::{LineAns, LineReader, Sink, Source, WriteAllErr, write_all};
+use reply_text::Text;
 use row_core::{Memory, Steps};
 use std::alloc::Global;
 use std::sync::ledger::Ledger;
@@ -37,15 +39,37 @@ pub fn run_lines<S: Source, W: Sink, L: Ledger>(
     };
     let mut calc = Calc::new(alloc);
     let mut replies = Replies::new(alloc);
+    answer_lines(&mut reader, &mut calc, &mut replies, source, sink, steps)
+}
+
+// Answers the lines of a source of which nothing is read yet.
+fn answer_lines<S: Source, W: Sink, L: Ledger>(
+    reader: &mut LineReader,
+    calc: &mut Calc,
+    replies: &mut Replies,
+    source: &mut S,
+    sink: &mut W,
+    steps: &mut Steps<L>,
+) -> Status
+    requires fresh { reader.old ≡ record { pending = []; taken = 0; ended = false; line = [] } }
+    requires start { calc.old ≡ closed [] }
+    requires silent { replies.old ≡ written [] }
+    ensures outcome { (given : List ℕ) × (S.left source.old ≡ prepend_known given (S.left source.new))
+        × Outcome job.Run given (S.left source.new) (W.held sink.old) (W.held sink.new) result }
+    ensures read_fault { result ≡ Status.ReadFault → HasRisen (S.faults source.old) (S.faults source.new) }
+    ensures write_fault { result ≡ Status.WriteFault → HasRisen (W.faults sink.old) (W.faults sink.new) }
+    ensures lines_before { result ≡ Status.Memory → ¬ (HasRisen (W.wants sink.old) (W.wants sink.new))
+        → GivesUp job.Run (S.left source.old) (S.left source.new) (W.held sink.old) (W.held sink.new) }
+{
     loop {
         match reader.next(source) {
             LineAns::Line => (),
-            LineAns::End => return end_script(&mut calc, &mut replies, sink),
+            LineAns::End => return end_script(calc, replies, sink),
             LineAns::Failed => return Status::ReadFault,
             LineAns::TooLong => return Status::InputTooLong,
         }
-        let Ok(()) = reply_to(&mut calc, reader.line(), steps, &mut replies) else {
-            return give_up(sink, &replies);
+        let Ok(()) = reply_to(calc, reader.line(), steps, replies) else {
+            return give_up(sink, replies);
         };
         if !reader.has_line() {
             match write_all(sink, replies.bytes()) {
@@ -108,10 +132,17 @@ fn reply_to<L: Ledger>(
     ensures answered { OnOk result ((reply : Reply) × Step calc.old line.now reply calc.new × (replies.new ≡ with_reply replies.old reply)) }
     ensures wanting { OnErr result (replies.new ≡ replies.old) }
 {
-    match calc.step(line, steps) {
+    match given_to(calc, line, steps) {
         Ok(text) => replies.add_answer(&text),
         Err(StepErr::Input(fault)) => replies.add_fault(&fault),
         Err(StepErr::Overflow(over)) => replies.add_overflow(&over),
         Err(StepErr::Memory) => Err(Memory),
     }
+}
+
+// What is given to one line.
+fn given_to<L: Ledger>(calc: &mut Calc, line: &[u8], steps: &mut Steps<L>) -> Result<Text, StepErr>
+    ensures { Gives calc.old line.now result calc.new }
+{
+    calc.step(line, steps)
 }

@@ -1,5 +1,5 @@
 //! The sample of a number of rows.
-ghost use Rattle.std.specs.Prelude.{◌≡◌, ◌+◌, ◌<◌, List, ℕ, [], length, Option, true, IfOk, OnOk};
+ghost use Rattle.std.specs.Prelude.{◌≡◌, ◌+◌, ◌<◌, ◌++◌, List, ℕ, [], length, Option, true, IfOk, OnOk};
 ghost use Rattle.row_core.specs.Range.{AllInRange};
 ghost use Rattle.poly_io.specs.Counts.{HasRisen};
 ghost use Rattle.poly_pair.specs.Polyhedra.{Polyhedron};
@@ -7,7 +7,7 @@ ghost use Rattle.optimum.specs.Suprema.{SupAnswer};
 ghost use Rattle.optimum.specs.Showing.{shown_values};
 ghost use Rattle.line_values.specs.Meaning.{line};
 ghost use Rattle.calc_state.specs.Step.{Reply};
-ghost use Rattle.polycalc.specs.Samples.{SamplesTo, GivesSample, difference, sample_text, maximum_text};
+ghost use Rattle.polycalc.specs.Samples.{IsOfSample, SamplesTo, GivesSample, difference, counts_text, sample_text, maximum_text};
 ghost use Rattle.polycalc.specs.Replies.{with_reply};
 ghost use Rattle.polycalc.specs.Outcomes.{Outcome};
 ghost use Rattle.polycalc.specs.declared.job.Job.TheVariants as job;
@@ -16,7 +16,7 @@ use crate::replies::Replies;
 use crate::status::Status;
 use gens_sys::GensSys;
 use optimum::{Sup, sup};
-use poly_io::{Sink, WriteAllErr, write_all};
+use poly_io::Sink;
 use poly_pair::laws::kept_is_pair;
 use poly_pair::{Poly, Topology};
 use reply_text::Text;
@@ -43,12 +43,7 @@ pub fn write_sample<W: Sink, L: Ledger>(
     let Ok(()) = reply_to(alloc, n, steps, &mut replies) else {
         return Status::Memory;
     };
-    match write_all(sink, replies.bytes()) {
-        Ok(()) if replies.is_clean() => Status::Done,
-        Ok(()) => Status::Refused,
-        Err(WriteAllErr::Failed) => Status::WriteFault,
-        Err(WriteAllErr::Memory) => Status::Memory,
-    }
+    replies.write(sink)
 }
 
 // The reply to the number of a sample.
@@ -75,13 +70,22 @@ fn sampled<L: Ledger>(alloc: Global, n: u32, steps: &mut Steps<L>) -> Result<Tex
     let Ok(system) = sample_constraints(alloc, n as usize) else {
         return Err(ConvErr::Memory);
     };
-    let made = match Poly::from_cons(alloc, Topology::Closed, &system, steps) {
-        Ok(made) => made,
-        Err(cause) => return Err(cause),
-    };
-    let _ = (made.dim(), made.cons().dim(), made.gens().dim());
-    match sup(&made, &DIFFERENCE) {
-        Ok(maximum) => Ok(sample_line(alloc, n, &made, maximum)?),
+    match Poly::from_cons(alloc, Topology::Closed, &system, steps) {
+        Ok(made) => {
+            let _ = (made.dim(), made.cons().dim(), made.gens().dim());
+            told(alloc, n, &made)
+        }
+        Err(cause) => Err(cause),
+    }
+}
+
+// The line of a sample whose polyhedron is found.
+fn told(alloc: Global, n: u32, made: &Poly) -> Result<Text, ConvErr>
+    requires { IsOfSample n made.now }
+    ensures { GivesSample n result }
+{
+    match sup(made, &DIFFERENCE) {
+        Ok(maximum) => Ok(sample_line(alloc, n, made, maximum)?),
         Err(pair) => Err(ConvErr::Overflow(shown(alloc, &DIFFERENCE, made.gens(), pair)?)),
     }
 }
@@ -91,33 +95,49 @@ fn sample_line(alloc: Global, n: u32, made: &Poly, maximum: Sup) -> Result<Text,
     ensures { IfOk result (λ text. text ≡ line (sample_text n (length made.now.cons.list) (length made.now.gens.list) maximum)) }
 {
     let mut text = Text::new(alloc);
+    push_line(&mut text, n, made, maximum)?;
+    Ok(text)
+}
+
+// Puts that line into an empty text.
+fn push_line(text: &mut Text, n: u32, made: &Poly, maximum: Sup) -> Result<(), Memory>
+    requires { text.old ≡ [] }
+    ensures { OnOk result (text.new ≡ line (sample_text n (length made.now.cons.list) (length made.now.gens.list) maximum)) }
+{
+    push_counts(text, n, made)?;
+    text.push(b" max ")?;
+    push_maximum(text, maximum)?;
+    text.push(b"\n")?;
+    Ok(())
+}
+
+// Puts the number of rows, and how many constraints and generators are stored, into an empty text.
+fn push_counts(text: &mut Text, n: u32, made: &Poly) -> Result<(), Memory>
+    requires { text.old ≡ [] }
+    ensures { OnOk result (text.new ≡ counts_text n (length made.now.cons.list) (length made.now.gens.list)) }
+{
     text.push(b"sample ")?;
     text.push_unsigned(n as u64)?;
     text.push(b" constraints ")?;
     text.push_unsigned(made.cons().len() as u64)?;
     text.push(b" generators ")?;
     text.push_unsigned(made.gens().len() as u64)?;
-    text.push(b" max ")?;
-    text.push(maximum_text(alloc, maximum)?.bytes())?;
-    text.push(b"\n")?;
-    Ok(text)
+    Ok(())
 }
 
-// A maximum.
-fn maximum_text(alloc: Global, maximum: Sup) -> Result<Text, Memory>
-    ensures { IfOk result (λ text. text ≡ maximum_text maximum) }
+// Appends a maximum.
+fn push_maximum(text: &mut Text, maximum: Sup) -> Result<(), Memory>
+    ensures { OnOk result (text.new ≡ text.old ++ maximum_text maximum) }
 {
-    let mut text = Text::new(alloc);
     match maximum {
-        Sup::Empty => text.push(b"empty")?,
-        Sup::Unbounded => text.push(b"unbounded")?,
+        Sup::Empty => text.push(b"empty"),
+        Sup::Unbounded => text.push(b"unbounded"),
         Sup::At { num, den, .. } => {
             text.push_signed(num)?;
             text.push(b"/")?;
-            text.push_signed(den)?;
+            text.push_signed(den)
         }
     }
-    Ok(text)
 }
 
 // The rows of a pair that leaves the range: the expression and a generator, or two generators.

@@ -15,11 +15,22 @@ use std::alloc::{AllocError, Global};
 use std::marker::Model;
 
 /// Rows of truth values of one width, 64 in each word. Past the columns each place of a row is false.
-#[derive(Debug, Drop)]
+#[derive(Debug)]
 pub struct SatMatrix {
     alloc: Global,
     columns: usize,
     words: WordRows,
+}
+
+// Written by hand, so that a function that drops a table calls this one, and doesn't free each part itself.
+impl Drop for SatMatrix {
+    fn drop(self) {
+        let SatMatrix {
+            alloc: _,
+            columns: _,
+            words: _,
+        } = self;
+    }
 }
 
 impl Model for SatMatrix {

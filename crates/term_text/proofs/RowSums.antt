@@ -1,11 +1,13 @@
 -- The row of the first terms, one term further.
 use Rattle.std.proofs.Common.{eq-eqb, zero, suc, lit<, ◌≡◌, ◌⊎◌, ℕ, ◌+◌, ◌^◌, ◌<◌, ◌≤◌, List, [], ◌∷◌, ◌++◌, length, take, get_or, refl, sym, ◌∙◌, ap, arith, length-append, subst, inl, inr}
-use Rattle.std.specs.Prelude.{MatchOption, Option, Some, None, unwrap_or, All, Bool, true, false, ℤ, pos, ◌+ℤ◌}
+use Rattle.std.specs.Prelude.{◌≢◌, MatchOption, Option, Some, None, unwrap_or, All, Bool, true, false, ℤ, pos, ◌+ℤ◌}
 use Rattle.std.proofs.lemmas.Int.{ints}
-use Rattle.std.proofs.lemmas.List.{append-nil, get_or_push, take-append-le, take_all}
+use Rattle.std.proofs.lemmas.List.{get_or-set_same, get_or-set_other, append-nil, get_or_push, take-append-le, take_all}
 use Rattle.std.proofs.Math.Seq.{take-append_seam}
 use Rattle.std.proofs.lemmas.List.Elements.{All-push, All-get_or, All-nil, All-take, All-weaker}
-use Rattle.std.proofs.lemmas.Bool.{cases_lt}
+use Rattle.std.proofs.lemmas.Bool.{cases_lt, cases_eq}
+use Rattle.std.proofs.lemmas.Bool.Decides.{nat_tests}
+use Rattle.std.proofs.Math.ListN.{set}
 use Rattle.row_core.specs.Vectors.{cell}
 use Rattle.row_core.specs.Range.{InRange, AllInRange}
 use Rattle.term_text.specs.declared.terms.Term.{Term}
@@ -52,6 +54,21 @@ last_of P ts t all = let last : P (get_or (ts ++ t ∷ []) (length ts) t) = All-
 
 part-own : (dim : ℕ) (t : Term) → part dim t (column_of dim t) ≡ value_of t
 part-own dim t = rw (eq-eqb (column_of dim t) (column_of dim t) refl) refl
+
+-- another column has no part of the term
+part-other : (dim : ℕ) (t : Term) (j : ℕ) → j ≢ column_of dim t → part dim t j ≡ pos 0
+part-other dim t j ne = grind (arith, nat_tests)
+
+-- a row with the term added in its column
+pub added_at : (dim : ℕ) (t : Term) (cells : List ℤ) (k : ℕ) (v : ℤ) → k ≡ column_of dim t → k < length cells → v ≡ cell cells k +ℤ value_of t → (j : ℕ) → cell (set cells k v) j ≡ cell cells j +ℤ part dim t j
+added_at dim t cells k v own below e j = by (cases_eq j k)
+  where
+    none : (z : ℤ) → z ≡ z +ℤ pos 0
+    none z = omega (arith, ints)
+
+    by : (j ≡ k) ⊎ (j ≢ k) → cell (set cells k v) j ≡ cell cells j +ℤ part dim t j
+    by (inl h) = subst (λ (i : ℕ). cell (set cells k v) i ≡ cell cells i +ℤ part dim t i) (sym h) (get_or-set_same cells k v (pos 0) below ∙ (e ∙ ap (λ z. cell cells k +ℤ z) (sym (ap (part dim t) own ∙ part-own dim t))))
+    by (inr ne) = get_or-set_other cells k j v (pos 0) ne ∙ (none (cell cells j) ∙ ap (λ z. cell cells j +ℤ z) (sym (part-other dim t j (λ h. ne (h ∙ sym own)))))
 
 column_within : (dim : ℕ) (variable : Option ℕ) → MatchOption variable (Unit {0}) (λ j. j < dim) → unwrap_or variable dim ≤ dim
 column_within dim None within = omega arith

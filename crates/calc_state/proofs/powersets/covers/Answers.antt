@@ -11,6 +11,11 @@ use Rattle.line_values.proofs.PerformedLemmas.{leaves}
 use Rattle.calc_state.proofs.PowersetLemmas.{compared, told}
 use Rattle.calc_state.proofs.powersets.covers.Goals as goal
 
+pub no_with_point-requires : goal.no_with_point-requires
+no_with_point-requires g c =
+    let found = rw c.in-Ok-No.field-0-is at c.in-Ok-No.ensures.answer in
+    record { narrow = rw c.dim-dim.ensures.value c.dim-dim.ensures.kept.narrow; point = rw c.dim-dim.ensures.value found.point; primitive = found.primitive }
+
 pub returns-in_ok-answer-in-Ok-Yes : goal.returns-in_ok-answer-in-Ok-Yes
 returns-in_ok-answer-in-Ok-Yes g c =
     let s : Union = c.in-Some-Some.s.now in

@@ -1,14 +1,15 @@
-use Rattle.std.specs.Prelude.{ℕ, length}
+use Rattle.std.specs.Prelude.{ℕ, ◌-◌, length}
 use Rattle.row_core.specs.Lists.{vectors}
 use Rattle.cone_laws.specs.Cones.{Upto}
 use Rattle.cone_laws.specs.Canon.{Canon}
-use Rattle.std.proofs.Common.{sym, subst, arith}
+use Rattle.std.proofs.Common.{sym, subst, arith, rules}
+use Rattle.std.proofs.lemmas.Grind.{common_steps}
 use Rattle.chernikova.specs.Beside.{IsDone}
 use Rattle.chernikova.specs.Changes.{AreLists}
-use Rattle.chernikova.specs.Conversion.{IsState}
+use Rattle.chernikova.specs.Conversion.{IsState, IsCountedUpto, IsCountedBefore, IsRealOverflow}
 use Rattle.chernikova.proofs.Counts.{counted_start}
 use Rattle.chernikova.proofs.Rankings.{rearranged_canon, rearranged_zeros, rearranged_lists}
-use Rattle.chernikova.proofs.PlacedCones.{beside_idle, placed_canon, placed_lists, placed_zeros, first_of, second_of}
+use Rattle.chernikova.proofs.PlacedCones.{beside_idle, placed_canon, placed_lists, placed_zeros, done_places, first_of, second_of}
 use Rattle.chernikova.proofs.better_order.convert_in_better_order.Goals as goal
 
 pub race-requires-clause-state : goal.race-requires-clause-state
@@ -61,3 +62,64 @@ returns-clause-sat g c =
     let state : IsState c.args.rows.now.width c.args.rows.now.rows (length c.args.rows.now.rows) c.race.new.cone =
     second_of c.in_ok-other.other (IsDone c.args.rows.now.width c.args.rows.now.rows c.race.new.beside) (IsState c.args.rows.now.width c.args.rows.now.rows (length c.args.rows.now.rows) c.race.new.cone) c.if-other.false c.in_ok-other.ensures.done in
     rearranged_zeros c.args.rows.now.width c.args.rows.now.rows (length c.args.rows.now.rows) c.race.new.cone c.in_ok-sorted.field-0 state c.in_ok-sorted.ensures
+
+pub answered-requires-clause-as_many : goal.answered-requires-clause-as_many
+answered-requires-clause-as_many g c = grind (arith, common_steps)
+
+pub answered-requires-clause-lines : goal.answered-requires-clause-lines
+answered-requires-clause-lines g c = grind (arith, common_steps)
+
+pub answered-requires-clause-rays : goal.answered-requires-clause-rays
+answered-requires-clause-rays g c = grind (arith, common_steps)
+
+pub sorted-requires-clause-as_many : goal.sorted-requires-clause-as_many
+sorted-requires-clause-as_many g c = grind (arith, common_steps)
+
+pub sorted-requires-clause-lines : goal.sorted-requires-clause-lines
+sorted-requires-clause-lines g c = grind (arith, common_steps)
+
+pub sorted-requires-clause-rays : goal.sorted-requires-clause-rays
+sorted-requires-clause-rays g c = grind (arith, common_steps)
+
+pub answered-requires-clause-places : goal.answered-requires-clause-places
+answered-requires-clause-places g c =
+    let done : IsDone c.args.rows.now.width c.args.rows.now.rows c.race.new.beside =
+    first_of c.in_ok-other.other (IsDone c.args.rows.now.width c.args.rows.now.rows c.race.new.beside) (IsState c.args.rows.now.width c.args.rows.now.rows (length c.args.rows.now.rows) c.race.new.cone) c.if-other.true c.in_ok-other.ensures.done in
+    done_places c.args.rows.now.width c.args.rows.now.rows c.race.new.beside done
+
+pub returns-in_err-other-clause-counted : goal.returns-in_err-other-clause-counted
+returns-in_err-other-clause-counted g c =
+    let P : ℕ → Type 0 = λ w. IsCountedUpto w c.args.rows.now.rows (length c.args.rows.now.rows) (c.race.new.steps - c.args.steps.now) in
+    subst P c.requires.width c.race.ensures.counted
+
+pub returns-then-other-clause-counted : goal.returns-then-other-clause-counted
+returns-then-other-clause-counted g c =
+    let P : ℕ → Type 0 = λ w. IsCountedUpto w c.args.rows.now.rows (length c.args.rows.now.rows) (c.race.new.steps - c.args.steps.now) in
+    subst P c.requires.width c.race.ensures.counted
+
+pub returns-clause-counted : goal.returns-clause-counted
+returns-clause-counted g c =
+    let P : ℕ → Type 0 = λ w. IsCountedUpto w c.args.rows.now.rows (length c.args.rows.now.rows) (c.race.new.steps - c.args.steps.now) in
+    subst P c.requires.width c.race.ensures.counted
+
+pub returns-in_err-answered-clause-counted : goal.returns-in_err-answered-clause-counted
+returns-in_err-answered-clause-counted g c =
+    let P : ℕ → Type 0 = λ w. IsCountedUpto w c.args.rows.now.rows (length c.args.rows.now.rows) (c.race.new.steps - c.args.steps.now) in
+    subst P c.requires.width c.race.ensures.counted
+
+pub returns-in_err-sorted-clause-counted : goal.returns-in_err-sorted-clause-counted
+returns-in_err-sorted-clause-counted g c =
+    let P : ℕ → Type 0 = λ w. IsCountedUpto w c.args.rows.now.rows (length c.args.rows.now.rows) (c.race.new.steps - c.args.steps.now) in
+    subst P c.requires.width c.race.ensures.counted
+
+pub returns-in_err-other-clause-overflow : goal.returns-in_err-other-clause-overflow
+returns-in_err-other-clause-overflow g c =
+    let P : ℕ → Type 0 = λ w. IsRealOverflow w c.args.rows.now.rows c.in_err-other.field-0.0 in
+    let h : IsRealOverflow c.args.width c.args.rows.now.rows c.in_err-other.field-0.0 = subst P c.requires.width c.in_err-other.ensures.overflow in
+    search rules
+
+pub returns-in_err-other-clause-counted_before : goal.returns-in_err-other-clause-counted_before
+returns-in_err-other-clause-counted_before g c =
+    let P : ℕ → Type 0 = λ w. IsCountedBefore w c.args.rows.now.rows (c.race.new.steps - c.args.steps.now) c.in_err-other.field-0.0 in
+    let h : IsCountedBefore c.args.width c.args.rows.now.rows (c.race.new.steps - c.args.steps.now) c.in_err-other.field-0.0 = subst P c.requires.width c.in_err-other.ensures.counted_before in
+    search rules

@@ -1,6 +1,7 @@
 use Rattle.std.specs.Prelude.{◌≡◌, ◌+◌, ◌++◌, ◌∷◌, [], ℕ, List, pos, true}
 use Rattle.std.proofs.Common.{sym, ap, subst, ◌∙◌, arith, set}
 use Rattle.std.proofs.lemmas.List.Elements.{All-same}
+use Rattle.std.proofs.lemmas.Grind.{common_steps}
 use Rattle.row_core.specs.Lists.{Row}
 use Rattle.chernikova.proofs.VectorLemmas.{marked_push}
 use Rattle.chernikova.proofs.NextStates.{AreUnitsUpto, units_more, units_all, unit, zeros_back}
@@ -25,3 +26,18 @@ pub returns-clause-units : goal.returns-clause-units
 returns-clause-units c =
     let P : ℕ → Type 0 = λ n. AreUnitsUpto c.args.width n c.loop-column.units.rows in
     units_all c.args.width c.loop-column.units.rows (subst P (let e : c.loop-column.column ≡ c.args.width = omega arith in e) c.loop-column.invariant.units)
+
+pub push-requires-clause-wide : goal.push-requires-clause-wide
+push-requires-clause-wide c = grind (arith, common_steps)
+
+pub push-requires-clause-in_range : goal.push-requires-clause-in_range
+push-requires-clause-in_range c = grind (arith, common_steps)
+
+pub push-requires-clause-alike : goal.push-requires-clause-alike
+push-requires-clause-alike c = grind (arith, common_steps)
+
+pub loop-column-init : goal.loop-column-init
+loop-column-init c = grind (arith, common_steps)
+
+pub returns-clause-list : goal.returns-clause-list
+returns-clause-list c = grind (arith, common_steps)

@@ -1,27 +1,32 @@
-use Rattle.std.specs.Prelude.{◌≡◌, ℤ, pos, List, length}
+use Rattle.std.specs.Prelude.{◌≡◌, ◌<◌, ℕ, ℤ, pos, List, All, length}
 use Rattle.std.specs.Int.{w128}
 use Rattle.std.proofs.Common.{sym, subst, ◌∙◌, get_or, arith}
 use Rattle.std.proofs.lemmas.Int.{to_z-of_z}
 use Rattle.std.proofs.lemmas.List.Elements.{All-get_or}
 use mir.Val.{SFits}
-use Rattle.row_core.specs.Range.{InRange}
+use Rattle.row_core.specs.Range.{InRange, AllInRange}
 use Rattle.std.proofs.lemmas.Result.{err_from_is_err_and}
+use Rattle.std.proofs.lemmas.Grind.{common_steps}
 use Rattle.cone_laws.specs.Canon.{vector_at}
 use Rattle.chernikova.specs.declared.fault.Part.TheVariants.{Rays}
 use Rattle.row_core.specs.Lists.{vectors}
 use Rattle.chernikova.specs.Changes.{value_at}
-use Rattle.chernikova.specs.Faults.{IsLowerFault}
+use Rattle.chernikova.specs.Faults.{IsLowerFault, IsOtherFault}
 use Rattle.cone_laws.proofs.FactorLemmas.{fits}
 use Rattle.chernikova.proofs.VectorLemmas.{vector_at-vectors, length-vectors}
-use Rattle.chernikova.proofs.FaultLemmas.{line_fault_from_ray}
-use Rattle.chernikova.proofs.ChangeLemmas.{marked_with_upward}
+use Rattle.chernikova.proofs.FaultLemmas.{line_fault_from_line, line_fault_from_ray}
+use Rattle.chernikova.proofs.ChangeLemmas.{line_change, marked_with_upward}
 use Rattle.chernikova.proofs.line_step.line_step.Goals as goal
+
+-- a value in the range is itself where it is passed on
+fits_at : (values : List ℤ) (index : ℕ) → index < length values → All InRange values → SFits w128 (get_or values index (pos 0))
+fits_at values index below h = fits (get_or values index (pos 0)) (All-get_or InRange values index (pos 0) below h)
 
 pub returns-in_err-rays-clause-change : goal.returns-in_err-rays-clause-change
 returns-in_err-rays-clause-change g c =
     let lines = c.args.cone.now.lines.rows in
     let rays = c.args.cone.now.rays.rows in
-    let value_fits : SFits w128 (get_or c.args.line_values.now c.args.index (pos 0)) = fits (get_or c.args.line_values.now c.args.index (pos 0)) (All-get_or InRange c.args.line_values.now c.args.index (pos 0) (omega (arith, c.requires.crossing.0, c.requires.as_many.0)) c.requires.in_range.0) in
+    let value_fits = fits_at c.args.line_values.now c.args.index (omega (arith, c.requires.crossing.0, c.requires.as_many.0)) c.requires.in_range.0 in
     let p = err_from_is_err_and c.from_residual-in_err-rays.result c.from_residual-in_err-rays.ensures.1 in
     let line : c.row.result.now ≡ vector_at (vectors lines) c.args.index = c.row.ensures.value ∙ sym (vector_at-vectors lines c.args.index) in
     let P : List ℤ → Type 0 = λ w. IsLowerFault (value_at c.args.line_values.now c.args.index) c.args.index w Rays 0 (length rays) c.args.ray_values.now (vectors rays) c.in_err-rays.field-0.0 in
@@ -34,3 +39,42 @@ returns-clause-lists g c = record {
   lines_marked = c.in_ok-lines.ensures.list.1;
   rays_marked = marked_with_upward c.args.eq _ _ c.in_ok-rays.rays.rows c.push_upward.new.rays.rows c.in_ok-push_upward.ensures.rows c.in_ok-rays.ensures.list.1;
 }
+
+pub lowered_lines-requires-clause-in_range : goal.lowered_lines-requires-clause-in_range
+lowered_lines-requires-clause-in_range g c = grind (arith, common_steps)
+
+pub lowered_lines-requires-clause-nonzero : goal.lowered_lines-requires-clause-nonzero
+lowered_lines-requires-clause-nonzero g c = grind (arith, common_steps)
+
+pub lowered_rays-requires-clause-in_range : goal.lowered_rays-requires-clause-in_range
+lowered_rays-requires-clause-in_range g c = grind (arith, common_steps)
+
+pub lowered_rays-requires-clause-nonzero : goal.lowered_rays-requires-clause-nonzero
+lowered_rays-requires-clause-nonzero g c = grind (arith, common_steps)
+
+pub push_upward-requires-clause-nonzero : goal.push_upward-requires-clause-nonzero
+push_upward-requires-clause-nonzero g c = grind (arith, common_steps)
+
+pub returns-in_err-lines-clause-change : goal.returns-in_err-lines-clause-change
+returns-in_err-lines-clause-change g c =
+    let lines = c.args.cone.now.lines.rows in
+    let rays = c.args.cone.now.rays.rows in
+    let value_fits = fits_at c.args.line_values.now c.args.index (omega (arith, c.requires.crossing.0, c.requires.as_many.0)) c.requires.in_range.0 in
+    let p = err_from_is_err_and c.from_residual-in_err-lines.result c.from_residual-in_err-lines.ensures.1 in
+    let line : c.row.result.now ≡ vector_at (vectors lines) c.args.index = c.row.ensures.value ∙ sym (vector_at-vectors lines c.args.index) in
+    let P : List ℤ → Type 0 = λ w. IsOtherFault (value_at c.args.line_values.now c.args.index) c.args.index w c.args.line_values.now (vectors lines) c.in_err-lines.field-0.0 in
+    rw (p.1, p.2) (line_fault_from_line c.args.index c.args.line_values.now c.args.ray_values.now (vectors lines) (vectors rays) c.in_err-lines.field-0.0 (subst P line (simp to_z-of_z at c.in_err-lines.ensures.lowered)))
+
+pub push_upward-requires-clause-in_range : goal.push_upward-requires-clause-in_range
+push_upward-requires-clause-in_range g c =
+    let below : c.args.index < length c.args.line_values.now = omega (arith, c.requires.crossing.0, c.requires.as_many.0) in
+    let value_fits = fits_at c.args.line_values.now c.args.index below c.requires.in_range.0 in (
+      subst AllInRange (sym c.row.ensures.value) c.row.ensures.in_range,
+      simp to_z-of_z (All-get_or InRange c.args.line_values.now c.args.index (pos 0) below c.requires.in_range.0),
+    )
+
+pub returns-clause-change : goal.returns-clause-change
+returns-clause-change g c =
+    let value_fits = fits_at c.args.line_values.now c.args.index (omega (arith, c.requires.crossing.0, c.requires.as_many.0)) c.requires.in_range.0 in
+    line_change c.args.index c.args.line_values.now c.args.ray_values.now c.args.eq c.args.cone.now.lines.rows c.args.cone.now.rays.rows c.in_ok-lines.lines.rows c.in_ok-rays.rays.rows c.push_upward.new.rays.rows _ c.row.result.now (to_z-of_z w128 _ value_fits) c.row.ensures.value
+    c.in_ok-lines.ensures.lowered c.in_ok-rays.ensures.lowered (simp to_z-of_z at c.in_ok-push_upward.ensures.rows)

@@ -1,6 +1,7 @@
 use Rattle.std.specs.Prelude.{Bool, List, ℕ, ℤ, ◌+◌, map, pos}
 use Rattle.std.specs.Ordering.{int_eq}
-use Rattle.std.proofs.Common.{sym, ap, subst}
+use Rattle.std.proofs.Common.{sym, ap, subst, arith}
+use Rattle.std.proofs.lemmas.Grind.{common_steps}
 use Rattle.row_core.specs.Lists.{Rows, row_at, is_eq_at}
 use Rattle.sat_matrix.specs.Tables.{Table}
 use Rattle.chernikova.specs.declared.step.Change.{Change}
@@ -50,3 +51,12 @@ returns-in_ok-after_ray_step-in-Ray c =
     subst L (sym (ap (λ (s : System). s.lines) outcome.0))
     (ray_state c.args.rows.now.width rows c.args.k before c.args.cone.now.rays c.in-Ray.values.items c.in-Ray.marks.items c.in-Ray.pairs.items c.after_ray_step.new.zeros c.requires.row c.requires.outcome.1 outcome.1
     (subst S (ap (λ (s : System). s.sat) outcome.0) (subst B c.deref-in-Ray-2.ensures.value (subst A c.deref-in-Ray.ensures.value c.in_ok-after_ray_step-in-Ray.ensures))))
+
+pub after_ray_step-requires-clause-as_many : goal.after_ray_step-requires-clause-as_many
+after_ray_step-requires-clause-as_many c = grind (arith, common_steps)
+
+pub after_ray_step-requires-clause-pairs : goal.after_ray_step-requires-clause-pairs
+after_ray_step-requires-clause-pairs c = grind (arith, common_steps)
+
+pub push_zeros-requires : goal.push_zeros-requires
+push_zeros-requires c = grind (arith, common_steps)

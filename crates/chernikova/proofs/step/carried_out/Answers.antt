@@ -1,6 +1,7 @@
 use Rattle.std.specs.Prelude.{ℕ, ℤ, List, Bool}
-use Rattle.std.proofs.Common.{refl, sym, subst, ◌∙◌}
+use Rattle.std.proofs.Common.{refl, sym, subst, ◌∙◌, arith}
 use Rattle.std.proofs.lemmas.Result.{err_from_is_err_and}
+use Rattle.std.proofs.lemmas.Grind.{common_steps}
 use Rattle.row_core.specs.Lists.{row_at, is_eq_at, vectors}
 use Rattle.cone_laws.specs.Steps.{IsLineStep}
 use Rattle.chernikova.specs.declared.plan.Plan.{Plan}
@@ -55,3 +56,30 @@ returns-in_ok-lines-in-Line-clause-outcome g c =
             (subst Q (c.deref-in-Line.ensures.value ∙ plan.are_ray_values) (subst P (c.deref.ensures.value ∙ plan.are_line_values) c.in_ok-lines-in-Line.ensures.change)));
       },
     )
+
+pub returns-in_ok-ray_step-in-Ray-clause-outcome : goal.returns-in_ok-ray_step-in-Ray-clause-outcome
+returns-in_ok-ray_step-in-Ray-clause-outcome g c = grind (arith, common_steps)
+
+pub line_step-requires-clause-as_many : goal.line_step-requires-clause-as_many
+line_step-requires-clause-as_many g c = grind (arith, common_steps)
+
+pub line_step-requires-clause-in_range : goal.line_step-requires-clause-in_range
+line_step-requires-clause-in_range g c = grind (arith, common_steps)
+
+pub line_step-requires-clause-crossing : goal.line_step-requires-clause-crossing
+line_step-requires-clause-crossing g c = grind (arith, common_steps)
+
+pub line_step-requires-clause-primitive : goal.line_step-requires-clause-primitive
+line_step-requires-clause-primitive g c = grind (arith, common_steps)
+
+pub ray_step-requires-clause-as_many : goal.ray_step-requires-clause-as_many
+ray_step-requires-clause-as_many g c = grind (arith, common_steps)
+
+pub ray_step-requires-clause-in_range : goal.ray_step-requires-clause-in_range
+ray_step-requires-clause-in_range g c = grind (arith, common_steps)
+
+pub ray_step-requires-clause-opposite : goal.ray_step-requires-clause-opposite
+ray_step-requires-clause-opposite g c = grind (arith, common_steps)
+
+pub ray_step-requires-clause-marked : goal.ray_step-requires-clause-marked
+ray_step-requires-clause-marked g c = grind (arith, common_steps)

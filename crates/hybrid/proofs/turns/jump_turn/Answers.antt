@@ -1,14 +1,35 @@
-use Rattle.std.proofs.Common.{◌≡◌, ◌⊎◌, Some, slice_get, ap, subst, sym, ◌∙◌}
+use Rattle.std.proofs.Common.{◌≡◌, ◌⊎◌, ℕ, ◌*◌, length, Some, slice_get, subst, sym, arith}
 use Rattle.std.proofs.lemmas.Result.{IfOk-weaker, IfErr-weaker}
 use Rattle.poly_pair.specs.Polyhedra.{Polyhedron}
+use Rattle.poly_pair.specs.ClosedPolyhedra.{IsClosedOver}
 use Rattle.trans_sys.specs.declared.transition.Transition.{Transition}
-use Rattle.trans_sys.specs.Systems.{TransitionSystem}
+use Rattle.trans_sys.specs.Systems.{TransitionSystem, IsTransition}
 use Rattle.row_core.specs.Refusals.{IsOverflowIn}
 use Rattle.widening.specs.RunLaws.{IsFound}
+use Rattle.widening.proofs.Places.{all_at}
+use Rattle.hybrid.specs.Systems.{IsKeptHybrid}
 use Rattle.hybrid.specs.Steps.{IsJumpPost, LeavesOnJump}
 use Rattle.hybrid.specs.Turns.{IsHullWith, IsOfJump, LeavesAfter, LeavesInJump}
 use Rattle.hybrid.proofs.HybridTurns.{found_jump, leaves_jump}
 use Rattle.hybrid.proofs.turns.jump_turn.Goals as goal
+
+pub jump_joined-requires : goal.jump_joined-requires
+jump_joined-requires g c =
+    let h = c.args.h.now in
+    let kept : IsKeptHybrid h = c.system.ensures.kept in
+    let t : Transition = record { source = c.trans-from.result.0; target = c.trans-from.result.1; relation = c.trans-from.result.2.now } in
+    let at : slice_get h.system.transitions c.args.index ≡ Some t = subst (λ (s : TransitionSystem). slice_get s.transitions c.args.index ≡ Some t) c.system.ensures.value c.trans-from.ensures.value in
+    let is : IsTransition (length h.system.initial) h.system.dim t = all_at (IsTransition (length h.system.initial) h.system.dim) h.system.transitions c.args.index t kept.system.transitions at in
+    let target : IsClosedOver h.system.dim c.inv-2.result.now = all_at (IsClosedOver h.system.dim) h.invariants t.target c.inv-2.result.now kept.invariants.each c.inv-2.ensures.value in
+    let same : h.system.dim ≡ c.inv-2.result.now.cons.dim = sym target.over.same_dim in
+    record {
+      narrow = omega (arith, same, kept.system.narrow);
+      source = subst (λ (d : ℕ). IsClosedOver d c.lent.result.now) same (all_at (IsClosedOver h.system.dim) c.args.sets.now t.source c.lent.result.now c.requires.sets.each c.lent.ensures);
+      inv = subst (λ (d : ℕ). IsClosedOver d c.inv.result.now) same (all_at (IsClosedOver h.system.dim) h.invariants t.source c.inv.result.now kept.invariants.each c.inv.ensures.value);
+      relation = subst (λ (d : ℕ). IsClosedOver (2 * d) t.relation) same is.relation;
+      old = subst (λ (d : ℕ). IsClosedOver d c.lent-2.result.now) same (all_at (IsClosedOver h.system.dim) c.args.sets.now t.target c.lent-2.result.now c.requires.sets.each c.lent-2.ensures);
+      target_inv = subst (λ (d : ℕ). IsClosedOver d c.inv-2.result.now) same target;
+    }
 
 pub returns-clause-found : goal.returns-clause-found
 returns-clause-found g c =

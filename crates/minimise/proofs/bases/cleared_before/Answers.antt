@@ -2,6 +2,7 @@ use Rattle.std.specs.Prelude.{true, Contains}
 use Rattle.std.proofs.Common.{◌≡◌, List, ℤ, [], ◌∷◌, ◌++◌, length, drop, refl, arith, sym, ap, ◌∙◌, subst}
 use Rattle.std.proofs.lemmas.List.{take_at}
 use Rattle.std.proofs.lemmas.List.Elements.{All-same, Contains-get_or}
+use Rattle.std.proofs.lemmas.Grind.{common_steps}
 use Rattle.row_core.specs.Vectors.{cell}
 use Rattle.row_core.specs.Range.{AllInRange}
 use Rattle.row_core.specs.Content.{IsPrimitive}
@@ -72,3 +73,24 @@ loop-index-preserved g c =
           (ap vectors pushed ∙ vectors_push c.loop-index.new.rows c.from_vec.result true ∙ ap (λ (v : List ℤ). vectors c.loop-index.new.rows ++ v ∷ []) written);
       marks = All-same (λ (row : Row). row.1 ≡ true) c.push_row.new.self.rows _ pushed (marked_push true c.loop-index.new.rows _ inv.marks);
     }
+
+pub clear_at-requires-clause-same_width : goal.clear_at-requires-clause-same_width
+clear_at-requires-clause-same_width g c = grind (arith, common_steps)
+
+pub clear_at-requires-clause-narrow : goal.clear_at-requires-clause-narrow
+clear_at-requires-clause-narrow g c = grind (arith, common_steps)
+
+pub clear_at-requires-clause-line : goal.clear_at-requires-clause-line
+clear_at-requires-clause-line g c = grind (arith, common_steps)
+
+pub loop-index-init : goal.loop-index-init
+loop-index-init g c = grind (arith, common_steps)
+
+pub returns-clause-list : goal.returns-clause-list
+returns-clause-list g c = grind (arith, common_steps)
+
+pub returns-clause-counted : goal.returns-clause-counted
+returns-clause-counted g c = grind (arith, common_steps)
+
+pub from_vec-requires-clause-narrow : goal.from_vec-requires-clause-narrow
+from_vec-requires-clause-narrow g c = grind (arith, common_steps)

@@ -1,6 +1,7 @@
 use Rattle.std.specs.Prelude.{true}
 use Rattle.std.proofs.Common.{◌++◌, ◌∷◌, [], drop, ap, ◌∙◌, arith, append_assoc}
 use Rattle.std.proofs.lemmas.Result.{err_from_is_err_and}
+use Rattle.std.proofs.lemmas.Grind.{common_steps}
 use Rattle.row_core.specs.Lists.{vectors}
 use Rattle.cone_laws.proofs.VectorLemmas.{length-vectors, vectors_push}
 use Rattle.minimise.proofs.ClearedRows.{taken_from}
@@ -27,3 +28,24 @@ returns-clause-taken g c =
     let front = c.in_ok-new.new.rows in
     taken_from c.args.pivot lines c.args.line.now c.place_of-place.result (vectors front) (vectors c.push_from.new.into.rows) c.requires.echelon (λ i h. c.requires.primitive i [] h) c.requires.line.at c.place_of-place.ensures c.in_ok-new.ensures.cleared
     (c.in_ok-push_from.ensures.rows ∙ ap (λ vs. vs ++ drop c.place_of-place.result (vectors c.args.lines.now.rows)) (ap vectors c.in_ok-push.ensures.rows ∙ vectors_push front c.args.line.now true) ∙ append_assoc (vectors front) (c.args.line.now ∷ []) (drop c.place_of-place.result (vectors c.args.lines.now.rows)))
+
+pub cleared_before-requires-clause-wide : goal.cleared_before-requires-clause-wide
+cleared_before-requires-clause-wide g c = grind (arith, common_steps)
+
+pub cleared_before-requires-clause-line : goal.cleared_before-requires-clause-line
+cleared_before-requires-clause-line g c = grind (arith, common_steps)
+
+pub cleared_before-requires-clause-primitive : goal.cleared_before-requires-clause-primitive
+cleared_before-requires-clause-primitive g c = grind (arith, common_steps)
+
+pub push-requires-clause-wide : goal.push-requires-clause-wide
+push-requires-clause-wide g c = grind (arith, common_steps)
+
+pub push-requires-clause-in_range : goal.push-requires-clause-in_range
+push-requires-clause-in_range g c = grind (arith, common_steps)
+
+pub push_from-requires-clause-width : goal.push_from-requires-clause-width
+push_from-requires-clause-width g c = grind (arith, common_steps)
+
+pub returns-clause-counted : goal.returns-clause-counted
+returns-clause-counted g c = grind (arith, common_steps)

@@ -1,9 +1,9 @@
 use Rattle.std.specs.Prelude.{false}
 use Rattle.std.proofs.Common.{◌≡◌, List, ℤ, ℕ, [], length, drop, get_or, arith, sym, ap, ◌∙◌, subst}
-use Rattle.std.proofs.lemmas.List.{take_at, take_all}
+use Rattle.std.proofs.lemmas.List.{take_at}
 use Rattle.std.proofs.lemmas.List.Elements.{All-same}
 use Rattle.row_core.specs.Content.{IsPrimitiveOf, IsMultipleOf}
-use Rattle.row_core.specs.Lists.{Row, row_at, vectors, Pointwise}
+use Rattle.row_core.specs.Lists.{Row, row_at, vectors}
 use Rattle.cone_laws.proofs.VectorLemmas.{vectors_push, marked_push}
 use Rattle.minimise.specs.Bases.{IsReduced}
 use Rattle.minimise.proofs.PointwiseLists.{pointwise_more}

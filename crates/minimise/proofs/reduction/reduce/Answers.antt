@@ -1,5 +1,6 @@
 use Rattle.std.proofs.Common.{◌≡◌, ◌+◌, ◌<◌, suc, ℕ, List, ℤ, [], length, take, drop, rules, arith, sym, ap, ◌∙◌, subst}
-use Rattle.std.proofs.lemmas.List.{take_at, nil_from_length}
+use Rattle.std.proofs.lemmas.List.{take_at}
+use Rattle.std.proofs.lemmas.Grind.{common_steps}
 use Rattle.row_core.specs.Vectors.{cell}
 use Rattle.row_core.specs.Range.{AllInRange}
 use Rattle.row_core.specs.Content.{IsPrimitive}
@@ -84,3 +85,21 @@ loop-index-preserved g c =
           (reduced_more (vectors rows) c.requires.echelon c.args.row.now old new index c.pivot_of.result (omega (arith, length-vectors rows)) (subst (λ (v : List ℤ). IsPivot v c.pivot_of.result) line c.pivot_of.ensures) inv.reduced made));
       in_range = subst AllInRange (sym written) c.clear_at-cleared.ensures.in_range;
     }
+
+pub clear_at-cleared-requires-clause-same_width : goal.clear_at-cleared-requires-clause-same_width
+clear_at-cleared-requires-clause-same_width g c = grind (arith, common_steps)
+
+pub clear_at-cleared-requires-clause-narrow : goal.clear_at-cleared-requires-clause-narrow
+clear_at-cleared-requires-clause-narrow g c = grind (arith, common_steps)
+
+pub clear_at-cleared-requires-clause-line : goal.clear_at-cleared-requires-clause-line
+clear_at-cleared-requires-clause-line g c = grind (arith, common_steps)
+
+pub returns-clause-reduced : goal.returns-clause-reduced
+returns-clause-reduced g c = grind (arith, common_steps)
+
+pub returns-clause-counted : goal.returns-clause-counted
+returns-clause-counted g c = grind (arith, common_steps)
+
+pub primitive-requires-clause-narrow : goal.primitive-requires-clause-narrow
+primitive-requires-clause-narrow g c = grind (arith, common_steps)

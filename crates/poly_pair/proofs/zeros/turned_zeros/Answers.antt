@@ -1,7 +1,7 @@
-use Rattle.std.proofs.Common.{◌≡◌, ◌∙◌, ℕ, List, ℤ, length}
+use Rattle.std.proofs.Common.{◌≡◌, ◌∙◌, List, ℤ, length}
 use Rattle.std.proofs.lemmas.Result.{IfOk-weaker}
 use Rattle.row_core.specs.Lists.{Row, vectors, system_rows}
-use Rattle.sat_matrix.specs.Tables.{Table, transposed}
+use Rattle.sat_matrix.specs.Tables.{transposed}
 use Rattle.sat_matrix.specs.ZeroTables.{IsZeroTable}
 use Rattle.poly_pair.specs.Zeros.{AreZeroOn}
 use Rattle.poly_pair.proofs.ZeroTables.{zeros_behind}

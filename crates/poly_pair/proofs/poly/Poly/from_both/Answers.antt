@@ -1,3 +1,8 @@
+use Rattle.std.proofs.Common.{ℕ, ◌+◌, List, subst, rules}
+use Rattle.row_core.specs.Lists.{Row}
+use Rattle.pair_laws.specs.WorkLists.{constraint_list}
+use Rattle.poly_pair.specs.Parts.{AreStoredOfRows}
+use Rattle.poly_pair.specs.Refusals.{IsOverflowOn}
 use Rattle.poly_pair.specs.declared.topology.Topology.TheVariants.{Closed}
 use Rattle.poly_pair.proofs.ListLemmas.{constraints_of_rows}
 use Rattle.poly_pair.proofs.BothSystems.{both_start, generators_of_both, generators_stored}
@@ -14,3 +19,18 @@ returns-clause-generators g c = generators_of_both c.args.cons.now c.args.gens.n
 
 pub returns-clause-stored_of_generators : goal.returns-clause-stored_of_generators
 returns-clause-stored_of_generators g c = generators_stored c.args.gens.now c.in_ok-made.made c.dim-kept.ensures.kept (returns-clause-generators g c) c.requires.kinds c.dim-vectors.ensures.rows c.requires.point
+
+pub returns-clause-stored_of_constraints : goal.returns-clause-stored_of_constraints
+returns-clause-stored_of_constraints g c =
+    let cs = c.args.cons.now in
+    subst (λ (k : ℕ). AreStoredOfRows Closed k (constraint_list cs) c.in_ok-made.made) c.dim-dim.ensures.value
+    (subst (λ (rs : List Row). AreStoredOfRows Closed c.dim-dim.result rs c.in_ok-made.made) c.in_ok-list.ensures.rows c.in_ok-made.ensures.stored)
+
+pub returns-in_err-found-clause-overflow : goal.returns-in_err-found-clause-overflow
+returns-in_err-found-clause-overflow g c =
+    let cs = c.args.cons.now in
+    let e = c.in_err-found.field-0.0 in
+    let h : IsOverflowOn (cs.dim + 1) cs.dim (constraint_list cs) e =
+    subst (λ (k : ℕ). IsOverflowOn (k + 1) k (constraint_list cs) e) c.dim-dim.ensures.value
+    (subst (λ (rs : List Row). IsOverflowOn (c.dim-dim.result + 1) c.dim-dim.result rs e) c.in_ok-list.ensures.rows c.in_err-found.ensures.overflow) in
+    search rules

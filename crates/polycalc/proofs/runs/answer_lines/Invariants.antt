@@ -1,7 +1,7 @@
 use Rattle.std.proofs.Common.{◌≡◌, ℕ, ◌+◌, ◌-◌, ◌≤◌, List, true, length}
 use Rattle.std.specs.Io.KnownBytes.{prepend_known, IsAtEnd}
 use Rattle.polycalc.proofs.StreamLaws.{Goes, IsReady}
-use Rattle.polycalc.proofs.runs.run_lines.Given as goal
+use Rattle.polycalc.proofs.runs.answer_lines.Given as goal
 
 abbrev pub invariant-loop-calc : goal.invariant-loop-calc
 invariant-loop-calc g l =

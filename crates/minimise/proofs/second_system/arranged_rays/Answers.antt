@@ -1,0 +1,24 @@
+use Rattle.std.specs.Prelude.{◌<◌, ℕ, List, length, map, All}
+use Rattle.std.proofs.Common.{refl, sym, ap, ◌∙◌, subst}
+use Rattle.row_core.specs.Lists.{row_at}
+use Rattle.sat_matrix.specs.Tables.{bits_of}
+use Rattle.minimise.specs.SecondSystems.{behind_lines}
+use Rattle.minimise.proofs.second_system.arranged_rays.Goals as goal
+
+pub picked-requires : goal.picked-requires
+picked-requires c = subst (λ (is : List ℕ). All (λ i. i < length c.args.parts.now.reduced.rows) is) (sym c.deref.ensures.value) c.in_ok-order.ensures.within
+
+pub second_table-requires : goal.second_table-requires
+second_table-requires c = subst (λ (is : List ℕ). All (λ i. i < length c.args.parts.now.facets.zeros.rows) is) (sym c.deref-2.ensures.value) (subst (λ (n : ℕ). All (λ i. i < n) c.in_ok-order.order.items) (sym c.requires) c.in_ok-order.ensures.within)
+
+pub returns : goal.returns
+returns c = record {
+  lines_are = refl;
+  order = c.in_ok-order.order.items;
+  is_order = c.in_ok-order.ensures;
+  picked = c.in_ok-rays.ensures.rows ∙ ap (λ (is : List ℕ). map (row_at c.args.parts.now.reduced.rows) is) c.deref.ensures.value;
+  width = c.in_ok-rays.ensures.list.0;
+  marks = c.in_ok-rays.ensures.list.1;
+  columns = c.in_ok-sat.ensures.columns;
+  rows = c.in_ok-sat.ensures.rows ∙ ap (λ (is : List ℕ). map (λ i. behind_lines c.args.lines (bits_of c.args.parts.now.facets.zeros.rows i)) is) c.deref-2.ensures.value;
+}

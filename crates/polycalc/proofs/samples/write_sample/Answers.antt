@@ -1,0 +1,16 @@
+use Rattle.std.proofs.Common.{ap, ◌∙◌}
+use Rattle.polycalc.specs.Replies.{Written, with_reply}
+use Rattle.polycalc.proofs.WriteLaws.{sample_written}
+use Rattle.polycalc.proofs.samples.write_sample.Goals as goal
+
+pub returns-clause-outcome : goal.returns-clause-outcome
+returns-clause-outcome g c =
+    let r = c.in-Ok.ensures in
+    λ left. sample_written c.args.n left (g.W.Sink.held c.args.sink.now) (g.W.Sink.held c.write.new.sink) c.reply_to.new.replies r.0 c.write.result r.1
+    (r.2 ∙ ap (λ (w : Written). with_reply w r.0) c.new-replies.ensures) c.write.ensures.writes
+
+pub returns-clause-write_fault : goal.returns-clause-write_fault
+returns-clause-write_fault g c = c.write.ensures.fault
+
+pub returns-clause-untouched : goal.returns-clause-untouched
+returns-clause-untouched g c = λ e calm. absurd (calm (c.write.ensures.want e))
