@@ -69,13 +69,3 @@ returns-clause-fraction c =
     ∙ (ap (λ (xs : List Bound). kept (get_or ws at (pos 0)) (slice_index_or xs at None)) slice
     ∙ sym (cell_is ws bs at below))) in
     subst (λ (b : Bound). IfSome b IsFraction) (sym value) (All-get_or (λ (b : Bound). IfSome b IsFraction) (cells_of ws bs) at None (subst (λ (n : ℕ). at < n) (sym (cells_length ws bs)) below) c.self.invariant.table.fractions)
-
-pub index-requires : goal.index-requires
-index-requires c =
-    let m = c.self.inside.places in
-    let at = c.args.i * m + c.args.j in
-    let same : m ≡ c.args.self.now.places = ap (λ (t : Table). t.places) c.self.view_is in
-    let li : c.args.i < m = subst (λ (n : ℕ). c.args.i < n) (sym same) c.requires.row in
-    let lj : c.args.j < m = subst (λ (n : ℕ). c.args.j < n) (sym same) c.requires.column in
-    let within : at < m * m = mul-add-lt c.args.i m c.args.j m li lj in
-    omega (arith, within, c.self.invariant.table.full, c.self.invariant.worded.full)
