@@ -1,6 +1,7 @@
 //! A list of constraints over one dimension.
 ghost use Rattle.std.specs.Prelude.{◌≡◌, ◌+◌, ◌-◌, ◌^◌, ◌<◌, ◌==◌, ◌↔◌, [], ◌∷◌, ◌++◌, length, MatchResult, IfOk, IsTrue, Err, Contains};
 ghost use Rattle.row_core.specs.Range.{AllInRange};
+ghost use Rattle.row_core.specs.Narrow.{AreNarrow};
 ghost use Rattle.row_core.specs.Content.{IsPrimitive};
 ghost use Rattle.row_core.specs.Points.{IsPoint};
 ghost use Rattle.row_core.specs.declared.PairOver.{PairOver};
@@ -184,6 +185,13 @@ impl ConsSys {
             }
         }
         false
+    }
+
+    /// Whether the numbers of all rows are narrow.
+    pub fn is_narrow(&self) -> bool
+        ensures { IsTrue result ↔ AreNarrow self.now.list }
+    {
+        self.rows.is_narrow()
     }
 
     /// Lends the constraints in order, each row with its kind.

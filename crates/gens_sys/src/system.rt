@@ -1,7 +1,8 @@
 //! A list of generators over one dimension.
-ghost use Rattle.std.specs.Prelude.{◌≡◌, ◌+◌, ◌-◌, ◌^◌, ◌<◌, ◌==◌, ◌↔◌, [], ◌∷◌, ◌++◌, length, MatchResult, IfOk, Err};
+ghost use Rattle.std.specs.Prelude.{◌≡◌, ◌+◌, ◌-◌, ◌^◌, ◌<◌, ◌==◌, ◌↔◌, [], ◌∷◌, ◌++◌, length, MatchResult, IfOk, IsTrue, Err};
 ghost use Rattle.row_core.specs.Vectors.{cell};
 ghost use Rattle.row_core.specs.Range.{AllInRange};
+ghost use Rattle.row_core.specs.Narrow.{AreNarrow};
 ghost use Rattle.gens_sys.specs.Kinds.{HasBadDivisor, IsZeroDirection};
 ghost use Rattle.gens_sys.specs.Generators.{Generators, IsGenerator, FitDimension, Gains, generator_at, row_at, kind_at};
 ghost use Rattle.gens_sys.specs.declared.kind.GenKind.{GenKind};
@@ -214,6 +215,13 @@ impl GensSys {
         ensures { result ≡ kind_at self.now.list i }
     {
         self.rows.mark(i)
+    }
+
+    /// Whether the numbers of all vectors are narrow.
+    pub fn is_narrow(&self) -> bool
+        ensures { IsTrue result ↔ AreNarrow self.now.list }
+    {
+        self.rows.is_narrow()
     }
 
     /// Lends the generators in order, each vector with its kind.

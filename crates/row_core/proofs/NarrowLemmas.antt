@@ -1,14 +1,15 @@
 -- Sizes of sums and products, and that narrow numbers keep them in the range.
-use Rattle.std.specs.Prelude.{◌≡◌, ℕ, ◌+◌, ◌^◌, ◌≤◌, List, length, ℤ, pos, negsuc, ◌+ℤ◌, ◌≤ℤ◌, unsigned_abs}
+use Rattle.std.specs.Prelude.{◌≡◌, ℕ, zero, suc, ◌+◌, ◌*◌, ◌^◌, ◌<◌, ◌≤◌, List, [], ◌∷◌, length, take, get_or, ℤ, pos, negsuc, ◌+ℤ◌, ◌≤ℤ◌, unsigned_abs}
 use Rattle.std.specs.Prelude.{neg_ℤ}
-use Rattle.std.proofs.Common.{arith}
+use Rattle.std.proofs.Common.{arith, refl, sym, subst, add-one}
 use Rattle.std.proofs.Math.IntN.{◌*ℤ◌}
 use Rattle.std.proofs.Math.Nat.{mul-le-mul}
 use Rattle.std.proofs.lemmas.Int.{ints, unsigned_abs-mul}
-use Rattle.std.proofs.lemmas.List.Elements.{All-get_or}
-use Rattle.row_core.specs.Vectors.{cell}
-use Rattle.row_core.specs.Range.{ColumnStays, CombineStays, AllStay}
-use Rattle.row_core.specs.Narrow.{IsNarrow, AllNarrow}
+use Rattle.std.proofs.lemmas.List.Elements.{All-get_or, All-more}
+use Rattle.row_core.specs.Vectors.{cell, dot}
+use Rattle.row_core.specs.Range.{ColumnStays, CombineStays, DotStays, AllStay}
+use Rattle.row_core.specs.Narrow.{IsNarrow, AllNarrow, AreNarrow}
+use Rattle.row_core.proofs.ColumnLemmas.{total_more, stays_more}
 
 at_most_size : (z : ℤ) (n : ℕ) → unsigned_abs z ≤ n → z ≤ℤ pos n
 at_most_size (pos a) n h = omega (arith, ints)
@@ -46,3 +47,36 @@ ColumnStays-narrow s x t y hs hx ht hy =
 pub AllStay-narrow : (u : List ℤ) (s : ℤ) (v : List ℤ) (t : ℤ) → length u ≡ length v → IsNarrow s → IsNarrow t → AllNarrow u → AllNarrow v → AllStay (CombineStays u s v t) (length u)
 AllStay-narrow u s v t e hs ht hu hv =
     λ j h. ColumnStays-narrow s (cell u j) t (cell v j) hs (All-get_or IsNarrow u j (pos 0) h hu) ht (All-get_or IsNarrow v j (pos 0) (omega arith) hv)
+
+-- ---- the dot of narrow rows
+module _ (u v : List ℤ) (e : length u ≡ length v) (left : AllNarrow u) (right : AllNarrow v) where
+  product_size : (j : ℕ) → j < length u → unsigned_abs (cell u j *ℤ cell v j) ≤ 2 ^ 94
+  product_size j h = unsigned_abs-mul_narrow (cell u j) (cell v j) (All-get_or IsNarrow u j (pos 0) h left) (All-get_or IsNarrow v j (pos 0) (omega (arith, h, e)) right)
+
+  sum_size : (j : ℕ) → j < length u → unsigned_abs (dot (take j u) (take j v)) ≤ j * 2 ^ 94 → unsigned_abs (dot (take j u) (take j v) +ℤ cell u j *ℤ cell v j) ≤ j * 2 ^ 94 + 2 ^ 94
+  sum_size j h before = unsigned_abs-add (dot (take j u) (take j v)) (cell u j *ℤ cell v j) (j * 2 ^ 94) (2 ^ 94) before (product_size j h)
+
+  -- of the first columns
+  pub unsigned_abs-dot_narrow : (j : ℕ) → j ≤ length u → unsigned_abs (dot (take j u) (take j v)) ≤ j * 2 ^ 94
+  unsigned_abs-dot_narrow zero h = omega arith
+  unsigned_abs-dot_narrow (suc j) h =
+      let within : j < length u = omega (arith, h) in
+      subst (λ (n : ℕ). unsigned_abs (dot (take n u) (take n v)) ≤ suc j * 2 ^ 94) (add-one j)
+      (subst (λ (z : ℤ). unsigned_abs z ≤ suc j * 2 ^ 94) (total_more u v j (dot (take j u) (take j v)) within e refl) (omega (arith, sum_size j within (unsigned_abs-dot_narrow j (omega (arith, h))))))
+
+  pub AllStay-dot_narrow : length u < 2 ^ 32 → AllStay (DotStays u v) (length u)
+  AllStay-dot_narrow few j h =
+      stays_more u v j (dot (take j u) (take j v)) h e refl
+      (record { size = omega (arith, product_size j h) })
+      (record { size = omega (arith, sum_size j h (unsigned_abs-dot_narrow j (omega (arith, h))), h, few) })
+
+-- ---- rows that are narrow
+-- each of them
+pub AllNarrow-row : {M : Type 0} (rows : List (List ℤ × M)) (i : ℕ) (row : List ℤ) → i < length rows → ((d : List ℤ × M) → row ≡ (get_or rows i d).0) → AreNarrow rows → AllNarrow row
+AllNarrow-row [] i row h at all = absurd (omega (arith, h))
+AllNarrow-row (x ∷ rows) i row h at all = subst AllNarrow (sym (at x)) (all i x h)
+
+-- one more
+pub AreNarrow-more : {M : Type 0} (rows : List (List ℤ × M)) (i : ℕ) (row : List ℤ) → i < length rows → ((d : List ℤ × M) → row ≡ (get_or rows i d).0) → AreNarrow (take i rows) → AllNarrow row → AreNarrow (take (i + 1) rows)
+AreNarrow-more [] i row h at before here = absurd (omega (arith, h))
+AreNarrow-more (x ∷ rows) i row h at before here = All-more (λ r. AllNarrow r.0) (x ∷ rows) i x h before (subst AllNarrow (at x) here)

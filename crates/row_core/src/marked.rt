@@ -1,16 +1,18 @@
 //! Rows, each with a mark, whose cells stand in one buffer.
-ghost use Rattle.std.specs.Prelude.{◌≡◌, ◌+◌, ◌^◌, ◌<◌, ◌≤◌, ◌==◌, List, [], ◌∷◌, ◌++◌, length, map, drop, All, ℤ, OnOk, MatchResult, IfOk, slice_index_or, vec_len, vec_capacity};
+ghost use Rattle.std.specs.Prelude.{◌≡◌, ◌+◌, ◌^◌, ◌<◌, ◌≤◌, ◌==◌, ◌↔◌, List, [], ◌∷◌, ◌++◌, length, map, drop, All, ℤ, IsTrue, OnOk, MatchResult, IfOk, slice_index_or, vec_len, vec_capacity};
 ghost use Rattle.std.specs.Cmp;
 ghost use Rattle.std.specs.Cmp.Lexicographic.{pointwise};
 ghost use Rattle.std.specs.Iterator.{YieldsFirstBy, item_count};
 ghost use Rattle.std.specs.Borrow.{Bor};
 ghost use Rattle.row_core.specs.Range.{AllInRange};
+ghost use Rattle.row_core.specs.Narrow.{AreNarrow};
 ghost use Rattle.row_core.specs.Spans.{part, IsSpan, IsRestPrimitive, IsPrimitiveAppended};
 ghost use Rattle.row_core.specs.Lists.{GainsPrimitive};
 ghost use Rattle.row_core.specs.Sameness.{is_same_marked, same_marked_equiv};
 
 use crate::buffers::RowBuf;
 use crate::errors::Memory;
+use crate::narrow::all_narrow;
 use crate::primitive::make_primitive;
 use std::alloc::{AllocError, Global};
 use std::marker::Model;
@@ -232,6 +234,18 @@ impl<M: Copy> MarkedRows<M> {
         ensures { (d : List ℤ × M) → result ≡ (slice_index_or self.now i d).1 }
     {
         self.spans[i].mark
+    }
+
+    /// Whether the numbers of all rows are narrow.
+    pub fn is_narrow(&self) -> bool
+        ensures { IsTrue result ↔ AreNarrow self.now }
+    {
+        for i in 0..self.len() {
+            if !all_narrow(self.row(i)) {
+                return false;
+            }
+        }
+        true
     }
 
     /// Lends the rows in order, each with its mark.
