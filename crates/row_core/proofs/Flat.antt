@@ -1,11 +1,14 @@
 -- Rows of one width, one after another.
-use Rattle.std.proofs.Common.{◌≡◌, ◌≢◌, ℕ, suc, zero, ◌+◌, ◌-◌, ◌*◌, ◌<◌, ◌≤◌, Bool, true, false, List, [], ◌∷◌, ◌++◌, length, get_or, set, take, drop, refl, sym, ap, inl, inr, ◌⊎◌, subst, ◌∙◌, arith, length-take, length-drop, add-one}
-use Rattle.std.proofs.lemmas.List.{ext_get_or, get_or-take, get_or-drop, drop_at, take-append-le, drop-append-le, get_or-set_same, get_or-set_other, length-set, take_more_set, drop-drop, take_all, take-set-le, drop-set-lt, drop-set-add}
+use Rattle.std.proofs.Common.{◌≡◌, ◌≢◌, ℕ, suc, zero, ◌+◌, ◌-◌, ◌*◌, ◌<◌, ◌≤◌, Bool, true, false, List, [], ◌∷◌, ◌++◌, length, get_or, set, take, drop, refl, sym, ap, inl, inr, ◌⊎◌, subst, ◌∙◌, arith, length-take, length-drop, length-append, add-one}
+use Rattle.std.specs.Prelude.{All}
+use Rattle.std.specs.List.{range_with_len, copy_within, refill}
+use Rattle.std.proofs.lemmas.List.{ext_get_or, get_or-drop, drop_at, take-append-le, drop-append-le, get_or-set_same, get_or-set_other, length-set, take_more_set, drop-drop, take_all, take_at, take-take, drop-take, take-append-drop, append_assoc, append-nil, take-set-le, drop-set-lt, drop-set-add}
+use Rattle.std.proofs.lemmas.List.Elements.{All-nil, All-head, All-tail, All-append, All-map, All-take, All-drop}
 use Rattle.std.proofs.lemmas.List.FromFn.{length-map-range_with_len, get_or-map-range_with_len, take-map-range_with_len, map-range_with_len_more}
 use Rattle.std.proofs.lemmas.Bool.{cases_eq, cases_lt}
 use Rattle.std.proofs.Math.Seq.{take-set-lt}
 use Rattle.std.proofs.Math.Nat.{mul-le-mul_right}
-use Rattle.row_core.specs.Flat.{Flat, entries_at, rows_of, IsLaidOut, HasOneWidth, marked}
+use Rattle.row_core.specs.Flat.{Flat, entries_at, rows_of, cells_of, AreCells, with_cells, window, with_window, fitted, IsLaidOut, HasOneWidth, marked}
 
 -- the places of a row lie before those of the end
 pub row_end : (w n i : ℕ) → i < n → i * w + w ≤ n * w
@@ -113,57 +116,187 @@ push_seen {X = X} w n s len room cells t row laid wide e one =
     let P : Flat X → Type 0 = λ u. rows_of w (n + 1) (cells ++ row w) ≡ u.rows ++ row u.width ∷ [] in
     subst P e (rows_of-push w n cells (row w) (wide ∙ laid.taken) one)
 
--- windows that agree place by place
-pub window_same : {X : Type 0} (d : X) (w p q : ℕ) (xs ys : List X) → p + w ≤ length xs → q + w ≤ length ys → ((i : ℕ) → i < w → get_or xs (p + i) d ≡ get_or ys (q + i) d) → take w (drop p xs) ≡ take w (drop q ys)
-window_same d w p q xs ys in_xs in_ys same =
-    ext_get_or d (take w (drop p xs)) (take w (drop q ys)) (omega (arith, length-take w (drop p xs), length-drop p xs, length-take w (drop q ys), length-drop q ys))
-    (λ i h. let inside : i < w = omega (arith, length-take w (drop p xs)) in
-    get_or-take w (drop p xs) i d inside ∙ get_or-drop p xs i d ∙ same i inside ∙ sym (get_or-take w (drop q ys) i d inside ∙ get_or-drop q ys i d))
+-- a copy of row i that is appended
+pub push_copy_seen : {X : Type 0} (w n s len room i : ℕ) (cells : List X) (t : Flat X) → IsLaidOut w n s len room → length cells ≡ len → seen_flat w n s cells ≡ t → i < length t.rows → rows_of w (n + 1) (cells ++ window (i * w) w cells) ≡ t.rows ++ entries_at t.rows i ∷ []
+push_copy_seen {X = X} w n s len room i cells t laid wide e in_i =
+    let k = seen w n s cells t e in
+    let below : i < n = omega (arith, k.count, in_i) in
+    push_seen w n s len room cells t (λ _. window (i * w) w cells) laid wide e (length_row w n i cells below (wide ∙ laid.taken))
+    ∙ ap (λ (r : List X). t.rows ++ r ∷ []) (sym (k.row i below))
 
--- what is known of a list after one row was copied over another
-pub record IsCopied {X : Type 0} (d : X) (w from to : ℕ) (xs ys : List X) : Type 0 where
-  pub copied : (k : ℕ) → to * w ≤ k → k < to * w + w → get_or ys k d ≡ get_or xs (from * w + (k - to * w)) d
-  pub below : (k : ℕ) → k < to * w → get_or ys k d ≡ get_or xs k d
-  pub above : (k : ℕ) → to * w + w ≤ k → get_or ys k d ≡ get_or xs k d
+pub length-fitted : {X : Type 0} (width : ℕ) (rest : X) (row : List X) → length (fitted width rest row) ≡ width
+length-fitted width rest row = length-map-range_with_len (λ k. get_or row k rest) 0 width
 
-pub row_elsewhere : {X : Type 0} (d : X) (w n from to k i : ℕ) (xs ys : List X) → IsCopied d w from to xs ys → k ≢ to → i < w → get_or ys (k * w + i) d ≡ get_or xs (k * w + i) d
-row_elsewhere d w n from to k i xs ys copy other inside =
-    elim (cases_lt k to) [ inl less ↦ copy.below (k * w + i) (omega (arith, row_end w to k less)) | inr more ↦ copy.above (k * w + i) (omega (arith, row_end w k to (omega arith))) ]
+-- one entry more
+pub fitted_more : {X : Type 0} (k : ℕ) (rest : X) (old cells row : List X) (entry : X) → cells ≡ old ++ fitted k rest row → entry ≡ get_or row k rest → cells ++ entry ∷ [] ≡ old ++ fitted (k + 1) rest row
+fitted_more {X = X} k rest old cells row entry so is =
+    let step : fitted (k + 1) rest row ≡ fitted k rest row ++ get_or row k rest ∷ [] = map-range_with_len_more (λ i. get_or row i rest) 0 k k (omega arith) in
+    ap (λ (zs : List X). zs ++ entry ∷ []) so ∙ append_assoc old (fitted k rest row) (entry ∷ [])
+    ∙ ap (λ (x : X). old ++ (fitted k rest row ++ x ∷ [])) is ∙ ap (λ (zs : List X). old ++ zs) (sym step)
 
-pub rows_of-copied : {X : Type 0} (d : X) (w n from to : ℕ) (xs ys : List X) → from < n → to < n → length xs ≡ n * w → length ys ≡ n * w → IsCopied d w from to xs ys → rows_of w n ys ≡ set (rows_of w n xs) to (entries_at (rows_of w n xs) from)
-rows_of-copied {X = X} d w n from to xs ys in_from in_to wide still copy =
-    let row : List X = entries_at (rows_of w n xs) from in
-    let old : List (List X) = rows_of w n xs in
-    ext_get_or [] (rows_of w n ys) (set old to row)
-    (length-rows_of w n ys ∙ sym (length-set old to row ∙ length-rows_of w n xs))
+-- ---- a row that is written over another
+pub length-window : {X : Type 0} (p w : ℕ) (cells : List X) → p + w ≤ length cells → length (window p w cells) ≡ w
+length-window p w cells h = omega (arith, length-take w (drop p cells), length-drop p cells, h)
+
+row_before : {X : Type 0} (w i k : ℕ) (cells row : List X) → k < i → i * w ≤ length cells → window (k * w) w (with_window (i * w) w row cells) ≡ window (k * w) w cells
+row_before {X = X} w i k cells row less within =
+    let long : k * w + w ≤ length (take (i * w) cells) = omega (arith, length-take (i * w) cells, row_end w i k less) in
+    take-drop-append w (k * w) (take (i * w) cells) (row ++ drop (i * w + w) cells) long
+    ∙ sym (take-drop-append w (k * w) (take (i * w) cells) (drop (i * w) cells) long)
+    ∙ ap (λ (r : List X). window (k * w) w r) (take-append-drop (i * w) cells)
+
+row_behind : {X : Type 0} (w i k : ℕ) (cells row : List X) → i < k → i * w + w ≤ length cells → length row ≡ w → window (k * w) w (with_window (i * w) w row cells) ≡ window (k * w) w cells
+row_behind {X = X} w i k cells row more within one =
+    let r : ℕ = k * w - (i * w + w) in
+    let at : k * w ≡ i * w + w + r = omega (arith, row_end w k i more) in
+    let front : List X = take (i * w) cells ++ row in
+    let rest : List X = drop (i * w + w) cells in
+    let long : length front ≡ i * w + w = omega (arith, length-append (take (i * w) cells) row, length-take (i * w) cells, one, within) in
+    ap (λ (xs : List X). take w (drop (k * w) xs)) (sym (append_assoc (take (i * w) cells) row rest))
+    ∙ ap (λ (n : ℕ). take w (drop n (front ++ rest))) at
+    ∙ ap (λ (xs : List X). take w xs) (sym (drop-drop r (i * w + w) (front ++ rest)) ∙ ap (λ (xs : List X). drop r xs) (drop_at front rest (i * w + w) long) ∙ drop-drop r (i * w + w) cells)
+    ∙ ap (λ (n : ℕ). take w (drop n cells)) (sym at)
+
+row_itself : {X : Type 0} (w i : ℕ) (cells row : List X) → i * w + w ≤ length cells → length row ≡ w → window (i * w) w (with_window (i * w) w row cells) ≡ row
+row_itself {X = X} w i cells row within one =
+    ap (λ (xs : List X). take w xs) (drop_at (take (i * w) cells) (row ++ drop (i * w + w) cells) (i * w) (omega (arith, length-take (i * w) cells, within)))
+    ∙ take_at row (drop (i * w + w) cells) w one
+
+pub rows_of-with_window : {X : Type 0} (w n i : ℕ) (cells row : List X) → i < n → length cells ≡ n * w → length row ≡ w → rows_of w n (with_window (i * w) w row cells) ≡ set (rows_of w n cells) i row
+rows_of-with_window {X = X} w n i cells row below wide one =
+    let new : List X = with_window (i * w) w row cells in
+    let old : List (List X) = rows_of w n cells in
+    let within : i * w + w ≤ length cells = omega (arith, wide, row_end w n i below) in
+    ext_get_or [] (rows_of w n new) (set old i row)
+    (length-rows_of w n new ∙ sym (length-set old i row ∙ length-rows_of w n cells))
     (λ k h.
-    let inside : k < n = omega (arith, length-rows_of w n ys) in
-    entries_at-rows_of w n k ys inside ∙
-    elim (cases_eq k to) as (λ _. take w (drop (k * w) ys) ≡ get_or (set old to row) k []) [
-      | inl same ↦ rw same (window_same d w (to * w) (from * w) ys xs (omega (arith, row_end w n to in_to)) (omega (arith, row_end w n from in_from)) (λ i h. copy.copied (to * w + i) (omega arith) (omega arith) ∙ ap (λ q. get_or xs (from * w + q) d) (omega arith)) ∙ sym (entries_at-rows_of w n from xs in_from) ∙ sym (get_or-set_same old to row [] (omega (arith, length-rows_of w n xs))))
-      | inr other ↦ window_same d w (k * w) (k * w) ys xs (omega (arith, row_end w n k inside)) (omega (arith, row_end w n k inside)) (λ i h. row_elsewhere d w n from to k i xs ys copy other h) ∙ sym (entries_at-rows_of w n k xs inside) ∙ sym (get_or-set_other old to k row [] other)
+    let inside : k < n = omega (arith, length-rows_of w n new) in
+    entries_at-rows_of w n k new inside ∙
+    elim (cases_eq k i) as (λ _. window (k * w) w new ≡ get_or (set old i row) k []) [
+      | inl same ↦ rw same (row_itself w i cells row within one ∙ sym (get_or-set_same old i row [] (omega (arith, length-rows_of w n cells))))
+      | inr other ↦ elim (cases_lt k i) as (λ _. window (k * w) w new ≡ get_or (set old i row) k []) [
+        | inl less ↦ row_before w i k cells row less (omega (arith, within)) ∙ sym (entries_at-rows_of w n k cells inside) ∙ sym (get_or-set_other old i k row [] other)
+        | inr more ↦ row_behind w i k cells row (omega (arith, other, more)) within one ∙ sym (entries_at-rows_of w n k cells inside) ∙ sym (get_or-set_other old i k row [] other)
+      ]
     ])
 
-pub copy_seen : {X : Type 0} (d : X) (w n s len room from to : ℕ) (cells new : List X) (t : Flat X) → IsLaidOut w n s len room → length cells ≡ len → length new ≡ len → seen_flat w n s cells ≡ t → from < length t.rows → to < length t.rows → IsCopied d w from to cells new → seen_flat w n s new ≡ record t { rows = set t.rows to (entries_at t.rows from) }
-copy_seen {X = X} d w n s len room from to cells new t laid wide still e in_from in_to copy =
+-- one row copied over another
+pub copy_seen : {X : Type 0} (w n s len room from to : ℕ) (cells : List X) (t : Flat X) → IsLaidOut w n s len room → length cells ≡ len → seen_flat w n s cells ≡ t → from < length t.rows → to < length t.rows → seen_flat w n s (copy_within cells (from * w) (from * w + w) (to * w)) ≡ record t { rows = set t.rows to (entries_at t.rows from) }
+copy_seen {X = X} w n s len room from to cells t laid long e in_from in_to =
     let k = seen w n s cells t e in
-    let P : Flat X → Type 0 = λ u. seen_flat w n s new ≡ record u { rows = set u.rows to (entries_at u.rows from) } in
+    let wide : length cells ≡ n * w = long ∙ laid.taken in
+    let below_from : from < n = omega (arith, k.count, in_from) in
+    let below_to : to < n = omega (arith, k.count, in_to) in
+    let row : List X = window (from * w) w cells in
+    let size : from * w + w - from * w ≡ w = omega arith in
+    let P : Flat X → Type 0 = λ u. seen_flat w n s (copy_within cells (from * w) (from * w + w) (to * w)) ≡ record u { rows = set u.rows to (entries_at u.rows from) } in
     let make : List (List X) → Flat X = λ rs. record { width = w; rows = rs; spare = s } in
-    subst P e (ap make (rows_of-copied d w n from to cells new (omega (arith, k.count)) (omega (arith, k.count)) (wide ∙ laid.taken) (still ∙ laid.taken) copy))
+    subst P e (
+    ap (λ (m : ℕ). seen_flat w n s (take (to * w) cells ++ take m (drop (from * w) cells) ++ drop (to * w + m) cells)) size
+    ∙ ap (λ (cs : List X). seen_flat w n s cs) (append_assoc (take (to * w) cells) row (drop (to * w + w) cells))
+    ∙ ap make (rows_of-with_window w n to cells row below_to wide (length_row w n from cells below_from wide) ∙ ap (λ (r : List X). set (rows_of w n cells) to r) (sym (entries_at-rows_of w n from cells below_from)))
+    )
+
+-- ---- row i, where the width is handed over
+pub wide_within : {X : Type 0} (v w n s len room i : ℕ) (cells : List X) (t : Flat X) → v ≡ t.width → IsLaidOut w n s len room → seen_flat w n s cells ≡ t → i < length t.rows → i * v + v ≤ len
+wide_within v w n s len room i cells t same laid e below =
+    subst (λ (u : ℕ). i * u + u ≤ len) (sym (same ∙ (seen w n s cells t e).width)) (row_within w n s len room i cells t laid e below)
+
+pub wide_row : {X : Type 0} (v w n s i : ℕ) (cells : List X) (t : Flat X) → v ≡ t.width → seen_flat w n s cells ≡ t → i < length t.rows → take (i * v + v - i * v) (drop (i * v) cells) ≡ entries_at t.rows i
+wide_row {X = X} v w n s i cells t same e below =
+    let k = seen w n s cells t e in
+    let size : i * v + v - i * v ≡ v = omega arith in
+    ap (λ (m : ℕ). take m (drop (i * v) cells)) size
+    ∙ ap (λ (m : ℕ). take m (drop (i * m) cells)) (same ∙ k.width)
+    ∙ sym (k.row i (omega (arith, k.count, below)))
+
+-- ---- the cells of rows
+cells_of-append : {X : Type 0} (xs ys : List (List X)) → cells_of (xs ++ ys) ≡ cells_of xs ++ cells_of ys
+cells_of-append [] ys = refl
+cells_of-append {X = X} (x ∷ xs) ys = ap (λ (zs : List X). x ++ zs) (cells_of-append xs ys) ∙ sym (append_assoc x (cells_of xs) (cells_of ys))
+
+take-add : {X : Type 0} (m n : ℕ) (xs : List X) → take (m + n) xs ≡ take m xs ++ take n (drop m xs)
+take-add {X = X} m n xs =
+    sym (take-append-drop m (take (m + n) xs))
+    ∙ ap (λ (zs : List X). zs ++ drop m (take (m + n) xs)) (take-take m (m + n) xs (omega arith))
+    ∙ ap (λ (zs : List X). take m xs ++ zs) (drop-take m n xs)
+
+cells_of-rows_of : {X : Type 0} (w n : ℕ) (cells : List X) → cells_of (rows_of w n cells) ≡ take (n * w) cells
+cells_of-rows_of {X = X} w zero cells = ap (λ (k : ℕ). take k cells) (let e : 0 ≡ 0 * w = omega arith in e)
+cells_of-rows_of {X = X} w (suc n) cells =
+    let more : rows_of w (suc n) cells ≡ rows_of w n cells ++ window (n * w) w cells ∷ [] = ap (λ (k : ℕ). rows_of w k cells) (sym (add-one n)) ∙ map-range_with_len_more (λ i. take w (drop (i * w) cells)) 0 n n (omega arith) in
+    ap (λ (rs : List (List X)). cells_of rs) more
+    ∙ cells_of-append (rows_of w n cells) (window (n * w) w cells ∷ [])
+    ∙ ap (λ (zs : List X). zs ++ (window (n * w) w cells ++ [])) (cells_of-rows_of w n cells)
+    ∙ ap (λ (zs : List X). take (n * w) cells ++ zs) (append-nil (window (n * w) w cells))
+    ∙ sym (take-add (n * w) w cells)
+    ∙ ap (λ (k : ℕ). take k cells) (omega arith)
+
+cells_of-seen : {X : Type 0} (w n s len room : ℕ) (cells : List X) (t : Flat X) → IsLaidOut w n s len room → length cells ≡ len → seen_flat w n s cells ≡ t → cells ≡ cells_of t.rows
+cells_of-seen {X = X} w n s len room cells t laid long e =
+    sym (cells_of-rows_of w n cells ∙ take_all (n * w) cells (omega (arith, long, laid.taken))) ∙ ap (λ (u : Flat X). cells_of u.rows) e
+
+-- what a loan of the cells shows
+pub cells_seen : {X : Type 0} (w n s len room : ℕ) (cells : List X) (t : Flat X) → IsLaidOut w n s len room → length cells ≡ len → seen_flat w n s cells ≡ t → AreCells t cells
+cells_seen {X = X} w n s len room cells t laid long e =
+    let k = seen w n s cells t e in
+    record {
+      same = cells_of-seen w n s len room cells t laid long e;
+      rows = ap (λ (v : ℕ). rows_of v (length t.rows) cells) k.width ∙ ap (λ (m : ℕ). rows_of w m cells) k.count ∙ ap (λ (u : Flat X). u.rows) e;
+      taken = long ∙ laid.taken ∙ ap (λ (m : ℕ). m * w) (sym k.count) ∙ ap (λ (v : ℕ). length t.rows * v) (sym k.width);
+    }
+
+-- and what it leaves
+pub lent_seen : {X : Type 0} (w n s len room : ℕ) (cells ws : List X) (t : Flat X) → IsLaidOut w n s len room → length cells ≡ len → seen_flat w n s cells ≡ t → seen_flat w n s (refill len cells ws) ≡ with_cells t ws
+lent_seen {X = X} w n s len room cells ws t laid long e =
+    let P : Flat X → Type 0 = λ u. seen_flat w n s (refill len cells ws) ≡ with_cells u ws in
+    let rows : List (List X) = rows_of w n cells in
+    subst P e (
+    ap (λ (m : ℕ). seen_flat w n s (refill m cells ws)) (sym long)
+    ∙ ap (λ (xs : List X). seen_flat w n s (refill (length xs) xs ws)) (cells_of-seen w n s len room cells (seen_flat w n s cells) laid long refl)
+    ∙ ap (λ (m : ℕ). seen_flat w m s (refill (length (cells_of rows)) (cells_of rows) ws)) (sym (length-rows_of w n cells))
+    )
+
+pub with_cells_is : {X : Type 0} (t : Flat X) (cells ws : List X) → cells ≡ cells_of t.rows → length ws ≡ length cells → with_cells t ws ≡ record t { rows = rows_of t.width (length t.rows) ws }
+with_cells_is {X = X} t cells ws e long =
+    let as_many : length ws ≡ length (cells_of t.rows) = long ∙ ap length e in
+    ap (λ (xs : List X). record t { rows = rows_of t.width (length t.rows) xs }) (take_at ws (drop (length ws) (cells_of t.rows)) (length (cells_of t.rows)) as_many)
+
+pub row_of_cells : {X : Type 0} (t : Flat X) (cells : List X) (i : ℕ) → AreCells t cells → i < length t.rows → window (i * t.width) t.width cells ≡ entries_at t.rows i
+row_of_cells {X = X} t cells i are below =
+    sym (entries_at-rows_of t.width (length t.rows) i cells below) ∙ ap (λ (rs : List (List X)). entries_at rs i) are.rows
+
+-- what holds of all cells is what holds of those of each row
+pub All-rows_of : {X : Type 0} (P : X → Type 0) (w n : ℕ) (cells : List X) → All P cells → All (All P) (rows_of w n cells)
+All-rows_of P w n cells all = All-map (All P) (λ i. take w (drop (i * w) cells)) (range_with_len 0 n) (λ i d h. All-take P w (drop (get_or (range_with_len 0 n) i d * w) cells) (All-drop P (get_or (range_with_len 0 n) i d * w) cells all))
+
+pub All-each : {X : Type 0} (P : X → Type 0) (t : Flat X) (cells : List X) → AreCells t cells → All P cells → All (All P) t.rows
+All-each P t cells are all = subst (All (All P)) are.rows (All-rows_of P t.width (length t.rows) cells all)
+
+All-cells_of : {X : Type 0} (P : X → Type 0) (rows : List (List X)) → All (All P) rows → All P (cells_of rows)
+All-cells_of P [] all = All-nil P
+All-cells_of P (x ∷ rows) all = All-append P x (cells_of rows) (All-head (All P) x rows all) (All-cells_of P rows (All-tail (All P) x rows all))
+
+pub All-cells : {X : Type 0} (P : X → Type 0) (t : Flat X) (cells : List X) → AreCells t cells → All (All P) t.rows → All P cells
+All-cells P t cells are all = subst (All P) (sym are.same) (All-cells_of P t.rows all)
 
 -- the first rows lie in the first places
-pub rows_of-take : {X : Type 0} (d : X) (w n k : ℕ) (xs : List X) → k ≤ n → length xs ≡ n * w → rows_of w k (take (k * w) xs) ≡ take k (rows_of w n xs)
-rows_of-take d w n k xs within wide =
-    let least : k * w ≤ n * w = mul-le-mul_right w within in
-    rows_of_same w k (take (k * w) xs) xs (λ i h. window_same d w (i * w) (i * w) (take (k * w) xs) xs (omega (arith, length-take (k * w) xs, row_end w k i h)) (omega (arith, row_end w k i h)) (λ j below. get_or-take (k * w) xs (i * w + j) d (omega (arith, row_end w k i h)))) ∙
+take-drop-take : {X : Type 0} (w p m : ℕ) (xs : List X) → p + w ≤ m → take w (drop p (take m xs)) ≡ take w (drop p xs)
+take-drop-take {X = X} w p m xs h =
+    let at : m ≡ p + (m - p) = omega (arith, h) in
+    ap (λ (k : ℕ). take w (drop p (take k xs))) at ∙ ap (λ (ys : List X). take w ys) (drop-take p (m - p) xs) ∙ take-take w (m - p) (drop p xs) (omega (arith, h))
+
+pub rows_of-take : {X : Type 0} (w n k : ℕ) (xs : List X) → k ≤ n → rows_of w k (take (k * w) xs) ≡ take k (rows_of w n xs)
+rows_of-take w n k xs within =
+    rows_of_same w k (take (k * w) xs) xs (λ i h. take-drop-take w (i * w) (k * w) xs (row_end w k i h)) ∙
     sym (take-map-range_with_len (λ i. take w (drop (i * w) xs)) 0 n k within)
 
-pub take_seen : {X : Type 0} (d : X) (w n s len room k : ℕ) (cells : List X) (t : Flat X) → IsLaidOut w n s len room → length cells ≡ len → seen_flat w n s cells ≡ t → k ≤ length t.rows → seen_flat w k s (take (k * w) cells) ≡ record t { rows = take k t.rows }
-take_seen {X = X} d w n s len room k cells t laid wide e within =
+pub take_seen : {X : Type 0} (w n s k : ℕ) (cells : List X) (t : Flat X) → seen_flat w n s cells ≡ t → k ≤ length t.rows → seen_flat w k s (take (k * w) cells) ≡ record t { rows = take k t.rows }
+take_seen {X = X} w n s k cells t e within =
     let count = (seen w n s cells t e).count in
     let P : Flat X → Type 0 = λ u. seen_flat w k s (take (k * w) cells) ≡ record u { rows = take k u.rows } in
     let make : List (List X) → Flat X = λ rs. record { width = w; rows = rs; spare = s } in
-    subst P e (ap make (rows_of-take d w n k cells (omega arith) (wide ∙ laid.taken)))
+    subst P e (ap make (rows_of-take w n k cells (omega arith)))
 
 pub laid_out-take : (w n s len room k : ℕ) → IsLaidOut w n s len room → k ≤ n → IsLaidOut w k s (k * w) room
 laid_out-take w n s len room k laid within = record {

@@ -7,5 +7,6 @@ pub mod Lists
 pub mod Laws
 pub mod Sameness
 pub mod Flat
+pub mod FlatLends
 pub mod Spans
 pub mod Refusals

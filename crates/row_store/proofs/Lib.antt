@@ -1,3 +1,2 @@
 pub mod Parts
 pub mod ChangedRows
-pub mod NarrowRows

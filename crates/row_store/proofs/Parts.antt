@@ -1,21 +1,17 @@
 -- Rows of one width in a buffer.
-use Rattle.std.proofs.Common.{◌≡◌, ◌≢◌, ℕ, ◌+◌, ◌-◌, ◌*◌, ◌<◌, ◌≤◌, List, [], ◌++◌, length, get_or, set, take, drop, refl, sym, ap, inl, inr, ◌⊎◌, subst, ◌∙◌, arith, length-take, length-drop, length-append, ℤ}
-use Rattle.std.proofs.lemmas.List.{ext_get_or, drop_at, take-append-le, drop-append-le, get_or-set_same, get_or-set_other, length-set, drop-drop, append_assoc, take-append-drop, take_at}
-use Rattle.std.proofs.lemmas.Bool.{cases_eq, cases_lt}
+use Rattle.std.proofs.Common.{◌≡◌, ◌≢◌, ℕ, ◌+◌, ◌*◌, ◌<◌, ◌≤◌, List, ◌++◌, length, set, take, drop, refl, sym, ap, inl, inr, ◌⊎◌, subst, ◌∙◌, arith, ℤ}
+use Rattle.std.proofs.lemmas.List.{drop_at, drop-append-le, take-append-le, drop-drop, append_assoc, take-append-drop, take_at}
+use Rattle.std.proofs.lemmas.Bool.{cases_lt}
 use Rattle.std.proofs.lemmas.Slice.{put_mid-paste}
 use Rattle.std.proofs.lemmas.List.Edits.{paste_all}
 use borrow.Rule.Slice.PartMut.{put_mid}
 use Rattle.row_core.specs.Vectors.{scale, add}
 use Rattle.row_core.specs.Range.{CombineStays, IsFirstToLeave, AllStay}
-use Rattle.row_core.specs.Flat.{Flat, entries_at, rows_of, IsLaidOut}
+use Rattle.row_core.specs.Flat.{Flat, entries_at, rows_of, AreCells, with_cells, window, with_window}
 use Rattle.row_core.proofs.CellLemmas.{length-scale, length-add}
-use Rattle.row_core.proofs.Flat.{row_end, length-rows_of, entries_at-rows_of, seen_flat, seen, length_row}
-use Rattle.row_store.specs.Stores.{window, with_window}
+use Rattle.row_core.proofs.Flat.{row_end, length_row, length-window, row_of_cells, rows_of-with_window, with_cells_is}
 
 -- ---- a row written over a part
-pub length-window : (p w : ℕ) (cells : List ℤ) → p + w ≤ length cells → length (window p w cells) ≡ w
-length-window p w cells h = omega (arith, length-take w (drop p cells), length-drop p cells, h)
-
 pub with_window_is : (p w k : ℕ) (cells row : List ℤ) → k ≡ w → length row ≡ w → put_mid p k cells row ≡ with_window p w row cells
 with_window_is p w k cells row e l =
     put_mid-paste p k cells row row w refl (sym e) (sym l)
@@ -54,12 +50,6 @@ part_left p w k s t cells v part new j e is within same leaves =
     )
 
 -- ---- two parts of one list
-pub window_in_front : (p w : ℕ) (front back : List ℤ) → p + w ≤ length front → window p w front ≡ window p w (front ++ back)
-window_in_front p w front back h =
-    let first : p ≤ length front = omega arith in
-    let second : w ≤ length (drop p front) = omega (arith, length-drop p front) in
-    sym (ap (λ (r : List ℤ). take w r) (drop-append-le p front back first) ∙ take-append-le w (drop p front) back second)
-
 pub with_window_in_front : (p w : ℕ) (row front back : List ℤ) → p + w ≤ length front → with_window p w row front ++ back ≡ with_window p w row (front ++ back)
 with_window_in_front p w row front back h =
     append_assoc (take p front) (row ++ drop (p + w) front) back
@@ -96,48 +86,6 @@ moved_left p p' w s t old v new cells v' new' j e f same h =
 pub rows_apart : (w i j : ℕ) → i ≢ j → (i * w + w ≤ j * w) ⊎ (j * w + w ≤ i * w)
 rows_apart w i j other = elim (cases_lt i j) [ inl less ↦ inl (row_end w j i less) | inr more ↦ inr (row_end w i j (omega arith)) ]
 
-row_before : (w i k : ℕ) (cells row : List ℤ) → k < i → i * w ≤ length cells → window (k * w) w (with_window (i * w) w row cells) ≡ window (k * w) w cells
-row_before w i k cells row less within =
-    let long : k * w + w ≤ length (take (i * w) cells) = omega (arith, length-take (i * w) cells, row_end w i k less) in
-    sym (window_in_front (k * w) w (take (i * w) cells) (row ++ drop (i * w + w) cells) long)
-    ∙ window_in_front (k * w) w (take (i * w) cells) (drop (i * w) cells) long
-    ∙ ap (λ (r : List ℤ). window (k * w) w r) (take-append-drop (i * w) cells)
-
-row_behind : (w i k : ℕ) (cells row : List ℤ) → i < k → i * w + w ≤ length cells → length row ≡ w → window (k * w) w (with_window (i * w) w row cells) ≡ window (k * w) w cells
-row_behind w i k cells row more within one =
-    let r : ℕ = k * w - (i * w + w) in
-    let at : k * w ≡ i * w + w + r = omega (arith, row_end w k i more) in
-    let front : List ℤ = take (i * w) cells ++ row in
-    let rest : List ℤ = drop (i * w + w) cells in
-    let long : length front ≡ i * w + w = omega (arith, length-append (take (i * w) cells) row, length-take (i * w) cells, one, within) in
-    ap (λ (xs : List ℤ). take w (drop (k * w) xs)) (sym (append_assoc (take (i * w) cells) row rest))
-    ∙ ap (λ (n : ℕ). take w (drop n (front ++ rest))) at
-    ∙ ap (λ (xs : List ℤ). take w xs) (sym (drop-drop r (i * w + w) (front ++ rest)) ∙ ap (λ (xs : List ℤ). drop r xs) (drop_at front rest (i * w + w) long) ∙ drop-drop r (i * w + w) cells)
-    ∙ ap (λ (n : ℕ). take w (drop n cells)) (sym at)
-
-row_itself : (w i : ℕ) (cells row : List ℤ) → i * w + w ≤ length cells → length row ≡ w → window (i * w) w (with_window (i * w) w row cells) ≡ row
-row_itself w i cells row within one =
-    ap (λ (xs : List ℤ). take w xs) (drop_at (take (i * w) cells) (row ++ drop (i * w + w) cells) (i * w) (omega (arith, length-take (i * w) cells, within)))
-    ∙ take_at row (drop (i * w + w) cells) w one
-
-pub rows_of-with_window : (w n i : ℕ) (cells row : List ℤ) → i < n → length cells ≡ n * w → length row ≡ w → rows_of w n (with_window (i * w) w row cells) ≡ set (rows_of w n cells) i row
-rows_of-with_window w n i cells row below wide one =
-    let new : List ℤ = with_window (i * w) w row cells in
-    let old : List (List ℤ) = rows_of w n cells in
-    let within : i * w + w ≤ length cells = omega (arith, wide, row_end w n i below) in
-    ext_get_or [] (rows_of w n new) (set old i row)
-    (length-rows_of w n new ∙ sym (length-set old i row ∙ length-rows_of w n cells))
-    (λ k h.
-    let inside : k < n = omega (arith, length-rows_of w n new) in
-    entries_at-rows_of w n k new inside ∙
-    elim (cases_eq k i) as (λ _. window (k * w) w new ≡ get_or (set old i row) k []) [
-      | inl same ↦ rw same (row_itself w i cells row within one ∙ sym (get_or-set_same old i row [] (omega (arith, length-rows_of w n cells))))
-      | inr other ↦ elim (cases_lt k i) as (λ _. window (k * w) w new ≡ get_or (set old i row) k []) [
-        | inl less ↦ row_before w i k cells row less (omega (arith, within)) ∙ sym (entries_at-rows_of w n k cells inside) ∙ sym (get_or-set_other old i k row [] other)
-        | inr more ↦ row_behind w i k cells row (omega (arith, other, more)) within one ∙ sym (entries_at-rows_of w n k cells inside) ∙ sym (get_or-set_other old i k row [] other)
-      ]
-    ])
-
 -- the outcome on the buffer, as an outcome on the rows
 abbrev pub IsCombinedRow : (s t : ℤ) (i j : ℕ) (old new : Flat ℤ) → Type 0
 IsCombinedRow s t i j old new = (new ≡ record old { rows = set old.rows i (add (scale s (entries_at old.rows i)) (scale t (entries_at old.rows j))) }) × AllStay (CombineStays (entries_at old.rows i) s (entries_at old.rows j) t) old.width
@@ -145,40 +93,35 @@ IsCombinedRow s t i j old new = (new ≡ record old { rows = set old.rows i (add
 abbrev pub IsRowLeft : (s t : ℤ) (i j : ℕ) (old new : Flat ℤ) (c : ℕ) → Type 0
 IsRowLeft s t i j old new c = (new ≡ old) × IsFirstToLeave (CombineStays (entries_at old.rows i) s (entries_at old.rows j) t) old.width c
 
-pub combined_seen : (w n sp len room i j : ℕ) (s t : ℤ) (cells new : List ℤ) (old : Flat ℤ) → IsLaidOut w n sp len room → length cells ≡ len → seen_flat w n sp cells ≡ old → i < length old.rows → j < length old.rows
-    → IsCombinedPart (i * w) w s (window (j * w) w cells) t cells new → IsCombinedRow s t i j old (seen_flat w n sp new)
-combined_seen w n sp len room i j s t cells new old laid long e in_i in_j h =
-    let k = seen w n sp cells old e in
-    let wide : length cells ≡ n * w = long ∙ laid.taken in
-    let below_i : i < n = omega (arith, k.count, in_i) in
-    let below_j : j < n = omega (arith, k.count, in_j) in
+pub row_combined : (i j : ℕ) (s t : ℤ) (cells new : List ℤ) (old : Flat ℤ) → AreCells old cells → i < length old.rows → j < length old.rows → length new ≡ length cells
+    → IsCombinedPart (i * old.width) old.width s (window (j * old.width) old.width cells) t cells new → IsCombinedRow s t i j old (with_cells old new)
+row_combined i j s t cells new old are in_i in_j long h =
+    let w : ℕ = old.width in
+    let n : ℕ = length old.rows in
     let u : List ℤ = window (i * w) w cells in
     let v : List ℤ = window (j * w) w cells in
-    let length_u : length u ≡ w = length_row w n i cells below_i wide in
-    let length_v : length v ≡ w = length_row w n j cells below_j wide in
+    let length_u : length u ≡ w = length_row w n i cells in_i are.taken in
+    let length_v : length v ≡ w = length_row w n j cells in_j are.taken in
     let one : length (add (scale s u) (scale t v)) ≡ w = length-add (scale s u) (scale t v) (length-scale s u ∙ length_u ∙ sym (length-scale t v ∙ length_v)) ∙ length-scale t v ∙ length_v in
-    let make : List (List ℤ) → Flat ℤ = λ rs. record { width = w; rows = rs; spare = sp } in
-    let at_i : u ≡ entries_at (rows_of w n cells) i = sym (entries_at-rows_of w n i cells below_i) in
-    let at_j : v ≡ entries_at (rows_of w n cells) j = sym (entries_at-rows_of w n j cells below_j) in
-    let whole : IsCombinedRow s t i j (seen_flat w n sp cells) (seen_flat w n sp new) = (
-      ap (λ (cs : List ℤ). seen_flat w n sp cs) h.0
-          ∙ ap make (rows_of-with_window w n i cells (add (scale s u) (scale t v)) below_i wide one)
-          ∙ ap (λ (r : List ℤ). make (set (rows_of w n cells) i (add (scale s r) (scale t v)))) at_i
-          ∙ ap (λ (r : List ℤ). make (set (rows_of w n cells) i (add (scale s (entries_at (rows_of w n cells) i)) (scale t r)))) at_j,
-      λ c l. subst (λ (r : List ℤ). CombineStays r s (entries_at (rows_of w n cells) j) t c) at_i (subst (λ (r : List ℤ). CombineStays u s r t c) at_j (h.1 c l)),
-    ) in
-    subst (λ (o : Flat ℤ). IsCombinedRow s t i j o (seen_flat w n sp new)) e whole
+    let make : List (List ℤ) → Flat ℤ = λ rs. record old { rows = rs } in
+    let at_i : u ≡ entries_at old.rows i = row_of_cells old cells i are in_i in
+    let at_j : v ≡ entries_at old.rows j = row_of_cells old cells j are in_j in (
+      with_cells_is old cells new are.same long
+          ∙ ap make (ap (λ (cs : List ℤ). rows_of w n cs) h.0 ∙ rows_of-with_window w n i cells (add (scale s u) (scale t v)) in_i are.taken one
+          ∙ ap (λ (rs : List (List ℤ)). set rs i (add (scale s u) (scale t v))) are.rows
+          ∙ ap (λ (r : List ℤ). set old.rows i (add (scale s r) (scale t v))) at_i
+          ∙ ap (λ (r : List ℤ). set old.rows i (add (scale s (entries_at old.rows i)) (scale t r))) at_j),
+      λ c l. subst (λ (r : List ℤ). CombineStays r s (entries_at old.rows j) t c) at_i (subst (λ (r : List ℤ). CombineStays u s r t c) at_j (h.1 c l)),
+    )
 
-pub left_seen : (w n sp len room i j : ℕ) (s t : ℤ) (cells new : List ℤ) (old : Flat ℤ) (c : ℕ) → IsLaidOut w n sp len room → length cells ≡ len → seen_flat w n sp cells ≡ old → i < length old.rows → j < length old.rows
-    → IsPartLeft (i * w) w s (window (j * w) w cells) t cells new c → IsRowLeft s t i j old (seen_flat w n sp new) c
-left_seen w n sp len room i j s t cells new old c laid long e in_i in_j h =
-    let k = seen w n sp cells old e in
-    let below_i : i < n = omega (arith, k.count, in_i) in
-    let below_j : j < n = omega (arith, k.count, in_j) in
-    let at_i : window (i * w) w cells ≡ entries_at (rows_of w n cells) i = sym (entries_at-rows_of w n i cells below_i) in
-    let at_j : window (j * w) w cells ≡ entries_at (rows_of w n cells) j = sym (entries_at-rows_of w n j cells below_j) in
-    let whole : IsRowLeft s t i j (seen_flat w n sp cells) (seen_flat w n sp new) c = (
-      ap (λ (cs : List ℤ). seen_flat w n sp cs) h.0,
-      subst (λ (r : List ℤ). IsFirstToLeave (CombineStays r s (entries_at (rows_of w n cells) j) t) w c) at_i (subst (λ (r : List ℤ). IsFirstToLeave (CombineStays (window (i * w) w cells) s r t) w c) at_j h.1),
-    ) in
-    subst (λ (o : Flat ℤ). IsRowLeft s t i j o (seen_flat w n sp new) c) e whole
+pub row_left : (i j : ℕ) (s t : ℤ) (cells new : List ℤ) (old : Flat ℤ) (c : ℕ) → AreCells old cells → i < length old.rows → j < length old.rows
+    → IsPartLeft (i * old.width) old.width s (window (j * old.width) old.width cells) t cells new c → IsRowLeft s t i j old (with_cells old new) c
+row_left i j s t cells new old c are in_i in_j h =
+    let w : ℕ = old.width in
+    let n : ℕ = length old.rows in
+    let make : List (List ℤ) → Flat ℤ = λ rs. record old { rows = rs } in
+    let at_i : window (i * w) w cells ≡ entries_at old.rows i = row_of_cells old cells i are in_i in
+    let at_j : window (j * w) w cells ≡ entries_at old.rows j = row_of_cells old cells j are in_j in (
+      with_cells_is old cells new are.same (ap length h.0) ∙ ap make (ap (λ (cs : List ℤ). rows_of w n cs) h.0 ∙ are.rows),
+      subst (λ (r : List ℤ). IsFirstToLeave (CombineStays r s (entries_at old.rows j) t) w c) at_i (subst (λ (r : List ℤ). IsFirstToLeave (CombineStays (window (i * w) w cells) s r t) w c) at_j h.1),
+    )

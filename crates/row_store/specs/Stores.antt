@@ -1,24 +1,15 @@
-use Rattle.std.specs.Prelude.{◌≡◌, ℕ, ◌+◌, ◌^◌, ◌<◌, Bool, IsTrue, List, ◌++◌, take, drop, length, ℤ, pos, slice_set}
+use Rattle.std.specs.Prelude.{◌≡◌, ℕ, ◌^◌, ◌<◌, Bool, IsTrue, List, length, ℤ, pos, slice_set, All}
 use Rattle.std.proofs.Math.IntN.{neg_ℤ}
 use Rattle.row_core.specs.Vectors.{scale}
 use Rattle.row_core.specs.Range.{AllInRange}
 use Rattle.row_core.specs.Narrow.{AllNarrow}
-use Rattle.row_core.specs.Flat.{Flat, entries_at, IsLaidOut}
+use Rattle.row_core.specs.Flat.{Flat, entries_at, window, with_window}
 
--- the cells from one place on, as many as a row has
-abbrev pub window : ℕ → ℕ → List ℤ → List ℤ
-window p w cells = take w (drop p cells)
-
--- the cells with a row over those from one place on
-abbrev pub with_window : ℕ → ℕ → List ℤ → List ℤ → List ℤ
-with_window p w row cells = take p cells ++ (row ++ drop (p + w) cells)
-
--- the rows are laid out in the cells, a u32 names each column, each number is of the range, and where the flag is set each is narrow
-pub record IsKept (width count spare : ℕ) (flag : Bool) (len capacity : ℕ) (cells : List ℤ) : Type 0 where
-  pub laid : IsLaidOut width count spare len capacity
-  pub narrow : width < 2 ^ 32
-  pub in_range : AllInRange cells
-  pub all_narrow : IsTrue flag → AllNarrow cells
+-- a u32 names each column, each number is of the range, and where the flag is set each is narrow
+pub record IsKept (flag : Bool) (t : Flat ℤ) : Type 0 where
+  pub narrow : t.width < 2 ^ 32
+  pub in_range : All AllInRange t.rows
+  pub all_narrow : IsTrue flag → All AllNarrow t.rows
 
 -- the second row has all signs of the first changed
 abbrev pub IsNegated : List ℤ → List ℤ → Type 0

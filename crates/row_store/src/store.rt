@@ -1,14 +1,14 @@
 //! The rows.
-ghost use Rattle.std.specs.Prelude.{◌≡◌, ◌≢◌, ◌↔◌, ℕ, ◌+◌, ◌*◌, ◌^◌, ◌<◌, ◌≤◌, List, [], ◌∷◌, ◌++◌, length, max, take, Bool, ℤ, slice_set, vec_len, vec_capacity, OnOk, OnErr, MatchResult, IsTrue};
+ghost use Rattle.std.specs.Prelude.{◌≡◌, ◌≢◌, ◌↔◌, ℕ, ◌+◌, ◌^◌, ◌<◌, ◌≤◌, List, [], ◌∷◌, ◌++◌, length, max, take, ℤ, slice_set, OnOk, OnErr, MatchResult, IsTrue};
 ghost use Rattle.row_core.specs.Vectors.{scale, add};
 ghost use Rattle.row_core.specs.Content.{IsPrimitiveOf};
 ghost use Rattle.row_core.specs.Range.{AllInRange, CombineStays, IsFirstToLeave, AllStay};
 ghost use Rattle.row_core.specs.Narrow.{AllNarrow};
-ghost use Rattle.row_core.specs.Flat.{Flat, entries_at, rows_of, marked};
+ghost use Rattle.row_core.specs.Flat.{Flat, entries_at, marked};
 ghost use Rattle.row_store.specs.Stores.{IsKept, IsNegated, IsRowChanged};
 
-use crate::windows::{append_part, append_row, combine_parts, make_part_primitive, negate_part};
-use row_core::{Memory, Steps, all_narrow};
+use crate::windows::{combine_parts, make_part_primitive, negate_part};
+use row_core::{FlatRows, Memory, Steps, all_narrow};
 use std::alloc::Global;
 use std::marker::Model;
 use std::sync::ledger::Ledger;
@@ -16,19 +16,16 @@ use std::sync::ledger::Ledger;
 /// Rows of one width in one buffer, and a flag, which is set only while all their numbers are narrow.
 #[derive(Debug, Drop)]
 pub struct RowStore {
-    width: usize,
-    count: usize,
-    spare: usize,
     narrow: bool,
-    cells: Vec<i128>,
+    rows: FlatRows<i128>,
 }
 
 impl Model for RowStore {
     ghost Value = { Flat ℤ };
 
-    ghost view = { λ m. record { width = m.width; rows = rows_of m.width m.count m.cells.items; spare = m.spare } };
+    ghost view = { λ m. m.rows };
 
-    ghost invariant = { λ m. IsKept m.width m.count m.spare m.narrow (vec_len m.cells) (vec_capacity m.cells) m.cells.items };
+    ghost invariant = { λ m. IsKept m.narrow m.rows };
 }
 
 impl RowStore {
@@ -40,11 +37,8 @@ impl RowStore {
         ensures spare { result.spare ≡ 0 }
     {
         RowStore {
-            width,
-            count: 0,
-            spare: 0,
             narrow: true,
-            cells: Vec::new(alloc),
+            rows: FlatRows::new(alloc, width),
         }
     }
 
@@ -54,7 +48,7 @@ impl RowStore {
         ensures value { result ≡ self.now.width }
         ensures narrow { self.now.width < 2 ^ 32 }
     {
-        self.width
+        self.rows.width()
     }
 
     /// The number of rows.
@@ -62,7 +56,7 @@ impl RowStore {
     pub fn len(&self) -> usize
         ensures { result ≡ length self.now.rows }
     {
-        self.count
+        self.rows.len()
     }
 
     /// Whether all numbers are narrow. They are looked at where the flag isn't set.
@@ -73,7 +67,7 @@ impl RowStore {
         if self.narrow {
             return true;
         }
-        all_narrow(self.cells.as_slice())
+        all_narrow(self.rows.cells())
     }
 
     /// Makes room for `n` more rows. After want of memory the list is as before.
@@ -81,14 +75,7 @@ impl RowStore {
         ensures ok { OnOk result (self.new ≡ record self.old { spare = max self.old.spare n }) }
         ensures err { OnErr result (self.new ≡ self.old) }
     {
-        if n <= self.spare {
-            return Ok(());
-        }
-        let total = self.count.checked_add(n).ok_or(Memory)?;
-        let places = total.checked_mul(self.width).ok_or(Memory)?;
-        self.cells.reserve(places - self.cells.len())?;
-        self.spare = n;
-        Ok(())
+        self.rows.reserve(n)
     }
 
     /// Appends a row, for which room was made.
@@ -101,9 +88,7 @@ impl RowStore {
         ensures spare { self.new.spare + 1 ≡ self.old.spare }
     {
         self.narrow = self.narrow && all_narrow(row);
-        append_row(&mut self.cells, row);
-        self.count += 1;
-        self.spare -= 1;
+        self.rows.push(row);
     }
 
     /// Appends a copy of row `i`, for which room was made.
@@ -114,10 +99,7 @@ impl RowStore {
         ensures rows { self.new.rows ≡ self.old.rows ++ entries_at self.old.rows i ∷ [] }
         ensures spare { self.new.spare + 1 ≡ self.old.spare }
     {
-        let width = self.width;
-        append_part(&mut self.cells, i * width, width);
-        self.count += 1;
-        self.spare -= 1;
+        self.rows.push_copy(i);
     }
 
     /// Lends row `i`.
@@ -128,8 +110,7 @@ impl RowStore {
         ensures wide { length result.now ≡ self.now.width }
         ensures in_range { AllInRange result.now }
     {
-        let start = i * self.width;
-        &self.cells[start..start + self.width]
+        self.rows.row(i)
     }
 
     /// Writes `s * row i + t * row j` over row `i`, and counts one combination.
@@ -151,9 +132,10 @@ impl RowStore {
         ensures counted { steps.new ≡ steps.old + 1 }
         ensures combined { MatchResult result (λ _. (self.new ≡ record self.old { rows = slice_set self.old.rows i (add (scale s (entries_at self.old.rows i)) (scale t (entries_at self.old.rows j))) }) × AllStay (CombineStays (entries_at self.old.rows i) s (entries_at self.old.rows j) t) self.old.width) (λ c. (self.new ≡ self.old) × IsFirstToLeave (CombineStays (entries_at self.old.rows i) s (entries_at self.old.rows j) t) self.old.width c) }
     {
-        let (to, from) = (i * self.width, j * self.width);
+        let width = self.rows.width();
+        let (to, from) = (i * width, j * width);
         self.narrow = false;
-        combine_parts(self.cells.as_mut_slice(), self.width, to, s, from, t, steps)
+        combine_parts(self.rows.cells_mut(), width, to, s, from, t, steps)
     }
 
     /// Divides row `i` by the greatest common divisor of its entries. It keeps all signs, and leaves
@@ -162,9 +144,9 @@ impl RowStore {
         requires { i < length self.old.rows }
         ensures { IsRowChanged IsPrimitiveOf i self.old self.new }
     {
-        let width = self.width;
+        let width = self.rows.width();
         self.narrow = false;
-        make_part_primitive(self.cells.as_mut_slice(), i * width, width);
+        make_part_primitive(self.rows.cells_mut(), i * width, width);
     }
 
     /// Changes all signs of row `i`.
@@ -172,9 +154,9 @@ impl RowStore {
         requires { i < length self.old.rows }
         ensures { IsRowChanged IsNegated i self.old self.new }
     {
-        let width = self.width;
+        let width = self.rows.width();
         self.narrow = false;
-        negate_part(self.cells.as_mut_slice(), i * width, width);
+        negate_part(self.rows.cells_mut(), i * width, width);
     }
 
     /// Keeps the marked rows, in order. No row that is reserved is lost.
@@ -184,28 +166,7 @@ impl RowStore {
         ensures rows { self.new.rows ≡ marked keep.now self.old.rows }
         ensures spare { self.old.spare ≤ self.new.spare }
     {
-        let mut kept = 0;
-        for row in 0..keep.len() {
-            if keep[row] {
-                self.copy_row(row, kept);
-                kept += 1;
-            }
-        }
-        self.truncate(kept);
-    }
-
-    // Writes row `from` over row `to`.
-    fn copy_row(&mut self, from: usize, to: usize)
-        requires from { from < length self.old.rows }
-        requires to { to < length self.old.rows }
-        ensures { self.new ≡ record self.old { rows = slice_set self.old.rows to (entries_at self.old.rows from) } }
-    {
-        if from == to {
-            return;
-        }
-        let width = self.width;
-        let start = from * width;
-        self.cells.copy_within(start..start + width, to * width);
+        self.rows.keep_rows(keep);
     }
 
     /// Keeps the first `count` rows.
@@ -213,7 +174,6 @@ impl RowStore {
         requires { count ≤ length self.old.rows }
         ensures { self.new ≡ record self.old { rows = take count self.old.rows } }
     {
-        self.cells.truncate(count * self.width);
-        self.count = count;
+        self.rows.truncate(count);
     }
 }

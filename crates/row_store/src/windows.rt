@@ -1,33 +1,13 @@
 //! Parts of a buffer.
-ghost use Rattle.std.specs.Prelude.{◌≡◌, ◌≢◌, ℕ, ◌+◌, ◌*◌, ◌^◌, ◌<◌, ◌≤◌, ◌++◌, ◌⊎◌, length, take, drop, vec_len, vec_capacity, MatchResult};
+ghost use Rattle.std.specs.Prelude.{◌≡◌, ◌≢◌, ℕ, ◌+◌, ◌*◌, ◌^◌, ◌<◌, ◌≤◌, ◌++◌, ◌⊎◌, length, take, drop, MatchResult};
 ghost use Rattle.row_core.specs.Vectors.{scale, add};
+ghost use Rattle.row_core.specs.Flat.{window, with_window};
 ghost use Rattle.row_core.specs.Content.{IsPrimitiveOf};
 ghost use Rattle.row_core.specs.Range.{AllInRange, CombineStays, IsFirstToLeave, AllStay};
-ghost use Rattle.row_store.specs.Stores.{window, with_window, IsNegated, IsPartChanged};
+ghost use Rattle.row_store.specs.Stores.{IsNegated, IsPartChanged};
 
 use row_core::{Steps, combine_onto, make_primitive, negate};
 use std::sync::ledger::Ledger;
-
-/// Appends a row, for which there is room.
-pub(crate) fn append_row(cells: &mut Vec<i128>, row: &[i128])
-    requires { vec_len cells.old + length row.now ≤ vec_capacity cells.old }
-    ensures items { cells.new.items ≡ cells.old.items ++ row.now }
-    ensures len { vec_len cells.new ≡ vec_len cells.old + length row.now }
-    ensures capacity { vec_capacity cells.old ≤ vec_capacity cells.new }
-{
-    let _appended = cells.extend_from_slice(row);
-}
-
-/// Appends a copy of the part of `width` cells from `at` on, for which there is room.
-pub(crate) fn append_part(cells: &mut Vec<i128>, at: usize, width: usize)
-    requires within { at + width ≤ vec_len cells.old }
-    requires room { vec_len cells.old + width ≤ vec_capacity cells.old }
-    ensures items { cells.new.items ≡ cells.old.items ++ window at width cells.old.items }
-    ensures len { vec_len cells.new ≡ vec_len cells.old + width }
-    ensures capacity { vec_capacity cells.old ≤ vec_capacity cells.new }
-{
-    let _appended = cells.extend_from_within(at..at + width);
-}
 
 /// Divides the part of `width` cells from `at` on by the greatest common divisor of its entries.
 pub(crate) fn make_part_primitive(cells: &mut [i128], at: usize, width: usize)

@@ -4,8 +4,8 @@ use Rattle.std.proofs.lemmas.Bool.{cases_lt}
 use Rattle.std.proofs.lemmas.List.{get_or_past, get_or-take, get_or-drop}
 use Rattle.sat_bits.specs.Places.{IsNoneMissing, AreCovered, IsSubsetOfAnd}
 use Rattle.sat_bits.proofs.PlaceLemmas.{covered_word_more, subset_from_words, none_in_word}
-use Rattle.row_core.specs.Flat.{Flat, entries_at, IsLaidOut}
-use Rattle.row_core.proofs.Flat.{seen_flat, seen, rectangular}
+use Rattle.row_core.specs.Flat.{Flat, entries_at, AreCells, HasOneWidth}
+use Rattle.row_core.proofs.Flat.{row_of_cells}
 use Rattle.sat_matrix.specs.Tables.{Table, HasThird, IsThird}
 use Rattle.sat_matrix.specs.Words.{IsTable, IsThirdWord, HasThirdWord, IsThirdRow, HasThirdRow}
 use Rattle.sat_matrix.proofs.BitRows.{seen_bits, seen_in, covers_seen}
@@ -35,29 +35,24 @@ none_of_words : (a b c : List ℕ) (x y z : ℕ) → IsWord a x → IsWord b y �
 none_of_words a b c x y z ra rb rc h = none_in_word a b c x y z 0 (word_fits a x ra) (word_fits c z rc) (sym ra.is) (sym rb.is) (sym rc.is) h
 
 -- row i of a table of single words is word i
-word_row : (w n s len room : ℕ) (cells : List ℕ) (t : Flat ℕ) (i : ℕ) → IsLaidOut w n s len room → length cells ≡ len → seen_flat w n s cells ≡ t → t.width ≡ 1 → ((k : ℕ) → get_or cells k 0 < 2 ^ 64) → i < length t.rows → IsWord (entries_at t.rows i) (get_or cells i 0)
-word_row w n s len room cells t i laid wide e one fits below =
-    let k = seen w n s cells t e in
-    let inside : i < n = omega (arith, k.count) in
-    let single : w ≡ 1 = sym k.width ∙ one in
-    let at : i * w + 0 ≡ i = omega (arith, ap (λ (v : ℕ). i * v) single) in
+word_row : (cells : List ℕ) (t : Flat ℕ) (i : ℕ) → AreCells t cells → HasOneWidth t → t.width ≡ 1 → ((k : ℕ) → get_or cells k 0 < 2 ^ 64) → i < length t.rows → IsWord (entries_at t.rows i) (get_or cells i 0)
+word_row cells t i are wide one fits below =
+    let w : ℕ = t.width in
+    let at : i * w + 0 ≡ i = omega (arith, ap (λ (v : ℕ). i * v) one) in
     record {
-      one = rectangular w n s len room cells t laid wide e i below ∙ one;
-      is = ap (λ (r : List ℕ). get_or r 0 0) (k.row i inside) ∙ get_or-take w (drop (i * w) cells) 0 0 (omega (arith, single)) ∙ get_or-drop (i * w) cells 0 0 ∙ ap (λ (q : ℕ). get_or cells q 0) at;
+      one = wide i below ∙ one;
+      is = ap (λ (r : List ℕ). get_or r 0 0) (sym (row_of_cells t cells i are below)) ∙ get_or-take w (drop (i * w) cells) 0 0 (omega (arith, one)) ∙ get_or-drop (i * w) cells 0 0 ∙ ap (λ (q : ℕ). get_or cells q 0) at;
       fits = fits i;
     }
 
-pub words_counted : (w n s len room : ℕ) (cells : List ℕ) (t : Flat ℕ) → IsLaidOut w n s len room → length cells ≡ len → seen_flat w n s cells ≡ t → t.width ≡ 1 → length t.rows ≡ length cells
-words_counted w n s len room cells t laid wide e one =
-    let k = seen w n s cells t e in
-    let single : w ≡ 1 = sym k.width ∙ one in
-    omega (arith, k.count, wide, laid.taken, ap (λ (v : ℕ). n * v) single)
+pub words_counted : (cells : List ℕ) (t : Flat ℕ) → AreCells t cells → t.width ≡ 1 → length t.rows ≡ length cells
+words_counted cells t are one = omega (arith, are.taken, ap (λ (v : ℕ). length t.rows * v) one)
 
-pub third_words : (w n s len room : ℕ) (cells : List ℕ) (t : Flat ℕ) (i j : ℕ) (S : Type 0) → IsLaidOut w n s len room → length cells ≡ len → seen_flat w n s cells ≡ t → t.width ≡ 1 → ((k : ℕ) → get_or cells k 0 < 2 ^ 64) → i < length t.rows → j < length t.rows
+pub third_words : (cells : List ℕ) (t : Flat ℕ) (i j : ℕ) (S : Type 0) → AreCells t cells → HasOneWidth t → t.width ≡ 1 → ((k : ℕ) → get_or cells k 0 < 2 ^ 64) → i < length t.rows → j < length t.rows
     → (S → HasThirdWord cells i j) × (HasThirdWord cells i j → S) → (S → HasThirdRow t i j) × (HasThirdRow t i j → S)
-third_words w n s len room cells t i j S laid wide e one fits in_i in_j r =
-    let count = words_counted w n s len room cells t laid wide e one in
-    let word : (k : ℕ) → k < length t.rows → IsWord (entries_at t.rows k) (get_or cells k 0) = λ k h. word_row w n s len room cells t k laid wide e one fits h in
+third_words cells t i j S are wide one fits in_i in_j r =
+    let count = words_counted cells t are one in
+    let word : (k : ℕ) → k < length t.rows → IsWord (entries_at t.rows k) (get_or cells k 0) = λ k h. word_row cells t k are wide one fits h in
     let to : (k : ℕ) → IsThirdWord cells i j k → IsThirdRow t i j k = λ k h.
     let in_k : k < length t.rows = omega (arith, count, h.inside) in
     record {

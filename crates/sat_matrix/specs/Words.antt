@@ -9,10 +9,6 @@ and_words [] ys = []
 and_words (x ∷ xs) [] = []
 and_words (x ∷ xs) (y ∷ ys) = bit_and x y ∷ and_words xs ys
 
--- the first words of a row, and words of 0 past its end
-abbrev pub fitted : ℕ → List ℕ → List ℕ
-fitted width words = map (λ k. slice_index_or words k 0) (range_with_len 0 width)
-
 -- the second row differs from the first at one place alone
 pub record IsPlaceSet (i : ℕ) (bit : Bool) (old new : List ℕ) : Type 0 where
   pub width : length new ≡ length old

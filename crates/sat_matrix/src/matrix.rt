@@ -8,8 +8,9 @@ ghost use Rattle.sat_matrix.specs.Counts.{ones};
 ghost use Rattle.sat_matrix.specs.Words.{bits_in, IsTable};
 ghost use Rattle.sat_matrix.specs.Searches.{IsFirstFrom, Shares};
 
-use crate::words::WordRows;
-use row_core::Memory;
+use crate::searches::{has_third_row, next_sharing};
+use crate::words::{push_and, widened};
+use row_core::{FlatRows, Memory};
 use sat_bits::{count, count_and, get, is_subset_of_and, with_bit};
 use std::alloc::{AllocError, Global};
 use std::marker::Model;
@@ -19,7 +20,7 @@ use std::marker::Model;
 pub struct SatMatrix {
     alloc: Global,
     columns: usize,
-    words: WordRows,
+    words: FlatRows<u64>,
 }
 
 // Written by hand, so that a function that drops a table calls this one, and doesn't free each part itself.
@@ -51,7 +52,7 @@ impl SatMatrix {
         SatMatrix {
             alloc,
             columns,
-            words: WordRows::new(alloc, columns / 64 + 1),
+            words: FlatRows::new(alloc, columns / 64 + 1),
         }
     }
 
@@ -132,7 +133,7 @@ impl SatMatrix {
         ensures rows { self.new.rows ≡ self.old.rows ++ replicate self.old.columns false ∷ [] }
         ensures spare { self.new.spare + 1 ≡ self.old.spare }
     {
-        self.words.push_zeros();
+        self.words.push_fitted(&[], 0);
     }
 
     /// Appends the conjunction of rows `i` and `j`.
@@ -144,7 +145,7 @@ impl SatMatrix {
         ensures rows { self.new.rows ≡ self.old.rows ++ conjunction (bits_of self.old.rows i) (bits_of self.old.rows j) ∷ [] }
         ensures spare { self.new.spare + 1 ≡ self.old.spare }
     {
-        self.words.push_and(i, j);
+        push_and(&mut self.words, i, j);
     }
 
     /// Appends a copy of row `i` of another table with as many columns.
@@ -156,7 +157,7 @@ impl SatMatrix {
         ensures rows { self.new.rows ≡ self.old.rows ++ bits_of other.now.rows i ∷ [] }
         ensures spare { self.new.spare + 1 ≡ self.old.spare }
     {
-        self.words.push_row_of(&other.words, i);
+        self.words.push_fitted(other.words.row(i), 0);
     }
 
     /// Appends a column of false. Afterwards nothing is reserved. After want of memory the table is
@@ -173,7 +174,7 @@ impl SatMatrix {
             self.columns += 1;
             return Ok(());
         }
-        let wider = self.words.widened(self.alloc)?;
+        let wider = widened(&self.words, self.alloc)?;
         self.words = wider;
         self.columns += 1;
         Ok(())
@@ -255,7 +256,7 @@ impl SatMatrix {
         requires second { j < length self.now.rows }
         ensures { IsTrue result ↔ HasThird self.now i j }
     {
-        self.words.has_third_row(i, j)
+        has_third_row(&self.words, i, j)
     }
 
     /// The first position from `from` on at which the list names a row that shares at least `least` true places
@@ -268,7 +269,7 @@ impl SatMatrix {
     {
         let _columns = self.columns();
         let _width = self.words.width();
-        self.words.next_sharing(i, among, from, least)
+        next_sharing(&self.words, i, among, from, least)
     }
 
     /// Whether row `k` is true wherever rows `i` and `j` both are.
@@ -290,7 +291,7 @@ impl Clone for SatMatrix {
         Ok(SatMatrix {
             alloc: self.alloc,
             columns: self.columns,
-            words: self.words.clone()?,
+            words: self.words.try_copy(self.alloc)?,
         })
     }
 }

@@ -6,8 +6,9 @@ use Rattle.std.proofs.lemmas.Int.{to_z-of_z}
 use Rattle.std.proofs.lemmas.Result.{MatchResult-weaker}
 use Rattle.std.proofs.lemmas.List.Elements.{All-append, All-take, All-drop}
 use Rattle.row_core.specs.Range.{InRange, AllInRange}
-use Rattle.row_store.specs.Stores.{window, with_window}
-use Rattle.row_store.proofs.Parts.{moved_combined, moved_left, window_in_front, with_window_in_front, window_in_back, with_window_in_back}
+use Rattle.row_core.specs.Flat.{window, with_window}
+use Rattle.row_core.proofs.Flat.{take-drop-append}
+use Rattle.row_store.proofs.Parts.{moved_combined, moved_left, with_window_in_front, window_in_back, with_window_in_back}
 use Rattle.row_store.proofs.windows.combine_parts.Goals as goal
 
 pub returns-then-to-from-clause-combined : goal.returns-then-to-from-clause-combined
@@ -19,7 +20,7 @@ returns-then-to-from-clause-combined g c =
     let cells = c.args.cells.now in
     let value : cells ≡ front ++ back = c.split_at_mut-front.ensures.value in
     let within : c.args.to + c.args.width ≤ length front = omega (arith, c.split_at_mut-front.ensures.front_len, c.requires.apart, c.if-to-from.true) in
-    let e : window c.args.to c.args.width front ≡ window c.args.to c.args.width cells = window_in_front c.args.to c.args.width front back within ∙ ap (λ (r : List ℤ). window c.args.to c.args.width r) (sym value) in
+    let e : window c.args.to c.args.width front ≡ window c.args.to c.args.width cells = sym (take-drop-append c.args.width c.args.to front back within) ∙ ap (λ (r : List ℤ). window c.args.to c.args.width r) (sym value) in
     let combined = simp to_z-of_z at c.combine_part.ensures.combined in
     MatchResult-weaker c.combine_part.result combined
     (λ x h. moved_combined c.args.to c.args.to c.args.width c.args.s c.args.t front _ c.combine_part.new.cells cells (window c.args.from c.args.width cells) (c.combine_part.new.cells ++ back) e (ap (λ (r : List ℤ). take c.args.width r) c.split_at_mut-front.ensures.back)
@@ -39,7 +40,7 @@ returns-else-to-from-clause-combined g c =
     let within : c.args.from + c.args.width ≤ length front = omega (arith, front_len, c.requires.apart, c.if-to-from.false, c.requires.second) in
     let e : window 0 c.args.width back ≡ window c.args.to c.args.width cells = window_in_back c.args.to c.args.width front back front_len ∙ ap (λ (r : List ℤ). window c.args.to c.args.width r) (sym value) in
     let f : take (c.args.from + c.args.width - c.args.from) (drop c.args.from front) ≡ window c.args.from c.args.width cells
-    = ap (λ (n : ℕ). take n (drop c.args.from front)) (omega arith) ∙ window_in_front c.args.from c.args.width front back within ∙ ap (λ (r : List ℤ). window c.args.from c.args.width r) (sym value) in
+    = ap (λ (n : ℕ). take n (drop c.args.from front)) (omega arith) ∙ sym (take-drop-append c.args.width c.args.from front back within) ∙ ap (λ (r : List ℤ). window c.args.from c.args.width r) (sym value) in
     let combined = simp to_z-of_z at c.combine_part-else-to-from.ensures.combined in
     MatchResult-weaker c.combine_part-else-to-from.result combined
     (λ x h. moved_combined c.args.to 0 c.args.width c.args.s c.args.t back _ c.combine_part-else-to-from.new.cells cells (window c.args.from c.args.width cells) (front ++ c.combine_part-else-to-from.new.cells) e f

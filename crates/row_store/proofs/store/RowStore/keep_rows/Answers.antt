@@ -1,34 +1,11 @@
-use Rattle.std.proofs.Common.{◌≡◌, ℤ, ◌+◌, ◌∙◌, length, take, drop, set, ap, arith}
-use Rattle.std.proofs.lemmas.List.{length-set}
-use Rattle.row_core.specs.Flat.{Flat, entries_at}
-use Rattle.row_core.proofs.Flat.{keep_step, keep_rest, skip_step, skip_rest}
+use Rattle.std.proofs.Common.{sym, subst}
+use Rattle.std.specs.Prelude.{All}
+use Rattle.row_core.proofs.PointwiseLemmas.{all_marked}
+use Rattle.row_store.proofs.ChangedRows.{kept_among}
 use Rattle.row_store.proofs.store.RowStore.keep_rows.Goals as goal
-use Rattle.row_store.proofs.store.RowStore.keep_rows.Goals.{then-keep-row, else-keep-row}
 
-pub loop-row-preserved : goal.loop-row-preserved
-loop-row-preserved c =
-    let inv = c.loop-row.invariant in
-    let row = c.loop-row.row in
-    let kept = c.loop-row.kept in
-    let rows = c.loop-row.self.rows in
-    let old = c.args.self.now.rows in
-    elim c.if-keep-row.branch [
-      | then-keep-row w ↦
-          let new : c.if-keep-row.self ≡ record c.loop-row.self { rows = set rows kept (entries_at rows row) } = w.self-is ∙ w.copy_row.ensures in
-          record {
-            width = ap (λ (t : Flat ℤ). t.width) new ∙ inv.width;
-            spare = ap (λ (t : Flat ℤ). t.spare) new ∙ inv.spare;
-            length = ap (λ (t : Flat ℤ). length t.rows) new ∙ length-set rows kept (entries_at rows row) ∙ inv.length;
-            within = omega (arith, inv.within);
-            kept = ap (λ k. take k c.if-keep-row.self.rows) w.kept-is ∙ ap (λ (t : Flat ℤ). take (kept + 1) t.rows) new ∙ keep_step row kept c.args.keep.now old rows c.loop-row-test.true (omega arith) inv.length inv.within inv.kept inv.rest w.if-keep-row.true;
-            rest = ap (λ (t : Flat ℤ). drop (row + 1) t.rows) new ∙ keep_rest row kept old rows (entries_at rows row) (omega arith) inv.length inv.within inv.rest;
-          }
-      | else-keep-row w ↦ record {
-        width = ap (λ (t : Flat ℤ). t.width) w.self-is ∙ inv.width;
-        spare = ap (λ (t : Flat ℤ). t.spare) w.self-is ∙ inv.spare;
-        length = ap (λ (t : Flat ℤ). length t.rows) w.self-is ∙ inv.length;
-        within = omega (arith, inv.within);
-        kept = ap (λ k. take k c.if-keep-row.self.rows) w.kept-is ∙ ap (λ (t : Flat ℤ). take kept t.rows) w.self-is ∙ skip_step row kept c.args.keep.now old rows c.loop-row-test.true (omega arith) inv.kept w.if-keep-row.false;
-        rest = ap (λ (t : Flat ℤ). drop (row + 1) t.rows) w.self-is ∙ skip_rest row old rows inv.rest;
-      }
-    ]
+pub invariant_of-self : goal.invariant_of-self
+invariant_of-self c =
+    let t = c.self.inside.rows in
+    kept_among _ t c.keep_rows.new.self c.keep_rows.ensures.width
+    (λ P all. subst (All P) (sym c.keep_rows.ensures.rows) (all_marked P c.args.keep.now t.rows all)) c.self.invariant

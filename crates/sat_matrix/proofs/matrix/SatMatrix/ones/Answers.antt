@@ -5,8 +5,8 @@ use Rattle.sat_matrix.proofs.matrix.SatMatrix.ones.Goals as goal
 
 pub count-requires : goal.count-requires
 count-requires c =
-    let count = count_seen c.self.inside.columns c.self.inside.words c.args.self.now c.args.i c.row.result.now c.self.invariant c.self.view_is c.requires c.row.ensures.values c.row.ensures.wide in
+    let count = count_seen c.self.inside.columns c.self.inside.words c.args.self.now c.args.i c.row.result.now c.self.invariant c.self.view_is c.requires c.row.ensures.value c.row.ensures.wide in
     omega (arith, count, ones-le (bits_of c.args.self.now.rows c.args.i), c.columns-columns.ensures.rectangular c.args.i c.requires, c.columns-columns.ensures.value)
 
 pub returns : goal.returns
-returns c = c.count.ensures ∙ count_seen c.self.inside.columns c.self.inside.words c.args.self.now c.args.i c.row.result.now c.self.invariant c.self.view_is c.requires c.row.ensures.values c.row.ensures.wide
+returns c = c.count.ensures ∙ count_seen c.self.inside.columns c.self.inside.words c.args.self.now c.args.i c.row.result.now c.self.invariant c.self.view_is c.requires c.row.ensures.value c.row.ensures.wide

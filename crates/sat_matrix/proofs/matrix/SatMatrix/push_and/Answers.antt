@@ -20,4 +20,4 @@ invariant_of-self c =
     }
 
 pub returns-clause-rows : goal.returns-clause-rows
-returns-clause-rows c = and_seen c.self.inside.columns c.self.inside.words c.push_and.new.self c.args.self.now c.args.i c.args.j c.push_and.ensures.rectangular c.self.view_is c.requires.first c.requires.second c.push_and.ensures.rows
+returns-clause-rows c = and_seen c.self.inside.columns c.self.inside.words c.push_and.new.rows c.args.self.now c.args.i c.args.j c.push_and.ensures.rectangular c.self.view_is c.requires.first c.requires.second c.push_and.ensures.rows

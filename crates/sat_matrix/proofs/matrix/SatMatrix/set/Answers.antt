@@ -11,7 +11,7 @@ returns c =
     let words = c.self.inside.words in
     let k = seen_in columns words c.args.self.now c.self.view_is in
     let old : List ℕ = entries_at words.rows c.args.row in
-    let read : c.row.result.now ≡ old = c.row.ensures.values in
+    let read : c.row.result.now ≡ old = c.row.ensures.value in
     let inside : c.args.column / 64 < length old = omega (arith, ap length read, c.row.ensures.wide, c.self.invariant.within, k.wide, c.requires.column) in
     let p : IsPlaceSet c.args.column c.args.bit old (set old (c.args.column / 64) c.with_bit.result) = place_set old c.args.column c.with_bit.result c.args.bit inside c.with_bit.ensures.same (λ j h other. c.with_bit.ensures.others j h other ∙ ap (λ (r : List ℕ). bit_in (slice_index_or r (c.args.column / 64) 0) j) read) in
     ap (λ (w : Flat ℕ). seen_bits columns w) c.put.ensures ∙ set_in columns words c.args.self.now c.args.row c.args.column c.args.bit (set old (c.args.column / 64) c.with_bit.result) c.self.view_is c.requires.row c.requires.column p

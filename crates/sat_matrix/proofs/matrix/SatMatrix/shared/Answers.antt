@@ -5,10 +5,10 @@ use Rattle.sat_matrix.proofs.matrix.SatMatrix.shared.Goals as goal
 
 pub count_and-requires-clause-few : goal.count_and-requires-clause-few
 count_and-requires-clause-few c =
-    let count = shared_seen c.self.inside.columns c.self.inside.words c.args.self.now c.args.i c.args.j c.row.result.now c.row-2.result.now c.self.invariant c.self.view_is c.requires.first c.requires.second c.row.ensures.values c.row-2.ensures.values c.row.ensures.wide in
+    let count = shared_seen c.self.inside.columns c.self.inside.words c.args.self.now c.args.i c.args.j c.row.result.now c.row-2.result.now c.self.invariant c.self.view_is c.requires.first c.requires.second c.row.ensures.value c.row-2.ensures.value c.row.ensures.wide in
     let wide = c.columns-columns.ensures.rectangular c.args.i c.requires.first in
     let also = c.columns-columns.ensures.rectangular c.args.j c.requires.second in
     omega (arith, count, shared-le (bits_of c.args.self.now.rows c.args.i) (bits_of c.args.self.now.rows c.args.j) (also ∙ sym wide), wide, c.columns-columns.ensures.value)
 
 pub returns : goal.returns
-returns c = c.count_and.ensures ∙ shared_seen c.self.inside.columns c.self.inside.words c.args.self.now c.args.i c.args.j c.row.result.now c.row-2.result.now c.self.invariant c.self.view_is c.requires.first c.requires.second c.row.ensures.values c.row-2.ensures.values c.row.ensures.wide
+returns c = c.count_and.ensures ∙ shared_seen c.self.inside.columns c.self.inside.words c.args.self.now c.args.i c.args.j c.row.result.now c.row-2.result.now c.self.invariant c.self.view_is c.requires.first c.requires.second c.row.ensures.value c.row-2.ensures.value c.row.ensures.wide
