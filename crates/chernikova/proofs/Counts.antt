@@ -43,7 +43,7 @@ pub count_pairs : (width : ℕ) (rows : List Row) (k : ℕ) (lines rays : List (
 count_pairs width rows k lines rays a values table pairs number below s zeros e ev flat crosses bound =
     ray_step_count width rows k (row_at rows k, is_eq_at rows k) lines rays pairs number (row_is_at rows k below) s
     (subst (λ (b : List ℤ). (i : ℕ) → i < length lines → dot b (vector_at lines i) ≡ pos 0) e flat)
-    (subst (λ (b : List ℤ). AreAllCrossings rows k b rays pairs) e all) bound
+    (subst (λ (b : List ℤ). AreAllCrossings rows k b rays pairs) e all) (omega (arith, bound))
   where
     on_rays : AreAllCrosses (values_on a rays) table pairs
     on_rays = subst (λ (vs : List ℤ). AreAllCrosses vs table pairs) ev crosses

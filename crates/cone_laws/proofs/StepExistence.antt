@@ -1,10 +1,11 @@
 -- The steps exist: whatever the rows, a system leads to a system of one row more.
 use Rattle.std.proofs.Common.{◌≡◌, ◌≢◌, ◌⊎◌, inl, inr, ℕ, zero, suc, ◌+◌, ◌<◌, ◌≤◌, List, [], ◌∷◌, ◌++◌, length, slice_index_or, replicate, set, false, ℤ, pos, ◌+ℤ◌, ◌-ℤ◌, ◌*ℤ◌, neg_ℤ, refl, sym, ap, ◌∙◌, subst, arith, length-append}
-use Rattle.std.specs.Prelude.{All, remove, filter, if◌then◌else◌, unsigned_abs}
+use Rattle.std.specs.Prelude.{All, remove, filter, count_by, if◌then◌else◌, unsigned_abs}
 use Rattle.std.proofs.lemmas.Int.{ints}
 use Rattle.std.proofs.lemmas.Bool.{cases_lt}
 use Rattle.std.proofs.lemmas.List.{get_or_default, get_or_append_left, get_or_push, get_or_past, length-set, length-replicate, get_or-replicate, get_or-set_same, get_or-set_other}
 use Rattle.std.proofs.lemmas.List.Elements.{All-head, All-tail, All-from_get_or}
+use Rattle.std.proofs.lemmas.List.Sums.{length-filter}
 use Rattle.row_core.specs.Vectors.{cell, dot}
 use Rattle.row_core.specs.Lists.{Row, Pointwise}
 use Rattle.cone_laws.specs.Cones.{Upto}
@@ -143,7 +144,7 @@ module _ (width : ℕ) (rows : List Row) (k : ℕ) (row : Row) (lines rays : Lis
           more : List (List ℤ)
           more = if row.1 then [] else (upward row.0 (vector_at lines index) ∷ [])
 
-  ray_step_of : (pairs : List (ℕ × ℕ)) (number : ℕ) → ((i : ℕ) → i < length lines → dot row.0 (vector_at lines i) ≡ pos 0) → AreAllCrossings rows k row.0 rays pairs → number ≤ length pairs → HasSystemOf width rows (k + 1) number
+  ray_step_of : (pairs : List (ℕ × ℕ)) (number : ℕ) → ((i : ℕ) → i < length lines → dot row.0 (vector_at lines i) ≡ pos 0) → AreAllCrossings rows k row.0 rays pairs → number ≤ length lines + count_by (λ r. stays row.1 (dot row.0 r)) rays + length pairs → HasSystemOf width rows (k + 1) number
   ray_step_of pairs number flat c bound = from_list (pointwise_exists (IsMadeOf row.0 rays) pairs (All-from_get_or (HasRelated (IsMadeOf row.0 rays)) pairs (0, 0) (λ i h. made i h (c.cross i h))))
     where
       made : (i : ℕ) → i < length pairs → IsCrossing rows k row.0 rays (pair_at pairs i).0 (pair_at pairs i).1 → HasRelated (IsMadeOf row.0 rays) (pair_at pairs i)
@@ -154,7 +155,7 @@ module _ (width : ℕ) (rows : List Row) (k : ℕ) (row : Row) (lines rays : Lis
         lines = lines;
         rays = kept ++ m.list;
         system = ray_step_system width rows k row lines rays (kept ++ m.list) at flat s (record { pairs = pairs; made = m.list; result = refl; cross = c.cross; all = c.all; distinct = c.distinct; each_made = m.related });
-        bound = omega (arith, bound, m.related.as_many, length-append kept m.list);
+        bound = omega (arith, bound, m.related.as_many, length-append kept m.list, length-filter (λ r. stays row.1 (dot row.0 r)) rays);
       }
         where
           kept : List (List ℤ)
@@ -177,8 +178,14 @@ line_step_count width rows k row lines rays index number at s below crosses boun
     by_lines (inl flat) = absurd (crosses (flat index below))
     by_lines (inr (last, crossing)) = line_step_of width rows k row lines rays at s last number crossing bound
 
-pub ray_step_count : (width : ℕ) (rows : List Row) (k : ℕ) (row : Row) (lines rays : List (List ℤ)) (pairs : List (ℕ × ℕ)) (number : ℕ) → IsRowAt rows k row → IsSystem (Upto width rows k) lines rays → ((i : ℕ) → i < length lines → dot row.0 (vector_at lines i) ≡ pos 0) → AreAllCrossings rows k row.0 rays pairs → number ≤ length pairs → HasSystemOf width rows (k + 1) number
+pub ray_step_count : (width : ℕ) (rows : List Row) (k : ℕ) (row : Row) (lines rays : List (List ℤ)) (pairs : List (ℕ × ℕ)) (number : ℕ) → IsRowAt rows k row → IsSystem (Upto width rows k) lines rays → ((i : ℕ) → i < length lines → dot row.0 (vector_at lines i) ≡ pos 0) → AreAllCrossings rows k row.0 rays pairs → number ≤ length lines + count_by (λ r. stays row.1 (dot row.0 r)) rays + length pairs → HasSystemOf width rows (k + 1) number
 ray_step_count width rows k row lines rays pairs number at s flat c bound = ray_step_of width rows k row lines rays at s pairs number flat c bound
+
+-- the lines and the rays that stay are in the next system whatever pairs cross
+pub ray_step_kept : (width : ℕ) (rows : List Row) (k : ℕ) (row : Row) (lines rays : List (List ℤ)) (number : ℕ) → IsRowAt rows k row → IsSystem (Upto width rows k) lines rays → ((i : ℕ) → i < length lines → dot row.0 (vector_at lines i) ≡ pos 0) → number ≤ length lines + count_by (λ r. stays row.1 (dot row.0 r)) rays → HasSystemOf width rows (k + 1) number
+ray_step_kept width rows k row lines rays number at s flat bound =
+    let all : HasCrossings rows k row.0 rays = crossings rows k row.0 rays in
+    ray_step_count width rows k row lines rays all.pairs number at s flat all.are_all (omega (arith, bound))
 
 -- ---- the unit vectors
 abbrev unit : ℕ → ℕ → List ℤ

@@ -1,9 +1,9 @@
-use Rattle.std.specs.Prelude.{◌≡◌, ◌≢◌, ℕ, ◌+◌, ◌<◌, ◌≤◌, List, [], length, ℤ, pos, Contains}
+use Rattle.std.specs.Prelude.{◌≡◌, ◌≢◌, ℕ, ◌+◌, ◌<◌, ◌≤◌, List, [], length, count_by, ℤ, pos, Contains}
 use Rattle.row_core.specs.Vectors.{dot}
 use Rattle.row_core.specs.Lists.{Row}
 use Rattle.cone_laws.specs.Cones.{Upto}
 use Rattle.cone_laws.specs.Canon.{vector_at, IsSystem}
-use Rattle.cone_laws.specs.Steps.{IsRowAt, AreUnits, pair_at, IsCrossing, IsLineStep, IsRayStep}
+use Rattle.cone_laws.specs.Steps.{IsRowAt, AreUnits, pair_at, stays, IsCrossing, IsLineStep, IsRayStep}
 
 -- the unit vectors as lines, without a ray, are the system of no row
 abbrev pub StartIsSystem : Type 0
@@ -44,6 +44,6 @@ pub record AreAllCrossings (rows : List Row) (k : ℕ) (a : List ℤ) (rays : Li
 abbrev pub LineStepCount : Type 0
 LineStepCount = (width : ℕ) (rows : List Row) (k : ℕ) (row : Row) (lines rays : List (List ℤ)) (index number : ℕ) → IsRowAt rows k row → IsSystem (Upto width rows k) lines rays → index < length lines → dot row.0 (vector_at lines index) ≢ pos 0 → number + 1 ≤ length lines + length rays → HasSystemOf width rows (k + 1) number
 
--- where the row is 0 on all lines, the system of one row more has at least as many rays as there are pairs of adjacent rays on the two sides of the row
+-- where the row is 0 on all lines, the system of one row more has at least as many lines and rays as there are lines, rays on which the row stays at its side, and pairs of adjacent rays on its two sides
 abbrev pub RayStepCount : Type 0
-RayStepCount = (width : ℕ) (rows : List Row) (k : ℕ) (row : Row) (lines rays : List (List ℤ)) (pairs : List (ℕ × ℕ)) (number : ℕ) → IsRowAt rows k row → IsSystem (Upto width rows k) lines rays → ((i : ℕ) → i < length lines → dot row.0 (vector_at lines i) ≡ pos 0) → AreAllCrossings rows k row.0 rays pairs → number ≤ length pairs → HasSystemOf width rows (k + 1) number
+RayStepCount = (width : ℕ) (rows : List Row) (k : ℕ) (row : Row) (lines rays : List (List ℤ)) (pairs : List (ℕ × ℕ)) (number : ℕ) → IsRowAt rows k row → IsSystem (Upto width rows k) lines rays → ((i : ℕ) → i < length lines → dot row.0 (vector_at lines i) ≡ pos 0) → AreAllCrossings rows k row.0 rays pairs → number ≤ length lines + count_by (λ r. stays row.1 (dot row.0 r)) rays + length pairs → HasSystemOf width rows (k + 1) number

@@ -27,7 +27,7 @@ pub fn line_step_count()
     ensures { LineStepCount }
 {}
 
-/// Where the row is 0 on all lines, the system of one row more has at least as many rays as there are pairs of adjacent rays on the two sides of the row.
+/// Where the row is 0 on all lines, the system of one row more has at least as many lines and rays as there are lines, rays on which the row stays at its side, and pairs of adjacent rays on its two sides.
 pub fn ray_step_count()
     ensures { RayStepCount }
 {}
