@@ -120,6 +120,10 @@ module _ (dim var : ℕ) (expr row : List ℤ) (den size : ℤ) (below : var < d
     first_undoes = record { times = den *ℤ size; positive = mul-positive den size positive i.positive; same = λ v w j. forth v w j (cases_eq j var) };
   }
 
+-- the two maps exchanged
+pub other_way : (width : ℕ) (f h : List ℤ → List ℤ) → AreInverse width f h → AreInverse width h f
+other_way width f h i = record { first_linear = i.second_linear; second_linear = i.first_linear; second_undoes = i.first_undoes; first_undoes = i.second_undoes }
+
 -- ---- the inverse row
 size_below : (a : ℤ) → a <ℤ pos 0 → pos (unsigned_abs a) ≡ neg_ℤ (pos 1) *ℤ a
 size_below a h = magnitude-negative a h ∙ omega (arith, ints)

@@ -1,4 +1,4 @@
-use Rattle.std.specs.Prelude.{◌≡◌, ◌≢◌, ◌↔◌, ℕ, ◌<◌, List, [], length, ℤ, pos, neg_ℤ, ◌<ℤ◌}
+use Rattle.std.specs.Prelude.{◌≡◌, ◌≢◌, ◌↔◌, ℕ, ◌<◌, List, length, ℤ, pos, neg_ℤ, ◌<ℤ◌}
 use Rattle.std.proofs.Math.IntN.{◌*ℤ◌}
 use Rattle.row_core.specs.Vectors.{cell, dot}
 use Rattle.row_core.specs.Content.{IsPrimitiveOf}
@@ -6,9 +6,9 @@ use Rattle.row_core.specs.Lists.{Row, Pointwise}
 use Rattle.cone_laws.specs.Canon.{IsEchelon, IsSystem}
 use Rattle.cone_laws.specs.Members.{ConeOf}
 use Rattle.gens_sys.specs.declared.kind.GenKind.TheVariants.{Line}
-use Rattle.gens_sys.specs.Generators.{Generator, Generators, kind_at}
-use Rattle.poly_pair.specs.declared.topology.Topology.TheVariants.{Closed}
+use Rattle.gens_sys.specs.Generators.{Generator, kind_at}
 use Rattle.poly_pair.specs.Polyhedra.{Polyhedron}
+use Rattle.poly_pair.specs.Starts.{CanStart}
 
 -- each column of the result for a vector of the width is the value of a row, and the result has the width
 pub record IsLinearOn (width : ℕ) (f : List ℤ → List ℤ) : Type 0 where
@@ -54,9 +54,8 @@ pub record IsInverseRow (var : ℕ) (expr : List ℤ) (den : ℤ) (row : List �
 abbrev pub HaveNoLine : List Generator → Type 0
 HaveNoLine list = (i : ℕ) → i < length list → kind_at list i ≢ Line
 
--- a closed set with a point, generators without a line, and a map whose variable has a part in its expression
-pub record CanBeCarried (p : Polyhedron) (part : ℤ) (gens : Generators) : Type 0 where
-  pub closed : p.topology ≡ Closed
-  pub some : ¬ (p.gens.list ≡ [])
+-- a closed set with a point and without a line, and a map whose variable has a part in its expression
+pub record CanBeCarried (p : Polyhedron) (part : ℤ) : Type 0 where
+  pub start : CanStart p
   pub part_is : part ≢ pos 0
-  pub no_line : HaveNoLine gens.list
+  pub no_line : HaveNoLine p.gens.list

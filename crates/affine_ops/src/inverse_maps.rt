@@ -1,16 +1,20 @@
-//! Images under a map that can be undone, from the stored pair.
+//! Images and preimages under a map that can be undone, from the stored pair.
 ghost use Rattle.std.specs.Prelude.{◌≡◌, ◌≢◌, ⊤, ◌+◌, ◌^◌, ◌<◌, ◌≤◌, length, pos, ◌<ℤ◌, unsigned_abs, IfOk, MatchBool, MatchOption};
 ghost use Rattle.row_core.specs.Vectors.{cell};
 ghost use Rattle.row_core.specs.Range.{InRange, AllInRange};
-ghost use Rattle.poly_pair.specs.Polyhedra.{IsOfGenerators};
-ghost use Rattle.poly_pair.specs.Parts.{AreStoredOfGenerators};
-ghost use Rattle.affine_ops.specs.Maps.{substituted};
-ghost use Rattle.affine_ops.specs.MappedLists.{IsMappedSystem};
+ghost use Rattle.poly_pair.specs.Polyhedra.{IsOfConstraints, IsOfGenerators};
+ghost use Rattle.poly_pair.specs.Parts.{AreStoredOfRows, AreStoredOfGenerators};
+ghost use Rattle.poly_pair.specs.TopologyLists.{constraints_of};
+ghost use Rattle.affine_ops.specs.Maps.{substituted, pulled_back};
+ghost use Rattle.affine_ops.specs.MappedLists.{IsMappedSystem, IsPulledSystem};
 ghost use Rattle.affine_ops.specs.CarriedSystems.{IsInverseRow, HaveNoLine, CanBeCarried};
 
+use crate::mapped::image_generators;
 use crate::pulled::preimage_constraints;
+use crate::stored_pairs::{can_start, paired};
+use cons_sys::ConsSys;
 use gens_sys::{GenKind, GensSys};
-use poly_pair::{Poly, Topology};
+use poly_pair::Poly;
 use row_core::{ConvErr, Memory, RowBuf, Steps};
 use std::alloc::Global;
 use std::sync::ledger::Ledger;
@@ -48,11 +52,11 @@ fn has_line(gens: &GensSys) -> bool
 }
 
 /// Whether the map can be undone, and the set has a stored pair without a line to be mapped.
-fn can_be_carried(p: &Poly, var: usize, expr: &[i128], gens: &GensSys) -> bool
+fn can_be_carried(p: &Poly, var: usize, expr: &[i128]) -> bool
     requires var { var < length expr.now }
-    ensures { MatchBool result (CanBeCarried p.now (cell expr.now var) gens.now) ⊤ }
+    ensures { MatchBool result (CanBeCarried p.now (cell expr.now var)) ⊤ }
 {
-    p.topology() == Topology::Closed && !p.is_empty() && expr[var] != 0 && !has_line(gens)
+    can_start(p) && expr[var] != 0 && !has_line(p.gens())
 }
 
 /// The polyhedron of the mapped generators of a closed set with a point and without a line, where the map can
@@ -79,7 +83,7 @@ pub(crate) fn carried_image<L: Ledger>(
 {
     let _dim = p.dim();
     let _vectors = p.gens().dim();
-    if !can_be_carried(p, var, expr, gens) {
+    if !can_be_carried(p, var, expr) {
         return Ok(None);
     }
     let row = inverse_row(alloc, var, expr, den)?;
@@ -88,9 +92,41 @@ pub(crate) fn carried_image<L: Ledger>(
         Err(ConvErr::Overflow(_)) => return Ok(None),
         Err(ConvErr::Memory) => return Err(Memory),
     };
-    match Poly::from_both(alloc, &cons, gens, p.zeros(), steps) {
-        Ok(image) => Ok(Some(image)),
-        Err(ConvErr::Overflow(_)) => Ok(None),
-        Err(ConvErr::Memory) => Err(Memory),
+    paired(alloc, &cons, gens, p.zeros(), steps)
+}
+
+/// The polyhedron of the mapped constraints of a closed set with a point and without a line, where the map can
+/// be undone. Its generators are mapped the other way, and nothing is converted. There is no answer elsewhere, or
+/// where a number leaves the range.
+pub(crate) fn carried_preimage<L: Ledger>(
+    alloc: Global,
+    p: &Poly,
+    var: usize,
+    expr: &[i128],
+    den: i128,
+    cons: &ConsSys,
+    steps: &mut Steps<L>,
+) -> Result<Option<Poly>, Memory>
+    requires var { var < p.now.cons.dim }
+    requires wide { length expr.now ≡ p.now.cons.dim + 1 }
+    requires in_range { AllInRange expr.now }
+    requires den_in_range { InRange den }
+    requires positive { pos 0 <ℤ den }
+    requires pulled { IsPulledSystem (pulled_back var expr.now den) p.now.cons.dim p.now.cons cons.now }
+    ensures points { IfOk result (λ found. MatchOption found ⊤ (IsOfConstraints p.now.topology cons.now)) }
+    ensures stored { IfOk result (λ found. MatchOption found ⊤ (AreStoredOfRows p.now.topology cons.now.dim (constraints_of p.now.topology cons.now))) }
+    ensures no_fewer { steps.old ≤ steps.new }
+{
+    let _dim = p.dim();
+    let _rows = p.cons().dim();
+    if !can_be_carried(p, var, expr) {
+        return Ok(None);
     }
+    let row = inverse_row(alloc, var, expr, den)?;
+    let gens = match image_generators(alloc, p.gens(), var, &row, expr[var].abs()) {
+        Ok(gens) => gens,
+        Err(ConvErr::Overflow(_)) => return Ok(None),
+        Err(ConvErr::Memory) => return Err(Memory),
+    };
+    paired(alloc, cons, &gens, p.zeros(), steps)
 }

@@ -23,6 +23,7 @@ mod refusals;
 mod related;
 mod relations;
 mod shadows;
+mod stored_pairs;
 mod substitution;
 
 pub use dimensions::{concat, embed, project, remove_dims};

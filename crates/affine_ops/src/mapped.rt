@@ -54,7 +54,7 @@ pub(crate) fn image_generators(
     ensures system { IfOk result (IsMappedSystem (substituted var expr.now den) gens.now.dim gens.now) }
     ensures overflow { IfErr result (IsOverflowIn (SomeLeavesInImage var expr.now den gens.now.list)) }
 {
-    let mut mapped = GensSys::new(alloc, gens.dim());
+    let mut mapped = GensSys::with_room(alloc, gens.dim(), gens.len())?;
     for index in 0..gens.len() {
         let row = match image_row(alloc, var, expr, den, gens.row(index)) {
             Ok(row) => row,
@@ -75,7 +75,7 @@ pub(crate) fn padded_generators(
     ensures fit { FitDimension gens.now }
     ensures system { IfOk result (IsMappedSystem (with_zeros gens.now.dim count) (gens.now.dim + count) gens.now) }
 {
-    let mut mapped = GensSys::new(alloc, gens.dim() + count);
+    let mut mapped = GensSys::with_room(alloc, gens.dim() + count, gens.len())?;
     for index in 0..gens.len() {
         let row = with_zeros(alloc, gens.dim(), count, gens.row(index))?;
         push_mapped(&mut mapped, row, gens.kind(index))?;
@@ -95,7 +95,7 @@ pub(crate) fn picked_generators(
     ensures system { IfOk result (IsMappedSystem (picked columns.now gens.now.dim) (length columns.now) gens.now) }
 {
     let divisor = gens.dim();
-    let mut mapped = GensSys::new(alloc, columns.len());
+    let mut mapped = GensSys::with_room(alloc, columns.len(), gens.len())?;
     for index in 0..gens.len() {
         let row = picked(alloc, columns, divisor, gens.row(index))?;
         push_mapped(&mut mapped, row, gens.kind(index))?;

@@ -6,8 +6,8 @@ use Rattle.affine_ops.proofs.mapped.picked_generators.Goals as goal
 
 pub loop-index-init : goal.loop-index-init
 loop-index-init c = record {
-  dim = c.new-mapped.ensures.dim;
-  mapped = subst (AreMapped (picked c.args.columns.now c.args.gens.now.dim) []) (sym c.new-mapped.ensures.empty) nothing;
+  dim = c.in_ok-mapped.ensures.dim;
+  mapped = subst (AreMapped (picked c.args.columns.now c.args.gens.now.dim) []) (sym c.in_ok-mapped.ensures.empty) nothing;
 }
 
 pub loop-index-preserved : goal.loop-index-preserved
