@@ -33,7 +33,7 @@ use Rattle.affine_ops.proofs.LinearMaps.{substituted_other}
 use Rattle.affine_ops.proofs.MappedResults.{lent_generators, mapped_kinds, mapped_point}
 use Rattle.affine_ops.proofs.PulledResults.{pulled_kinds}
 use Rattle.affine_ops.proofs.StoredPairs.{generator_wide, row_wide, stored_system}
-use Rattle.affine_ops.proofs.CarriedSystems.{system_carried}
+use Rattle.affine_ops.proofs.CarriedSystems.{IsUndone, undone, system_carried}
 use Rattle.affine_ops.proofs.InverseMaps.{inverse_maps, other_way}
 use Rattle.affine_ops.proofs.CarriedLists.{AreAllCarried, all_carried, stays_direction, AreAllTurned, all_turned, with_divisor, admit_sources, zeros_turned, no_line_echelon}
 
@@ -50,9 +50,12 @@ no_lines ((v, kind) ∷ list) h = by_kind kind (h 0 (omega arith)) (no_lines lis
 
 -- ---- the pair
 module _ (p : Polyhedron) (k : IsKept p) (gens_fit : FitDimension p.gens) (fit : FitConstraints p.cons) (can : CanStart p) (no_line : HaveNoLine p.gens.list) (var : ℕ) (below : var < p.cons.dim) (expr row : List ℤ) (den size : ℤ) (positive : pos 0 <ℤ size) (inverse : AreInverse (p.cons.dim + 1) (substituted var expr den) (substituted var row size)) where
+  undone_map : IsUndone (p.cons.dim + 1) (p.cons.dim + 1) (substituted var expr den) (substituted var row size)
+  undone_map = undone (p.cons.dim + 1) (substituted var expr den) (substituted var row size) inverse
+
   module _ (gs : Generators) (m : IsMappedSystem (substituted var expr den) p.cons.dim p.gens gs) where
     carried : AreAllCarried (substituted var expr den) p.gens.list gs.list
-    carried = all_carried (substituted var expr den) p.gens.list gs.list m.mapped (λ j d b. stays_direction (p.cons.dim + 1) (substituted var expr den) (substituted var row size) inverse (slice_index_or p.gens.list j d).1 (slice_index_or p.gens.list j d).0 (generator_wide p k gens_fit j d b) (gens_fit.each j d b).nonzero)
+    carried = all_carried (substituted var expr den) p.gens.list gs.list m.mapped (λ j d b. stays_direction (p.cons.dim + 1) (p.cons.dim + 1) (substituted var expr den) (substituted var row size) undone_map (slice_index_or p.gens.list j d).1 (slice_index_or p.gens.list j d).0 (generator_wide p k gens_fit j d b) (gens_fit.each j d b).nonzero)
 
     carried_point : HasPointKind gs.list
     carried_point = some_point gs.list (λ e. can.some (none e)) (mapped_point (substituted var expr den) p.cons.dim p gs k m)
@@ -70,7 +73,7 @@ module _ (p : Polyhedron) (k : IsKept p) (gens_fit : FitDimension p.gens) (fit :
     module _ (cs : Constraints) (pulled : IsPulledSystem (pulled_back var row size) p.cons.dim p.cons cs) where
       turned_rows : AreAllTurned (p.cons.dim + 1) (substituted var row size) (constraint_list p.cons) ((divisor_row p.cons.dim, false) ∷ map constraint_row cs.list)
       turned_rows =
-          with_divisor p.cons.dim (substituted var row size) size (map constraint_row p.cons.list) (map constraint_row cs.list) positive
+          with_divisor p.cons.dim p.cons.dim (substituted var row size) size (map constraint_row p.cons.list) (map constraint_row cs.list) positive
           (λ v w. substituted_other var row size v p.cons.dim (λ e. omega (arith, e, below)))
           (all_turned (p.cons.dim + 1) (pulled_back var row size) (substituted var row size) p.cons.list cs.list pulled.pulled (λ j d b v w.
           let a = (fit.each j d b).wide in
@@ -80,12 +83,12 @@ module _ (p : Polyhedron) (k : IsKept p) (gens_fit : FitDimension p.gens) (fit :
       carried_system =
           subst (λ (n : ℕ). IsSystem (ConeOf (n + 1) ((divisor_row n, false) ∷ map constraint_row cs.list)) (lines_of (generator_list gs)) (rays_of (generator_list gs))) (sym pulled.same_dim)
           (system_carried (p.cons.dim + 1) (substituted var expr den) (substituted var row size) (constraint_list p.cons) ((divisor_row p.cons.dim, false) ∷ map constraint_row cs.list) (lines_of (generator_list p.gens)) (rays_of (generator_list p.gens)) (lines_of (generator_list gs)) (rays_of (generator_list gs)) inverse
-          (admit_sources (p.cons.dim + 1) (substituted var row size) (constraint_list p.cons) ((divisor_row p.cons.dim, false) ∷ map constraint_row cs.list) inverse.second_linear turned_rows) carried.lines carried.rays (no_line_echelon (lines_of (generator_list gs)) (rays_of (generator_list gs)) no_new_line) (stored_system p k can))
+          (admit_sources (p.cons.dim + 1) (p.cons.dim + 1) (substituted var row size) (constraint_list p.cons) ((divisor_row p.cons.dim, false) ∷ map constraint_row cs.list) inverse.second_linear turned_rows) carried.lines carried.rays (no_line_echelon (lines_of (generator_list gs)) (rays_of (generator_list gs)) no_new_line) (stored_system p k can))
 
       carried_zeros : (table : Table) → KeepsZeros p table → ArePairZeros cs gs table
       carried_zeros table z =
           subst (λ (n : ℕ). ArePairZeros (record { dim = n; list = cs.list }) gs table) (sym pulled.same_dim)
-          (zeros_turned (p.cons.dim + 1) (substituted var expr den) (substituted var row size) inverse (generator_list p.gens) (generator_list gs) (vectors (constraint_list p.cons)) (vectors ((divisor_row p.cons.dim, false) ∷ map constraint_row cs.list)) table carried.rows (row_wide p k gens_fit) turned_rows.vectors (z can.closed can.some))
+          (zeros_turned (p.cons.dim + 1) (p.cons.dim + 1) (substituted var expr den) (substituted var row size) undone_map (generator_list p.gens) (generator_list gs) (vectors (constraint_list p.cons)) (vectors ((divisor_row p.cons.dim, false) ∷ map constraint_row cs.list)) table carried.rows (row_wide p k gens_fit) turned_rows.vectors (z can.closed can.some))
 
       carried_pair : (table : Table) → KeepsZeros p table → IsPair cs gs table
       carried_pair table z = record {

@@ -63,9 +63,9 @@ forth_value s d a e x = simp ring (omega (arith, ints))
 both_times : (k l x y z : ℤ) → x ≡ k *ℤ y → y ≡ l *ℤ z → x ≡ (k *ℤ l) *ℤ z
 both_times k l x y z e f = let g = ap (λ (u : ℤ). k *ℤ u) f in let m : (k *ℤ l) *ℤ z ≡ k *ℤ (l *ℤ z) = simp ring in omega (arith, ints, e, g, m)
 
--- a linear map of the operators, as one of vectors of a width
-pub linear_on : (dim : ℕ) (f : List ℤ → List ℤ) → IsLinearMap dim dim f → IsLinearOn (dim + 1) f
-linear_on dim f lin = record { rows = lin.rows; values = lin.values; wide = lin.wide }
+-- a linear map of the operators, as one of vectors
+pub linear_on : (dim to : ℕ) (f : List ℤ → List ℤ) → IsLinearMap dim to f → IsLinearOn (dim + 1) (to + 1) f
+linear_on dim to f lin = record { rows = lin.rows; values = lin.values; wide = lin.wide }
 
 module _ (dim var : ℕ) (expr row : List ℤ) (den size : ℤ) (below : var < dim) (positive : pos 0 <ℤ den) (i : IsInverseRow var expr den row size) where
   own_cell : (e : List ℤ) (d : ℤ) (v : List ℤ) → length v ≡ dim + 1 → cell (substituted var e d v) var ≡ dot e v
@@ -98,11 +98,11 @@ module _ (dim var : ℕ) (expr row : List ℤ) (den size : ℤ) (below : var < d
       ∙ forth_value i.sign den (cell expr var) (dot expr v) (cell v var)
       ∙ ap (λ (z : ℤ). (den *ℤ z) *ℤ cell v var) (sym i.size_is)
 
-  first_map : IsLinearOn (dim + 1) (substituted var expr den)
-  first_map = linear_on dim (substituted var expr den) (substitution_linear dim var expr den below positive)
+  first_map : IsLinearOn (dim + 1) (dim + 1) (substituted var expr den)
+  first_map = linear_on dim dim (substituted var expr den) (substitution_linear dim var expr den below positive)
 
-  second_map : IsLinearOn (dim + 1) (substituted var row size)
-  second_map = linear_on dim (substituted var row size) (substitution_linear dim var row size below i.positive)
+  second_map : IsLinearOn (dim + 1) (dim + 1) (substituted var row size)
+  second_map = linear_on dim dim (substituted var row size) (substitution_linear dim var row size below i.positive)
 
   back : (v : List ℤ) → length v ≡ dim + 1 → (j : ℕ) → (j ≡ var) ⊎ (j ≢ var) → cell (substituted var row size (substituted var expr den v)) j ≡ (size *ℤ den) *ℤ cell v j
   back v w j (inl e) = subst (λ (n : ℕ). cell (substituted var row size (substituted var expr den v)) n ≡ (size *ℤ den) *ℤ cell v n) (sym e) (own_cell row size (substituted var expr den v) (first_map.wide v w) ∙ back_own v w)

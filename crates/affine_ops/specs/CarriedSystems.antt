@@ -10,11 +10,11 @@ use Rattle.gens_sys.specs.Generators.{Generator, kind_at}
 use Rattle.poly_pair.specs.Polyhedra.{Polyhedron}
 use Rattle.poly_pair.specs.Starts.{CanStart}
 
--- each column of the result for a vector of the width is the value of a row, and the result has the width
-pub record IsLinearOn (width : ℕ) (f : List ℤ → List ℤ) : Type 0 where
+-- each column of the result for a vector of the one width is the value of a row, and the result has the other width
+pub record IsLinearOn (from to : ℕ) (f : List ℤ → List ℤ) : Type 0 where
   pub rows : ℕ → List ℤ
-  pub values : (v : List ℤ) → length v ≡ width → (j : ℕ) → cell (f v) j ≡ dot (rows j) v
-  pub wide : (v : List ℤ) → length v ≡ width → length (f v) ≡ width
+  pub values : (v : List ℤ) → length v ≡ from → (j : ℕ) → cell (f v) j ≡ dot (rows j) v
+  pub wide : (v : List ℤ) → length v ≡ from → length (f v) ≡ to
 
 -- the map h of the map f of a vector is a positive multiple of it, one for all vectors of the width
 pub record Undoes (width : ℕ) (h f : List ℤ → List ℤ) : Type 0 where
@@ -24,8 +24,8 @@ pub record Undoes (width : ℕ) (h f : List ℤ → List ℤ) : Type 0 where
 
 -- two linear maps of which each undoes the other
 pub record AreInverse (width : ℕ) (f h : List ℤ → List ℤ) : Type 0 where
-  pub first_linear : IsLinearOn width f
-  pub second_linear : IsLinearOn width h
+  pub first_linear : IsLinearOn width width f
+  pub second_linear : IsLinearOn width width h
   pub second_undoes : Undoes width h f
   pub first_undoes : Undoes width f h
 
@@ -34,12 +34,12 @@ abbrev pub AreCarried : (List ℤ → List ℤ) → List (List ℤ) → List (Li
 AreCarried f old new = Pointwise (λ v w. IsPrimitiveOf (f v) w) old new
 
 -- the others admit the vectors that the map takes to vectors which the rows admit
-abbrev pub AdmitSources : ℕ → (List ℤ → List ℤ) → List Row → List Row → Type 0
-AdmitSources width h rows others = (v : List ℤ) → length v ≡ width → ConeOf width others v ↔ ConeOf width rows (h v)
+abbrev pub AdmitSources : ℕ → ℕ → (List ℤ → List ℤ) → List Row → List Row → Type 0
+AdmitSources from to h rows others = (v : List ℤ) → length v ≡ to → ConeOf to others v ↔ ConeOf from rows (h v)
 
 -- a map that can be undone takes the system of a cone to one of the cone's image, where what it gives is in reduced echelon form
 abbrev pub SystemIsCarried : Type 0
-SystemIsCarried = (width : ℕ) (f h : List ℤ → List ℤ) (rows others : List Row) (lines rays new_lines new_rays : List (List ℤ)) → AreInverse width f h → AdmitSources width h rows others → AreCarried f lines new_lines → AreCarried f rays new_rays → IsEchelon new_lines new_rays → IsSystem (ConeOf width rows) lines rays → IsSystem (ConeOf width others) new_lines new_rays
+SystemIsCarried = (width : ℕ) (f h : List ℤ → List ℤ) (rows others : List Row) (lines rays new_lines new_rays : List (List ℤ)) → AreInverse width f h → AdmitSources width width h rows others → AreCarried f lines new_lines → AreCarried f rays new_rays → IsEchelon new_lines new_rays → IsSystem (ConeOf width rows) lines rays → IsSystem (ConeOf width others) new_lines new_rays
 
 -- the map that replaces the variable by the row over the size undoes the one that replaces it by the expression over the divisor
 pub record IsInverseRow (var : ℕ) (expr : List ℤ) (den : ℤ) (row : List ℤ) (size : ℤ) : Type 0 where

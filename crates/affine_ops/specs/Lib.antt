@@ -2,6 +2,7 @@ pub mod Maps
 pub mod MappedLists
 pub mod CarriedSystems
 pub mod StoredPairs
+pub mod AddedVariables
 pub mod Results
 pub mod Refusals
 pub mod Shadows

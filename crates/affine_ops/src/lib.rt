@@ -11,6 +11,7 @@
 //! [`laws`] says which of them undo each other, and what images by relations are.
 #![tactic(auto)]
 
+mod added_variables;
 mod columns;
 mod dimensions;
 mod images;
