@@ -203,7 +203,7 @@ impl<T: Copy> FlatRows<T> {
         self.truncate(kept);
     }
 
-    // Writes row `from` over row `to`.
+    /// Writes row `from` over row `to`.
     fn copy_row(&mut self, from: usize, to: usize)
         requires from { from < length self.old.rows }
         requires to { to < length self.old.rows }
@@ -227,8 +227,8 @@ impl<T: Copy> FlatRows<T> {
     }
 }
 
-// Appends a row, for which there is room.
-fn append_row<T: Copy>(cells: &mut Vec<T>, row: &[T])
+/// Appends a row, for which there is room.
+pub(crate) fn append_row<T: Copy>(cells: &mut Vec<T>, row: &[T])
     requires { vec_len cells.old + length row.now ≤ vec_capacity cells.old }
     ensures items { cells.new.items ≡ cells.old.items ++ row.now }
     ensures len { vec_len cells.new ≡ vec_len cells.old + length row.now }
@@ -237,7 +237,7 @@ fn append_row<T: Copy>(cells: &mut Vec<T>, row: &[T])
     let _appended = cells.extend_from_slice(row);
 }
 
-// Appends a copy of the part of `width` cells from `at` on, for which there is room.
+/// Appends a copy of the part of `width` cells from `at` on, for which there is room.
 fn append_part<T: Copy>(cells: &mut Vec<T>, at: usize, width: usize)
     requires within { at + width ≤ vec_len cells.old }
     requires room { vec_len cells.old + width ≤ vec_capacity cells.old }
@@ -248,7 +248,7 @@ fn append_part<T: Copy>(cells: &mut Vec<T>, at: usize, width: usize)
     let _appended = cells.extend_from_within(at..at + width);
 }
 
-// An entry of a row, or `rest` past its end.
+/// An entry of a row, or `rest` past its end.
 #[inline]
 fn entry_or<T: Copy>(row: &[T], place: usize, rest: T) -> T
     ensures { result ≡ slice_index_or row.now place rest }
@@ -256,7 +256,7 @@ fn entry_or<T: Copy>(row: &[T], place: usize, rest: T) -> T
     if place < row.len() { row[place] } else { rest }
 }
 
-// Appends the first entries of a row, and `rest` past its end, for which there is room.
+/// Appends the first entries of a row, and `rest` past its end, for which there is room.
 fn append_fitted<T: Copy>(cells: &mut Vec<T>, row: &[T], rest: T, width: usize)
     requires { vec_len cells.old + width ≤ vec_capacity cells.old }
     ensures items { cells.new.items ≡ cells.old.items ++ fitted width rest row.now }

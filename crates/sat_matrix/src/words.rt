@@ -64,7 +64,7 @@ pub(crate) fn has_third_word(rows: &FlatRows<u64>, i: usize, j: usize) -> bool
     some_other_covers(rows.cells(), i, j)
 }
 
-// Whether some word at another place than `i` and `j` has each bit that both of these have.
+/// Whether some word at another place than `i` and `j` has each bit that both of these have.
 fn some_other_covers(words: &[u64], i: usize, j: usize) -> bool
     requires first { i < length words.now }
     requires second { j < length words.now }
