@@ -1,8 +1,9 @@
 -- How many combinations a conversion counts: at each step at most as many as the next system has vectors, also where the step stops early.
-use Rattle.std.specs.Prelude.{◌≡◌, ◌≢◌, ◌-◌, ℕ, ◌+◌, ◌<◌, ◌≤◌, List, [], ◌∷◌, ◌++◌, length, slice_index_or, ℤ, pos}
+use Rattle.std.specs.Prelude.{◌≡◌, ◌≢◌, ◌-◌, ℕ, ◌+◌, ◌<◌, ◌≤◌, List, [], ◌∷◌, ◌++◌, length, count_by, cond, slice_index_or, ℤ, pos}
 use Prim.Native.Nat.{suc, zero}
 use Rattle.std.proofs.Common.{refl, sym, ap, ◌∙◌, subst, arith, inl, inr}
 use Rattle.std.proofs.lemmas.List.{length_push, get_or_append_left, get_or_push}
+use Rattle.std.proofs.lemmas.List.Folds.{fold-map}
 use Rattle.std.proofs.lemmas.List.Sums.{sum_by_push}
 use Rattle.std.proofs.lemmas.Bool.{cases_lt}
 use Rattle.row_core.specs.Vectors.{dot}
@@ -10,9 +11,9 @@ use Rattle.row_core.specs.Lists.{Row, row_at, is_eq_at, vectors}
 use Rattle.sat_matrix.specs.Tables.{Table}
 use Rattle.cone_laws.specs.Cones.{Upto}
 use Rattle.cone_laws.specs.Canon.{vector_at, IsSystem}
-use Rattle.cone_laws.specs.Steps.{IsLastCrossing, pair_at}
+use Rattle.cone_laws.specs.Steps.{IsLastCrossing, pair_at, stays}
 use Rattle.cone_laws.specs.SystemLaws.{HasSystem, HasSystemOf, AreAllCrossings}
-use Rattle.cone_laws.proofs.StepExistence.{every_prefix, line_step_count, ray_step_count}
+use Rattle.cone_laws.proofs.StepExistence.{every_prefix, line_step_count, ray_step_count, ray_step_kept}
 use Rattle.sat_matrix.specs.ZeroTables.{IsZeroTable}
 use Rattle.chernikova.specs.Systems.{values_on}
 use Rattle.chernikova.specs.Changes.{AreAllCrosses}
@@ -39,21 +40,28 @@ count_line width rows k lines rays a index number below s e crossing bound =
     (omega (arith, bound, length-vectors lines, length-vectors rays))
 
 -- a step with pairs of rays
-pub count_pairs : (width : ℕ) (rows : List Row) (k : ℕ) (lines rays : List (List ℤ)) (a values : List ℤ) (table : Table) (pairs : List (ℕ × ℕ)) (number : ℕ) → k < length rows → IsSystem (Upto width rows k) lines rays → IsZeroTable rows k rays table → a ≡ row_at rows k → values ≡ values_on a rays → ((i : ℕ) → i < length lines → dot a (vector_at lines i) ≡ pos 0) → AreAllCrosses values table pairs → number ≤ length pairs → HasSystemOf width rows (k + 1) number
-count_pairs width rows k lines rays a values table pairs number below s zeros e ev flat crosses bound =
-    ray_step_count width rows k (row_at rows k, is_eq_at rows k) lines rays pairs number (row_is_at rows k below) s
-    (subst (λ (b : List ℤ). (i : ℕ) → i < length lines → dot b (vector_at lines i) ≡ pos 0) e flat)
-    (subst (λ (b : List ℤ). AreAllCrossings rows k b rays pairs) e all) (omega (arith, bound))
-  where
-    on_rays : AreAllCrosses (values_on a rays) table pairs
-    on_rays = subst (λ (vs : List ℤ). AreAllCrosses vs table pairs) ev crosses
+module _ (width : ℕ) (rows : List Row) (k : ℕ) (lines rays : List (List ℤ)) (values : List ℤ) (below : k < length rows) (s : IsSystem (Upto width rows k) lines rays) (is_values : values ≡ values_on (row_at rows k) rays) (flat : (i : ℕ) → i < length lines → dot (row_at rows k) (vector_at lines i) ≡ pos 0) where
+  -- the rays that stay, by their values
+  staying : count_by (λ value. stays (is_eq_at rows k) value) values ≡ count_by (λ r. stays (is_eq_at rows k) (dot (row_at rows k) r)) rays
+  staying =
+      ap (λ vs. count_by (λ value. stays (is_eq_at rows k) value) vs) is_values
+      ∙ fold-map (λ (n : ℕ) value. n + cond (stays (is_eq_at rows k) value) 1 0) (λ r. dot (row_at rows k) r) 0 rays
 
-    all : AreAllCrossings rows k a rays pairs
-    all = record {
-      cross = λ i h. crossing_from rows k a rays table (pair_at pairs i).0 (pair_at pairs i).1 zeros (on_rays.each i h);
-      all = λ p n c. on_rays.all p n (cross_from rows k a rays table p n zeros c);
-      distinct = on_rays.distinct;
-    }
+  pub count_kept : (number : ℕ) → number ≤ length lines + count_by (λ value. stays (is_eq_at rows k) value) values → HasSystemOf width rows (k + 1) number
+  count_kept number bound = ray_step_kept width rows k (row_at rows k, is_eq_at rows k) lines rays number (row_is_at rows k below) s flat (omega (arith, bound, staying))
+
+  pub count_pairs : (table : Table) (pairs : List (ℕ × ℕ)) (number : ℕ) → IsZeroTable rows k rays table → AreAllCrosses values table pairs → number ≤ length lines + count_by (λ value. stays (is_eq_at rows k) value) values + length pairs → HasSystemOf width rows (k + 1) number
+  count_pairs table pairs number zeros crosses bound = ray_step_count width rows k (row_at rows k, is_eq_at rows k) lines rays pairs number (row_is_at rows k below) s flat all (omega (arith, bound, staying))
+    where
+      on_rays : AreAllCrosses (values_on (row_at rows k) rays) table pairs
+      on_rays = subst (λ (vs : List ℤ). AreAllCrosses vs table pairs) is_values crosses
+
+      all : AreAllCrossings rows k (row_at rows k) rays pairs
+      all = record {
+        cross = λ i h. crossing_from rows k (row_at rows k) rays table (pair_at pairs i).0 (pair_at pairs i).1 zeros (on_rays.each i h);
+        all = λ p n c. on_rays.all p n (cross_from rows k (row_at rows k) rays table p n zeros c);
+        distinct = on_rays.distinct;
+      }
 
 -- ---- all steps
 pub counted_none : (width : ℕ) (rows : List Row) (from total : ℕ) → total ≡ 0 → IsCountedBetween width rows from from total

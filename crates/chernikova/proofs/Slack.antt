@@ -1,17 +1,21 @@
 -- What is counted in another order fits what the bound of the list's order leaves.
-use Rattle.std.specs.Prelude.{◌≡◌, ℕ, ◌+◌, ◌-◌, ◌<◌, ◌≤◌, List, [], ◌∷◌, length, sum, slice_index_or}
+use Rattle.std.specs.Prelude.{◌≡◌, ℕ, ◌+◌, ◌-◌, ◌<◌, ◌≤◌, List, [], ◌∷◌, length, sum, count_by, slice_index_or, ℤ}
 use Prim.Native.Nat.{suc, zero}
-use Rattle.std.proofs.Common.{refl, ap, ◌∙◌, arith, inl, inr}
+use Rattle.std.proofs.Common.{refl, sym, ap, ◌∙◌, subst, arith, inl, inr}
 use Rattle.std.proofs.lemmas.Bool.{cases_lt}
 use Rattle.std.proofs.lemmas.List.Sums.{sum_by-cons}
-use Rattle.row_core.specs.Lists.{Row, vectors}
+use Rattle.row_core.specs.Lists.{Row, row_at, is_eq_at, vectors}
+use Rattle.cone_laws.specs.Steps.{stays}
 use Rattle.cone_laws.specs.SystemLaws.{HasSystemOf}
 use Rattle.chernikova.specs.declared.system.System.{System}
+use Rattle.chernikova.specs.declared.plan.Position.{Position}
+use Rattle.chernikova.specs.declared.plan.Position.TheVariants as position
 use Rattle.chernikova.specs.declared.plan.Plan.{Plan}
 use Rattle.chernikova.specs.declared.plan.Plan.TheVariants as plan
+use Rattle.chernikova.specs.Changes.{AreAllCrosses}
 use Rattle.chernikova.specs.Conversion.{IsState, IsCountedBetween, IsCountedUpto}
-use Rattle.chernikova.specs.Plans.{IsPlan, combinations_of}
-use Rattle.chernikova.proofs.Counts.{count_none, count_line, count_pairs, counted_more, counted_all}
+use Rattle.chernikova.specs.Plans.{IsFlat, IsPosition, IsPlan, kept_of, combinations_of}
+use Rattle.chernikova.proofs.Counts.{count_none, count_line, count_kept, count_pairs, counted_more, counted_all}
 use Rattle.chernikova.proofs.VectorLemmas.{length-vectors}
 
 -- numbers of which none is above the one at its index, with a sum of their own
@@ -51,13 +55,40 @@ counted_less width rows from k total less h below =
       each = λ i inside. has_less width rows (from + i + 1) (slice_index_or h.counts i 0) (slice_index_or lower.lower i 0) (h.each i inside) (lower.each i);
     }
 
+-- ---- one row
 -- the combinations of a plan are at most as many as the next system has vectors
 pub plan_counted : (width : ℕ) (rows : List Row) (k : ℕ) (cone : System) (p : Plan) (number : ℕ) → k < length rows → IsState width rows k cone → IsPlan rows k cone p → number ≤ combinations_of cone p → HasSystemOf width rows (k + 1) number
 plan_counted width rows k cone (plan.Line index line_values ray_values) number below state is_plan bound =
     count_line width rows k cone.lines.rows cone.rays.rows _ index number below state.system refl is_plan.crossing (omega (arith, bound, is_plan.crossing.below, length-vectors cone.lines.rows))
 plan_counted width rows k cone (plan.Same values) number below state is_plan bound = count_none width rows k number below (omega (arith, bound))
 plan_counted width rows k cone (plan.Ray values marks pairs) number below state is_plan bound =
-    count_pairs width rows k (vectors cone.lines.rows) (vectors cone.rays.rows) _ values.items cone.sat pairs.items number below state.system state.zeros refl is_plan.cutting.0.are_values is_plan.cutting.0.flat is_plan.crosses bound
+    count_pairs width rows k (vectors cone.lines.rows) (vectors cone.rays.rows) values.items below state.system is_plan.cutting.0.are_values is_plan.cutting.0.flat cone.sat pairs.items number state.zeros is_plan.crosses (omega (arith, bound))
+
+-- a row that is 0 on all lines: these and the rays that meet it may be counted, however many pairs cross
+flat_kept : (width : ℕ) (rows : List Row) (k : ℕ) (cone : System) (values : List ℤ) (number : ℕ) → k < length rows → IsState width rows k cone → IsFlat (row_at rows k, is_eq_at rows k) cone values → number ≤ length cone.lines.rows + count_by (λ value. stays (is_eq_at rows k) value) values → HasSystemOf width rows (k + 1) number
+flat_kept width rows k cone values number below state is bound =
+    count_kept width rows k (vectors cone.lines.rows) (vectors cone.rays.rows) values below state.system is.are_values is.flat number (omega (arith, bound, length-vectors cone.lines.rows))
+
+-- and the combinations of its plan
+flat_counted : (width : ℕ) (rows : List Row) (k : ℕ) (cone : System) (values : List ℤ) (p : Plan) (number : ℕ) → k < length rows → IsState width rows k cone → IsFlat (row_at rows k, is_eq_at rows k) cone values → IsPlan rows k cone p → number ≤ length cone.lines.rows + count_by (λ value. stays (is_eq_at rows k) value) values + combinations_of cone p → HasSystemOf width rows (k + 1) number
+flat_counted width rows k cone values (plan.Line index line_values ray_values) number below state is is_plan bound = absurd (is_plan.crossing.crosses (is.flat index is_plan.crossing.below))
+flat_counted width rows k cone values (plan.Same same) number below state is is_plan bound = flat_kept width rows k cone values number below state is (omega (arith, bound))
+flat_counted width rows k cone values (plan.Ray own marks pairs) number below state is is_plan bound =
+    count_pairs width rows k (vectors cone.lines.rows) (vectors cone.rays.rows) values below state.system is.are_values is.flat cone.sat pairs.items number state.zeros
+    (subst (λ (vs : List ℤ). AreAllCrosses vs cone.sat pairs.items) (is_plan.cutting.0.are_values ∙ sym is.are_values) is_plan.crosses)
+    (omega (arith, bound, length-vectors cone.lines.rows))
+
+-- what stays may be counted before the row's pairs are known
+pub kept_counted : (width : ℕ) (rows : List Row) (k : ℕ) (cone : System) (p : Position) (number : ℕ) → k < length rows → IsState width rows k cone → IsPosition rows k cone p → number ≤ kept_of (is_eq_at rows k) cone p → HasSystemOf width rows (k + 1) number
+kept_counted width rows k cone (position.Crossing index line_values ray_values) number below state is bound = count_none width rows k number below (omega (arith, bound))
+kept_counted width rows k cone (position.Met values) number below state is bound = flat_kept width rows k cone values.items number below state is.0 bound
+kept_counted width rows k cone (position.Cutting values) number below state is bound = flat_kept width rows k cone values.items number below state is.0 bound
+
+-- and beside it the combinations of the row's plan
+pub placed_counted : (width : ℕ) (rows : List Row) (k : ℕ) (cone : System) (p : Position) (q : Plan) (number : ℕ) → k < length rows → IsState width rows k cone → IsPosition rows k cone p → IsPlan rows k cone q → number ≤ kept_of (is_eq_at rows k) cone p + combinations_of cone q → HasSystemOf width rows (k + 1) number
+placed_counted width rows k cone (position.Crossing index line_values ray_values) q number below state is is_plan bound = plan_counted width rows k cone q number below state is_plan (omega (arith, bound))
+placed_counted width rows k cone (position.Met values) q number below state is is_plan bound = flat_counted width rows k cone values.items q number below state is.0 is_plan bound
+placed_counted width rows k cone (position.Cutting values) q number below state is is_plan bound = flat_counted width rows k cone values.items q number below state is.0 is_plan bound
 
 -- what is left of the vectors of the next system may be counted on top
 pub spared_counted : (width : ℕ) (rows : List Row) (k : ℕ) (cone : System) (number made spared : ℕ) → IsState width rows k cone → HasSystemOf width rows k number → number ≤ made → spared ≡ length cone.lines.rows + length cone.rays.rows - made → HasSystemOf width rows k (number + spared)

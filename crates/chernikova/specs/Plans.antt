@@ -1,4 +1,4 @@
-use Rattle.std.specs.Prelude.{◌≡◌, ℕ, ◌+◌, ◌-◌, ◌<◌, ⊤, Bool, true, false, List, length, map, All, ℤ, pos}
+use Rattle.std.specs.Prelude.{◌≡◌, ℕ, ◌+◌, ◌-◌, ◌<◌, ⊤, Bool, true, false, List, length, map, count_by, All, ℤ, pos}
 use Rattle.row_core.specs.Vectors.{dot}
 use Rattle.row_core.specs.Range.{InRange}
 use Rattle.row_core.specs.Lists.{Row, row_at, is_eq_at, vectors}
@@ -47,6 +47,12 @@ abbrev pub IsPosition : List Row → ℕ → System → Position → Type 0
 IsPosition rows k cone (position.Crossing index line_values ray_values) = IsLinePlan (row_at rows k, is_eq_at rows k) cone index line_values.items ray_values.items
 IsPosition rows k cone (position.Met values) = IsMet (row_at rows k, is_eq_at rows k) cone values.items
 IsPosition rows k cone (position.Cutting values) = IsCutting (row_at rows k, is_eq_at rows k) cone values.items
+
+-- how many lines and rays stay whatever pairs cross: where the row is 0 on all lines, these and the rays that meet it
+abbrev pub kept_of : Bool → System → Position → ℕ
+kept_of eq cone (position.Crossing index line_values ray_values) = 0
+kept_of eq cone (position.Met values) = length cone.lines.rows + count_by (λ value. stays eq value) values.items
+kept_of eq cone (position.Cutting values) = length cone.lines.rows + count_by (λ value. stays eq value) values.items
 
 -- a row that some ray doesn't meet: the values of the rays, which of them stay, and the pairs that cross
 pub record IsRayPlan (row : Row) (cone : System) (values : List ℤ) (marks : List Bool) (pairs : List (ℕ × ℕ)) : Type 0 where

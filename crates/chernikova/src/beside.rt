@@ -2,10 +2,11 @@
 ghost use Rattle.std.specs.Prelude.{◌≡◌, ℕ, ◌+◌, ◌<◌, ◌≤◌, List, length, true, false, IsTrue, IfOk};
 ghost use Rattle.row_core.specs.Lists.{Row};
 ghost use Rattle.chernikova.specs.Conversion.{IsState};
+ghost use Rattle.chernikova.specs.Plans.{kept_of};
 ghost use Rattle.chernikova.specs.Beside.{IsBeside, IsPlanned, IsRunning, IsDone};
 
 use crate::conversion::start;
-use crate::plan::Plan;
+use crate::plan::{Plan, Position};
 use crate::row_order::{is_as_listed, places, reordered, sorted_order};
 use crate::scratch::Scratch;
 use crate::system::System;
@@ -23,9 +24,11 @@ const LOOKS_BEFORE: u64 = 10_000;
 /// to take in all rows, and few are then spared.
 const LOOKS_AT_THE_END: u64 = 1_000_000;
 
-/// For how many looks of the conversion in the list's order the other has one, unless it took in more rows: then
-/// it has as many.
+/// For how many looks of the conversion in the list's order the other has one.
 const SHARE: u64 = 24;
+
+/// For how many it has one while it took in more rows.
+const SHARE_AHEAD: u64 = 2;
 
 /// A conversion in sorted order: its rows, the place among them of each row of the list, and the system
 /// of those that were taken in. It has begun or not, and runs until an overflow ends it. The search for the
@@ -130,8 +133,9 @@ impl Beside {
         })
     }
 
-    // Begins where the conversion in the list's order looks at enough rays, if there is memory for it.
-    fn begin(&mut self, alloc: Global, list: &RowList, looks: u64, taken: usize)
+    /// Begins where the conversion in the list's order looks at enough rays, those of its next row among them,
+    /// if there is memory for it.
+    pub(crate) fn begin(&mut self, alloc: Global, list: &RowList, looks: u64, taken: usize)
         requires { IsBeside list.now.width list.now.rows self.old }
         ensures { IsBeside list.now.width list.now.rows self.new }
     {
@@ -147,7 +151,7 @@ impl Beside {
     // How many more looks it may take, beside a conversion that takes so many and took in so many rows.
     fn looks_left(&self, looks: u64, taken: usize) -> u64 {
         let share = if self.taken > taken {
-            looks
+            looks / SHARE_AHEAD
         } else {
             looks / SHARE
         };
@@ -248,8 +252,18 @@ impl Beside {
         }
     }
 
-    /// Begins where the conversion in the list's order looks at enough rays, those of its next row among
-    /// them, and takes in rows as long as it has turns beside that conversion.
+    /// How many lines and rays count as slack before the pairs of the next row of the list's order are sought, from
+    /// how that row lies to them: those that stay, if there is a use for them.
+    pub(crate) fn slack_before(&self, position: &Position, eq: bool, cone: &System) -> u128
+        ensures { result ≤ kept_of eq cone.now position.now }
+    {
+        if !self.running {
+            return 0;
+        }
+        position.kept(eq, cone)
+    }
+
+    /// Takes in rows as long as it has turns beside the conversion in the list's order.
     pub(crate) fn follow<L: Ledger>(
         &mut self,
         alloc: Global,
@@ -264,7 +278,6 @@ impl Beside {
         ensures no_fewer { steps.old ≤ steps.new }
         ensures within { steps.new + slack.new ≤ steps.old + slack.old }
     {
-        self.begin(alloc, list, looks, taken);
         if !self.running {
             return;
         }

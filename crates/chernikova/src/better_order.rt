@@ -80,13 +80,16 @@ fn take_row_beside<L: Ledger>(
     let position = row_position(alloc, scratch, cone, rows, k)?;
     let least = least_shared(rows.width(), cone.lines.len());
     *looks = looks.saturating_add(position.looks(&cone.sat, least));
+    beside.begin(alloc, rows, *looks, k);
+    let kept = beside.slack_before(&position, rows.is_eq(k), cone);
+    *slack = slack.saturating_add(kept);
     beside.follow(alloc, rows, *looks, k, slack, steps);
     if beside.is_done(rows) {
         return Ok(true);
     }
     let count = cone.rays.len();
     let spared = take_row_sparing(alloc, scratch, cone, position, rows, k, steps)?;
-    *slack = slack.saturating_add(spared);
+    *slack = slack.saturating_add(spared.saturating_sub(kept));
     let gained = cone.rays.len().saturating_sub(count) as u64;
     *looks = looks.saturating_add(gained.saturating_mul(LOOKS_OF_A_RAY));
     Ok(false)

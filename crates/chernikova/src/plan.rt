@@ -1,9 +1,10 @@
 //! How a row lies to a system, and what the step with it is to do.
 ghost use Rattle.std.specs.Prelude.{◌≡◌, length};
-ghost use Rattle.chernikova.specs.Plans.{HasValues, changes_system, combinations_of};
+ghost use Rattle.chernikova.specs.Plans.{HasValues, kept_of, changes_system, combinations_of};
 
 use crate::looks::looks;
 use crate::system::System;
+use crate::values::count_meeting;
 use sat_matrix::SatMatrix;
 
 /// How a row lies to a system.
@@ -34,6 +35,18 @@ impl Position {
         match self {
             Position::Cutting { values } => looks(values, zeros, least),
             _ => 0,
+        }
+    }
+
+    /// How many lines and rays stay whatever pairs the row, an equality or not, makes cross.
+    pub(crate) fn kept(&self, eq: bool, cone: &System) -> u128
+        ensures { result ≡ kept_of eq cone.now self.now }
+    {
+        match self {
+            Position::Crossing { .. } => 0,
+            Position::Met { values } | Position::Cutting { values } => {
+                cone.lines.len() as u128 + count_meeting(eq, values) as u128
+            }
         }
     }
 }

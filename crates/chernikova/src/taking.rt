@@ -1,8 +1,9 @@
 //! What a row asks of a system, and its taking in.
 ghost use Rattle.std.specs.Prelude.{◌≡◌, ℕ, ◌+◌, ◌-◌, ◌<◌, ◌≤◌, List, length, IfOk, IfErr, MatchResult};
+ghost use Rattle.row_core.specs.Lists.{is_eq_at};
 ghost use Rattle.cone_laws.specs.SystemLaws.{HasSystemOf};
 ghost use Rattle.chernikova.specs.Conversion.{IsState, IsAtStep, IsRealOverflow};
-ghost use Rattle.chernikova.specs.Plans.{IsPosition, IsPlan, combinations_of};
+ghost use Rattle.chernikova.specs.Plans.{IsPosition, IsPlan, kept_of, combinations_of};
 ghost use Rattle.chernikova.specs.Beside.{IsSearchOfRow};
 
 use crate::adjacency::least_shared;
@@ -85,7 +86,7 @@ pub(crate) fn take_planned<L: Ledger>(
 }
 
 /// Takes row `k` into the system from how it lies to it, and gives the number of its vectors less that of
-/// the combinations.
+/// the combinations. What it counts is bounded by what the next system has beside the lines and rays that stay.
 pub(crate) fn take_row_sparing<L: Ledger>(
     alloc: Global,
     scratch: &mut Scratch,
@@ -101,7 +102,7 @@ pub(crate) fn take_row_sparing<L: Ledger>(
     ensures state { MatchResult result (λ _. IsState rows.now.width rows.now.rows (k + 1) cone.new) (IsRealOverflow rows.now.width rows.now.rows) }
     ensures step { IfErr result (IsAtStep k) }
     ensures no_fewer { steps.old ≤ steps.new }
-    ensures counted { HasSystemOf rows.now.width rows.now.rows (k + 1) (steps.new - steps.old) }
+    ensures counted { HasSystemOf rows.now.width rows.now.rows (k + 1) (kept_of (is_eq_at rows.now.rows k) cone.old position + (steps.new - steps.old)) }
     ensures spared { IfOk result (λ spared. HasSystemOf rows.now.width rows.now.rows (k + 1) (steps.new - steps.old + spared)) }
 {
     let plan = planned(alloc, scratch, cone, position, rows, k)?;

@@ -1,5 +1,5 @@
 //! The values of vectors on a row.
-ghost use Rattle.std.specs.Prelude.{◌≡◌, ◌≢◌, ℕ, ◌^◌, ◌<◌, ◌≤◌, Bool, [], length, map, pos, All, IsTrue, MatchBool, MatchResult, MatchOption, IfOk, OnOk, slice_index_or};
+ghost use Rattle.std.specs.Prelude.{◌≡◌, ◌≢◌, ℕ, ◌^◌, ◌<◌, ◌≤◌, Bool, [], length, map, count_by, pos, All, IsTrue, MatchBool, MatchResult, MatchOption, IfOk, OnOk, slice_index_or};
 ghost use Rattle.row_core.specs.Vectors.{dot};
 ghost use Rattle.row_core.specs.Range.{InRange};
 ghost use Rattle.row_core.specs.Narrow.{AllNarrow};
@@ -94,6 +94,13 @@ pub(crate) fn all_meet(eq: bool, values: &[i128]) -> bool
         }
     }
     true
+}
+
+/// How many vectors meet the row, from their values on it.
+pub(crate) fn count_meeting(eq: bool, values: &[i128]) -> usize
+    ensures { result ≡ count_by (λ value. stays eq value) values.now }
+{
+    values.iter().filter(|value| meets(eq, **value)).count()
 }
 
 /// Which vectors meet the row, from their values on it.

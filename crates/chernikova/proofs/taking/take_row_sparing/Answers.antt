@@ -1,19 +1,19 @@
 use Rattle.std.specs.Prelude.{◌-◌, ◌+◌}
 use Rattle.std.proofs.Common.{arith}
-use Rattle.chernikova.proofs.Counts.{count_none}
-use Rattle.chernikova.proofs.Slack.{plan_counted, spared_counted}
+use Rattle.chernikova.proofs.Slack.{plan_counted, kept_counted, placed_counted, spared_counted}
 use Rattle.chernikova.proofs.taking.take_row_sparing.Goals as goal
 
 pub returns-in_err-plan-clause-counted : goal.returns-in_err-plan-clause-counted
-returns-in_err-plan-clause-counted g c = count_none c.args.rows.now.width c.args.rows.now.rows c.args.k _ c.requires.row (omega arith)
+returns-in_err-plan-clause-counted g c =
+    kept_counted c.args.rows.now.width c.args.rows.now.rows c.args.k c.args.cone.now c.args.position _ c.requires.row c.requires.state c.requires.position (omega arith)
 
 pub returns-in_err-take_planned-clause-counted : goal.returns-in_err-take_planned-clause-counted
 returns-in_err-take_planned-clause-counted g c =
-    plan_counted c.args.rows.now.width c.args.rows.now.rows c.args.k c.args.cone.now c.in_ok-plan.plan (c.take_planned.new.steps - c.args.steps.now) c.requires.row c.requires.state c.in_ok-plan.ensures (omega (arith, c.take_planned.ensures.counted))
+    placed_counted c.args.rows.now.width c.args.rows.now.rows c.args.k c.args.cone.now c.args.position c.in_ok-plan.plan _ c.requires.row c.requires.state c.requires.position c.in_ok-plan.ensures (omega (arith, c.take_planned.ensures.counted))
 
 pub returns-clause-counted : goal.returns-clause-counted
 returns-clause-counted g c =
-    plan_counted c.args.rows.now.width c.args.rows.now.rows c.args.k c.args.cone.now c.in_ok-plan.plan (c.take_planned.new.steps - c.args.steps.now) c.requires.row c.requires.state c.in_ok-plan.ensures (omega (arith, c.take_planned.ensures.counted))
+    placed_counted c.args.rows.now.width c.args.rows.now.rows c.args.k c.args.cone.now c.args.position c.in_ok-plan.plan _ c.requires.row c.requires.state c.requires.position c.in_ok-plan.ensures (omega (arith, c.take_planned.ensures.counted))
 
 pub returns-clause-spared : goal.returns-clause-spared
 returns-clause-spared g c =
