@@ -1,5 +1,6 @@
 -- What came of the commands that make bounded-difference shapes.
-use Rattle.std.proofs.Common.{◌≡◌, ◌↔◌, ℕ, ◌<◌, ◌≤◌, List, Bool, IsTrue, Ok, Err, refl, subst, inl, inr, arith}
+use Rattle.std.proofs.Common.{◌≡◌, ◌↔◌, ℕ, ◌<◌, ◌≤◌, List, Bool, true, false, IsTrue, Result, Ok, Err, refl, subst, inl, inr, arith}
+use Rattle.row_core.specs.declared.errors.Overflow.{Overflow}
 use Rattle.cons_sys.specs.Constraints.{Constraints}
 use Rattle.reply_text.specs.declared.faults.Fault.{Fault}
 use Rattle.reply_text.specs.declared.faults.Fault.TheVariants.{OutOfRange, NumberTooLarge, ZeroDivisor, StrictInClosed, NotDifference, ZeroVector, NoPoint, TooManyNames, NotNested}
@@ -8,7 +9,7 @@ use Rattle.poly_pair.specs.declared.topology.Topology.TheVariants.{Closed}
 use Rattle.poly_pair.specs.declared.topology.TheConstants.{MAX_DIM}
 use Rattle.bd_shape.specs.Shapes.{Region, Includes}
 use Rattle.bd_shape.specs.Given.{HasOther}
-use Rattle.bd_shape.specs.Refusals.{IsRefusalOf}
+use Rattle.bd_shape.specs.Refusals.{LeavesInConstraints, IsRefusalOf}
 use Rattle.bd_shape.specs.declared.refusal.ShapeErr.{ShapeErr}
 use Rattle.bd_shape.specs.declared.refusal.ShapeErr.TheVariants as unmade
 use Rattle.script_text.specs.declared.command.Part.{Part}
@@ -20,6 +21,7 @@ use Rattle.poly_commands.specs.Makers.{SaysConstraints}
 use Rattle.calc_state.specs.Shapes.{IsShapeOfConstraints, refusal_of_shape, bounds, of_one_dim, shape_contains}
 use Rattle.line_values.specs.Meaning.{no_fault, room, answer_line}
 use Rattle.line_values.specs.Performed.{IsPerformed}
+use Rattle.line_values.proofs.PerformedLemmas.{not_full}
 
 -- ---- shapes of constraints
 module _ (full : Bool) (n : ℕ) (part : Part) (small : n ≤ MAX_DIM) where
@@ -62,10 +64,29 @@ module _ (full : Bool) (n : ℕ) (part : Part) (small : n ≤ MAX_DIM) where
     pub bounds_made : (s : Region) → ConsHasOneAnswer → ¬ (HasOther system) → ¬ (IsTrue full) → IsShapeOfConstraints system s → IsPerformed (bounds full n part) (Ok s)
     bounds_made s law lacks room is = (bounds_passes law lacks room, record { system = system; read = read.read; holds = is })
 
-    pub bounds_leaves : (cause : ShapeErr) → ConsHasOneAnswer → ¬ (HasOther system) → ¬ (IsTrue full) → IsRefusalOf system cause → IsPerformed (bounds full n part) (Err (refusal_of_shape cause))
-    bounds_leaves unmade.NotDifference law lacks room is = absurd (lacks is)
-    bounds_leaves (unmade.Overflow over) law lacks room is = (bounds_passes law lacks room, record { system = system; read = read.read; holds = is })
-    bounds_leaves unmade.Memory law lacks room is = tt
+    bounds_leaves : (over : Overflow) → ConsHasOneAnswer → ¬ (HasOther system) → ¬ (IsTrue full) → LeavesInConstraints system over → IsPerformed (bounds full n part) (Err (err.Overflow over))
+    bounds_leaves over law lacks room is = (bounds_passes law lacks room, record { system = system; read = read.read; holds = is })
+
+abbrev made : Region → Result Region ShapeErr
+made s = Ok s
+
+abbrev not_made : ShapeErr → Result Region ShapeErr
+not_made cause = Err cause
+
+-- constraints of which a shape was made bound differences alone
+pub none_other_made : (cs : Constraints) (s : Region) → (made s ≡ Err unmade.NotDifference) ↔ HasOther cs → ¬ (HasOther cs)
+none_other_made cs s is k = let never : made s ≡ Err unmade.NotDifference = is.1 k in cc
+
+-- and so do those whose bounds leave the range
+none_other_left : (cs : Constraints) (over : Overflow) → (not_made (unmade.Overflow over) ≡ Err unmade.NotDifference) ↔ HasOther cs → ¬ (HasOther cs)
+none_other_left cs over is k = let never : not_made (unmade.Overflow over) ≡ Err unmade.NotDifference = is.1 k in cc
+
+-- no shape was made
+pub bounds_not_made : (cause : ShapeErr) (full : Bool) (n : ℕ) (part : Part) → n ≤ MAX_DIM → (system : Constraints) → ReadsConstraints Closed n part system → ConsHasOneAnswer → (not_made cause ≡ Err unmade.NotDifference) ↔ HasOther system → IsRefusalOf system cause → IsPerformed (bounds full n part) (Err (refusal_of_shape cause full))
+bounds_not_made unmade.NotDifference full n part small system read law only is = bounds_other full n part small system read is
+bounds_not_made (unmade.Overflow over) true n part small system read law only is = bounds_full true n part small system read law (none_other_left system over only) refl
+bounds_not_made (unmade.Overflow over) false n part small system read law only is = bounds_leaves false n part small system read over law (none_other_left system over only) (not_full false refl) is
+bounds_not_made unmade.Memory full n part small system read law only is = tt
 
 -- ---- two shapes
 -- whether the one includes the other was told

@@ -1,5 +1,5 @@
 -- What the commands mean that make bounded-difference shapes, and those that combine, ask and print them.
-use Rattle.std.specs.Prelude.{◌≡◌, ◌≢◌, ◌↔◌, ℕ, Bool, List, ℤ, None, IfSome}
+use Rattle.std.specs.Prelude.{◌≡◌, ◌≢◌, ◌↔◌, ℕ, Bool, true, false, List, ℤ, None, IfSome}
 use Rattle.row_core.specs.Points.{IsPoint}
 use Rattle.row_core.specs.declared.errors.Overflow.{Overflow}
 use Rattle.reply_text.specs.declared.faults.Fault.TheVariants as fault
@@ -68,11 +68,12 @@ bounds full n part = record {
   does = λ s. SaysConstraints n part (λ cs. IsShapeOfConstraints cs s);
 }
 
--- the refusal of a command whose constraints give no shape
-abbrev pub refusal_of_shape : ShapeErr → StepErr
-refusal_of_shape unmade.NotDifference = err.Input fault.NotDifference
-refusal_of_shape (unmade.Overflow over) = err.Overflow over
-refusal_of_shape unmade.Memory = err.Memory
+-- the refusal of a command whose constraints give no shape, where the table is full or not
+abbrev pub refusal_of_shape : ShapeErr → Bool → StepErr
+refusal_of_shape unmade.NotDifference full = err.Input fault.NotDifference
+refusal_of_shape (unmade.Overflow over) true = err.Input fault.TooManyNames
+refusal_of_shape (unmade.Overflow over) false = err.Overflow over
+refusal_of_shape unmade.Memory full = err.Memory
 
 -- ---- two shapes
 -- two shapes have one dimension

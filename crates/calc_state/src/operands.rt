@@ -25,8 +25,8 @@ pub fn system_under<'a>(names: &'a Names<Entry>, name: &Text) -> Option<&'a Syst
 }
 
 /// The powerset under the name.
-pub fn powerset_at(names: &Names<Entry>, name: Text) -> Option<&Powerset>
-    ensures { option_copied result ≡ powerset_of names.now name }
+fn powerset_under<'a>(names: &'a Names<Entry>, name: &Text) -> Option<&'a Powerset>
+    ensures { option_copied result ≡ powerset_of names.now name.now }
 {
     match names.get(name.bytes()) {
         Some(Entry::Powerset(s)) => Some(s),
@@ -35,8 +35,8 @@ pub fn powerset_at(names: &Names<Entry>, name: Text) -> Option<&Powerset>
 }
 
 /// The bounded-difference shape under the name.
-pub fn shape_at(names: &Names<Entry>, name: Text) -> Option<&Shape>
-    ensures { option_copied result ≡ shape_of names.now name }
+fn shape_under<'a>(names: &'a Names<Entry>, name: &Text) -> Option<&'a Shape>
+    ensures { option_copied result ≡ shape_of names.now name.now }
 {
     match names.get(name.bytes()) {
         Some(Entry::Shape(s)) => Some(s),
@@ -59,6 +59,20 @@ pub fn system_at(names: &Names<Entry>, name: Text) -> Option<&System>
     ensures { option_copied result ≡ system_of names.now name }
 {
     system_under(names, &name)
+}
+
+/// The powerset under the name.
+pub fn powerset_at(names: &Names<Entry>, name: Text) -> Option<&Powerset>
+    ensures { option_copied result ≡ powerset_of names.now name }
+{
+    powerset_under(names, &name)
+}
+
+/// The bounded-difference shape under the name.
+pub fn shape_at(names: &Names<Entry>, name: Text) -> Option<&Shape>
+    ensures { option_copied result ≡ shape_of names.now name }
+{
+    shape_under(names, &name)
 }
 
 /// The hybrid automaton under the name.

@@ -17,12 +17,21 @@ use row_core::Memory;
 use trans_sys::System;
 
 /// A change of a part of an entry.
-#[derive(Debug, Drop)]
+#[derive(Debug)]
 pub enum PartChange {
     /// Of a transition system.
     System(SystemChange),
     /// Of a hybrid automaton.
     Hybrid(HybridChange),
+}
+
+// Written by hand, so that a function that drops a change calls this one, and doesn't free each part itself.
+impl Drop for PartChange {
+    fn drop(self) {
+        match self {
+            PartChange::System(_) | PartChange::Hybrid(_) => (),
+        }
+    }
 }
 
 /// A change of a transition system.
@@ -64,8 +73,32 @@ pub fn change_under(names: &mut Names<Entry>, name: &[u8], change: PartChange) -
     ensures err { OnErr result (names.new ≡ names.old) }
 {
     match names.get_mut(name) {
-        Some(entry) => entry.change_part(change),
+        Some(entry) => change.apply(entry),
         None => Ok(()),
+    }
+}
+
+impl PartChange {
+    /// Makes the change, where the entry is of the kind that it is for. After want of memory the entry is as before.
+    pub fn apply(self, entry: &mut Entry) -> Result<(), Memory>
+        requires { FitsPart entry.old self }
+        ensures ok { OnOk result (entry.new ≡ changed_part entry.old self) }
+        ensures kept { OnOk result (IsKeptEntry entry.new) }
+        ensures err { OnErr result (entry.new ≡ entry.old) }
+    {
+        match self {
+            PartChange::System(change) => match entry {
+                Entry::System(system) => change.apply(system),
+                _ => unreachable!(),
+            },
+            PartChange::Hybrid(change) => match entry {
+                Entry::Hybrid(automaton) => {
+                    change.apply(automaton);
+                    Ok(())
+                }
+                _ => unreachable!(),
+            },
+        }
     }
 }
 

@@ -1,5 +1,5 @@
 //! The commands that make bounded-difference shapes, and those that combine, ask and print them.
-ghost use Rattle.std.specs.Prelude.{◌≡◌, ◌≢◌, Err, IfOk, IfErr, MatchBool};
+ghost use Rattle.std.specs.Prelude.{◌≡◌, IfOk, IfErr};
 ghost use Rattle.std.specs.Option.{option_copied};
 ghost use Rattle.row_core.specs.Refusals.{IsOverflowIn};
 ghost use Rattle.grammar.specs.Form.{Matches};
@@ -42,26 +42,16 @@ pub fn shape_of_set(alloc: Global, p: Option<&Poly>, full: bool) -> Result<Shape
     }
 }
 
-/// Why a line is refused that makes no shape.
-fn refusal_of_shape(cause: ShapeErr) -> StepErr
-    ensures { result ≡ named_refusal cause }
+/// Why a line is refused that makes no shape. A constraint that bounds no difference comes before want of room for a
+/// name, and this before an overflow.
+fn refusal_of_shape(cause: ShapeErr, full: bool) -> StepErr
+    ensures { result ≡ named_refusal cause full }
 {
     match cause {
         ShapeErr::NotDifference => StepErr::Input(Fault::NotDifference),
+        ShapeErr::Overflow(_) if full => StepErr::Input(Fault::TooManyNames),
         ShapeErr::Overflow(over) => StepErr::Overflow(over),
         ShapeErr::Memory => StepErr::Memory,
-    }
-}
-
-/// Whether constraints give no shape since one of them bounds no difference.
-fn bound_no_difference(made: &Result<Shape, ShapeErr>) -> bool
-    ensures { MatchBool result (made.now ≡ Err ShapeErr.NotDifference) (made.now ≢ Err ShapeErr.NotDifference) }
-{
-    match made {
-        Ok(_) => false,
-        Err(ShapeErr::NotDifference) => true,
-        Err(ShapeErr::Overflow(_)) => false,
-        Err(ShapeErr::Memory) => false,
     }
 }
 
@@ -79,16 +69,10 @@ pub fn bounds(alloc: Global, n: u64, part: &Part, full: bool) -> Result<Shape, S
         Ok(system) => system,
         Err(cause) => return Err(cause),
     };
-    let made = shape_from(alloc, &system);
-    if bound_no_difference(&made) {
-        return Err(StepErr::Input(Fault::NotDifference));
-    }
-    if full {
-        return Err(StepErr::Input(Fault::TooManyNames));
-    }
-    match made {
+    match shape_from(alloc, &system) {
+        Ok(_) if full => Err(StepErr::Input(Fault::TooManyNames)),
         Ok(made) => Ok(made),
-        Err(cause) => Err(refusal_of_shape(cause)),
+        Err(cause) => Err(refusal_of_shape(cause, full)),
     }
 }
 

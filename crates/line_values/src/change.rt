@@ -32,9 +32,9 @@ impl<E: PolyEntry> Change<E> {
     {
         match self {
             Change::Says(text) => Ok(text),
-            Change::Puts(name, entry) => put_entry(alloc, names, name, entry),
-            Change::PutsAll(prefix, sets) => put_sets(alloc, names, prefix, sets),
-            Change::TakesOut(name) => take_out(alloc, names, name),
+            Change::Puts(name, entry) => put_entry(alloc, names, &name, entry),
+            Change::PutsAll(prefix, sets) => put_sets(alloc, names, &prefix, sets),
+            Change::TakesOut(name) => take_out(alloc, names, &name),
         }
     }
 }
@@ -71,10 +71,10 @@ fn poly_entries<E: PolyEntry>(alloc: Global, sets: Vec<Poly>) -> Result<Vec<E>, 
 pub fn put_entry<E: PolyEntry>(
     alloc: Global,
     names: &mut Names<E>,
-    name: Text,
+    name: &Text,
     entry: E,
 ) -> Result<Text, Memory>
-    ensures { Shows E.of_poly names.old (changes.Puts name entry) result names.new }
+    ensures { Shows E.of_poly names.old (changes.Puts name.now entry) result names.new }
 {
     let reply = ok(alloc)?;
     names.put(name.bytes(), entry)?;
@@ -86,10 +86,10 @@ pub fn put_entry<E: PolyEntry>(
 fn put_sets<E: PolyEntry>(
     alloc: Global,
     names: &mut Names<E>,
-    prefix: Text,
+    prefix: &Text,
     sets: Vec<Poly>,
 ) -> Result<Text, Memory>
-    ensures { Shows E.of_poly names.old (changes.PutsAll prefix sets) result names.new }
+    ensures { Shows E.of_poly names.old (changes.PutsAll prefix.now sets) result names.new }
 {
     let reply = ok(alloc)?;
     let entries = poly_entries(alloc, sets)?;
@@ -98,8 +98,8 @@ fn put_sets<E: PolyEntry>(
 }
 
 /// Takes the name out. After want of memory the table is as before.
-fn take_out<E: PolyEntry>(alloc: Global, names: &mut Names<E>, name: Text) -> Result<Text, Memory>
-    ensures { Shows E.of_poly names.old (changes.TakesOut name) result names.new }
+fn take_out<E: PolyEntry>(alloc: Global, names: &mut Names<E>, name: &Text) -> Result<Text, Memory>
+    ensures { Shows E.of_poly names.old (changes.TakesOut name.now) result names.new }
 {
     let reply = ok(alloc)?;
     names.take_out(name.bytes());

@@ -7,6 +7,7 @@ ghost use Rattle.expr_text.specs.Printed.{generator_text};
 ghost use Rattle.poly_pair.specs.declared.topology.TheConstants.{MAX_DIM};
 ghost use Rattle.line_values.specs.Meaning.{line};
 
+use crate::change::as_line;
 use expr_text::print_gen;
 use gens_sys::{GenKind, GenPushErr, GensSys};
 use reply_text::Text;
@@ -24,8 +25,7 @@ pub fn no_with_point(alloc: Global, dim: usize, point: RowBuf) -> Result<Text, M
     let mut text = Text::new(alloc);
     text.push(b"no ")?;
     text.push(print_gen(alloc, &gens, 0)?.bytes())?;
-    text.push(b"\n")?;
-    Ok(text)
+    as_line(text)
 }
 
 /// The system of the one point.

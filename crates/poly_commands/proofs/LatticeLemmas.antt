@@ -15,6 +15,10 @@ use Rattle.line_values.specs.Performed.{IsPerformed}
 use Rattle.line_values.specs.Refusals.{refusal_of_conversion}
 use Rattle.poly_commands.specs.Lattice.{disjoint, IsTold, IsTested, ShowsRows, shown_rows, shown_on}
 
+-- two operands that are alike
+pub alike_pass : (p q : Polyhedron) → p.topology ≡ q.topology → p.cons.dim ≡ q.cons.dim → Passes (alike p q no_fault)
+alike_pass p q topology dim = (λ k. k, (λ k. k topology, (λ k. k, (λ k. k dim, (λ k. k, (λ k. k, (λ k. k, (λ k. k, (λ k. k, (λ k. k, (λ k. k, (λ k. k, (λ k. k, (λ k. k, tt))))))))))))))
+
 pub told : (Statement : Type 0) (holds : Bool) (text : List ℕ) → IsTrue holds ↔ Statement → text ≡ answer_line holds → IsTold Statement text
 told Statement holds text true_of said = record { holds = holds; true_of = true_of; said = said }
 

@@ -1,9 +1,12 @@
 //! The commands that ask for a bound of an expression, or how a polyhedron lies to a constraint.
-ghost use Rattle.std.specs.Prelude.{◌≡◌, ◌+◌, ◌<◌, length, IfOk, OnOk};
+ghost use Rattle.std.specs.Prelude.{◌≡◌, ◌+◌, ◌<◌, ◌++◌, length, codes, IfOk, OnOk};
+ghost use Rattle.std.specs.Fmt.{signed_decimal};
 ghost use Rattle.std.specs.Option.{option_copied};
 ghost use Rattle.grammar.specs.Form.{Matches};
 ghost use Rattle.grammar.specs.Grammar.{alone};
 ghost use Rattle.grammar.specs.Cases.{con_cases, expr_cases};
+ghost use Rattle.gens_sys.specs.Generators.{generator_at};
+ghost use Rattle.expr_text.specs.Printed.{generator_text};
 ghost use Rattle.optimum.specs.Suprema.{SupAnswer, IsTrueSup};
 ghost use Rattle.line_values.specs.Meaning.{on_one, line};
 ghost use Rattle.poly_commands.specs.Optima.{relation as ask_relation, bound as ask_bound, relation_text, with_word, bound_text, attained_text, HasGenerator};
@@ -11,7 +14,7 @@ ghost use Rattle.line_values.specs.Performed.{IsPerformed};
 
 use expr_text::print_gen;
 use gens_sys::GensSys;
-use line_values::{StepErr, constraint_of, expression_of};
+use line_values::{StepErr, as_line, constraint_of, expression_of};
 use optimum::{Relation, Sup, inf, shown, sup};
 use poly_pair::Poly;
 use reply_text::{Fault, Text};
@@ -46,8 +49,7 @@ fn relation_line(alloc: Global, flags: Relation) -> Result<Text, Memory>
     push_word(&mut text, b"intersects", flags.intersects)?;
     push_word(&mut text, b"included", flags.included)?;
     push_word(&mut text, b"saturates", flags.saturates)?;
-    text.push(b"\n")?;
-    Ok(text)
+    as_line(text)
 }
 
 /// Appends a word that holds, behind a space where it isn't the first.
@@ -99,24 +101,52 @@ fn bound_line(alloc: Global, gens: &GensSys, bound: Sup) -> Result<Text, Memory>
     ensures { IfOk result (λ text. text ≡ line (bound_text gens.now bound)) }
 {
     let mut text = Text::new(alloc);
+    push_bound(alloc, &mut text, gens, bound)?;
+    as_line(text)
+}
+
+/// Appends a bound, whether it is attained, and the generator that shows it.
+fn push_bound(alloc: Global, text: &mut Text, gens: &GensSys, bound: Sup) -> Result<(), Memory>
+    requires { HasGenerator gens.now bound }
+    ensures { OnOk result (text.new ≡ text.old ++ bound_text gens.now bound) }
+{
     match bound {
-        Sup::Empty => text.push(b"empty\n")?,
-        Sup::Unbounded => text.push(b"unbounded\n")?,
+        Sup::Empty => text.push(b"empty"),
+        Sup::Unbounded => text.push(b"unbounded"),
         Sup::At {
             num,
             den,
             attained,
             index,
         } => {
-            text.push_signed(num)?;
-            text.push(b"/")?;
-            text.push_signed(den)?;
+            push_fraction(text, num, den)?;
             text.push(attained_word(attained))?;
-            text.push(print_gen(alloc, gens, index)?.bytes())?;
-            text.push(b"\n")?;
+            push_generator(alloc, text, gens, index)
         }
     }
-    Ok(text)
+}
+
+/// Appends the generator with this number.
+fn push_generator(
+    alloc: Global,
+    text: &mut Text,
+    gens: &GensSys,
+    index: usize,
+) -> Result<(), Memory>
+    requires { index < length gens.now.list }
+    ensures { OnOk result (text.new ≡ text.old ++ generator_text gens.now.dim (generator_at gens.now.list index)) }
+{
+    let shown = print_gen(alloc, gens, index)?;
+    text.push(shown.bytes())
+}
+
+/// Appends a fraction.
+fn push_fraction(text: &mut Text, num: i128, den: i128) -> Result<(), Memory>
+    ensures { OnOk result (text.new ≡ text.old ++ signed_decimal num ++ codes "/" ++ signed_decimal den) }
+{
+    text.push_signed(num)?;
+    text.push(b"/")?;
+    text.push_signed(den)
 }
 
 /// Whether a bound is attained, in words.

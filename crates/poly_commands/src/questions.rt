@@ -1,5 +1,5 @@
 //! The commands that only say something of a polyhedron.
-ghost use Rattle.std.specs.Prelude.{◌≡◌, ◌<◌, length, IfOk};
+ghost use Rattle.std.specs.Prelude.{◌≡◌, ◌<◌, ◌++◌, length, decimal, IfOk, OnOk};
 ghost use Rattle.std.specs.Option.{option_copied};
 ghost use Rattle.grammar.specs.Form.{Matches};
 ghost use Rattle.grammar.specs.Grammar.{alone};
@@ -32,13 +32,18 @@ fn sizes(alloc: Global, p: &Poly) -> Result<Text, Memory>
     ensures { IfOk result (λ text. text ≡ size_text p.now) }
 {
     let mut text = Text::new(alloc);
-    text.push(b"dim ")?;
-    text.push_unsigned(p.dim() as u64)?;
-    text.push(b" constraints ")?;
-    text.push_unsigned(p.cons().len() as u64)?;
-    text.push(b" generators ")?;
-    text.push_unsigned(p.gens().len() as u64)?;
+    push_number(&mut text, b"dim ", p.dim())?;
+    push_number(&mut text, b" constraints ", p.cons().len())?;
+    push_number(&mut text, b" generators ", p.gens().len())?;
     Ok(text)
+}
+
+/// Appends a word and a number.
+fn push_number(text: &mut Text, word: &[u8], number: usize) -> Result<(), Memory>
+    ensures { OnOk result (text.new ≡ text.old ++ word.now ++ decimal number) }
+{
+    text.push(word)?;
+    text.push_unsigned(number as u64)
 }
 
 /// The stored constraints, or the stored generators.

@@ -20,7 +20,6 @@ use std::sync::ledger::Ledger;
 const KEPT: usize = 65_536;
 
 /// A file that is being read.
-#[derive(Drop)]
 pub struct OpenFile {
     /// The name of its polyhedron.
     pub name: Text,
@@ -28,6 +27,17 @@ pub struct OpenFile {
     pub ext: bool,
     /// Its lines so far, each with its line end.
     pub text: Vec<u8>,
+}
+
+// Written by hand, so that a function that drops a file calls this one, and doesn't free each part itself.
+impl Drop for OpenFile {
+    fn drop(self) {
+        let OpenFile {
+            name: _,
+            ext: _,
+            text: _,
+        } = self;
+    }
 }
 
 impl Model for OpenFile {

@@ -5,8 +5,8 @@ use Rattle.name_table.proofs.TableLemmas.{put_same}
 use Rattle.calc_state.specs.declared.entry.Entry.{Entry}
 use Rattle.calc_state.proofs.parts.change_under.Goals as goal
 
-pub change_part-requires : goal.change_part-requires
-change_part-requires c = c.requires c.in-Some.entry.now (sym c.in-Some.ensures.value)
+pub apply-requires : goal.apply-requires
+apply-requires c = c.requires c.in-Some.entry.now (sym c.in-Some.ensures.value)
 
 pub returns-in-Some-clause-err : goal.returns-in-Some-clause-err
-returns-in-Some-clause-err c = on_err_weaker c.change_part.result (λ h. ap (λ (e : Entry). put c.args.names.now c.args.name.now e) h ∙ put_same c.args.names.now c.args.name.now c.in-Some.entry.now (sym c.in-Some.ensures.value)) c.change_part.ensures.err
+returns-in-Some-clause-err c = on_err_weaker c.apply.result (λ h. ap (λ (e : Entry). put c.args.names.now c.args.name.now e) h ∙ put_same c.args.names.now c.args.name.now c.in-Some.entry.now (sym c.in-Some.ensures.value)) c.apply.ensures.err

@@ -21,7 +21,7 @@ returns-in_ok-answer-in-Ok-Yes g c =
     let s : Union = c.in-Some-Some.s.now in
     let t : Union = c.in-Some-Some.t.now in
     let topologies : s.topology ≡ t.topology = search rules in
-    let dims : s.dim ≡ t.dim = search rules in
+    let dims : s.dim ≡ t.dim = sym c.dim-dim.ensures.value ∙ c.if-dim.false ∙ c.dim.ensures.value in
     rw c.in-Some-Some.is-0 (rw c.in-Some-Some.is-1 (told s t Yes c.in_ok-answer-in-Ok-Yes.field-0 topologies dims (rw c.in-Ok-Yes.field-0-is at c.in-Ok-Yes.ensures.answer) c.in_ok-answer-in-Ok-Yes.ensures))
 
 pub returns-in_ok-no_with_point-in-Ok-No : goal.returns-in_ok-no_with_point-in-Ok-No
@@ -29,7 +29,7 @@ returns-in_ok-no_with_point-in-Ok-No g c =
     let s : Union = c.in-Some-Some.s.now in
     let t : Union = c.in-Some-Some.t.now in
     let topologies : s.topology ≡ t.topology = search rules in
-    let dims : s.dim ≡ t.dim = search rules in
+    let dims : s.dim ≡ t.dim = sym c.dim-dim.ensures.value ∙ c.if-dim.false ∙ c.dim.ensures.value in
     let said = c.in_ok-no_with_point-in-Ok-No.ensures ∙ ap (λ (n : ℕ). line (codes "no " ++ generator_text n (c.in-Ok-No.point, Point))) c.dim-dim.ensures.value in
     rw c.in-Some-Some.is-0 (rw c.in-Some-Some.is-1 (told s t (No c.in-Ok-No.point) c.in_ok-no_with_point-in-Ok-No.field-0 topologies dims (rw c.in-Ok-No.field-0-is at c.in-Ok-No.ensures.answer) said))
 
@@ -38,7 +38,7 @@ returns-in-Err g c =
     let s : Union = c.in-Some-Some.s.now in
     let t : Union = c.in-Some-Some.t.now in
     let topologies : s.topology ≡ t.topology = search rules in
-    let dims : s.dim ≡ t.dim = search rules in
+    let dims : s.dim ≡ t.dim = sym c.dim-dim.ensures.value ∙ c.if-dim.false ∙ c.dim.ensures.value in
     let one : option_copied c.args.s ≡ Some s = ap option_copied c.in-Some-Some.is-0 in
     let other : option_copied c.args.t ≡ Some t = ap option_copied c.in-Some-Some.is-1 in
     subst (λ (o : Option Union). IsPerformed (on_two o (option_copied c.args.t) covers) (Err c.from.result)) (sym one)

@@ -1,4 +1,4 @@
-use Rattle.std.proofs.Common.{◌≡◌, List, ℕ, Option, Some, Ok, Err, IsTrue, ◌↔◌, rules, sym, ap, subst, arith}
+use Rattle.std.proofs.Common.{◌≡◌, List, ℕ, Option, Some, Ok, Err, IsTrue, ◌↔◌, ◌∙◌, rules, sym, ap, subst}
 use Rattle.std.specs.Option.{option_copied}
 use Rattle.powerset.specs.Powersets.{Union}
 use Rattle.line_values.specs.Meaning.{on_two}
@@ -13,7 +13,7 @@ returns-in-Err g c =
     let s : Union = c.in-Some-Some.s.now in
     let t : Union = c.in-Some-Some.t.now in
     let topologies : s.topology ≡ t.topology = search rules in
-    let dims : s.dim ≡ t.dim = omega (arith, c.if-dim.false, c.dim.ensures.value, c.dim-2.ensures.value) in
+    let dims : s.dim ≡ t.dim = sym c.dim.ensures.value ∙ c.if-dim.false ∙ c.dim-2.ensures.value in
     let room = not_full c.args.full c.if-full.false in
     let passes = unions_pass s t c.args.full topologies dims room in
     let one : option_copied c.args.s ≡ Some s = ap option_copied c.in-Some-Some.is-0 in
@@ -27,6 +27,6 @@ returns-in-Ok g c =
     let s : Union = c.in-Some-Some.s.now in
     let t : Union = c.in-Some-Some.t.now in
     let topologies : s.topology ≡ t.topology = search rules in
-    let dims : s.dim ≡ t.dim = omega (arith, c.if-dim.false, c.dim.ensures.value, c.dim-2.ensures.value) in
+    let dims : s.dim ≡ t.dim = sym c.dim.ensures.value ∙ c.if-dim.false ∙ c.dim-2.ensures.value in
     found_two (option_copied c.args.s) (option_copied c.args.t) s t (of_two_powersets c.args.op c.args.full) (Ok c.in-Ok.made) (ap option_copied c.in-Some-Some.is-0) (ap option_copied c.in-Some-Some.is-1)
     (unions_pass s t c.args.full topologies dims (not_full c.args.full c.if-full.false), c.in-Ok.ensures.made)

@@ -1,27 +1,28 @@
-use Rattle.std.proofs.Common.{rules, ◌∙◌, ap, true, false}
+use Rattle.std.proofs.Common.{rules, ◌≡◌, sym, ◌∙◌, ap, true, false}
 use Rattle.cons_sys.specs.Constraints.{Constraints}
 use Rattle.gens_sys.specs.Generators.{Generators}
 use Rattle.lattice_ops.specs.Sets.{HaveSamePoints}
 use Rattle.lattice_ops.specs.Questions.{AnswersEqual}
-use Rattle.line_values.specs.Order.{Passes}
-use Rattle.line_values.specs.Meaning.{alike, no_fault}
 use Rattle.poly_commands.specs.Lattice.{shown_rows}
-use Rattle.poly_commands.proofs.LatticeLemmas.{tested, shows}
+use Rattle.poly_commands.proofs.LatticeLemmas.{alike_pass, tested, shows}
 use Rattle.poly_commands.proofs.lattice.equal.Goals as goal
 
 pub returns-in_ok-answer-in-Ok : goal.returns-in_ok-answer-in-Ok
 returns-in_ok-answer-in-Ok c =
-    let passes : Passes (alike c.in-Some-Some.p.now c.in-Some-Some.q.now no_fault) = search rules in
+    let topologies : c.in-Some-Some.p.now.topology ≡ c.in-Some-Some.q.now.topology = search rules in
+    let passes = alike_pass c.in-Some-Some.p.now c.in-Some-Some.q.now topologies (sym c.dim.ensures.value ∙ c.if-dim.false ∙ c.dim-2.ensures.value) in
     rw c.in-Some-Some.is-0 (rw c.in-Some-Some.is-1 (passes, tested (AnswersEqual c.in-Some-Some.p.now.topology c.in-Some-Some.p.now c.in-Some-Some.q.now) (HaveSamePoints c.in-Some-Some.p.now c.in-Some-Some.q.now) c.in-Ok.holds c.in_ok-answer-in-Ok.field-0 c.in-Ok.ensures.answer c.in-Ok.ensures.holds c.in_ok-answer-in-Ok.ensures))
 
 pub returns-in_ok-shown-in-Err : goal.returns-in_ok-shown-in-Err
 returns-in_ok-shown-in-Err c =
-    let passes : Passes (alike c.in-Some-Some.p.now c.in-Some-Some.q.now no_fault) = search rules in
+    let topologies : c.in-Some-Some.p.now.topology ≡ c.in-Some-Some.q.now.topology = search rules in
+    let passes = alike_pass c.in-Some-Some.p.now c.in-Some-Some.q.now topologies (sym c.dim.ensures.value ∙ c.if-dim.false ∙ c.dim-2.ensures.value) in
     let rows = c.in_ok-shown-in-Err.ensures ∙ ap (λ (cs : Constraints). shown_rows cs c.gens.result.now c.in-Err.pair) c.cons.ensures.value ∙ ap (λ (gs : Generators). shown_rows c.in-Some-Some.q.now.cons gs c.in-Err.pair) c.gens.ensures.value in
     rw c.in-Some-Some.is-0 (rw c.in-Some-Some.is-1 (passes, shows (AnswersEqual c.in-Some-Some.p.now.topology c.in-Some-Some.p.now c.in-Some-Some.q.now) c.in-Some-Some.p.now c.in-Some-Some.q.now c.in-Err.pair true c.in_ok-shown-in-Err.field-0 c.in-Err.ensures.answer c.if-pair.true rows))
 
 pub returns-in_ok-shown-in-Err-2 : goal.returns-in_ok-shown-in-Err-2
 returns-in_ok-shown-in-Err-2 c =
-    let passes : Passes (alike c.in-Some-Some.p.now c.in-Some-Some.q.now no_fault) = search rules in
+    let topologies : c.in-Some-Some.p.now.topology ≡ c.in-Some-Some.q.now.topology = search rules in
+    let passes = alike_pass c.in-Some-Some.p.now c.in-Some-Some.q.now topologies (sym c.dim.ensures.value ∙ c.if-dim.false ∙ c.dim-2.ensures.value) in
     let rows = c.in_ok-shown-in-Err-2.ensures ∙ ap (λ (cs : Constraints). shown_rows cs c.gens-in-Err-2.result.now c.in-Err.pair) c.cons-in-Err-2.ensures.value ∙ ap (λ (gs : Generators). shown_rows c.in-Some-Some.p.now.cons gs c.in-Err.pair) c.gens-in-Err-2.ensures.value in
     rw c.in-Some-Some.is-0 (rw c.in-Some-Some.is-1 (passes, shows (AnswersEqual c.in-Some-Some.p.now.topology c.in-Some-Some.p.now c.in-Some-Some.q.now) c.in-Some-Some.p.now c.in-Some-Some.q.now c.in-Err.pair false c.in_ok-shown-in-Err-2.field-0 c.in-Err.ensures.answer c.if-pair.false rows))
