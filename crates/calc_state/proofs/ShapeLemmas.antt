@@ -3,7 +3,7 @@ use Rattle.std.proofs.Common.{◌≡◌, ◌↔◌, ℕ, ◌<◌, ◌≤◌, Lis
 use Rattle.row_core.specs.declared.errors.Overflow.{Overflow}
 use Rattle.cons_sys.specs.Constraints.{Constraints}
 use Rattle.reply_text.specs.declared.faults.Fault.{Fault}
-use Rattle.reply_text.specs.declared.faults.Fault.TheVariants.{OutOfRange, NumberTooLarge, ZeroDivisor, StrictInClosed, NotDifference, ZeroVector, NoPoint, TooManyNames, NotNested}
+use Rattle.reply_text.specs.declared.faults.Fault.TheVariants.{NotDifference, TooManyNames}
 use Rattle.expr_text.specs.OneAnswer.{ConsHasOneAnswer}
 use Rattle.poly_pair.specs.declared.topology.Topology.TheVariants.{Closed}
 use Rattle.poly_pair.specs.declared.topology.TheConstants.{MAX_DIM}

@@ -1,5 +1,5 @@
 -- What came of the commands that read the constraints or generators of a text.
-use Rattle.std.proofs.Common.{◌≡◌, ℕ, ◌<◌, ◌≤◌, List, [], ◌∷◌, ◌++◌, Err, Ok, Result, IsTrue, Bool, true, false, ◌↔◌, refl, sym, ◌∙◌, ap, subst, inl, inr, arith}
+use Rattle.std.proofs.Common.{◌≡◌, ℕ, ◌<◌, ◌≤◌, List, ◌++◌, Err, Ok, Result, IsTrue, Bool, ◌↔◌, refl, subst, inl, inr, arith}
 use Rattle.row_core.specs.Lists.{Row}
 use Rattle.row_core.specs.declared.errors.Overflow.{Overflow}
 use Rattle.row_core.specs.declared.errors.ConvErr.{ConvErr}
@@ -15,7 +15,6 @@ use Rattle.poly_pair.specs.Refusals.{IsOverflowOn, IsGenOverflowOn}
 use Rattle.poly_pair.specs.declared.errors.GenErr.{GenErr}
 use Rattle.poly_pair.specs.declared.errors.GenErr.TheVariants as generators
 use Rattle.poly_pair.specs.declared.topology.Topology.{Topology}
-use Rattle.poly_pair.specs.declared.topology.Topology.TheVariants.{Closed, Nnc}
 use Rattle.poly_pair.specs.declared.topology.TheConstants.{MAX_DIM}
 use Rattle.reply_text.specs.declared.faults.Fault.TheVariants.{NoPoint, TooManyNames}
 use Rattle.expr_text.specs.OneAnswer.{GensHasOneAnswer}

@@ -2,8 +2,7 @@
 use Rattle.std.proofs.Common.{◌≡◌, ℕ, List, [], ◌∷◌, refl, ap, sym, ◌∙◌, subst, Bool, true, false}
 use Rattle.std.proofs.lemmas.List.{append_cancel_right}
 use Rattle.row_core.specs.Points.{IsPoint}
-use Rattle.std.specs.Prelude.{◌↔◌}
-use Rattle.cons_sys.specs.Constraints.{Constraints, In}
+use Rattle.cons_sys.specs.Constraints.{Constraints}
 use Rattle.gens_sys.specs.Generators.{Generators}
 use Rattle.gens_sys.specs.Spans.{Span}
 use Rattle.term_text.specs.Systems.{IsCons}

@@ -1,5 +1,5 @@
 -- What came of a command that makes the widening.
-use Rattle.std.proofs.Common.{◌≡◌, List, ℕ, Ok, Err, Result, Bool, true, false, refl, inl, inr}
+use Rattle.std.proofs.Common.{◌≡◌, Ok, Err, Result, Bool, true, false, inl, inr}
 use Rattle.row_core.specs.declared.errors.Overflow.{Overflow}
 use Rattle.row_core.specs.declared.errors.PairOver.{PairOver}
 use Rattle.row_core.specs.declared.errors.ConvErr.{ConvErr}

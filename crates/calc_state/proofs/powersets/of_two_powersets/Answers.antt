@@ -1,4 +1,4 @@
-use Rattle.std.proofs.Common.{◌≡◌, List, ℕ, Option, Some, Ok, Err, IsTrue, ◌↔◌, ◌∙◌, rules, sym, ap, subst}
+use Rattle.std.proofs.Common.{◌≡◌, Option, Some, Ok, Err, ◌∙◌, rules, sym, ap, subst}
 use Rattle.std.specs.Option.{option_copied}
 use Rattle.powerset.specs.Powersets.{Union}
 use Rattle.line_values.specs.Meaning.{on_two}

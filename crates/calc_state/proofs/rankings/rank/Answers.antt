@@ -1,4 +1,4 @@
-use Rattle.std.proofs.Common.{◌≡◌, ◌%◌, List, ℕ, Option, Some, Err, IsTrue, ◌↔◌, sym, ap, subst}
+use Rattle.std.proofs.Common.{◌≡◌, ◌%◌, Option, Some, Err, sym, ap, subst}
 use Rattle.std.specs.Option.{option_copied}
 use Rattle.poly_pair.specs.Polyhedra.{Polyhedron}
 use Rattle.poly_pair.specs.declared.topology.Topology.TheVariants.{Closed}

@@ -1,4 +1,4 @@
-use Rattle.std.proofs.Common.{◌≡◌, ℕ, ◌<◌, List, subst, arith}
+use Rattle.std.proofs.Common.{ℕ, ◌<◌, List, subst, arith}
 use Rattle.term_text.specs.Texts.{IsFrac, IsFracFault}
 use Rattle.poly_pair.specs.declared.topology.Topology.{Topology}
 use Rattle.line_values.specs.Texts.{IsStrictFor}

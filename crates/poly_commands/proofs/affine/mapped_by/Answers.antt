@@ -1,4 +1,4 @@
-use Rattle.std.proofs.Common.{◌≡◌, ℕ, List, Option, Some, Ok, Err, IsTrue, ◌↔◌, sym, ap, subst}
+use Rattle.std.proofs.Common.{◌≡◌, List, Option, Some, Ok, Err, sym, ap, subst}
 use Rattle.std.specs.Prelude.{ℤ}
 use Rattle.std.specs.Int.{w128}
 use Rattle.std.proofs.lemmas.Int.{to_z-of_z, fits_signed_from_abs}
@@ -9,7 +9,7 @@ use Rattle.affine_ops.specs.declared.relations.ImageRel.{ImageRel}
 use Rattle.reply_text.specs.declared.faults.Fault.TheVariants.{TooManyNames}
 use Rattle.line_values.specs.Order.{IsFirst}
 use Rattle.line_values.specs.Meaning.{on_one}
-use Rattle.poly_commands.specs.Affine.{image_rel, IsMapped, LeavesInMap, mapped_by}
+use Rattle.poly_commands.specs.Affine.{IsMapped, LeavesInMap, mapped_by}
 use Rattle.line_values.specs.Performed.{IsPerformed}
 use Rattle.line_values.proofs.PerformedLemmas.{not_full}
 use Rattle.poly_commands.proofs.FractionLemmas.{divisor_in_range, mapping_refused, mapping_full, mapping_made, mapping_leaves}

@@ -1,4 +1,4 @@
-use Rattle.std.proofs.Common.{ℕ, ◌≤◌, List, IsTrue, ◌↔◌, subst}
+use Rattle.std.proofs.Common.{ℕ, ◌≤◌, subst}
 use Rattle.poly_pair.specs.declared.topology.TheConstants.{MAX_DIM}
 use Rattle.line_values.specs.Texts.{generators_fault, IsTextRefusal, ReadsGenerators}
 use Rattle.line_values.proofs.PerformedLemmas.{not_full}

@@ -1,4 +1,4 @@
-use Rattle.std.proofs.Common.{◌≡◌, Ok, Err, refl, subst}
+use Rattle.std.proofs.Common.{Ok, Err, refl, subst}
 use Rattle.calc_state.specs.State.{State}
 use Rattle.calc_state.specs.Meanings.{meaning}
 use Rattle.calc_state.specs.Changes.{IsTestedIn}
