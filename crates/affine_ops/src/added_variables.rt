@@ -35,7 +35,7 @@ fn axis(alloc: Global, dim: usize, column: usize) -> Result<Vec<i128>, Memory>
     Ok(row)
 }
 
-/// That the variables behind the first are 0, so many of them.
+/// The equalities that say of the variables behind the first `dim`, `count` in number, that they are 0.
 fn zero_equalities(alloc: Global, dim: usize, count: usize) -> Result<ConsSys, Memory>
     requires narrow { dim + count < 2 ^ 32 - 2 }
     ensures dim { IfOk result (λ cons. cons.dim ≡ dim + count) }
@@ -48,7 +48,7 @@ fn zero_equalities(alloc: Global, dim: usize, count: usize) -> Result<ConsSys, M
     Ok(cons)
 }
 
-/// The axes of the variables behind the first, as lines.
+/// The axes of the variables behind the first `dim`, `count` in number, as lines.
 fn axis_lines(alloc: Global, dim: usize, count: usize) -> Result<GensSys, Memory>
     requires narrow { dim + count < 2 ^ 32 - 2 }
     ensures dim { IfOk result (λ gens. gens.dim ≡ dim + count) }
