@@ -24,11 +24,11 @@ const LOOKS_BEFORE: u64 = 10_000;
 /// to take in all rows, and few are then spared.
 const LOOKS_AT_THE_END: u64 = 1_000_000;
 
-/// For how many looks of the conversion in the list's order the other has one.
+/// For how many looks of the conversion in the list's order the other has one, unless it took in more rows.
 const SHARE: u64 = 24;
 
-/// For how many it has one while it took in more rows.
-const SHARE_AHEAD: u64 = 2;
+/// How many it has for ten of them where it did.
+const TENTHS_AHEAD: u64 = 7;
 
 /// A conversion in sorted order: its rows, the place among them of each row of the list, and the system
 /// of those that were taken in. It has begun or not, and runs until an overflow ends it. The search for the
@@ -151,7 +151,7 @@ impl Beside {
     // How many more looks it may take, beside a conversion that takes so many and took in so many rows.
     fn looks_left(&self, looks: u64, taken: usize) -> u64 {
         let share = if self.taken > taken {
-            looks / SHARE_AHEAD
+            looks / 10 * TENTHS_AHEAD
         } else {
             looks / SHARE
         };
