@@ -253,7 +253,7 @@ impl Beside {
     }
 
     /// How many lines and rays count as slack before the pairs of the next row of the list's order are sought, from
-    /// how that row lies to them: those that stay, if there is a use for them.
+    /// how that row lies to them: those that stay, while there is a use for slack.
     pub(crate) fn slack_before(&self, position: &Position, eq: bool, cone: &System) -> u128
         ensures { result ≤ kept_of eq cone.now position.now }
     {

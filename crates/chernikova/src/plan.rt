@@ -38,7 +38,7 @@ impl Position {
         }
     }
 
-    /// How many lines and rays stay whatever pairs the row, an equality or not, makes cross.
+    /// How many lines and rays stay whatever pairs cross, where the row is an equality or not.
     pub(crate) fn kept(&self, eq: bool, cone: &System) -> u128
         ensures { result ≡ kept_of eq cone.now self.now }
     {
