@@ -1,6 +1,6 @@
 -- Faults passed on.
 use Rattle.std.proofs.Common.{◌≡◌, inl, inr, ℕ, ◌<◌, Bool, true, false, List, [], length, take, slice_index_or, ℤ, pos, ◌<ℤ◌, sym, ◌∙◌, subst, arith}
-use Rattle.std.specs.Prelude.{All, Result, Ok, Err, MatchResult}
+use Rattle.std.specs.Prelude.{All, Contains, Result, Ok, Err, MatchResult}
 use Rattle.std.proofs.lemmas.Int.{ints}
 use Rattle.std.proofs.lemmas.List.{take_all}
 use Rattle.row_core.specs.Vectors.{cell}
@@ -10,7 +10,7 @@ use Rattle.cone_laws.specs.Canon.{vector_at, IsPivot}
 use Rattle.cone_laws.proofs.VectorLemmas.{length-vectors, vector_at-vectors}
 use Rattle.minimise.specs.FlatRows.{TellsFlat}
 use Rattle.minimise.specs.Bases.{IsBasis, IsReduced, IsLeading, IsNewLine, IsPlace, HasTaken, IsGrown, turned_up}
-use Rattle.minimise.specs.Faults.{IsReductionLeft, IsReduceFault, IsClearFault, IsTakeFault, IsGrowFault, IsListFault, IsRowFault, IsLeftFault}
+use Rattle.minimise.specs.Faults.{IsReductionLeft, IsCombineFault, IsReduceFault, IsClearFault, IsTakeFault, IsGrowFault, IsListFault, IsRowFault, IsLeftFault}
 use Rattle.minimise.specs.declared.fault.Fault.{Fault}
 use Rattle.minimise.specs.declared.fault.Fault.TheVariants.{Memory, Left}
 use Rattle.minimise.proofs.LeftCases.{row_left, growing_left, length-marked_front, marked_front, marked_next}
@@ -21,6 +21,25 @@ new_apart lines line c n i h at = not_zero (cell line c) n.at.positive (n.zeros 
   where
     not_zero : (x : ℤ) → pos 0 <ℤ x → x ≡ pos 0 → ⊥
     not_zero x p e = omega (arith, ints, p, e)
+
+pub combine_fault : (c : ℕ) (line row other : List ℤ) (fault : Fault) → row ≡ other → IsCombineFault c line row fault → IsCombineFault c line other fault
+combine_fault c line row other fault e h = subst (λ (v : List ℤ). IsCombineFault c line v fault) e h
+
+pub reduce_fault : (lines : List (List ℤ)) (a row reduced line : List ℤ) (i p : ℕ) (fault : Fault) → i < length lines → line ≡ vector_at lines i → row ≡ reduced → IsPivot line p → IsReduced (take i lines) a reduced → IsCombineFault p line row fault → IsReduceFault lines a fault
+reduce_fault lines a row reduced line i p Memory below e f at is h = tt
+reduce_fault lines a row reduced line i p (Left left right column) below e f at is h = record {
+  index = i;
+  below = below;
+  left_is = sym (h.left_is ∙ e);
+  pivot = p;
+  at = subst (λ (v : List ℤ). IsPivot v p) (sym h.left_is) at;
+  reduced = subst (λ (v : List ℤ). IsReduced (take i lines) a v) (sym (h.right_is ∙ f)) is;
+  leaves = h.leaves;
+}
+
+pub clear_fault : (c : ℕ) (line : List ℤ) (lines : List (List ℤ)) (row : List ℤ) (fault : Fault) → Contains lines row → IsCombineFault c line row fault → IsClearFault c line lines fault
+clear_fault c line lines row Memory within h = tt
+clear_fault c line lines row (Left left right column) within h = record { left_is = h.left_is; right_in = subst (λ (v : List ℤ). Contains lines v) (sym h.right_is) within; leaves = h.leaves }
 
 pub take_fault : (c : ℕ) (lines : List (List ℤ)) (line : List ℤ) (k : ℕ) (fault : Fault) → IsPlace lines c k → IsClearFault c line lines fault → IsTakeFault c lines line fault
 take_fault c lines line k Memory place h = tt

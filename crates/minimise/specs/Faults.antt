@@ -8,6 +8,12 @@ use Rattle.minimise.specs.Lefts.{IsLeftAmong, IsLeft}
 use Rattle.minimise.specs.declared.fault.Fault.{Fault}
 use Rattle.minimise.specs.declared.fault.Fault.TheVariants.{Memory, Left}
 
+-- the combination of a line and a row that is 0 at the pivot leaves the range
+pub record IsCombinationLeft (c : ℕ) (line row left right : List ℤ) (column : ℕ) : Type 0 where
+  pub left_is : left ≡ line
+  pub right_is : right ≡ row
+  pub leaves : CombinationLeaves (cell left c) (cell right c) left right column
+
 -- a row, reduced by the lines before one, leaves the range where it is combined with that line
 pub record IsReductionLeft (lines : List (List ℤ)) (a left right : List ℤ) (column : ℕ) : Type 0 where
   pub index : ℕ
@@ -38,6 +44,11 @@ pub record IsGrowingLeft (lines : List (List ℤ)) (a left right : List ℤ) (co
   pub leading : IsLeading reduced pivot
   pub wide : All (λ (l : List ℤ). length l ≡ length a) lines
   pub taking : IsTakingLeft pivot lines (turned_up reduced pivot) left right column
+
+-- the fault where a row is combined with a line
+abbrev pub IsCombineFault : ℕ → List ℤ → List ℤ → Fault → Type 0
+IsCombineFault c line row Memory = ⊤
+IsCombineFault c line row (Left left right column) = IsCombinationLeft c line row left right column
 
 -- the fault of a reduction
 abbrev pub IsReduceFault : List (List ℤ) → List ℤ → Fault → Type 0

@@ -6,11 +6,11 @@ ghost use Rattle.row_core.specs.Content.{IsPrimitive};
 ghost use Rattle.row_core.specs.Flat.{marked};
 ghost use Rattle.row_core.specs.Lists.{vectors, AreMarked};
 ghost use Rattle.cone_laws.specs.Canon.{vector_at, IsPivot, IsEchelon};
-ghost use Rattle.minimise.specs.Bases.{IsBasis, IsPlace, HasTaken, AreCleared, IsNewLine, IsGrown, turned_up};
-ghost use Rattle.minimise.specs.Faults.{IsClearFault, IsTakeFault, IsGrowFault, IsListFault};
+ghost use Rattle.minimise.specs.Bases.{IsBasis, IsLeading, IsPlace, HasTaken, IsCleared, AreCleared, IsNewLine, IsGrown, turned_up};
+ghost use Rattle.minimise.specs.Faults.{IsCombineFault, IsClearFault, IsTakeFault, IsGrowFault, IsListFault};
 
-use crate::fault::{Fault, left_of};
-use crate::reduction::{clear_at, leading, pivot_of, reduce, zeros};
+use crate::fault::Fault;
+use crate::reduction::{clear, leading, pivot_of, reduce, zeros};
 use cone_laws::combination::write_upward;
 use row_core::{Memory, RowBuf, RowList, Steps};
 use std::alloc::Global;
@@ -28,6 +28,28 @@ fn place_of(lines: &RowList, column: usize) -> usize
         }
     }
     lines.len()
+}
+
+/// The row, cleared at the pivot of a line.
+fn cleared<L: Ledger>(
+    alloc: Global,
+    row: &[i128],
+    scratch: &mut [i128],
+    line: &[i128],
+    pivot: usize,
+    steps: &mut Steps<L>,
+) -> Result<RowBuf, Fault>
+    requires same_width { (length row.now ≡ length line.now) × (length scratch.old ≡ length line.now) }
+    requires narrow { length line.now < 2 ^ 32 }
+    requires row { AllInRange row.now × IsPrimitive row.now }
+    requires line { AllInRange line.now × IsPivot line.now pivot }
+    ensures counted { (steps.old ≤ steps.new) × (steps.new ≤ steps.old + 1) }
+    ensures scratch { length scratch.new ≡ length scratch.old }
+    ensures cleared { MatchResult result (IsCleared pivot line.now row.now) (IsCombineFault pivot line.now row.now) }
+{
+    let mut new = RowBuf::new(alloc, row)?.into_vec();
+    clear(alloc, &mut new, scratch, line, pivot, steps)?;
+    Ok(RowBuf::from_vec(new))
 }
 
 /// The lines before an index, cleared at the pivot of a line.
@@ -50,11 +72,8 @@ fn cleared_before<L: Ledger>(
     let mut new = RowList::new(alloc, lines.width());
     let mut scratch = zeros(alloc, lines.width())?;
     for index in 0..end {
-        let mut row = RowBuf::new(alloc, lines.row(index))?.into_vec();
-        if let Err(column) = clear_at(&mut row, &mut scratch, line, pivot, steps) {
-            return Err(left_of(alloc, line, &row, column)?);
-        }
-        new.push_row(RowBuf::from_vec(row), true)?;
+        let row = cleared(alloc, lines.row(index), &mut scratch, line, pivot, steps)?;
+        new.push_row(row, true)?;
     }
     Ok(new)
 }
@@ -97,6 +116,42 @@ fn with_line<L: Ledger>(
     Ok(new)
 }
 
+/// The vector with the sign with which it is positive at a column.
+fn turn_up(alloc: Global, vector: &[i128], column: usize) -> Result<Vec<i128>, Memory>
+    requires in_range { AllInRange vector.now }
+    requires column { column < length vector.now }
+    requires nonzero { cell vector.now column ≢ pos 0 }
+    ensures turned { IfOk result (λ v. v.items ≡ turned_up vector.now column) }
+    ensures in_range { IfOk result (λ v. AllInRange v.items) }
+{
+    let mut turned = zeros(alloc, vector.len())?;
+    write_upward(&mut turned, vector, vector[column]);
+    Ok(turned)
+}
+
+/// The basis with a row that is 0 at its pivots, with the sign with which it is positive at the first column at which
+/// it isn't 0.
+fn with_reduced<L: Ledger>(
+    alloc: Global,
+    lines: &RowList,
+    reduced: &[i128],
+    pivot: usize,
+    steps: &mut Steps<L>,
+) -> Result<RowList, Fault>
+    requires echelon { IsEchelon (vectors lines.now.rows) [] }
+    requires primitive { All IsPrimitive (vectors lines.now.rows) }
+    requires wide { length reduced.now ≡ lines.now.width }
+    requires in_range { AllInRange reduced.now }
+    requires leading { IsLeading reduced.now pivot }
+    requires line { IsNewLine (vectors lines.now.rows) (turned_up reduced.now pivot) pivot }
+    ensures counted { (steps.old ≤ steps.new) × (steps.new ≤ steps.old + length lines.now.rows) }
+    ensures taken { MatchResult result (λ new. HasTaken pivot (vectors lines.now.rows) (turned_up reduced.now pivot) (vectors new.rows)) (IsTakeFault pivot (vectors lines.now.rows) (turned_up reduced.now pivot)) }
+    ensures list { IfOk result (λ new. (new.width ≡ lines.now.width) × AreMarked true new.rows) }
+{
+    let line = turn_up(alloc, reduced, pivot)?;
+    with_line(alloc, lines, &line, pivot, steps)
+}
+
 /// The basis with one more row.
 fn grown<L: Ledger>(
     alloc: Global,
@@ -118,21 +173,7 @@ fn grown<L: Ledger>(
     let Some(pivot) = leading(&reduced) else {
         return Ok(lines);
     };
-    let line = turn_up(alloc, &reduced, pivot)?;
-    with_line(alloc, &lines, &line, pivot, steps)
-}
-
-/// The vector with the sign with which it is positive at a column.
-fn turn_up(alloc: Global, vector: &[i128], column: usize) -> Result<Vec<i128>, Memory>
-    requires in_range { AllInRange vector.now }
-    requires column { column < length vector.now }
-    requires nonzero { cell vector.now column ≢ pos 0 }
-    ensures turned { IfOk result (λ v. v.items ≡ turned_up vector.now column) }
-    ensures in_range { IfOk result (λ v. AllInRange v.items) }
-{
-    let mut turned = zeros(alloc, vector.len())?;
-    write_upward(&mut turned, vector, vector[column]);
-    Ok(turned)
+    with_reduced(alloc, &lines, &reduced, pivot, steps)
 }
 
 /// The basis of the marked rows, which are taken in in their order.

@@ -40,7 +40,7 @@ fn primitive_rows(alloc: Global, rows: &RowList, kept: &[usize]) -> Result<RowLi
     Ok(new)
 }
 
-/// The rows at the indices, each reduced by the lines.
+/// The rows at the indices, each reduced by the lines, of which there may be none.
 fn reduced_rows<L: Ledger>(
     alloc: Global,
     rows: &RowList,

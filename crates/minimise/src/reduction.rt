@@ -7,7 +7,7 @@ ghost use Rattle.row_core.specs.Lists.{vectors};
 ghost use Rattle.cone_laws.specs.Canon.{IsPivot, IsEchelon};
 ghost use Rattle.cone_laws.specs.Leaves.{CombinationLeaves};
 ghost use Rattle.minimise.specs.Bases.{IsCleared, IsLeading, IsReduced};
-ghost use Rattle.minimise.specs.Faults.{IsReduceFault};
+ghost use Rattle.minimise.specs.Faults.{IsCombineFault, IsReduceFault};
 
 use crate::fault::{Fault, left_of};
 use cone_laws::combination::combine;
@@ -72,6 +72,30 @@ pub(crate) fn clear_at<L: Ledger>(
     Ok(())
 }
 
+/// Clears the row as [`clear_at`] does, and shows the combination where it leaves the range.
+pub(crate) fn clear<L: Ledger>(
+    alloc: Global,
+    row: &mut [i128],
+    scratch: &mut [i128],
+    line: &[i128],
+    pivot: usize,
+    steps: &mut Steps<L>,
+) -> Result<(), Fault>
+    requires same_width { (length row.old ≡ length line.now) × (length scratch.old ≡ length line.now) }
+    requires narrow { length line.now < 2 ^ 32 }
+    requires row { AllInRange row.old × IsPrimitive row.old }
+    requires line { AllInRange line.now × IsPivot line.now pivot }
+    ensures counted { (steps.old ≤ steps.new) × (steps.new ≤ steps.old + 1) }
+    ensures widths { (length row.new ≡ length row.old) × (length scratch.new ≡ length scratch.old) }
+    ensures cleared { MatchResult result (λ _. IsCleared pivot line.now row.old row.new) (IsCombineFault pivot line.now row.old) }
+    ensures in_range { AllInRange row.new }
+{
+    match clear_at(row, scratch, line, pivot, steps) {
+        Ok(()) => Ok(()),
+        Err(column) => Err(left_of(alloc, line, row, column)?),
+    }
+}
+
 /// A primitive row, 0 at the pivots of the lines: a positive multiple of the row and multiples of the
 /// lines. The lines are taken in their order.
 pub(crate) fn reduce<L: Ledger>(
@@ -92,10 +116,7 @@ pub(crate) fn reduce<L: Ledger>(
     let mut scratch = zeros(alloc, width)?;
     for index in 0..lines.len() {
         let line = lines.row(index);
-        let cleared = clear_at(&mut reduced, &mut scratch, line, pivot_of(line), steps);
-        if let Err(column) = cleared {
-            return Err(left_of(alloc, line, &reduced, column)?);
-        }
+        clear(alloc, &mut reduced, &mut scratch, line, pivot_of(line), steps)?;
     }
     Ok(reduced)
 }

@@ -17,6 +17,15 @@ cleared_before-requires-clause-end g c = omega (arith, c.place_of-place.ensures.
 pub push_from-requires-clause-start : goal.push_from-requires-clause-start
 push_from-requires-clause-start g c = omega (arith, c.place_of-place.ensures.within, length-vectors c.args.lines.now.rows)
 
+pub returns-in_err-new-clause-counted : goal.returns-in_err-new-clause-counted
+returns-in_err-new-clause-counted g c = (c.cleared_before.ensures.counted.0, omega (arith, c.cleared_before.ensures.counted.1, c.place_of-place.ensures.within, length-vectors c.args.lines.now.rows))
+
+pub returns-in_err-push-clause-counted : goal.returns-in_err-push-clause-counted
+returns-in_err-push-clause-counted g c = (c.cleared_before.ensures.counted.0, omega (arith, c.cleared_before.ensures.counted.1, c.place_of-place.ensures.within, length-vectors c.args.lines.now.rows))
+
+pub returns-in_err-push_from-clause-counted : goal.returns-in_err-push_from-clause-counted
+returns-in_err-push_from-clause-counted g c = (c.cleared_before.ensures.counted.0, omega (arith, c.cleared_before.ensures.counted.1, c.place_of-place.ensures.within, length-vectors c.args.lines.now.rows))
+
 pub returns-in_err-new-clause-taken : goal.returns-in_err-new-clause-taken
 returns-in_err-new-clause-taken g c =
     let p = err_from_is_err_and c.from_residual.result c.from_residual.ensures.1 in
@@ -48,4 +57,4 @@ pub push_from-requires-clause-width : goal.push_from-requires-clause-width
 push_from-requires-clause-width g c = grind (arith, common_steps)
 
 pub returns-clause-counted : goal.returns-clause-counted
-returns-clause-counted g c = grind (arith, common_steps)
+returns-clause-counted g c = (c.cleared_before.ensures.counted.0, omega (arith, c.cleared_before.ensures.counted.1, c.place_of-place.ensures.within, length-vectors c.args.lines.now.rows))
