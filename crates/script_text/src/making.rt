@@ -60,14 +60,21 @@ fn part(alloc: Global, rest: &[u8]) -> Result<Part, Memory>
     })
 }
 
+/// Copies of two texts.
+fn copies(alloc: Global, first: &[u8], second: &[u8]) -> Result<(Text, Text), Memory>
+    ensures { IfOk result (λ t. (t.0 ≡ first.now) × (t.1 ≡ second.now)) }
+{
+    let first = text(alloc, first)?;
+    let second = text(alloc, second)?;
+    Ok((first, second))
+}
+
 /// Copies of the first two words.
 fn two_texts(alloc: Global, rest: &[u8]) -> Result<(Text, Text), Memory>
     ensures { IfOk result (λ t. (t.0 ≡ nth_word 0 rest.now) × (t.1 ≡ nth_word 1 rest.now)) }
 {
     let (first, second) = two_words(rest);
-    let first = text(alloc, first)?;
-    let second = text(alloc, second)?;
-    Ok((first, second))
+    copies(alloc, first, second)
 }
 
 /// Copies of the first three words.
@@ -315,9 +322,8 @@ fn of_name_number_name(alloc: Global, kind: NameNumberName, rest: &[u8]) -> Resu
     ensures { MatchResult result (λ c. c ≡ command_of (row.NameNumberName kind) (fields_in rest.now)) (λ e. e ≡ read_err.Memory) }
 {
     let (first, second, third) = three_words(rest);
-    let s = text(alloc, first)?;
+    let (s, p) = copies(alloc, first, third)?;
     let loc = number(second);
-    let p = text(alloc, third)?;
     Ok(match kind {
         NameNumberName::Init => Command::Init { s, loc, p },
         NameNumberName::SetPart(part) => Command::SetPart { part, h: s, loc, p },
@@ -333,9 +339,8 @@ fn of_name_number_prefix(
     ensures { MatchResult result (λ c. c ≡ command_of (row.NameNumberPrefix kind) (fields_in rest.now)) (λ e. e ≡ read_err.Memory) }
 {
     let (first, second, third) = three_words(rest);
-    let s = text(alloc, first)?;
+    let (s, prefix) = copies(alloc, first, third)?;
     let delay = number(second);
-    let prefix = text(alloc, third)?;
     Ok(match kind {
         NameNumberPrefix::Fixpoint => Command::Fixpoint { s, delay, prefix },
         NameNumberPrefix::Reach => Command::Reach {
@@ -397,11 +402,12 @@ fn trans_command(alloc: Global, rest: &[u8]) -> Result<Command, ReadErr>
 {
     let (first, behind) = split_word(rest);
     let (second, third, fourth) = three_words(behind);
+    let (s, r) = copies(alloc, first, fourth)?;
     Ok(Command::Trans {
-        s: text(alloc, first)?,
+        s,
         loc: number(second),
         loc2: number(third),
-        r: text(alloc, fourth)?,
+        r,
     })
 }
 
