@@ -25,8 +25,4 @@ pub use command::{
 };
 pub use laws::{fields_are_words, one_command, reads_once, variables_are_listed};
 pub use read::read_command;
-pub use row::{
-    NameAndPart, NameFormat, NameNumberName, NameNumberPrefix, OneName, Row, SpaceAndPart,
-    ThreeNames, TwoNames, TwoNamesNumber,
-};
 pub use variables::VarList;

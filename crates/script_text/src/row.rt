@@ -5,7 +5,7 @@ use crate::command::{
 };
 
 /// A command with one name behind its word.
-#[derive(Clone, Copy, Debug)]
+#[derive(Clone, Copy)]
 pub enum OneName {
     /// `drop`
     Drop,
@@ -22,7 +22,7 @@ pub enum OneName {
 }
 
 /// A command with a name and a part.
-#[derive(Clone, Copy, Debug)]
+#[derive(Clone, Copy)]
 pub enum NameAndPart {
     /// `add`
     Add,
@@ -37,7 +37,7 @@ pub enum NameAndPart {
 }
 
 /// A command with two names.
-#[derive(Clone, Copy, Debug)]
+#[derive(Clone, Copy)]
 pub enum TwoNames {
     /// `copy`
     Copy,
@@ -62,7 +62,7 @@ pub enum TwoNames {
 }
 
 /// A command with three names.
-#[derive(Clone, Copy, Debug)]
+#[derive(Clone, Copy)]
 pub enum ThreeNames {
     /// `meet`, `hull`, `concat`, `elapse`
     OfTwo(Operator),
@@ -75,7 +75,7 @@ pub enum ThreeNames {
 }
 
 /// A command with a name, a topology, a number and a part.
-#[derive(Clone, Copy, Debug)]
+#[derive(Clone, Copy)]
 pub enum SpaceAndPart {
     /// `cons`
     Cons,
@@ -84,7 +84,7 @@ pub enum SpaceAndPart {
 }
 
 /// A command with two names and a number.
-#[derive(Clone, Copy, Debug)]
+#[derive(Clone, Copy)]
 pub enum TwoNamesNumber {
     /// `embed`, `project`
     Extend(Extension),
@@ -93,7 +93,7 @@ pub enum TwoNamesNumber {
 }
 
 /// A command with a name and the kind of a file.
-#[derive(Clone, Copy, Debug)]
+#[derive(Clone, Copy)]
 pub enum NameFormat {
     /// `read`
     Read,
@@ -102,7 +102,7 @@ pub enum NameFormat {
 }
 
 /// A command with a name, a number and a name.
-#[derive(Clone, Copy, Debug)]
+#[derive(Clone, Copy)]
 pub enum NameNumberName {
     /// `init`
     Init,
@@ -111,7 +111,7 @@ pub enum NameNumberName {
 }
 
 /// A command with a name, a number and the prefix of names.
-#[derive(Clone, Copy, Debug)]
+#[derive(Clone, Copy)]
 pub enum NameNumberPrefix {
     /// `fixpoint`
     Fixpoint,
@@ -120,7 +120,7 @@ pub enum NameNumberPrefix {
 }
 
 /// A command, by what stands behind its word.
-#[derive(Clone, Copy, Debug)]
+#[derive(Clone, Copy)]
 pub enum Row {
     /// A blank line, or a comment alone.
     Nothing,
