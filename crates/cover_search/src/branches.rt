@@ -26,8 +26,8 @@ fn by_branches<L: Ledger>(
     ensures found { IfOk result (λ found. MatchOption found (AreCovered first.now systems.now) (IsUncovered first.now systems.now)) }
     ensures overflow { IfErr result (IsOverflowIn (LeavesOnBranch first.now systems.now)) }
 {
-    let mut pending = Vec::new(alloc);
     let region = Region::new(alloc, first, steps)?;
+    let mut pending = Vec::new(alloc);
     pending.push(Piece {
         region,
         passed: 0,

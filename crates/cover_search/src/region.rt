@@ -5,11 +5,11 @@ ghost use Rattle.row_core.specs.Range.{InRange, AllInRange};
 ghost use Rattle.row_core.specs.Content.{IsPrimitiveOf};
 ghost use Rattle.row_core.specs.Lists.{row_at, vectors};
 ghost use Rattle.poly_pair.specs.Conversions.{HaveNoPoint};
-ghost use Rattle.nnc_enc.specs.Encoding.{encoded_constraint, encoded_constraints, lowered};
+ghost use Rattle.nnc_enc.specs.Encoding.{encoded_constraint, lowered};
 ghost use Rattle.row_core.specs.Refusals.{IsOverflowIn};
 ghost use Rattle.cons_sys.specs.Constraints.{constraint_at};
 ghost use Rattle.cover_search.specs.Inequalities.{AreInequalities, complement};
-ghost use Rattle.cover_search.specs.Regions.{LeavesOnList, with_one, HasCone, HoldNowhere, IsPointIn, HoldsOn, IsKept};
+ghost use Rattle.cover_search.specs.Regions.{LeavesOnList, with_one, HoldNowhere, IsPointIn, HoldsOn, IsKept};
 
 use crate::halfspaces::Halfspaces;
 use crate::inequalities::{is_strict, push_primitive};
@@ -147,24 +147,6 @@ fn is_kept_on(strict: bool, column: usize, row: &[i128], list: &RowList) -> bool
     true
 }
 
-/// The canonical system of the list that encodes constraints, with its table.
-fn cone_of<L: Ledger>(
-    alloc: Global,
-    cons: &ConsSys,
-    list: &RowList,
-    steps: &mut Steps<L>,
-) -> Result<Cone, ConvErr>
-    requires width { list.now.width ≡ cons.now.dim + 2 }
-    requires rows { list.now.rows ≡ encoded_constraints cons.now }
-    ensures cone { IfOk result (HasCone cons.now) }
-    ensures overflow { IfErr result (IsOverflowIn (LeavesOnList cons.now)) }
-{
-    match convert(alloc, list.width(), list, steps) {
-        Ok(cone) => Ok(cone),
-        Err(cause) => Err(cause),
-    }
-}
-
 impl Region {
     /// Whether one of the inequalities is seen to hold at all of these points. Where a number leaves the range the answer
     /// is no.
@@ -219,7 +201,7 @@ impl Region {
     {
         let list = encode_cons(alloc, cons)?;
         let cons = cons.clone()?;
-        let cone = cone_of(alloc, &cons, &list, steps)?;
+        let cone = convert(alloc, list.width(), &list, steps)?;
         Ok(Region { cons, list, cone })
     }
 

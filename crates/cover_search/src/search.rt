@@ -35,9 +35,9 @@ pub(crate) fn search<L: Ledger>(
     requires inequalities { All AreInequalities systems.now }
     ensures { IfOk result (λ found. MatchOption found (AreCovered first.now systems.now) (IsUncovered first.now systems.now)) }
 {
-    let mut pending = Vec::new(alloc);
     let region = Region::new(alloc, first, steps)?;
     let met = numbers_below(alloc, systems.len())?;
+    let mut pending = Vec::new(alloc);
     pending.push(Part { region, met })?;
     while let Some(part) = pending.pop() {
         let found = settle(alloc, systems, part, &mut pending, steps)?;

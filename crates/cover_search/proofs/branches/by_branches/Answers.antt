@@ -7,6 +7,7 @@ use Rattle.cover_search.specs.Branches.{LeavesOnBranch}
 use Rattle.cover_search.specs.Pieces.{IsPiece, all_still}
 use Rattle.cover_search.proofs.InequalityLemmas.{all_left, all_right}
 use Rattle.cover_search.proofs.TurnLemmas.{AreAllTold, first_piece, first_told, is_within, turn_pieces, turn_told, turn_falls, turn_leaves, first_leaves, answered, went_on}
+use Rattle.std.proofs.lemmas.Result.{err_from_is_err_and}
 use Rattle.cover_search.proofs.branches.by_branches.Goals as goal
 
 pub returns-in_err-region-clause-overflow : goal.returns-in_err-region-clause-overflow
@@ -58,3 +59,12 @@ returns-then-is_some-clause-found g c =
     let p = All-head (IsPiece c.args.first.now c.args.systems.now) c.in-Some.piece [] (all_right (IsPiece c.args.first.now c.args.systems.now) c.pop.new.self.items (c.in-Some.piece ∷ []) all) in
     let some : is_some c.in_ok-found.found ≡ true = cc in
     answered c.args.first.now c.args.systems.now c.requires.inequalities c.in-Some.piece p c.pop.new.self.items c.turn.new.pending.items c.in_ok-found.found some c.in_ok-found.ensures.turn
+
+pub returns-in_err-found-clause-found : goal.returns-in_err-found-clause-found
+returns-in_err-found-clause-found g c = let p = err_from_is_err_and c.from_residual-in_err-found.result c.from_residual-in_err-found.ensures.1 in rw p.1 tt
+
+pub returns-in_err-push-clause-found : goal.returns-in_err-push-clause-found
+returns-in_err-push-clause-found g c = let p = err_from_is_err_and c.from_residual-in_err-push.result c.from_residual-in_err-push.ensures.1 in rw p.1 tt
+
+pub returns-in_err-region-clause-found : goal.returns-in_err-region-clause-found
+returns-in_err-region-clause-found g c = let p = err_from_is_err_and c.from_residual.result c.from_residual.ensures.1 in rw p.1 tt

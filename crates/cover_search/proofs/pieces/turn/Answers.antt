@@ -4,6 +4,7 @@ use Rattle.std.proofs.lemmas.Option.{slice_get-get_or}
 use Rattle.row_core.specs.Refusals.{IsOverflowIn}
 use Rattle.cover_search.specs.Pieces.{LeavesInTurn}
 use Rattle.cover_search.proofs.TurnLemmas.{next_leaves}
+use Rattle.std.proofs.lemmas.Result.{err_from_is_err_and}
 use Rattle.cover_search.proofs.pieces.turn.Goals as goal
 
 pub returns-in_err-split-clause-overflow : goal.returns-in_err-split-clause-overflow
@@ -18,3 +19,9 @@ returns-clause-turn g c =
     let rows = c.index-systems-passed.result in
     let at : slice_get c.args.systems.now c.args.piece.passed ≡ Some rows = slice_get-get_or c.args.systems.now c.args.piece.passed rows (omega arith) ∙ ap Some (sym c.index-systems-passed.is) in
     inr (rows, at, c.in_ok-split.ensures.parts)
+
+pub returns-in_err-point-clause-turn : goal.returns-in_err-point-clause-turn
+returns-in_err-point-clause-turn g c = let p = err_from_is_err_and c.from_residual.result c.from_residual.ensures.1 in rw p.1 tt
+
+pub returns-in_err-split-clause-turn : goal.returns-in_err-split-clause-turn
+returns-in_err-split-clause-turn g c = let p = err_from_is_err_and c.from_residual-in_err-split.result c.from_residual-in_err-split.ensures.1 in rw p.1 tt

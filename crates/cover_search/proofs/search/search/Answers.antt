@@ -5,6 +5,7 @@ use Rattle.cover_search.specs.declared.parts.Part.{Part}
 use Rattle.cover_search.specs.Parts.{IsPart, all_rows, all_to_come}
 use Rattle.cover_search.proofs.InequalityLemmas.{all_left, all_right}
 use Rattle.cover_search.proofs.PartLemmas.{AreAllTold, first_part, first_told, own_part, own_dims, turn_parts, turn_told, turn_falls, answered, went_on}
+use Rattle.std.proofs.lemmas.Result.{err_from_is_err_and}
 use Rattle.cover_search.proofs.search.search.Goals as goal
 
 pub loop-part-init : goal.loop-part-init
@@ -52,3 +53,15 @@ returns-then-is_some g c =
     let p = All-head (IsPart c.args.first.now c.args.systems.now) c.in-Some.part [] (all_right (IsPart c.args.first.now c.args.systems.now) c.pop.new.self.items (c.in-Some.part ∷ []) all) in
     let some : is_some c.in_ok-found.found ≡ true = cc in
     answered c.args.first.now c.args.systems.now c.in-Some.part p c.pop.new.self.items c.settle.new.pending.items c.in_ok-found.found some c.in_ok-found.ensures
+
+pub returns-in_err-found : goal.returns-in_err-found
+returns-in_err-found g c = let p = err_from_is_err_and c.from_residual-in_err-found.result c.from_residual-in_err-found.ensures.1 in rw p.1 tt
+
+pub returns-in_err-met : goal.returns-in_err-met
+returns-in_err-met g c = let p = err_from_is_err_and c.from_residual-in_err-met.result c.from_residual-in_err-met.ensures.1 in rw p.1 tt
+
+pub returns-in_err-push : goal.returns-in_err-push
+returns-in_err-push g c = let p = err_from_is_err_and c.from_residual-in_err-push.result c.from_residual-in_err-push.ensures.1 in rw p.1 tt
+
+pub returns-in_err-region : goal.returns-in_err-region
+returns-in_err-region g c = let p = err_from_is_err_and c.from_residual.result c.from_residual.ensures.1 in rw p.1 tt

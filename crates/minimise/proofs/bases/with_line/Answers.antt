@@ -17,19 +17,24 @@ cleared_before-requires-clause-end g c = omega (arith, c.place_of-place.ensures.
 pub push_from-requires-clause-start : goal.push_from-requires-clause-start
 push_from-requires-clause-start g c = omega (arith, c.place_of-place.ensures.within, length-vectors c.args.lines.now.rows)
 
-pub returns-in_err-new-clause-counted : goal.returns-in_err-new-clause-counted
-returns-in_err-new-clause-counted g c = (c.cleared_before.ensures.counted.0, omega (arith, c.cleared_before.ensures.counted.1, c.place_of-place.ensures.within, length-vectors c.args.lines.now.rows))
-
-pub returns-in_err-push-clause-counted : goal.returns-in_err-push-clause-counted
-returns-in_err-push-clause-counted g c = (c.cleared_before.ensures.counted.0, omega (arith, c.cleared_before.ensures.counted.1, c.place_of-place.ensures.within, length-vectors c.args.lines.now.rows))
-
-pub returns-in_err-push_from-clause-counted : goal.returns-in_err-push_from-clause-counted
-returns-in_err-push_from-clause-counted g c = (c.cleared_before.ensures.counted.0, omega (arith, c.cleared_before.ensures.counted.1, c.place_of-place.ensures.within, length-vectors c.args.lines.now.rows))
-
-pub returns-in_err-new-clause-taken : goal.returns-in_err-new-clause-taken
-returns-in_err-new-clause-taken g c =
+pub returns-in_err-new : goal.returns-in_err-new
+returns-in_err-new g c =
     let p = err_from_is_err_and c.from_residual.result c.from_residual.ensures.1 in
-    rw (p.1, p.2) (take_fault c.args.pivot (vectors c.args.lines.now.rows) c.args.line.now c.place_of-place.result _ c.place_of-place.ensures c.in_err-new.ensures.cleared)
+    rw (p.1, p.2) (record {
+      counted = (c.cleared_before.ensures.counted.0, omega (arith, c.cleared_before.ensures.counted.1, c.place_of-place.ensures.within, length-vectors c.args.lines.now.rows));
+      taken = take_fault c.args.pivot (vectors c.args.lines.now.rows) c.args.line.now c.place_of-place.result _ c.place_of-place.ensures c.in_err-new.ensures.cleared;
+      list = tt;
+    })
+
+pub returns-in_err-push : goal.returns-in_err-push
+returns-in_err-push g c =
+    let p = err_from_is_err_and c.from_residual-in_err-push.result c.from_residual-in_err-push.ensures.1 in
+    rw (p.1, p.2) (record { counted = (c.cleared_before.ensures.counted.0, omega (arith, c.cleared_before.ensures.counted.1, c.place_of-place.ensures.within, length-vectors c.args.lines.now.rows)); taken = tt; list = tt })
+
+pub returns-in_err-push_from : goal.returns-in_err-push_from
+returns-in_err-push_from g c =
+    let p = err_from_is_err_and c.from_residual-in_err-push_from.result c.from_residual-in_err-push_from.ensures.1 in
+    rw (p.1, p.2) (record { counted = (c.cleared_before.ensures.counted.0, omega (arith, c.cleared_before.ensures.counted.1, c.place_of-place.ensures.within, length-vectors c.args.lines.now.rows)); taken = tt; list = tt })
 
 pub returns-clause-taken : goal.returns-clause-taken
 returns-clause-taken g c =

@@ -4,6 +4,7 @@ use Rattle.nnc_enc.specs.Strong.{IsPointPass, AreFirstVectors}
 use Rattle.nnc_enc.specs.Passes.{IsPassed}
 use Rattle.nnc_enc.proofs.MarkLemmas.{written_back}
 use Rattle.nnc_enc.proofs.StrongLemmas.{point_pass_is}
+use Rattle.std.proofs.lemmas.Result.{err_from_is_err_and}
 use Rattle.nnc_enc.proofs.strong.point_pass.Goals as goal
 
 pub returns : goal.returns
@@ -19,3 +20,18 @@ returns c =
     let same : length c.drop_covered.new.keep ≡ length c.in_ok-keep.keep.items = c.drop_covered.ensures.length ∙ ap length c.deref_mut.ensures.value in
     let is : IsPointPass c.args.dim c.args.cons.now.rows (vectors c.args.rays.now.rows) c.drop_covered.new.keep = point_pass_is c.args.dim c.args.cons.now.rows c.args.rays.now.rows c.args.sat.now c.requires.table c.in_ok-level.level.items c.in_ok-level.ensures c.in_ok-strict.strict.items c.in_ok-places.places.items c.in_ok-points.points.items c.in_ok-keep.keep.items c.drop_covered.new.keep c.in_ok-strict.ensures c.in_ok-places.ensures c.in_ok-points.ensures firsts same passed in
     subst (IsPointPass c.args.dim c.args.cons.now.rows (vectors c.args.rays.now.rows)) (sym (written_back c.drop_covered.new.keep (drop (length c.drop_covered.new.keep) c.in_ok-keep.keep.items) c.in_ok-keep.keep.len (omega (arith, same, c.deref_mut.ensures.len, c.drop_covered.ensures.length)))) is
+
+pub returns-in_err-keep : goal.returns-in_err-keep
+returns-in_err-keep c = let p = err_from_is_err_and c.from_residual-in_err-keep.result c.from_residual-in_err-keep.ensures.1 in rw p.1 tt
+
+pub returns-in_err-level : goal.returns-in_err-level
+returns-in_err-level c = let p = err_from_is_err_and c.from_residual-in_err-level.result c.from_residual-in_err-level.ensures.1 in rw p.1 tt
+
+pub returns-in_err-places : goal.returns-in_err-places
+returns-in_err-places c = let p = err_from_is_err_and c.from_residual-in_err-places.result c.from_residual-in_err-places.ensures.1 in rw p.1 tt
+
+pub returns-in_err-points : goal.returns-in_err-points
+returns-in_err-points c = let p = err_from_is_err_and c.from_residual.result c.from_residual.ensures.1 in rw p.1 tt
+
+pub returns-in_err-strict : goal.returns-in_err-strict
+returns-in_err-strict c = let p = err_from_is_err_and c.from_residual-in_err-strict.result c.from_residual-in_err-strict.ensures.1 in rw p.1 tt

@@ -4,7 +4,8 @@ use Rattle.row_core.specs.Refusals.{IsOverflowIn}
 use Rattle.cons_sys.specs.Constraints.{Constraints, constraint_at}
 use Rattle.nnc_enc.specs.Encoding.{encoded_constraint, encoded_constraints}
 use Rattle.cover_search.specs.Regions.{LeavesOnList, with_one}
-use Rattle.cover_search.proofs.RegionLemmas.{front_cone, list_with_one, list_overflow}
+use Rattle.cover_search.proofs.RegionLemmas.{has_cone, front_cone, list_with_one, list_overflow}
+use Rattle.std.proofs.lemmas.Result.{err_from_is_err_and}
 use Rattle.cover_search.proofs.region.Region.narrowed.Goals as goal
 
 pub add_rows-requires-clause-system : goal.add_rows-requires-clause-system
@@ -24,3 +25,23 @@ returns-in_err-added-clause-overflow g c =
     let all : c.push_one.new.list.rows ≡ encoded_constraints (with_one c.args.self one) = c.in_ok-push_one.ensures.rows ∙ ap (λ (rs : List Row). rs ++ encoded_constraint c.self.inside.cons.dim one ∷ []) c.self.invariant.rows ∙ sym (list_with_one c.self.inside.cons one) ∙ ap (λ (cs : Constraints). encoded_constraints (with_one cs one)) c.self.view_is in
     let known : IsOverflowIn (LeavesOnList (with_one c.args.self one)) c.in_err-added.field-0.0 = list_overflow (with_one c.args.self one) c.push_one.new.list.width c.len-from.result c.push_one.new.list.rows c.in_err-added.field-0.0 width all c.in_err-added.ensures.overflow in
     search (rules, known, c.from_residual-in_err-added.ensures)
+
+pub invariant_of-result : goal.invariant_of-result
+invariant_of-result g c =
+    let cons = c.push_one.new.cons in
+    let list = c.push_one.new.list in
+    let one = constraint_at c.args.halfspaces.now.list c.args.index in
+    let pushed : with_one c.self.inside.cons one ≡ c.push_one.new.cons = sym c.in_ok-push_one.ensures.cons in
+    let width : c.push_one.new.list.width ≡ c.push_one.new.cons.dim + 2 = c.in_ok-push_one.ensures.width ∙ c.self.invariant.width ∙ ap (λ (cs : Constraints). cs.dim + 2) pushed in
+    let rows : c.push_one.new.list.rows ≡ encoded_constraints c.push_one.new.cons = c.in_ok-push_one.ensures.rows ∙ ap (λ (rs : List Row). rs ++ encoded_constraint c.self.inside.cons.dim one ∷ []) c.self.invariant.rows ∙ sym (list_with_one c.self.inside.cons one) ∙ ap (λ (cs : Constraints). encoded_constraints cs) pushed in
+    record {
+      width = width;
+      rows = rows;
+      canonical = has_cone cons list.width list.rows c.in_ok-added.added.cone width rows c.in_ok-added.ensures.canon c.in_ok-added.ensures.lists c.in_ok-added.ensures.sat;
+    }
+
+pub returns-in_err-added-clause-region : goal.returns-in_err-added-clause-region
+returns-in_err-added-clause-region g c = let p = err_from_is_err_and c.from_residual-in_err-added.result c.from_residual-in_err-added.ensures.1 in rw p.1 tt
+
+pub returns-in_err-push_one-clause-region : goal.returns-in_err-push_one-clause-region
+returns-in_err-push_one-clause-region g c = let p = err_from_is_err_and c.from_residual.result c.from_residual.ensures.1 in rw p.1 tt
