@@ -6,6 +6,7 @@ use Rattle.pair_laws.specs.StoredForms.{stored_constraints, false_row}
 use Rattle.poly_pair.specs.FirstLists.{HasPointKind}
 use Rattle.poly_pair.proofs.OtherSystems.{constraints_of_system, constraints_of_none, some_point}
 use Rattle.poly_pair.proofs.StoredLemmas.{empty_list}
+use Rattle.std.proofs.lemmas.Result.{err_from_is_err_and}
 use Rattle.poly_pair.proofs.other_system.constraints_alone.Goals as goal
 
 pub returns-then-is_empty-clause-stored : goal.returns-then-is_empty-clause-stored
@@ -26,3 +27,12 @@ returns-clause-stored g c =
     constraints_of_system gs lines rays made.field-0 c.requires.narrow c.requires.kinds c.dim-dim.ensures.rows point c.in_ok-system.ensures.canon
     (made.ensures.dim ∙ c.dim-dim.ensures.value)
     (made.ensures.list ∙ ap (λ (n : ℕ). stored_constraints n lines rays) c.dim-dim.ensures.value)
+
+pub returns-in_err-false_constraints-clause-stored : goal.returns-in_err-false_constraints-clause-stored
+returns-in_err-false_constraints-clause-stored g c = let p = err_from_is_err_and c.from_residual.result c.from_residual.ensures.1 in rw p.1 tt
+
+pub returns-in_err-made-clause-stored : goal.returns-in_err-made-clause-stored
+returns-in_err-made-clause-stored g c = let p = err_from_is_err_and c.from_residual-in_err-made.result c.from_residual-in_err-made.ensures.1 in rw p.1 tt
+
+pub returns-in_err-system-clause-stored : goal.returns-in_err-system-clause-stored
+returns-in_err-system-clause-stored g c = let p = err_from_is_err_and c.from_residual-in_err-system.result c.from_residual-in_err-system.ensures.1 in rw p.1 tt

@@ -1,6 +1,6 @@
 use Rattle.std.proofs.Common.{◌≡◌, ◌+◌, ◌-◌, ◌<◌, ℕ, length, arith, refl, ap, subst, ◌∙◌}
 use Rattle.std.specs.Prelude.{IfOk, IfErr}
-use Rattle.std.proofs.lemmas.Result.{IfOk-weaker, IfErr-weaker}
+use Rattle.std.proofs.lemmas.Result.{IfOk-weaker, IfErr-weaker, err_from_is_err_and}
 use Rattle.row_core.specs.Lists.{row_at, vectors}
 use Rattle.cone_laws.specs.Canon.{Canon}
 use Rattle.cone_laws.specs.Members.{ConeOf}
@@ -73,3 +73,21 @@ returns-clause-counted_before g c =
     let total = c.add_rows.new.steps - c.args.steps.now in
     moved (λ w rs. IfErr c.add_rows.result (IsCountedBeforeFrom w rs from total)) c.in_ok-rows.rows.width (c.args.cons.now.dim + 1) c.in_ok-rows.rows.rows (constraint_list c.args.cons.now) c.in_ok-rows.ensures.width c.in_ok-rows.ensures.rows
     (subst (λ (n : ℕ). IfErr c.add_rows.result (IsCountedBeforeFrom c.in_ok-rows.rows.width c.in_ok-rows.rows.rows n total)) (ap (λ (n : ℕ). n + 1) (c.len-from.ensures ∙ ap (λ (cs : Constraints). length cs.list) c.cons.ensures.value)) c.add_rows.ensures.counted_before)
+
+pub returns-in_err-rows-clause-canon : goal.returns-in_err-rows-clause-canon
+returns-in_err-rows-clause-canon g c = let p = err_from_is_err_and c.from_residual.result c.from_residual.ensures.1 in rw p.1 tt
+
+pub returns-in_err-rows-clause-lists : goal.returns-in_err-rows-clause-lists
+returns-in_err-rows-clause-lists g c = let p = err_from_is_err_and c.from_residual.result c.from_residual.ensures.1 in rw p.1 tt
+
+pub returns-in_err-rows-clause-wide : goal.returns-in_err-rows-clause-wide
+returns-in_err-rows-clause-wide g c = let p = err_from_is_err_and c.from_residual.result c.from_residual.ensures.1 in rw p.1 tt
+
+pub returns-in_err-start-clause-canon : goal.returns-in_err-start-clause-canon
+returns-in_err-start-clause-canon g c = let p = err_from_is_err_and c.from_residual-in_err-start.result c.from_residual-in_err-start.ensures.1 in rw p.1 tt
+
+pub returns-in_err-start-clause-lists : goal.returns-in_err-start-clause-lists
+returns-in_err-start-clause-lists g c = let p = err_from_is_err_and c.from_residual-in_err-start.result c.from_residual-in_err-start.ensures.1 in rw p.1 tt
+
+pub returns-in_err-start-clause-wide : goal.returns-in_err-start-clause-wide
+returns-in_err-start-clause-wide g c = let p = err_from_is_err_and c.from_residual-in_err-start.result c.from_residual-in_err-start.ensures.1 in rw p.1 tt
