@@ -116,7 +116,14 @@ pub(crate) fn reduce<L: Ledger>(
     let mut scratch = zeros(alloc, width)?;
     for index in 0..lines.len() {
         let line = lines.row(index);
-        clear(alloc, &mut reduced, &mut scratch, line, pivot_of(line), steps)?;
+        clear(
+            alloc,
+            &mut reduced,
+            &mut scratch,
+            line,
+            pivot_of(line),
+            steps,
+        )?;
     }
     Ok(reduced)
 }

@@ -1,6 +1,5 @@
 use Rattle.std.proofs.Common.{rules}
 use Rattle.cdd_text.proofs.StoreLaws.{constraint_kept}
-use Rattle.std.proofs.lemmas.Result.{err_from_is_err_and}
 use Rattle.cdd_text.proofs.store.store_constraints.Goals as goal
 
 pub loop-marked-preserved : goal.loop-marked-preserved
@@ -11,6 +10,3 @@ loop-marked-preserved c =
       done = constraint_kept table.width c.loop-marked.marked-index table.marks.items table.values.items c.loop-marked.rest.now c.split_at.result.1.now c.split_at.result.0.now i.0 c.loop-marked.system.list c.push_constraint.new.system.list _ i.1 (search rules) (search rules) (search rules) (search rules) i.2 c.in_ok-push_constraint.ensures.list;
       dim = search rules;
     }
-
-pub returns-in_err-push_constraint : goal.returns-in_err-push_constraint
-returns-in_err-push_constraint c = let p = err_from_is_err_and c.from_residual.result c.from_residual.ensures.1 in rw p.1 tt

@@ -3,7 +3,6 @@ use Rattle.std.specs.Prelude.{pos}
 use Rattle.std.specs.Fmt.{signed_decimal}
 use Rattle.cdd_text.specs.Written.{line_of, row_words}
 use Rattle.cdd_text.proofs.WrittenLaws.{spaced_next, row_starts}
-use Rattle.std.proofs.lemmas.Result.{err_from_is_err_and}
 use Rattle.cdd_text.proofs.write.push_row.Goals as goal
 
 pub loop-entry-init : goal.loop-entry-init
@@ -13,15 +12,3 @@ pub loop-entry-preserved : goal.loop-entry-preserved
 loop-entry-preserved c =
     let row = c.args.row.now in
     spaced_next signed_decimal (take (length row - 1) row) c.loop-entry.entry-index (pos 0) c.loop-entry.text c.push_byte.new.self c.push_signed-in-loop-entry.new.self (c.args.text.now ++ line_of (row_words row)) (search rules) (search rules) (search rules) c.loop-entry.invariant
-
-pub returns-in_err-push_byte : goal.returns-in_err-push_byte
-returns-in_err-push_byte c = let p = err_from_is_err_and c.from_residual-in_err-push_byte.result c.from_residual-in_err-push_byte.ensures.1 in rw p.1 tt
-
-pub returns-in_err-push_byte-2 : goal.returns-in_err-push_byte-2
-returns-in_err-push_byte-2 c = let p = err_from_is_err_and c.from_residual-in_err-push_byte-2.result c.from_residual-in_err-push_byte-2.ensures.1 in rw p.1 tt
-
-pub returns-in_err-push_signed : goal.returns-in_err-push_signed
-returns-in_err-push_signed c = let p = err_from_is_err_and c.from_residual.result c.from_residual.ensures.1 in rw p.1 tt
-
-pub returns-in_err-push_signed-2 : goal.returns-in_err-push_signed-2
-returns-in_err-push_signed-2 c = let p = err_from_is_err_and c.from_residual-in_err-push_signed-2.result c.from_residual-in_err-push_signed-2.ensures.1 in rw p.1 tt

@@ -1,4 +1,4 @@
-use Rattle.std.proofs.Common.{◌≡◌, ◌∙◌, inr, Some, sym, ap, rules, arith}
+use Rattle.std.proofs.Common.{◌≡◌, ◌∙◌, inl, inr, Some, refl, sym, ap, rules, arith}
 use Rattle.std.specs.Prelude.{slice_get}
 use Rattle.std.proofs.lemmas.Option.{slice_get-get_or}
 use Rattle.row_core.specs.Refusals.{IsOverflowIn}
@@ -25,3 +25,12 @@ returns-in_err-point-clause-turn g c = let p = err_from_is_err_and c.from_residu
 
 pub returns-in_err-split-clause-turn : goal.returns-in_err-split-clause-turn
 returns-in_err-split-clause-turn g c = let p = err_from_is_err_and c.from_residual-in_err-split.result c.from_residual-in_err-split.ensures.1 in rw p.1 tt
+
+pub returns-in-None-clause-turn : goal.returns-in-None-clause-turn
+returns-in-None-clause-turn g c = inl (inl c.in-None.ensures, refl)
+
+pub returns-then-piece-systems-clause-turn : goal.returns-then-piece-systems-clause-turn
+returns-then-piece-systems-clause-turn g c = record { all = c.if-piece-systems.true; point = c.in-Some.ensures }
+
+pub returns-then-lies_in_some-clause-turn : goal.returns-then-lies_in_some-clause-turn
+returns-then-lies_in_some-clause-turn g c = inl (inr (c.lies_in_some.ensures c.if-lies_in_some.true), refl)

@@ -1,14 +1,13 @@
 use Rattle.std.specs.Prelude.{true, Contains}
-use Rattle.std.proofs.Common.{◌≡◌, List, ℤ, [], ◌∷◌, ◌++◌, length, arith, sym, ap, ◌∙◌, subst}
+use Rattle.std.proofs.Common.{◌≡◌, List, ℤ, [], arith, sym, ap, ◌∙◌, subst}
 use Rattle.std.proofs.lemmas.Result.{err_from_is_err_and}
 use Rattle.std.proofs.lemmas.List.Elements.{All-same, Contains-get_or}
 use Rattle.row_core.specs.Range.{AllInRange}
 use Rattle.row_core.specs.Content.{IsPrimitive}
-use Rattle.row_core.specs.Lists.{Row, row_at, vectors}
+use Rattle.row_core.specs.Lists.{Row, vectors}
 use Rattle.cone_laws.specs.Canon.{vector_at}
 use Rattle.cone_laws.proofs.VectorLemmas.{length-vectors, vector_at-vectors, vectors_push, marked_push}
 use Rattle.minimise.specs.Bases.{IsCleared}
-use Rattle.minimise.specs.Faults.{IsCombineFault}
 use Rattle.minimise.proofs.ClearedRows.{cleared_more}
 use Rattle.minimise.proofs.FaultCases.{clear_fault}
 use Rattle.minimise.proofs.bases.cleared_before.Goals as goal

@@ -2,7 +2,7 @@ use Rattle.std.specs.Prelude.{MatchResult}
 use Rattle.std.proofs.Common.{List, ℤ, length, arith, sym, ap, ◌∙◌, subst}
 use Rattle.row_core.specs.Range.{AllInRange}
 use Rattle.row_core.specs.Lists.{vectors}
-use Rattle.minimise.specs.Bases.{IsReduced, IsLeading, IsNewLine, HasTaken, turned_up}
+use Rattle.minimise.specs.Bases.{IsLeading, IsNewLine, HasTaken, turned_up}
 use Rattle.minimise.specs.Faults.{IsTakeFault}
 use Rattle.minimise.proofs.FaultCases.{grown_by_line}
 use Rattle.minimise.proofs.Growing.{new_line}

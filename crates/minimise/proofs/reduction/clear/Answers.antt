@@ -1,4 +1,4 @@
-use Rattle.std.proofs.Common.{List, ℤ, refl, sym, ap, arith, subst}
+use Rattle.std.proofs.Common.{List, ℤ, refl, sym, arith, subst}
 use Rattle.row_core.specs.Vectors.{cell}
 use Rattle.cone_laws.specs.Leaves.{CombinationLeaves}
 use Rattle.minimise.specs.Faults.{IsCombineFault}

@@ -1,4 +1,4 @@
-use Rattle.std.proofs.Common.{◌≡◌, ◌+◌, ◌<◌, suc, ℕ, List, ℤ, [], length, take, drop, rules, arith, sym, ap, ◌∙◌, subst}
+use Rattle.std.proofs.Common.{◌≡◌, ◌+◌, ◌<◌, suc, ℕ, List, ℤ, [], length, take, drop, rules, arith, sym, ◌∙◌, subst}
 use Rattle.std.proofs.lemmas.List.{take_at}
 use Rattle.std.proofs.lemmas.Result.{err_from_is_err_and}
 use Rattle.std.proofs.lemmas.Grind.{common_steps}
@@ -8,7 +8,6 @@ use Rattle.row_core.specs.Lists.{vectors}
 use Rattle.cone_laws.specs.Canon.{vector_at, IsPivot}
 use Rattle.cone_laws.proofs.VectorLemmas.{length-vectors, vector_at-vectors}
 use Rattle.minimise.specs.Bases.{IsCleared, IsReduced}
-use Rattle.minimise.specs.Faults.{IsCombineFault}
 use Rattle.minimise.proofs.Reductions.{reduced_none, reduced_more}
 use Rattle.minimise.proofs.FaultCases.{reduce_fault}
 use Rattle.minimise.proofs.reduction.reduce.Goals as goal

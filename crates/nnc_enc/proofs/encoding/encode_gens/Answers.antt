@@ -1,6 +1,5 @@
 use Rattle.std.proofs.Common.{◌∙◌, arith}
 use Rattle.nnc_enc.proofs.EncodeLemmas.{encoded_more}
-use Rattle.std.proofs.lemmas.Result.{err_from_is_err_and}
 use Rattle.nnc_enc.proofs.encoding.encode_gens.Goals as goal
 
 pub loop-index-preserved : goal.loop-index-preserved
@@ -8,9 +7,3 @@ loop-index-preserved c = record {
   width = c.in_ok-push_encoded.ensures.width ∙ c.loop-index.invariant.width;
   rows = encoded_more c.dim-dim.result c.args.gens.now.dim c.args.gens.now.list c.loop-index.index c.loop-index.list.rows c.push_encoded.new.list.rows c.row.result.now c.kind.result c.dim-dim.ensures.value (omega arith) c.loop-index.invariant.rows c.in_ok-push_encoded.ensures.rows c.row.ensures.value c.kind.ensures;
 }
-
-pub returns-in_err-list : goal.returns-in_err-list
-returns-in_err-list c = let p = err_from_is_err_and c.from_residual.result c.from_residual.ensures.1 in rw p.1 (record { width = tt; rows = tt })
-
-pub returns-in_err-push_encoded : goal.returns-in_err-push_encoded
-returns-in_err-push_encoded c = let p = err_from_is_err_and c.from_residual-in_err-push_encoded.result c.from_residual-in_err-push_encoded.ensures.1 in rw p.1 (record { width = tt; rows = tt })

@@ -4,7 +4,6 @@ use Rattle.sat_matrix.specs.Tables.{bits_of}
 use Rattle.nnc_enc.specs.Marks.{flag}
 use Rattle.nnc_enc.specs.Passes.{IsClear}
 use Rattle.nnc_enc.proofs.MarkLemmas.{told_more, told_not}
-use Rattle.std.proofs.lemmas.Result.{err_from_is_err_and}
 use Rattle.nnc_enc.proofs.strong.first_vectors.Goals as goal
 
 pub loop-index-preserved : goal.loop-index-preserved
@@ -12,6 +11,3 @@ loop-index-preserved c = record {
   as_many = omega (arith, c.in_ok-push.ensures.len);
   each = told_more (λ (i : ℕ). ¬ (IsTrue (flag c.args.places.now i) × IsClear c.args.strict.now (bits_of c.args.sat.now.rows i) (length c.args.strict.now))) c.loop-index.keep.items c.push.new.self.items c.loop-index.index _ c.in_ok-push.ensures.items c.loop-index.invariant.as_many c.loop-index.invariant.each (told_not c.is_marked_clear.result _ c.is_marked_clear.ensures);
 }
-
-pub returns-in_err-push : goal.returns-in_err-push
-returns-in_err-push c = let p = err_from_is_err_and c.from_residual.result c.from_residual.ensures.1 in rw p.1 tt
