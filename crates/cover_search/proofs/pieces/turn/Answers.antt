@@ -27,10 +27,10 @@ pub returns-in_err-split-clause-turn : goal.returns-in_err-split-clause-turn
 returns-in_err-split-clause-turn g c = let p = err_from_is_err_and c.from_residual-in_err-split.result c.from_residual-in_err-split.ensures.1 in rw p.1 tt
 
 pub returns-in-None-clause-turn : goal.returns-in-None-clause-turn
-returns-in-None-clause-turn g c = inl (inl c.in-None.ensures, refl)
+returns-in-None-clause-turn g c = inl (inl (rw c.in-None.is at c.in_ok-point.ensures), refl)
 
 pub returns-then-piece-systems-clause-turn : goal.returns-then-piece-systems-clause-turn
-returns-then-piece-systems-clause-turn g c = record { all = c.if-piece-systems.true; point = c.in-Some.ensures }
+returns-then-piece-systems-clause-turn g c = record { all = c.if-piece-systems.true; point = rw c.in-Some.is at c.in_ok-point.ensures }
 
 pub returns-then-lies_in_some-clause-turn : goal.returns-then-lies_in_some-clause-turn
 returns-then-lies_in_some-clause-turn g c = inl (inr (c.lies_in_some.ensures c.if-lies_in_some.true), refl)
