@@ -8,7 +8,7 @@ use row_core::RowList;
 use std::alloc::{AllocError, Global};
 
 /// What is asked of the columns e and d of a row or vector.
-#[derive(Clone, Copy, Debug)]
+#[derive(Clone, Copy)]
 pub(crate) enum Mark {
     /// e is 0.
     Level,
