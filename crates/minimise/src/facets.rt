@@ -14,7 +14,7 @@ use std::alloc::{AllocError, Global};
 const FEW_ROWS: usize = 64;
 
 /// The indices of rows in a list, and the rays on which each of them is 0.
-#[derive(Debug, Drop)]
+#[derive(Drop)]
 pub(crate) struct Facets {
     pub(crate) indices: Vec<usize>,
     pub(crate) zeros: SatMatrix,

@@ -7,7 +7,7 @@ use row_core::{Memory, RowBuf};
 use std::alloc::{AllocError, Global};
 
 /// Why a list gives no second system.
-#[derive(Debug, Drop)]
+#[derive(Drop)]
 pub(crate) enum Fault {
     Memory,
     /// The combination of the two vectors that is 0 at a pivot leaves the range first at the column.

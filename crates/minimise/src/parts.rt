@@ -17,7 +17,7 @@ use std::alloc::Global;
 use std::sync::ledger::Ledger;
 
 /// The basis of the rows that are 0 on the whole cone, and a reduced row for each of the facets.
-#[derive(Debug, Drop)]
+#[derive(Drop)]
 pub(crate) struct Parts {
     pub(crate) equalities: RowList,
     pub(crate) facets: Facets,
