@@ -1,8 +1,6 @@
 //! A line, read.
 use crate::variables::VarList;
 use reply_text::Text;
-use std::fmt;
-use std::fmt::{Debug, Formatter};
 
 /// The text of a part behind a colon or a relation.
 #[derive(Debug, Drop)]
@@ -116,7 +114,7 @@ pub enum LocationPart {
 }
 
 /// A line, read. A number above `u64::MAX` is `u64::MAX`.
-#[derive(Drop)]
+#[derive(Debug, Drop)]
 pub enum Command {
     /// A blank line, or a comment alone.
     Nothing,
@@ -359,56 +357,4 @@ pub enum Command {
         delay: u64,
         prefix: Text,
     },
-}
-
-// Written by hand: the name alone tells a command from others, and a proof of the derived one would write out each field.
-impl Debug for Command {
-    fn fmt<W: fmt::Write>(&self, f: &mut Formatter<W>) -> fmt::Result {
-        f.write_str(match self {
-            Command::Nothing => "Nothing",
-            Command::Cons { .. } => "Cons",
-            Command::Gens { .. } => "Gens",
-            Command::Space { .. } => "Space",
-            Command::Copy { .. } => "Copy",
-            Command::Drop { .. } => "Drop",
-            Command::Add { .. } => "Add",
-            Command::Addgen { .. } => "Addgen",
-            Command::Has { .. } => "Has",
-            Command::Size { .. } => "Size",
-            Command::Print { .. } => "Print",
-            Command::Names => "Names",
-            Command::OfTwo { .. } => "OfTwo",
-            Command::Closure { .. } => "Closure",
-            Command::Compare { .. } => "Compare",
-            Command::Isempty { .. } => "Isempty",
-            Command::Relation { .. } => "Relation",
-            Command::Bound { .. } => "Bound",
-            Command::Map { .. } => "Map",
-            Command::Extend { .. } => "Extend",
-            Command::Remove { .. } => "Remove",
-            Command::Widen { .. } => "Widen",
-            Command::Read { .. } => "Read",
-            Command::Write { .. } => "Write",
-            Command::System { .. } => "System",
-            Command::Init { .. } => "Init",
-            Command::Trans { .. } => "Trans",
-            Command::Fixpoint { .. } => "Fixpoint",
-            Command::Pset { .. } => "Pset",
-            Command::OfTwoPowersets { .. } => "OfTwoPowersets",
-            Command::Member { .. } => "Member",
-            Command::Psize { .. } => "Psize",
-            Command::Covers { .. } => "Covers",
-            Command::Rank { .. } => "Rank",
-            Command::Ranking { .. } => "Ranking",
-            Command::ShapeOf { .. } => "ShapeOf",
-            Command::Bounds { .. } => "Bounds",
-            Command::OfTwoShapes { .. } => "OfTwoShapes",
-            Command::ShapeContains { .. } => "ShapeContains",
-            Command::ShapePrint { .. } => "ShapePrint",
-            Command::ShapePoly { .. } => "ShapePoly",
-            Command::Hybrid { .. } => "Hybrid",
-            Command::SetPart { .. } => "SetPart",
-            Command::Reach { .. } => "Reach",
-        })
-    }
 }
