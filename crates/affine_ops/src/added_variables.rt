@@ -1,8 +1,6 @@
 //! Stored pairs with more variables, which are 0 or free.
 ghost use Rattle.std.specs.Prelude.{◌≡◌, ⊤, ◌+◌, ◌-◌, ◌^◌, ◌<◌, ◌≤◌, length, IfOk, MatchOption};
-ghost use Rattle.row_core.specs.Range.{AllInRange};
 ghost use Rattle.gens_sys.specs.Generators.{FitDimension};
-ghost use Rattle.poly_pair.specs.Axes.{axis};
 ghost use Rattle.poly_pair.specs.Parts.{AreStoredOfRows, AreStoredOfGenerators};
 ghost use Rattle.poly_pair.specs.Polyhedra.{IsOfConstraints, IsOfGenerators};
 ghost use Rattle.poly_pair.specs.TopologyLists.{constraints_of};
@@ -16,24 +14,11 @@ use crate::pulled::padded_constraints;
 use crate::stored_pairs::{can_start, paired};
 use cons_sys::{ConKind, ConsSys};
 use gens_sys::{GenKind, GensSys};
-use poly_pair::{MAX_DIM, Poly};
+use poly_pair::{MAX_DIM, Poly, axis};
 use row_core::{Memory, Steps};
 use sat_matrix::SatMatrix;
 use std::alloc::Global;
 use std::sync::ledger::Ledger;
-
-/// The row that is 1 at a column, and 0 at each other column.
-fn axis(alloc: Global, dim: usize, column: usize) -> Result<Vec<i128>, Memory>
-    requires narrow { dim < 2 ^ 32 - 2 }
-    requires below { column < dim }
-    ensures row { IfOk result (λ v. v.items ≡ axis dim column) }
-    ensures wide { IfOk result (λ v. length v.items ≡ dim + 1) }
-    ensures in_range { IfOk result (λ v. AllInRange v.items) }
-{
-    let mut row = vec![in alloc; 0i128; dim + 1]?;
-    row[column] = 1;
-    Ok(row)
-}
 
 /// The equalities that say of the variables behind the first `dim`, `count` in number, that they are 0.
 fn zero_equalities(alloc: Global, dim: usize, count: usize) -> Result<ConsSys, Memory>

@@ -5,6 +5,7 @@
 //!   constraints or generators; [`Poly::from_rows`] and [`Poly::from_vectors`] take such lists.
 //! - [`spanning_generators`] gives generators of the set of a constraint list by one conversion.
 //! - [`generators_alone`] and [`constraints_alone`] give one system of a closed set by one conversion.
+//! - [`axis`] is the row of a unit vector.
 //! - [`GenErr`] says why generators give no polyhedron.
 //!
 //! [`laws`] says what holds of the two systems of each polyhedron; further laws of closed ones are public
@@ -29,6 +30,7 @@ mod systems;
 mod topology;
 mod zeros;
 
+pub use axes::axis;
 pub use errors::GenErr;
 pub use lists::{constraint_list, generator_list};
 pub use making::has_point_kind;
