@@ -11,7 +11,7 @@ use row_core::Memory;
 use std::alloc::Global;
 
 /// How a set is seen to lie to a system.
-#[derive(Debug, Drop)]
+#[derive(Drop)]
 pub(crate) enum Contact {
     /// It is within the system.
     Within,
@@ -22,7 +22,7 @@ pub(crate) enum Contact {
 }
 
 /// A system that parts a set: so many of its inequalities are crossed, and this is the last of them.
-#[derive(Clone, Copy, Debug, Drop)]
+#[derive(Clone, Copy, Drop)]
 pub(crate) struct Cut {
     pub(crate) system: usize,
     pub(crate) crossed: usize,
@@ -30,7 +30,7 @@ pub(crate) struct Cut {
 }
 
 /// The systems that a set may meet: the one that parts it next, and the others, which stay open.
-#[derive(Debug, Drop)]
+#[derive(Drop)]
 pub(crate) struct Plan {
     pub(crate) met: Vec<usize>,
     pub(crate) next: Option<Cut>,

@@ -12,7 +12,7 @@ use std::alloc::Global;
 use std::sync::ledger::Ledger;
 
 /// A part of a set that is left to be covered, with the numbers of the systems that it may meet.
-#[derive(Debug, Drop)]
+#[derive(Drop)]
 pub(crate) struct Part {
     pub(crate) region: Region,
     pub(crate) met: Vec<usize>,

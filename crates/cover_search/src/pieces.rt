@@ -14,7 +14,7 @@ use std::sync::ledger::Ledger;
 
 /// A part of a set that is left to be covered. It is outside of the first systems, and some inequalities of the next
 /// one hold on it.
-#[derive(Debug, Drop)]
+#[derive(Drop)]
 pub(crate) struct Piece {
     pub(crate) region: Region,
     pub(crate) passed: usize,

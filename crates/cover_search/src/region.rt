@@ -23,7 +23,6 @@ use std::marker::Model;
 use std::sync::ledger::Ledger;
 
 /// Constraints with their encoded list and its canonical system.
-#[derive(Debug)]
 pub(crate) struct Region {
     cons: ConsSys,
     list: RowList,
