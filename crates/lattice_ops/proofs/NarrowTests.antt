@@ -1,15 +1,12 @@
 -- Tests where all rows are narrow: no pair is refused, so they come to their answer in any order.
-use Rattle.std.proofs.Common.{◌≡◌, ◌⊎◌, inl, inr, ℕ, zero, suc, ◌+◌, ◌*◌, ◌^◌, ◌<◌, ◌≤◌, List, [], length, take, ℤ, pos, ◌+ℤ◌, Bool, true, false, refl, subst, arith, add-one, below_more}
-use Rattle.std.specs.Prelude.{◌↔◌, All, Ok, IsTrue, unsigned_abs}
+use Rattle.std.proofs.Common.{◌≡◌, ◌⊎◌, inl, inr, ℕ, zero, suc, ◌<◌, List, [], length, Bool, true, false, refl, subst, arith, below_more}
+use Rattle.std.specs.Prelude.{◌↔◌, All, Ok, IsTrue}
 use Rattle.std.specs.List.{Contains}
-use Rattle.std.proofs.Math.IntN.{◌*ℤ◌}
 use Rattle.std.proofs.lemmas.Bool.{false≢true}
 use Rattle.std.proofs.lemmas.List.Elements.{All-contains, All-get_or, All-from_get_or}
-use Rattle.row_core.specs.Vectors.{cell, dot}
-use Rattle.row_core.specs.Range.{DotStays, AllStay}
-use Rattle.row_core.specs.Narrow.{IsNarrow, AllNarrow}
-use Rattle.row_core.proofs.ColumnLemmas.{total_more, stays_more}
-use Rattle.row_core.proofs.NarrowLemmas.{unsigned_abs-add, unsigned_abs-mul_narrow}
+use Rattle.row_core.specs.Vectors.{dot}
+use Rattle.row_core.specs.Narrow.{AreNarrow}
+use Rattle.row_core.proofs.NarrowLemmas.{AllStay-dot_narrow}
 use Rattle.cons_sys.specs.declared.kind.ConKind.TheVariants.{Eq}
 use Rattle.cons_sys.specs.Constraints.{Constraint, Constraints, constraint_at, row_at, kind_at, Satisfies, FitDimension as FitConstraints}
 use Rattle.cons_sys.proofs.SystemLemmas.{IsConstraint-at}
@@ -19,7 +16,7 @@ use Rattle.gens_sys.proofs.SystemLemmas.{IsGenerator-at}
 use Rattle.set_laws.specs.Asking.{MeetsOn}
 use Rattle.set_laws.proofs.Counters.{asks_or_not}
 use Rattle.poly_pair.specs.Polyhedra.{Polyhedron, IsKept}
-use Rattle.lattice_ops.specs.Questions.{Stays, PassesAll, Fails, Answers, AreNarrow, GeneratorsAreNarrow}
+use Rattle.lattice_ops.specs.Questions.{Stays, PassesAll, Fails, Answers}
 use Rattle.lattice_ops.proofs.PairAnswers.{fails_by}
 use Rattle.lattice_ops.proofs.KeptSets.{valid_met}
 
@@ -29,33 +26,12 @@ pub own_met : (q : Polyhedron) (cs : Constraints) → IsKept q → FitDimension 
 own_met q cs k fit e c h = valid_met q k fit c (λ v pt w. All-contains (Satisfies v) q.cons.list c w (subst (λ (x : Constraints). Contains x.list c) e h))
 
 -- ---- the range
-module _ (u v : List ℤ) (e : length u ≡ length v) (few : length u < 2 ^ 32) (left : AllNarrow u) (right : AllNarrow v) where
-  product_size : (j : ℕ) → j < length u → unsigned_abs (cell u j *ℤ cell v j) ≤ 2 ^ 94
-  product_size j h = unsigned_abs-mul_narrow (cell u j) (cell v j) (All-get_or IsNarrow u j (pos 0) h left) (All-get_or IsNarrow v j (pos 0) (omega (arith, h, e)) right)
-
-  sum_size : (j : ℕ) → j < length u → unsigned_abs (dot (take j u) (take j v)) ≤ j * 2 ^ 94 → unsigned_abs (dot (take j u) (take j v) +ℤ cell u j *ℤ cell v j) ≤ j * 2 ^ 94 + 2 ^ 94
-  sum_size j h before = unsigned_abs-add (dot (take j u) (take j v)) (cell u j *ℤ cell v j) (j * 2 ^ 94) (2 ^ 94) before (product_size j h)
-
-  size_before : (j : ℕ) → j ≤ length u → unsigned_abs (dot (take j u) (take j v)) ≤ j * 2 ^ 94
-  size_before zero h = omega arith
-  size_before (suc j) h =
-      let within : j < length u = omega (arith, h) in
-      subst (λ (n : ℕ). unsigned_abs (dot (take n u) (take n v)) ≤ suc j * 2 ^ 94) (add-one j)
-      (subst (λ (z : ℤ). unsigned_abs z ≤ suc j * 2 ^ 94) (total_more u v j (dot (take j u) (take j v)) within e refl) (omega (arith, sum_size j within (size_before j (omega (arith, h))))))
-
-  -- the dot of narrow rows stays in the range
-  pub narrow_stays : AllStay (DotStays u v) (length u)
-  narrow_stays j h =
-      stays_more u v j (dot (take j u) (take j v)) h e refl
-      (record { size = omega (arith, product_size j h) })
-      (record { size = omega (arith, sum_size j h (size_before j (omega (arith, h))), h, few) })
-
--- so does that of each pair
-pub pair_stays : (cs : Constraints) (gs : Generators) → FitConstraints cs → FitDimension gs → cs.dim ≡ gs.dim → AreNarrow cs.list → GeneratorsAreNarrow gs.list → (j i : ℕ) → j < length gs.list → i < length cs.list → Stays cs.list gs.list j i
+-- the dot of each pair stays in it
+pub pair_stays : (cs : Constraints) (gs : Generators) → FitConstraints cs → FitDimension gs → cs.dim ≡ gs.dim → AreNarrow cs.list → AreNarrow gs.list → (j i : ℕ) → j < length gs.list → i < length cs.list → Stays cs.list gs.list j i
 pair_stays cs gs fit_cs fit_gs e left right j i h l =
     let u = (IsConstraint-at cs i fit_cs l).wide in
     let v = (IsGenerator-at gs j fit_gs h).wide in
-    narrow_stays (row_at cs.list i) (generator_at gs.list j).0 (omega (arith, u, v, e)) (omega (arith, u, fit_cs.narrow)) (left i l) (right j h)
+    AllStay-dot_narrow (row_at cs.list i) (generator_at gs.list j).0 (omega (arith, u, v, e)) (left i ([], Eq) l) (right j ([], Line) h) (omega (arith, u, fit_cs.narrow))
 
 -- ---- the first that fails
 -- of n numbers, the first that lacks the property

@@ -1,9 +1,9 @@
 //! Whether rows are at least 0 on generators.
 ghost use Rattle.std.specs.Prelude.{◌≡◌, ◌+◌, ◌^◌, ◌<◌, ◌↔◌, length, IsTrue, IfOk, IfErr, neg_ℤ};
 ghost use Rattle.row_core.specs.Range.{AllInRange};
-ghost use Rattle.row_core.specs.Narrow.{AllNarrow};
+ghost use Rattle.row_core.specs.Narrow.{AllNarrow, AreNarrow};
 ghost use Rattle.widening.specs.Inequalities.{side_of, signed};
-ghost use Rattle.widening.specs.Values.{AreNarrow, Fits, IsLeastOn, IsValueOverflow};
+ghost use Rattle.widening.specs.Values.{Fits, IsLeastOn, IsValueOverflow};
 
 use crate::values::value_on;
 use gens_sys::{GenKind, GensSys};
