@@ -1,13 +1,14 @@
-use Rattle.std.proofs.Common.{◌≡◌, inr, ℕ, ◌+◌, ◌<◌, List, length, sym, ap, ◌∙◌, subst, arith, All}
-use Rattle.std.proofs.lemmas.Result.{IfOk-weaker, IfErr-weaker}
+use Rattle.std.proofs.Common.{◌≡◌, inl, inr, ℕ, ◌+◌, ◌<◌, List, length, sym, ap, ◌∙◌, subst, arith, All}
+use Rattle.std.proofs.lemmas.Result.{IfOk-weaker, IfErr-weaker, err_from_is_err_and}
 use Rattle.row_core.specs.declared.errors.ConvErr.{ConvErr}
 use Rattle.row_core.specs.declared.errors.ConvErr.TheVariants as conversion
-use Rattle.affine_ops.specs.Maps.{without, remaining, kept_variables}
+use Rattle.affine_ops.specs.Maps.{with_zeros, without, remaining, kept_variables}
 use Rattle.affine_ops.specs.Results.{IsImage, IsPreimage}
 use Rattle.row_core.specs.Refusals.{IsOverflowIn}
-use Rattle.affine_ops.specs.Refusals.{LeavesOnMapped}
+use Rattle.row_core.proofs.RefusalLemmas.{overflow_weaker}
+use Rattle.affine_ops.specs.Refusals.{LeavesOnPulled, LeavesOnMapped}
 use Rattle.affine_ops.specs.Posts.{IsPost}
-use Rattle.hybrid.specs.Steps.{IsEmbedded, behind, LeavesOnPost}
+use Rattle.hybrid.specs.Steps.{IsEmbedded, behind, LeavesOnMeet, LeavesOnPost}
 use Rattle.hybrid.proofs.PostSets.{behind_below, pairs_dim, post_of}
 use Rattle.hybrid.proofs.posts.post_of_embedded.Goals as goal
 
@@ -49,3 +50,20 @@ returns-clause-overflow g c = IfErr-weaker c.remove_dims.result (IsOverflowIn (L
       leaves = subst (λ (xs : List ℕ). LeavesOnMapped (remaining c.in-Ok-part_in.pairs.cons.dim xs) (length (kept_variables c.in-Ok-part_in.pairs.cons.dim xs)) c.in-Ok-part_in.pairs over) is l;
     }))
     by conversion.Memory l = tt
+
+pub returns-in_err-vars : goal.returns-in_err-vars
+returns-in_err-vars g c = let p = err_from_is_err_and c.from_residual.result c.from_residual.ensures.1 in rw (p.1, p.2) (record { post = tt; overflow = tt })
+
+pub returns-in-Err-clause-overflow : goal.returns-in-Err-clause-overflow
+returns-in-Err-clause-overflow g c =
+    let set = c.args.set.now in
+    let n = set.cons.dim in
+    overflow_weaker (LeavesOnPulled (with_zeros n n) (n + n) set) (LeavesOnPost set c.args.relation.now) (λ over l. inl l) c.in-Err.cause
+    (subst (λ (k : ℕ). IsOverflowIn (LeavesOnPulled (with_zeros n k) (n + k) set) c.in-Err.cause) c.dim-dim.ensures.value c.in-Err.ensures.overflow)
+
+pub returns-in-Err-part_in-clause-overflow : goal.returns-in-Err-part_in-clause-overflow
+returns-in-Err-part_in-clause-overflow g c =
+    let n = c.args.set.now.cons.dim in
+    let embedded : IsEmbedded c.args.set.now c.in-Ok.embedded = subst (λ (k : ℕ). IsPreimage (without n (n + k)) (n + k) c.args.set.now c.in-Ok.embedded) c.dim-dim.ensures.value c.in-Ok.ensures.points in
+    overflow_weaker (LeavesOnMeet c.in-Ok.embedded c.args.relation.now) (LeavesOnPost c.args.set.now c.args.relation.now)
+    (λ over l. inr (inl (record { embedded = c.in-Ok.embedded; is_embedded = embedded; embedded_kept = c.dim-kept.ensures.kept; leaves = l }))) c.in-Err-part_in.cause c.in-Err-part_in.ensures.overflow

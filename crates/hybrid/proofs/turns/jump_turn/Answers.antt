@@ -1,9 +1,9 @@
-use Rattle.std.proofs.Common.{◌≡◌, ◌⊎◌, ℕ, ◌*◌, length, Some, slice_get, subst, sym, arith}
+use Rattle.std.proofs.Common.{◌≡◌, ◌⊎◌, ℕ, ◌*◌, ◌<◌, length, Some, slice_get, subst, sym, ap, arith}
 use Rattle.std.proofs.lemmas.Result.{IfOk-weaker, IfErr-weaker}
 use Rattle.poly_pair.specs.Polyhedra.{Polyhedron}
 use Rattle.poly_pair.specs.ClosedPolyhedra.{IsClosedOver}
 use Rattle.trans_sys.specs.declared.transition.Transition.{Transition}
-use Rattle.trans_sys.specs.Systems.{TransitionSystem, IsTransition}
+use Rattle.trans_sys.specs.Systems.{TransitionSystem, IsTransition, IsKeptSystem}
 use Rattle.row_core.specs.Refusals.{IsOverflowIn}
 use Rattle.widening.specs.RunLaws.{IsFound}
 use Rattle.widening.proofs.Places.{all_at}
@@ -12,6 +12,33 @@ use Rattle.hybrid.specs.Steps.{IsJumpPost, LeavesOnJump}
 use Rattle.hybrid.specs.Turns.{IsHullWith, IsOfJump, LeavesAfter, LeavesInJump}
 use Rattle.hybrid.proofs.HybridTurns.{found_jump, leaves_jump}
 use Rattle.hybrid.proofs.turns.jump_turn.Goals as goal
+
+ends_within : (s : TransitionSystem) (index : ℕ) (t : Transition) → IsKeptSystem s → slice_get s.transitions index ≡ Some t → (t.source < length s.initial) × (t.target < length s.initial)
+ends_within s index t kept at = let is = all_at (IsTransition (length s.initial) s.dim) s.transitions index t kept.transitions at in (is.source, is.target)
+
+pub lent-requires : goal.lent-requires
+lent-requires g c =
+    let s = c.system.result.now in
+    let ends : (c.trans-from.result.0 < length s.initial) × (c.trans-from.result.1 < length s.initial) = ends_within s c.args.index _ c.trans-from.ensures.kept c.trans-from.ensures.value in
+    omega (arith, ends.0, ap (λ (k : TransitionSystem). length k.initial) c.system.ensures.value, c.requires.sets.as_many)
+
+pub inv-requires : goal.inv-requires
+inv-requires g c =
+    let s = c.system.result.now in
+    let ends : (c.trans-from.result.0 < length s.initial) × (c.trans-from.result.1 < length s.initial) = ends_within s c.args.index _ c.trans-from.ensures.kept c.trans-from.ensures.value in
+    omega (arith, ends.0, ap (λ (k : TransitionSystem). length k.initial) c.system.ensures.value, c.system.ensures.kept.invariants.as_many)
+
+pub lent-requires-2 : goal.lent-requires-2
+lent-requires-2 g c =
+    let s = c.system.result.now in
+    let ends : (c.trans-from.result.0 < length s.initial) × (c.trans-from.result.1 < length s.initial) = ends_within s c.args.index _ c.trans-from.ensures.kept c.trans-from.ensures.value in
+    omega (arith, ends.1, ap (λ (k : TransitionSystem). length k.initial) c.system.ensures.value, c.requires.sets.as_many)
+
+pub inv-requires-2 : goal.inv-requires-2
+inv-requires-2 g c =
+    let s = c.system.result.now in
+    let ends : (c.trans-from.result.0 < length s.initial) × (c.trans-from.result.1 < length s.initial) = ends_within s c.args.index _ c.trans-from.ensures.kept c.trans-from.ensures.value in
+    omega (arith, ends.1, ap (λ (k : TransitionSystem). length k.initial) c.system.ensures.value, c.system.ensures.kept.invariants.as_many)
 
 pub jump_joined-requires : goal.jump_joined-requires
 jump_joined-requires g c =

@@ -1,12 +1,26 @@
-use Rattle.std.proofs.Common.{◌≡◌, ◌⊎◌, Some, slice_get}
+use Rattle.std.proofs.Common.{◌≡◌, ◌⊎◌, ℕ, Some, slice_get, subst, sym}
 use Rattle.std.proofs.lemmas.Result.{IfOk-weaker, IfErr-weaker}
 use Rattle.poly_pair.specs.Polyhedra.{Polyhedron}
+use Rattle.poly_pair.specs.ClosedPolyhedra.{IsClosedOver}
 use Rattle.row_core.specs.Refusals.{IsOverflowIn}
 use Rattle.widening.specs.RunLaws.{IsFound}
+use Rattle.widening.proofs.Places.{all_at}
 use Rattle.hybrid.specs.Steps.{IsTimePost, LeavesOnTime}
 use Rattle.hybrid.specs.Turns.{IsHullWith, IsOfTime, LeavesAfter, LeavesInTime}
 use Rattle.hybrid.proofs.HybridTurns.{found_time, leaves_time}
 use Rattle.hybrid.proofs.turns.time_turn.Goals as goal
+
+pub time_joined-requires : goal.time_joined-requires
+time_joined-requires g c =
+    let h = c.args.h.now in
+    let kept = c.system-kept.ensures.kept in
+    let inv : IsClosedOver h.system.dim c.inv.result.now = all_at (IsClosedOver h.system.dim) h.invariants c.args.location c.inv.result.now kept.invariants.each c.inv.ensures.value in
+    let same : h.system.dim ≡ c.inv.result.now.cons.dim = sym inv.over.same_dim in
+    record {
+      old = subst (λ (d : ℕ). IsClosedOver d c.lent.result.now) same (all_at (IsClosedOver h.system.dim) c.args.sets.now c.args.location c.lent.result.now c.requires.sets.each c.lent.ensures);
+      inv = subst (λ (d : ℕ). IsClosedOver d c.inv.result.now) same inv;
+      flow = subst (λ (d : ℕ). IsClosedOver d c.flow.result.now) same (all_at (IsClosedOver h.system.dim) h.flows c.args.location c.flow.result.now kept.flows.each c.flow.ensures.value);
+    }
 
 pub returns-clause-found : goal.returns-clause-found
 returns-clause-found g c =

@@ -1,13 +1,43 @@
-use Rattle.std.proofs.Common.{◌≡◌, ◌⊎◌, Some, slice_get}
+use Rattle.std.proofs.Common.{◌≡◌, ◌⊎◌, ℕ, ◌*◌, length, Some, slice_get, subst, sym, arith}
 use Rattle.std.proofs.lemmas.Result.{IfOk-weaker, IfErr-weaker}
 use Rattle.poly_pair.specs.Polyhedra.{Polyhedron}
+use Rattle.poly_pair.specs.ClosedPolyhedra.{IsClosedOver}
+use Rattle.trans_sys.specs.Systems.{IsTransition}
 use Rattle.trans_sys.specs.declared.transition.Transition.{Transition}
 use Rattle.row_core.specs.Refusals.{IsOverflowIn}
 use Rattle.widening.specs.RunLaws.{IsFound}
+use Rattle.widening.proofs.Places.{all_at}
 use Rattle.fixpoint.specs.PostLists.{LeavesOnPost}
 use Rattle.fixpoint.specs.Runs.{IsJoined, LeavesOnHull, target_of, JoinsBy, LeavesBy}
 use Rattle.fixpoint.proofs.SystemTurns.{found_by, leaves_by}
 use Rattle.fixpoint.proofs.transitions.TransitionsTurns.found.Goals as goal
+
+pub lent-requires : goal.lent-requires
+lent-requires g c =
+    let s = c.args.self.now.system.now in
+    let t : Transition = record { source = c.trans-source.result.0; target = c.trans-source.result.1; relation = c.trans-source.result.2.now } in
+    let is : IsTransition (length s.initial) s.dim t = all_at (IsTransition (length s.initial) s.dim) s.transitions c.args.index t c.trans-source.ensures.kept.transitions c.trans-source.ensures.value in
+    omega (arith, is.source, c.requires.sets.as_many)
+
+pub lent-requires-2 : goal.lent-requires-2
+lent-requires-2 g c =
+    let s = c.args.self.now.system.now in
+    let t : Transition = record { source = c.trans-source.result.0; target = c.trans-source.result.1; relation = c.trans-source.result.2.now } in
+    let is : IsTransition (length s.initial) s.dim t = all_at (IsTransition (length s.initial) s.dim) s.transitions c.args.index t c.trans-source.ensures.kept.transitions c.trans-source.ensures.value in
+    omega (arith, is.target, c.requires.sets.as_many)
+
+pub joined-requires : goal.joined-requires
+joined-requires g c =
+    let s = c.args.self.now.system.now in
+    let t : Transition = record { source = c.trans-source.result.0; target = c.trans-source.result.1; relation = c.trans-source.result.2.now } in
+    let is : IsTransition (length s.initial) s.dim t = all_at (IsTransition (length s.initial) s.dim) s.transitions c.args.index t c.trans-source.ensures.kept.transitions c.trans-source.ensures.value in
+    let old : IsClosedOver s.dim c.lent-2.result.now = all_at (IsClosedOver s.dim) c.args.sets.now t.target c.lent-2.result.now c.requires.sets.each c.lent-2.ensures in
+    let same : s.dim ≡ c.lent-2.result.now.cons.dim = sym old.over.same_dim in
+    record {
+      source = subst (λ (d : ℕ). IsClosedOver d c.lent.result.now) same (all_at (IsClosedOver s.dim) c.args.sets.now t.source c.lent.result.now c.requires.sets.each c.lent.ensures);
+      relation = subst (λ (d : ℕ). IsClosedOver (2 * d) t.relation) same is.relation;
+      old = subst (λ (d : ℕ). IsClosedOver d c.lent-2.result.now) same old;
+    }
 
 pub returns-clause-found : goal.returns-clause-found
 returns-clause-found g c =
