@@ -133,7 +133,7 @@ pub fn covers<L: Ledger>(
         return Err(StepErr::Input(Fault::DimMismatch));
     }
     match powerset::covers(alloc, s, t, steps) {
-        Ok(Cover::Yes) => Ok(answer(alloc, true)?),
+        Ok(Cover::Yes) => answer(alloc, true),
         Ok(Cover::No(point)) => Ok(no_with_point(alloc, dim, point)?),
         Err(cause) => Err(StepErr::from(cause)),
     }

@@ -125,7 +125,7 @@ pub fn shape_contains(alloc: Global, s: Option<&Shape>, t: Option<&Shape>) -> Re
         return Err(StepErr::Input(Fault::DimMismatch));
     }
     match bd_shape::shape_contains(alloc, s, t) {
-        Ok(holds) => Ok(answer(alloc, holds)?),
+        Ok(holds) => answer(alloc, holds),
         Err(cause) => Err(StepErr::from(cause)),
     }
 }

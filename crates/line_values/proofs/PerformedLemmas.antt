@@ -1,9 +1,10 @@
 -- What came of a command, from its operands, its tests and its arithmetic.
-use Rattle.std.proofs.Common.{◌≡◌, ◌∙◌, Bool, true, false, IsTrue, Result, Err, Option, Some, ◌↔◌, sym}
+use Rattle.std.proofs.Common.{◌≡◌, ◌∙◌, Bool, true, false, IsTrue, Result, Ok, Err, MatchResult, Option, Some, ◌↔◌, sym}
 use Rattle.row_core.specs.declared.errors.ConvErr.{ConvErr}
 use Rattle.row_core.specs.declared.errors.ConvErr.TheVariants as conversion
 use Rattle.row_core.specs.Refusals.{IsOverflowIn}
 use Rattle.line_values.specs.declared.refusal.StepErr.{StepErr}
+use Rattle.line_values.specs.declared.refusal.StepErr.TheVariants as err
 use Rattle.line_values.specs.Order.{Passes}
 use Rattle.line_values.specs.Refusals.{refusal_of_conversion}
 use Rattle.line_values.specs.Meaning.{Meaning, on_two}
@@ -25,3 +26,8 @@ not_full full e h = let never : true ≡ false = sym h ∙ e in cc
 pub leaves : {A : Type 0} (m : Meaning A) (cause : ConvErr) → Passes m.conditions → IsOverflowIn m.overflows cause → IsPerformed m (Err (refusal_of_conversion cause))
 leaves m (conversion.Overflow over) passes is = (passes, is)
 leaves m conversion.Memory passes is = tt
+
+-- what was answered is right, or memory ran out
+pub answered : {A : Type 0} (m : Meaning A) (Is : A → Type 0) (result : Result A StepErr) → ((answer : A) → Is answer → IsPerformed m (Ok answer)) → MatchResult result Is (λ cause. cause ≡ err.Memory) → IsPerformed m result
+answered m Is (Ok answer) right is = right answer is
+answered m Is (Err cause) right is = rw is tt

@@ -4,16 +4,20 @@ use Rattle.row_core.specs.declared.errors.ConvErr.{ConvErr}
 use Rattle.row_core.specs.declared.errors.ConvErr.TheVariants as conversion
 use Rattle.row_core.specs.declared.errors.Overflow.{Overflow}
 use Rattle.row_core.specs.declared.errors.PairOver.{PairOver}
+use Rattle.cons_sys.specs.Constraints.{Constraints}
+use Rattle.gens_sys.specs.Generators.{Generators}
 use Rattle.chernikova.specs.Conversion.{IsRealOverflow}
 use Rattle.poly_pair.specs.Polyhedra.{Polyhedron}
 use Rattle.poly_pair.specs.TopologyLists.{list_width}
 use Rattle.lattice_ops.specs.Sets.{meet_list}
 use Rattle.lattice_ops.specs.Questions.{Answers, LeavesRange}
+use Rattle.line_values.specs.declared.refusal.StepErr.{StepErr}
+use Rattle.line_values.specs.declared.refusal.StepErr.TheVariants as err
 use Rattle.line_values.specs.Order.{Passes}
-use Rattle.line_values.specs.Meaning.{alike, no_fault, answer_line}
+use Rattle.line_values.specs.Meaning.{Meaning, alike, no_fault, answer_line}
 use Rattle.line_values.specs.Performed.{IsPerformed}
 use Rattle.line_values.specs.Refusals.{refusal_of_conversion}
-use Rattle.poly_commands.specs.Lattice.{disjoint, IsTold, IsTested, ShowsRows, shown_rows, shown_on}
+use Rattle.poly_commands.specs.Lattice.{disjoint, IsTold, IsTested, ShowsRows, shown_rows, shown_on, IsRefusalOfPair}
 
 -- two operands that are alike
 pub alike_pass : (p q : Polyhedron) → p.topology ≡ q.topology → p.cons.dim ≡ q.cons.dim → Passes (alike p q no_fault)
@@ -36,3 +40,9 @@ shows Answer p q pair turned over leaves e shown = record { pair = pair; leaves 
 
 pub shows_first : (p q : Polyhedron) (pair : PairOver) (over : Overflow) → LeavesRange p.cons.list q.gens.list false pair → over ≡ shown_rows p.cons q.gens pair → ShowsRows (Answers p.cons.list q.gens.list false) p q over
 shows_first p q pair over leaves shown = shows (Answers p.cons.list q.gens.list false) p q pair false over leaves leaves.turned shown
+
+-- the rows of a pair were shown, or memory ran out
+pub pair_refused : {A : Type 0} (m : Meaning A) (cs : Constraints) (gs : Generators) (pair : PairOver) (e : StepErr) → ((over : Overflow) → over ≡ shown_rows cs gs pair → IsPerformed m (Err (err.Overflow over))) → IsRefusalOfPair cs gs pair e → IsPerformed m (Err e)
+pair_refused m cs gs pair (err.Input fault) shown is = absurd is
+pair_refused m cs gs pair (err.Overflow over) shown is = shown over is
+pair_refused m cs gs pair err.Memory shown is = tt

@@ -14,6 +14,8 @@ use Rattle.lattice_ops.specs.Questions.{Answers, AnswersEqual}
 use Rattle.script_text.specs.declared.command.Comparison.{Comparison}
 use Rattle.script_text.specs.declared.command.Comparison.TheVariants as by
 use Rattle.poly_commands.specs.Results.{IsResultOfClosure}
+use Rattle.line_values.specs.declared.refusal.StepErr.{StepErr}
+use Rattle.line_values.specs.declared.refusal.StepErr.TheVariants as err
 use Rattle.line_values.specs.Meaning.{Meaning, no_fault, no_overflow, room, alike, answer_line}
 
 -- ---- makers
@@ -40,6 +42,12 @@ pub record IsTested (Answer : Result Bool PairOver → Type 0) (Statement : Type
 -- the constraint and the generator of a pair
 abbrev pub shown_rows : Constraints → Generators → PairOver → Overflow
 shown_rows cs gs pair = record { kind = pair.kind; step = 0; left = row_at cs.list pair.left; right = vector_at gs.list pair.right; column = pair.column }
+
+-- the refusal shows the rows of a pair, or memory ran out
+abbrev pub IsRefusalOfPair : Constraints → Generators → PairOver → StepErr → Type 0
+IsRefusalOfPair cs gs pair (err.Input fault) = ⊥
+IsRefusalOfPair cs gs pair (err.Overflow over) = over ≡ shown_rows cs gs pair
+IsRefusalOfPair cs gs pair err.Memory = Unit {0}
 
 -- a constraint of the one and a generator of the other, or the other way about
 abbrev pub shown_on : Bool → Polyhedron → Polyhedron → PairOver → Overflow

@@ -2,7 +2,7 @@
 ghost use Rattle.std.specs.Prelude.{◌≡◌, ◌<◌, length, IfOk};
 ghost use Rattle.std.specs.Option.{option_copied};
 ghost use Rattle.line_values.specs.Meaning.{on_one, on_two};
-ghost use Rattle.poly_commands.specs.Lattice.{compared, closure as make_closure, contains as ask_contains, equal as ask_equal, disjoint as ask_disjoint, isempty as ask_empty, shown_rows};
+ghost use Rattle.poly_commands.specs.Lattice.{compared, closure as make_closure, contains as ask_contains, equal as ask_equal, disjoint as ask_disjoint, isempty as ask_empty, shown_rows, IsRefusalOfPair};
 ghost use Rattle.line_values.specs.Performed.{IsPerformed};
 
 use crate::questions::answer;
@@ -51,8 +51,8 @@ fn contains(alloc: Global, p: Option<&Poly>, q: Option<&Poly>) -> Result<Text, S
         return Err(StepErr::Input(Fault::DimMismatch));
     }
     match lattice_ops::contains(p, q) {
-        Ok(holds) => Ok(answer(alloc, holds)?),
-        Err(pair) => Err(StepErr::Overflow(shown(alloc, p.cons(), q.gens(), pair)?)),
+        Ok(holds) => answer(alloc, holds),
+        Err(pair) => Err(refusal_of_pair(alloc, p.cons(), q.gens(), pair)),
     }
 }
 
@@ -70,19 +70,31 @@ fn equal(alloc: Global, p: Option<&Poly>, q: Option<&Poly>) -> Result<Text, Step
         return Err(StepErr::Input(Fault::DimMismatch));
     }
     match lattice_ops::equal(p, q) {
-        Ok(holds) => Ok(answer(alloc, holds)?),
-        Err(pair) if pair.turned => Err(StepErr::Overflow(shown(alloc, q.cons(), p.gens(), pair)?)),
-        Err(pair) => Err(StepErr::Overflow(shown(alloc, p.cons(), q.gens(), pair)?)),
+        Ok(holds) => answer(alloc, holds),
+        Err(pair) if pair.turned => Err(refusal_of_pair(alloc, q.cons(), p.gens(), pair)),
+        Err(pair) => Err(refusal_of_pair(alloc, p.cons(), q.gens(), pair)),
     }
 }
 
-/// The rows of a pair that leaves the range.
-pub(crate) fn shown(
+/// The refusal that shows the rows of a pair that leaves the range.
+pub(crate) fn refusal_of_pair(
     alloc: Global,
     cons: &ConsSys,
     gens: &GensSys,
     pair: PairOver,
-) -> Result<Overflow, Memory>
+) -> StepErr
+    requires left { pair.left < length cons.now.list }
+    requires right { pair.right < length gens.now.list }
+    ensures { IsRefusalOfPair cons.now gens.now pair result }
+{
+    match shown(alloc, cons, gens, pair) {
+        Ok(over) => StepErr::Overflow(over),
+        Err(cause) => StepErr::from(cause),
+    }
+}
+
+/// The rows of a pair that leaves the range.
+fn shown(alloc: Global, cons: &ConsSys, gens: &GensSys, pair: PairOver) -> Result<Overflow, Memory>
     requires left { pair.left < length cons.now.list }
     requires right { pair.right < length gens.now.list }
     ensures { IfOk result (λ over. over ≡ shown_rows cons.now gens.now pair) }
@@ -117,7 +129,7 @@ fn disjoint<L: Ledger>(
         return Err(StepErr::Input(Fault::DimMismatch));
     }
     match lattice_ops::disjoint(alloc, p, q, steps) {
-        Ok(holds) => Ok(answer(alloc, holds)?),
+        Ok(holds) => answer(alloc, holds),
         Err(cause) => Err(StepErr::from(cause)),
     }
 }
@@ -146,5 +158,5 @@ pub fn isempty(alloc: Global, p: Option<&Poly>) -> Result<Text, StepErr>
     let Some(p) = p else {
         return Err(StepErr::Input(Fault::UnknownName));
     };
-    Ok(answer(alloc, p.is_empty())?)
+    answer(alloc, p.is_empty())
 }

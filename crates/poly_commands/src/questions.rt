@@ -1,11 +1,12 @@
 //! The commands that only say something of a polyhedron.
-ghost use Rattle.std.specs.Prelude.{◌≡◌, ◌<◌, ◌++◌, length, decimal, IfOk, OnOk};
+ghost use Rattle.std.specs.Prelude.{◌≡◌, ◌<◌, ◌++◌, length, decimal, IfOk, OnOk, MatchResult};
 ghost use Rattle.std.specs.Option.{option_copied};
 ghost use Rattle.grammar.specs.Form.{Matches};
 ghost use Rattle.grammar.specs.Grammar.{alone};
 ghost use Rattle.grammar.specs.Cases.{point_cases};
 ghost use Rattle.cons_sys.specs.Constraints.{row_at};
 ghost use Rattle.line_values.specs.Meaning.{on_one, answer_line};
+ghost use Rattle.line_values.specs.declared.refusal.StepErr.TheVariants as refusal;
 ghost use Rattle.poly_commands.specs.Questions.{has as ask_point, size as tell_size, print as tell_side, size_text, side_text};
 ghost use Rattle.line_values.specs.Performed.{IsPerformed};
 
@@ -79,14 +80,14 @@ pub fn has(alloc: Global, p: Option<&Poly>, part: &Part) -> Result<Text, StepErr
         Err(cause) => return Err(cause),
     };
     match p.cons().holds_at(point.cells()) {
-        Ok(holds) => Ok(answer(alloc, holds)?),
+        Ok(holds) => answer(alloc, holds),
         Err(pair) => Err(StepErr::Overflow(overflow(alloc, p.cons(), point, pair)?)),
     }
 }
 
 /// The line `yes` or `no`.
-pub fn answer(alloc: Global, holds: bool) -> Result<Text, Memory>
-    ensures { IfOk result (λ text. text ≡ answer_line holds) }
+pub fn answer(alloc: Global, holds: bool) -> Result<Text, StepErr>
+    ensures { MatchResult result (λ text. text ≡ answer_line holds) (λ cause. cause ≡ refusal.Memory) }
 {
     let mut text = Text::new(alloc);
     text.push(if holds { b"yes\n" } else { b"no\n" })?;

@@ -6,7 +6,7 @@ ghost use Rattle.line_values.specs.Meaning.{on_two};
 ghost use Rattle.poly_commands.specs.Widening.{widen as make_widening};
 ghost use Rattle.line_values.specs.Performed.{IsPerformed};
 
-use crate::lattice::shown;
+use crate::lattice::refusal_of_pair;
 use lattice_ops::laws::one_answer;
 use line_values::StepErr;
 use poly_pair::{Poly, Topology};
@@ -58,7 +58,7 @@ fn widen_if_nested<L: Ledger>(
     one_answer();
     let holds = match lattice_ops::contains(q, p) {
         Ok(holds) => holds,
-        Err(pair) => return Err(StepErr::Overflow(shown(alloc, q.cons(), p.gens(), pair)?)),
+        Err(pair) => return Err(refusal_of_pair(alloc, q.cons(), p.gens(), pair)),
     };
     if !holds {
         return Err(StepErr::Input(Fault::NotNested));

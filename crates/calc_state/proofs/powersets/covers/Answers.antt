@@ -1,13 +1,13 @@
-use Rattle.std.proofs.Common.{◌≡◌, ◌∙◌, ℕ, ◌++◌, codes, Option, Some, Err, rules, sym, ap, subst}
+use Rattle.std.proofs.Common.{◌≡◌, ◌∙◌, ℕ, List, true, ◌++◌, codes, Option, Some, Err, rules, sym, ap, subst}
 use Rattle.std.specs.Option.{option_copied}
 use Rattle.gens_sys.specs.declared.kind.GenKind.TheVariants.{Point}
 use Rattle.expr_text.specs.Printed.{generator_text}
 use Rattle.powerset.specs.Powersets.{Union}
 use Rattle.powerset.specs.declared.covering.Cover.TheVariants.{Yes, No}
-use Rattle.line_values.specs.Meaning.{on_two, line}
+use Rattle.line_values.specs.Meaning.{on_two, line, answer_line}
 use Rattle.calc_state.specs.Powersets.{covers}
 use Rattle.line_values.specs.Performed.{IsPerformed}
-use Rattle.line_values.proofs.PerformedLemmas.{leaves}
+use Rattle.line_values.proofs.PerformedLemmas.{leaves, answered}
 use Rattle.calc_state.proofs.PowersetLemmas.{compared, told}
 use Rattle.calc_state.proofs.powersets.covers.Goals as goal
 
@@ -16,13 +16,13 @@ no_with_point-requires g c =
     let found = rw c.in-Ok-No.field-0-is at c.in-Ok-No.ensures.answer in
     record { narrow = rw c.dim-dim.ensures.value c.dim-dim.ensures.kept.narrow; point = rw c.dim-dim.ensures.value found.point; primitive = found.primitive }
 
-pub returns-in_ok-answer-in-Ok-Yes : goal.returns-in_ok-answer-in-Ok-Yes
-returns-in_ok-answer-in-Ok-Yes g c =
+pub returns-in-Ok-Yes : goal.returns-in-Ok-Yes
+returns-in-Ok-Yes g c =
     let s : Union = c.in-Some-Some.s.now in
     let t : Union = c.in-Some-Some.t.now in
     let topologies : s.topology ≡ t.topology = search rules in
     let dims : s.dim ≡ t.dim = sym c.dim-dim.ensures.value ∙ c.if-dim.false ∙ c.dim.ensures.value in
-    rw c.in-Some-Some.is-0 (rw c.in-Some-Some.is-1 (told s t Yes c.in_ok-answer-in-Ok-Yes.field-0 topologies dims (rw c.in-Ok-Yes.field-0-is at c.in-Ok-Yes.ensures.answer) c.in_ok-answer-in-Ok-Yes.ensures))
+    rw c.in-Some-Some.is-0 (rw c.in-Some-Some.is-1 (answered (covers s t) (λ (text : List ℕ). text ≡ answer_line true) c.answer.result (λ text said. told s t Yes text topologies dims (rw c.in-Ok-Yes.field-0-is at c.in-Ok-Yes.ensures.answer) said) c.answer.ensures))
 
 pub returns-in_ok-no_with_point-in-Ok-No : goal.returns-in_ok-no_with_point-in-Ok-No
 returns-in_ok-no_with_point-in-Ok-No g c =

@@ -1,16 +1,16 @@
-use Rattle.std.proofs.Common.{rules, Err, ap}
+use Rattle.std.proofs.Common.{◌≡◌, ℕ, List, rules, Err, ap}
 use Rattle.std.specs.Option.{option_copied}
 use Rattle.line_values.specs.Order.{Passes}
-use Rattle.line_values.specs.Meaning.{no_fault}
+use Rattle.line_values.specs.Meaning.{no_fault, answer_line}
 use Rattle.calc_state.specs.Shapes.{of_one_dim, shape_contains}
 use Rattle.calc_state.proofs.ShapeLemmas.{contains_told}
-use Rattle.line_values.proofs.PerformedLemmas.{leaves, found_two}
+use Rattle.line_values.proofs.PerformedLemmas.{leaves, found_two, answered}
 use Rattle.calc_state.proofs.shapes.shape_contains.Goals as goal
 
-pub returns-in_ok-answer-in-Ok : goal.returns-in_ok-answer-in-Ok
-returns-in_ok-answer-in-Ok c =
+pub returns-in-Ok : goal.returns-in-Ok
+returns-in-Ok c =
     let passes : Passes (of_one_dim c.in-Some-Some.s.now c.in-Some-Some.t.now no_fault) = search rules in
-    rw c.in-Some-Some.is-0 (rw c.in-Some-Some.is-1 (contains_told c.in-Some-Some.s.now c.in-Some-Some.t.now c.in-Ok.holds c.in_ok-answer-in-Ok.field-0 passes c.in-Ok.ensures.contains c.in_ok-answer-in-Ok.ensures))
+    rw c.in-Some-Some.is-0 (rw c.in-Some-Some.is-1 (answered (shape_contains c.in-Some-Some.s.now c.in-Some-Some.t.now) (λ (text : List ℕ). text ≡ answer_line c.in-Ok.holds) c.answer.result (λ text said. contains_told c.in-Some-Some.s.now c.in-Some-Some.t.now c.in-Ok.holds text passes c.in-Ok.ensures.contains said) c.answer.ensures))
 
 pub returns-in-Err : goal.returns-in-Err
 returns-in-Err c =

@@ -1,20 +1,21 @@
-use Rattle.std.proofs.Common.{rules, ◌≡◌, ◌∙◌, Option, Some, Err, ap, sym, subst}
+use Rattle.std.proofs.Common.{rules, ℕ, List, ◌≡◌, ◌∙◌, Option, Some, Err, ap, sym, subst}
 use Rattle.std.specs.Option.{option_copied}
 use Rattle.poly_pair.specs.Polyhedra.{Polyhedron}
 use Rattle.lattice_ops.specs.Sets.{AreDisjoint}
 use Rattle.line_values.specs.declared.refusal.StepErr.{StepErr}
-use Rattle.line_values.specs.Meaning.{on_two}
+use Rattle.line_values.specs.Meaning.{on_two, answer_line}
 use Rattle.line_values.specs.Performed.{IsPerformed}
 use Rattle.line_values.specs.Refusals.{refusal_of_conversion}
+use Rattle.line_values.proofs.PerformedLemmas.{answered}
 use Rattle.poly_commands.specs.Lattice.{disjoint}
 use Rattle.poly_commands.proofs.LatticeLemmas.{alike_pass, told, disjoint_leaves}
 use Rattle.poly_commands.proofs.lattice.disjoint.Goals as goal
 
-pub returns-in_ok-answer-in-Ok : goal.returns-in_ok-answer-in-Ok
-returns-in_ok-answer-in-Ok g c =
+pub returns-in-Ok : goal.returns-in-Ok
+returns-in-Ok g c =
     let topologies : c.in-Some-Some.p.now.topology ≡ c.in-Some-Some.q.now.topology = search rules in
     let passes = alike_pass c.in-Some-Some.p.now c.in-Some-Some.q.now topologies (sym c.dim.ensures.value ∙ c.if-dim.false ∙ c.dim-2.ensures.value) in
-    rw c.in-Some-Some.is-0 (rw c.in-Some-Some.is-1 (passes, told (AreDisjoint c.in-Some-Some.p.now c.in-Some-Some.q.now) c.in-Ok.holds c.in_ok-answer-in-Ok.field-0 c.in-Ok.ensures.holds c.in_ok-answer-in-Ok.ensures))
+    rw c.in-Some-Some.is-0 (rw c.in-Some-Some.is-1 (answered (disjoint c.in-Some-Some.p.now c.in-Some-Some.q.now) (λ (text : List ℕ). text ≡ answer_line c.in-Ok.holds) c.answer.result (λ text said. (passes, told (AreDisjoint c.in-Some-Some.p.now c.in-Some-Some.q.now) c.in-Ok.holds text c.in-Ok.ensures.holds said)) c.answer.ensures))
 
 pub returns-in-Err : goal.returns-in-Err
 returns-in-Err g c =

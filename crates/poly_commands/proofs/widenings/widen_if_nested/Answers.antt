@@ -6,6 +6,7 @@ use Rattle.line_values.specs.declared.refusal.StepErr.{StepErr}
 use Rattle.poly_commands.specs.Lattice.{shown_rows}
 use Rattle.line_values.specs.Performed.{IsPerformed}
 use Rattle.poly_commands.specs.Widening.{widen}
+use Rattle.poly_commands.proofs.LatticeLemmas.{pair_refused}
 use Rattle.poly_commands.proofs.WideningLemmas.{other_tests, widened, overflows, shows_pair}
 use Rattle.poly_commands.proofs.widenings.widen_if_nested.Goals as goal
 
@@ -27,5 +28,4 @@ returns-in-Err-widen g c =
 pub returns-in-Err : goal.returns-in-Err
 returns-in-Err g c =
     let tests = other_tests c.args.p.now c.args.q.now c.requires.topology c.requires.dim in
-    let rows = c.in_ok-shown-in-Err.ensures ∙ ap (λ (cs : Constraints). shown_rows cs c.gens.result.now c.in-Err.pair) c.cons.ensures.value ∙ ap (λ (gs : Generators). shown_rows c.args.q.now.cons gs c.in-Err.pair) c.gens.ensures.value in
-    shows_pair c.one_answer.ensures c.args.p.now c.args.q.now tests c.requires.closed c.in-Err.pair c.in_ok-shown-in-Err.field-0 c.in-Err.ensures.answer rows
+    pair_refused (widen false c.args.p.now c.args.q.now) c.cons.result.now c.gens.result.now c.in-Err.pair c.refusal_of_pair.result (λ over rows. shows_pair c.one_answer.ensures c.args.p.now c.args.q.now tests c.requires.closed c.in-Err.pair over c.in-Err.ensures.answer (rows ∙ ap (λ (cs : Constraints). shown_rows cs c.gens.result.now c.in-Err.pair) c.cons.ensures.value ∙ ap (λ (gs : Generators). shown_rows c.args.q.now.cons gs c.in-Err.pair) c.gens.ensures.value)) c.refusal_of_pair.ensures
