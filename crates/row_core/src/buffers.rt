@@ -153,10 +153,20 @@ impl Clone for RowBuf {
 }
 
 /// Rows of one width, each marked as an equality or an inequality.
-#[derive(Debug, Drop)]
+#[derive(Debug)]
 pub struct RowList {
     width: usize,
     marked: MarkedRows<bool>,
+}
+
+// Written by hand, so that a function that drops a list calls this one, and doesn't free each part itself.
+impl Drop for RowList {
+    fn drop(self) {
+        let RowList {
+            width: _,
+            marked: _,
+        } = self;
+    }
 }
 
 impl Model for RowList {
