@@ -1,9 +1,10 @@
 -- Rows whose cells stand in one buffer.
-use Rattle.std.specs.Prelude.{◌≡◌, ℕ, ◌+◌, ◌-◌, ◌<◌, ◌≤◌, List, [], ◌∷◌, ◌++◌, length, map, take, drop, ℤ, All, slice_index_or}
+use Rattle.std.specs.Prelude.{◌≡◌, ℕ, ◌+◌, ◌-◌, ◌<◌, ◌≤◌, List, [], ◌∷◌, ◌++◌, length, map, take, drop, ◌^◌, ℤ, All, slice_index_or}
 use Rattle.std.proofs.Common.{refl, sym, ap, ◌∙◌, subst, arith}
-use Rattle.std.proofs.lemmas.List.{append_assoc, map-append, take-append-le, drop-append-le, length-drop, drop_at, take_at, take_all, take_more}
-use Rattle.std.proofs.lemmas.List.Elements.{All-head, All-tail}
+use Rattle.std.proofs.lemmas.List.{append_assoc, map-append, take-append-le, drop-append-le, length-append, length-drop, drop_at, take_at, take_all, take_more}
+use Rattle.std.proofs.lemmas.List.Elements.{All-head, All-tail, All-append, All-push, All-weaker}
 use Rattle.row_core.specs.Content.{IsPrimitiveOf}
+use Rattle.row_core.specs.Range.{InRange, AllInRange}
 use Rattle.row_core.specs.Spans.{part, IsSpan, IsRestPrimitive, IsPrimitiveAppended}
 
 -- cells that are appended change no span before them
@@ -35,6 +36,17 @@ push_parts {S} {M} start end mark cells held row new spans kept pushed s rows al
     let before : seen_as (cells ++ row) spans ≡ rows = parts_kept start end mark cells row spans all ∙ seen in
     let here : part (start s) (end s) (cells ++ row) ≡ row = part_appended cells row (start s) (end s) first last in
     (λ i. seen_as (new_is i) (pushed_is i)) ∙ map-append {B = List ℤ × M} (λ t. (part (start t) (end t) (cells ++ row), mark t)) spans (s ∷ []) ∙ (λ i. before i ++ (here i, mark s) ∷ [])
+
+-- all spans lie within the cells then
+pub spans_pushed : {S : Type 0} (start end : S → ℕ) (cells held row new : List ℤ) (spans kept pushed : List S) (s : S) → All (λ t. IsSpan (length cells) (start t) (end t)) spans × AllInRange cells → held ≡ cells → new ≡ held ++ row → kept ≡ spans → pushed ≡ kept ++ s ∷ [] → start s ≡ length cells → end s ≡ length cells + length row → length row < 2 ^ 32 → AllInRange row → All (λ t. IsSpan (length new) (start t) (end t)) pushed × AllInRange new
+spans_pushed {S} start end cells held row new spans kept pushed s all same_cells cells_are same_spans spans_are first last narrow in_range =
+    let new_is : new ≡ cells ++ row = cells_are ∙ ap (λ (l : List ℤ). l ++ row) same_cells in
+    let pushed_is : pushed ≡ spans ++ s ∷ [] = spans_are ∙ ap (λ (l : List S). l ++ s ∷ []) same_spans in
+    let long : length (cells ++ row) ≡ length cells + length row = length-append cells row in
+    let P : S → Type 0 = λ t. IsSpan (length (cells ++ row)) (start t) (end t) in
+    let before : All P spans = All-weaker (λ t. IsSpan (length cells) (start t) (end t)) P (λ t span. record { ordered = span.ordered; within = omega (arith, span.within, long); narrow = span.narrow }) spans all.0 in
+    let here : P s = record { ordered = omega (arith, first, last); within = omega (arith, last, long); narrow = omega (arith, first, last, narrow) } in
+    rw (new_is, pushed_is) (All-push P spans s before here, All-append InRange cells row all.1 in_range)
 
 -- one row more of the later list
 pub followed_more : {M : Type 0} (earlier later both new : List (List ℤ × M)) (i : ℕ) (row : List ℤ) (mark : M) → i < length later → both ≡ earlier ++ take i later → ((d : List ℤ × M) → row ≡ (slice_index_or later i d).0) → ((d : List ℤ × M) → mark ≡ (slice_index_or later i d).1) → new ≡ both ++ (row, mark) ∷ [] → new ≡ earlier ++ take (i + 1) later

@@ -39,3 +39,12 @@ returns-clause-combined c =
 pub returns-clause-in_range : goal.returns-clause-in_range
 returns-clause-in_range c =
     All-from_get_or InRange c.loop-j.dst (pos 0) (λ k h. c.loop-j.invariant.in_range k (omega arith))
+
+pub combined-requires : goal.combined-requires
+combined-requires c =
+    let s_fits : SFits w128 c.args.s = c.ranges.s in
+    let t_fits : SFits w128 c.args.t = c.ranges.t in
+    let d_fits : SFits w128 (get_or c.loop-j.dst c.loop-j.j (pos 0)) = search rules in
+    let v_fits : SFits w128 (get_or c.args.v.now c.loop-j.j (pos 0)) = search rules in
+    let old : cell c.loop-j.dst c.loop-j.j ≡ cell c.args.dst.now c.loop-j.j = c.loop-j.invariant.rest c.loop-j.j (omega arith) in
+    simp to_z-of_z (rw old (c.requires.stays c.loop-j.j c.loop-j-test.true))

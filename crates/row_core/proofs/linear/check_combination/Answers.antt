@@ -1,6 +1,6 @@
 use Rattle.std.specs.Prelude.{pos, get_or}
 use Rattle.std.specs.Int.{w128}
-use Rattle.std.proofs.Common.{below_more, rules}
+use Rattle.std.proofs.Common.{below_more, rules, arith}
 use Rattle.std.proofs.lemmas.Int.{to_z-of_z}
 use mir.Val.{SFits}
 use Rattle.row_core.specs.Range.{CombineStays}
@@ -27,3 +27,6 @@ returns-in_default c =
       leaves = simp to_z-of_z at c.in_default.ensures;
       before = simp to_z-of_z at c.loop-column.invariant;
     }
+
+pub overflow_cast-result : goal.overflow_cast-result
+overflow_cast-result c = omega (arith, c.loop-column-test.true, c.requires.narrow)

@@ -36,3 +36,9 @@ returns-clause-in_range c =
     let right_fits : SFits w128 (c.args.t *ℤ c.args.y) = fits_signed_from_abs w128 (c.args.t *ℤ c.args.y) c.requires.right.size in
     let sum_fits : SFits w128 (c.args.s *ℤ c.args.x +ℤ c.args.t *ℤ c.args.y) = fits_signed_from_abs w128 (c.args.s *ℤ c.args.x +ℤ c.args.t *ℤ c.args.y) c.requires.sum.size in
     simp to_z-of_z c.requires.sum
+
+pub overflow_mul-left : goal.overflow_mul-left
+overflow_mul-left c = rw (to_z-of_z w128 c.args.s c.ranges.s, to_z-of_z w128 c.args.x c.ranges.x) (fits_signed_from_abs w128 (c.args.s *ℤ c.args.x) c.requires.left.size)
+
+pub overflow_mul-right : goal.overflow_mul-right
+overflow_mul-right c = rw (to_z-of_z w128 c.args.t c.ranges.t, to_z-of_z w128 c.args.y c.ranges.y) (fits_signed_from_abs w128 (c.args.t *ℤ c.args.y) c.requires.right.size)
