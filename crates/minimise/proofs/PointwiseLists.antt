@@ -4,6 +4,10 @@ use Rattle.std.proofs.lemmas.Bool.{cases_lt}
 use Rattle.std.proofs.lemmas.List.{get_or_append_left, get_or_push, take_more}
 use Rattle.row_core.specs.Lists.{Pointwise}
 
+-- of no elements
+pub pointwise_none : {A B : Type 0} (R : A → B → Type 0) (ys : List B) → ys ≡ [] → Pointwise R [] ys
+pointwise_none R ys is = record { as_many = ap (λ l. length l) is; each = λ i d e h. absurd (omega (arith, h)) }
+
 pub pointwise_push : {A B : Type 0} (R : A → B → Type 0) (xs : List A) (ys : List B) (x : A) (y : B) → Pointwise R xs ys → R x y → Pointwise R (xs ++ x ∷ []) (ys ++ y ∷ [])
 pointwise_push {A} {B} R xs ys x y p r = record {
   as_many = length-append ys (y ∷ []) ∙ ap (λ (n : ℕ). n + 1) p.as_many ∙ sym (length-append xs (x ∷ []));

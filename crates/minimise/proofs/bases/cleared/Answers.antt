@@ -1,4 +1,4 @@
-use Rattle.std.proofs.Common.{◌≡◌, List, ℤ, length, drop, arith, sym, ap, ◌∙◌, subst}
+use Rattle.std.proofs.Common.{◌≡◌, List, ℤ, length, drop, arith, sym, ap, ◌∙◌, subst, ℕ, ◌<◌}
 use Rattle.std.proofs.lemmas.Result.{err_from_is_err_and}
 use Rattle.std.proofs.lemmas.List.{take_at}
 use Rattle.row_core.specs.Range.{AllInRange}
@@ -35,3 +35,10 @@ returns-clause-cleared g c =
     let written : c.from_vec.result ≡ c.clear.new.row = c.from_vec.ensures ∙ take_at new (drop (length new) c.into_vec-new.result.items) c.into_vec-new.result.len (omega (arith, c.clear.ensures.widths.0, c.deref_mut.ensures.len)) in
     subst (λ (v : List ℤ). IsCleared c.args.pivot c.args.line.now c.args.row.now v) (sym written)
     (subst (λ (v : List ℤ). IsCleared c.args.pivot c.args.line.now v c.clear.new.row) same c.in_ok-clear.ensures.cleared)
+
+pub from_vec-requires-clause-narrow : goal.from_vec-requires-clause-narrow
+from_vec-requires-clause-narrow g c =
+    let new = c.clear.new.row in
+    let same : c.deref_mut.result.now ≡ c.args.row.now = c.deref_mut.ensures.value ∙ c.into_vec-new.ensures.value ∙ c.in_ok-new.ensures in
+    let written = take_at new (drop (length new) c.into_vec-new.result.items) c.into_vec-new.result.len (c.clear.ensures.widths.0 ∙ c.deref_mut.ensures.len) in
+    subst (λ (n : ℕ). n < 4294967296) (sym (ap (λ (v : List ℤ). length v) written ∙ c.clear.ensures.widths.0 ∙ ap (λ (v : List ℤ). length v) same ∙ c.requires.same_width.0)) c.requires.narrow

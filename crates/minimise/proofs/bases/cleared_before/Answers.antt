@@ -1,16 +1,20 @@
 use Rattle.std.specs.Prelude.{true, Contains}
-use Rattle.std.proofs.Common.{◌≡◌, List, ℤ, [], arith, sym, ap, ◌∙◌, subst}
+use Rattle.std.proofs.Common.{◌≡◌, List, ℤ, [], arith, sym, ap, ◌∙◌, subst, ◌≤◌, ℕ, length}
 use Rattle.std.proofs.lemmas.Result.{err_from_is_err_and}
-use Rattle.std.proofs.lemmas.List.Elements.{All-same, Contains-get_or}
+use Rattle.std.proofs.lemmas.List.Elements.{All-same, Contains-get_or, All-nil}
 use Rattle.row_core.specs.Range.{AllInRange}
 use Rattle.row_core.specs.Content.{IsPrimitive}
 use Rattle.row_core.specs.Lists.{Row, vectors}
 use Rattle.cone_laws.specs.Canon.{vector_at}
 use Rattle.cone_laws.proofs.VectorLemmas.{length-vectors, vector_at-vectors, vectors_push, marked_push}
-use Rattle.minimise.specs.Bases.{IsCleared}
-use Rattle.minimise.proofs.ClearedRows.{cleared_more}
+use Rattle.minimise.specs.Bases.{IsCleared, AreCleared}
+use Rattle.minimise.proofs.ClearedRows.{cleared_more, cleared_none}
 use Rattle.minimise.proofs.FaultCases.{clear_fault}
 use Rattle.minimise.proofs.bases.cleared_before.Goals as goal
+
+-- a number is at most itself
+at_most_itself : (n : ℕ) → n ≤ n
+at_most_itself n = omega arith
 
 pub cleared-requires-clause-row : goal.cleared-requires-clause-row
 cleared-requires-clause-row g c =
@@ -47,3 +51,20 @@ loop-index-preserved g c =
           (ap vectors pushed ∙ vectors_push c.loop-index.new.rows new true);
       marks = All-same (λ (row : Row). row.1 ≡ true) c.push_row.new.self.rows _ pushed (marked_push true c.loop-index.new.rows _ inv.marks);
     }
+
+pub loop-index-init : goal.loop-index-init
+loop-index-init g c = record {
+  width = c.new-new.ensures.width ∙ c.width.ensures.value;
+  scratch = c.in_ok-scratch.scratch.ok.0 ∙ c.in_ok-scratch.ensures ∙ c.width-2.ensures.value;
+  no_fewer = at_most_itself c.args.steps.now;
+  no_more = omega arith;
+  cleared = subst (λ (vs : List (List ℤ)). AreCleared c.args.pivot c.args.line.now (vectors c.args.lines.now.rows) 0 vs) (sym (ap vectors c.new-new.ensures.empty)) (cleared_none c.args.pivot c.args.line.now (vectors c.args.lines.now.rows));
+  marks = All-same (λ (row : Row). row.1 ≡ true) c.new-new.result.rows [] c.new-new.ensures.empty (All-nil (λ (row : Row). row.1 ≡ true));
+}
+
+pub push_row-requires : goal.push_row-requires
+push_row-requires g c = c.in_ok-row.ensures.cleared.wide ∙ ap (λ (v : List ℤ). length v) c.row.ensures.value ∙ c.row.ensures.wide ∙ sym c.loop-index.invariant.width
+
+pub cleared-requires-clause-same_width : goal.cleared-requires-clause-same_width
+cleared-requires-clause-same_width g c =
+    (ap (λ (v : List ℤ). length v) c.row.ensures.value ∙ c.row.ensures.wide ∙ sym c.requires.wide, c.deref_mut.ensures.len ∙ c.loop-index.invariant.scratch ∙ sym c.requires.wide)

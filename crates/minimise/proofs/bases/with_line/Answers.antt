@@ -1,11 +1,12 @@
 use Rattle.std.specs.Prelude.{true}
-use Rattle.std.proofs.Common.{◌++◌, ◌∷◌, [], drop, ap, ◌∙◌, arith, append_assoc}
+use Rattle.std.proofs.Common.{◌++◌, ◌∷◌, [], drop, ap, ◌∙◌, arith, append_assoc, ◌≡◌}
 use Rattle.std.proofs.lemmas.Result.{err_from_is_err_and}
 use Rattle.std.proofs.lemmas.Grind.{common_steps}
-use Rattle.row_core.specs.Lists.{vectors}
-use Rattle.cone_laws.proofs.VectorLemmas.{length-vectors, vectors_push}
+use Rattle.row_core.specs.Lists.{vectors, Row}
+use Rattle.cone_laws.proofs.VectorLemmas.{length-vectors, vectors_push, marked_push}
 use Rattle.minimise.proofs.ClearedRows.{taken_from}
 use Rattle.minimise.proofs.FaultCases.{new_apart, take_fault}
+use Rattle.std.proofs.lemmas.List.Elements.{All-same}
 use Rattle.minimise.proofs.bases.with_line.Goals as goal
 
 pub place_of-place-requires-clause-apart : goal.place_of-place-requires-clause-apart
@@ -63,3 +64,9 @@ push_from-requires-clause-width g c = grind (arith, common_steps)
 
 pub returns-clause-counted : goal.returns-clause-counted
 returns-clause-counted g c = (c.cleared_before.ensures.counted.0, omega (arith, c.cleared_before.ensures.counted.1, c.place_of-place.ensures.within, length-vectors c.args.lines.now.rows))
+
+pub returns-clause-list : goal.returns-clause-list
+returns-clause-list g c = (
+  c.in_ok-push_from.ensures.width ∙ c.in_ok-push.ensures.width ∙ c.in_ok-new.ensures.list.0,
+  c.in_ok-push_from.ensures.marked (All-same (λ (row : Row). row.1 ≡ true) c.push.new.self.rows _ c.in_ok-push.ensures.rows (marked_push true c.in_ok-new.new.rows c.args.line.now c.in_ok-new.ensures.list.1)),
+)

@@ -28,3 +28,7 @@ returns-clause-greatest c =
     IfOk-weaker c.greatest_of.result _ _
     (λ v g. subst (λ (is : List ℕ). AreGreatest is (marked (map not c.args.marks.now) c.args.table.rows) v.indices.items v.zeros.rows) indices
     (subst (λ (rs : List (List Bool)). AreGreatest c.in_ok-indices.indices.items rs v.indices.items v.zeros.rows) rows g)) c.greatest_of.ensures.greatest
+
+pub keep_rows-requires : goal.keep_rows-requires
+keep_rows-requires c =
+    ap (λ (ks : List Bool). length ks) (c.deref-2.ensures.value ∙ c.in_ok-keep.ensures) ∙ length-map c.args.marks.now not ∙ c.requires

@@ -1,5 +1,5 @@
 use Rattle.std.specs.Prelude.{nat_eq}
-use Rattle.std.proofs.Common.{◌≡◌, ◌+◌, length, sym, ap, ◌∙◌, arith, eq-eqb}
+use Rattle.std.proofs.Common.{◌≡◌, ◌+◌, length, sym, ap, ◌∙◌, arith, eq-eqb, ℕ, ◌<◌, subst}
 use Rattle.std.proofs.lemmas.Bool.{eqb-true}
 use Rattle.std.proofs.lemmas.List.{length_push}
 use Rattle.sat_matrix.specs.Tables.{bits_of}
@@ -18,3 +18,8 @@ loop-row-preserved c =
           ((λ t. sym c.ones.ensures ∙ eqb-true c.ones.result c.columns.result t ∙ sym wide), (λ e. eq-eqb c.ones.result c.columns.result (c.ones.ensures ∙ e ∙ wide)))
           inv.tells;
     }
+
+pub returns : goal.returns
+returns c =
+    let end : c.loop-row.row ≡ length c.args.table.now.rows = omega (arith, c.loop-row.auto.row-end, c.len-row-end.ensures) in
+    record { as_many = c.loop-row.invariant.as_many ∙ end; tells = λ i h. c.loop-row.invariant.tells i (subst (λ (n : ℕ). i < n) (sym end) h) }

@@ -1,7 +1,8 @@
-use Rattle.std.proofs.Common.{List, Bool, ℕ, refl, arith, sym, ◌∙◌, subst}
+use Rattle.std.proofs.Common.{List, Bool, ℕ, refl, arith, sym, ◌∙◌, subst, ◌<◌, length, ap}
 use Rattle.std.specs.Prelude.{remove}
 use Rattle.std.proofs.lemmas.Bool.{false≢true}
 use Rattle.minimise.proofs.FacetLemmas.{AreGreatestBefore, greatest_start, greatest_pass, greatest_remove, greatest_end}
+use Rattle.std.proofs.lemmas.List.Edits.{length-remove}
 use Rattle.minimise.proofs.facets.greatest.Goals as goal
 
 pub loop-at-init : goal.loop-at-init
@@ -31,3 +32,8 @@ loop-at-preserved c =
 
 pub returns-clause-greatest : goal.returns-clause-greatest
 returns-clause-greatest c = greatest_end c.args.facets.indices.items c.args.facets.zeros.rows c.loop-at.indices.items c.loop-at.zeros.rows c.loop-at.at (omega arith) c.loop-at.invariant.greatest
+
+pub loop-at-smaller-then-third_between : goal.loop-at-smaller-then-third_between
+loop-at-smaller-then-third_between c =
+    let below : c.loop-at.at < length c.loop-at.zeros.rows = omega (arith, c.loop-at-test.true, c.len.ensures) in
+    omega (arith, below, ap (λ (bs : List (List Bool)). length bs) c.in_ok-remove_row.ensures.rows, length-remove c.loop-at.zeros.rows c.loop-at.at below)

@@ -1,13 +1,14 @@
 use Rattle.std.specs.Prelude.{false}
 use Rattle.std.proofs.Common.{◌≡◌, List, ℤ, ℕ, [], length, drop, get_or, arith, sym, ap, ◌∙◌, subst}
-use Rattle.std.proofs.lemmas.List.{take_at}
-use Rattle.std.proofs.lemmas.List.Elements.{All-same}
+use Rattle.std.proofs.lemmas.List.{take_at, take_all}
+use Rattle.std.proofs.lemmas.List.Elements.{All-same, All-nil}
 use Rattle.row_core.specs.Content.{IsPrimitiveOf, IsMultipleOf}
-use Rattle.row_core.specs.Lists.{Row, row_at, vectors}
+use Rattle.row_core.specs.Lists.{Row, row_at, vectors, Pointwise}
 use Rattle.cone_laws.proofs.VectorLemmas.{vectors_push, marked_push}
 use Rattle.minimise.specs.Bases.{IsReduced}
-use Rattle.minimise.proofs.PointwiseLists.{pointwise_more}
+use Rattle.minimise.proofs.PointwiseLists.{pointwise_more, pointwise_none}
 use Rattle.minimise.proofs.Reductions.{reduced_none}
+use Rattle.row_core.specs.Range.{AllInRange}
 use Rattle.minimise.proofs.parts.primitive_rows.Goals as goal
 
 pub loop-index-preserved : goal.loop-index-preserved
@@ -28,3 +29,29 @@ loop-index-preserved c =
           (ap vectors pushed ∙ vectors_push c.loop-index.new.rows c.deref.result.now false);
       marks = All-same (λ (row : Row). row.1 ≡ false) c.push.new.self.rows _ pushed (marked_push false c.loop-index.new.rows _ inv.marks);
     }
+
+pub loop-index-init : goal.loop-index-init
+loop-index-init c = record {
+  width = c.in_ok-new.ensures.width ∙ c.width.ensures.value;
+  buffer = c.in_ok-row.row.ok.0 ∙ c.in_ok-row.ensures ∙ c.width-2.ensures.value;
+  reduced = pointwise_none (λ (i : ℕ) (r : List ℤ). IsReduced [] (row_at c.args.rows.now.rows i) r) (vectors c.in_ok-new.new.rows) (ap vectors c.in_ok-new.ensures.empty);
+  marks = All-same (λ (row : Row). row.1 ≡ false) c.in_ok-new.new.rows [] c.in_ok-new.ensures.empty (All-nil (λ (row : Row). row.1 ≡ false));
+}
+
+pub returns-clause-reduced : goal.returns-clause-reduced
+returns-clause-reduced c =
+    subst (λ (is : List ℕ). Pointwise (λ (i : ℕ) (r : List ℤ). IsReduced [] (row_at c.args.rows.now.rows i) r) is (vectors c.loop-index.new.rows)) (take_all c.loop-index.index c.args.kept.now c.loop-index-test.false) c.loop-index.invariant.reduced
+
+pub push-requires-clause-in_range : goal.push-requires-clause-in_range
+push-requires-clause-in_range c =
+    let new = c.make_primitive.new.row in
+    subst AllInRange (sym (c.deref.ensures.value ∙ take_at new (drop (length new) c.copy_from_slice.new.self.items) c.copy_from_slice.new.self.len (c.make_primitive.ensures.width ∙ c.deref_mut.ensures.len))) c.make_primitive.ensures.in_range
+
+pub make_primitive-requires : goal.make_primitive-requires
+make_primitive-requires c = subst AllInRange (sym (c.deref_mut.ensures.value ∙ c.copy_from_slice.ensures.items ∙ c.row.ensures.value)) c.row.ensures.in_range
+
+pub copy_from_slice-requires : goal.copy_from_slice-requires
+copy_from_slice-requires c = c.loop-index.invariant.buffer ∙ sym (ap (λ (v : List ℤ). length v) c.row.ensures.value ∙ c.row.ensures.wide)
+
+pub row-requires : goal.row-requires
+row-requires c = c.requires.within c.loop-index.index 0 c.loop-index-test.true

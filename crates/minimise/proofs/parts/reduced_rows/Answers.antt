@@ -1,17 +1,25 @@
 use Rattle.std.specs.Prelude.{false}
-use Rattle.std.proofs.Common.{rules, ◌≡◌, ◌+◌, ◌≤◌, List, [], ℤ, ℕ, length, get_or, arith, sym, ap, ◌∙◌, subst}
+use Rattle.std.proofs.Common.{rules, ◌≡◌, ◌+◌, ◌*◌, ◌≤◌, List, [], ℤ, ℕ, length, get_or, arith, sym, ap, ◌∙◌, subst}
 use Rattle.std.proofs.Math.Nat.{mul-le-mul_right}
 use Rattle.std.proofs.lemmas.Result.{err_from_is_err_and}
 use Rattle.std.proofs.lemmas.List.{take_all, nil_from_length}
-use Rattle.std.proofs.lemmas.List.Elements.{All-same}
+use Rattle.std.proofs.lemmas.List.Elements.{All-same, All-nil}
 use Rattle.row_core.specs.Range.{AllInRange}
 use Rattle.row_core.specs.Lists.{Row, row_at, vectors, Pointwise}
 use Rattle.cone_laws.proofs.VectorLemmas.{length-vectors, vectors_push, marked_push}
 use Rattle.minimise.specs.Bases.{IsReduced}
 use Rattle.minimise.proofs.Widths.{lines_narrow}
-use Rattle.minimise.proofs.PointwiseLists.{pointwise_more}
+use Rattle.minimise.proofs.PointwiseLists.{pointwise_more, pointwise_none}
 use Rattle.minimise.proofs.FaultCases.{row_fault}
 use Rattle.minimise.proofs.parts.reduced_rows.Goals as goal
+
+-- a number is at most itself
+at_most_itself : (n : ℕ) → n ≤ n
+at_most_itself n = omega arith
+
+-- no row was reduced
+none_counted : (steps width : ℕ) → steps ≤ steps + 0 * width
+none_counted steps width = omega arith
 
 pub row-requires : goal.row-requires
 row-requires g c = c.requires.within c.loop-index.index 0 c.loop-index-test.true
@@ -71,3 +79,22 @@ returns-then-is_empty-clause-reduced g c =
     let count : length c.args.lines.now.rows ≡ 0 = search rules in
     let none : vectors c.args.lines.now.rows ≡ [] = nil_from_length (vectors c.args.lines.now.rows) (length-vectors c.args.lines.now.rows ∙ count) in
     subst (λ (lines : List (List ℤ)). Pointwise (λ i r. IsReduced lines (row_at c.args.rows.now.rows i) r) c.args.kept.now (vectors c.in_ok-primitive_rows.field-0.rows)) (sym none) c.in_ok-primitive_rows.ensures.reduced
+
+pub loop-index-init : goal.loop-index-init
+loop-index-init g c = record {
+  width = c.in_ok-new.ensures.width ∙ c.width.ensures.value;
+  no_fewer = at_most_itself c.args.steps.now;
+  no_more = none_counted c.args.steps.now c.args.rows.now.width;
+  reduced = pointwise_none (λ (i : ℕ) (r : List ℤ). IsReduced (vectors c.args.lines.now.rows) (row_at c.args.rows.now.rows i) r) (vectors c.in_ok-new.new.rows) (ap vectors c.in_ok-new.ensures.empty);
+  marks = All-same (λ (row : Row). row.1 ≡ false) c.in_ok-new.new.rows [] c.in_ok-new.ensures.empty (All-nil (λ (row : Row). row.1 ≡ false));
+}
+
+pub push-requires-clause-wide : goal.push-requires-clause-wide
+push-requires-clause-wide g c =
+    ap (λ (v : List ℤ). length v) c.deref.ensures.value ∙ c.in_ok-reduced.ensures.reduced.wide ∙ ap (λ (v : List ℤ). length v) c.row.ensures.value ∙ c.row.ensures.wide ∙ sym (c.loop-index.invariant.width ∙ c.requires.width)
+
+pub push-requires-clause-in_range : goal.push-requires-clause-in_range
+push-requires-clause-in_range g c = subst AllInRange (sym c.deref.ensures.value) c.in_ok-reduced.ensures.in_range
+
+pub primitive_rows-requires : goal.primitive_rows-requires
+primitive_rows-requires g c = record { within = c.requires.within }

@@ -74,3 +74,9 @@ returns-then-row-pivot-eq0-clause-cleared g c =
     let below : c.args.pivot < length c.args.line.now = pivot_below line c.args.pivot c.requires.line.1 in
     let row_fits : SFits w128 (get_or c.args.row.now c.args.pivot (pos 0)) = fits (get_or row c.args.pivot (pos 0)) (All-get_or InRange row c.args.pivot (pos 0) (omega (arith, below, c.requires.same_width.0)) c.requires.row.0) in
     cleared_zero c.args.pivot line row c.requires.line.1.positive (sym (to_z-of_z w128 _ row_fits) ∙ ap (λ n. to_z w128 n) c.if-row-pivot-eq0.true) c.requires.row.1
+
+pub offset_bounds-row-pivot-2 : goal.offset_bounds-row-pivot-2
+offset_bounds-row-pivot-2 g c = omega (arith, pivot_below c.args.line.now c.args.pivot c.requires.line.1, c.requires.narrow)
+
+pub copy_from_slice-requires : goal.copy_from_slice-requires
+copy_from_slice-requires g c = c.requires.same_width.0 ∙ sym (c.combine.ensures.width ∙ c.requires.same_width.1)

@@ -1,5 +1,5 @@
-use Rattle.std.proofs.Common.{◌++◌, ◌∷◌, [], get_or, arith, sym, ap, ◌∙◌}
-use Rattle.std.proofs.lemmas.List.{map_more}
+use Rattle.std.proofs.Common.{◌++◌, ◌∷◌, [], get_or, arith, sym, ap, ◌∙◌, ℕ, List, map}
+use Rattle.std.proofs.lemmas.List.{map_more, take_all}
 use Rattle.sat_matrix.specs.Tables.{bits_of}
 use Rattle.minimise.specs.SecondSystems.{behind_lines}
 use Rattle.minimise.proofs.second_table.second_table.Goals as goal
@@ -15,3 +15,7 @@ loop-index-preserved c =
       rows = c.push_behind.ensures.rows ∙ ap (λ rs. rs ++ behind_lines c.args.lines (bits_of c.args.zeros.now.rows (get_or c.args.order.now c.loop-index.index 0)) ∷ []) inv.rows
           ∙ sym (map_more (λ i. behind_lines c.args.lines (bits_of c.args.zeros.now.rows i)) order c.loop-index.index 0 c.loop-index-test.true);
     }
+
+pub returns-clause-rows : goal.returns-clause-rows
+returns-clause-rows c =
+    c.loop-index.invariant.rows ∙ ap (λ (is : List ℕ). map (λ i. behind_lines c.args.lines (bits_of c.args.zeros.now.rows i)) is) (take_all c.loop-index.index c.args.order.now c.loop-index-test.false)
