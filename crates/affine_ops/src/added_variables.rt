@@ -11,7 +11,7 @@ ghost use Rattle.affine_ops.specs.AddedVariables.{AreZeroBehind, AreFreeBehind, 
 
 use crate::mapped::padded_generators;
 use crate::pulled::padded_constraints;
-use crate::stored_pairs::{can_start, paired};
+use crate::stored_pairs::paired;
 use cons_sys::{ConKind, ConsSys};
 use gens_sys::{GenKind, GensSys};
 use poly_pair::{MAX_DIM, Poly, axis};
@@ -106,7 +106,7 @@ pub(crate) fn projected_pair<L: Ledger>(
 {
     let _dim = p.dim();
     let _vectors = p.gens().dim();
-    if !can_start(p) {
+    if !p.can_start() {
         return Ok(None);
     }
     let cons = zero_behind(alloc, p.cons(), count)?;
@@ -131,7 +131,7 @@ pub(crate) fn embedded_pair<L: Ledger>(
     ensures no_fewer { steps.old ≤ steps.new }
 {
     let _dim = p.dim();
-    if !can_start(p) {
+    if !p.can_start() {
         return Ok(None);
     }
     let gens = free_behind(alloc, p.gens(), count)?;

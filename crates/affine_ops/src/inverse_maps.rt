@@ -11,7 +11,7 @@ ghost use Rattle.affine_ops.specs.CarriedSystems.{IsInverseRow, HaveNoLine, CanB
 
 use crate::mapped::image_generators;
 use crate::pulled::preimage_constraints;
-use crate::stored_pairs::{can_start, paired};
+use crate::stored_pairs::paired;
 use cons_sys::ConsSys;
 use gens_sys::{GenKind, GensSys};
 use poly_pair::Poly;
@@ -56,7 +56,7 @@ fn can_be_carried(p: &Poly, var: usize, expr: &[i128]) -> bool
     requires var { var < length expr.now }
     ensures { MatchBool result (CanBeCarried p.now (cell expr.now var)) ⊤ }
 {
-    can_start(p) && expr[var] != 0 && !has_line(p.gens())
+    p.can_start() && expr[var] != 0 && !has_line(p.gens())
 }
 
 /// The polyhedron of the mapped generators of a closed set with a point and without a line, where the map can

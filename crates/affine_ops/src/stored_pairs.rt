@@ -1,27 +1,19 @@
 //! Closed polyhedra of constraints and generators of one set, without a conversion.
-ghost use Rattle.std.specs.Prelude.{⊤, ◌≤◌, IfOk, MatchBool, MatchOption};
+ghost use Rattle.std.specs.Prelude.{⊤, ◌≤◌, IfOk, MatchOption};
 ghost use Rattle.pair_laws.specs.WorkLists.{constraint_list};
 ghost use Rattle.poly_pair.specs.Parts.{AreStoredOfRows, AreStoredOfGenerators};
 ghost use Rattle.poly_pair.specs.Polyhedra.{IsOfConstraints, IsOfGenerators};
-ghost use Rattle.poly_pair.specs.Starts.{CanStart};
 ghost use Rattle.poly_pair.specs.declared.topology.Topology.TheVariants.{Closed};
 ghost use Rattle.poly_pair.specs.declared.topology.TheConstants.{MAX_DIM};
 ghost use Rattle.affine_ops.specs.StoredPairs.{IsPair};
 
 use cons_sys::ConsSys;
 use gens_sys::GensSys;
-use poly_pair::{MAX_DIM, Poly, Topology};
+use poly_pair::{MAX_DIM, Poly};
 use row_core::{ConvErr, Memory, Steps};
 use sat_matrix::SatMatrix;
 use std::alloc::Global;
 use std::sync::ledger::Ledger;
-
-/// Whether the set is closed and has a point, so that its stored pair can be mapped.
-pub(crate) fn can_start(p: &Poly) -> bool
-    ensures { MatchBool result (CanStart p.now) ⊤ }
-{
-    p.topology() == Topology::Closed && !p.is_empty()
-}
 
 /// The closed polyhedron of a pair, or nothing where a number leaves the range.
 pub(crate) fn paired<L: Ledger>(

@@ -34,13 +34,6 @@ pub bool_or_not : (b : Bool) → IsTrue b ⊎ (¬ (IsTrue b))
 bool_or_not true = inl refl
 bool_or_not false = inr (λ e. false≢true e)
 
--- a list written back through a loan
-pub written_back : (xs ys : List Bool) (n : ℕ) → length xs ≡ n → take n (xs ++ ys) ≡ xs
-written_back [] ys zero e = refl
-written_back [] ys (suc n) e = absurd (omega (arith, e))
-written_back (x ∷ xs) ys zero e = absurd (omega (arith, e))
-written_back (x ∷ xs) ys (suc n) e = ap (λ (l : List Bool). x ∷ l) (written_back xs ys n (omega (arith, e)))
-
 -- some column below k is marked, and the list is true there
 pub record IsUnclear (columns bits : List Bool) (k : ℕ) : Type 0 where
   pub column : ℕ

@@ -1,17 +1,17 @@
 use Rattle.std.proofs.Common.{◌≡◌, ◌∙◌, List, ℤ, length, drop, slice_set, ap, sym, subst, inl, arith}
 use Rattle.std.proofs.lemmas.Int.{to_z-of_z, fits_signed_from_abs}
+use Rattle.std.proofs.lemmas.List.{take_at}
 use Rattle.std.specs.Int.{w128}
 use mir.Val.{SFits}
 use Rattle.row_core.specs.Vectors.{scale}
 use Rattle.row_core.specs.Range.{AllInRange, DotStays, IsFirstToLeave}
-use Rattle.affine_ops.proofs.WrittenRows.{take-written}
 use Rattle.affine_ops.proofs.substitution.image_row.Goals as goal
 
 pub from_vec-requires : goal.from_vec-requires
 from_vec-requires c =
     let new = c.write_image.new.row in
     let width : length new ≡ c.in_ok-entries.entries.len = omega (arith, c.in_default.ensures.width, c.deref_mut.ensures.len) in
-    let written = take-written new (drop (length new) c.in_ok-entries.entries.items) c.in_ok-entries.entries.len width in
+    let written = take_at new (drop (length new) c.in_ok-entries.entries.items) c.in_ok-entries.entries.len width in
     record {
       in_range = subst AllInRange (sym written) c.in_default.ensures.written.1;
       narrow = omega (arith, ap length written, width, c.in_ok-entries.ensures.len, c.requires.narrow);
@@ -27,7 +27,7 @@ returns c =
     let width : length new ≡ c.in_ok-entries.entries.len = omega (arith, c.in_default.ensures.width, c.deref_mut.ensures.len) in
     let written = simp to_z-of_z at c.in_default.ensures.written.0 in
     record {
-      row = c.from_vec.ensures ∙ take-written new (drop (length new) c.in_ok-entries.entries.items) c.in_ok-entries.entries.len width ∙ written ∙ ap (λ (v : List ℤ). slice_set (scale c.args.den v) var value) (c.deref_mut.ensures.value ∙ c.in_ok-entries.ensures.items) ∙ ap (slice_set (scale c.args.den c.args.v.now) var) c.in-Ok.ensures.exact.0;
+      row = c.from_vec.ensures ∙ take_at new (drop (length new) c.in_ok-entries.entries.items) c.in_ok-entries.entries.len width ∙ written ∙ ap (λ (v : List ℤ). slice_set (scale c.args.den v) var value) (c.deref_mut.ensures.value ∙ c.in_ok-entries.ensures.items) ∙ ap (slice_set (scale c.args.den c.args.v.now) var) c.in-Ok.ensures.exact.0;
       overflow = tt;
     }
 

@@ -1,19 +1,18 @@
 use Rattle.std.proofs.Common.{◌≡◌, ◌∙◌, ℕ, List, ℤ, pos, length, drop, slice_set, ap, sym, subst, arith}
-use Rattle.std.proofs.lemmas.List.{length-set}
+use Rattle.std.proofs.lemmas.List.{length-set, take_at}
 use Rattle.std.proofs.lemmas.List.Elements.{All-get_or}
 use Rattle.std.proofs.lemmas.Int.{to_z-of_z, fits_signed_from_abs}
 use Rattle.std.specs.Int.{w128}
 use mir.Val.{SFits}
 use Rattle.row_core.specs.Vectors.{cell, scale, add}
 use Rattle.row_core.specs.Range.{InRange, AllInRange, CombineStays, IsFirstToLeave}
-use Rattle.affine_ops.proofs.WrittenRows.{take-written}
 use Rattle.affine_ops.proofs.substitution.pulled_row.Goals as goal
 
 pub from_vec-requires : goal.from_vec-requires
 from_vec-requires g c =
     let new = c.combine_onto.new.dst in
     let width : length new ≡ c.in_ok-entries.entries.len = omega (arith, c.in_default.ensures.width, c.deref_mut.ensures.len) in
-    let written = take-written new (drop (length new) (slice_set c.in_ok-entries.entries.items c.args.var (pos 0))) c.in_ok-entries.entries.len width in
+    let written = take_at new (drop (length new) (slice_set c.in_ok-entries.entries.items c.args.var (pos 0))) c.in_ok-entries.entries.len width in
     record {
       in_range = subst AllInRange (sym written) c.in_default.ensures.in_range;
       narrow = omega (arith, ap length written, width, c.in_ok-entries.ensures.len, c.requires.narrow);
@@ -31,7 +30,7 @@ returns g c =
     let cleared : c.deref_mut.result.now ≡ slice_set row var (pos 0) = c.deref_mut.ensures.value ∙ ap (λ (v : List ℤ). slice_set v var (pos 0)) c.in_ok-entries.ensures.items in
     let combined = simp to_z-of_z at c.in_default.ensures.combined.0 in
     record {
-      row = c.from_vec.ensures ∙ take-written new (drop (length new) (slice_set c.in_ok-entries.entries.items var (pos 0))) c.in_ok-entries.entries.len width ∙ combined ∙ ap (λ (v : List ℤ). add (scale c.args.den v) (scale (cell row var) c.args.expr.now)) cleared;
+      row = c.from_vec.ensures ∙ take_at new (drop (length new) (slice_set c.in_ok-entries.entries.items var (pos 0))) c.in_ok-entries.entries.len width ∙ combined ∙ ap (λ (v : List ℤ). add (scale c.args.den v) (scale (cell row var) c.args.expr.now)) cleared;
       overflow = tt;
       no_fewer = omega (arith, c.in_default.ensures.counted);
     }

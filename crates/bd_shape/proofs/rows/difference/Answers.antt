@@ -1,8 +1,9 @@
 use Rattle.std.specs.Prelude.{◌≡◌, ◌+◌, List, ℤ, pos, negsuc, length}
-use Rattle.std.proofs.Common.{arith, rules, ap, sym, replicate, ◌∙◌}
+use Rattle.std.proofs.Common.{arith, rules, ap, sym, replicate, drop, ◌∙◌}
+use Rattle.std.proofs.lemmas.List.{take_at}
 use Rattle.std.proofs.lemmas.Result.{err_from_is_err_and}
 use Rattle.bd_shape.specs.Differences.{with_place, difference}
-use Rattle.bd_shape.proofs.DifferenceRows.{length_difference, written_back}
+use Rattle.bd_shape.proofs.DifferenceRows.{length_difference}
 use Rattle.bd_shape.proofs.rows.difference.Goals as goal
 
 pub returns : goal.returns
@@ -13,7 +14,7 @@ returns c =
     c.put_both.ensures ∙ ap (λ (row : List ℤ). with_place (with_place row c.args.i (pos 1)) c.args.j (negsuc 0)) (c.as_mut_slice.ensures.value ∙ zeros) in
     let all : length c.put_both.new.row ≡ c.in_ok-entries.entries.len =
     ap length put ∙ length_difference c.args.dim c.args.i c.args.j ∙ sym c.in_ok-entries.ensures.len in
-    c.from_vec.ensures ∙ written_back entries.len entries.items c.put_both.new.row all (omega (arith, c.in_ok-entries.entries.ok)) ∙ put
+    c.from_vec.ensures ∙ take_at c.put_both.new.row (drop (length c.put_both.new.row) entries.items) entries.len all ∙ put
 
 pub returns-in_err-entries : goal.returns-in_err-entries
 returns-in_err-entries c = let p = err_from_is_err_and c.from_residual.result c.from_residual.ensures.1 in rw p.1 tt

@@ -2,8 +2,8 @@ use Rattle.std.proofs.Common.{arith, ◌≡◌, ◌∙◌, ap, sym, subst, List,
 use Rattle.row_core.specs.Lists.{vectors}
 use Rattle.nnc_enc.specs.Strong.{IsStrictPass, AreFirstRows}
 use Rattle.nnc_enc.specs.Passes.{IsPassed}
-use Rattle.nnc_enc.proofs.MarkLemmas.{written_back}
 use Rattle.nnc_enc.proofs.StrongLemmas.{strict_pass_is}
+use Rattle.std.proofs.lemmas.List.{take_at}
 use Rattle.std.proofs.lemmas.Result.{err_from_is_err_and}
 use Rattle.nnc_enc.proofs.strong.strict_pass.Goals as goal
 
@@ -19,7 +19,7 @@ returns c =
     (subst (λ (k : List Bool). IsPassed c.deref-3.result.now c.deref-4.result.now c.args.sat.now.rows k c.drop_covered.new.keep (length c.args.sat.now.rows)) c.deref_mut.ensures.value c.drop_covered.ensures.passed)) in
     let same : length c.drop_covered.new.keep ≡ length c.in_ok-keep.keep.items = c.drop_covered.ensures.length ∙ ap length c.deref_mut.ensures.value in
     let is : IsStrictPass c.args.dim c.args.gens.now.rows (vectors c.args.rays.now.rows) c.drop_covered.new.keep = strict_pass_is c.args.dim c.args.gens.now.rows c.args.rays.now.rows c.args.sat.now c.requires.table c.in_ok-level.level.items c.in_ok-level.ensures c.in_ok-places.places.items c.in_ok-strict.strict.items c.in_ok-keep.keep.items c.drop_covered.new.keep c.in_ok-places.ensures c.in_ok-strict.ensures firsts same passed in
-    subst (IsStrictPass c.args.dim c.args.gens.now.rows (vectors c.args.rays.now.rows)) (sym (written_back c.drop_covered.new.keep (drop (length c.drop_covered.new.keep) c.in_ok-keep.keep.items) c.in_ok-keep.keep.len (omega (arith, same, c.deref_mut.ensures.len, c.drop_covered.ensures.length)))) is
+    subst (IsStrictPass c.args.dim c.args.gens.now.rows (vectors c.args.rays.now.rows)) (sym (take_at c.drop_covered.new.keep (drop (length c.drop_covered.new.keep) c.in_ok-keep.keep.items) c.in_ok-keep.keep.len (omega (arith, same, c.deref_mut.ensures.len, c.drop_covered.ensures.length)))) is
 
 pub returns-in_err-keep : goal.returns-in_err-keep
 returns-in_err-keep c = let p = err_from_is_err_and c.from_residual-in_err-keep.result c.from_residual-in_err-keep.ensures.1 in rw p.1 tt
