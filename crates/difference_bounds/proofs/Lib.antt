@@ -10,6 +10,7 @@ pub mod Tightness
 pub mod CellPlaces
 pub mod WordLemmas
 pub mod CellLemmas
+pub mod PlaceWords
 pub mod PassLemmas
 pub mod ChoiceLemmas
 pub mod Differences

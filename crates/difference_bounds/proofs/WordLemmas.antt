@@ -1,7 +1,8 @@
 -- What words tell of bounds.
-use Rattle.std.specs.Prelude.{◌≡◌, ◌⊎◌, ℕ, ◌^◌, ◌<◌, List, [], ◌∷◌, length, ℤ, pos, negsuc, neg_ℤ, ◌+ℤ◌, ◌<ℤ◌, ◌≤ℤ◌, ◌↔◌, IsTrue, not, Bool, true, false, Option, Some, None, IfSome, unsigned_abs, slice_index_or, slice_set, get_or}
+use Rattle.std.specs.Prelude.{◌≡◌, ◌≢◌, ◌⊎◌, ℕ, ◌^◌, ◌<◌, List, [], ◌∷◌, length, ℤ, pos, negsuc, neg_ℤ, ◌+ℤ◌, ◌<ℤ◌, ◌≤ℤ◌, ◌↔◌, IsTrue, not, Bool, true, false, Option, Some, None, IfSome, unsigned_abs, slice_index_or, slice_set, get_or}
 use Rattle.std.specs.Int.{w64, w128}
 use mir.Val.{SFits, of_z, to_z}
+use lib.Signed.{lt_z, le_z}
 use Rattle.std.proofs.Common.{arith, refl, sym, ◌∙◌, ap, subst, inl, inr}
 use Rattle.std.proofs.lemmas.Int.{ints, to_z-of_z}
 use Rattle.std.proofs.lemmas.List.{length-set, get_or-set_same, get_or-set_other}
@@ -19,7 +20,7 @@ use Rattle.difference_bounds.specs.Walks.{Bound}
 use Rattle.difference_bounds.specs.Tables.{Table, IsTable}
 use Rattle.difference_bounds.specs.Laws.{IsRelaxed, IsLesser, IsCovered}
 use Rattle.difference_bounds.specs.Combining.{PicksAs}
-use Rattle.difference_bounds.specs.Words.{absent, other, IsShort, whole, IsWord, AreWords, IsStep, IsBoundBelow, ComparesAs}
+use Rattle.difference_bounds.specs.Words.{absent, other, IsShort, whole, IsWord, IsWithinWords, IsTold, IsCoveredWord, AreWords, IsStep, IsBoundBelow, ComparesAs}
 use Rattle.difference_bounds.proofs.FractionLemmas.{sum_answer, whole_fraction}
 
 -- ---- one word
@@ -51,8 +52,45 @@ word_sum y z f g h =
     ap (λ (x : ℤ). to_z w64 (of_z w64 (x +ℤ to_z w64 (of_z w64 z)))) (to_z-of_z w64 y f)
     ∙ (ap (λ (x : ℤ). to_z w64 (of_z w64 (y +ℤ x))) (to_z-of_z w64 z g) ∙ to_z-of_z w64 (y +ℤ z) h)
 
+fits_by : (n : ℤ) → neg_ℤ (pos (2 ^ 63)) ≤ℤ n → n <ℤ pos (2 ^ 63) → SFits w64 n
+fits_by (pos a) h k = record { sfits = omega (arith, ints, k) }
+fits_by (negsuc a) h k = record { sfits = omega (arith, ints, h) }
+
+below_absent : (w : ℤ) → w ≤ℤ absent → (w ≡ absent → ⊥) → w <ℤ absent
+below_absent (pos a) h n = let unlike : a ≢ 2 ^ 62 = λ e. n (ap pos e) in omega (arith, ints, h)
+below_absent (negsuc a) h n = omega (arith, ints)
+
+pub words_added : (y z : ℤ) → IsWithinWords y → IsWithinWords z → (y ≡ absent → ⊥) → (z ≡ absent → ⊥) → to_z w64 (of_z w64 (to_z w64 (of_z w64 y) +ℤ to_z w64 (of_z w64 z))) ≡ y +ℤ z
+words_added y z h k ny nz =
+    let a = h.least in
+    let b : y <ℤ absent = below_absent y h.most ny in
+    let c = k.least in
+    let d : z <ℤ absent = below_absent z k.most nz in
+    word_sum y z (fits_by y (omega (arith, ints, a)) (omega (arith, ints, b))) (fits_by z (omega (arith, ints, c)) (omega (arith, ints, d))) (fits_by (y +ℤ z) (omega (arith, ints, a, c)) (omega (arith, ints, b, d)))
+
+pub if_at_most : (x y : ℤ) → le_z x y ≡ true → x ≤ℤ y
+if_at_most x y e = grind (arith, ints)
+
+pub unless_at_most : (x y : ℤ) → le_z x y ≡ false → y <ℤ x
+unless_at_most x y e = grind (arith, ints)
+
 pub absent_word : (w : ℤ) → SFits w64 w → of_z w64 w ≡ 2 ^ 62 → w ≡ absent
 absent_word w f e = sym (to_z-of_z w64 w f) ∙ ap (to_z w64) e
+
+pub word_fits : (b : Bound) (w : ℤ) → IsWord b w → SFits w64 w
+word_fits None w e = subst (SFits w64) (sym e) (record { sfits = omega (arith, ints) })
+word_fits (Some f) w (inl (s, e)) = short_fits w s.least s.most
+word_fits (Some f) w (inr e) = subst (SFits w64) (sym e) (record { sfits = omega (arith, ints) })
+
+pub word_within : (b : Bound) (w : ℤ) → IsWord b w → IsWithinWords w
+word_within None w e = record { least = omega (arith, ints, e); most = omega (arith, ints, e) }
+word_within (Some f) w (inl (s, e)) = (let l = s.least in let m = s.most in record { least = omega (arith, ints, l); most = omega (arith, ints, m) })
+word_within (Some f) w (inr e) = record { least = omega (arith, ints, e); most = omega (arith, ints, e) }
+
+pub told_or_other : (b : Bound) (w : ℤ) → IsWord b w → IsTold w ⊎ (w ≡ other)
+told_or_other None w e = inl (inl e)
+told_or_other (Some f) w (inl (s, e)) = inl (inr s)
+told_or_other (Some f) w (inr e) = inr e
 
 -- ---- the words of cells
 pub words_set : (cells : List Bound) (words : List ℤ) (q : ℕ) (b : Bound) (w : ℤ) → AreWords cells words → q < length cells → IsWord b w → AreWords (slice_set cells q b) (slice_set words q w)
@@ -163,3 +201,22 @@ not_below_covered (Some x) (Some y) n = n
 pub covered_by : (a b : Bound) (r : Bool) → ComparesAs a b (Some r) → IsTrue (not r) ↔ IsCovered a b
 covered_by a b true h = (λ t. absurd (false≢true t), λ k. absurd (below_uncovered a b h k))
 covered_by a b false h = (λ t. not_below_covered a b h, λ k. refl)
+
+unless_less : (x y : ℤ) → lt_z x y ≡ false → y ≤ℤ x
+unless_less x y e = grind (arith, ints)
+
+covered_word : (x y : ℤ) → y ≤ℤ x → (y ≡ other → ⊥) → IsCoveredWord x y
+covered_word x y h n None b wa wb = tt
+covered_word x y h n (Some f) None (inl (s, e)) k = absurd (let m = s.most in omega (arith, ints, m, k, h))
+covered_word x y h n (Some f) None (inr e) k = absurd (omega (arith, ints, e, k, h))
+covered_word x y h n (Some f) (Some g) wa (inr d) = absurd (n d)
+covered_word x y h n (Some f) (Some g) (inr e) (inl (t, d)) = absurd (let m = t.least in omega (arith, ints, m, e, h))
+covered_word x y h n (Some f) (Some g) (inl (s, e)) (inl (t, d)) =
+    subst (λ (k : Fraction). ¬ (IsBelow k g)) (sym e) (subst (λ (k : Fraction). ¬ (IsBelow (whole x) k)) (sym d) (λ k. omega (arith, ints, k, h)))
+
+pub covered_read : (x y : ℤ) → lt_z (to_z w64 (of_z w64 x)) (to_z w64 (of_z w64 y)) ≡ false → (of_z w64 y ≡ of_z w64 other → ⊥) → IsCoveredWord x y
+covered_read x y h n a b wa wb =
+    let first = to_z-of_z w64 x (word_fits a x wa) in
+    let second = to_z-of_z w64 y (word_fits b y wb) in
+    let less : lt_z x y ≡ false = subst (λ (z : ℤ). lt_z z y ≡ false) first (subst (λ (z : ℤ). lt_z (to_z w64 (of_z w64 x)) z ≡ false) second h) in
+    covered_word x y (unless_less x y less) (λ e. n (ap (of_z w64) e)) a b wa wb

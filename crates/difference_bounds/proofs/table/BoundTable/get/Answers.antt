@@ -11,7 +11,30 @@ use Rattle.difference_bounds.specs.Walks.{Bound}
 use Rattle.difference_bounds.specs.Tables.{Table, bounds_of}
 use Rattle.difference_bounds.specs.Words.{other, kept, cells_of}
 use Rattle.difference_bounds.proofs.CellLemmas.{cells_length, cell_is, room_by}
+use Rattle.difference_bounds.proofs.WordLemmas.{told_or_other}
+use Rattle.difference_bounds.proofs.PlaceWords.{place_fits, row_fits, word_below, word_read}
 use Rattle.difference_bounds.proofs.table.BoundTable.get.Goals as goal
+
+pub overflow_mul-index : goal.overflow_mul-index
+overflow_mul-index c = row_fits c.self.inside.places c.args.i c.self.invariant.table.few (subst (λ (n : ℕ). c.args.i < n) (sym (ap (λ (t : Table). t.places) c.self.view_is)) c.requires.row)
+
+pub overflow_add-index : goal.overflow_add-index
+overflow_add-index c =
+    let same : c.args.self.now.places ≡ c.self.inside.places = sym (ap (λ (t : Table). t.places) c.self.view_is) in
+    place_fits c.self.inside.places c.args.i c.args.j c.self.invariant.table.few (subst (λ (n : ℕ). c.args.i < n) same c.requires.row) (subst (λ (n : ℕ). c.args.j < n) same c.requires.column)
+
+pub index-requires : goal.index-requires
+index-requires c =
+    let s = c.self.inside in
+    let same : c.args.self.now.places ≡ s.places = sym (ap (λ (t : Table). t.places) c.self.view_is) in
+    let below = word_below _ c.args.self.now s.words.items s.fractions.items s.places c.args.i c.args.j c.self.invariant c.self.view_is same (subst (λ (n : ℕ). c.args.i < n) same c.requires.row) (subst (λ (n : ℕ). c.args.j < n) same c.requires.column) in
+    omega (arith, below, s.words.ok)
+
+pub bound_at-requires-clause-told : goal.bound_at-requires-clause-told
+bound_at-requires-clause-told c =
+    let s = c.self.inside in
+    let same : c.args.self.now.places ≡ s.places = sym (ap (λ (t : Table). t.places) c.self.view_is) in
+    told_or_other (bounds_of c.args.self.now c.args.i c.args.j) _ (word_read _ c.args.self.now s.words.items s.fractions.items s.places c.args.i c.args.j c.self.invariant c.self.view_is same (subst (λ (n : ℕ). c.args.i < n) same c.requires.row) (subst (λ (n : ℕ). c.args.j < n) same c.requires.column) c.index.result.now c.index.ensures)
 
 pub bound_at-requires-clause-cell : goal.bound_at-requires-clause-cell
 bound_at-requires-clause-cell c = λ e.
