@@ -1,7 +1,8 @@
 -- A row that is changed in place.
-use Rattle.std.proofs.Common.{◌≡◌, ℕ, ◌+◌, ◌*◌, ◌<◌, ◌≤◌, Bool, false, List, length, set, sym, ap, subst, ◌∙◌, arith, ℤ}
-use Rattle.std.specs.Prelude.{All, Result, Ok, Err, OnOk, OnErr, max}
+use Rattle.std.proofs.Common.{◌≡◌, ℕ, ◌+◌, ◌*◌, ◌<◌, ◌≤◌, Bool, false, List, ◌++◌, length, take, drop, set, sym, ap, subst, ◌∙◌, arith, ℤ}
+use Rattle.std.specs.Prelude.{All, Result, Ok, Err, OnOk, OnErr, MatchResult, max}
 use Rattle.std.proofs.lemmas.Bool.{false≢true}
+use Rattle.std.proofs.lemmas.List.Elements.{All-append, All-take, All-drop}
 use borrow.Rule.Slice.PartMut.{put_mid}
 use Rattle.row_core.specs.Range.{InRange, AllInRange}
 use Rattle.row_core.specs.Narrow.{AllNarrow}
@@ -18,6 +19,16 @@ part_changed Related p w k cells part new e is wide related = record {
   same = with_window_is p w k cells new e wide;
   related = subst (λ (r : List ℤ). Related r new) (is ∙ ap (λ (n : ℕ). window p n cells) e) related;
 }
+
+pub part_in_range : (p w k : ℕ) (cells new : List ℤ) → k ≡ w → length new ≡ w → AllInRange cells → AllInRange new → AllInRange (put_mid p k cells new)
+part_in_range p w k cells new e wide all changed =
+    rw (with_window_is p w k cells new e wide)
+    (All-append InRange (take p cells) (new ++ drop (p + w) cells) (All-take InRange p cells all) (All-append InRange new (drop (p + w) cells) changed (All-drop InRange (p + w) cells all)))
+
+-- a part that was changed or left
+pub changed_or_left : {A E : Type 0} (P : A → Type 0) (Q : E → Type 0) (old new : List ℤ) (r : Result A E) → OnOk r (AllInRange new) → MatchResult r P (λ j. (new ≡ old) × Q j) → AllInRange old → AllInRange new
+changed_or_left P Q old new (Ok x) ok combined all = ok
+changed_or_left P Q old new (Err j) ok combined all = subst AllInRange (sym combined.0) all
 
 -- row i ends within the cells
 pub row_ends : (t u : Flat ℤ) (w i : ℕ) → t ≡ u → w ≡ t.width → i < length u.rows → (i < length t.rows) × (i * w + w ≤ length t.rows * t.width)

@@ -1,9 +1,14 @@
-use Rattle.std.specs.Prelude.{◌≡◌, ◌+◌, ◌-◌, refl}
+use Rattle.std.specs.Prelude.{◌≡◌, ℕ, ℤ, List, ◌+◌, ◌-◌, length, drop, refl}
 use Rattle.std.specs.Int.{w128}
 use mir.Val.{SFits}
-use Rattle.std.proofs.Common.{arith}
+use Rattle.std.proofs.Common.{arith, ap, sym, ◌∙◌}
 use Rattle.std.proofs.lemmas.Int.{to_z-of_z}
 use Rattle.std.proofs.lemmas.Result.{MatchResult-weaker}
+use Rattle.std.proofs.lemmas.List.Elements.{All-take, All-drop}
+use Rattle.row_core.specs.Range.{InRange}
+use Rattle.row_core.specs.Flat.{window}
+use Rattle.row_core.proofs.Flat.{length-window}
+use Rattle.row_store.proofs.ChangedRows.{part_in_range, changed_or_left}
 use Rattle.row_store.proofs.Parts.{part_combined, part_left}
 use Rattle.row_store.proofs.windows.combine_part.Goals as goal
 
@@ -16,3 +21,16 @@ returns-clause-combined g c =
     MatchResult-weaker c.combine_onto.result combined
     (λ x h. part_combined c.args.at c.args.width _ c.args.s c.args.t c.args.cells.now c.args.v.now _ c.combine_onto.new.dst e refl c.requires.within c.combine_onto.ensures.width h.0 h.1)
     (λ y h. part_left c.args.at c.args.width _ c.args.s c.args.t c.args.cells.now c.args.v.now _ c.combine_onto.new.dst y e refl c.requires.within h.0 h.1)
+
+pub combine_onto-requires-clause-same_width : goal.combine_onto-requires-clause-same_width
+combine_onto-requires-clause-same_width g c =
+    let e : c.args.at + c.args.width - c.args.at ≡ c.args.width = omega arith in
+    ap (λ (n : ℕ). length (window c.args.at n c.args.cells.now)) e ∙ length-window c.args.at c.args.width c.args.cells.now c.requires.within ∙ sym c.requires.same_width
+
+pub returns-clause-in_range : goal.returns-clause-in_range
+returns-clause-in_range g c all =
+    let e : c.args.at + c.args.width - c.args.at ≡ c.args.width = omega arith in
+    let part : List ℤ = window c.args.at (c.args.at + c.args.width - c.args.at) c.args.cells.now in
+    let wide : length c.combine_onto.new.dst ≡ c.args.width = c.combine_onto.ensures.width ∙ ap (λ (n : ℕ). length (window c.args.at n c.args.cells.now)) e ∙ length-window c.args.at c.args.width c.args.cells.now c.requires.within in
+    part_in_range c.args.at c.args.width _ c.args.cells.now c.combine_onto.new.dst e wide all
+    (changed_or_left _ _ part c.combine_onto.new.dst c.combine_onto.result c.combine_onto.ensures.in_range c.combine_onto.ensures.combined (All-take InRange _ (drop c.args.at c.args.cells.now) (All-drop InRange c.args.at c.args.cells.now all)))

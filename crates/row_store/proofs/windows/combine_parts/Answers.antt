@@ -1,13 +1,13 @@
 use Rattle.std.specs.Prelude.{◌≡◌, ℕ, ℤ, List, ◌+◌, ◌-◌, ◌++◌, ◌≤◌, length, take, drop}
 use Rattle.std.specs.Int.{w128}
 use mir.Val.{SFits}
-use Rattle.std.proofs.Common.{arith, sym, ap, subst, ◌∙◌}
+use Rattle.std.proofs.Common.{arith, sym, ap, subst, ◌∙◌, length-append, length-take}
 use Rattle.std.proofs.lemmas.Int.{to_z-of_z}
 use Rattle.std.proofs.lemmas.Result.{MatchResult-weaker}
 use Rattle.std.proofs.lemmas.List.Elements.{All-append, All-take, All-drop}
 use Rattle.row_core.specs.Range.{InRange, AllInRange}
 use Rattle.row_core.specs.Flat.{window, with_window}
-use Rattle.row_core.proofs.Flat.{take-drop-append}
+use Rattle.row_core.proofs.Flat.{take-drop-append, length-window}
 use Rattle.row_store.proofs.Parts.{moved_combined, moved_left, with_window_in_front, window_in_back, with_window_in_back}
 use Rattle.row_store.proofs.windows.combine_parts.Goals as goal
 
@@ -53,3 +53,33 @@ returns-else-to-from-clause-in_range g c = λ h.
     All-append InRange c.split_at_mut-front-else-to-from.result.0.now c.combine_part-else-to-from.new.cells
     (subst AllInRange (sym c.split_at_mut-front-else-to-from.ensures.front) (All-take InRange c.args.to c.args.cells.now h))
     (c.combine_part-else-to-from.ensures.in_range (subst AllInRange (sym c.split_at_mut-front-else-to-from.ensures.back) (All-drop InRange c.args.to c.args.cells.now h)))
+
+pub returns-then-to-from-clause-in_range : goal.returns-then-to-from-clause-in_range
+returns-then-to-from-clause-in_range g c = λ h.
+    All-append InRange c.combine_part.new.cells c.split_at_mut-front.result.1.now
+    (c.combine_part.ensures.in_range (subst AllInRange (sym c.split_at_mut-front.ensures.front) (All-take InRange c.args.from c.args.cells.now h)))
+    (subst AllInRange (sym c.split_at_mut-front.ensures.back) (All-drop InRange c.args.from c.args.cells.now h))
+
+pub combine_part-requires : goal.combine_part-requires
+combine_part-requires g c =
+    let front = c.split_at_mut-front.result.0.now in
+    let back = c.split_at_mut-front.result.1.now in
+    let front_len : length front ≡ c.args.from = c.split_at_mut-front.ensures.front_len in
+    let whole : length c.args.cells.now ≡ length front + length back = ap length c.split_at_mut-front.ensures.value ∙ length-append front back in
+    record {
+      within = omega (arith, front_len, c.requires.apart, c.if-to-from.true);
+      same_width = omega (arith, length-take c.args.width back, whole, front_len, c.requires.second);
+      narrow = c.requires.narrow;
+    }
+
+pub combine_part-requires-else-to-from : goal.combine_part-requires-else-to-from
+combine_part-requires-else-to-from g c =
+    let front = c.split_at_mut-front-else-to-from.result.0.now in
+    let back = c.split_at_mut-front-else-to-from.result.1.now in
+    let front_len : length front ≡ c.args.to = c.split_at_mut-front-else-to-from.ensures.front_len in
+    let whole : length c.args.cells.now ≡ length front + length back = ap length c.split_at_mut-front-else-to-from.ensures.value ∙ length-append front back in
+    record {
+      within = omega (arith, front_len, whole, c.requires.first);
+      same_width = ap (λ (n : ℕ). length (window c.args.from n front)) (omega arith) ∙ length-window c.args.from c.args.width front (omega (arith, front_len, c.requires.apart, c.if-to-from.false));
+      narrow = c.requires.narrow;
+    }

@@ -1,0 +1,23 @@
+use Rattle.std.specs.Prelude.{◌≡◌, ℕ, ◌+◌, ◌-◌, length, drop}
+use Rattle.std.proofs.Common.{arith, refl, ap, ◌∙◌}
+use Rattle.std.proofs.lemmas.List.Elements.{All-take, All-drop}
+use Rattle.row_store.specs.Stores.{IsNegated}
+use Rattle.row_core.specs.Range.{InRange}
+use Rattle.row_core.specs.Flat.{window}
+use Rattle.row_core.proofs.Flat.{length-window}
+use Rattle.row_store.proofs.ChangedRows.{part_changed, part_in_range}
+use Rattle.row_store.proofs.windows.negate_part.Goals as goal
+
+pub negate-requires : goal.negate-requires
+negate-requires c = All-take InRange (c.args.at + c.args.width - c.args.at) (drop c.args.at c.args.cells.now) (All-drop InRange c.args.at c.args.cells.now c.requires.in_range)
+
+wide : (c : goal.After-cells-1) → length c.negate.new.row ≡ c.args.width
+wide c =
+    let e : c.args.at + c.args.width - c.args.at ≡ c.args.width = omega arith in
+    c.negate.ensures.width ∙ ap (λ (n : ℕ). length (window c.args.at n c.args.cells.now)) e ∙ length-window c.args.at c.args.width c.args.cells.now c.requires.within
+
+pub returns-clause-part : goal.returns-clause-part
+returns-clause-part c = part_changed IsNegated c.args.at c.args.width _ c.args.cells.now _ c.negate.new.row (omega arith) refl (wide c) c.negate.ensures.value
+
+pub returns-clause-in_range : goal.returns-clause-in_range
+returns-clause-in_range c = part_in_range c.args.at c.args.width _ c.args.cells.now c.negate.new.row (omega arith) (wide c) c.requires.in_range c.negate.ensures.in_range
