@@ -1,7 +1,9 @@
 -- The row of the first terms, one term further.
 use Rattle.std.proofs.Common.{eq-eqb, zero, suc, lit<, ◌≡◌, ◌⊎◌, ℕ, ◌+◌, ◌^◌, ◌<◌, ◌≤◌, List, [], ◌∷◌, ◌++◌, length, take, get_or, refl, sym, ◌∙◌, ap, arith, length-append, subst, inl, inr}
-use Rattle.std.specs.Prelude.{◌≢◌, MatchOption, Option, Some, None, unwrap_or, All, Bool, true, false, ℤ, pos, ◌+ℤ◌}
-use Rattle.std.proofs.lemmas.Int.{ints}
+use Rattle.std.specs.Prelude.{◌≢◌, MatchOption, Option, Some, None, unwrap_or, All, Bool, true, false, ℤ, pos, negsuc, ◌+ℤ◌}
+use Rattle.std.specs.Int.{w128}
+use mir.Val.{of_z, to_z}
+use Rattle.std.proofs.lemmas.Int.{ints, to_z-of_z}
 use Rattle.std.proofs.lemmas.List.{get_or-set_same, get_or-set_other, append-nil, get_or_push, take-append-le, take_all}
 use Rattle.std.proofs.Math.Seq.{take-append_seam}
 use Rattle.std.proofs.lemmas.List.Elements.{All-push, All-get_or, All-nil, All-take, All-weaker}
@@ -13,6 +15,13 @@ use Rattle.row_core.specs.Range.{InRange, AllInRange}
 use Rattle.term_text.specs.declared.terms.Term.{Term}
 use Rattle.term_text.specs.Sums.{Sum, HasSummed, Gains}
 use Rattle.term_text.specs.Terms.{column_of, value_of, part, total, Stay, IsRow, FitsBehind, IsSafeRow, IsWithin}
+
+pub read_back : (z : ℤ) → InRange z → to_z w128 (of_z w128 z) ≡ z
+read_back (pos a) h = let s = h.size in to_z-of_z w128 (pos a) (record { sfits = omega (arith, s) })
+read_back (negsuc a) h = let s = h.size in to_z-of_z w128 (negsuc a) (record { sfits = omega (arith, s) })
+
+pub range_read : (z : ℤ) → InRange z → InRange (to_z w128 (of_z w128 z))
+range_read z h = subst InRange (sym (read_back z h)) h
 
 plus_zero : (z : ℤ) → z +ℤ pos 0 ≡ pos 0 +ℤ z
 plus_zero z = omega (arith, ints)
