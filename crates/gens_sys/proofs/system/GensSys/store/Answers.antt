@@ -1,5 +1,6 @@
-use Rattle.std.specs.Prelude.{◌≡◌, ℕ}
-use Rattle.std.proofs.Common.{arith, ap, subst}
+use Rattle.std.specs.Prelude.{◌≡◌, ℕ, [], ◌∷◌, ◌++◌}
+use Rattle.std.proofs.Common.{arith, ap, subst, ◌∙◌}
+use Rattle.std.proofs.lemmas.Result.{MatchResult-from_err}
 use Rattle.row_core.specs.Vectors.{cell}
 use Rattle.gens_sys.specs.Kinds.{HasBadDivisor}
 use Rattle.gens_sys.specs.Generators.{Generators}
@@ -21,3 +22,24 @@ invariant_of-self-2 c =
       divisor = λ bad. c.requires.divisor (subst (λ (d : ℕ). HasBadDivisor c.args.kind (cell c.args.row.now d)) same_dim (HasBadDivisor-multiple c.args.kind c.args.row.now gained.stored c.self.inside.dim multiple bad));
       nonzero = λ zero. c.requires.nonzero (IsZeroDirection-multiple c.args.kind c.args.row.now gained.stored multiple zero);
     }))
+
+pub invariant_of-self : goal.invariant_of-self
+invariant_of-self c = rw c.in_err-push_primitive.ensures c.self.invariant
+
+pub returns-in_err-push_primitive : goal.returns-in_err-push_primitive
+returns-in_err-push_primitive c = record {
+  dim = ap (λ (gs : Generators). gs.dim) c.self.view_is;
+  list = MatchResult-from_err c.from_residual.result _ _ c.from_residual.ensures.0 (λ _. c.in_err-push_primitive.ensures ∙ ap (λ (gs : Generators). gs.list) c.self.view_is);
+}
+
+pub returns : goal.returns
+returns c =
+    let gained = c.in_ok-push_primitive.ensures in
+    record {
+      dim = ap (λ (gs : Generators). gs.dim) c.self.view_is;
+      list = record {
+        stored = gained.stored;
+        primitive = gained.primitive;
+        list = gained.list ∙ ap (λ (gs : Generators). gs.list ++ (gained.stored, c.args.kind) ∷ []) c.self.view_is;
+      };
+    }
