@@ -63,6 +63,16 @@ bit_seen columns words t i c e in_i in_c =
 no_truth : IsTrue false → ⊥
 no_truth h = grind (arith, h)
 
+-- a place that is true is within the columns
+pub true_within : (columns : ℕ) (words : Flat ℕ) (t : Table) (r i : ℕ) → IsTable columns words → seen_bits columns words ≡ t → r < length t.rows → IsTrue (place (entries_at words.rows r) i) → i < t.columns
+true_within columns words t r i table e in_r holds =
+    let k = seen_in columns words t e in
+    let below : r < length words.rows = omega (arith, k.count, in_r) in
+    elim (cases_lt i columns) [
+      | inl l ↦ omega (arith, k.wide, l)
+      | inr past ↦ absurd (no_truth (subst IsTrue (table.padded r [] below i past) holds))
+    ]
+
 covers_to : (columns : ℕ) (a b c : List ℕ) → IsSubsetOfAnd a b c → Covers (bits_in columns a) (bits_in columns b) (bits_in columns c)
 covers_to columns a b c f j h p q =
     let l : j < columns = omega (arith, h, length-bits_in columns a) in

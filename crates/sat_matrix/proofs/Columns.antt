@@ -1,7 +1,7 @@
 -- A column that is marked at the true places of a row, and the columns of a table as rows.
-use Rattle.std.proofs.Common.{◌≡◌, ◌≢◌, ◌↔◌, ◌⊎◌, inl, inr, ℕ, ◌+◌, ◌*◌, ◌/◌, ◌%◌, ◌^◌, ◌<◌, Bool, true, false, ◌&&◌, bit_and, IsTrue, List, [], length, get_or, set, map, nat_eq, w64, refl, sym, ap, subst, ◌∙◌, arith}
+use Rattle.std.proofs.Common.{◌≡◌, ◌≢◌, ◌↔◌, ◌⊎◌, inl, inr, ℕ, suc, zero, ◌+◌, ◌*◌, ◌/◌, ◌%◌, ◌^◌, ◌<◌, Bool, true, false, ◌&&◌, bit_and, IsTrue, List, [], length, get_or, set, map, replicate, nat_eq, w64, refl, sym, ap, subst, ◌∙◌, arith}
 use Rattle.std.proofs.lemmas.Bool.{cases_eq}
-use Rattle.std.proofs.lemmas.List.{ext_get_or, get_or-map, length-map, length-set, get_or-set_same, get_or-set_other}
+use Rattle.std.proofs.lemmas.List.{ext_get_or, get_or-map, length-map, length-set, get_or-set_same, get_or-set_other, length-replicate, get_or-replicate}
 use Rattle.std.proofs.lemmas.List.FromFn.{length-map-range_with_len, get_or-map-range_with_len}
 use Rattle.std.specs.Int.{trailing_zeros, bit_not}
 use Rattle.std.proofs.lemmas.Nat.{and_le_l}
@@ -223,6 +223,23 @@ pub record IsTurned (table turned : Table) (k : ℕ) : Type 0 where
   pub spare : turned.spare ≡ 0
   pub count : length turned.rows ≡ table.columns
   pub places : (i j : ℕ) → i < table.columns → IsTrue (bit_at turned.rows i j) ↔ ((j < k) × IsTrue (bit_at table.rows j i))
+
+no_truths : (n j : ℕ) → get_or (replicate n false) j false ≡ false
+no_truths zero j = refl
+no_truths (suc n) zero = refl
+no_truths (suc n) (suc j) = no_truths n j
+
+-- no place is true where there is no row yet
+pub none_turned : (table turned : Table) → turned.columns ≡ length table.rows → turned.rows ≡ replicate table.columns (replicate (length table.rows) false) → turned.spare ≡ 0 → IsTurned table turned 0
+none_turned table turned columns rows spare = record {
+  columns = columns;
+  spare = spare;
+  count = ap length rows ∙ length-replicate table.columns (replicate (length table.rows) false);
+  places = λ i j h.
+      let row : bits_of turned.rows i ≡ replicate (length table.rows) false = ap (λ (rs : List (List Bool)). bits_of rs i) rows ∙ get_or-replicate table.columns i (replicate (length table.rows) false) [] h in
+      let bit : bit_at turned.rows i j ≡ false = ap (λ (r : List Bool). get_or r j false) row ∙ no_truths (length table.rows) j in
+      ((λ t. absurd (not_both (bit_at turned.rows i j) t bit)), (λ w. absurd (omega (arith, w.0))));
+}
 
 -- the places of one row more
 pub one_turned : (table cur new : Table) (k : ℕ) (words : List ℕ) → IsTurned table cur k → IsColumnMarked k (λ i. IsTrue (place words i)) cur new → ((i : ℕ) → i < table.columns → place words i ≡ bit_at table.rows k i) → IsTurned table new (k + 1)
