@@ -1,12 +1,13 @@
 use Rattle.std.specs.Prelude.{◌≡◌, ◌+◌, ℕ, List, pos}
 use Rattle.std.specs.Int.{w128}
-use Rattle.std.proofs.Common.{sym, subst, ap, ◌∙◌, get_or}
+use Rattle.std.proofs.Common.{sym, subst, ap, ◌∙◌, get_or, ℕ}
 use Rattle.std.proofs.lemmas.Int.{to_z-of_z}
 use Rattle.std.proofs.lemmas.List.Elements.{All-get_or}
 use Rattle.row_core.specs.Range.{InRange}
 use Rattle.cone_laws.proofs.FactorLemmas.{fits}
 use Rattle.chernikova.specs.Changes.{value_at, is_on, AreOn}
 use Rattle.chernikova.proofs.ChangeLemmas.{on_none, on_push, on_pass}
+use native.Mathlib.Nat.{le_antisymm}
 use Rattle.chernikova.proofs.adjacency.indices_on.Goals as goal
 use Rattle.chernikova.proofs.adjacency.indices_on.Goals.{then-has+in_ok-push, else-has}
 
@@ -28,3 +29,6 @@ loop-index-preserved c =
       | then-has+in_ok-push w ↦ subst P (sym (ap (λ v. v.items) w.indices-is ∙ w.in_ok-push.ensures.items)) (on_push side values index old c.loop-index.invariant (answer ∙ w.if-has.true))
       | else-has w ↦ subst P (sym (ap (λ v. v.items) w.indices-is)) (on_pass side values index old c.loop-index.invariant (answer ∙ w.if-has.false))
     ]
+
+pub returns : goal.returns
+returns c = subst (λ (n : ℕ). AreOn c.args.side c.args.values.now n c.loop-index.indices.items) (le_antisymm c.loop-index.auto.index-end c.loop-index-test.false) c.loop-index.invariant

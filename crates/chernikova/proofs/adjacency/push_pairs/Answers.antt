@@ -18,3 +18,18 @@ loop-next-preserved c = record {
 
 pub returns : goal.returns
 returns c = found_row c.args.side c.args.zeros.now c.args.outer.now c.args.inner.now c.args.position c.loop-next.next c.loop-next.pairs.items c.loop-next.invariant.found (omega (arith, c.loop-next.invariant.within, c.loop-next-test.false))
+
+pub next_sharing-next-requires-in-loop-next-clause-among : goal.next_sharing-next-requires-in-loop-next-clause-among
+next_sharing-next-requires-in-loop-next-clause-among c = c.requires.inner.within
+
+pub push_pair-requires-clause-outer : goal.push_pair-requires-clause-outer
+push_pair-requires-clause-outer c = c.requires.outer
+
+pub push_pair-requires-clause-inner : goal.push_pair-requires-clause-inner
+push_pair-requires-clause-inner c = c.requires.inner
+
+pub next_sharing-next-requires-in-loop-next-clause-row : goal.next_sharing-next-requires-in-loop-next-clause-row
+next_sharing-next-requires-in-loop-next-clause-row c = c.requires.outer.within c.args.position c.requires.position
+
+pub push_pair-requires-clause-decide : goal.push_pair-requires-clause-decide
+push_pair-requires-clause-decide c = c.requires.decide.one_more

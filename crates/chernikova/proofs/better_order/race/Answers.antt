@@ -1,4 +1,4 @@
-use Rattle.std.specs.Prelude.{◌≡◌, ◌-◌, ◌+◌, ℕ, length}
+use Rattle.std.specs.Prelude.{◌≡◌, ◌-◌, ◌+◌, ℕ, length, Bool, MatchBool}
 use Rattle.std.proofs.Common.{arith, rules, subst}
 use Rattle.chernikova.specs.Beside.{IsDone}
 use Rattle.chernikova.specs.Conversion.{IsState, IsCountedBefore}
@@ -69,3 +69,7 @@ pub returns-clause-counted : goal.returns-clause-counted
 returns-clause-counted g c =
     let inv = c.loop-k.invariant in
     counted_rest c.args.rows.now.width c.args.rows.now.rows c.loop-k.k (c.loop-k.steps - c.args.steps.now + c.loop-k.slack) _ (omega arith) inv.counted (omega (arith, inv.no_fewer))
+
+pub returns-in-Ok-true-clause-done : goal.returns-in-Ok-true-clause-done
+returns-in-Ok-true-clause-done g c =
+    subst (λ (b : Bool). MatchBool b (IsDone c.args.rows.now.width c.args.rows.now.rows c.take_row_beside.new.beside) (IsState c.args.rows.now.width c.args.rows.now.rows (c.loop-k.k + 1) c.take_row_beside.new.cone)) c.in-Ok-true.field-0-test c.in-Ok-true.ensures.done

@@ -34,3 +34,12 @@ returns-clause-counted g c =
       | inl few ↦ has_less c.args.rows.now.width c.args.rows.now.rows (c.args.k + 1) _ _ c.take_row_sparing.ensures.counted (omega (arith, few, kept, c.follow.ensures.within, c.follow.ensures.no_fewer, c.take_row_sparing.ensures.no_fewer))
       | inr many ↦ has_less c.args.rows.now.width c.args.rows.now.rows (c.args.k + 1) _ _ c.in_ok-spared.ensures.spared (omega (arith, many, kept, c.follow.ensures.within, c.follow.ensures.no_fewer, c.take_row_sparing.ensures.no_fewer))
     ]
+
+pub returns-clause-done : goal.returns-clause-done
+returns-clause-done g c = c.in_ok-spared.ensures.state
+
+pub take_row_sparing-requires-clause-state : goal.take_row_sparing-requires-clause-state
+take_row_sparing-requires-clause-state g c = c.requires.state
+
+pub take_row_sparing-requires-clause-row : goal.take_row_sparing-requires-clause-row
+take_row_sparing-requires-clause-row g c = c.requires.row

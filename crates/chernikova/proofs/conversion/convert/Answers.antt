@@ -1,10 +1,11 @@
 use Rattle.std.specs.Prelude.{◌-◌, ℕ, length}
-use Rattle.std.proofs.Common.{refl, subst, arith, rules, ◌∙◌}
+use Rattle.std.proofs.Common.{refl, subst, arith, ◌∙◌, sym}
 use Rattle.chernikova.specs.Conversion.{IsState, IsCountedUpto, IsCountedBefore, IsRealOverflow}
 use Rattle.chernikova.proofs.Prefixes.{state_moved, overflow_any}
 use Rattle.chernikova.proofs.Counts.{counted_start}
 use Rattle.chernikova.proofs.VectorLemmas.{length-vectors}
 use Rattle.chernikova.proofs.Rankings.{rearranged_canon, rearranged_zeros, rearranged_lists}
+use Rattle.std.proofs.lemmas.Result.{err_from_is_err_and}
 use Rattle.chernikova.proofs.conversion.convert.Goals as goal
 
 pub sorted-requires-clause-as_many : goal.sorted-requires-clause-as_many
@@ -16,9 +17,8 @@ returns-in_err-cone-clause-counted g c = counted_start c.args.width c.args.rows.
 pub returns-in_err-take_rows-clause-overflow : goal.returns-in_err-take_rows-clause-overflow
 returns-in_err-take_rows-clause-overflow g c =
     let P : ℕ → Type 0 = λ w. IsRealOverflow w c.args.rows.now.rows c.in_err-take_rows.field-0.0 in
-    let h : IsRealOverflow c.args.width c.args.rows.now.rows c.in_err-take_rows.field-0.0 =
-    subst P c.requires.width (overflow_any c.args.rows.now.width c.args.rows.now.rows 0 c.in_err-take_rows.field-0.0 c.in_err-take_rows.ensures.overflow) in
-    search rules
+    let p = err_from_is_err_and c.from_residual-in_err-take_rows.result c.from_residual-in_err-take_rows.ensures.1 in
+    rw (p.1, p.2) (subst P c.requires.width (overflow_any c.args.rows.now.width c.args.rows.now.rows 0 c.in_err-take_rows.field-0.0 c.in_err-take_rows.ensures.overflow))
 
 pub returns-in_err-take_rows-clause-counted : goal.returns-in_err-take_rows-clause-counted
 returns-in_err-take_rows-clause-counted g c =
@@ -28,9 +28,8 @@ returns-in_err-take_rows-clause-counted g c =
 pub returns-in_err-take_rows-clause-counted_before : goal.returns-in_err-take_rows-clause-counted_before
 returns-in_err-take_rows-clause-counted_before g c =
     let P : ℕ → Type 0 = λ w. IsCountedBefore w c.args.rows.now.rows (c.take_rows.new.steps - c.args.steps.now) c.in_err-take_rows.field-0.0 in
-    let h : IsCountedBefore c.args.width c.args.rows.now.rows (c.take_rows.new.steps - c.args.steps.now) c.in_err-take_rows.field-0.0 =
-    subst P c.requires.width c.in_err-take_rows.ensures.counted_before in
-    search rules
+    let p = err_from_is_err_and c.from_residual-in_err-take_rows.result c.from_residual-in_err-take_rows.ensures.1 in
+    rw (p.1, p.2) (subst P c.requires.width c.in_err-take_rows.ensures.counted_before)
 
 pub returns-clause-canon : goal.returns-clause-canon
 returns-clause-canon g c =
@@ -53,3 +52,6 @@ pub returns-clause-counted : goal.returns-clause-counted
 returns-clause-counted g c =
     let P : ℕ → Type 0 = λ w. IsCountedUpto w c.args.rows.now.rows (length c.args.rows.now.rows) (c.take_rows.new.steps - c.args.steps.now) in
     subst P c.requires.width c.take_rows.ensures.counted
+
+pub take_rows-requires-clause-state : goal.take_rows-requires-clause-state
+take_rows-requires-clause-state g c = subst (λ (w : ℕ). IsState w c.args.rows.now.rows 0 c.in_ok-cone.cone) (sym c.requires.width) c.in_ok-cone.ensures

@@ -1,9 +1,10 @@
 use Rattle.std.specs.Prelude.{◌≡◌, ◌-◌, ℕ, length}
-use Rattle.std.proofs.Common.{subst, arith, rules}
-use Rattle.chernikova.specs.Conversion.{IsState, IsRealOverflowFrom, IsCountedBeforeFrom, TellsChange}
+use Rattle.std.proofs.Common.{subst, arith}
+use Rattle.chernikova.specs.Conversion.{IsState, TellsChange, IsCountedBetween}
 use Rattle.chernikova.proofs.Counts.{counted_none, counted_more, counted_last, counted_before}
 use Rattle.chernikova.proofs.Prefixes.{overflow_from}
 use Rattle.chernikova.proofs.Told.{none_told, tells_more}
+use Rattle.std.proofs.lemmas.Result.{err_from_is_err_and}
 use Rattle.chernikova.proofs.conversion.take_rows.Goals as goal
 
 pub loop-k-preserved : goal.loop-k-preserved
@@ -39,9 +40,8 @@ returns-clause-state g c =
 
 pub returns-in_err-row_changes-clause-overflow : goal.returns-in_err-row_changes-clause-overflow
 returns-in_err-row_changes-clause-overflow g c =
-    let h : IsRealOverflowFrom c.args.rows.now.width c.args.rows.now.rows c.args.from c.in_err-row_changes.field-0.0 =
-    overflow_from c.args.rows.now.width c.args.rows.now.rows c.args.from c.loop-k.k c.in_err-row_changes.field-0.0 c.loop-k.invariant.from c.in_err-row_changes.ensures.step c.in_err-row_changes.ensures.state in
-    search rules
+    let p = err_from_is_err_and c.from_residual.result c.from_residual.ensures.1 in
+    rw (p.1, p.2) (overflow_from c.args.rows.now.width c.args.rows.now.rows c.args.from c.loop-k.k c.in_err-row_changes.field-0.0 c.loop-k.invariant.from c.in_err-row_changes.ensures.step c.in_err-row_changes.ensures.state)
 
 pub returns-in_err-row_changes-clause-counted : goal.returns-in_err-row_changes-clause-counted
 returns-in_err-row_changes-clause-counted g c =
@@ -52,8 +52,11 @@ returns-in_err-row_changes-clause-counted g c =
 pub returns-in_err-row_changes-clause-counted_before : goal.returns-in_err-row_changes-clause-counted_before
 returns-in_err-row_changes-clause-counted_before g c =
     let inv = c.loop-k.invariant in
-    let h : IsCountedBeforeFrom c.args.rows.now.width c.args.rows.now.rows c.args.from (c.take_row.new.steps - c.args.steps.now) c.in_err-row_changes.field-0.0 =
-    counted_before c.args.rows.now.width c.args.rows.now.rows c.args.from c.loop-k.k (c.take_row.new.steps - c.args.steps.now) c.in_err-row_changes.field-0.0 c.in_err-row_changes.ensures.step
+    let p = err_from_is_err_and c.from_residual.result c.from_residual.ensures.1 in
+    rw (p.1, p.2) (counted_before c.args.rows.now.width c.args.rows.now.rows c.args.from c.loop-k.k (c.take_row.new.steps - c.args.steps.now) c.in_err-row_changes.field-0.0 c.in_err-row_changes.ensures.step
     (counted_more c.args.rows.now.width c.args.rows.now.rows c.args.from c.loop-k.k (c.loop-k.steps - c.args.steps.now) (c.take_row.new.steps - c.loop-k.steps) (c.take_row.new.steps - c.args.steps.now) inv.counted c.in_err-row_changes.ensures.counted
-    (omega (arith, inv.no_fewer, c.in_err-row_changes.ensures.no_fewer))) in
-    search rules
+    (omega (arith, inv.no_fewer, c.in_err-row_changes.ensures.no_fewer))))
+
+pub returns-clause-counted : goal.returns-clause-counted
+returns-clause-counted g c =
+    subst (λ (n : ℕ). IsCountedBetween c.args.rows.now.width c.args.rows.now.rows c.args.from n (c.loop-k.steps - c.args.steps.now)) (let e : c.loop-k.k ≡ length c.args.rows.now.rows = omega (arith, c.len-k-end.ensures, c.requires.from) in e) c.loop-k.invariant.counted

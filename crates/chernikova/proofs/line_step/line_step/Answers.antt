@@ -1,12 +1,11 @@
-use Rattle.std.specs.Prelude.{◌≡◌, ◌<◌, ℕ, ℤ, pos, List, All, length}
+use Rattle.std.specs.Prelude.{◌≡◌, ◌≢◌, ◌<◌, ℕ, ℤ, pos, List, All, length}
 use Rattle.std.specs.Int.{w128}
-use Rattle.std.proofs.Common.{sym, subst, ◌∙◌, get_or, arith}
+use Rattle.std.proofs.Common.{sym, subst, ◌∙◌, get_or, arith, ap}
 use Rattle.std.proofs.lemmas.Int.{to_z-of_z}
 use Rattle.std.proofs.lemmas.List.Elements.{All-get_or}
-use mir.Val.{SFits}
+use mir.Val.{SFits, to_z, of_z}
 use Rattle.row_core.specs.Range.{InRange, AllInRange}
 use Rattle.std.proofs.lemmas.Result.{err_from_is_err_and}
-use Rattle.std.proofs.lemmas.Grind.{common_steps}
 use Rattle.cone_laws.specs.Canon.{vector_at}
 use Rattle.chernikova.specs.declared.fault.Part.TheVariants.{Rays}
 use Rattle.row_core.specs.Lists.{vectors}
@@ -21,6 +20,14 @@ use Rattle.chernikova.proofs.line_step.line_step.Goals as goal
 -- a value in the range is itself where it is passed on
 fits_at : (values : List ℤ) (index : ℕ) → index < length values → All InRange values → SFits w128 (get_or values index (pos 0))
 fits_at values index below h = fits (get_or values index (pos 0)) (All-get_or InRange values index (pos 0) below h)
+
+-- and so is in the range
+passed_in_range : (values : List ℤ) (index : ℕ) → index < length values → All InRange values → InRange (to_z w128 (of_z w128 (get_or values index (pos 0))))
+passed_in_range values index below h = subst InRange (sym (to_z-of_z w128 _ (fits_at values index below h))) (All-get_or InRange values index (pos 0) below h)
+
+-- and isn't 0 where the value isn't
+passed_nonzero : (values : List ℤ) (index : ℕ) → index < length values → All InRange values → value_at values index ≢ pos 0 → to_z w128 (of_z w128 (get_or values index (pos 0))) ≢ pos 0
+passed_nonzero values index below h nonzero = λ e. nonzero (sym (to_z-of_z w128 _ (fits_at values index below h)) ∙ e)
 
 pub returns-in_err-rays-clause-change : goal.returns-in_err-rays-clause-change
 returns-in_err-rays-clause-change g c =
@@ -41,19 +48,21 @@ returns-clause-lists g c = record {
 }
 
 pub lowered_lines-requires-clause-in_range : goal.lowered_lines-requires-clause-in_range
-lowered_lines-requires-clause-in_range g c = grind (arith, common_steps)
+lowered_lines-requires-clause-in_range g c = (c.requires.in_range.0, passed_in_range c.args.line_values.now c.args.index (subst (λ (n : ℕ). c.args.index < n) (sym c.requires.as_many.0) c.requires.crossing.0) c.requires.in_range.0)
 
 pub lowered_lines-requires-clause-nonzero : goal.lowered_lines-requires-clause-nonzero
-lowered_lines-requires-clause-nonzero g c = grind (arith, common_steps)
+lowered_lines-requires-clause-nonzero g c = passed_nonzero c.args.line_values.now c.args.index (subst (λ (n : ℕ). c.args.index < n) (sym c.requires.as_many.0) c.requires.crossing.0) c.requires.in_range.0 c.requires.crossing.1
 
 pub lowered_rays-requires-clause-in_range : goal.lowered_rays-requires-clause-in_range
-lowered_rays-requires-clause-in_range g c = grind (arith, common_steps)
+lowered_rays-requires-clause-in_range g c = (c.requires.in_range.1, passed_in_range c.args.line_values.now c.args.index (subst (λ (n : ℕ). c.args.index < n) (sym c.requires.as_many.0) c.requires.crossing.0) c.requires.in_range.0)
 
 pub lowered_rays-requires-clause-nonzero : goal.lowered_rays-requires-clause-nonzero
-lowered_rays-requires-clause-nonzero g c = grind (arith, common_steps)
+lowered_rays-requires-clause-nonzero g c = passed_nonzero c.args.line_values.now c.args.index (subst (λ (n : ℕ). c.args.index < n) (sym c.requires.as_many.0) c.requires.crossing.0) c.requires.in_range.0 c.requires.crossing.1
 
 pub push_upward-requires-clause-nonzero : goal.push_upward-requires-clause-nonzero
-push_upward-requires-clause-nonzero g c = grind (arith, common_steps)
+push_upward-requires-clause-nonzero g c =
+    let value_fits = fits_at c.args.line_values.now c.args.index (subst (λ (n : ℕ). c.args.index < n) (sym c.requires.as_many.0) c.requires.crossing.0) c.requires.in_range.0 in
+    simp to_z-of_z c.requires.crossing.1
 
 pub returns-in_err-lines-clause-change : goal.returns-in_err-lines-clause-change
 returns-in_err-lines-clause-change g c =
@@ -78,3 +87,25 @@ returns-clause-change g c =
     let value_fits = fits_at c.args.line_values.now c.args.index (omega (arith, c.requires.crossing.0, c.requires.as_many.0)) c.requires.in_range.0 in
     line_change c.args.index c.args.line_values.now c.args.ray_values.now c.args.eq c.args.cone.now.lines.rows c.args.cone.now.rays.rows c.in_ok-lines.lines.rows c.in_ok-rays.rays.rows c.push_upward.new.rays.rows _ c.row.result.now (to_z-of_z w128 _ value_fits) c.row.ensures.value
     c.in_ok-lines.ensures.lowered c.in_ok-rays.ensures.lowered (simp to_z-of_z at c.in_ok-push_upward.ensures.rows)
+
+pub push_upward-requires-clause-wide : goal.push_upward-requires-clause-wide
+push_upward-requires-clause-wide g c = (
+  ap (λ (v : List ℤ). length v) c.row.ensures.value ∙ c.row.ensures.wide ∙ c.requires.widths ∙ sym c.in_ok-rays.ensures.list.0,
+  c.deref_mut-3.ensures.len ∙ c.in_ok-row.ensures ∙ c.width.ensures.value ∙ c.requires.widths ∙ sym c.in_ok-rays.ensures.list.0,
+)
+
+pub lowered_rays-requires-clause-width : goal.lowered_rays-requires-clause-width
+lowered_rays-requires-clause-width g c =
+    (ap (λ (v : List ℤ). length v) c.row.ensures.value ∙ c.row.ensures.wide ∙ c.requires.widths, c.deref_mut-2.ensures.len ∙ c.in_ok-row.ensures ∙ c.width.ensures.value ∙ c.requires.widths)
+
+pub lowered_rays-requires-clause-as_many : goal.lowered_rays-requires-clause-as_many
+lowered_rays-requires-clause-as_many g c = c.requires.as_many.1
+
+pub lowered_lines-requires-clause-width : goal.lowered_lines-requires-clause-width
+lowered_lines-requires-clause-width g c =
+    (ap (λ (v : List ℤ). length v) c.row.ensures.value ∙ c.row.ensures.wide, c.deref_mut.ensures.len ∙ c.in_ok-row.ensures ∙ c.width.ensures.value)
+
+pub returns-in_err-push_upward-clause-change : goal.returns-in_err-push_upward-clause-change
+returns-in_err-push_upward-clause-change g c =
+    let p = err_from_is_err_and c.from_residual-in_err-push_upward.result c.from_residual-in_err-push_upward.ensures.1 in
+    rw (p.1, p.2) tt

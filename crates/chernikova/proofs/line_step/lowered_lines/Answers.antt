@@ -32,3 +32,19 @@ returns-clause-lowered g c =
 
 pub lower_range-requires-clause-marked : goal.lower_range-requires-clause-marked
 lower_range-requires-clause-marked g c = All-same (λ (row : Row). row.1 ≡ true) c.in_ok-new.new.rows [] c.in_ok-new.ensures.empty (marked_none true)
+
+pub lower_range-requires-2-clause-in_range : goal.lower_range-requires-2-clause-in_range
+lower_range-requires-2-clause-in_range g c = c.requires.in_range
+
+pub lower_range-requires-2-clause-nonzero : goal.lower_range-requires-2-clause-nonzero
+lower_range-requires-2-clause-nonzero g c = c.requires.nonzero
+
+pub lower_range-requires-2-clause-as_many : goal.lower_range-requires-2-clause-as_many
+lower_range-requires-2-clause-as_many g c = c.requires.as_many
+
+pub returns-clause-list : goal.returns-clause-list
+returns-clause-list g c =
+    (c.in_ok-lower_range-2.ensures.width.0 ∙ c.in_ok-lower_range.ensures.width.0 ∙ c.in_ok-new.ensures.width ∙ c.width.ensures.value, c.in_ok-lower_range-2.ensures.marked)
+
+pub returns-clause-scratch : goal.returns-clause-scratch
+returns-clause-scratch g c = c.in_ok-lower_range-2.ensures.width.1 ∙ c.in_ok-lower_range.ensures.width.1

@@ -42,3 +42,15 @@ pub returns-in-Err-clause-marked : goal.returns-in-Err-clause-marked
 returns-in-Err-clause-marked g c =
     let grown = c.in-Err.ensures.grown in
     All-same (λ (row : Row). row.1 ≡ false) c.truncate.new.self.rows c.args.rays.now.rows (ap (λ (l : Rows). l.rows) c.truncate.ensures ∙ ap (λ (rs : List Row). take c.len-count.result rs) grown.1 ∙ take_at c.args.rays.now.rows grown.0 c.len-count.result (sym c.len-count.ensures)) c.requires.marked
+
+pub returns-in-Ok-clause-width : goal.returns-in-Ok-clause-width
+returns-in-Ok-clause-width g c = ap (λ (l : Rows). l.width) c.keep_rows.ensures ∙ c.in-Ok.ensures.width
+
+pub returns-in-Err-clause-width : goal.returns-in-Err-clause-width
+returns-in-Err-clause-width g c = ap (λ (l : Rows). l.width) c.truncate.ensures ∙ c.in-Err.ensures.width
+
+pub push_made-requires-clause-in_range : goal.push_made-requires-clause-in_range
+push_made-requires-clause-in_range g c = c.requires.in_range
+
+pub push_made-requires-clause-as_many : goal.push_made-requires-clause-as_many
+push_made-requires-clause-as_many g c = c.requires.as_many.0

@@ -1,11 +1,12 @@
 use Rattle.std.specs.Prelude.{ℤ, List, Bool, map}
-use Rattle.std.proofs.Common.{ap, subst, ◌∙◌, arith}
+use Rattle.std.proofs.Common.{ap, subst, ◌∙◌, arith, length}
 use Rattle.row_core.specs.Lists.{row_at, is_eq_at, vectors}
 use Rattle.cone_laws.specs.Steps.{stays}
 use Rattle.chernikova.specs.declared.plan.Position.{Position}
 use Rattle.chernikova.specs.Changes.{AreAllCrosses}
-use Rattle.chernikova.specs.Plans.{IsPosition, IsCutting}
+use Rattle.chernikova.specs.Plans.{IsPosition, IsCutting, HasValues}
 use Rattle.chernikova.proofs.CountLemmas.{counts_decide}
+use Rattle.chernikova.proofs.Positions.{has_values}
 use Rattle.chernikova.proofs.step.planned.Goals as goal
 
 pub returns-in_ok-pairs-in-Cutting : goal.returns-in_ok-pairs-in-Cutting
@@ -21,3 +22,8 @@ returns-in_ok-pairs-in-Cutting c =
 
 pub crossings-requires-clause-decide : goal.crossings-requires-clause-decide
 crossings-requires-clause-decide c = counts_decide c.args.rows.now.width c.args.rows.now.rows c.args.cone.now.lines.rows c.args.k (vectors c.args.cone.now.rays.rows) c.args.cone.now.sat c.least_shared-least.result (omega (arith, c.requires.row)) c.requires.state.system c.requires.state.zeros (omega (arith, c.least_shared-least.ensures, c.width.ensures.value, c.len.ensures))
+
+pub crossings-requires-clause-as_many : goal.crossings-requires-clause-as_many
+crossings-requires-clause-as_many c =
+    let P : Position → Type 0 = λ p. HasValues (length c.args.cone.now.sat.rows) p in
+    ap (λ (vs : List ℤ). length vs) c.deref-in-Cutting.ensures.value ∙ subst P c.in-Cutting.is (has_values c.args.rows.now.width c.args.rows.now.rows c.args.k c.args.cone.now c.args.position c.requires.state c.requires.position)

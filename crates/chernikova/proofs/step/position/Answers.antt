@@ -1,5 +1,5 @@
 use Rattle.std.specs.Prelude.{ℤ, List, Bool}
-use Rattle.std.proofs.Common.{ap, subst, ◌∙◌}
+use Rattle.std.proofs.Common.{ap, subst, ◌∙◌, sym, length}
 use Rattle.row_core.specs.Lists.{row_at, vectors}
 use Rattle.cone_laws.specs.Steps.{IsLastCrossing}
 use Rattle.chernikova.specs.Systems.{values_on}
@@ -47,3 +47,6 @@ returns c =
       },
       subst A c.is_eq.ensures (subst B c.deref-2.ensures.value (second_of c.all_meet.result (AllStay c.is_eq.result c.deref-2.result.now) (SomeGoes c.is_eq.result c.deref-2.result.now) c.if-all_meet.false c.all_meet.ensures)),
     )
+
+pub values-requires-2-clause-wide : goal.values-requires-2-clause-wide
+values-requires-2-clause-wide c = ap (λ (v : List ℤ). length v) c.row-row.ensures.value ∙ c.row-row.ensures.wide ∙ sym c.requires.state.lists.rays_wide

@@ -1,16 +1,17 @@
 use Rattle.std.specs.Prelude.{◌≡◌, ◌∷◌, [], ◌++◌, List, ℤ}
 use Rattle.std.specs.Int.{w128}
-use Rattle.std.proofs.Common.{sym, ap, subst, ◌∙◌, arith, take}
+use Rattle.std.proofs.Common.{sym, ap, subst, ◌∙◌, arith, take, ℕ, ◌≤◌}
 use Rattle.std.proofs.lemmas.Int.{to_z-of_z}
 use Rattle.std.proofs.lemmas.List.Elements.{All-push, All-same}
 use mir.Val.{SFits}
 use Rattle.row_core.specs.Vectors.{dot}
 use Rattle.row_core.specs.Range.{InRange}
 use Rattle.row_core.specs.Narrow.{AllNarrow}
-use Rattle.row_core.specs.Lists.{vectors}
+use Rattle.row_core.specs.Lists.{vectors, Row}
 use Rattle.chernikova.specs.Systems.{values_on}
 use Rattle.cone_laws.proofs.FactorLemmas.{fits}
 use Rattle.chernikova.proofs.VectorLemmas.{values_on_more}
+use Rattle.std.proofs.lemmas.List.{take_all}
 use Rattle.chernikova.proofs.values.narrow_values.Goals as goal
 
 pub narrow_dot-requires-clause-right : goal.narrow_dot-requires-clause-right
@@ -28,3 +29,7 @@ loop-index-preserved c =
           sym (values_on_more c.args.row.now c.args.list.now.rows c.loop-index.index (omega arith));
       in_range = All-same InRange c.push.new.self.items _ items (All-push InRange c.loop-index.values.items c.narrow_dot.result c.loop-index.invariant.in_range in_range);
     }
+
+pub returns-clause-values : goal.returns-clause-values
+returns-clause-values c =
+    c.loop-index.invariant.values ∙ ap (λ (rows : List Row). values_on c.args.row.now (vectors rows)) (take_all c.loop-index.index c.args.list.now.rows (subst (λ (n : ℕ). n ≤ c.loop-index.index) c.len-index-end.ensures c.loop-index-test.false))

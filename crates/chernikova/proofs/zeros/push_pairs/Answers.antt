@@ -4,6 +4,7 @@ use Rattle.sat_matrix.specs.Tables.{Table, bits_of, conjunction}
 use Rattle.cone_laws.specs.Steps.{pair_at}
 use Rattle.chernikova.specs.Tables.{HasPairs}
 use Rattle.chernikova.proofs.TableLemmas.{pairs_more}
+use Rattle.std.proofs.lemmas.List.{length_push, take_all}
 use Rattle.chernikova.proofs.zeros.push_pairs.Goals as goal
 
 pub loop-above-preserved : goal.loop-above-preserved
@@ -23,3 +24,9 @@ loop-above-preserved c =
       spare = omega (arith, c.loop-above.invariant.spare, c.push_and.ensures.spare, ap (λ (t : Table). t.spare) c.set.ensures);
       pairs = subst P (sym c.set.ensures) (pairs_more pairs i (pair_at pairs i).0 (pair_at pairs i).1 old cur c.push_and.new.self.columns (W at c.push_and.new.self.rows) last c.loop-above-test.true refl (c.requires.pairs i c.loop-above-test.true).0 (c.requires.pairs i c.loop-above-test.true).1 c.loop-above.invariant.pairs is_last c.push_and.ensures.columns c.push_and.new.self.spare rows);
     }
+
+pub set-requires-clause-row : goal.set-requires-clause-row
+set-requires-clause-row c = omega (arith, c.len-row.ensures, ap (λ (rows : List (List Bool)). length rows) c.push_and.ensures.rows ∙ length_push c.loop-above.zeros.rows _)
+
+pub returns : goal.returns
+returns c = subst (λ (pairs : List (ℕ × ℕ)). HasPairs pairs c.args.zeros.now c.loop-above.zeros) (take_all c.loop-above.above-index c.args.pairs.now c.loop-above-test.false) c.loop-above.invariant.pairs

@@ -3,6 +3,7 @@ use Rattle.std.proofs.Common.{subst, sym, arith, Option}
 use Rattle.chernikova.specs.declared.plan.Plan.{Plan}
 use Rattle.chernikova.specs.Conversion.{IsState}
 use Rattle.chernikova.specs.Plans.{IsPlan}
+use Rattle.std.proofs.lemmas.Bool.{false≢true}
 use Rattle.chernikova.proofs.beside.Beside.take_in.Goals as goal
 
 pub returns-clause-beside : goal.returns-clause-beside
@@ -16,3 +17,14 @@ returns-clause-beside g c = λ width rows h runs.
       state = subst P h.same_width c.in-Ok.ensures.state;
       planned = subst Q (sym c.take.ensures.after) tt;
     }
+
+pub returns-then-combinations-slack-clause-beside : goal.returns-then-combinations-slack-clause-beside
+returns-then-combinations-slack-clause-beside g c = λ width rows h runs.
+    record { same_width = h.same_width; reordered = h.reordered; taken = h.taken; state = h.state; planned = subst (λ (p : Option Plan). IfSome p (IsPlan c.args.self.now.rows.rows c.args.self.now.taken c.args.self.now.system)) (sym c.in-Some.ensures.value) h.planned }
+
+pub returns-in_default-clause-beside : goal.returns-in_default-clause-beside
+returns-in_default-clause-beside g c = λ width rows h runs.
+    record { same_width = h.same_width; reordered = h.reordered; taken = h.taken; state = h.state; planned = subst (λ (p : Option Plan). IfSome p (IsPlan c.args.self.now.rows.rows c.args.self.now.taken c.args.self.now.system)) (sym c.take.ensures.after) tt }
+
+pub returns-in_default-take_planned-clause-beside : goal.returns-in_default-take_planned-clause-beside
+returns-in_default-take_planned-clause-beside g c = λ width rows h runs. absurd (false≢true runs)
