@@ -1,7 +1,8 @@
 -- Rows whose cells stand in one buffer.
 use Rattle.std.specs.Prelude.{◌≡◌, ℕ, ◌+◌, ◌-◌, ◌<◌, ◌≤◌, List, [], ◌∷◌, ◌++◌, length, map, take, drop, ◌^◌, ℤ, All, slice_index_or}
 use Rattle.std.proofs.Common.{refl, sym, ap, ◌∙◌, subst, arith}
-use Rattle.std.proofs.lemmas.List.{append_assoc, map-append, take-append-le, drop-append-le, length-append, length-drop, drop_at, take_at, take_all, take_more}
+use Rattle.std.proofs.lemmas.List.{append_assoc, map-append, take-append-le, drop-append-le, length-append, length-drop, drop_at, take_at, take_all, take_more, get_or_default}
+use Rattle.std.proofs.Math.ListN.{get_or-map}
 use Rattle.std.proofs.lemmas.List.Elements.{All-head, All-tail, All-append, All-push, All-weaker}
 use Rattle.row_core.specs.Content.{IsPrimitiveOf}
 use Rattle.row_core.specs.Range.{InRange, AllInRange}
@@ -26,6 +27,14 @@ parts_kept {S} {M} start end mark cells more (s ∷ spans) all =
     let here = part_kept cells more (start s) (end s) (All-head P s spans all) in
     let rest = parts_kept start end mark cells more spans (All-tail P s spans all) in
     λ i. (here i, mark s) ∷ rest i
+
+-- a row of a list, by its span
+pub row_seen : {S M : Type 0} (start end : S → ℕ) (mark : S → M) (cells held : List ℤ) (spans : List S) (rows : List (List ℤ × M)) (i : ℕ) (s : S) (d : List ℤ × M) (row : List ℤ) → map {B = List ℤ × M} (λ t. (part (start t) (end t) cells, mark t)) spans ≡ rows → i < length rows → s ≡ slice_index_or spans i s → held ≡ cells → row ≡ part (start s) (end s) held → slice_index_or rows i d ≡ (row, mark s)
+row_seen {S} {M} start end mark cells held spans rows i s d row seen within is same_cells lent =
+    let shown : S → List ℤ × M = λ t. (part (start t) (end t) cells, mark t) in
+    let below : i < length (map shown spans) = omega (arith, within, ap length seen) in
+    ap (λ (l : List (List ℤ × M)). slice_index_or l i d) (sym seen) ∙ get_or_default (map shown spans) i d (shown s) below ∙ get_or-map shown spans i s ∙ ap shown (sym is)
+    ∙ ap (λ (v : List ℤ). (v, mark s)) (sym (lent ∙ ap (λ (l : List ℤ). part (start s) (end s) l) same_cells))
 
 -- a row is appended with its cells
 pub push_parts : {S M : Type 0} (start end : S → ℕ) (mark : S → M) (cells held row new : List ℤ) (spans kept pushed : List S) (s : S) (rows : List (List ℤ × M)) → All (λ t. IsSpan (length cells) (start t) (end t)) spans → map {B = List ℤ × M} (λ t. (part (start t) (end t) cells, mark t)) spans ≡ rows → held ≡ cells → new ≡ held ++ row → kept ≡ spans → pushed ≡ kept ++ s ∷ [] → start s ≡ length cells → end s ≡ length cells + length row → map {B = List ℤ × M} (λ t. (part (start t) (end t) new, mark t)) pushed ≡ rows ++ (row, mark s) ∷ []
