@@ -2,6 +2,7 @@ use Rattle.std.proofs.Common.{arith, ◌≡◌, ◌∙◌, ap, sym, subst, List,
 use Rattle.row_core.specs.Lists.{vectors}
 use Rattle.nnc_enc.specs.Strong.{IsPointPass, AreFirstVectors}
 use Rattle.nnc_enc.specs.Passes.{IsPassed}
+use Rattle.nnc_enc.proofs.MarkLemmas.{length-vectors}
 use Rattle.nnc_enc.proofs.StrongLemmas.{point_pass_is}
 use Rattle.std.proofs.lemmas.List.{take_at}
 use Rattle.std.proofs.lemmas.Result.{err_from_is_err_and}
@@ -35,3 +36,14 @@ returns-in_err-points c = let p = err_from_is_err_and c.from_residual.result c.f
 
 pub returns-in_err-strict : goal.returns-in_err-strict
 returns-in_err-strict c = let p = err_from_is_err_and c.from_residual-in_err-strict.result c.from_residual-in_err-strict.ensures.1 in rw p.1 tt
+
+pub drop_covered-requires-clause-marks : goal.drop_covered-requires-clause-marks
+drop_covered-requires-clause-marks c =
+    ap (λ (marks : List Bool). length marks) c.deref-4.ensures.value ∙ c.in_ok-points.ensures.as_many ∙ sym (c.requires.table.each.as_many ∙ length-vectors c.args.rays.now.rows)
+
+pub first_vectors-requires-clause-marks : goal.first_vectors-requires-clause-marks
+first_vectors-requires-clause-marks c =
+    ap (λ (marks : List Bool). length marks) c.deref.ensures.value ∙ c.in_ok-places.ensures.as_many ∙ sym (c.requires.table.each.as_many ∙ length-vectors c.args.rays.now.rows)
+
+pub drop_covered-requires-clause-wide : goal.drop_covered-requires-clause-wide
+drop_covered-requires-clause-wide c = ap (λ (marks : List Bool). length marks) c.deref-3.ensures.value ∙ c.in_ok-level.ensures.as_many ∙ sym c.requires.table.columns

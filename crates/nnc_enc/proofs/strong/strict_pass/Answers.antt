@@ -2,6 +2,7 @@ use Rattle.std.proofs.Common.{arith, ◌≡◌, ◌∙◌, ap, sym, subst, List,
 use Rattle.row_core.specs.Lists.{vectors}
 use Rattle.nnc_enc.specs.Strong.{IsStrictPass, AreFirstRows}
 use Rattle.nnc_enc.specs.Passes.{IsPassed}
+use Rattle.nnc_enc.proofs.MarkLemmas.{length-vectors}
 use Rattle.nnc_enc.proofs.StrongLemmas.{strict_pass_is}
 use Rattle.std.proofs.lemmas.List.{take_at}
 use Rattle.std.proofs.lemmas.Result.{err_from_is_err_and}
@@ -32,3 +33,17 @@ returns-in_err-places c = let p = err_from_is_err_and c.from_residual-in_err-pla
 
 pub returns-in_err-strict : goal.returns-in_err-strict
 returns-in_err-strict c = let p = err_from_is_err_and c.from_residual.result c.from_residual.ensures.1 in rw p.1 tt
+
+pub first_rows-requires-clause-as_many : goal.first_rows-requires-clause-as_many
+first_rows-requires-clause-as_many c = sym (c.requires.table.each.as_many ∙ length-vectors c.args.rays.now.rows)
+
+pub drop_covered-requires-clause-marks : goal.drop_covered-requires-clause-marks
+drop_covered-requires-clause-marks c =
+    ap (λ (marks : List Bool). length marks) c.deref-4.ensures.value ∙ c.in_ok-strict.ensures.as_many ∙ sym (c.requires.table.each.as_many ∙ length-vectors c.args.rays.now.rows)
+
+pub first_rows-requires-clause-marks : goal.first_rows-requires-clause-marks
+first_rows-requires-clause-marks c =
+    ap (λ (marks : List Bool). length marks) c.deref.ensures.value ∙ c.in_ok-strict.ensures.as_many ∙ sym (c.requires.table.each.as_many ∙ length-vectors c.args.rays.now.rows)
+
+pub drop_covered-requires-clause-wide : goal.drop_covered-requires-clause-wide
+drop_covered-requires-clause-wide c = ap (λ (marks : List Bool). length marks) c.deref-3.ensures.value ∙ c.in_ok-level.ensures.as_many ∙ sym c.requires.table.columns
