@@ -50,3 +50,30 @@ returns-else-u-gt0-clause-factors c =
     (factors_below c.args.u c.args.v g l r c.divisor_of-divisor.ensures.positive (simp to_z-of_z at c.divisor_of-divisor.ensures.greatest)
     (simp to_z-of_z at c.quotient-left.ensures.value) (simp to_z-of_z at c.quotient-right.ensures.value)
     (below_zero c.args.u c.requires.nonzero (simp to_z-of_z at c.if-u-gt0.false))))
+
+pub divisor_of-divisor-requires : goal.divisor_of-divisor-requires
+divisor_of-divisor-requires c = rw (to_z-of_z w128 c.args.u c.ranges.u, to_z-of_z w128 c.args.v c.ranges.v) (record { first_in_range = c.requires.first_in_range; second_in_range = c.requires.second_in_range; nonzero = c.requires.nonzero })
+
+pub quotient-left-requires-clause-in_range : goal.quotient-left-requires-clause-in_range
+quotient-left-requires-clause-in_range c = rw (to_z-of_z w128 c.args.u c.ranges.u) c.requires.first_in_range
+
+pub quotient-right-requires-clause-in_range : goal.quotient-right-requires-clause-in_range
+quotient-right-requires-clause-in_range c = rw (to_z-of_z w128 c.args.v c.ranges.v) c.requires.second_in_range
+
+pub quotient-left-requires-clause-positive : goal.quotient-left-requires-clause-positive
+quotient-left-requires-clause-positive c = rw (to_z-of_z w128 c.divisor_of-divisor.result (fits c.divisor_of-divisor.result c.divisor_of-divisor.ensures.in_range)) c.divisor_of-divisor.ensures.positive
+
+pub quotient-right-requires-clause-positive : goal.quotient-right-requires-clause-positive
+quotient-right-requires-clause-positive c = rw (to_z-of_z w128 c.divisor_of-divisor.result (fits c.divisor_of-divisor.result c.divisor_of-divisor.ensures.in_range)) c.divisor_of-divisor.ensures.positive
+
+pub negated-requires : goal.negated-requires
+negated-requires c = rw (to_z-of_z w128 c.quotient-right.result (fits c.quotient-right.result c.quotient-right.ensures.in_range)) c.quotient-right.ensures.in_range
+
+pub negated-requires-else-u-gt0 : goal.negated-requires-else-u-gt0
+negated-requires-else-u-gt0 c = rw (to_z-of_z w128 c.quotient-left.result (fits c.quotient-left.result c.quotient-left.ensures.in_range)) c.quotient-left.ensures.in_range
+
+pub returns-then-u-gt0-clause-in_range : goal.returns-then-u-gt0-clause-in_range
+returns-then-u-gt0-clause-in_range c = (rw (to_z-of_z w128 c.quotient-left.result (fits c.quotient-left.result c.quotient-left.ensures.in_range)) c.quotient-left.ensures.in_range, rw (to_z-of_z w128 c.negated.result (fits c.negated.result c.negated.ensures.in_range)) c.negated.ensures.in_range)
+
+pub returns-else-u-gt0-clause-in_range : goal.returns-else-u-gt0-clause-in_range
+returns-else-u-gt0-clause-in_range c = (rw (to_z-of_z w128 c.negated-else-u-gt0.result (fits c.negated-else-u-gt0.result c.negated-else-u-gt0.ensures.in_range)) c.negated-else-u-gt0.ensures.in_range, rw (to_z-of_z w128 c.quotient-right.result (fits c.quotient-right.result c.quotient-right.ensures.in_range)) c.quotient-right.ensures.in_range)
