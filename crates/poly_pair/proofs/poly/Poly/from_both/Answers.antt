@@ -1,4 +1,5 @@
-use Rattle.std.proofs.Common.{ℕ, ◌+◌, List, subst, rules}
+use Rattle.std.proofs.Common.{ℕ, ◌+◌, List, subst, arith}
+use Rattle.std.proofs.lemmas.Result.{err_from_is_err_and}
 use Rattle.row_core.specs.Lists.{Row}
 use Rattle.pair_laws.specs.WorkLists.{constraint_list}
 use Rattle.poly_pair.specs.Parts.{AreStoredOfRows}
@@ -26,11 +27,21 @@ returns-clause-stored_of_constraints g c =
     subst (λ (k : ℕ). AreStoredOfRows Closed k (constraint_list cs) c.in_ok-made.made) c.dim-dim.ensures.value
     (subst (λ (rs : List Row). AreStoredOfRows Closed c.dim-dim.result rs c.in_ok-made.made) c.in_ok-list.ensures.rows c.in_ok-made.ensures.stored)
 
-pub returns-in_err-found-clause-overflow : goal.returns-in_err-found-clause-overflow
-returns-in_err-found-clause-overflow g c =
+pub returns-in_err-found : goal.returns-in_err-found
+returns-in_err-found g c =
     let cs = c.args.cons.now in
     let e = c.in_err-found.field-0.0 in
+    let p = err_from_is_err_and c.from_residual-in_err-found.result c.from_residual-in_err-found.ensures.1 in
     let h : IsOverflowOn (cs.dim + 1) cs.dim (constraint_list cs) e =
     subst (λ (k : ℕ). IsOverflowOn (k + 1) k (constraint_list cs) e) c.dim-dim.ensures.value
     (subst (λ (rs : List Row). IsOverflowOn (c.dim-dim.result + 1) c.dim-dim.result rs e) c.in_ok-list.ensures.rows c.in_err-found.ensures.overflow) in
-    search rules
+    rw (p.1, p.2) (record { constraints = tt; generators = tt; stored_of_constraints = tt; stored_of_generators = tt; overflow = h; no_fewer = omega arith })
+
+pub returns-in_err-list : goal.returns-in_err-list
+returns-in_err-list g c = let p = err_from_is_err_and c.from_residual.result c.from_residual.ensures.1 in rw (p.1, p.2) (record { constraints = tt; generators = tt; stored_of_constraints = tt; stored_of_generators = tt; overflow = tt; no_fewer = omega arith })
+
+pub returns-in_err-start : goal.returns-in_err-start
+returns-in_err-start g c = let p = err_from_is_err_and c.from_residual-in_err-start.result c.from_residual-in_err-start.ensures.1 in rw (p.1, p.2) (record { constraints = tt; generators = tt; stored_of_constraints = tt; stored_of_generators = tt; overflow = tt; no_fewer = omega arith })
+
+pub returns-in_err-made : goal.returns-in_err-made
+returns-in_err-made g c = let p = err_from_is_err_and c.from_residual-in_err-made.result c.from_residual-in_err-made.ensures.1 in rw (p.1, p.2) (record { constraints = tt; generators = tt; stored_of_constraints = tt; stored_of_generators = tt; overflow = tt; no_fewer = omega arith })
