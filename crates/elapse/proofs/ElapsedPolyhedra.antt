@@ -5,6 +5,7 @@ use Rattle.std.proofs.Math.ListN.{get_or-append}
 use Rattle.std.proofs.lemmas.List.{length-append}
 use Rattle.std.proofs.lemmas.List.Elements.{All-nil, All-cons, All-append}
 use Rattle.row_core.specs.Points.{IsPoint}
+use Rattle.row_core.specs.declared.errors.Overflow.{Overflow}
 use Rattle.cons_sys.specs.declared.kind.ConKind.TheVariants.{Ge}
 use Rattle.cons_sys.specs.Constraints.{Constraints, FitDimension, In}
 use Rattle.gens_sys.specs.declared.kind.GenKind.{GenKind}
@@ -13,11 +14,12 @@ use Rattle.gens_sys.specs.Generators.{Generator, Generators, FitDimension as Fit
 use Rattle.gens_sys.specs.Spans.{Span}
 use Rattle.pair_laws.specs.PointSets.{IsWithin, IsClosedGenKind}
 use Rattle.pair_laws.specs.StoredForms.{false_row}
+use Rattle.pair_laws.specs.WorkLists.{LeavesOn}
 use Rattle.pair_laws.proofs.StoredPair.{inner_point}
 use Rattle.pair_laws.proofs.Stored.{stored_is_closed, pair_point}
 use Rattle.poly_pair.specs.declared.topology.Topology.{Topology}
 use Rattle.poly_pair.specs.declared.topology.Topology.TheVariants.{Closed, Nnc}
-use Rattle.poly_pair.specs.TopologyLists.{AreConstraintsFor, AreGeneratorsFor, generators_of}
+use Rattle.poly_pair.specs.TopologyLists.{AreConstraintsFor, AreGeneratorsFor, list_width, generators_of}
 use Rattle.poly_pair.specs.Polyhedra.{Polyhedron, IsStoredAs, IsKept, HasNoPoint, IsOfGenerators}
 use Rattle.poly_pair.specs.KeptLaws.{KeptIsPair}
 use Rattle.poly_pair.specs.FirstLists.{LacksPoint}
@@ -26,7 +28,7 @@ use Rattle.set_laws.specs.Asking.{HasPoint}
 use Rattle.set_laws.proofs.GeneratorLaws.{spans_law}
 use Rattle.elapse.specs.Directions.{AreDirections, no_direction, zero_direction, one_direction, direction_kind}
 use Rattle.elapse.specs.ElapsedPoints.{IsElapsed}
-use Rattle.elapse.specs.Elapses.{IsElapse, followed, AreStoredOfList}
+use Rattle.elapse.specs.Elapses.{IsElapse, followed, AreStoredOfList, LeavesOnElapse}
 use Rattle.elapse.proofs.ElapseLaws.{false_for, never_satisfied}
 use Rattle.elapse.proofs.ElapsedSets.{AreSystems, elapse_points}
 
@@ -176,6 +178,17 @@ module _ (p q : Polyhedron) (law : KeptIsPair) (kept : IsKept p) (kept_q : IsKep
       stored =
           subst (λ u. AreStoredOfVectors u p.gens.dim (generators_of u (followed p.gens new)) r) same_t
           (subst (λ (gs : Generators). AreStoredOfVectors t gs.dim (generators_of t gs) r) is_joined s);
+    }
+
+    pub joined_leaves : (over : Overflow) → LeavesOn (list_width t joined.dim) joined.dim (generators_of t joined) over → LeavesOnElapse p q over
+    joined_leaves over h = record {
+      some = some;
+      moving = moving;
+      rows = generators_of p.topology (followed p.gens new);
+      is_list = record { directions = new; are_directions = are; listed = refl };
+      leaves =
+          subst (λ u. LeavesOn (list_width u p.gens.dim) p.gens.dim (generators_of u (followed p.gens new)) over) same_t
+          (subst (λ (gs : Generators). LeavesOn (list_width t gs.dim) gs.dim (generators_of t gs) over) is_joined h);
     }
 
 -- ---- the joined list

@@ -2,13 +2,11 @@
 ghost use Rattle.elapse.specs.ElapseLaws.{ElapseIncludesStart, ElapseMovesOn};
 
 /// Each point of the first set is in the time elapse, where the second set has a point.
-#[tactic(auto, using(crate::proofs::ElapseLaws::start_law))]
 pub fn elapse_includes_start()
     ensures { ElapseIncludesStart }
 {}
 
 /// From each point of the time elapse each point of the second set leads to points of the time elapse.
-#[tactic(auto, using(crate::proofs::ElapseLaws::moves_law))]
 pub fn elapse_moves_on()
     ensures { ElapseMovesOn }
 {}
