@@ -1,4 +1,4 @@
-use Rattle.std.proofs.Common.{◌<◌, ◌*◌, ℕ, sym, subst, ap, ◌∙◌, length, All}
+use Rattle.std.proofs.Common.{◌<◌, ◌*◌, sym, subst, ap, ◌∙◌, length, All}
 use Rattle.std.proofs.lemmas.List.Elements.{All-push}
 use Rattle.trans_sys.specs.declared.transition.Transition.{Transition}
 use Rattle.trans_sys.specs.Systems.{TransitionSystem, IsTransition}
