@@ -13,6 +13,13 @@ column_stays (Some z) s x t y left right p q e f h =
     let same : left +ℤ right ≡ s *ℤ x +ℤ t *ℤ y = ap (λ (a : ℤ). a +ℤ right) e ∙ ap (λ (b : ℤ). s *ℤ x +ℤ b) f in
     (record { left = p; right = q; sum = subst InRange same h.0 }, h.1 ∙ same)
 
+-- the product is in the range, so the total with it is exactly where the sum is
+pub product_added : (r : Option ℤ) (total product value : ℤ) → InRange value → product ≡ value → SomeIff r (InRange (total +ℤ product)) (total +ℤ product) → SomeIff r (InRange value × InRange (total +ℤ value)) (total +ℤ value)
+product_added None total product value p e h = λ both. h (subst (λ (z : ℤ). InRange (total +ℤ z)) (sym e) both.1)
+product_added (Some z) total product value p e h =
+    let same : total +ℤ product ≡ total +ℤ value = ap (λ (a : ℤ). total +ℤ a) e in
+    ((p, subst InRange same h.0), h.1 ∙ same)
+
 -- the running total with one column more
 pub total_more : (u v : List ℤ) (j : ℕ) (total : ℤ) → j < length u → length u ≡ length v → total ≡ dot (take j u) (take j v) → total +ℤ cell u j *ℤ cell v j ≡ dot (take (j + 1) u) (take (j + 1) v)
 total_more u v j total h e same =

@@ -22,3 +22,15 @@ pub returns-clause-value : goal.returns-clause-value
 returns-clause-value c =
     exact_quotient c.args.x c.args.divisor c.requires.divides ∙
     ap (λ (q : ℤ). c.args.divisor *ℤ q) (sym (quot_is w128 c.args.x c.args.divisor c.ranges.x c.ranges.divisor (quot_fits w128 c.args.x c.args.divisor c.ranges.x c.requires.positive)))
+
+pub overflow_cast-x : goal.overflow_cast-x
+overflow_cast-x c =
+    let x = to_z-of_z w128 c.args.x c.ranges.x in
+    let both = rw (x, to_z-of_z w128 c.args.divisor c.ranges.divisor) at c.both_narrow.ensures in
+    rw x (fits_signed_from_abs w64 c.args.x (omega (arith, (both c.if-both_narrow.true).0.size)))
+
+pub overflow_cast-divisor : goal.overflow_cast-divisor
+overflow_cast-divisor c =
+    let divisor = to_z-of_z w128 c.args.divisor c.ranges.divisor in
+    let both = rw (to_z-of_z w128 c.args.x c.ranges.x, divisor) at c.both_narrow.ensures in
+    rw divisor (fits_signed_from_abs w64 c.args.divisor (omega (arith, (both c.if-both_narrow.true).1.size)))
