@@ -1,5 +1,5 @@
 -- What is written of the one system that a conversion makes.
-use Rattle.std.proofs.Common.{◌≡◌, ℕ, ◌<◌, ◌^◌, List, length, sym, ap, ◌∙◌, subst}
+use Rattle.std.proofs.Common.{◌≡◌, ℕ, ◌+◌, ◌<◌, ◌^◌, List, length, sym, ap, ◌∙◌, subst}
 use Rattle.cons_sys.specs.Constraints as cons
 use Rattle.cons_sys.specs.Constraints.{Constraints}
 use Rattle.gens_sys.specs.Generators as gens
@@ -7,10 +7,14 @@ use Rattle.gens_sys.specs.Generators.{Generators}
 use Rattle.cdd_text.specs.ReadBack.{ConstraintsAreReadBack, GeneratorsAreReadBack}
 use Rattle.cdd_text.specs.Written.{ine_text, ext_text, HasNoStrict, HasNoClosurePoint}
 use Rattle.cdd_text.specs.declared.format.Format.TheVariants.{Ine, Ext}
+use Rattle.row_core.specs.declared.errors.ConvErr.{ConvErr}
+use Rattle.row_core.specs.declared.errors.ConvErr.TheVariants as conversion
+use Rattle.chernikova.specs.Conversion.{IsRealOverflow}
+use Rattle.pair_laws.specs.WorkLists.{constraint_list, generator_list}
 use Rattle.pair_laws.specs.StoredLaws.{StoredIsClosed}
 use Rattle.poly_pair.specs.KeptLaws.{KeptIsPair, KeptIsEmpty}
 use Rattle.poly_pair.specs.OtherSystems.{AreStoredGenerators, AreStoredConstraints}
-use Rattle.file_poly.specs.Files.{IsOfFile, IsOtherFileOf}
+use Rattle.file_poly.specs.Files.{IsOfFile, IsOtherFileOf, IsOverflowOnFirst}
 use Rattle.file_poly.specs.declared.listed.Listed.TheVariants.{Cons, Gens}
 use Rattle.file_poly.proofs.FileKinds.{written_constraints, written_generators}
 use Rattle.file_poly.proofs.WrittenPolyhedra.{closed_forms, constraints_of_points, generators_of_points}
@@ -50,3 +54,11 @@ file_of_constraints stored law gs cs text s fit few written =
       same_points = subst (λ (t : List ℕ). IsOfFile Ine t p) (sym same)
           (constraints_of_points stored law p s.kept s.set.over.same_topology fits (subst (λ (ds : Constraints). length ds.list < 2 ^ 64) (sym s.cons) few));
     }
+
+pub overflow_of_constraints : (cs : Constraints) (cause : ConvErr) → IsRealOverflow (cs.dim + 1) (constraint_list cs) cause → IsOverflowOnFirst (Cons cs) cause
+overflow_of_constraints cs (conversion.Overflow over) h = h
+overflow_of_constraints cs conversion.Memory h = tt
+
+pub overflow_of_generators : (gs : Generators) (cause : ConvErr) → IsRealOverflow (gs.dim + 1) (generator_list gs) cause → IsOverflowOnFirst (Gens gs) cause
+overflow_of_generators gs (conversion.Overflow over) h = h
+overflow_of_generators gs conversion.Memory h = tt

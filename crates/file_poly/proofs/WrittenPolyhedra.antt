@@ -1,5 +1,5 @@
 -- What is written of a polyhedron is a file of its points.
-use Rattle.std.proofs.Common.{◌≡◌, ◌≢◌, ℕ, ◌<◌, ◌≤◌, ◌^◌, zero, suc, List, [], ◌∷◌, length, Bool, true, false, refl, sym, ◌∙◌, subst, arith, inl, inr, ◌⊎◌}
+use Rattle.std.proofs.Common.{◌≡◌, ℕ, ◌<◌, ◌^◌, zero, suc, List, [], ◌∷◌, length, Bool, true, false, refl, sym, subst, arith, inl, inr, ◌⊎◌}
 use Rattle.std.specs.Prelude.{IfOk, Result, Ok, Err, ℤ}
 use Rattle.std.specs.List.{list_any}
 use Rattle.row_core.specs.declared.errors.Memory.{Memory}
@@ -14,7 +14,6 @@ use Rattle.cdd_text.specs.ReadBack.{ConstraintsAreReadBack, GeneratorsAreReadBac
 use Rattle.cdd_text.specs.Written.{ine_text, ext_text}
 use Rattle.cdd_text.specs.declared.format.Format.TheVariants.{Ine, Ext}
 use Rattle.pair_laws.specs.PointSets.{IsWithin}
-use Rattle.pair_laws.specs.StoredForms.{IsStored}
 use Rattle.pair_laws.specs.StoredLaws.{StoredIsClosed, AreClosedForms}
 use Rattle.poly_pair.specs.FirstLists.{HasNoPointKind}
 use Rattle.poly_pair.specs.KeptLaws.{KeptIsPair, KeptIsEmpty}
