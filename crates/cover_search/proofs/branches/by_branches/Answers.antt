@@ -68,3 +68,14 @@ returns-in_err-push-clause-found g c = let p = err_from_is_err_and c.from_residu
 
 pub returns-in_err-region-clause-found : goal.returns-in_err-region-clause-found
 returns-in_err-region-clause-found g c = let p = err_from_is_err_and c.from_residual.result c.from_residual.ensures.1 in rw p.1 tt
+
+pub loop-piece-preserved-else-is_some : goal.loop-piece-preserved-else-is_some
+loop-piece-preserved-else-is_some g c =
+    let all : All (IsPiece c.args.first.now c.args.systems.now) (c.pop.new.self.items ++ c.in-Some.piece ∷ []) = subst (All (IsPiece c.args.first.now c.args.systems.now)) c.in-Some.ensures.items c.loop-piece.invariant.pieces in
+    let p = All-head (IsPiece c.args.first.now c.args.systems.now) c.in-Some.piece [] (all_right (IsPiece c.args.first.now c.args.systems.now) c.pop.new.self.items (c.in-Some.piece ∷ []) all) in
+    let none : is_some c.in_ok-found.found ≡ false = sym c.is_some.ensures ∙ c.if-is_some.false in
+    let t = went_on c.args.first.now c.args.systems.now c.requires.inequalities c.in-Some.piece p c.pop.new.self.items c.turn.new.pending.items c.in_ok-found.found none c.in_ok-found.ensures.turn in
+    record {
+      pieces = turn_pieces c.args.first.now c.args.systems.now c.in-Some.piece p c.pop.new.self.items c.turn.new.pending.items t (all_left (IsPiece c.args.first.now c.args.systems.now) c.pop.new.self.items (c.in-Some.piece ∷ []) all);
+      told = turn_told c.args.first.now c.args.systems.now c.in-Some.piece p c.requires.inequalities c.pop.new.self.items c.turn.new.pending.items t (subst (AreAllTold c.args.first.now c.args.systems.now) c.in-Some.ensures.items c.loop-piece.invariant.told);
+    }

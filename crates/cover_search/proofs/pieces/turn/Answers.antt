@@ -1,10 +1,11 @@
-use Rattle.std.proofs.Common.{◌≡◌, ◌∙◌, inl, inr, Some, refl, sym, ap, rules, arith}
+use Rattle.std.proofs.Common.{◌≡◌, ◌∙◌, inl, inr, Some, refl, sym, ap, rules, arith, subst}
 use Rattle.std.specs.Prelude.{slice_get}
 use Rattle.std.proofs.lemmas.Option.{slice_get-get_or}
 use Rattle.row_core.specs.Refusals.{IsOverflowIn}
 use Rattle.cover_search.specs.Pieces.{LeavesInTurn}
 use Rattle.cover_search.proofs.TurnLemmas.{next_leaves}
 use Rattle.std.proofs.lemmas.Result.{err_from_is_err_and}
+use Rattle.cover_search.specs.Inequalities.{AreInequalities}
 use Rattle.cover_search.proofs.pieces.turn.Goals as goal
 
 pub returns-in_err-split-clause-overflow : goal.returns-in_err-split-clause-overflow
@@ -34,3 +35,11 @@ returns-then-piece-systems-clause-turn g c = record { all = c.if-piece-systems.t
 
 pub returns-then-lies_in_some-clause-turn : goal.returns-then-lies_in_some-clause-turn
 returns-then-lies_in_some-clause-turn g c = inl (inr (c.lies_in_some.ensures c.if-lies_in_some.true), refl)
+
+pub split-requires-clause-row : goal.split-requires-clause-row
+split-requires-clause-row g c =
+    let rows = c.index-systems-passed.result in
+    c.requires.within.row rows (slice_get-get_or c.args.systems.now c.args.piece.passed rows (omega arith) ∙ ap Some (sym c.index-systems-passed.is))
+
+pub split-requires-clause-inequalities : goal.split-requires-clause-inequalities
+split-requires-clause-inequalities g c = subst AreInequalities (sym c.index-systems-passed.is) (c.requires.inequalities c.args.piece.passed c.index-systems-passed.result (omega arith))

@@ -65,3 +65,14 @@ returns-in_err-push g c = let p = err_from_is_err_and c.from_residual-in_err-pus
 
 pub returns-in_err-region : goal.returns-in_err-region
 returns-in_err-region g c = let p = err_from_is_err_and c.from_residual.result c.from_residual.ensures.1 in rw p.1 tt
+
+pub loop-part-preserved-else-is_some : goal.loop-part-preserved-else-is_some
+loop-part-preserved-else-is_some g c =
+    let all : All (IsPart c.args.first.now c.args.systems.now) (c.pop.new.self.items ++ c.in-Some.part ∷ []) = subst (All (IsPart c.args.first.now c.args.systems.now)) c.in-Some.ensures.items c.loop-part.invariant.parts in
+    let p = All-head (IsPart c.args.first.now c.args.systems.now) c.in-Some.part [] (all_right (IsPart c.args.first.now c.args.systems.now) c.pop.new.self.items (c.in-Some.part ∷ []) all) in
+    let none : is_some c.in_ok-found.found ≡ false = sym c.is_some.ensures ∙ c.if-is_some.false in
+    let s = went_on c.args.first.now c.args.systems.now c.in-Some.part p c.pop.new.self.items c.settle.new.pending.items c.in_ok-found.found none c.in_ok-found.ensures in
+    record {
+      parts = turn_parts c.args.first.now c.args.systems.now c.in-Some.part p c.pop.new.self.items c.settle.new.pending.items s (all_left (IsPart c.args.first.now c.args.systems.now) c.pop.new.self.items (c.in-Some.part ∷ []) all);
+      told = turn_told c.args.first.now c.args.systems.now c.in-Some.part p c.pop.new.self.items c.settle.new.pending.items s (subst (AreAllTold c.args.first.now c.args.systems.now) c.in-Some.ensures.items c.loop-part.invariant.told);
+    }

@@ -1,4 +1,4 @@
-use Rattle.std.proofs.Common.{◌≡◌, ◌+◌, List, ◌++◌, ◌∷◌, [], sym, ◌∙◌, ap, rules}
+use Rattle.std.proofs.Common.{◌≡◌, ◌+◌, List, ◌++◌, ◌∷◌, [], sym, ◌∙◌, ap, rules, arith, length}
 use Rattle.row_core.specs.Lists.{Row}
 use Rattle.row_core.specs.Refusals.{IsOverflowIn}
 use Rattle.cons_sys.specs.Constraints.{Constraints, constraint_at}
@@ -6,6 +6,7 @@ use Rattle.nnc_enc.specs.Encoding.{encoded_constraint, encoded_constraints}
 use Rattle.cover_search.specs.Regions.{LeavesOnList, with_one}
 use Rattle.cover_search.proofs.RegionLemmas.{has_cone, front_cone, list_with_one, list_overflow}
 use Rattle.std.proofs.lemmas.Result.{err_from_is_err_and}
+use Rattle.std.proofs.lemmas.List.{length_push}
 use Rattle.cover_search.proofs.region.Region.narrowed.Goals as goal
 
 pub add_rows-requires-clause-system : goal.add_rows-requires-clause-system
@@ -45,3 +46,6 @@ returns-in_err-added-clause-region g c = let p = err_from_is_err_and c.from_resi
 
 pub returns-in_err-push_one-clause-region : goal.returns-in_err-push_one-clause-region
 returns-in_err-push_one-clause-region g c = let p = err_from_is_err_and c.from_residual.result c.from_residual.ensures.1 in rw p.1 tt
+
+pub add_rows-requires-clause-from : goal.add_rows-requires-clause-from
+add_rows-requires-clause-from g c = omega (arith, c.len-from.ensures, ap (λ (rows : List Row). length rows) c.in_ok-push_one.ensures.rows ∙ length_push c.self.inside.list.rows _)
