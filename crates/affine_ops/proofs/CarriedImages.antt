@@ -1,8 +1,10 @@
 -- The image and the preimage of a closed set from its stored pair.
-use Rattle.std.proofs.Common.{◌≡◌, ℕ, ◌+◌, ◌<◌, List, [], ◌∷◌, length, map, slice_index_or, false, ℤ, pos, unsigned_abs, ◌<ℤ◌, sym, ap, ◌∙◌, subst, refl, suc, ◌≢◌, arith}
+use Rattle.std.proofs.Common.{◌≡◌, ℕ, ◌+◌, ◌<◌, List, [], ◌∷◌, length, map, slice_index_or, Bool, true, false, not, ◌^◌, ℤ, pos, neg_ℤ, unsigned_abs, ◌<ℤ◌, sym, ap, ◌∙◌, subst, refl, suc, ◌≢◌, arith}
 use Rattle.std.proofs.lemmas.List.{length-map, nil_from_length}
+use Rattle.std.specs.Prelude.{⊤, MatchBool}
 use Rattle.std.specs.Int.{w128}
-use mir.Val.{to_z, of_z}
+use Rattle.std.proofs.lemmas.Int.{fits_signed_from_abs}
+use mir.Val.{SFits, to_z, of_z}
 use Rattle.row_core.specs.Range.{InRange}
 use Rattle.row_core.specs.Vectors.{cell}
 use Rattle.row_core.specs.Lists.{vectors}
@@ -10,7 +12,7 @@ use Rattle.cone_laws.specs.Canon.{IsSystem}
 use Rattle.cone_laws.specs.Duality.{lines_of, rays_of}
 use Rattle.cone_laws.specs.Members.{ConeOf}
 use Rattle.cone_laws.proofs.Columns.{length-scale}
-use Rattle.cone_laws.proofs.FactorLemmas.{back}
+use Rattle.cone_laws.proofs.FactorLemmas.{back, magnitude-neg}
 use Rattle.cons_sys.specs.Constraints.{Constraints, FitDimension as FitConstraints}
 use Rattle.gens_sys.specs.declared.kind.GenKind.{GenKind}
 use Rattle.gens_sys.specs.declared.kind.GenKind.TheVariants.{Line, Ray, Point, ClosurePoint}
@@ -129,3 +131,11 @@ machine_positive a size r v h = subst (λ (z : ℤ). pos 0 <ℤ z) (sym (machine
 pub machine_mapped : (p : Polyhedron) (var : ℕ) (a size : ℤ) (lent : List ℤ) (old gs : Generators) → InRange a → size ≡ pos (unsigned_abs (to_z w128 (of_z w128 a))) → old ≡ p.gens → IsKept p → IsMappedSystem (substituted var lent (to_z w128 (of_z w128 size))) old.dim old gs → IsMappedSystem (substituted var lent (pos (unsigned_abs a))) p.cons.dim p.gens gs
 machine_mapped p var a size lent old gs r v same k s =
     lent_generators (λ n. substituted var lent (pos (unsigned_abs a))) (λ n. n) p old gs same k (subst (λ (z : ℤ). IsMappedSystem (substituted var lent z) old.dim old gs) (machine_size a size r v) s)
+
+-- a number of the range, negated to take its size, fits
+pub machine_negated : (a : ℤ) → InRange a → SFits w128 (neg_ℤ (to_z w128 (of_z w128 a)))
+machine_negated a r = subst (λ (z : ℤ). SFits w128 (neg_ℤ z)) (sym (back a r)) (fits_signed_from_abs w128 (neg_ℤ a) (subst (λ (n : ℕ). n < 2 ^ 127) (sym (magnitude-neg a)) r.size))
+
+pub carried_if : (p : Polyhedron) (part : ℤ) (lent : Generators) (line : Bool) → CanStart p → part ≢ pos 0 → lent ≡ p.gens → MatchBool line ⊤ (HaveNoLine lent.list) → MatchBool (not line) (CanBeCarried p part) ⊤
+carried_if p part lent true start is e none = tt
+carried_if p part lent false start is e none = record { start = start; part_is = is; no_line = subst (λ (gs : Generators). HaveNoLine gs.list) e none }

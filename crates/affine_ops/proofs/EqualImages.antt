@@ -1,5 +1,5 @@
 -- Images and preimages by equality are those by the map that replaces the variable.
-use Rattle.std.proofs.Common.{◌≡◌, ◌≢◌, ◌⊎◌, inl, inr, ℕ, ◌+◌, ◌<◌, ◌≤◌, List, length, slice_set, ℤ, pos, ◌*ℤ◌, ◌<ℤ◌, refl, sym, ap, ◌∙◌, subst, arith}
+use Rattle.std.proofs.Common.{◌≡◌, ◌≢◌, ◌⊎◌, inl, inr, ℕ, ◌+◌, ◌<◌, ◌≤◌, List, length, slice_set, ℤ, pos, ◌*ℤ◌, ◌<ℤ◌, refl, sym, ap, ◌∙◌, subst, arith, true, false, rules}
 use Rattle.std.specs.Prelude.{Result, IfOk, IfErr}
 use Rattle.std.proofs.lemmas.Result.{IfOk-weaker, IfErr-weaker}
 use Rattle.std.specs.List.{range_with_len}
@@ -17,6 +17,8 @@ use Rattle.cone_laws.proofs.Columns.{cell-scale, length-scale}
 use Rattle.cons_sys.specs.Constraints.{In}
 use Rattle.cons_sys.proofs.SystemLemmas.{In-same_point}
 use Rattle.poly_pair.specs.Polyhedra.{Polyhedron}
+use denote.Enum.Bare.{sameb, same_true, same_false}
+use Rattle.affine_ops.specs.contracts.relations.ImageRel.{the_type}
 use Rattle.affine_ops.specs.declared.relations.ImageRel.{ImageRel}
 use Rattle.affine_ops.specs.declared.relations.ImageRel.TheVariants.{Eq, Ge, Le, Gt, Lt}
 use Rattle.affine_ops.specs.Maps.{substituted, pulled_back, with_zeros}
@@ -250,3 +252,10 @@ module _ (rel : ImageRel) (var : ℕ) (expr : List ℤ) (read den : ℤ) (told :
 
     pub other_preimage_leaves : IfErr r (IsOverflowIn (LeavesOnRelation (moved p.cons.dim var) (range_with_len 0 p.cons.dim) rel expr read p)) → IfErr r (IsOverflowIn (LeavesInPreimageBy rel var expr den p))
     other_preimage_leaves h = subst (λ (z : ℤ). IfErr r (IsOverflowIn (LeavesInPreimageBy rel var expr z p))) told (IfErr-weaker r (IsOverflowIn (LeavesOnRelation (moved p.cons.dim var) (range_with_len 0 p.cons.dim) rel expr read p)) (IsOverflowIn (LeavesInPreimageBy rel var expr read p)) (overflow_weaker (LeavesOnRelation (moved p.cons.dim var) (range_with_len 0 p.cons.dim) rel expr read p) (LeavesInPreimageBy rel var expr read p) (λ over l. preimage_leaves rel var expr read p over ne l)) h)
+
+-- what the test whether a relation is equality tells
+pub told_equal : (rel : ImageRel) → true ≡ sameb the_type rel Eq → rel ≡ Eq
+told_equal rel h = same_true the_type (search rules) rel Eq (sym h)
+
+pub told_other : (rel : ImageRel) → false ≡ sameb the_type rel Eq → rel ≢ Eq
+told_other rel h = same_false the_type rel Eq (sym h)

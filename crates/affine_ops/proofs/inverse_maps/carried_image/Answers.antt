@@ -1,6 +1,7 @@
 use Rattle.std.proofs.Common.{pos, ◌<◌, length, unsigned_abs, sym, subst, ap, arith}
 use Rattle.std.specs.Prelude.{⊤, IfOk, MatchOption}
 use Rattle.std.specs.Int.{w128}
+use Rattle.std.proofs.lemmas.Result.{err_from_is_err_and}
 use Rattle.std.proofs.lemmas.Int.{to_z-of_z}
 use Rattle.row_core.specs.Vectors.{cell}
 use Rattle.row_core.specs.Range.{AllInRange, InRange}
@@ -10,7 +11,7 @@ use Rattle.poly_pair.specs.declared.topology.Topology.{Topology}
 use Rattle.poly_pair.specs.Polyhedra.{IsOfGenerators}
 use Rattle.poly_pair.specs.Parts.{AreStoredOfGenerators}
 use Rattle.affine_ops.specs.CarriedSystems.{CanBeCarried}
-use Rattle.affine_ops.proofs.CarriedImages.{image_pair, machine_in_range, machine_inverse, machine_pulled}
+use Rattle.affine_ops.proofs.CarriedImages.{image_pair, machine_in_range, machine_inverse, machine_negated, machine_pulled}
 use Rattle.affine_ops.proofs.inverse_maps.carried_image.Goals as goal
 
 pub preimage_constraints-requires : goal.preimage_constraints-requires
@@ -40,3 +41,26 @@ pub returns-clause-stored : goal.returns-clause-stored
 returns-clause-stored g c =
     let can : CanBeCarried c.args.p.now (cell c.args.expr.now c.args.var) = c.if-not-can_be_carried.ensures in
     subst (λ (t : Topology). IfOk c.paired.result (λ found. MatchOption found ⊤ (AreStoredOfGenerators t c.args.gens.now))) (sym can.start.closed) c.paired.ensures.stored_of_generators
+
+pub inverse_row-requires : goal.inverse_row-requires
+inverse_row-requires g c =
+    let can : CanBeCarried c.args.p.now (cell c.args.expr.now c.args.var) = c.if-not-can_be_carried.ensures in
+    record {
+      var = omega (arith, c.requires.var, c.requires.wide);
+      narrow = omega (arith, c.requires.wide, c.dim-dim.ensures.value, c.dim-dim.ensures.narrow);
+      part = can.part_is;
+      in_range = c.requires.in_range;
+      den_in_range = subst InRange (sym (to_z-of_z w128 c.args.den c.ranges.den)) c.requires.den_in_range;
+    }
+
+pub returns-in_err-row : goal.returns-in_err-row
+returns-in_err-row g c = let p = err_from_is_err_and c.from_residual.result c.from_residual.ensures.1 in rw p.1 (record { points = tt; stored = tt; no_fewer = omega arith })
+
+pub paired-requires-clause-narrow : goal.paired-requires-clause-narrow
+paired-requires-clause-narrow g c = omega (arith, c.in-Ok.ensures.system.same_dim, ap (λ (cs : Constraints). cs.dim) c.cons.ensures.value, c.dim-dim.ensures.value, c.dim-dim.ensures.narrow)
+
+pub returns-clause-no_fewer : goal.returns-clause-no_fewer
+returns-clause-no_fewer g c = omega (arith, c.in-Ok.ensures.no_fewer, c.paired.ensures.no_fewer)
+
+pub abs-requires : goal.abs-requires
+abs-requires g c = machine_negated (cell c.args.expr.now c.args.var) (c.requires.in_range c.args.var (pos 0) (omega (arith, c.requires.wide, c.requires.var)))

@@ -1,6 +1,7 @@
 use Rattle.std.proofs.Common.{pos, length, unsigned_abs, sym, subst, ap, arith}
 use Rattle.std.specs.Prelude.{⊤, IfOk, MatchOption}
 use Rattle.std.specs.Int.{w128}
+use Rattle.std.proofs.lemmas.Result.{err_from_is_err_and}
 use Rattle.std.proofs.lemmas.Int.{to_z-of_z}
 use Rattle.row_core.specs.Vectors.{cell}
 use Rattle.row_core.specs.Range.{AllInRange, InRange}
@@ -11,7 +12,7 @@ use Rattle.poly_pair.specs.Polyhedra.{IsOfConstraints}
 use Rattle.poly_pair.specs.Parts.{AreStoredOfRows}
 use Rattle.poly_pair.specs.TopologyLists.{constraints_of}
 use Rattle.affine_ops.specs.CarriedSystems.{CanBeCarried}
-use Rattle.affine_ops.proofs.CarriedImages.{preimage_pair, machine_in_range, machine_positive, machine_inverse, machine_mapped}
+use Rattle.affine_ops.proofs.CarriedImages.{preimage_pair, machine_in_range, machine_positive, machine_inverse, machine_mapped, machine_negated}
 use Rattle.affine_ops.proofs.inverse_maps.carried_preimage.Goals as goal
 
 pub image_generators-requires : goal.image_generators-requires
@@ -45,3 +46,26 @@ pub returns-clause-stored : goal.returns-clause-stored
 returns-clause-stored g c =
     let can : CanBeCarried c.args.p.now (cell c.args.expr.now c.args.var) = c.if-not-can_be_carried.ensures in
     subst (λ (t : Topology). IfOk c.paired.result (λ found. MatchOption found ⊤ (AreStoredOfRows t c.args.cons.now.dim (constraints_of t c.args.cons.now)))) (sym can.start.closed) c.paired.ensures.stored_of_constraints
+
+pub inverse_row-requires : goal.inverse_row-requires
+inverse_row-requires g c =
+    let can : CanBeCarried c.args.p.now (cell c.args.expr.now c.args.var) = c.if-not-can_be_carried.ensures in
+    record {
+      var = omega (arith, c.requires.var, c.requires.wide);
+      narrow = omega (arith, c.requires.wide, c.dim-dim.ensures.value, c.dim-dim.ensures.narrow);
+      part = can.part_is;
+      in_range = c.requires.in_range;
+      den_in_range = subst InRange (sym (to_z-of_z w128 c.args.den c.ranges.den)) c.requires.den_in_range;
+    }
+
+pub returns-in_err-row : goal.returns-in_err-row
+returns-in_err-row g c = let p = err_from_is_err_and c.from_residual.result c.from_residual.ensures.1 in rw p.1 (record { points = tt; stored = tt; no_fewer = omega arith })
+
+pub paired-requires-clause-narrow : goal.paired-requires-clause-narrow
+paired-requires-clause-narrow g c = omega (arith, c.requires.pulled.same_dim, c.dim-dim.ensures.value, c.dim-dim.ensures.narrow)
+
+pub returns-clause-no_fewer : goal.returns-clause-no_fewer
+returns-clause-no_fewer g c = omega (arith, c.paired.ensures.no_fewer)
+
+pub abs-requires : goal.abs-requires
+abs-requires g c = machine_negated (cell c.args.expr.now c.args.var) (c.requires.in_range c.args.var (pos 0) (omega (arith, c.requires.wide, c.requires.var)))
