@@ -1,16 +1,17 @@
-use Rattle.std.specs.Prelude.{◌≡◌, ℕ, ◌+◌, ◌<◌, List, [], ◌∷◌, length, ℤ, pos, slice_index_or, Contains}
+use Rattle.std.specs.Prelude.{◌≡◌, ◌⊎◌, ℕ, ◌+◌, ◌<◌, List, [], ◌∷◌, length, ℤ, pos, slice_index_or, Contains}
 use Rattle.std.proofs.Common.{sym, ap, ◌∙◌, subst, arith, inl, inr}
-use Rattle.std.proofs.lemmas.List.Elements.{Contains-push_cases}
-use Rattle.row_core.specs.Lists.{Row, vectors}
+use Rattle.std.proofs.lemmas.List.Elements.{Contains-push_cases, Contains-get_or}
+use Rattle.row_core.specs.Range.{DotStays, IsFirstToLeave}
+use Rattle.row_core.specs.Lists.{Row, row_at, vectors}
 use Rattle.cone_laws.specs.Canon.{vector_at}
-use Rattle.cone_laws.specs.Leaves.{CombinationLeaves}
+use Rattle.cone_laws.specs.Leaves.{CombinationLeaves, ShowsDot, ShowsCombination}
 use Rattle.chernikova.specs.declared.fault.Fault.{Fault}
 use Rattle.chernikova.specs.declared.fault.Fault.TheVariants.{Memory, Dot, Combine}
 use Rattle.chernikova.specs.declared.fault.Part.{Part}
 use Rattle.chernikova.specs.declared.fault.Part.TheVariants.{Lines, Rays}
 use Rattle.chernikova.specs.declared.fault.Place.{Place}
 use Rattle.chernikova.specs.Changes.{IsGrown}
-use Rattle.chernikova.specs.Faults.{IsLowerFault, IsOtherFault, IsLineFault, IsPairFault, part_of, part_values}
+use Rattle.chernikova.specs.Faults.{IsLowerFault, IsOtherFault, IsLineFault, IsPairFault, IsDotFault, IsCombineFault, IsValuesFault, IsFaultAt, part_of, part_values, vector_of}
 use Rattle.chernikova.proofs.VectorLemmas.{vector_at-vectors}
 use Rattle.chernikova.proofs.ChangeLemmas.{row_at-grown}
 
@@ -67,3 +68,32 @@ pair_fault_before values pairs pair old cur (Combine left right column) grown he
     let P : List ℤ → Type 0 = λ v. CombinationLeaves (slice_index_or values left.index (pos 0)) (slice_index_or values right.index (pos 0)) v (vector_at (vectors cur) right.index) column in
     let Q : List ℤ → Type 0 = λ v. CombinationLeaves (slice_index_or values left.index (pos 0)) (slice_index_or values right.index (pos 0)) (vector_at (vectors old) left.index) v column in
     (subst (Contains pairs) here held, h.1, h.2, subst Q (vector_before right.index at_right) (subst P (vector_before left.index at_left) h.3))
+
+-- ---- what is shown for a fault
+contained : (lines rays : List (List ℤ)) (part : Part) (index : ℕ) → index < length (part_of lines rays part) → Contains lines (vector_at (part_of lines rays part) index) ⊎ Contains rays (vector_at (part_of lines rays part) index)
+contained lines rays Lines index h = inl (Contains-get_or lines index [] h)
+contained lines rays Rays index h = inr (Contains-get_or rays index [] h)
+
+-- a vector and the row
+pub shows_dot : (a : List ℤ) (lines rays : List (List ℤ)) (vector : Place) (column : ℕ) (left right : List ℤ) → IsDotFault a lines rays vector column → left ≡ vector_of lines rays vector → right ≡ a → ShowsDot a lines rays left right column
+shows_dot a lines rays vector column left right h at row = record {
+  vector = subst (λ (v : List ℤ). Contains lines v ⊎ Contains rays v) (sym at) (contained lines rays vector.part vector.index h.within);
+  row = row;
+  leaves = subst (λ (v : List ℤ). IsFirstToLeave (DotStays a v) (length a) column) (sym at) h.leaves;
+}
+
+-- two vectors
+pub shows_combination : (rows : List Row) (k : ℕ) (lines rays : List (List ℤ)) (first second : Place) (column : ℕ) (left right : List ℤ) → IsCombineFault rows k lines rays first second column → left ≡ vector_of lines rays first → right ≡ vector_of lines rays second → ShowsCombination rows k (row_at rows k) lines rays left right column
+shows_combination rows k lines rays first second column left right h at behind =
+    subst (λ (v : List ℤ). ShowsCombination rows k (row_at rows k) lines rays v right column) (sym at)
+    (subst (λ (w : List ℤ). ShowsCombination rows k (row_at rows k) lines rays (vector_of lines rays first) w column) (sym behind) (record { needed = h.needed; leaves = h.leaves }))
+
+-- ---- a fault at the value of a ray is one at the step
+pub values_fault_at : (rows : List Row) (k : ℕ) (a : List ℤ) (lines rays : List (List ℤ)) (fault : Fault) → a ≡ row_at rows k → IsValuesFault a Rays rays fault → IsFaultAt rows k lines rays fault
+values_fault_at rows k a lines rays Memory row h = tt
+values_fault_at rows k a lines rays (Dot vector column) row h =
+    subst (λ (v : List ℤ). IsDotFault v lines rays vector column) row (record {
+      within = subst (λ (part : Part). vector.index < length (part_of lines rays part)) (sym h.0) h.1;
+      leaves = subst (λ (part : Part). IsFirstToLeave (DotStays a (vector_at (part_of lines rays part) vector.index)) (length a) column) (sym h.0) h.2;
+    })
+values_fault_at rows k a lines rays (Combine left right column) row h = absurd h

@@ -6,6 +6,8 @@ use Rattle.chernikova.specs.Systems.{values_on}
 use Rattle.chernikova.specs.Plans.{AllStay, SomeGoes}
 use Rattle.chernikova.proofs.PlacedCones.{first_of, second_of}
 use Rattle.chernikova.proofs.StepLemmas.{last_from, flat_from}
+use Rattle.std.proofs.lemmas.Result.{err_from_is_err_and}
+use Rattle.chernikova.proofs.FaultLemmas.{values_fault_at}
 use Rattle.chernikova.proofs.step.position.Goals as goal
 
 pub returns-in-Some : goal.returns-in-Some
@@ -50,3 +52,8 @@ returns c =
 
 pub values-requires-2-clause-wide : goal.values-requires-2-clause-wide
 values-requires-2-clause-wide c = ap (λ (v : List ℤ). length v) c.row-row.ensures.value ∙ c.row-row.ensures.wide ∙ sym c.requires.state.lists.rays_wide
+
+pub returns-in_err-ray_values : goal.returns-in_err-ray_values
+returns-in_err-ray_values c =
+    let p = err_from_is_err_and c.from_residual-in_err-ray_values.result c.from_residual-in_err-ray_values.ensures.1 in
+    rw (p.1, p.2) (values_fault_at c.args.rows.now.rows c.args.k c.row-row.result.now (vectors c.args.cone.now.lines.rows) (vectors c.args.cone.now.rays.rows) _ c.row-row.ensures.value c.in_err-ray_values.ensures.values)
