@@ -1,7 +1,9 @@
-use Rattle.std.proofs.Common.{◌∷◌, [], ℕ, ap, ◌∙◌, sym}
+use Rattle.std.proofs.Common.{◌∷◌, [], ℕ, ◌+◌, ◌-◌, ap, ◌∙◌, sym, arith}
 use Rattle.std.proofs.lemmas.Bool.{false≢true}
 use Rattle.row_core.specs.Lists.{vectors}
 use Rattle.cons_sys.specs.declared.kind.ConKind.TheVariants.{Ge}
+use Rattle.pair_laws.specs.WorkLists.{generator_list}
+use Rattle.poly_pair.proofs.CountLemmas.{upto_none}
 use Rattle.pair_laws.specs.StoredForms.{stored_constraints, false_row}
 use Rattle.poly_pair.specs.FirstLists.{HasPointKind}
 use Rattle.poly_pair.proofs.OtherSystems.{constraints_of_system, constraints_of_none, some_point}
@@ -28,11 +30,19 @@ returns-clause-stored g c =
     (made.ensures.dim ∙ c.dim-dim.ensures.value)
     (made.ensures.list ∙ ap (λ (n : ℕ). stored_constraints n lines rays) c.dim-dim.ensures.value)
 
-pub returns-in_err-false_constraints-clause-stored : goal.returns-in_err-false_constraints-clause-stored
-returns-in_err-false_constraints-clause-stored g c = let p = err_from_is_err_and c.from_residual.result c.from_residual.ensures.1 in rw p.1 tt
+pub returns-in_err-false_constraints : goal.returns-in_err-false_constraints
+returns-in_err-false_constraints g c =
+    let gs = c.args.gens.now in
+    let p = err_from_is_err_and c.from_residual.result c.from_residual.ensures.1 in
+    rw (p.1, p.2) (record { stored = tt; overflow = tt; no_fewer = omega arith; counted = upto_none (gs.dim + 1) (generator_list gs) (c.args.steps.now - c.args.steps.now) (omega arith); counted_before = tt })
 
-pub returns-in_err-made-clause-stored : goal.returns-in_err-made-clause-stored
-returns-in_err-made-clause-stored g c = let p = err_from_is_err_and c.from_residual-in_err-made.result c.from_residual-in_err-made.ensures.1 in rw p.1 tt
+pub returns-in_err-made : goal.returns-in_err-made
+returns-in_err-made g c =
+    let p = err_from_is_err_and c.from_residual-in_err-made.result c.from_residual-in_err-made.ensures.1 in
+    rw (p.1, p.2) (record { stored = tt; overflow = tt; no_fewer = c.generator_system.ensures.no_fewer; counted = c.generator_system.ensures.counted; counted_before = tt })
 
-pub returns-in_err-system-clause-stored : goal.returns-in_err-system-clause-stored
-returns-in_err-system-clause-stored g c = let p = err_from_is_err_and c.from_residual-in_err-system.result c.from_residual-in_err-system.ensures.1 in rw p.1 tt
+pub returns-in_err-system : goal.returns-in_err-system
+returns-in_err-system g c =
+    let all = c.in_err-system.ensures in
+    let p = err_from_is_err_and c.from_residual-in_err-system.result c.from_residual-in_err-system.ensures.1 in
+    rw (p.1, p.2) (record { stored = tt; overflow = all.overflow; no_fewer = all.no_fewer; counted = all.counted; counted_before = all.counted_before })

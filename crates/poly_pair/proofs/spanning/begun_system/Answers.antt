@@ -29,16 +29,6 @@ pub add_rows-requires-clause-sat : goal.add_rows-requires-clause-sat
 add_rows-requires-clause-sat g c =
     (begun_start c.args.p.now c.args.cons.now c.requires.begins c.in_ok-start.start c.in_ok-start.ensures c.in_ok-rows.rows.width (c.len-from.result + 1) c.in_ok-rows.rows.rows c.in_ok-rows.ensures.width c.in_ok-rows.ensures.rows (ap (λ (n : ℕ). n + 1) (c.len-from.ensures ∙ ap (λ (cs : Constraints). length cs.list) c.cons.ensures.value))).zeros
 
-pub returns-in_err-rows-clause-counted : goal.returns-in_err-rows-clause-counted
-returns-in_err-rows-clause-counted g c =
-    counted_start_from (c.args.cons.now.dim + 1) (constraint_list c.args.cons.now) (length c.args.p.now.cons.list + 1) (c.args.steps.now - c.args.steps.now)
-    (begun_fewer c.args.p.now c.args.cons.now c.requires.begins (length c.args.p.now.cons.list + 1) (constraint_list c.args.cons.now) refl refl) (omega arith)
-
-pub returns-in_err-start-clause-counted : goal.returns-in_err-start-clause-counted
-returns-in_err-start-clause-counted g c =
-    counted_start_from (c.args.cons.now.dim + 1) (constraint_list c.args.cons.now) (length c.args.p.now.cons.list + 1) (c.args.steps.now - c.args.steps.now)
-    (begun_fewer c.args.p.now c.args.cons.now c.requires.begins (length c.args.p.now.cons.list + 1) (constraint_list c.args.cons.now) refl refl) (omega arith)
-
 pub returns-clause-canon : goal.returns-clause-canon
 returns-clause-canon g c =
     let cs = c.args.cons.now in
@@ -74,20 +64,32 @@ returns-clause-counted_before g c =
     moved (λ w rs. IfErr c.add_rows.result (IsCountedBeforeFrom w rs from total)) c.in_ok-rows.rows.width (c.args.cons.now.dim + 1) c.in_ok-rows.rows.rows (constraint_list c.args.cons.now) c.in_ok-rows.ensures.width c.in_ok-rows.ensures.rows
     (subst (λ (n : ℕ). IfErr c.add_rows.result (IsCountedBeforeFrom c.in_ok-rows.rows.width c.in_ok-rows.rows.rows n total)) (ap (λ (n : ℕ). n + 1) (c.len-from.ensures ∙ ap (λ (cs : Constraints). length cs.list) c.cons.ensures.value)) c.add_rows.ensures.counted_before)
 
-pub returns-in_err-rows-clause-canon : goal.returns-in_err-rows-clause-canon
-returns-in_err-rows-clause-canon g c = let p = err_from_is_err_and c.from_residual.result c.from_residual.ensures.1 in rw p.1 tt
+pub returns-in_err-rows : goal.returns-in_err-rows
+returns-in_err-rows g c =
+    let p = err_from_is_err_and c.from_residual.result c.from_residual.ensures.1 in
+    rw (p.1, p.2) (record {
+      canon = tt;
+      lists = tt;
+      wide = tt;
+      overflow = tt;
+      no_fewer = omega arith;
+      counted =
+          counted_start_from (c.args.cons.now.dim + 1) (constraint_list c.args.cons.now) (length c.args.p.now.cons.list + 1) (c.args.steps.now - c.args.steps.now)
+          (begun_fewer c.args.p.now c.args.cons.now c.requires.begins (length c.args.p.now.cons.list + 1) (constraint_list c.args.cons.now) refl refl) (omega arith);
+      counted_before = tt;
+    })
 
-pub returns-in_err-rows-clause-lists : goal.returns-in_err-rows-clause-lists
-returns-in_err-rows-clause-lists g c = let p = err_from_is_err_and c.from_residual.result c.from_residual.ensures.1 in rw p.1 tt
-
-pub returns-in_err-rows-clause-wide : goal.returns-in_err-rows-clause-wide
-returns-in_err-rows-clause-wide g c = let p = err_from_is_err_and c.from_residual.result c.from_residual.ensures.1 in rw p.1 tt
-
-pub returns-in_err-start-clause-canon : goal.returns-in_err-start-clause-canon
-returns-in_err-start-clause-canon g c = let p = err_from_is_err_and c.from_residual-in_err-start.result c.from_residual-in_err-start.ensures.1 in rw p.1 tt
-
-pub returns-in_err-start-clause-lists : goal.returns-in_err-start-clause-lists
-returns-in_err-start-clause-lists g c = let p = err_from_is_err_and c.from_residual-in_err-start.result c.from_residual-in_err-start.ensures.1 in rw p.1 tt
-
-pub returns-in_err-start-clause-wide : goal.returns-in_err-start-clause-wide
-returns-in_err-start-clause-wide g c = let p = err_from_is_err_and c.from_residual-in_err-start.result c.from_residual-in_err-start.ensures.1 in rw p.1 tt
+pub returns-in_err-start : goal.returns-in_err-start
+returns-in_err-start g c =
+    let p = err_from_is_err_and c.from_residual-in_err-start.result c.from_residual-in_err-start.ensures.1 in
+    rw (p.1, p.2) (record {
+      canon = tt;
+      lists = tt;
+      wide = tt;
+      overflow = tt;
+      no_fewer = omega arith;
+      counted =
+          counted_start_from (c.args.cons.now.dim + 1) (constraint_list c.args.cons.now) (length c.args.p.now.cons.list + 1) (c.args.steps.now - c.args.steps.now)
+          (begun_fewer c.args.p.now c.args.cons.now c.requires.begins (length c.args.p.now.cons.list + 1) (constraint_list c.args.cons.now) refl refl) (omega arith);
+      counted_before = tt;
+    })
