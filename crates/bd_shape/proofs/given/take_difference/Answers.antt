@@ -1,4 +1,4 @@
-use Rattle.std.specs.Prelude.{◌≡◌, ℤ, List, pos, neg_ℤ, slice_index_or}
+use Rattle.std.specs.Prelude.{◌≡◌, ℤ, List, pos, neg_ℤ, slice_index_or, ◌≢◌}
 use Rattle.std.specs.Int.{w128}
 use Rattle.std.proofs.Common.{arith, rules, sym, ap, ◌∙◌, subst}
 use Rattle.std.proofs.lemmas.Int.{to_z-of_z, fits_signed_from_abs}
@@ -13,7 +13,16 @@ use Rattle.difference_bounds.specs.Tables.{bounds_of}
 use Rattle.bd_shape.specs.Given.{IsLowered}
 use Rattle.bd_shape.specs.Refusals.{LeavesInTaking, LeavesInTwoGiven}
 use Rattle.bd_shape.proofs.GivenTables.{reads_inequality, reads_equality, mirror_kept, upper_leaves, lower_leaves}
+use Rattle.cons_sys.specs.declared.kind.ConKind.TheVariants.{Eq, Ge, Gt}
 use Rattle.bd_shape.proofs.given.take_difference.Goals as goal
+
+-- nor is a strict one
+strict_not_equality : Gt ≢ Eq
+strict_not_equality e = cc
+
+-- an inequality is no equality
+inequality_not_equality : Ge ≢ Eq
+inequality_not_equality e = cc
 
 pub returns-in_err-take-clause-overflow : goal.returns-in_err-take-clause-overflow
 returns-in_err-take-clause-overflow c =
@@ -40,7 +49,7 @@ returns-in-Ge-clause-reading c =
     let factor_fits : SFits w128 c.args.factor = search rules in
     let first = simp to_z-of_z at c.in_ok-take.ensures.lowered in
     let upper : IsLowered c.args.bounds.now c.take.new.bounds c.args.minus c.args.plus (record { num = cell (row_at cs.list c.args.k) cs.dim; den = c.args.factor }) = subst (λ (z : ℤ). IsLowered c.args.bounds.now c.take.new.bounds c.args.minus c.args.plus (record { num = z; den = c.args.factor })) same first in
-    reads_inequality cs c.args.k c.args.plus c.args.minus c.args.factor c.requires.difference c.args.bounds.now c.take.new.bounds c.requires.reading c.places-old.ensures.table.fractions upper c.take.ensures.places (λ e. let f = c.in-Ge.ensures in cc)
+    reads_inequality cs c.args.k c.args.plus c.args.minus c.args.factor c.requires.difference c.args.bounds.now c.take.new.bounds c.requires.reading c.places-old.ensures.table.fractions upper c.take.ensures.places (λ e. inequality_not_equality (c.in-Ge.ensures ∙ e))
 
 pub returns-in-Gt-clause-reading : goal.returns-in-Gt-clause-reading
 returns-in-Gt-clause-reading c =
@@ -52,7 +61,7 @@ returns-in-Gt-clause-reading c =
     let factor_fits : SFits w128 c.args.factor = search rules in
     let first = simp to_z-of_z at c.in_ok-take.ensures.lowered in
     let upper : IsLowered c.args.bounds.now c.take.new.bounds c.args.minus c.args.plus (record { num = cell (row_at cs.list c.args.k) cs.dim; den = c.args.factor }) = subst (λ (z : ℤ). IsLowered c.args.bounds.now c.take.new.bounds c.args.minus c.args.plus (record { num = z; den = c.args.factor })) same first in
-    reads_inequality cs c.args.k c.args.plus c.args.minus c.args.factor c.requires.difference c.args.bounds.now c.take.new.bounds c.requires.reading c.places-old.ensures.table.fractions upper c.take.ensures.places (λ e. let f = c.in-Gt.ensures in cc)
+    reads_inequality cs c.args.k c.args.plus c.args.minus c.args.factor c.requires.difference c.args.bounds.now c.take.new.bounds c.requires.reading c.places-old.ensures.table.fractions upper c.take.ensures.places (λ e. strict_not_equality (c.in-Gt.ensures ∙ e))
 
 pub returns-in-Eq-clause-reading : goal.returns-in-Eq-clause-reading
 returns-in-Eq-clause-reading c =
@@ -90,3 +99,11 @@ returns-in-Eq-clause-overflow c =
     (sym c.in-Eq.ensures)
     (subst (λ (z : ℤ). LeavesInTaking (bounds_of c.take.new.bounds) c.args.plus c.args.minus (record { num = neg_ℤ z; den = c.args.factor }) over) same h)))
     leaves
+
+pub take_negated-requires-clause-num : goal.take_negated-requires-clause-num
+take_negated-requires-clause-num c =
+    let cs = c.args.cons.now in
+    let same : cell c.row.result.now c.dim.result ≡ cell (row_at cs.list c.args.k) cs.dim = ap (λ (v : List ℤ). cell v c.dim.result) c.row.ensures.value ∙ ap (cell (row_at cs.list c.args.k)) c.dim.ensures.value in
+    let inside : InRange (cell (row_at cs.list c.args.k) cs.dim) = c.row.ensures.in_range cs.dim (pos 0) (let w = c.row.ensures.wide in omega (arith, w)) in
+    let kept : InRange (cell c.row.result.now c.dim.result) = subst InRange (sym same) inside in
+    subst InRange (sym (to_z-of_z w128 _ (fits_signed_from_abs w128 (slice_index_or c.row.result.now c.dim.result (pos 0)) kept.size))) kept
