@@ -1,11 +1,24 @@
 use Rattle.std.specs.Int.{w128}
-use Rattle.std.proofs.Common.{rules, refl, subst}
+use Rattle.std.proofs.Common.{refl, subst}
+use Rattle.std.proofs.lemmas.Result.{err_from_is_err_and}
+use Rattle.row_core.specs.Vectors.{dot}
+use Rattle.gens_sys.specs.declared.kind.GenKind.{GenKind}
+use Rattle.gens_sys.specs.Generators.{row_at}
 use Rattle.std.proofs.lemmas.Bool.{false≢true}
 use Rattle.optimum.specs.Search.{Improves, Keeps}
 use Rattle.std.proofs.lemmas.Int.{to_z-of_z, fits_signed_from_abs}
 use mir.Val.{SFits}
 use Rattle.optimum.proofs.SeekLemmas.{goes_other, keeps_other, goes_first, keeps_first, goes_chosen, keeps_chosen, compare_leaves}
 use Rattle.optimum.proofs.seeking.take_in.Goals as goal
+
+pub returns-then-improves : goal.returns-then-improves
+returns-then-improves c =
+    let fits : SFits w128 c.in_ok-value.value = fits_signed_from_abs w128 c.in_ok-value.value c.in_ok-value.ensures.in_range.size in
+    let list = c.args.gens.now.list in
+    let improves = simp to_z-of_z at c.if-improves.ensures in (
+      c.in_ok-value.ensures.answer.1,
+      subst (λ (kind : GenKind). Improves c.args.up kind (dot c.args.row.now (row_at list c.args.i))) c.kind-kind.ensures (subst (Improves c.args.up c.kind-kind.result) c.in_ok-value.ensures.answer.0 (improves.0 refl)),
+    )
 
 pub returns-then-not-is_point : goal.returns-then-not-is_point
 returns-then-not-is_point c =
@@ -43,4 +56,5 @@ returns-in_err-compared-in-Some c =
     let bounded : ¬ (Improves c.args.up c.kind-kind.result c.in_ok-value.value) = λ p. false≢true (improves.1 p) in
     let answer = simp to_z-of_z at c.in_err-compared-in-Some.ensures in
     let leaves = compare_leaves c.args.up c.args.row.now c.args.gens.now c.requires.fits c.args.i c.requires.generator c.in_ok-value.value c.kind-kind.result c.in_ok-value.ensures.answer c.in_ok-value.ensures.in_range c.kind-kind.ensures bounded c.in-Some.best (subst (Keeps c.args.up c.args.row.now c.args.gens.now.dim c.args.gens.now.list c.args.i) c.in-Some.is c.requires.keeps) (c.if-not-is_point.ensures.0 refl) c.in_err-compared-in-Some.field-0.0 answer in
-    search rules
+    let p = err_from_is_err_and c.from_residual-in_err-compared-in-Some.result c.from_residual-in_err-compared-in-Some.ensures.1 in
+    rw (p.1, p.2) leaves
