@@ -57,7 +57,7 @@ pub returns-then-is_some-clause-found : goal.returns-then-is_some-clause-found
 returns-then-is_some-clause-found g c =
     let all : All (IsPiece c.args.first.now c.args.systems.now) (c.pop.new.self.items ++ c.in-Some.piece ∷ []) = subst (All (IsPiece c.args.first.now c.args.systems.now)) c.in-Some.ensures.items c.loop-piece.invariant.pieces in
     let p = All-head (IsPiece c.args.first.now c.args.systems.now) c.in-Some.piece [] (all_right (IsPiece c.args.first.now c.args.systems.now) c.pop.new.self.items (c.in-Some.piece ∷ []) all) in
-    let some : is_some c.in_ok-found.found ≡ true = cc in
+    let some : is_some c.in_ok-found.found ≡ true = sym c.is_some.ensures ∙ c.if-is_some.true in
     answered c.args.first.now c.args.systems.now c.requires.inequalities c.in-Some.piece p c.pop.new.self.items c.turn.new.pending.items c.in_ok-found.found some c.in_ok-found.ensures.turn
 
 pub returns-in_err-found-clause-found : goal.returns-in_err-found-clause-found

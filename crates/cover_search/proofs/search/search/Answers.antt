@@ -51,7 +51,7 @@ pub returns-then-is_some : goal.returns-then-is_some
 returns-then-is_some g c =
     let all : All (IsPart c.args.first.now c.args.systems.now) (c.pop.new.self.items ++ c.in-Some.part ∷ []) = subst (All (IsPart c.args.first.now c.args.systems.now)) c.in-Some.ensures.items c.loop-part.invariant.parts in
     let p = All-head (IsPart c.args.first.now c.args.systems.now) c.in-Some.part [] (all_right (IsPart c.args.first.now c.args.systems.now) c.pop.new.self.items (c.in-Some.part ∷ []) all) in
-    let some : is_some c.in_ok-found.found ≡ true = cc in
+    let some : is_some c.in_ok-found.found ≡ true = sym c.is_some.ensures ∙ c.if-is_some.true in
     answered c.args.first.now c.args.systems.now c.in-Some.part p c.pop.new.self.items c.settle.new.pending.items c.in_ok-found.found some c.in_ok-found.ensures
 
 pub returns-in_err-found : goal.returns-in_err-found
