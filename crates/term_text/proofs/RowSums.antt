@@ -14,7 +14,7 @@ use Rattle.row_core.specs.Vectors.{cell}
 use Rattle.row_core.specs.Range.{InRange, AllInRange}
 use Rattle.term_text.specs.declared.terms.Term.{Term}
 use Rattle.term_text.specs.Sums.{Sum, HasSummed, Gains}
-use Rattle.term_text.specs.Terms.{column_of, value_of, part, total, Stay, IsRow, FitsBehind, IsSafeRow, IsWithin}
+use Rattle.term_text.specs.Terms.{column_of, value_of, part, total, Stay, IsRow, FitsBehind, IsSafeRow, IsWithin, AreWithin}
 
 pub read_back : (z : ℤ) → InRange z → to_z w128 (of_z w128 z) ≡ z
 read_back (pos a) h = let s = h.size in to_z-of_z w128 (pos a) (record { sfits = omega (arith, s) })
@@ -164,3 +164,7 @@ gains_still dim t row fits left within = record {
 -- nothing was added
 pub gains_none : (s : Sum) → Gains [] s s
 gains_none s = record { over = refl; more = λ before h. subst (λ ts. HasSummed ts s) (sym (append-nil before)) h }
+
+-- where the sum doesn't fit, the terms have no row
+pub too_large : (dim : ℕ) (ts : List Term) (s : Sum) → HasSummed ts s → s.dim ≡ dim → s.fits ≡ false → AreWithin dim ts × ¬ (Stay dim ts)
+too_large dim ts s h over unfit = subst (λ (d : ℕ). AreWithin d ts × ¬ (Stay d ts)) over (h.within, h.leaves unfit)

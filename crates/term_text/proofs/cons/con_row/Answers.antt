@@ -1,13 +1,9 @@
-use Rattle.std.proofs.Common.{◌≡◌, ◌∙◌, ℕ, List, false, subst}
+use Rattle.std.proofs.Common.{◌∙◌, ℕ, subst}
 use Rattle.std.proofs.lemmas.Result.{err_from_is_err_and}
-use Rattle.term_text.specs.declared.terms.Term.{Term}
-use Rattle.term_text.specs.Terms.{AreWithin, Stay}
-use Rattle.term_text.specs.Sums.{Sum, HasSummed}
+use Rattle.term_text.specs.Terms.{AreWithin}
 use Rattle.term_text.specs.Reading.{start, terms_read}
+use Rattle.term_text.proofs.RowSums.{too_large}
 use Rattle.term_text.proofs.cons.con_row.Goals as goal
-
-too_large : (dim : ℕ) (ts : List Term) (s : Sum) → HasSummed ts s → s.dim ≡ dim → s.fits ≡ false → AreWithin dim ts × ¬ (Stay dim ts)
-too_large dim ts s h over unfit = subst (λ (d : ℕ). AreWithin d ts × ¬ (Stay d ts)) over (h.within, h.leaves unfit)
 
 pub scan-requires : goal.scan-requires
 scan-requires c = c.in_ok-sum.ensures.1
