@@ -165,8 +165,11 @@ above_zero a n ne = by (by_sign a)
     by (inr (inl h)) = absurd (n h)
     by (inr (inr e)) = absurd (ne e)
 
+pub negated_in_range : (d : ℤ) → InRange d → InRange (neg_ℤ d)
+negated_in_range d r = record { size = subst (λ (n : ℕ). n < 2 ^ 127) (sym (magnitude-neg d)) r.size }
+
 -- a number of the range, negated as a machine number is
 pub negated_entry : (d : ℤ) → InRange d → to_z w128 (of_z w128 d) ≡ d → to_z w128 (of_z w128 (pos 0 -ℤ to_z w128 (of_z w128 d))) ≡ neg_ℤ d
 negated_entry d r e =
     let f : pos 0 -ℤ d ≡ neg_ℤ d = omega (arith, ints) in
-    ap (λ (z : ℤ). to_z w128 (of_z w128 (pos 0 -ℤ z))) e ∙ ap (λ (z : ℤ). to_z w128 (of_z w128 z)) f ∙ back_in_range (neg_ℤ d) (record { size = subst (λ (n : ℕ). n < 2 ^ 127) (sym (magnitude-neg d)) r.size })
+    ap (λ (z : ℤ). to_z w128 (of_z w128 (pos 0 -ℤ z))) e ∙ ap (λ (z : ℤ). to_z w128 (of_z w128 z)) f ∙ back_in_range (neg_ℤ d) (negated_in_range d r)
