@@ -1,0 +1,29 @@
+use Rattle.std.specs.Prelude.{◌≡◌, ◌+◌, Bool, IsTrue, ◌↔◌, List, ℤ, ℕ, pos, length}
+use Rattle.std.specs.Int.{w128}
+use Rattle.std.proofs.Common.{arith, ap, sym, subst, ◌∙◌, get_or}
+use Rattle.std.proofs.lemmas.Int.{to_z-of_z}
+use Rattle.std.proofs.lemmas.List.{length_push}
+use Rattle.std.proofs.lemmas.List.Elements.{All-get_or}
+use mir.Val.{SFits}
+use Rattle.row_core.specs.Vectors.{cell}
+use Rattle.row_core.specs.Range.{InRange, AllInRange}
+use Rattle.row_core.specs.Lists.{row_at}
+use Rattle.cone_laws.proofs.FactorLemmas.{fits}
+use Rattle.nnc_enc.specs.Marks.{Tells}
+use Rattle.nnc_enc.proofs.MarkLemmas.{told_more}
+use Rattle.nnc_enc.proofs.marks.marks.Goals as goal
+
+pub loop-index-preserved : goal.loop-index-preserved
+loop-index-preserved c =
+    let inv = c.loop-index.invariant in
+    let items = c.in_ok-push.ensures.items in
+    let wide : length c.row-row.result.now ≡ c.args.dim + 2 = ap (λ (v : List ℤ). length v) c.row-row.ensures.value ∙ c.row-row.ensures.wide ∙ c.requires in
+    let all : AllInRange c.row-row.result.now = subst AllInRange (sym c.row-row.ensures.value) c.row-row.ensures.in_range in
+    let height_fits : SFits w128 (get_or c.row-row.result.now c.args.dim (pos 0)) = fits _ (All-get_or InRange c.row-row.result.now c.args.dim (pos 0) (omega (arith, wide)) all) in
+    let divisor_fits : SFits w128 (get_or c.row-row.result.now (c.args.dim + 1) (pos 0)) = fits _ (All-get_or InRange c.row-row.result.now (c.args.dim + 1) (pos 0) (omega (arith, wide)) all) in
+    let told = simp to_z-of_z at c.tells.ensures in
+    record {
+      as_many = ap (λ (bs : List Bool). length bs) items ∙ length_push c.loop-index.marks.items c.tells.result ∙ ap (λ (n : ℕ). n + 1) inv.as_many;
+      each = told_more (λ (i : ℕ). Tells c.args.mark (cell (row_at c.args.list.now.rows i) c.args.dim) (cell (row_at c.args.list.now.rows i) (c.args.dim + 1))) c.loop-index.marks.items c.push.new.self.items c.loop-index.index c.tells.result items inv.as_many inv.each
+          (subst (λ (v : List ℤ). IsTrue c.tells.result ↔ Tells c.args.mark (cell v c.args.dim) (cell v (c.args.dim + 1))) c.row-row.ensures.value told);
+    }
