@@ -2,7 +2,7 @@ use Rattle.std.specs.Prelude.{ℕ, ◌-◌, length}
 use Rattle.row_core.specs.Lists.{vectors}
 use Rattle.cone_laws.specs.Cones.{Upto}
 use Rattle.cone_laws.specs.Canon.{Canon}
-use Rattle.std.proofs.Common.{sym, subst, arith, rules}
+use Rattle.std.proofs.Common.{sym, subst, arith}
 use Rattle.std.proofs.lemmas.Grind.{common_steps}
 use Rattle.chernikova.specs.Beside.{IsDone}
 use Rattle.chernikova.specs.Changes.{AreLists}
@@ -10,6 +10,7 @@ use Rattle.chernikova.specs.Conversion.{IsState, IsCountedUpto, IsCountedBefore,
 use Rattle.chernikova.proofs.Counts.{counted_start}
 use Rattle.chernikova.proofs.Rankings.{rearranged_canon, rearranged_zeros, rearranged_lists}
 use Rattle.chernikova.proofs.PlacedCones.{beside_idle, placed_canon, placed_lists, placed_zeros, done_places, first_of, second_of}
+use Rattle.std.proofs.lemmas.Result.{err_from_is_err_and}
 use Rattle.chernikova.proofs.better_order.convert_in_better_order.Goals as goal
 
 pub race-requires-clause-state : goal.race-requires-clause-state
@@ -115,11 +116,11 @@ returns-in_err-sorted-clause-counted g c =
 pub returns-in_err-other-clause-overflow : goal.returns-in_err-other-clause-overflow
 returns-in_err-other-clause-overflow g c =
     let P : ℕ → Type 0 = λ w. IsRealOverflow w c.args.rows.now.rows c.in_err-other.field-0.0 in
-    let h : IsRealOverflow c.args.width c.args.rows.now.rows c.in_err-other.field-0.0 = subst P c.requires.width c.in_err-other.ensures.overflow in
-    search rules
+    let p = err_from_is_err_and c.from_residual-in_err-other.result c.from_residual-in_err-other.ensures.1 in
+    rw (p.1, p.2) (subst P c.requires.width c.in_err-other.ensures.overflow)
 
 pub returns-in_err-other-clause-counted_before : goal.returns-in_err-other-clause-counted_before
 returns-in_err-other-clause-counted_before g c =
     let P : ℕ → Type 0 = λ w. IsCountedBefore w c.args.rows.now.rows (c.race.new.steps - c.args.steps.now) c.in_err-other.field-0.0 in
-    let h : IsCountedBefore c.args.width c.args.rows.now.rows (c.race.new.steps - c.args.steps.now) c.in_err-other.field-0.0 = subst P c.requires.width c.in_err-other.ensures.counted_before in
-    search rules
+    let p = err_from_is_err_and c.from_residual-in_err-other.result c.from_residual-in_err-other.ensures.1 in
+    rw (p.1, p.2) (subst P c.requires.width c.in_err-other.ensures.counted_before)
