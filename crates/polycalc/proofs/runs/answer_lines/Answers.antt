@@ -267,3 +267,15 @@ returns-in-Err-Memory-clause-lines_before g c = λ memory calm.
     let wants = g.W.Sink.wants in
     let never : ⊥ = calm (risen_since (wants c.args.sink.now) (wants c.loop-calc.sink) (wants c.write_all.new.sink) c.loop-calc.invariant.8 (c.in-Err-Memory.ensures.memory_by_want (ap Err c.in-Err-Memory.field-0-is))) in
     absurd {A = GivesUp job.Run (g.S.Source.left c.args.source.now) (g.S.Source.left c.next.new.source) (g.W.Sink.held c.args.sink.now) (g.W.Sink.held c.write_all.new.sink)} never
+
+pub returns-in-Failed-clause-read_fault : goal.returns-in-Failed-clause-read_fault
+returns-in-Failed-clause-read_fault g c = λ e. risen_since (g.S.Source.faults c.args.source.now) (g.S.Source.faults c.loop-calc.source) (g.S.Source.faults c.next.new.source) c.loop-calc.invariant.5 (c.in-Failed.ensures.failed_by_fault refl)
+
+pub returns-in-End-clause-write_fault : goal.returns-in-End-clause-write_fault
+returns-in-End-clause-write_fault g c = λ e. risen_since (g.W.Sink.faults c.args.sink.now) (g.W.Sink.faults c.loop-calc.sink) (g.W.Sink.faults c.end_script.new.sink) c.loop-calc.invariant.6 (c.end_script.ensures.fault e)
+
+pub returns-in_default-clause-write_fault : goal.returns-in_default-clause-write_fault
+returns-in_default-clause-write_fault g c = λ e. risen_since (g.W.Sink.faults c.args.sink.now) (g.W.Sink.faults c.loop-calc.sink) (g.W.Sink.faults c.give_up.new.sink) c.loop-calc.invariant.6 (c.give_up.ensures.fault e)
+
+pub returns-in-Err-Failed-clause-write_fault : goal.returns-in-Err-Failed-clause-write_fault
+returns-in-Err-Failed-clause-write_fault g c = λ e. risen_since (g.W.Sink.faults c.args.sink.now) (g.W.Sink.faults c.loop-calc.sink) (g.W.Sink.faults c.write_all.new.sink) c.loop-calc.invariant.6 (c.in-Err-Failed.ensures.failed_by_fault (ap Err c.in-Err-Failed.field-0-is))
