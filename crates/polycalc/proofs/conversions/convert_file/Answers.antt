@@ -1,4 +1,4 @@
-use Rattle.std.proofs.Common.{ap, ◌∙◌}
+use Rattle.std.proofs.Common.{ap, Err, inl, refl, ◌∙◌}
 use Rattle.polycalc.specs.Replies.{Written, with_reply}
 use Rattle.polycalc.proofs.WriteLaws.{conversion_written, writes_unread}
 use Rattle.polycalc.proofs.conversions.convert_file.Goals as goal
@@ -22,3 +22,29 @@ returns-clause-write_fault g c = c.write.ensures.fault
 
 pub returns-clause-untouched : goal.returns-clause-untouched
 returns-clause-untouched g c = λ e calm. absurd (calm (c.write.ensures.want e))
+
+pub returns-in-Err-Failed-clause-read_fault : goal.returns-in-Err-Failed-clause-read_fault
+returns-in-Err-Failed-clause-read_fault g c = λ e. c.in-Err-Failed.ensures.failed_by_fault (ap Err c.in-Err-Failed.field-0-is)
+
+pub returns-in-Err-Failed-clause-outcome : goal.returns-in-Err-Failed-clause-outcome
+returns-in-Err-Failed-clause-outcome g c =
+    let a = c.in-Err-Failed.ensures.given in
+    let few = rw c.in-Err-Failed.field-0-is at a.2 in
+    (a.0, a.1, (few, refl))
+
+pub returns-in-Err-TooLong-clause-outcome : goal.returns-in-Err-TooLong-clause-outcome
+returns-in-Err-TooLong-clause-outcome g c =
+    let a = c.in-Err-TooLong.ensures.given in
+    let many = rw c.in-Err-TooLong.field-0-is at a.2 in
+    (a.0, a.1, (many.0, many.1, inl refl, refl))
+
+pub returns-in-Err-Memory-clause-outcome : goal.returns-in-Err-Memory-clause-outcome
+returns-in-Err-Memory-clause-outcome g c =
+    let a = c.in-Err-Memory.ensures.given in
+    let few = rw c.in-Err-Memory.field-0-is at a.2 in
+    (a.0, a.1, (few, inl refl))
+
+pub returns-in_default-clause-outcome : goal.returns-in_default-clause-outcome
+returns-in_default-clause-outcome g c =
+    let a = c.in-Ok.ensures.given in
+    (a.0, a.1, (a.2.0, inl refl))
