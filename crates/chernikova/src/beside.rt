@@ -48,7 +48,7 @@ pub(crate) struct Beside {
     needed: u128,
 }
 
-// Written out so that a function's proof has one call for a drop, where it would have each field at each return.
+// Written by hand, so that a function that drops the other conversion calls this one, and doesn't free each part itself.
 impl Drop for Beside {
     fn drop(self) {
         let Self {

@@ -23,7 +23,7 @@ pub(crate) struct Scratch {
     pub(crate) rays: VectorList,
 }
 
-// Written out so that a function's proof has one call for a drop, where it would have each field at each return.
+// Written by hand, so that a function that drops the lists of a step calls this one, and doesn't free each part itself.
 impl Drop for Scratch {
     fn drop(self) {
         let Self {

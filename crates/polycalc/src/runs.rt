@@ -132,7 +132,7 @@ fn reply_to<L: Ledger>(
     ensures answered { OnOk result ((reply : Reply) × Step calc.old line.now reply calc.new × (replies.new ≡ with_reply replies.old reply)) }
     ensures wanting { OnErr result (replies.new ≡ replies.old) }
 {
-    match given_to(calc, line, steps) {
+    match take_step(calc, line, steps) {
         Ok(text) => replies.add_answer(&text),
         Err(StepErr::Input(fault)) => replies.add_fault(&fault),
         Err(StepErr::Overflow(over)) => replies.add_overflow(&over),
@@ -140,8 +140,8 @@ fn reply_to<L: Ledger>(
     }
 }
 
-// What is given to one line.
-fn given_to<L: Ledger>(calc: &mut Calc, line: &[u8], steps: &mut Steps<L>) -> Result<Text, StepErr>
+// The step that one line makes.
+fn take_step<L: Ledger>(calc: &mut Calc, line: &[u8], steps: &mut Steps<L>) -> Result<Text, StepErr>
     ensures { Gives calc.old line.now result calc.new }
 {
     calc.step(line, steps)

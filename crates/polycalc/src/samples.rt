@@ -73,14 +73,14 @@ fn sampled<L: Ledger>(alloc: Global, n: u32, steps: &mut Steps<L>) -> Result<Tex
     match Poly::from_cons(alloc, Topology::Closed, &system, steps) {
         Ok(made) => {
             let _ = (made.dim(), made.cons().dim(), made.gens().dim());
-            told(alloc, n, &made)
+            line_of_sample(alloc, n, &made)
         }
         Err(cause) => Err(cause),
     }
 }
 
 // The line of a sample whose polyhedron is found.
-fn told(alloc: Global, n: u32, made: &Poly) -> Result<Text, ConvErr>
+fn line_of_sample(alloc: Global, n: u32, made: &Poly) -> Result<Text, ConvErr>
     requires { IsOfSample n made.now }
     ensures { GivesSample n result }
 {

@@ -13,8 +13,8 @@ returns-in-Ok-clause-wanting g c = c.add_answer.ensures.wanting
 
 pub returns-in-Err-Input-clause-answered : goal.returns-in-Err-Input-clause-answered
 returns-in-Err-Input-clause-answered g c =
-    let step : Step c.args.calc.now c.args.line.now (Refused c.in-Err-Input.fault) c.given_to.new.calc =
-    subst (λ (e : StepErr). Gives c.args.calc.now c.args.line.now (Err e) c.given_to.new.calc) c.in-Err-Input.field-0-is c.in-Err-Input.ensures in
+    let step : Step c.args.calc.now c.args.line.now (Refused c.in-Err-Input.fault) c.take_step.new.calc =
+    subst (λ (e : StepErr). Gives c.args.calc.now c.args.line.now (Err e) c.take_step.new.calc) c.in-Err-Input.field-0-is c.in-Err-Input.ensures in
     on_ok_weaker c.add_fault.result (λ e. (Refused c.in-Err-Input.fault, step, e)) c.add_fault.ensures.added
 
 pub returns-in-Err-Input-clause-wanting : goal.returns-in-Err-Input-clause-wanting
@@ -22,8 +22,8 @@ returns-in-Err-Input-clause-wanting g c = c.add_fault.ensures.wanting
 
 pub returns-in-Err-Overflow-clause-answered : goal.returns-in-Err-Overflow-clause-answered
 returns-in-Err-Overflow-clause-answered g c =
-    let step : Step c.args.calc.now c.args.line.now (Overflows c.in-Err-Overflow.over) c.given_to.new.calc =
-    subst (λ (e : StepErr). Gives c.args.calc.now c.args.line.now (Err e) c.given_to.new.calc) c.in-Err-Overflow.field-0-is c.in-Err-Overflow.ensures in
+    let step : Step c.args.calc.now c.args.line.now (Overflows c.in-Err-Overflow.over) c.take_step.new.calc =
+    subst (λ (e : StepErr). Gives c.args.calc.now c.args.line.now (Err e) c.take_step.new.calc) c.in-Err-Overflow.field-0-is c.in-Err-Overflow.ensures in
     on_ok_weaker c.add_overflow.result (λ e. (Overflows c.in-Err-Overflow.over, step, e)) c.add_overflow.ensures.added
 
 pub returns-in-Err-Overflow-clause-wanting : goal.returns-in-Err-Overflow-clause-wanting

@@ -9,8 +9,8 @@ use Rattle.polycalc.proofs.samples.sampled.Goals as goal
 pub from_cons-requires-clause-kinds : goal.from_cons-requires-clause-kinds
 from_cons-requires-clause-kinds g c = sample_is_closed c.args.n c.in-Ok.system c.in-Ok.ensures
 
-pub told-requires : goal.told-requires
-told-requires g c =
+pub line_of_sample-requires : goal.line_of_sample-requires
+line_of_sample-requires g c =
     let p = c.in-Ok-from_cons.made in
     let fit : cons.FitDimension p.cons = subst (λ (cs : Constraints). cons.FitDimension cs) c.cons.ensures.value c.dim-in-Ok-from_cons.ensures.rows in
     let fits : gens.FitDimension p.gens = subst (λ (gs : Generators). gens.FitDimension gs) c.gens.ensures.value c.dim-in-Ok-from_cons-2.ensures.rows in

@@ -3,7 +3,7 @@ use Rattle.gens_sys.specs.Generators.{Generators}
 use Rattle.optimum.specs.Showing.{shown_values}
 use Rattle.polycalc.specs.Samples.{difference}
 use Rattle.polycalc.proofs.SampleLaws.{sample_told, maximum_leaves}
-use Rattle.polycalc.proofs.samples.told.Goals as goal
+use Rattle.polycalc.proofs.samples.line_of_sample.Goals as goal
 
 pub returns-in_ok-sample_line-in-Ok : goal.returns-in_ok-sample_line-in-Ok
 returns-in_ok-sample_line-in-Ok c = sample_told c.args.n c.args.made.now c.in-Ok.maximum c.in_ok-sample_line-in-Ok.field-0 c.requires c.in-Ok.ensures.answer c.in-Ok.ensures.holds c.in_ok-sample_line-in-Ok.ensures

@@ -1,4 +1,4 @@
-use Rattle.polycalc.proofs.runs.given_to.Goals as goal
+use Rattle.polycalc.proofs.runs.take_step.Goals as goal
 
 pub returns : goal.returns
 returns g c = c.step.ensures.step
