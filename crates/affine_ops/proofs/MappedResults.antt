@@ -145,10 +145,6 @@ pub either_overflow : (A B : Overflow → Type 0) (e : ConvErr) → IsOverflowIn
 either_overflow A B (conversion.Overflow over) l = inr l
 either_overflow A B conversion.Memory l = tt
 
-pub first_overflow : (A B : Overflow → Type 0) (e : ConvErr) → IsOverflowIn A e → IsOverflowIn (λ over. A over ⊎ B over) e
-first_overflow A B (conversion.Overflow over) l = inl l
-first_overflow A B conversion.Memory l = tt
-
 -- ---- more variables, all 0
 module _ (p : Polyhedron) (count : ℕ) where
   same_cell : (l r x y : ℤ) → pos 0 <ℤ l → l *ℤ x ≡ r *ℤ y → y ≡ pos 0 → x ≡ pos 0

@@ -56,10 +56,6 @@ post_of_successors p relation pairs twice s r are = record {
   );
 }
 
--- the systems that a set and a relation lend
-pub lent_pairs : (p relation lent other pairs : Constraints) → lent ≡ p → other ≡ relation → IsPairSystem lent other pairs → IsPairSystem p relation pairs
-lent_pairs p relation lent other pairs e f s = subst (λ (cs : Constraints). IsPairSystem cs relation pairs) e (subst (λ (cs : Constraints). IsPairSystem lent cs pairs) f s)
-
 pub lent_steps : (p relation lent other steps : Constraints) → lent ≡ p → other ≡ relation → IsStepSystem lent other steps → IsStepSystem p relation steps
 lent_steps p relation lent other steps e f s = subst (λ (cs : Constraints). IsStepSystem cs relation steps) e (subst (λ (cs : Constraints). IsStepSystem lent cs steps) f s)
 

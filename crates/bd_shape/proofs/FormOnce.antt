@@ -159,8 +159,3 @@ pub form_not_other : (dim : ℕ) (row : List ℤ) (r : Form) → IsForm dim row 
 form_not_other dim row Constant f n = constant_not_other dim row f
 form_not_other dim row (Difference i j c) f n = not_other dim row i j c f.positive (entries_of dim row i j c f)
 form_not_other dim row Other f n = absurd (n refl)
-
-pub form_other : (dim : ℕ) (row : List ℤ) (r : Form) → IsForm dim row r → r ≡ Other → IsOther dim row
-form_other dim row Constant f e = absurd (let p : ⊥ = cc in p)
-form_other dim row (Difference i j c) f e = absurd (let p : ⊥ = cc in p)
-form_other dim row Other f e = f

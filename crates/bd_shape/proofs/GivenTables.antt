@@ -262,12 +262,3 @@ reads_constant cs k t e r h = record {
     by q l (inl e) = subst (λ (z : ℕ). IsRead cs.dim (constraint_at cs.list z)) (sym e) h
     by q l (inr (inl b)) = r.read q b
     by q l (inr (inr b)) = absurd (omega arith)
-
--- ---- before the first
-pub reading_begins : (cs : Constraints) (t : Table) → t.places ≡ cs.dim + 1 → HasZeros (bounds_of t) (cs.dim + 1) → ((i j : ℕ) → i < cs.dim + 1 → j < cs.dim + 1 → i ≢ j → bounds_of t i j ≡ None) → IsReading cs 0 t
-reading_begins cs t e z n = record {
-  places = e;
-  zeros = z;
-  least = record { given = λ i j f li lj d g. absurd (let h = n i j li lj d in let p : ⊥ = cc in p); least = λ i j f li lj d g. absurd (let b = g.before in omega arith) };
-  read = λ k l. absurd (omega arith);
-}

@@ -148,9 +148,6 @@ hull_by s t a b c hs ht ea eb ed f g = record {
     greater : AreGreater (bounds_of a) (bounds_of b) (s.dim + 1) (bounds_of c)
     greater = subst (λ (m : ℕ). AreGreater (bounds_of a) (bounds_of b) m (bounds_of c)) ta.places g
 
-    in_hull : Region
-    in_hull = record { dim = s.dim; bounds = Some c }
-
     least : (u : Region) → u.dim ≡ s.dim → (o : Option Table) → u.bounds ≡ o → IfSome o IsTable → Includes u s → Includes u t → Includes u (record { dim = s.dim; bounds = Some c })
     least u eu None eo hu us ut p k = absurd (empty_contains u s a hs eo ea us)
     least u eu (Some d) eo hu us ut p k =
@@ -159,9 +156,3 @@ hull_by s t a b c hs ht ea eb ed f g = record {
         let cb : AreCovered (bounds_of d) (bounds_of b) (t.dim + 1) = covered_by t.dim (bounds_of d) (bounds_of b) fb fd (table_of t b ht eb).tight (includes_values u t (bounds_of d) b (eu ∙ sym ed) (λ q l. within_of u d q eo l) eb ut) in
         is_in_of u d p eo (point_over s.dim u.dim p (sym eu) k.point)
         (meets_over s.dim u.dim (bounds_of d) p (sym eu) (least_inside s.dim (bounds_of a) (bounds_of b) (bounds_of c) fa fb fc greater (bounds_of d) fd ca (subst (λ (n : ℕ). AreCovered (bounds_of d) (bounds_of b) (n + 1)) ed cb) (values_at s.dim p) k.within))
-
-pub hull_of_empty : (s t : Region) → s.bounds ≡ None → t.dim ≡ s.dim → IsHull s t t
-hull_of_empty s t e ed = record { first = λ p k. absurd (subst (λ (o : Option Table). IsInBounds o s.dim p) e k.within); second = λ p k. k; least = λ u eu hu us ut. ut }
-
-pub hull_with_empty : (s t : Region) → t.bounds ≡ None → IsHull s t s
-hull_with_empty s t e = record { first = λ p k. k; second = λ p k. absurd (subst (λ (o : Option Table). IsInBounds o t.dim p) e k.within); least = λ u eu hu us ut. us }

@@ -9,14 +9,13 @@ use Rattle.std.proofs.Math.Nat.{mul-le-mul_left}
 use Rattle.row_core.specs.Vectors.{cell, dot}
 use Rattle.row_core.specs.Range.{InRange, AllStay, DotStays}
 use Rattle.row_core.specs.Content.{IsPrimitive}
-use Rattle.row_core.specs.declared.errors.Overflow.{Overflow}
 use Rattle.gens_sys.specs.Generators.{row_at, kind_at, generator_at, IsGenerator, FitDimension}
 use Rattle.gens_sys.specs.declared.kind.GenKind.{GenKind}
 use Rattle.gens_sys.specs.declared.kind.GenKind.TheVariants.{Line, Ray, Point, ClosurePoint}
 use Rattle.pair_laws.specs.PointSets.{IsWithin, IsClosedGenKind}
 use Rattle.pair_laws.specs.StoredForms.{IsStored}
 use Rattle.pair_laws.proofs.Stored.{stored_is_closed, pair_point}
-use Rattle.poly_pair.specs.Polyhedra.{Polyhedron, IsKept, IsStoredAs, HasNoPoint}
+use Rattle.poly_pair.specs.Polyhedra.{Polyhedron, IsKept, IsStoredAs}
 use Rattle.poly_pair.specs.declared.topology.Topology.{Topology}
 use Rattle.poly_pair.specs.declared.topology.Topology.TheVariants.{Closed}
 use Rattle.poly_pair.proofs.StoredLemmas.{kept_dim}
@@ -32,10 +31,10 @@ use Rattle.difference_bounds.specs.Tables.{Table, IsTable, HasZeros, bounds_of, 
 use Rattle.difference_bounds.specs.Laws.{IsCovered}
 use Rattle.difference_bounds.specs.Combining.{AreCovered}
 use Rattle.difference_bounds.proofs.FractionLemmas.{IsTimes, lowest_times}
-use Rattle.difference_bounds.proofs.PassLemmas.{bound_fraction, here_or, before_less, row_before}
+use Rattle.difference_bounds.proofs.PassLemmas.{bound_fraction, here_or, before_less}
 use Rattle.bd_shape.specs.Shapes.{Region, IsIn, IsInBounds, IsShape, Includes, place_value, values_at}
 use Rattle.bd_shape.specs.Differences.{difference}
-use Rattle.bd_shape.specs.Suprema.{IsSupremumOf, AreSuprema, IsSmallest, IsFoundAt, IsFinding, answered, LeavesInSupremum, LeavesInSuprema}
+use Rattle.bd_shape.specs.Suprema.{IsSupremumOf, AreSuprema, IsSmallest, IsFoundAt, IsFinding, answered}
 use Rattle.bd_shape.proofs.DifferenceRows.{length_difference, difference_value}
 use Rattle.difference_bounds.proofs.Differences.{most_not_below, reached_most, high_gap}
 use Rattle.bd_shape.proofs.Inclusions.{covered_meets}
@@ -115,23 +114,6 @@ finds_more p t u n r c x e lr lc apart here s h f q = record {
 
     at_here : (a b : ℕ) → (a ≡ r) × (b ≡ c) → IsSupremumOf p a b (bounds_of u a b)
     at_here a b (g, k) = subst (λ (z : ℕ). IsSupremumOf p z b (bounds_of u z b)) (sym g) (subst (λ (z : ℕ). IsSupremumOf p r z (bounds_of u r z)) (sym k) (subst (IsSupremumOf p r c) (sym here) h))
-
-pub finds_itself : (p : Polyhedron) (t : Table) (r c : ℕ) → r ≡ c → IsFinding p t r c → IsFinding p t r (c + 1)
-finds_itself p t r c e q = record {
-  zeros = q.zeros;
-  suprema = λ a b la lb d y. q.suprema a b la lb d (before_less r c a b (λ z. d (z.0 ∙ e ∙ sym z.1)) y);
-  found = λ a b la lb d y. q.found a b la lb d (before_less r c a b (λ z. d (z.0 ∙ e ∙ sym z.1)) y);
-}
-
-pub finds_row : (p : Polyhedron) (t : Table) (r : ℕ) → IsFinding p t r (p.cons.dim + 1) → IsFinding p t (r + 1) 0
-finds_row p t r q = record {
-  zeros = q.zeros;
-  suprema = λ a b la lb d y. q.suprema a b la lb d (row_before (p.cons.dim + 1) r a b lb y);
-  found = λ a b la lb d y. q.found a b la lb d (row_before (p.cons.dim + 1) r a b lb y);
-}
-
-pub finding_leaves : (p : Polyhedron) (t : Table) (r c : ℕ) (over : Overflow) → r < p.cons.dim + 1 → c < p.cons.dim + 1 → r ≢ c → IsFinding p t r c → LeavesInSupremum (difference p.cons.dim r c) p.gens over → LeavesInSuprema p over
-finding_leaves p t r c over lr lc d q h = record { i = r; j = c; i_below = lr; j_below = lc; apart = d; earlier = λ a b la lb e y. q.found a b la lb e y; leaves = h }
 
 -- ---- the shape
 module _ (p : Polyhedron) (t : Table) (table : IsTable t) (zeros : HasZeros (bounds_of t) (p.cons.dim + 1)) (suprema : AreSuprema p (bounds_of t)) where
@@ -237,6 +219,3 @@ pub suprema_smallest : (p : Polyhedron) (t : Table) → IsKept p → p.topology 
 suprema_smallest p t k e n h q =
     let w = some_point p k e n in
     smallest p t h q.zeros (λ i j li lj d. q.suprema i j li lj d (inl li)) w.0 w.1
-
-pub empty_smallest : (p : Polyhedron) → HasNoPoint p → IsSmallest p (record { dim = p.cons.dim; bounds = None })
-empty_smallest p n = record { includes = λ q w. absurd (n q w); least = λ u eu hu h q k. absurd k.within }

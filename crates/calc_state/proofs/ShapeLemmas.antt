@@ -2,7 +2,6 @@
 use Rattle.std.proofs.Common.{◌≡◌, ◌↔◌, ℕ, ◌<◌, ◌≤◌, List, Bool, true, false, IsTrue, Result, Ok, Err, refl, subst, inl, inr, arith}
 use Rattle.row_core.specs.declared.errors.Overflow.{Overflow}
 use Rattle.cons_sys.specs.Constraints.{Constraints}
-use Rattle.reply_text.specs.declared.faults.Fault.{Fault}
 use Rattle.reply_text.specs.declared.faults.Fault.TheVariants.{NotDifference, TooManyNames}
 use Rattle.expr_text.specs.OneAnswer.{ConsHasOneAnswer}
 use Rattle.poly_pair.specs.declared.topology.Topology.TheVariants.{Closed}
@@ -13,10 +12,9 @@ use Rattle.bd_shape.specs.Refusals.{LeavesInConstraints, IsRefusalOf}
 use Rattle.bd_shape.specs.declared.refusal.ShapeErr.{ShapeErr}
 use Rattle.bd_shape.specs.declared.refusal.ShapeErr.TheVariants as unmade
 use Rattle.script_text.specs.declared.command.Part.{Part}
-use Rattle.line_values.specs.declared.refusal.StepErr.{StepErr}
 use Rattle.line_values.specs.declared.refusal.StepErr.TheVariants as err
-use Rattle.line_values.specs.Order.{IsFirstOf, IsFirst, Passes}
-use Rattle.line_values.specs.Texts.{text_order, constraints_fault, IsTextRefusal, ReadsConstraints}
+use Rattle.line_values.specs.Order.{IsFirst, Passes}
+use Rattle.line_values.specs.Texts.{ReadsConstraints}
 use Rattle.poly_commands.specs.Makers.{SaysConstraints}
 use Rattle.calc_state.specs.Shapes.{IsShapeOfConstraints, refusal_of_shape, bounds, of_one_dim, shape_contains}
 use Rattle.line_values.specs.Meaning.{no_fault, room, answer_line}
@@ -27,21 +25,6 @@ use Rattle.line_values.proofs.PerformedLemmas.{not_full}
 module _ (full : Bool) (n : ℕ) (part : Part) (small : n ≤ MAX_DIM) where
   within : ¬ (MAX_DIM < n)
   within k = absurd (omega (arith, k, small))
-
-  -- the first fault of the text is the first of the command
-  first_of_text : (f : Fault) → IsFirstOf text_order (constraints_fault Closed n part) f → IsFirst (bounds full n part).conditions f
-  first_of_text f (inl is) = inr (λ k. k, inr (λ k. k, inr (λ k. k, inr (λ k. k, inr (within, inl is)))))
-  first_of_text f (inr (a, inl is)) = inr (λ k. k, inr (λ k. k, inr (λ k. k, inr (λ k. k, inr (within, inr (a, inl is))))))
-  first_of_text f (inr (a, inr (b, inl is))) = absurd is.0
-  first_of_text f (inr (a, inr (b, inr (c, inl is)))) = inr (λ k. k, inr (λ k. k, inr (λ k. k, inr (λ k. k, inr (within, inr (a, inr (b, inr (c, inl is))))))))
-  first_of_text f (inr (a, inr (b, inr (c, inr (d, inl is))))) = absurd is.0
-  first_of_text f (inr (a, inr (b, inr (c, inr (d, inr (e, inl is)))))) = absurd is.0
-  first_of_text f (inr (a, inr (b, inr (c, inr (d, inr (e, inr is)))))) = absurd is.1
-
-  pub bounds_refused : (e : StepErr) → IsTextRefusal (constraints_fault Closed n part) e → IsPerformed (bounds full n part) (Err e)
-  bounds_refused (err.Input f) is = first_of_text f is
-  bounds_refused (err.Overflow over) is = absurd is
-  bounds_refused err.Memory is = tt
 
   module _ (system : Constraints) (read : ReadsConstraints Closed n part system) where
     pub bounds_other : HasOther system → IsFirst (bounds full n part).conditions NotDifference

@@ -122,9 +122,5 @@ ended bytes rest behind front line n f h l e =
       f.number ∙ ap (λ t. length (lines t) + 1) (sym same),
     )
 
-pub never_ended : (bytes rest front : List ℕ) (n : ℕ) → Front bytes rest n front → length rest ≡ 0 → All (λ x. ¬ (IsEnd x)) (lines bytes)
-never_ended bytes [] front n f e = subst (λ (t : List ℕ). All (λ x. ¬ (IsEnd x)) (lines t)) (sym (f.cut ∙ append-nil front)) f.unended
-never_ended bytes (b ∷ rest) front n f e = absurd (omega arith)
-
 pub nothing_read : (bytes : List ℕ) → Front bytes bytes 1 []
 nothing_read bytes = record { cut = refl; whole = inr (inl refl); unended = All-nil (λ x. ¬ (IsEnd x)); number = refl }

@@ -30,15 +30,6 @@ other_from_above u index line values vs n (Combine left right column) end h = (h
 different_part : ¬ (Rays ≡ Lines)
 different_part e = cc
 
--- the fault of another line
-pub line_fault_from_other : (index : ℕ) (line_values ray_values : List ℤ) (lines rays : List (List ℤ)) (fault : Fault) → IsOtherFault (slice_index_or line_values index (pos 0)) index (vector_at lines index) line_values lines fault → IsLineFault index line_values ray_values lines rays fault
-line_fault_from_other index line_values ray_values lines rays Memory h = h
-line_fault_from_other index line_values ray_values lines rays (Dot vector column) h = h
-line_fault_from_other index line_values ray_values lines rays (Combine left right column) h =
-    let P : Part → Type 0 = λ p. right.index < length (part_of lines rays p) in
-    let Q : Part → Type 0 = λ p. CombinationLeaves (slice_index_or line_values index (pos 0)) (slice_index_or (part_values line_values ray_values p) right.index (pos 0)) (vector_at lines index) (vector_at (part_of lines rays p) right.index) column in
-    (h.0, subst P (sym h.1) h.3, (λ e. h.2 (ap (λ (p : Place). p.index) (e ∙ h.0))), subst Q (sym h.1) h.4)
-
 -- the fault of a ray
 pub line_fault_from_ray : (index : ℕ) (line_values ray_values : List ℤ) (lines rays : List (List ℤ)) (n : ℕ) (fault : Fault) → n ≡ length rays → IsLowerFault (slice_index_or line_values index (pos 0)) index (vector_at lines index) Rays 0 n ray_values rays fault → IsLineFault index line_values ray_values lines rays fault
 line_fault_from_ray index line_values ray_values lines rays n Memory end h = h

@@ -1,12 +1,8 @@
 use Rattle.std.specs.Prelude.{◌≡◌, ℕ, ◌+◌, ◌^◌, ◌<◌, Bool, false, List, [], ◌∷◌, ◌++◌, length, map, ℤ, pos, ◌≤ℤ◌}
 use Rattle.std.proofs.Common.{refl, sym, ap, ◌∙◌, subst, arith, inl, inr, get_or, set, replicate, lit<}
 use Rattle.std.proofs.lemmas.List.{get_or_default, length-map, length_push, get_or_past, length-set, length-replicate, get_or-replicate, get_or-set_same, get_or-set_other, set-set, set-get_or}
-use Rattle.std.proofs.lemmas.List.Elements.{All-set, All-replicate}
 use Rattle.std.proofs.lemmas.Bool.{cases_lt}
 use Rattle.row_core.specs.Vectors.{cell, dot}
-use Rattle.row_core.specs.Range.{InRange, AllInRange}
-use Rattle.row_core.specs.declared.errors.Overflow.{Overflow}
-use Rattle.cone_laws.specs.Leaves.{Shows, Leaves}
 use Rattle.row_core.specs.Lists.{Row, Rows, row_at, is_eq_at, vectors}
 use Rattle.sat_matrix.specs.Tables.{Table}
 use Rattle.cone_laws.specs.Cones.{Upto}
@@ -70,20 +66,9 @@ ray_state width rows k cone rays values marks pairs sat below state outcome tabl
       zeros = zeros_after_ray rows k a old rays.rows values marks pairs cone.sat sat refl (rays_least width rows k (vectors cone.lines.rows) old state.system) state.zeros outcome.is_values outcome.crosses outcome.step table marked_size;
     }
 
--- an overflow at the step with row k
-pub leaves_from : (width : ℕ) (rows : List Row) (k : ℕ) (cone : System) (over : Overflow) → k < length rows → IsState width rows k cone → over.step ≡ k → Shows over.kind rows k (vectors cone.lines.rows) (vectors cone.rays.rows) over.left over.right over.column → Leaves width rows over
-leaves_from width rows k cone over below state at shown =
-    let P : ℕ → Type 0 = λ n. n < length rows in
-    let Q : ℕ → Type 0 = λ n. IsSystem (Upto width rows n) (vectors cone.lines.rows) (vectors cone.rays.rows) in
-    let R : ℕ → Type 0 = λ n. Shows over.kind rows n (vectors cone.lines.rows) (vectors cone.rays.rows) over.left over.right over.column in
-    record { step = subst P (sym at) below; lines = vectors cone.lines.rows; rays = vectors cone.rays.rows; system = subst Q (sym at) state.system; shown = subst R (sym at) shown }
-
 -- ---- the start
 abbrev pub unit : ℕ → ℕ → List ℤ
 unit width column = set (replicate width (pos 0)) column (pos 1)
-
-pub unit_in_range : (width column : ℕ) → AllInRange (unit width column)
-unit_in_range width column = All-set InRange (replicate width (pos 0)) column (pos 1) (record { size = lit< tt }) (All-replicate InRange width (pos 0) (record { size = lit< tt }))
 
 zero_cells : (width j : ℕ) → get_or (replicate width (pos 0)) j (pos 0) ≡ pos 0
 zero_cells width j = elim (cases_lt j width) [ inl less ↦ get_or-replicate width j (pos 0) (pos 0) less | inr more ↦ get_or_past (replicate width (pos 0)) j (pos 0) (omega (arith, length-replicate width (pos 0))) ]
@@ -92,9 +77,6 @@ zero_cells width j = elim (cases_lt j width) [ inl less ↦ get_or-replicate wid
 pub record AreUnitsUpto (width column : ℕ) (rows : List Row) : Type 0 where
   pub as_many : length rows ≡ column
   pub each : (i : ℕ) → i < column → row_at rows i ≡ unit width i
-
-pub units_none : (width : ℕ) → AreUnitsUpto width 0 []
-units_none width = record { as_many = refl; each = λ i h. absurd (omega (arith, h)) }
 
 pub units_more : (width column : ℕ) (rows : List Row) (v : List ℤ) (eq : Bool) → AreUnitsUpto width column rows → v ≡ unit width column → AreUnitsUpto width (column + 1) (rows ++ (v, eq) ∷ [])
 units_more width column rows v eq h is = record {

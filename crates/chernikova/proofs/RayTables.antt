@@ -12,7 +12,7 @@ use Rattle.row_core.specs.Flat.{marked}
 use Rattle.sat_matrix.proofs.BitRows.{length-conjunction}
 use Rattle.cone_laws.specs.Canon.{vector_at}
 use Rattle.cone_laws.specs.Steps.{sign, pair_at, IsPair}
-use Rattle.row_core.proofs.Ring.{ring, mul-zero, neg-mul, zero_of_mul, mul-at_least_zero, by_sign}
+use Rattle.row_core.proofs.Ring.{ring, mul-zero, neg-mul, zero_of_mul, mul-at_least_zero}
 use Rattle.cone_laws.proofs.UptoRows.{IsSumOf, dot_sum}
 use Rattle.cone_laws.specs.Combinations.{IsCombined}
 use Rattle.sat_matrix.specs.ZeroTables.{TellsZeros, IsZeroTable}
@@ -37,10 +37,6 @@ get_or-conjunction [] ys j h g = absurd (omega (arith, h))
 get_or-conjunction (x ∷ xs) [] j h g = absurd (omega (arith, g))
 get_or-conjunction (x ∷ xs) (y ∷ ys) zero h g = refl
 get_or-conjunction (x ∷ xs) (y ∷ ys) (suc j) h g = get_or-conjunction xs ys j (omega (arith, h)) (omega (arith, g))
-
--- a number of at least 0 that is not above 0
-zero_if_not : (x : ℤ) → pos 0 ≤ℤ x → ¬ (pos 0 <ℤ x) → x ≡ pos 0
-zero_if_not x least not = elim (by_sign x) [ inl above ↦ absurd (not above) | inr rest ↦ elim rest [ inl below ↦ absurd (omega (arith, ints, least, below)) | inr z ↦ z ] ]
 
 -- two terms of at least 0 whose sum is 0
 sum_zero : (u n w p : ℤ) → pos 0 <ℤ u → pos 0 <ℤ w → pos 0 ≤ℤ n → pos 0 ≤ℤ p → u *ℤ n +ℤ w *ℤ p ≡ pos 0 → (n ≡ pos 0) × (p ≡ pos 0)

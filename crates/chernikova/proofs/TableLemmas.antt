@@ -57,13 +57,6 @@ column_end column old new row end h = record {
 }
 
 -- ---- rows for pairs
-pub pairs_start : (old new : Table) → new.columns ≡ old.columns → new.rows ≡ old.rows → HasPairs [] old new
-pairs_start old new columns rows = record {
-  columns = columns;
-  as_many = ap length rows ∙ (let e : length old.rows ≡ length old.rows + 0 = omega arith in e);
-  before = λ i h. ap (λ rs. bits_of rs i) rows;
-  each = λ i h. absurd (omega (arith, h));
-}
 
 take_pair : (pairs : List (ℕ × ℕ)) (i n : ℕ) → i < n → pair_at (take n pairs) i ≡ pair_at pairs i
 take_pair pairs i n h = get_or-take n pairs i (0, 0) h

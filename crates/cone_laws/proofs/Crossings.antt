@@ -198,14 +198,6 @@ crossed R a lin x y w (ray k p u q m s h) t e =
     (λ j. pair_more_first (a y) (y j) (w j) (x j) k (p j) (u j) (a x) (a p) (a u) (h j) (lin.more x p u k h) (e j))
 
 -- ---- what is spanned
--- m times v is w; the upper part has the value s, the lower one t
-cut_times : (s t m v w x y z : ℤ) → w ≡ m *ℤ v → w ≡ x +ℤ (y +ℤ z) → s +ℤ t ≡ pos 0 → (s *ℤ m) *ℤ v ≡ s *ℤ x +ℤ (s *ℤ z -ℤ t *ℤ y)
-cut_times s t m v w x y z e f g =
-    let h : (s *ℤ m) *ℤ v ≡ s *ℤ (m *ℤ v) = mul_assoc s m v in
-    let i = ap (λ (n : ℤ). s *ℤ n) (sym e ∙ f) in
-    let k : s *ℤ (x +ℤ (y +ℤ z)) ≡ s *ℤ x +ℤ (s *ℤ z -ℤ t *ℤ y) +ℤ (s +ℤ t) *ℤ y = simp ring (omega (arith, ints)) in
-    let l = ap (λ (n : ℤ). n *ℤ y) g in
-    omega (arith, ints, h, i, k, l)
 
 half_times : (s t m v w x y z : ℤ) → w ≡ m *ℤ v → w ≡ x +ℤ (y +ℤ z) → (s *ℤ m) *ℤ v ≡ s *ℤ x +ℤ ((s *ℤ z -ℤ t *ℤ y) +ℤ (s +ℤ t) *ℤ y)
 half_times s t m v w x y z e f =
@@ -244,38 +236,6 @@ module _ (L R : V → Type 0) (a : V → ℤ) (lin : IsLinear a) (flat : (l : V)
 
   pairs_cut : (v : V) (t : Parts L R a v) → Sums L (Cut R a) (pairing a t.upper t.lower)
   pairs_cut v t = sums_more (λ l m. elim m [ ]) (λ r m. inr m) (pairing a t.upper t.lower) (crossed R a lin t.upper t.lower (pairing a t.upper t.lower) t.upper_sum t.lower_sum (λ j. refl))
-
-  cut_by_parts : (v : V) (m : ℤ) → pos 0 <ℤ m → (t : Parts L R a (λ j. m *ℤ v j)) → a t.upper +ℤ a t.lower ≡ pos 0 → (pos 0 <ℤ a t.upper) ⊎ ((a t.upper <ℤ pos 0) ⊎ (a t.upper ≡ pos 0)) → SpansBy L (Cut R a) v
-  cut_by_parts v m p t e (inl s) = record {
-    times = a t.upper *ℤ m;
-    positive = mul-positive (a t.upper) m s p;
-    sums = sums_add (λ j. a t.upper *ℤ t.level j) (pairing a t.upper t.lower) (λ j. (a t.upper *ℤ m) *ℤ v j)
-        (level_cut (λ j. m *ℤ v j) (λ j. a t.upper *ℤ t.level j) t (a t.upper) (at_least (a t.upper) s) (λ j. refl))
-        (pairs_cut (λ j. m *ℤ v j) t)
-        (λ j. cut_times (a t.upper) (a t.lower) m (v j) (m *ℤ v j) (t.level j) (t.upper j) (t.lower j) refl (t.same j) e);
-  }
-  cut_by_parts v m p t e (inr (inl s)) = absurd (below_zero (a t.upper) (upper_least (λ j. m *ℤ v j) t) s)
-    where
-      below_zero : (s : ℤ) → pos 0 ≤ℤ s → s <ℤ pos 0 → ⊥
-      below_zero s h k = omega (arith, ints)
-  cut_by_parts v m p t e (inr (inr s)) = record {
-    times = m;
-    positive = p;
-    sums = sums_same t.level (λ j. m *ℤ v j) (sums_more (λ l n. n) (λ r n. inl n) t.level t.level_sum)
-        (λ j. level_alone (m *ℤ v j) (t.level j) (t.upper j) (t.lower j) (t.same j) (upper_zero (λ i. m *ℤ v i) t s j) (lower_zero (λ i. m *ℤ v i) t (other_zero (a t.upper) (a t.lower) e s) j));
-  }
-    where
-      other_zero : (s t : ℤ) → s +ℤ t ≡ pos 0 → s ≡ pos 0 → t ≡ pos 0
-      other_zero s t e f = omega (arith, ints)
-
-  -- where the map is 0, the lines and the cut span
-  pub cut_spans : (v : V) → SpansBy L R v → a v ≡ pos 0 → SpansBy L (Cut R a) v
-  cut_spans v s z =
-      let w : V = λ j. s.times *ℤ v j in
-      let t = parts a w s.sums in
-      let e : a w ≡ s.times *ℤ a v = lin.multiple w v s.times (λ j. refl) in
-      let f : s.times *ℤ a v ≡ pos 0 = ap (λ (y : ℤ). s.times *ℤ y) z ∙ mul-zero s.times in
-      cut_by_parts v s.times s.positive t (sym (parts_sum w t) ∙ e ∙ f) (by_sign (a t.upper))
 
   half_by_parts : (v : V) (m : ℤ) → pos 0 <ℤ m → (t : Parts L R a (λ j. m *ℤ v j)) → pos 0 ≤ℤ (a t.upper +ℤ a t.lower) → (pos 0 <ℤ a t.upper) ⊎ ((a t.upper <ℤ pos 0) ⊎ (a t.upper ≡ pos 0)) → SpansBy L (Half R a) v
   half_by_parts v m p t e (inl s) = record {

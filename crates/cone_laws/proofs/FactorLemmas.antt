@@ -159,11 +159,6 @@ sign_below (negsuc n) x h = minus_one x
 scale_step : (k x : ℤ) (v : List ℤ) (i : ℕ) → scale k (take (i + 1) v) ≡ scale k (take i v) ++ (k *ℤ cell v i) ∷ [] → scale k (take (suc i + 1) (x ∷ v)) ≡ (k *ℤ x) ∷ (scale k (take i v) ++ (k *ℤ cell v i) ∷ [])
 scale_step k x v i h = let number : suc i + 1 ≡ suc (i + 1) = omega arith in rw number (ap (λ zs. (k *ℤ x) ∷ zs) h)
 
-pub scale_more : (k : ℤ) (v : List ℤ) (i : ℕ) → i < length v → scale k (take (i + 1) v) ≡ scale k (take i v) ++ (k *ℤ cell v i) ∷ []
-scale_more k [] i h = absurd (omega (arith, h))
-scale_more k (x ∷ v) zero h = refl
-scale_more k (x ∷ v) (suc i) h = scale_step k x v i (scale_more k v i (omega (arith, h)))
-
 pub not_above : (u : ℤ) → int_lt (pos 0) u ≡ false → ¬ (pos 0 <ℤ u)
 not_above u e above =
     let below : u <ℤ pos 0 = below_zero u (λ z. omega (arith, ints, above, z)) e in

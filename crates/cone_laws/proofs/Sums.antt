@@ -96,10 +96,6 @@ pub sums_one_ray : {L R : V → Type 0} (k : ℤ) (r v : V) → pos 0 ≤ℤ k �
 sums_one_ray k r v p m e = ray k r (λ j. pos 0) p m (none (λ j. refl)) (λ j. omega (arith, ints, e j))
 
 -- ---- what is closed under the three constructors holds all sums
-pub sums_within : {L R : V → Type 0} (C : V → Type 0) → ((v : V) → ((j : ℕ) → v j ≡ pos 0) → C v) → ((k : ℤ) (l u v : V) → L l → C u → IsMore v k l u → C v) → ((k : ℤ) (r u v : V) → pos 0 ≤ℤ k → R r → C u → IsMore v k r u → C v) → (v : V) → Sums L R v → C v
-sums_within C z f g v (none h) = z v h
-sums_within C z f g v (line k l u m s h) = f k l u v m (sums_within C z f g u s) h
-sums_within C z f g v (ray k r u p m s h) = g k r u v p m (sums_within C z f g u s) h
 
 -- more lines and rays span more
 pub sums_more : {L R M S : V → Type 0} → ((l : V) → L l → M l) → ((r : V) → R r → S r) → (v : V) → Sums L R v → Sums M S v

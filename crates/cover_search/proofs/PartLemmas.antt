@@ -45,14 +45,6 @@ is_met : (plan : Plan) (xs : List ℕ) (i : ℕ) → plan.met.items ≡ xs → C
 is_met plan xs i e h = inr (subst (λ (ys : List ℕ). Contains ys i) (sym e) h)
 
 module _ (systems : List Constraints) (region : Constraints) (numbers : List ℕ) where
-  pub plan_empty : (plan : Plan) → plan.met.items ≡ [] → plan.next ≡ None → IsPlan systems region numbers 0 plan
-  plan_empty plan e f = record {
-    listed = λ n b. absurd (omega (arith, b));
-    next = subst (IsNext systems region plan.met.items) (sym f) e;
-    below = subst (All (λ (i : ℕ). i < length systems)) (sym e) (All-nil (λ (i : ℕ). i < length systems));
-    few = omega (arith, ap as_number f, ap (λ (xs : List ℕ). length xs) e);
-  }
-
   module _ (k : ℕ) (old : Plan) (p : IsPlan systems region numbers k old) where
     listed_more : (new : Plan) → ((i : ℕ) → IsOpenIn old i → IsOpenIn new i) → IsOpenIn new (get_or numbers k 0) ⊎ IsApartAt systems region (get_or numbers k 0) → (n : ℕ) → n < k + 1 → n < length numbers → IsOpenIn new (get_or numbers n 0) ⊎ IsApartAt systems region (get_or numbers n 0)
     listed_more new keep here n b l = by_case (cases_lt n k)
@@ -119,17 +111,6 @@ module _ (systems : List Constraints) (region : Constraints) (numbers : List ℕ
 
 -- ---- the parts of a set outside of a system
 module _ (rows region : Constraints) (numbers : List ℕ) (proper : AreInequalities rows) (old : List Part) where
-  pub parted_first : IsPartedBy rows 0 region numbers old old region
-  parted_first = record {
-    added = [];
-    joined = sym (append-nil old);
-    few = omega arith;
-    each = All-nil (IsOutside rows region numbers);
-    same_dim = refl;
-    within = λ v pt h. h;
-    told = λ v pt h. inl (h, λ i b. absurd (omega (arith, b)));
-  }
-
   module _ (k : ℕ) (below : k < length rows.list) (middle new : List Part) (rest : Constraints) (p : IsPartedBy rows k region numbers old middle rest) where
     -- the part on which the inequality doesn't hold
     module _ (q : IsPushed rows k rest numbers middle new) where

@@ -31,9 +31,6 @@ module _ (first : Constraints) (systems : List Constraints) (piece : Piece) (row
   pub list_at : piece.region.list ≡ p.list ++ take piece.row rows.list
   list_at = subst (λ (o : Option Constraints). piece.region.list ≡ p.list ++ front_of o piece.row) at p.joined
 
-  pub row_at_most : piece.row ≤ length rows.list
-  row_at_most = subst (λ (o : Option Constraints). IsRowOf o piece.row) at p.row
-
   -- the list of the outer part is that of a branch
   pub outer_list : (outer_part rows piece).region.list ≡ p.list ++ choice rows.list piece.row
   outer_list = ap (λ (xs : List Constraint). xs ++ complement (constraint_at rows.list piece.row) ∷ []) list_at ∙ append_assoc p.list (take piece.row rows.list) (complement (constraint_at rows.list piece.row) ∷ [])

@@ -1,15 +1,13 @@
 -- The parts of a piece by one inequality.
-use Rattle.std.proofs.Common.{◌≡◌, inl, inr, ◌+◌, ◌<◌, List, [], ◌∷◌, ◌++◌, length, ℤ, sym, ◌∙◌, subst, ap, arith}
+use Rattle.std.proofs.Common.{◌≡◌, ◌+◌, ◌<◌, List, [], ◌∷◌, ◌++◌, length, ℤ, sym, ◌∙◌, subst, ap}
 use Rattle.std.proofs.lemmas.List.Elements.{All-head}
-use Rattle.row_core.specs.declared.errors.ConvErr.{ConvErr}
 use Rattle.row_core.specs.declared.errors.ConvErr.TheVariants as conversion
 use Rattle.cons_sys.specs.declared.kind.ConKind.TheVariants.{Eq}
 use Rattle.cons_sys.specs.Constraints.{Constraint, Constraints, constraint_at, Satisfies, In}
 use Rattle.cover_search.specs.declared.pieces.Piece.{Piece}
 use Rattle.cover_search.specs.Inequalities.{AreInequalities, complement}
-use Rattle.row_core.specs.Refusals.{IsOverflowIn}
-use Rattle.cover_search.specs.Regions.{LeavesOnList, with_one, HoldNowhere, HoldsOn}
-use Rattle.cover_search.specs.Pieces.{inner_part, outer_part, IsInner, goes_on, IsSplit, outer_alone, both, LeavesInSplit}
+use Rattle.cover_search.specs.Regions.{with_one, HoldNowhere, HoldsOn}
+use Rattle.cover_search.specs.Pieces.{inner_part, outer_part, IsInner, goes_on, IsSplit, outer_alone, both}
 use Rattle.cover_search.proofs.InequalityLemmas.{all_left, all_right, complement_excludes}
 
 -- where an inequality holds at no point of a piece, or at each, one of its parts has none
@@ -39,12 +37,3 @@ split_outside rows piece old new below n e = subst (IsSplit rows piece old) (sym
 
 pub split_across : (rows : Constraints) (piece copy : Piece) (old middle new : List Piece) → piece.row < length rows.list → IsInner rows piece old middle → copy ≡ piece → new ≡ middle ++ outer_part rows copy ∷ [] → IsSplit rows piece old new
 split_across rows piece copy old middle new below i e g = subst (IsSplit rows piece old) (sym (g ∙ ap (λ (p : Piece). middle ++ outer_part rows p ∷ []) e)) (both below i)
-
--- ---- overflows
-pub outer_leaves : (rows : Constraints) (piece : Piece) (error : ConvErr) → piece.row < length rows.list → IsOverflowIn (LeavesOnList (outer_part rows piece).region) error → IsOverflowIn (LeavesInSplit rows piece) error
-outer_leaves rows piece (conversion.Overflow over) below l = record { below = below; leaves = inl l }
-outer_leaves rows piece conversion.Memory below l = tt
-
-pub inner_leaves : (rows : Constraints) (piece : Piece) (error : ConvErr) → piece.row + 1 < length rows.list → IsOverflowIn (LeavesOnList (inner_part rows piece).region) error → IsOverflowIn (LeavesInSplit rows piece) error
-inner_leaves rows piece (conversion.Overflow over) below l = record { below = omega (arith, below); leaves = inr (below, l) }
-inner_leaves rows piece conversion.Memory below l = tt

@@ -76,6 +76,3 @@ whole_fraction num den e h = subst (λ (d : ℤ). IsFraction (record { num = num
   num = h;
   den = record { size = omega arith };
 })
-
-pub zero_fraction : IsFraction (record { num = pos 0; den = pos 1 })
-zero_fraction = whole_fraction (pos 0) (pos 1) refl (record { size = omega arith })

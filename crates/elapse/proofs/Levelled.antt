@@ -1,7 +1,7 @@
 -- Vectors with 0 as their last entry.
-use Rattle.std.proofs.Common.{◌≡◌, ◌≢◌, ℕ, zero, suc, ◌+◌, List, [], ◌∷◌, length, set, ℤ, pos, ◌+ℤ◌, ◌*ℤ◌, refl, sym, ap, ◌∙◌, arith}
+use Rattle.std.proofs.Common.{◌≡◌, ◌≢◌, ℕ, zero, suc, ◌+◌, List, [], ◌∷◌, length, ℤ, pos, ◌+ℤ◌, ◌*ℤ◌, refl, ap, arith}
 use Rattle.std.proofs.lemmas.Int.{ints}
-use Rattle.std.proofs.lemmas.List.{length-set, get_or-set_same, get_or-set_other, set-get_or}
+use Rattle.std.proofs.lemmas.List.{length-set, get_or-set_same, get_or-set_other}
 use Rattle.row_core.specs.Vectors.{cell, dot}
 use Rattle.elapse.specs.Directions.{levelled}
 
@@ -13,10 +13,6 @@ cell-levelled_last dim v w = get_or-set_same v dim (pos 0) (pos 0) (omega (arith
 
 pub cell-levelled_other : (dim : ℕ) (v : List ℤ) (j : ℕ) → j ≢ dim → cell (levelled dim v) j ≡ cell v j
 cell-levelled_other dim v j ne = get_or-set_other v dim j (pos 0) (pos 0) ne
-
--- a vector that is 0 there is as before
-pub levelled_flat : (dim : ℕ) (v : List ℤ) → cell v dim ≡ pos 0 → levelled dim v ≡ v
-levelled_flat dim v e = ap (λ z. set v dim z) (sym e) ∙ set-get_or v dim (pos 0)
 
 no_product : (a b d : ℤ) → pos 0 *ℤ b +ℤ d ≡ a *ℤ pos 0 +ℤ d
 no_product a b d = omega (arith, ints)

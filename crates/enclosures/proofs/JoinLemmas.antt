@@ -1,6 +1,5 @@
 -- The smallest polyhedron that has the points of some parts.
-use Rattle.std.proofs.Common.{◌≡◌, ◌⊎◌, inl, inr, ℕ, zero, suc, ◌+◌, ◌<◌, List, [], ◌∷◌, ◌++◌, length, ℤ, pos, negsuc, ◌≤ℤ◌, ◌<ℤ◌, ◌*ℤ◌, ◌+ℤ◌, refl, sym, ap, ◌∙◌, subst, arith, All}
-use Rattle.std.specs.Prelude.{◌↔◌}
+use Rattle.std.proofs.Common.{◌≡◌, ◌⊎◌, inl, inr, ℕ, zero, suc, ◌+◌, ◌<◌, List, [], ◌∷◌, ◌++◌, length, ℤ, pos, negsuc, ◌≤ℤ◌, ◌<ℤ◌, ◌*ℤ◌, refl, sym, ap, ◌∙◌, subst, arith, All}
 use Rattle.std.proofs.lemmas.Int.{ints}
 use Rattle.std.proofs.lemmas.Bool.{cases_order}
 use Rattle.std.proofs.lemmas.List.Elements.{All-nil, All-cons, All-head, All-append}
@@ -11,7 +10,7 @@ use Rattle.row_core.specs.declared.errors.Overflow.{Overflow}
 use Rattle.row_core.specs.declared.errors.ConvErr.{ConvErr}
 use Rattle.row_core.specs.declared.errors.ConvErr.TheVariants as conversion
 use Rattle.cons_sys.specs.declared.kind.ConKind.TheVariants.{Ge}
-use Rattle.cons_sys.specs.Constraints.{Constraint, Constraints, constraint_at, Satisfies, In}
+use Rattle.cons_sys.specs.Constraints.{Constraint, Constraints, constraint_at, Satisfies}
 use Rattle.pair_laws.specs.StoredForms.{false_row}
 use Rattle.pair_laws.proofs.ListLemmas.{All-left, All-right}
 use Rattle.poly_pair.specs.declared.topology.Topology.{Topology}
@@ -24,8 +23,8 @@ use Rattle.poly_pair.specs.Refusals.{IsOverflowOn}
 use Rattle.pair_laws.specs.WorkLists.{LeavesOn}
 use Rattle.lattice_ops.specs.Sets.{IsHull, IsValidOn, both_generators}
 use Rattle.enclosures.specs.Ways.{ways}
-use Rattle.enclosures.specs.Differences.{IsValidOutside, IsDifference, IsPart, IsValidTo, IsJoinTo, LeavesOnPart, LeavesOnJoin, LeavesAt, LeavesInDifference}
-use Rattle.enclosures.proofs.WayLemmas.{SomeHolds, some_way, way_fails}
+use Rattle.enclosures.specs.Differences.{IsDifference, IsPart, IsValidTo, IsJoinTo, LeavesOnPart, LeavesAt}
+use Rattle.enclosures.proofs.WayLemmas.{some_way, way_fails}
 
 -- ---- a part
 pub part_of : (p : Polyhedron) (way : Constraint) (one : Constraints) (topology : Topology) (r : Polyhedron) → topology ≡ Nnc → one.list ≡ way ∷ [] → IsOfConstraints topology (with_constraints p one) r → IsPart p way r
@@ -134,7 +133,3 @@ joined_difference p cs r j = record {
     (λ f. (j.points v pt).1 (λ c is valid. f c is (λ u upt up fails. let s = some_way cs.list u fails in valid u upt up s.index s.below s.holds))),
   );
 }
-
-pub at_some_way : (p : Polyhedron) (cs : Constraints) (index : ℕ) → index < length (ways cs).list → (e : ConvErr) → IsOverflowIn (LeavesAt p (ways cs).list index) e → IsOverflowIn (LeavesInDifference p cs) e
-at_some_way p cs index l (conversion.Overflow over) h = record { index = index; below = l; leaves = h }
-at_some_way p cs index l conversion.Memory h = tt

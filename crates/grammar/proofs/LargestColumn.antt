@@ -31,14 +31,6 @@ any_shorter [] w i j h b = b
 any_shorter (f ∷ fs) w i j h (inl b) = inl (begins_shorter f w i j h b)
 any_shorter (f ∷ fs) w i j h (inr b) = inr (any_shorter fs w i j h b)
 
--- no form is no fault, at column 0
-pub no_forms : (w : List ℕ) → IsColumnOfAny [] w 0
-no_forms w = record {
-  not = λ (m : AnyMatches [] w). m;
-  before = λ (i : ℕ) (h : i < 0). absurd (omega arith);
-  here = inl (omega arith, λ (b : AnyBegins [] (take 0 w)). b);
-}
-
 first_larger : (fs : List Form) (f : Form) (w : List ℕ) (c d : ℕ) → d ≤ c → IsColumnOfAny fs w c → IsColumn f w d →
     (c ≤ length w) × (AnyBegins (fs ++ f ∷ []) (take c w) → ⊥) ⊎ c ≡ length w + 1
 first_larger fs f w c d h any one =

@@ -23,9 +23,6 @@ not_outside : (dim v : ℕ) (P : Type 0) → v < dim → ¬ P → ¬ ((dim ≤ v
 not_outside dim v P below never (inl h) = omega (arith, below, h)
 not_outside dim v P below never (inr p) = never p
 
-pub fraction_outside : (topology : Topology) (dim v : ℕ) (rel : Rel) (part : Part) → dim ≤ v → IsTextRefusal (fraction_fault topology dim v rel part) (err.Input OutOfRange)
-fraction_outside topology dim v rel part h = inl (inl h, refl)
-
 pub fraction_refused : (topology : Topology) (dim v : ℕ) (rel : Rel) (part : Part) (cause : ValueErr) → FracHasOneAnswer → v < dim → IsFracFault dim part.text cause → IsTextRefusal (fraction_fault topology dim v rel part) (refusal_of_text cause)
 fraction_refused topology dim v rel part value.OutOfRange law below is = inl (inr is, refl)
 fraction_refused topology dim v rel part value.TooLarge law below is =

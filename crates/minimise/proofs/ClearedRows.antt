@@ -1,6 +1,6 @@
 -- Rows that are cleared at the pivot of a line.
 use Rattle.std.proofs.Common.{◌≡◌, ◌⊎◌, inl, inr, ℕ, ◌+◌, ◌-◌, ◌<◌, ◌≤◌, List, [], ◌∷◌, ◌++◌, length, take, drop, slice_index_or, ℤ, pos, ◌-ℤ◌, ◌*ℤ◌, ◌<ℤ◌, refl, sym, ap, ◌∙◌, subst, arith, length-append, length-drop}
-use Rattle.std.specs.Prelude.{Option, Some, None, MatchOption, unwrap_or, remove}
+use Rattle.std.specs.Prelude.{remove}
 use Rattle.std.proofs.lemmas.Int.{ints}
 use Rattle.std.proofs.lemmas.Bool.{cases_lt}
 use Rattle.std.proofs.lemmas.List.{get_or_append_left, get_or-append_right, get_or-drop, get_or_push, get_or_default, take_more, drop-append-le, length-take-le}
@@ -12,17 +12,8 @@ use Rattle.cone_laws.specs.Canon.{vector_at, IsPivot, IsEchelon}
 use Rattle.cone_laws.specs.Steps.{sign}
 use Rattle.cone_laws.specs.Combinations.{IsCombined}
 use Rattle.cone_laws.proofs.FactorLemmas.{magnitude-positive, sign_above}
-use Rattle.minimise.specs.Bases.{IsLeading, IsCleared, AreCleared, IsPlace, HasTaken}
-use Rattle.minimise.proofs.Reductions.{pivot_from_leading}
+use Rattle.minimise.specs.Bases.{IsCleared, AreCleared, IsPlace, HasTaken}
 use Rattle.minimise.proofs.LeftCases.{remove_between}
-
--- ---- pivots
-pub leading_pivot : (line : List ℤ) (found : Option ℕ) (result : ℕ) → MatchOption found ((j : ℕ) → cell line j ≡ pos 0) (IsLeading line) → ((p : ℕ) × IsPivot line p) → result ≡ unwrap_or found 0 → IsPivot line result
-leading_pivot line None result zero (p, at) e = absurd (not_zero (cell line p) at.positive (zero p))
-  where
-    not_zero : (x : ℤ) → pos 0 <ℤ x → x ≡ pos 0 → ⊥
-    not_zero x h z = omega (arith, ints, h, z)
-leading_pivot line (Some c) result lead (p, at) e = subst (λ (n : ℕ). IsPivot line n) (sym e) (pivot_from_leading line c p lead at)
 
 -- ---- one row
 pub cleared_zero : (c : ℕ) (l w : List ℤ) → pos 0 <ℤ cell l c → cell w c ≡ pos 0 → IsPrimitive w → IsCleared c l w w

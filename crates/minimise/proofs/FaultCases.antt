@@ -45,10 +45,6 @@ pub take_fault : (c : ℕ) (lines : List (List ℤ)) (line : List ℤ) (k : ℕ)
 take_fault c lines line k Memory place h = tt
 take_fault c lines line k (Left left right column) place h = record { k = k; place = place; clearing = h }
 
-pub grow_fault_of_reduction : (lines : List (List ℤ)) (a : List ℤ) (fault : Fault) → IsReduceFault lines a fault → IsGrowFault lines a fault
-grow_fault_of_reduction lines a Memory h = tt
-grow_fault_of_reduction lines a (Left left right column) h = inl h
-
 pub grow_fault_of_line : (lines : List (List ℤ)) (a reduced : List ℤ) (c : ℕ) (fault : Fault) → IsReduced lines a reduced → IsLeading reduced c → All (λ (l : List ℤ). length l ≡ length a) lines → IsTakeFault c lines (turned_up reduced c) fault → IsGrowFault lines a fault
 grow_fault_of_line lines a reduced c Memory is lead wide h = tt
 grow_fault_of_line lines a reduced c (Left left right column) is lead wide h = inr (record { reduced = reduced; is_reduced = is; pivot = c; leading = lead; wide = wide; taking = h })

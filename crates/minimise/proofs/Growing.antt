@@ -45,9 +45,6 @@ cleared_two t r n w c l e = let g : neg_ℤ c *ℤ l ≡ neg_ℤ (c *ℤ l) = tu
     turned : (c l : ℤ) → neg_ℤ c *ℤ l ≡ neg_ℤ (c *ℤ l)
     turned c l = simp ring (omega (arith, ints))
 
-single_two : (s x : ℤ) → pos 1 *ℤ (s *ℤ x) ≡ s *ℤ x +ℤ pos 0 *ℤ x
-single_two s x = omega (arith, ints)
-
 -- a vector that isn't 0, with its sign
 sign_square : (x y : ℤ) → x ≢ pos 0 → sign x *ℤ (sign x *ℤ y) ≡ y
 sign_square (pos zero) y ne = absurd (ne refl)

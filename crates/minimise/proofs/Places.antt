@@ -31,10 +31,3 @@ module _ (lines : List (List ℤ)) (column index : ℕ) (before : (i p : ℕ) �
       not_less i l b e (inl s) = subst (λ (n : ℕ). e.pivot index ≤ e.pivot n) s (omega arith)
       not_less i l b e (inr (inl s)) = omega (arith, e.ordered index i s b)
       not_less i l b e (inr (inr s)) = absurd (omega (arith, l, s))
-
-  pub place_end : index ≡ length lines → IsPlace lines column index
-  place_end e = record {
-    within = omega (arith, e);
-    before = before;
-    behind = λ i p l b pivot. absurd (omega (arith, l, b, e));
-  }

@@ -1,7 +1,7 @@
 -- Rows that are reduced by lines in reduced echelon form, one line after another.
-use Rattle.std.proofs.Common.{◌≡◌, ◌⊎◌, inl, inr, ℕ, zero, suc, ◌<◌, ◌≤◌, List, [], ◌∷◌, length, take, ℤ, pos, neg_ℤ, ◌+ℤ◌, ◌-ℤ◌, ◌*ℤ◌, ◌<ℤ◌, refl, sym, ap, ◌∙◌, subst, arith}
+use Rattle.std.proofs.Common.{◌≡◌, ◌⊎◌, inl, inr, ℕ, zero, suc, ◌<◌, ◌≤◌, List, [], ◌∷◌, length, take, ℤ, pos, neg_ℤ, ◌+ℤ◌, ◌-ℤ◌, ◌*ℤ◌, refl, sym, ap, ◌∙◌, subst, arith}
 use Rattle.std.proofs.lemmas.Int.{ints}
-use Rattle.std.proofs.lemmas.Bool.{cases_lt, cases_order}
+use Rattle.std.proofs.lemmas.Bool.{cases_lt}
 use Rattle.std.proofs.lemmas.List.{get_or-take, length-take, take_all}
 use Rattle.row_core.specs.Vectors.{cell, scale, add, combined}
 use Rattle.row_core.specs.Content.{IsPrimitiveOf}
@@ -11,20 +11,8 @@ use Rattle.cone_laws.specs.Canon.{vector_at, IsPivot, IsEchelon}
 use Rattle.cone_laws.proofs.EchelonForm.{lowered_zero, zero_right}
 use Rattle.cone_laws.proofs.Factors.{combined-add, single, combined-single}
 use Rattle.cone_laws.proofs.UniqueLines.{pivot_same}
-use Rattle.minimise.specs.Bases.{IsLeading, IsCleared, IsReduced}
+use Rattle.minimise.specs.Bases.{IsCleared, IsReduced}
 use Rattle.minimise.proofs.TakenLines.{cleared}
-
--- ---- the leading column
-pub pivot_from_leading : (v : List ℤ) (c p : ℕ) → IsLeading v c → IsPivot v p → IsPivot v c
-pivot_from_leading v c p lead at = by_order (cases_order c p)
-  where
-    not_zero : (x : ℤ) → pos 0 <ℤ x → x ≡ pos 0 → ⊥
-    not_zero x h e = omega (arith, ints, h, e)
-
-    by_order : (c ≡ p) ⊎ ((c < p) ⊎ (p < c)) → IsPivot v c
-    by_order (inl e) = subst (λ (q : ℕ). IsPivot v q) (sym e) at
-    by_order (inr (inl l)) = absurd (lead.nonzero (at.before c l))
-    by_order (inr (inr l)) = absurd (not_zero (cell v p) at.positive (lead.before p l))
 
 -- ---- factors of the first lines
 combined-take : (n : ℕ) (ks : List ℤ) (gs : List (List ℤ)) (j : ℕ) → combined (take n ks) (take (suc n) gs) j ≡ combined ks (take n gs) j

@@ -23,7 +23,7 @@ use Rattle.minimise.specs.Facets.{TellsFull, AreFacets, AreGreatest}
 use Rattle.minimise.specs.SecondSystems.{behind_lines}
 use Rattle.minimise.specs.Parts.{AreParts, AreArranged, IsArranged}
 use Rattle.minimise.specs.declared.parts.Parts.{Parts}
-use Rattle.minimise.specs.Simplified.{IsSystemOf, IsDone, IsSimplified}
+use Rattle.minimise.specs.Simplified.{IsSystemOf, IsDone}
 use Rattle.minimise.specs.declared.second_system.Simplified.{Simplified}
 use Rattle.minimise.specs.declared.second_system.Simplified.TheVariants.{Done, Left}
 use Rattle.minimise.proofs.FacetLemmas.{TellsRows, turned_tells, ComesFrom, comes_from, GoesTo, goes_to, zero_from_full, full_from_zero, IsKept, is_kept, are_facets}
@@ -198,8 +198,3 @@ module _ (rows lines rays : Rows) (sat table : Table) (flat : List Bool) (parts 
   pub done_from_arranged : (simplified : Simplified) → IsArranged (length lines.rows) parts simplified → IsDone rows.width (lines.rows ++ rays.rows) simplified
   done_from_arranged (Done new_lines new_rays second) a = whole new_lines new_rays second a
   done_from_arranged (Left left right column) a = absurd a
-
--- ---- what is answered
-pub done_is_simplified : (width : ℕ) (rows second : List Row) (simplified : Simplified) → IsDone width second simplified → IsSimplified width rows second simplified
-done_is_simplified width rows second (Done lines rays sat) h = h
-done_is_simplified width rows second (Left left right column) h = absurd h

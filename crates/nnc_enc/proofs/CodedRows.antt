@@ -87,9 +87,6 @@ module _ (dim : ℕ) (gens : List Row) (lines rays : List (List ℤ)) (wide : (j
           let i : neg_ℤ c *ℤ z ≡ neg_ℤ (c *ℤ z) = simp ring in
           positive_of_mul m x q (omega (arith, ints, e, p, h, i))
 
-      flat_least : (y x m c : ℤ) → y ≡ m *ℤ x +ℤ c *ℤ pos 0 → pos 0 ≤ℤ y → pos 0 <ℤ m → pos 0 ≤ℤ x
-      flat_least y x m c e p q = let h = mul-zero c in at_least_zero_of_mul m x q (omega (arith, ints, e, p, h))
-
       -- the value of a row with 0 in column e doesn't depend on that column
       least_at_point : (k : Codes dim (IsAdmittedVector (dim + 2) gens) p) → (a : List ℤ) → D a → pos 0 ≤ℤ dot (lowered dim a) p
       least_at_point k a u = flat_row_least (k.member.admits (raised dim (lowered dim a) (pos 0)) (enc.flat a u))

@@ -1,16 +1,11 @@
 -- Which systems meet the conditions of the decoding and the strong calls.
-use Rattle.std.proofs.Common.{◌≡◌, ◌∙◌, ℕ, ◌+◌, ◌<◌, List, [], length, false, ℤ, pos, ◌<ℤ◌, sym, subst, arith}
-use Rattle.std.specs.Prelude.{All}
+use Rattle.std.proofs.Common.{◌≡◌, ℕ, ◌+◌, ◌<◌, List, [], length, false, ℤ, pos, ◌<ℤ◌, sym, subst, arith}
 use Rattle.row_core.specs.Vectors.{cell}
-use Rattle.row_core.specs.Lists.{Rows, FitWidth, Row, IsRow, row_at, vectors, system_rows}
+use Rattle.row_core.specs.Lists.{Row, vectors, system_rows}
 use Rattle.cone_laws.specs.Cones.{Upto}
 use Rattle.cone_laws.specs.Canon.{vector_at, IsSystem, Canon}
 use Rattle.cone_laws.specs.Members.{ConeOf}
 use Rattle.cone_laws.proofs.SystemLists.{system_wide}
-use Rattle.nnc_enc.specs.Encoding.{encoded_constraints}
-use Rattle.cons_sys.specs.Constraints.{Constraints, FitDimension}
-use Rattle.gens_sys.specs.Generators.{Generators, FitDimension as FitGenerators}
-use Rattle.nnc_enc.specs.EncodedGenerators.{encoded_generators, HasPoint}
 use Rattle.nnc_enc.specs.Results.{AreRowsOf, AreVectorsOf}
 use Rattle.nnc_enc.proofs.EncodedDuals.{encoded_has_dual, dual_is_encoded}
 use Rattle.nnc_enc.proofs.EncodedRows.{constraints_encode}
@@ -55,22 +50,6 @@ rows_have_vectors dim gens equalities inequalities lines rays r system =
     }
 
 -- ---- the same of lists that the calls make
-pub vectors_of_list : (cs : Constraints) (dim width : ℕ) (list : Rows) (lines rays : List Row) (i : ℕ) → dim ≡ cs.dim → width ≡ list.width → list.width ≡ cs.dim + 2 → list.rows ≡ encoded_constraints cs → FitDimension cs → FitWidth list → Canon (Upto width list.rows (length list.rows)) (vectors lines) (vectors rays) → i < length rays → pos 0 <ℤ cell (row_at rays i) dim → AreVectorsOf dim list.rows lines rays
-vectors_of_list cs dim width list lines rays i is_dim is_width wide is fit fit_list canon h up =
-    subst (λ (rows : List Row). AreVectorsOf dim rows lines rays) (sym is)
-    (subst (λ (d : ℕ). AreVectorsOf d (encoded_constraints cs) lines rays) (sym is_dim)
-    (constraints_have_vectors cs lines rays i fit
-    (subst (All (IsRow (cs.dim + 2))) is (subst (λ (w : ℕ). All (IsRow w) list.rows) wide fit_list.each))
-    (subst (λ (rows : List Row). IsSystem (Upto (cs.dim + 2) rows (length rows)) (vectors lines) (vectors rays)) is (subst (λ (w : ℕ). IsSystem (Upto w list.rows (length list.rows)) (vectors lines) (vectors rays)) (is_width ∙ wide) canon.system))
-    h (subst (λ (d : ℕ). pos 0 <ℤ cell (row_at rays i) d) is_dim up)))
-
-pub rows_of_list : (gs : Generators) (dim width : ℕ) (list : Rows) (lines rays : List Row) → dim ≡ gs.dim → width ≡ list.width → list.width ≡ gs.dim + 2 → list.rows ≡ encoded_generators gs.dim gs.list → FitGenerators gs → HasPoint gs.list → FitWidth list → Canon (Upto width list.rows (length list.rows)) (vectors lines) (vectors rays) → AreRowsOf dim list.rows lines rays
-rows_of_list gs dim width list lines rays is_dim is_width wide is fit point fit_list canon =
-    subst (λ (rows : List Row). AreRowsOf dim rows lines rays) (sym is)
-    (subst (λ (d : ℕ). AreRowsOf d (encoded_generators gs.dim gs.list) lines rays) (sym is_dim)
-    (generators_have_rows gs lines rays fit point
-    (subst (All (IsRow (gs.dim + 2))) is (subst (λ (w : ℕ). All (IsRow w) list.rows) wide fit_list.each))
-    (subst (λ (rows : List Row). IsSystem (Upto (gs.dim + 2) rows (length rows)) (vectors lines) (vectors rays)) is (subst (λ (w : ℕ). IsSystem (Upto w list.rows (length list.rows)) (vectors lines) (vectors rays)) (is_width ∙ wide) canon.system))))
 
 pub rows_of_second : (dim width : ℕ) (rows lines rays : List Row) (second : List Row) (equalities inequalities : List Row) → width ≡ dim + 2 → AreVectorsOf dim rows lines rays → second ≡ system_rows (vectors lines) (vectors rays) → Canon (Upto width second (length second)) (vectors equalities) (vectors inequalities) → AreRowsOf dim second equalities inequalities
 rows_of_second dim width rows lines rays second equalities inequalities is_width v is canon =

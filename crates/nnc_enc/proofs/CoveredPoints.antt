@@ -119,9 +119,6 @@ module _ (dim : ℕ) (gens : List Row) (lines rays : List (List ℤ)) (wide : (j
 
     -- ---- where a point is 0, the points that it is covered by are 0
     module _ (p q : List ℤ) (pd : D p) (qd : D q) (above : pos 0 <ℤ cell p dim) (covers : Covers dim gens q p) where
-      flat_p : List ℤ
-      flat_p = raised dim (lowered dim p) (pos 0)
-
       row_same : (b : Bool) (vs : List (List ℤ)) → All (IsRowOf b) vs → (r : V) → In vs r → (n : ℕ) × (n < length gens) × ((slice_index_or gens n ([], false)).1 ≡ b) × Same r (cell (slice_index_or gens n ([], false)).0)
       row_same b vs a r m = by_row (a m.index [] m.is)
         where

@@ -14,9 +14,6 @@ length_push [] x = refl
 length_push (y ∷ xs) x = omega (arith, length_push xs x)
 
 module _ {K : Type 0} (d : List ℤ × K) (dim : ℕ) where
-  pub grew_none : (old : List (List ℤ × K)) (row : ℕ → List ℤ) (kind : ℕ → K) → Grew d dim old old 0 row kind
-  grew_none old row kind = record { as_many = omega arith; before = λ i h. refl; each = λ i h. absurd (omega (arith, h)) }
-
   pub grew_more : (old cur new : List (List ℤ × K)) (n : ℕ) (row : ℕ → List ℤ) (kind : ℕ → K) (r : List ℤ) (k : K) (stored : List ℤ) → Grew d dim old cur n row kind → r ≡ row n → k ≡ kind n → IsPrimitiveOf (lowered dim r) stored → new ≡ cur ++ (stored, k) ∷ [] → Grew d dim old new (n + 1) row kind
   grew_more old cur new n row kind r k stored g er ek p e = record {
     as_many = ap length e ∙ length_push cur (stored, k) ∙ omega (arith, g.as_many);

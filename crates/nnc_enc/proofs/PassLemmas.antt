@@ -7,13 +7,6 @@ use Rattle.sat_matrix.specs.Tables.{bits_of, Covers}
 use Rattle.nnc_enc.specs.Marks.{flag}
 use Rattle.nnc_enc.specs.Passes.{IsCover, IsCoveredRow, IsDropped, IsLeft, IsStep, IsPassed}
 
-pub passed_none : (level marks : List Bool) (rows : List (List Bool)) (old : List Bool) → IsPassed level marks rows old old 0
-passed_none level marks rows old = record {
-  fewer = λ i h. h;
-  spare = λ i h n. absurd (n h);
-  apart = λ i h m k. absurd (omega (arith, h));
-}
-
 pub covers_covers : (level a b c : List Bool) → Covers level a b → Covers level b c → Covers level a c
 covers_covers level a b c f g n h l t = g n h l (f n h l t)
 

@@ -11,9 +11,9 @@ use Rattle.gens_sys.specs.declared.kind.GenKind.TheVariants.{Line, Ray, Point, C
 use Rattle.pair_laws.specs.PointSets.{IsWithin}
 use Rattle.poly_pair.specs.Polyhedra.{Polyhedron, HasNoPoint, IsKept}
 use Rattle.poly_pair.proofs.StoredLemmas.{none_kept, kept_dim}
-use Rattle.set_laws.specs.Asking.{IsProper, IsMember}
+use Rattle.set_laws.specs.Asking.{IsMember}
 use Rattle.optimum.specs.Values.{RowStays, DotLeaves}
-use Rattle.optimum.specs.Search.{IsPointKind, Improves, IsBest, GoesOn, SeeksTo, IsEndless, CompareLeaves, SeekLeaves, NoneYet, IsHeld}
+use Rattle.optimum.specs.Search.{IsPointKind, Improves, IsBest, GoesOn, SeeksTo, IsEndless, CompareLeaves, SeekLeaves, IsHeld}
 use Rattle.row_core.specs.Content.{IsPrimitive, IsPrimitiveOf, IsMultipleOf}
 use Rattle.optimum.specs.declared.seeking.Best.{Best}
 use Rattle.optimum.specs.Suprema.{HasBeyond, IsSupremum, IsUnbounded, IsTrueSup, IsFound, SupAnswer}
@@ -120,10 +120,6 @@ module _ (up : Bool) (row : List ℤ) (gs : Generators) (fits : FitDimension gs)
   sup_once (Ok sup.Unbounded) (Ok (sup.At num den attained index)) (i, e) b = absurd (found_endless b.reached i e)
   sup_once (Ok (sup.At num den attained index)) (Ok sup.Unbounded) a (i, e) = absurd (found_endless a.reached i e)
   sup_once (Ok (sup.At num den attained a)) (Ok (sup.At other under also b)) f g = ap (λ (x : Sup). Ok x) (found_once num den other under attained also a b f g)
-
-  pub none_is_empty : IsProper gs → NoneYet gs.list (length gs.list) → gs.list ≡ []
-  none_is_empty (inl e) n = e
-  none_is_empty (inr p) n = absurd (n p.index p.within (subst IsPointKind (sym p.kind) tt))
 
 pub one_sup : HasOneSup
 one_sup up row gs fits r s a b = sup_once up row gs fits r s a b

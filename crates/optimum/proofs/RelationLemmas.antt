@@ -1,5 +1,5 @@
 -- The flags of a relation are true of the points.
-use Rattle.std.specs.Prelude.{◌≡◌, ◌⊎◌, ℕ, ◌+◌, List, [], length, ℤ, pos, ◌+ℤ◌, ◌*ℤ◌, neg_ℤ, ◌≤ℤ◌, ◌<ℤ◌, Bool, true, Result, Ok, Err, ◌↔◌, IfOk, IsTrue}
+use Rattle.std.specs.Prelude.{◌≡◌, ◌⊎◌, ℕ, ◌+◌, List, [], length, ℤ, pos, ◌+ℤ◌, ◌*ℤ◌, neg_ℤ, ◌≤ℤ◌, ◌<ℤ◌, Bool, true, Result, Ok, Err, ◌↔◌, IsTrue}
 use Rattle.std.proofs.Common.{arith, sym, ◌∙◌, ap, subst, inl, inr, below_more}
 use Rattle.std.proofs.lemmas.Int.{ints}
 use Rattle.std.proofs.lemmas.Bool.Decides.{same_from_decides}
@@ -217,10 +217,6 @@ pub relation_answer : (p : Polyhedron) → IsKept p → (gs : Generators) → gs
 relation_answer p k gs e fits row s sides kind r flags =
     let there : SidesAnswer row p.gens.list (Ok s) = subst (λ (g : Generators). SidesAnswer row g.list (Ok s)) e sides in
     (there.0, true_flags p.gens (subst FitDimension e fits) (proper p k) row s there.1 p.cons (members p k) kind r flags)
-
-pub relation_true : (row : List ℤ) (kind : ConKind) (p : Polyhedron) (r : Result Relation PairOver) → RelationAnswer row kind p r → IfOk r (IsRelation p.cons row kind)
-relation_true row kind p (Ok r) a = a.1
-relation_true row kind p (Err over) a = tt
 
 pub refused_exactly : (row : List ℤ) (kind : ConKind) (p : Polyhedron) (r : Result Relation PairOver) → RelationAnswer row kind p r → (over : PairOver) → (r ≡ Err over) ↔ RowLeaves row p.gens.list over
 refused_exactly row kind p r a over = ((λ e. subst (RelationAnswer row kind p) e a), back r a)

@@ -8,9 +8,9 @@ use Rattle.row_core.specs.Range.{InRange}
 use Rattle.row_core.specs.declared.PairOver.{PairOver}
 use Rattle.gens_sys.specs.Generators.{Generator, Generators, row_at, kind_at, FitDimension}
 use Rattle.gens_sys.specs.declared.kind.GenKind.{GenKind}
-use Rattle.optimum.specs.Values.{RowStays, DotLeaves}
+use Rattle.optimum.specs.Values.{RowStays}
 use Rattle.optimum.specs.declared.seeking.Best.{Best}
-use Rattle.optimum.specs.Search.{IsPointKind, Improves, CompareStays, GoesOn, SeeksTo, SeekLeaves, NoneYet, IsHeld, Keeps, Replaces, TakesPlace, Chooses, CompareAnswer, CompareLeaves, VisitAnswer, compare_over}
+use Rattle.optimum.specs.Search.{IsPointKind, Improves, CompareStays, GoesOn, SeeksTo, NoneYet, IsHeld, Keeps, Replaces, TakesPlace, Chooses, CompareAnswer, CompareLeaves, VisitAnswer, compare_over}
 use Rattle.optimum.proofs.BestLemmas.{best_once, first_best, same_best, replaced_best, kept_best, goes_point}
 
 -- ---- a comparison
@@ -115,11 +115,3 @@ module _ (up : Bool) (row : List ℤ) (gs : Generators) (fits : FitDimension gs)
 
 pub seeks_more : (up : Bool) (row : List ℤ) (dim : ℕ) (list : List Generator) (n : ℕ) → SeeksTo up row dim list n → GoesOn up row dim list n → SeeksTo up row dim list (n + 1)
 seeks_more up row dim list n h k = below_more (GoesOn up row dim list) n h k
-
-pub seek_leaves : (up : Bool) (row : List ℤ) (dim : ℕ) (list : List Generator) (i : ℕ) (over : PairOver) → i < length list → SeeksTo up row dim list i → (over.right ≡ i) × (over.turned ≡ false) × (DotLeaves row list over ⊎ CompareLeaves up row dim list over) → SeekLeaves up row dim list over
-seek_leaves up row dim list i over h before (e, t, cause) = record {
-  generator = subst (λ (m : ℕ). m < length list) (sym e) h;
-  turned = t;
-  reached = subst (λ (m : ℕ). SeeksTo up row dim list m) (sym e) before;
-  cause = cause;
-}

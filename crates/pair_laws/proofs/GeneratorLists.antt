@@ -13,7 +13,6 @@ use Rattle.cone_laws.proofs.Ring.{mul-positive, by_sign}
 use Rattle.cone_laws.proofs.Factors.{at_least_zero_from_all}
 use Rattle.cone_laws.proofs.UptoRows.{asks_least}
 use Rattle.cone_laws.proofs.Bipolar.{admitted_is_spanned, spanned_is_admitted}
-use Rattle.cons_sys.specs.Constraints.{In}
 use Rattle.gens_sys.specs.Kinds.{HasBadDivisor}
 use Rattle.gens_sys.specs.declared.kind.GenKind.{GenKind}
 use Rattle.gens_sys.specs.declared.kind.GenKind.TheVariants.{Line, Ray, Point, ClosurePoint}
@@ -26,12 +25,12 @@ use Rattle.cone_laws.proofs.SystemLists.{zero_on_lines}
 use Rattle.cone_laws.proofs.ValidRows.{valid_of_row, row_of_valid, are_dual, admits_second}
 use Rattle.pair_laws.specs.WorkLists.{divisor_row, generator_row, generator_list}
 use Rattle.pair_laws.specs.PointSets.{IsClosedGen, AreClosedGens}
-use Rattle.pair_laws.specs.StoredForms.{stored_constraints, stored_generators, AreClosedSystems}
+use Rattle.pair_laws.specs.StoredForms.{stored_generators, AreClosedSystems}
 use Rattle.pair_laws.specs.FirstLists.{GeneratorListSpans, PointOfGenerators, PairOfGenerators}
 use Rattle.pair_laws.proofs.ListLemmas.{All-unmap}
 use Rattle.pair_laws.proofs.DivisorRow.{dot_divisor, length-divisor}
 use Rattle.pair_laws.proofs.ClosedGenerators.{HasPositive, positive_term, zero_divisor, spans_generated, generated_spans}
-use Rattle.pair_laws.proofs.StoredPair.{cone_stored, within_cone, gens_closed, stored_generates, stored_spans}
+use Rattle.pair_laws.proofs.StoredPair.{gens_closed, stored_generates, stored_spans}
 use Rattle.pair_laws.proofs.NeededRows.{combined_zero}
 use Rattle.pair_laws.proofs.Pivots.{second_positive, point_of_divisor}
 
@@ -144,13 +143,6 @@ module _ (gs : Generators) (closed : AreClosedGens gs) (wide : All (λ g. length
       where
         stored_in : (p : List ℤ) → IsPoint gs.dim p → Span (record { dim = gs.dim; list = stored_generators gs.dim lines rays }) p → ConeOf (gs.dim + 1) (system_rows equalities inequalities) p
         stored_in p pt s = spanned_within (gs.dim + 1) (system_rows equalities inequalities) (length (system_rows equalities inequalities)) lines rays p second_gen pt.wide (stored_generates gs.dim lines rays p s)
-
-    -- the stored constraints hold where each row holds that is valid on the generators
-    pub gens_hold_where : (p : List ℤ) → IsPoint gs.dim p → In (record { dim = gs.dim; list = stored_constraints gs.dim equalities inequalities }) p ↔ ((a : List ℤ) → ConeOf (gs.dim + 1) (generator_list gs) a → pos 0 ≤ℤ dot a p)
-    gens_hold_where p pt = (
-      (λ h a u. rows_admit p (within_cone gs.dim lines rays equalities inequalities gens_polyhedral p (record { point = pt; holds = h })) a u),
-      (λ h. cone_stored gs.dim lines rays equalities inequalities gens_polyhedral p (admitted_by_rows p pt.wide h)),
-    )
 
 pub pair_of_generators : PairOfGenerators
 pair_of_generators gs equalities inequalities lines rays k closed wide s below point = (

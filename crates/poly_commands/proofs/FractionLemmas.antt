@@ -1,6 +1,6 @@
 -- What came of the commands that map a set by a relation between a variable and an expression with a divisor.
-use Rattle.std.proofs.Common.{◌≡◌, ℕ, ◌+◌, ◌<◌, Bool, IsTrue, List, Err, Ok, refl, sym, subst, inl, inr, arith}
-use Rattle.std.specs.Prelude.{ℤ, pos, ◌<ℤ◌, length}
+use Rattle.std.proofs.Common.{ℕ, ◌<◌, Bool, IsTrue, List, Err, Ok, refl, sym, subst, inl, inr, arith}
+use Rattle.std.specs.Prelude.{ℤ, pos, ◌<ℤ◌}
 use Rattle.std.proofs.lemmas.Int.{ints}
 use Rattle.row_core.specs.Range.{InRange}
 use Rattle.row_core.specs.Refusals.{IsOverflowIn}
@@ -24,14 +24,9 @@ use Rattle.line_values.proofs.FaultOrder.{early, refused_by_text, refused_late, 
 use Rattle.poly_commands.specs.Affine.{image_rel, IsMapped, LeavesInMap, mapped_by}
 
 -- ---- the expression and the divisor
-pub fraction_wide : (topology : Topology) (dim v : ℕ) (rel : Rel) (part : Part) (expr : List ℤ) (den : ℤ) → ReadsFraction topology dim v rel part expr den → length expr ≡ dim + 1
-fraction_wide topology dim v rel part expr den read = read.read.holds.sums.wide
 
 positive_number : (n : ℕ) → 0 < n → pos 0 <ℤ pos n
 positive_number n h = omega (arith, ints)
-
-pub fraction_positive : (topology : Topology) (dim v : ℕ) (rel : Rel) (part : Part) (expr : List ℤ) (den : ℤ) → ReadsFraction topology dim v rel part expr den → pos 0 <ℤ den
-fraction_positive topology dim v rel part expr den read = subst (λ (z : ℤ). pos 0 <ℤ z) (sym read.read.holds.same) (positive_number _ read.read.holds.positive)
 
 pub divisor_in_range : (topology : Topology) (dim v : ℕ) (rel : Rel) (part : Part) (expr : List ℤ) (den : ℤ) → ReadsFraction topology dim v rel part expr den → InRange den
 divisor_in_range topology dim v rel part expr den read = subst InRange (sym read.read.holds.same) (record { size = read.read.holds.stay.divisor })
@@ -45,9 +40,6 @@ allowed Closed rel.Gt h = absurd (h tt)
 allowed Closed rel.Lt h = absurd (h tt)
 allowed Nnc rel.Gt h = refl
 allowed Nnc rel.Lt h = refl
-
-pub relation_allowed : (topology : Topology) (dim v : ℕ) (rel : Rel) (part : Part) (expr : List ℤ) (den : ℤ) → ReadsFraction topology dim v rel part expr den → IsRelationFor topology (image_rel rel)
-relation_allowed topology dim v rel part expr den read = allowed topology rel read.faultless.1.1.1.0
 
 -- ---- faults
 module _ (op : Mapping) (full : Bool) (v : ℕ) (rel : Rel) (part : Part) (p : Polyhedron) where

@@ -49,9 +49,6 @@ made_has_point p P is h = let never : made p ≡ unmade generators.NoPoint = is.
 cons_early : (full : Bool) (t : Topology) (n : ℕ) (part : Part) → n ≤ MAX_DIM → NoneOf early (cons full t n part).conditions
 cons_early full t n part small = (λ k. k, (λ k. k, (λ k. k, (λ k. k, (λ (k : MAX_DIM < n). absurd (omega arith), tt)))))
 
-pub cons_refused : (full : Bool) (t : Topology) (n : ℕ) (part : Part) (e : StepErr) → n ≤ MAX_DIM → IsTextRefusal (constraints_fault t n part) e → IsPerformed (cons full t n part) (Err e)
-cons_refused full t n part e small is = refused_by_text (cons full t n part) e (cons_early full t n part small) is
-
 pub cons_full : (full : Bool) (t : Topology) (n : ℕ) (part : Part) (system : Constraints) → n ≤ MAX_DIM → ReadsConstraints t n part system → IsTrue full → IsFirst (cons full t n part).conditions TooManyNames
 cons_full full t n part system small read none =
     refused_late (cons full t n part).conditions TooManyNames (cons_early full t n part small) read.faultless (inr (λ k. k, inl (none, refl)))

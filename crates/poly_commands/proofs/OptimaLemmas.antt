@@ -1,14 +1,13 @@
 -- What came of the questions for a bound and for a relation.
-use Rattle.std.proofs.Common.{◌≡◌, ℕ, ◌<◌, List, length, Ok, Err, Bool, sym, ◌∙◌, inl, inr, arith, ◌⊎◌}
+use Rattle.std.proofs.Common.{◌≡◌, ℕ, List, Ok, Err, Bool}
 use Rattle.std.specs.Prelude.{ℤ}
 use Rattle.row_core.specs.declared.errors.Overflow.{Overflow}
 use Rattle.row_core.specs.declared.errors.PairOver.{PairOver}
-use Rattle.row_core.specs.declared.errors.OverKind.TheVariants.{Dot, Compare}
 use Rattle.cons_sys.specs.declared.kind.ConKind.{ConKind}
-use Rattle.gens_sys.specs.Generators.{Generators, FitDimension}
+use Rattle.gens_sys.specs.Generators.{FitDimension}
 use Rattle.poly_pair.specs.Polyhedra.{Polyhedron}
-use Rattle.optimum.specs.Values.{DotLeaves, RowLeaves}
-use Rattle.optimum.specs.Search.{SeekLeaves, CompareLeaves}
+use Rattle.optimum.specs.Values.{RowLeaves}
+use Rattle.optimum.specs.Search.{SeekLeaves}
 use Rattle.optimum.specs.Relations.{RelationAnswer}
 use Rattle.optimum.specs.Suprema.{SupAnswer, IsTrueSup}
 use Rattle.optimum.specs.declared.outcome.Relation.{Relation}
@@ -21,7 +20,7 @@ use Rattle.line_values.specs.Order.{NoneOf, Passes}
 use Rattle.line_values.specs.Meaning.{line}
 use Rattle.line_values.specs.Texts.{constraint_fault, expression_fault, IsTextRefusal, ReadsConstraint, ReadsExpression}
 use Rattle.optimum.specs.Showing.{shown_values}
-use Rattle.poly_commands.specs.Optima.{relation, bound, relation_text, bound_text, HasGenerator}
+use Rattle.poly_commands.specs.Optima.{relation, bound, relation_text, bound_text}
 use Rattle.line_values.specs.Performed.{IsPerformed}
 use Rattle.line_values.proofs.FaultOrder.{early, refused_by_text, all_pass}
 
@@ -41,10 +40,6 @@ relation_told part p row kind flags text read answer said = (relation_passes par
 pub relation_leaves : (part : Part) (p : Polyhedron) (row : List ℤ) (kind : ConKind) (pair : PairOver) (over : Overflow) → ReadsConstraint p.cons.dim part row kind → RowLeaves row p.gens.list pair → over ≡ shown_values row p.gens pair → IsPerformed (relation part p) (Err (err.Overflow over))
 relation_leaves part p row kind pair over read leaves shown = (relation_passes part p row kind read, record { row = row; kind = kind; read = read.read; holds = record { pair = pair; leaves = leaves; shown = shown } })
 
--- the pair of a dot isn't one of a comparison
-pub no_comparison : (pair : PairOver) (n : ℕ) → pair.kind ≡ Dot → pair.kind ≡ Compare → pair.left < n
-no_comparison pair n d k = absurd (let no : Dot ≡ Compare = sym d ∙ k in cc)
-
 -- ---- bounds
 bound_early : (up : Bool) (part : Part) (p : Polyhedron) → NoneOf early (bound up part p).conditions
 bound_early up part p = (λ k. k, (λ k. k, (λ k. k, (λ k. k, (λ k. k, tt)))))
@@ -60,17 +55,3 @@ bound_told up part p row b text read fit answer true_of said = (bound_passes up 
 
 pub bound_leaves : (up : Bool) (part : Part) (p : Polyhedron) (row : List ℤ) (pair : PairOver) (over : Overflow) → ReadsExpression p.cons.dim part row → FitDimension p.gens → SeekLeaves up row p.gens.dim p.gens.list pair → over ≡ shown_values row p.gens pair → IsPerformed (bound up part p) (Err (err.Overflow over))
 bound_leaves up part p row pair over read fit leaves shown = (bound_passes up part p row read, record { row = row; read = read.read; holds = record { pair = pair; leaves = (fit, leaves); shown = shown } })
-
--- the generators that are compared are there
-pub compared_there : (up : Bool) (row : List ℤ) (gs : Generators) (pair : PairOver) → SeekLeaves up row gs.dim gs.list pair → pair.kind ≡ Compare → pair.left < length gs.list
-compared_there up row gs pair leaves k = by leaves.cause
-  where
-    by : DotLeaves row gs.list pair ⊎ CompareLeaves up row gs.dim gs.list pair → pair.left < length gs.list
-    by (inl d) = no_comparison pair (length gs.list) d.kind k
-    by (inr c) = omega (arith, c.best.below, leaves.generator)
-
--- so is the one that a bound numbers
-pub numbered_there : (up : Bool) (row : List ℤ) (gs : Generators) (b : Sup) → SupAnswer up row gs (Ok b) → HasGenerator gs b
-numbered_there up row gs sup.Empty answer = tt
-numbered_there up row gs sup.Unbounded answer = tt
-numbered_there up row gs (sup.At num den attained index) answer = answer.best.below

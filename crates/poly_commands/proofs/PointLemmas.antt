@@ -1,10 +1,8 @@
 -- What came of the question whether a point is in a polyhedron.
 use Rattle.std.proofs.Common.{◌≡◌, ℕ, List, Ok, Err, Bool, IsTrue, ◌↔◌}
 use Rattle.std.specs.Prelude.{ℤ}
-use Rattle.row_core.specs.declared.errors.Overflow.{Overflow}
-use Rattle.row_core.specs.declared.errors.PairOver.{PairOver}
-use Rattle.cons_sys.specs.Constraints.{In, row_at}
-use Rattle.cons_sys.specs.Testing.{Answers, LeavesRange}
+use Rattle.cons_sys.specs.Constraints.{In}
+use Rattle.cons_sys.specs.Testing.{Answers}
 use Rattle.poly_pair.specs.Polyhedra.{Polyhedron}
 use Rattle.script_text.specs.declared.command.Part.{Part}
 use Rattle.line_values.specs.declared.refusal.StepErr.{StepErr}
@@ -28,7 +26,3 @@ has_passes part p point read = all_pass (has part p).conditions (has_early part 
 pub has_told : (part : Part) (p : Polyhedron) (point : List ℤ) (holds : Bool) (text : List ℕ) → ReadsPoint p.cons.dim part point → Answers p.cons.list point (Ok holds) → IsTrue holds ↔ In p.cons point → text ≡ answer_line holds → IsPerformed (has part p) (Ok text)
 has_told part p point holds text read tested true_of said =
     (has_passes part p point read, record { point = point; read = read.read; holds = record { holds = holds; tested = tested; true_of_point = true_of; said = said } })
-
-pub has_leaves : (part : Part) (p : Polyhedron) (point : List ℤ) (pair : PairOver) (over : Overflow) → ReadsPoint p.cons.dim part point → LeavesRange p.cons.list point pair → over ≡ record { kind = pair.kind; step = 0; left = row_at p.cons.list pair.left; right = point; column = pair.column } → IsPerformed (has part p) (Err (err.Overflow over))
-has_leaves part p point pair over read leaves shown =
-    (has_passes part p point read, record { point = point; read = read.read; holds = record { pair = pair; leaves = leaves; shown = shown } })

@@ -69,12 +69,6 @@ module _ (gs : Generators) (p : Polyhedron) (k : IsKept p) (o : IsOfGenerators C
   systems : AreSystemsOf (gs.dim + 1) (generator_list gs) first.lines first.rays second.lines second.rays
   systems = record { first = first.canon; second = second.canon }
 
-  rows_stored : Constraints
-  rows_stored = record { dim = gs.dim; list = stored_constraints gs.dim first.lines first.rays }
-
-  vectors_stored : Generators
-  vectors_stored = record { dim = gs.dim; list = stored_generators gs.dim second.lines second.rays }
-
   pair : AreClosedSystems gs.dim second.lines second.rays first.lines first.rays × ((v : List ℤ) → IsPoint gs.dim v → Span gs v ↔ Span (record { dim = gs.dim; list = stored_generators gs.dim second.lines second.rays }) v)
   pair = pair_of_generators gs first.lines first.rays second.lines second.rays point.index (closed_gens gs kinds fit) (wide_gens gs fit) systems point.below point.point
 

@@ -361,7 +361,3 @@ size_given given more reader new e t = omega (arith, e, t, length-append given m
 pub match_true : (b : Bool) (A B : Type 0) → b ≡ true → MatchBool b A B → A
 match_true true A B e h = h
 match_true false A B e h = cc
-
-pub match_false : (b : Bool) (A B : Type 0) → b ≡ false → MatchBool b A B → B
-match_false true A B e h = cc
-match_false false A B e h = h

@@ -1,15 +1,12 @@
 -- Lists of constraints that grow at the end.
 use Rattle.std.proofs.Common.{◌≡◌, inl, inr, ℕ, ◌+◌, ◌<◌, List, [], ◌∷◌, ◌++◌, length, take, ℤ, refl, ap, sym, subst, ◌∙◌}
 use Rattle.std.proofs.lemmas.List.{append-nil, take_more}
-use Rattle.row_core.specs.declared.errors.ConvErr.{ConvErr}
 use Rattle.row_core.specs.declared.errors.ConvErr.TheVariants as conversion
 use Rattle.cons_sys.specs.declared.kind.ConKind.{ConKind}
 use Rattle.cons_sys.specs.Constraints.{Constraint}
 use Rattle.gens_sys.specs.declared.kind.GenKind.TheVariants.{Line}
 use Rattle.gens_sys.specs.Generators.{Generator, generator_at, row_at, kind_at}
-use Rattle.row_core.specs.Refusals.{IsOverflowIn}
 use Rattle.ranking.specs.RankingRows.{bound_row, fall_row, row_kind, ranking_rows, AreReduced, nothing, left_out, kept, GainsReduced, GainsPair}
-use Rattle.ranking.specs.Refusals.{LeavesInDifferences, SomeLeavesInDifferences}
 
 reduced_append : (old new more added : List Constraint) → AreReduced old new → AreReduced more added → AreReduced (old ++ more) (new ++ added)
 reduced_append [] [] more added nothing e = e
@@ -46,8 +43,3 @@ pairs_more n list new new2 i row kind h e f d p =
     subst (λ (xs : List Generator). AreReduced (ranking_rows n xs) new2) (sym (take_more list i ([], Line) h))
     (pair_end n (take i list) (generator_at list i) new new2 d
     (subst (λ (k : ConKind). GainsPair n new new2 (row_at list i) k) f (subst (λ (v : List ℤ). GainsPair n new new2 v kind) e p)))
-
--- the refusal of one generator is that of some
-pub some_refusal : (n : ℕ) (list : List Generator) (i : ℕ) (row : List ℤ) (cause : ConvErr) → i < length list → row ≡ row_at list i → IsOverflowIn (LeavesInDifferences n row) cause → IsOverflowIn (SomeLeavesInDifferences n list) cause
-some_refusal n list i row (conversion.Overflow over) h e leaves = record { index = i; below = h; leaves = subst (λ (v : List ℤ). LeavesInDifferences n v over) e leaves }
-some_refusal n list i row conversion.Memory h e leaves = tt

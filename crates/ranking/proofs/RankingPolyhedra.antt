@@ -1,5 +1,5 @@
 -- The polyhedron of the constraints of the generators is that of the ranking functions.
-use Rattle.std.proofs.Common.{◌≡◌, inl, inr, ℕ, ◌+◌, ◌/◌, ◌%◌, List, length, ℤ, sym, ap, ◌∙◌, subst, arith, All}
+use Rattle.std.proofs.Common.{◌≡◌, inr, ℕ, ◌+◌, ◌/◌, ◌%◌, List, length, ℤ, sym, ap, ◌∙◌, subst, arith, All}
 use Rattle.std.specs.Prelude.{Result, Ok, Err, IfOk, IfErr}
 use Rattle.row_core.specs.Points.{IsPoint}
 use Rattle.row_core.specs.declared.errors.ConvErr.{ConvErr}
@@ -21,7 +21,7 @@ use Rattle.row_core.specs.Refusals.{IsOverflowIn}
 use Rattle.ranking.specs.Functions.{IsRanking}
 use Rattle.ranking.specs.RankingRows.{ranking_rows, IsRankingSystem}
 use Rattle.ranking.specs.Rankings.{IsRankingSet}
-use Rattle.ranking.specs.Refusals.{SomeLeavesInDifferences, LeavesInRanking}
+use Rattle.ranking.specs.Refusals.{LeavesInRanking}
 use Rattle.ranking.proofs.PairValues.{bound_of, fall_of}
 use Rattle.ranking.proofs.RankingSets.{reduced_hold, hold_reduced, reduced_closed, rows_closed, rows_hold, rows_bound, rows_fall, ranks_of, bound_ranks, fall_ranks}
 
@@ -70,9 +70,6 @@ module _ (n : ℕ) (relation : Polyhedron) (k : IsKept relation) (fit : FitDimen
       at_dim f point = subst (λ (m : ℕ). IsPoint m f) (sym s.same_dim) point
 
 -- ---- refusals
-pub first_refusal : (n : ℕ) (gs : Generators) (cause : ConvErr) → IsOverflowIn (SomeLeavesInDifferences n gs.list) cause → IsOverflowIn (LeavesInRanking n gs) cause
-first_refusal n gs (conversion.Overflow over) leaves = inl leaves
-first_refusal n gs conversion.Memory leaves = tt
 
 pub list_refusal : (n : ℕ) (gs : Generators) (system : Constraints) (cause : ConvErr) → IsRankingSystem n gs system → IsOverflowOn (system.dim + 1) system.dim (constraint_list system) cause → IsOverflowIn (LeavesInRanking n gs) cause
 list_refusal n gs system (conversion.Overflow over) s leaves = inr (record {
@@ -93,9 +90,6 @@ module _ (relation : Polyhedron) (k : IsKept relation) (gs : Generators) (same :
   pub lent_points : FitDimension gs → relation.cons.dim % 2 ≡ 0 → (system : Constraints) → IsRankingSystem (d / 2) gs system → (r : Result Polyhedron ConvErr) → IfOk r (IsOfConstraints Closed system) → IfOk r (IsRankingSet (relation.cons.dim / 2) relation)
   lent_points fit even system s (Ok result) o = ranking_points (relation.cons.dim / 2) relation k (subst FitDimension same fit) (halves relation.cons.dim even) system (lent_system system s) result o
   lent_points fit even system s (Err cause) o = tt
-
-  pub lent_refusal : (cause : ConvErr) → IsOverflowIn (SomeLeavesInDifferences (d / 2) gs.list) cause → IsOverflowIn (LeavesInRanking (relation.cons.dim / 2) relation.gens) cause
-  lent_refusal cause leaves = first_refusal (relation.cons.dim / 2) relation.gens cause (subst (λ (m : ℕ). IsOverflowIn (SomeLeavesInDifferences (m / 2) relation.gens.list) cause) dim_is (subst (λ (hs : Generators). IsOverflowIn (SomeLeavesInDifferences (d / 2) hs.list) cause) same leaves))
 
   pub lent_list_refusal : (system : Constraints) → IsRankingSystem (d / 2) gs system → (r : Result Polyhedron ConvErr) → IfErr r (IsOverflowOn (system.dim + 1) system.dim (constraint_list system)) → IfErr r (IsOverflowIn (LeavesInRanking (relation.cons.dim / 2) relation.gens))
   lent_list_refusal system s (Ok result) leaves = tt

@@ -1,14 +1,9 @@
 use Rattle.std.specs.Prelude.{◌≡◌, ℕ, ◌+◌, ◌<◌, zero, suc, List, [], ◌∷◌, length, take, ℤ, pos, ◌+ℤ◌}
-use Rattle.std.proofs.Common.{arith, sym, ◌∙◌, ap, refl, add-one}
+use Rattle.std.proofs.Common.{arith, sym, refl, add-one}
 use Rattle.std.proofs.lemmas.Int.{ints}
-use Rattle.std.proofs.lemmas.List.{take_all}
 use Rattle.std.proofs.Math.IntN.{◌*ℤ◌}
 use Rattle.row_core.specs.Vectors.{cell, dot, scale}
 use Rattle.row_core.proofs.Ring.{mul_comm, mul_left_comm, mul-add, mul-zero}
-
--- sums may be regrouped
-pub add_assoc_z : (a b c : ℤ) → a +ℤ (b +ℤ c) ≡ (a +ℤ b) +ℤ c
-add_assoc_z a b c = omega (arith, ints)
 
 pub add_zero_z : (a : ℤ) → a +ℤ pos 0 ≡ pos 0 +ℤ a
 add_zero_z a = omega (arith, ints)
@@ -26,10 +21,6 @@ dot-take_suc (a ∷ u) (b ∷ v) (suc j) h k =
 
 pub dot-take_more : (u v : List ℤ) (j : ℕ) → j < length u → j < length v → dot (take (j + 1) u) (take (j + 1) v) ≡ dot (take j u) (take j v) +ℤ cell u j *ℤ cell v j
 dot-take_more u v j h k = rw add-one (dot-take_suc u v j h k)
-
--- all columns
-pub dot-take_all : (u v : List ℤ) (n : ℕ) → n ≡ length u → length u ≡ length v → dot (take n u) (take n v) ≡ dot u v
-dot-take_all u v n e f = ap (λ w. dot w (take n v)) (take_all n u (omega arith)) ∙ ap (dot u) (take_all n v (omega arith))
 
 pub dot_comm : (u v : List ℤ) → dot u v ≡ dot v u
 dot_comm [] [] = refl

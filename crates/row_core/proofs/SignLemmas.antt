@@ -19,9 +19,6 @@ cell-negative v j = negate_is (cell (scale (neg_ℤ (pos 1)) v) j) (cell v j) (c
 pub negated_within : (u v : List ℤ) → length v ≡ length u → ((j : ℕ) → j < length u → cell v j ≡ neg_ℤ (cell u j)) → v ≡ scale (neg_ℤ (pos 1)) u
 negated_within u v e h = ext_get_or (pos 0) v (scale (neg_ℤ (pos 1)) u) (e ∙ sym (length-scale (neg_ℤ (pos 1)) u)) (λ j b. h j (omega (arith, b, e)) ∙ sym (cell-negative u j))
 
-pub negated_is : (u v : List ℤ) → length v ≡ length u → ((j : ℕ) → cell v j ≡ neg_ℤ (cell u j)) → v ≡ scale (neg_ℤ (pos 1)) u
-negated_is u v e h = negated_within u v e (λ j b. h j)
-
 -- ---- primitive rows
 same_size : (x : ℤ) → unsigned_abs (neg_ℤ x) ≡ unsigned_abs x
 same_size (pos zero) = refl

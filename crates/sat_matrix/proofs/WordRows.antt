@@ -1,6 +1,6 @@
 -- Conjunctions of two rows of words, and rows of which the first words are conjunctions.
 use Rattle.std.proofs.Common.{◌≡◌, ◌≢◌, ℕ, suc, zero, ◌+◌, ◌<◌, bit_and, List, [], ◌∷◌, ◌++◌, length, get_or, set, take, drop, refl, sym, ap, ◌∙◌, arith, add-one}
-use Rattle.std.proofs.lemmas.List.{append-nil, take_all, drop_all, get_or-set_same, get_or-set_other, set-set, get_or_append_left}
+use Rattle.std.proofs.lemmas.List.{get_or-set_same, get_or-set_other, set-set, get_or_append_left}
 use Rattle.row_core.specs.Flat.{Flat, entries_at}
 use Rattle.sat_matrix.specs.Words.{and_words}
 use Rattle.sat_matrix.proofs.WrittenRows.{set_last, last_row}
@@ -20,11 +20,6 @@ anded_suc k [] b h l = absurd (omega (arith, h))
 anded_suc k (x ∷ a) [] h l = absurd (omega (arith, l))
 anded_suc zero (x ∷ a) (y ∷ b) h l = refl
 anded_suc (suc k) (x ∷ a) (y ∷ b) h l = ap (λ (zs : List ℕ). bit_and x y ∷ zs) (anded_suc k a b (omega (arith, h)) (omega (arith, l)))
-
-pub anded_all : (n : ℕ) (a b : List ℕ) → length a ≡ n → length b ≡ n → anded n a b ≡ and_words a b
-anded_all n a b e f =
-    ap (λ (zs : List ℕ). and_words (take n a) (take n b) ++ zs) (drop_all n a (omega (arith, e))) ∙ append-nil (and_words (take n a) (take n b))
-    ∙ ap (λ (zs : List ℕ). and_words zs (take n b)) (take_all n a (omega (arith, e))) ∙ ap (λ (zs : List ℕ). and_words a zs) (take_all n b (omega (arith, f)))
 
 -- one word more of a row
 pub anded_put : (k to from : ℕ) (old rows new : Flat ℕ) (x y : ℕ) → rows ≡ record old { rows = set old.rows to (anded k (entries_at old.rows to) (entries_at old.rows from)) } → new ≡ record rows { rows = set rows.rows to (set (entries_at rows.rows to) k (bit_and x y)) }

@@ -4,11 +4,6 @@ use Rattle.std.proofs.lemmas.List.{get_or-set_same, set-set}
 use Rattle.row_core.specs.Flat.{entries_at}
 use Rattle.sat_matrix.specs.Tables.{bits_of}
 
-pub set_itself : {X : Type 0} (rows : List (List X)) (i : ℕ) → set rows i (entries_at rows i) ≡ rows
-set_itself [] i = refl
-set_itself (x ∷ xs) zero = refl
-set_itself {X = X} (x ∷ xs) (suc i) = ap (λ (ys : List (List X)). x ∷ ys) (set_itself xs i)
-
 -- one place more
 written_at : (c : ℕ) (new old : List Bool) → c < length new → length old ≡ length new → set (take c new ++ drop c old) c (get_or new c false) ≡ take (suc c) new ++ drop (suc c) old
 written_at c [] old h e = absurd (omega (arith, h))
@@ -16,22 +11,8 @@ written_at c (x ∷ new) [] h e = absurd (omega (arith, e))
 written_at zero (x ∷ new) (y ∷ old) h e = refl
 written_at (suc c) (x ∷ new) (y ∷ old) h e = ap (λ (ys : List Bool). x ∷ ys) (written_at c new old (omega (arith, h)) (omega (arith, e)))
 
-written_all : (n : ℕ) (new old : List Bool) → length new ≡ n → length old ≡ n → take n new ++ drop n old ≡ new
-written_all zero [] [] e f = refl
-written_all zero [] (y ∷ old) e f = absurd (omega (arith, f))
-written_all zero (x ∷ new) old e f = absurd (omega (arith, e))
-written_all (suc n) [] old e f = absurd (omega (arith, e))
-written_all (suc n) (x ∷ new) [] e f = absurd (omega (arith, f))
-written_all (suc n) (x ∷ new) (y ∷ old) e f = ap (λ (ys : List Bool). x ∷ ys) (written_all n new old (omega (arith, e)) (omega (arith, f)))
-
 abbrev pub written : List (List Bool) → ℕ → List Bool → ℕ → List (List Bool)
 written old i new c = set old i (take c new ++ drop c (bits_of old i))
-
-pub written_none : (old : List (List Bool)) (i : ℕ) (new : List Bool) → old ≡ written old i new 0
-written_none old i new = sym (set_itself old i)
-
-pub written_whole : (old : List (List Bool)) (i n : ℕ) (new : List Bool) → length new ≡ n → length (bits_of old i) ≡ n → written old i new n ≡ set old i new
-written_whole old i n new e f = ap (λ (r : List Bool). set old i r) (written_all n new (bits_of old i) e f)
 
 pub written_more : (i c : ℕ) (rows old : List (List Bool)) (new : List Bool) (bit : Bool) → i < length old → rows ≡ written old i new c → c < length new → length (bits_of old i) ≡ length new → get_or new c false ≡ bit
     → set rows i (set (bits_of rows i) c bit) ≡ written old i new (c + 1)

@@ -1,12 +1,12 @@
 -- The row of the first terms, one term further.
-use Rattle.std.proofs.Common.{eq-eqb, zero, suc, lit<, ◌≡◌, ◌⊎◌, ℕ, ◌+◌, ◌^◌, ◌<◌, ◌≤◌, List, [], ◌∷◌, ◌++◌, length, take, get_or, refl, sym, ◌∙◌, ap, arith, length-append, subst, inl, inr}
+use Rattle.std.proofs.Common.{eq-eqb, lit<, ◌≡◌, ◌⊎◌, ℕ, ◌+◌, ◌^◌, ◌<◌, ◌≤◌, List, [], ◌∷◌, ◌++◌, length, take, get_or, refl, sym, ◌∙◌, ap, arith, length-append, subst, inl, inr}
 use Rattle.std.specs.Prelude.{◌≢◌, MatchOption, Option, Some, None, unwrap_or, All, Bool, true, false, ℤ, pos, negsuc, ◌+ℤ◌}
 use Rattle.std.specs.Int.{w128}
 use mir.Val.{of_z, to_z}
 use Rattle.std.proofs.lemmas.Int.{ints, to_z-of_z}
 use Rattle.std.proofs.lemmas.List.{get_or-set_same, get_or-set_other, append-nil, get_or_push, take-append-le, take_all}
 use Rattle.std.proofs.Math.Seq.{take-append_seam}
-use Rattle.std.proofs.lemmas.List.Elements.{All-push, All-get_or, All-nil, All-take, All-weaker}
+use Rattle.std.proofs.lemmas.List.Elements.{All-push, All-get_or, All-take}
 use Rattle.std.proofs.lemmas.Bool.{cases_lt, cases_eq}
 use Rattle.std.proofs.lemmas.Bool.Decides.{nat_tests}
 use Rattle.std.proofs.Math.ListN.{set}
@@ -105,28 +105,8 @@ stay_front dim ts us stay = record {
 zero_in_range : InRange (pos 0)
 zero_in_range = record { size = lit< tt }
 
-none_in_range : (dim i j : ℕ) → InRange (total dim (take i []) j)
-none_in_range dim zero j = zero_in_range
-none_in_range dim (suc i) j = zero_in_range
-
--- no term: the row is zero
-safe_row_none : (dim : ℕ) (row : List ℤ) → length row ≡ dim + 1 → All (λ z. z ≡ pos 0) row → IsSafeRow dim [] row
-safe_row_none dim row wide zeros = record {
-  sums = record { wide = wide; cells = λ j within. All-get_or (λ z. z ≡ pos 0) row j (pos 0) (omega arith) zeros };
-  stay = record { numbers = All-nil (λ (t : Term). t.size < 2 ^ 127); sums = λ i le j within. none_in_range dim i j };
-  in_range = All-weaker (λ z. z ≡ pos 0) InRange (λ z e. rw e zero_in_range) row zeros;
-}
-
 abbrev pub summed : ℕ → List ℤ → Bool → Sum
 summed dim row fits = record { dim = dim; row = row; fits = fits }
-
--- no term was added
-pub summed_none : (dim : ℕ) (row : List ℤ) → length row ≡ dim + 1 → All (λ z. z ≡ pos 0) row → HasSummed [] (summed dim row true)
-summed_none dim row wide zeros = record {
-  within = All-nil (IsWithin dim);
-  safe = λ e. safe_row_none dim row wide zeros;
-  leaves = λ e. cc;
-}
 
 -- a term was added
 pub gains_one : (dim : ℕ) (t : Term) (row next : List ℤ) (fits : Bool) → fits ≡ true → IsWithin dim t → FitsBehind t (cell row (column_of dim t)) → length next ≡ length row → AllInRange next → ((j : ℕ) → j ≤ dim → cell next j ≡ cell row j +ℤ part dim t j) → Gains (t ∷ []) (summed dim row fits) (summed dim next fits)
