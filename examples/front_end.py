@@ -15,7 +15,7 @@ import shutil
 from fractions import Fraction
 
 NUMBER = r"\d{1,39}(?:\.\d{1,39})?"
-ATOM = re.compile(rf"{NUMBER}(?![\w.])|[A-Za-z_][\w.]*'?", re.ASCII)
+ATOM = re.compile(rf"{NUMBER}(?![\w.])|(?<![\w.])[A-Za-z_][\w.]*'?", re.ASCII)
 COLUMNS = [chr(65 + number % 26) + str(number // 26 or "") for number in range(64)]
 
 
