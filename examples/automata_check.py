@@ -8,6 +8,7 @@ from xml.sax.saxutils import escape
 
 from client import Calculator
 
+HERE = os.path.dirname(os.path.realpath(__file__))
 HEAD = '<?xml version="1.0" encoding="UTF-8"?>\n<sspaceex version="0.2" math="SpaceEx">\n'
 
 
@@ -54,7 +55,7 @@ GATE = [location("shut", flow="t' == 1", invariant="t <= 3"), location("open", f
 OPENS = move("shut", "open", label="go", guard="t >= 2", assignment="t := 0")
 BOTH = bind("walker", "w", "x=x go=go") + bind("gate", "g", "t=t go=go")
 AT_FIRST = 'initially = "loc(w)==near & loc(g)==shut & x==0 & t==0.5"\n'
-HERE, THERE = (location(name, flow="x' == 0 & y' == 0") for name in ("here", "there"))
+STAYS, ARRIVED = (location(name, flow="x' == 0 & y' == 0") for name in ("here", "there"))
 AUTOMATA = [
     (
         "decimals, fractions, parentheses and chains",
@@ -118,7 +119,7 @@ AUTOMATA = [
     (
         "a variable that nothing controls does anything, in flows and in jumps",
         component(
-            "c", "x:uncontrolled y", location("here", flow="y' == 0"), THERE, move("here", "there", guard="x >= 5")
+            "c", "x:uncontrolled y", location("here", flow="y' == 0"), ARRIVED, move("here", "there", guard="x >= 5")
         ),
         'initially = "loc(c)==here & x==0 & y==1"\n',
         [
@@ -164,7 +165,7 @@ AUTOMATA = [
     ),
     (
         "values are exchanged at once",
-        component("c", "x y", HERE, THERE, move("here", "there", assignment="x := y & y' := x")),
+        component("c", "x y", STAYS, ARRIVED, move("here", "there", assignment="x := y & y' := x")),
         'initially = "loc(c)==here & x==1 & y==2"\n',
         [
             "loc(c)==here: x = 1, y = 2",
@@ -174,7 +175,7 @@ AUTOMATA = [
     ),
     (
         "next values that are bounded",
-        component("c", "x y", HERE, THERE, move("here", "there", assignment="x <= x' <= x + 1 & y' >= 2000")),
+        component("c", "x y", STAYS, ARRIVED, move("here", "there", assignment="x <= x' <= x + 1 & y' >= 2000")),
         'initially = "loc(c)==here & x==1 & y==2"\n',
         [
             "loc(c)==here: x = 1, y = 2",
@@ -211,7 +212,7 @@ AUTOMATA = [
     ),
     (
         "some variables alone are told, and all locations are initial where none is named",
-        component("c", "x y", HERE, location("there", flow="x' == 1 & y' == 1", invariant="y <= 7")),
+        component("c", "x y", STAYS, location("there", flow="x' == 1 & y' == 1", invariant="y <= 7")),
         'initially = "x==0 & y==5"\noutput-variables = "y"\n',
         [
             "loc(c)==here: y = 5",
@@ -440,6 +441,14 @@ class Automata:
             good = (code, written, said.count("\n")) == (2, "", 1) and said.startswith("spaceex: ")
             self.check(words, good, code, written, said)
 
+    def check_page(self):
+        """Whether docs/GUIDE.md has the model that it shows, and what is written of it."""
+        with open(os.path.join(HERE, "..", "docs", "GUIDE.md"), encoding="utf-8") as file:
+            page = file.read()
+        for ending in ("xml", "cfg", "found"):
+            with open(os.path.join(HERE, "models", f"thermostat.{ending}"), encoding="utf-8") as file:
+                self.check(f"thermostat.{ending} in docs/GUIDE.md", f"\n{file.read()}```\n" in page)
+
     def check_script(self, program):
         """The script alone needs no calculator; without an answer of one the exit code is 3."""
         missing = os.path.join(os.path.dirname(self.stem), "missing")
@@ -452,7 +461,7 @@ class Automata:
         replies = [reply for reply in Calculator(program).ask_all(lines) if reply != "ok"]
         wanted = ["empty", "A >= 0, -A >= -10", "empty", "A >= 4, -A >= -9"]
         self.check("the script", (code, said, replies) == (0, "", wanted), code, said, replies)
-        grows = component("c", "x y", HERE, move("here", "here", assignment=f"x := {10**30}*x + 1"))
+        grows = component("c", "x y", STAYS, move("here", "here", assignment=f"x := {10**30}*x + 1"))
         code, _, said = self.answer(program, f"{HEAD}{grows}</sspaceex>\n", 'initially = "x==0"', "--delay", "9")
         self.check("an overflow", code == 3 and said.startswith(f"spaceex: {program}: overflow "), code, said)
 
@@ -469,9 +478,10 @@ class Automata:
 def check_automata(program, check, run, folder):
     """All checks of examples/spaceex."""
     automata = Automata(check, run, folder)
-    for path in sorted(glob.glob(os.path.join(os.path.dirname(os.path.realpath(__file__)), "models", "*.cfg"))):
+    for path in sorted(glob.glob(os.path.join(HERE, "models", "*.cfg"))):
         automata.check_model(program, path)
     automata.check_small(program)
     automata.check_wrong(program)
+    automata.check_page()
     automata.check_script(program)
     automata.check_large(program)
