@@ -2,13 +2,17 @@
 that stand here, and on wrong ones."""
 import glob
 import os
+import random
 import re
-import time
+import resource
+import subprocess
 from xml.sax.saxutils import escape
 
+from automata_runs import Automaton, hold, told_sets
 from client import Calculator
 
 HERE = os.path.dirname(os.path.realpath(__file__))
+RUNS, STEPS = 15, 20
 HEAD = '<?xml version="1.0" encoding="UTF-8"?>\n<sspaceex version="0.2" math="SpaceEx">\n'
 
 
@@ -221,6 +225,12 @@ AUTOMATA = [
         ],
     ),
     (
+        "states outside of the invariant aren't reached",
+        component("c", "x y", location("here", flow="x' == 1 & y' == 1", invariant="x <= 2")),
+        'initially = "x==5 & y==0"\nforbidden = "y>=0"\n',
+        ["no state is reached", "safe"],
+    ),
+    (
         "a move of one part leaves the locations and the variables of the others",
         component(
             "toggle",
@@ -299,13 +309,13 @@ WRONG_AUTOMATA = [
         '</bind>\n<bind component="tank" as="tank"><map key="x">1</map></bind>',
         "xml:29: a bind without a new name: tank",
     ),
-    (' as="tank"', "", "xml:24: a bind without a new name: "),
+    (' as="tank"', "", "xml:24: a bind without a new name:"),
     ("</bind>", '</bind><location id="1"/>', "xml:24: system has both locations and binds"),
     # components, params, locations and transitions
     ('component id="system"', 'component id="tank"', "xml:21: two components tank"),
     ('name="x" type="real"', 'name="x" type="int"', "xml:4: there is no type int"),
     ('name="x" type="real"', 'name="rate" type="real"', "xml:5: a param without a new name: rate"),
-    ('name="x" type="real"', 'type="real"', "xml:4: a param without a new name: "),
+    ('name="x" type="real"', 'type="real"', "xml:4: a param without a new name:"),
     (
         'name="x" type="real" local="false" d1="1"',
         'name="x" type="real" local="false" d1="2"',
@@ -371,6 +381,7 @@ WRONG_SETTINGS = [
         'system = "system"\nforbidden = ""\nforbidden = "level>=11"\nforbidden = "level>=12"',
         "cfg:4: a second setting forbidden",
     ),
+    ("level>=11", 'level>=11\n | level<=-1', "cfg:3: a text in quotes that goes on in the next line"),
     ('= "level"', '= "level, depth"', "cfg:4: there is no variable depth"),
 ]
 
@@ -391,6 +402,12 @@ def network(*sizes):
     text = "".join(map(ring, sorted({*sizes}))) + component("net", "", *binds)
     start = " & ".join(f"loc(r{n})==s0 & r{n}.x==0" for n in range(len(sizes)))
     return f"{HEAD}{text}</sspaceex>\n", f'initially = "{start}"\n'
+
+
+def processor_time():
+    """The seconds that the processes have taken that were run from here."""
+    used = resource.getrusage(resource.RUSAGE_CHILDREN)
+    return used.ru_utime + used.ru_stime
 
 
 class Automata:
@@ -417,6 +434,20 @@ class Automata:
         with open(path[:-3] + "found", encoding="utf-8") as file:
             self.check(name, written == file.read() and not said, written, said)
         self.check(f"{name}, its exit code", code == (0 if written.endswith("\nsafe\n") else 1), code)
+
+    def check_runs(self, path):
+        """Whether random runs stay in the sets that are told; and they come to most of the locations."""
+        model = os.path.join(os.path.dirname(path), os.path.basename(path)[:-4].partition("-")[0] + ".xml")
+        automaton, chance, seen, outside = Automaton(model, path), random.Random(69), set(), []
+        with open(path[:-3] + "found", encoding="utf-8") as file:
+            sets = told_sets(file.read(), automaton.variables)
+        for _ in range(RUNS):
+            for title, state in automaton.run(STEPS, chance):
+                seen.add(title)
+                outside += [] if title in sets and hold(sets[title], state) else [f"{title}: {state}"]
+        name = os.path.basename(path)
+        self.check(f"{name}, by runs", not outside, *outside[:1])
+        self.check(f"{name}, locations of runs", 2 * len(seen) > len(sets), f"{len(seen)} of {len(sets)}")
 
     def check_small(self, program):
         """What is written on the small models."""
@@ -452,9 +483,9 @@ class Automata:
     def check_script(self, program):
         """The script alone needs no calculator; without an answer of one the exit code is 3."""
         missing = os.path.join(os.path.dirname(self.stem), "missing")
-        for other, start in (("true", "the run ended"), (missing, "[Errno 2]")):
+        for other in ("true", missing):
             code, written, said = self.answer(other, TANK, TANK_SETTINGS)
-            good = (code, written, said.count("\n")) == (3, "", 1) and said.startswith(f"spaceex: {other}: {start}")
+            good = (code, written, said.count("\n")) == (3, "", 1) and said.startswith(f"spaceex: {other}: ")
             self.check(f"no answer of {other}", good, code, written, said)
         code, script, said = self.answer(missing, TANK, TANK_SETTINGS, "--script")
         lines = [line for line in script.splitlines() if not line.startswith("#")]
@@ -466,13 +497,15 @@ class Automata:
         self.check("an overflow", code == 3 and said.startswith(f"spaceex: {program}: overflow "), code, said)
 
     def check_large(self, program):
-        """Products of 100 locations are answered within ten seconds."""
+        """Products of 100 locations are answered, within ten seconds of a processor's time."""
         for sizes in ((10, 10), (5, 5, 4)):
-            began = time.monotonic()
             code, written, said = self.answer(program, *network(*sizes))
-            spent = time.monotonic() - began
-            good = code == 0 and len(written.splitlines()) == 101 and spent < 10
-            self.check(f"a product of {sizes}", good, code, f"{spent:.1f} s", said)
+            self.check(f"a product of {sizes}", code == 0 and len(written.splitlines()) == 101, code, said)
+            began = processor_time()
+            script = self.answer(program, *network(*sizes), "--script")[1]
+            subprocess.run([program, "run"], input=script.encode(), stdout=subprocess.DEVNULL, check=False)
+            spent = processor_time() - began
+            self.check(f"the time of a product of {sizes}", spent < 10, f"{spent:.1f} s")
 
 
 def check_automata(program, check, run, folder):
@@ -480,6 +513,7 @@ def check_automata(program, check, run, folder):
     automata = Automata(check, run, folder)
     for path in sorted(glob.glob(os.path.join(HERE, "models", "*.cfg"))):
         automata.check_model(program, path)
+        automata.check_runs(path)
     automata.check_small(program)
     automata.check_wrong(program)
     automata.check_page()
