@@ -20,6 +20,7 @@ mod Starts
 mod Additions
 mod SameSets
 mod GeneratorRefusals
+pub mod WorkLemmas
 pub mod BothSystems
 pub mod SpanningSystems
 pub mod PairedSystems
