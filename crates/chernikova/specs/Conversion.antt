@@ -4,11 +4,12 @@ use Rattle.row_core.specs.Lists.{Row, Rows, row_at, is_eq_at, vectors}
 use Rattle.row_core.specs.declared.errors.ConvErr.{ConvErr}
 use Rattle.row_core.specs.declared.errors.ConvErr.TheVariants.{Overflow, Memory}
 use Rattle.cone_laws.specs.Cones.{Upto}
-use Rattle.cone_laws.specs.Canon.{vector_at, IsSystem}
+use Rattle.cone_laws.specs.Canon.{vector_at, Canon, IsSystem}
 use Rattle.cone_laws.specs.Steps.{stays, IsLineStep}
 use Rattle.cone_laws.specs.SystemLaws.{HasSystemOf}
 use Rattle.cone_laws.specs.UniqueLaws.{AdmitSame}
 use Rattle.cone_laws.specs.Leaves.{Leaves}
+use Rattle.chernikova.specs.declared.cone.Cone.{Cone}
 use Rattle.chernikova.specs.declared.system.System.{System}
 use Rattle.chernikova.specs.declared.step.Change.{Change}
 use Rattle.chernikova.specs.declared.step.Change.TheVariants as change
@@ -23,6 +24,16 @@ pub record IsState (width : ℕ) (rows : List Row) (k : ℕ) (cone : System) : T
   pub lists : AreLists width cone.lines cone.rays
   pub system : IsSystem (Upto width rows k) (vectors cone.lines.rows) (vectors cone.rays.rows)
   pub zeros : IsZeroTable rows k (vectors cone.rays.rows) cone.sat
+
+-- what a conversion of the rows gives: their canonical system, and the table that tells the rows on which each ray is 0
+pub record IsConverted (width : ℕ) (rows : List Row) (cone : Cone) : Type 0 where
+  pub canon : Canon (Upto width rows (length rows)) (vectors cone.lines.rows) (vectors cone.rays.rows)
+  pub lists : AreLists width cone.lines cone.rays
+  pub sat : IsZeroTable rows (length rows) (vectors cone.rays.rows) cone.sat
+
+-- the system that a conversion gave, with nothing reserved in its table
+abbrev pub unspared : Cone → System
+unspared cone = record { lines = cone.lines; rays = cone.rays; sat = record cone.sat { spare = 0 } }
 
 -- a row that isn't 0 on some line: the lines and rays of the next system
 pub record IsLineOutcome (width : ℕ) (row : Row) (cone : System) (lines rays : Rows) : Type 0 where

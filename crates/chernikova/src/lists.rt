@@ -1,6 +1,7 @@
-//! Copies of lists, from one form into the other.
-ghost use Rattle.std.specs.Prelude.{◌≡◌, true, false, IfOk};
+//! Copies of lists and of systems, from one form into the other.
+ghost use Rattle.std.specs.Prelude.{◌≡◌, ◌++◌, true, false, IfOk, OnOk};
 ghost use Rattle.row_core.specs.Lists.{AreMarked};
+ghost use Rattle.chernikova.specs.Conversion.{unspared};
 
 use crate::cone::Cone;
 use crate::system::System;
@@ -45,4 +46,41 @@ pub(crate) fn reopened(alloc: Global, cone: Cone) -> Result<System, Memory>
         rays,
         sat: cone.sat,
     })
+}
+
+/// A copy of the system that a conversion gave, to take in further rows.
+pub(crate) fn copied(alloc: Global, cone: &Cone) -> Result<System, Memory>
+    requires lines { AreMarked true cone.now.lines.rows }
+    requires rays { AreMarked false cone.now.rays.rows }
+    ensures { IfOk result (λ system. system ≡ unspared cone.now) }
+{
+    let lines = stored(alloc, &cone.lines, true)?;
+    let rays = stored(alloc, &cone.rays, false)?;
+    let sat = cone.sat.clone()?;
+    Ok(System { lines, rays, sat })
+}
+
+/// Appends the rows of another list.
+fn push_all(list: &mut RowList, rows: &RowList) -> Result<(), Memory>
+    requires { rows.now.width ≡ list.old.width }
+    ensures width { list.new.width ≡ list.old.width }
+    ensures rows { OnOk result (list.new.rows ≡ list.old.rows ++ rows.now.rows) }
+{
+    for index in 0..rows.len() {
+        list.push(rows.row(index), rows.is_eq(index))?;
+    }
+    Ok(())
+}
+
+/// The rows of a list, and then those of another.
+pub(crate) fn joined(alloc: Global, first: &RowList, second: &RowList) -> Result<RowList, Memory>
+    requires { second.now.width ≡ first.now.width }
+    ensures width { IfOk result (λ both. both.width ≡ first.now.width) }
+    ensures rows { IfOk result (λ both. both.rows ≡ first.now.rows ++ second.now.rows) }
+{
+    let count = first.len().saturating_add(second.len());
+    let mut both = RowList::with_room(alloc, first.width(), count)?;
+    push_all(&mut both, first)?;
+    push_all(&mut both, second)?;
+    Ok(both)
 }
