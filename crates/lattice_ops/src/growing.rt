@@ -76,12 +76,7 @@ fn includes_spanned(p: &Poly, gens: &GensSys) -> bool
 }
 
 /// The smallest polyhedron of the topology that has the points of `p` and those that the generators span.
-fn hull_with<L: Ledger>(
-    alloc: Global,
-    p: &Poly,
-    gens: &GensSys,
-    steps: &mut Steps<L>,
-) -> Result<Poly, ConvErr>
+fn hull_with<L: Ledger>(p: &Poly, gens: &GensSys, steps: &mut Steps<L>) -> Result<Poly, ConvErr>
     requires dim { gens.now.dim ≡ p.now.cons.dim }
     requires kinds { AreGeneratorsFor p.now.topology gens.now }
     requires point { ¬ (LacksPoint gens.now.list) }
@@ -91,7 +86,7 @@ fn hull_with<L: Ledger>(
 {
     rows_fit(p);
     let _fit = gens.dim();
-    match p.add_gens(alloc, gens, steps) {
+    match p.add_gens(gens, steps) {
         Ok(made) => {
             rows_fit(&made);
             Ok(made)
@@ -109,7 +104,7 @@ fn hull_with<L: Ledger>(
 ///
 /// An overflow is one of the conversion of the list of the generators of `p` and then these, or of its second list.
 pub fn grown_by<L: Ledger>(
-    alloc: Global,
+    _alloc: Global,
     p: &Poly,
     gens: &GensSys,
     steps: &mut Steps<L>,
@@ -124,7 +119,7 @@ pub fn grown_by<L: Ledger>(
     if includes_spanned(p, gens) {
         return Ok(None);
     }
-    let hull = match hull_with(alloc, p, gens, steps) {
+    let hull = match hull_with(p, gens, steps) {
         Ok(hull) => hull,
         Err(cause) => return Err(cause),
     };

@@ -18,6 +18,7 @@ mod StartSystems
 mod NeededDivisor
 mod Starts
 mod Additions
+pub mod AddedPoints
 mod SameSets
 mod GeneratorRefusals
 pub mod WorkLemmas
