@@ -12,9 +12,10 @@ use Rattle.cone_laws.specs.Cones.{Upto, Meets}
 use Rattle.cone_laws.specs.Canon.{IsSystem}
 use Rattle.cone_laws.specs.UniqueLaws.{AdmitSame}
 use Rattle.cone_laws.proofs.MemberLemmas.{same_cone}
+use Rattle.chernikova.proofs.NextStates.{reopened_state}
 use Rattle.chernikova.specs.declared.cone.Cone.{Cone}
 use Rattle.chernikova.specs.declared.system.System.{System}
-use Rattle.chernikova.specs.Conversion.{IsState, IsConverted, unspared, IsAtStep, IsRealOverflow, IsRealOverflowFrom}
+use Rattle.chernikova.specs.Conversion.{IsState, IsConverted, IsReopened, IsAtStep, IsRealOverflow, IsRealOverflowFrom}
 
 -- the vectors that the rows at the front admit
 front_admits : (width : ℕ) (taken more : List Row) → AdmitSame width taken (length taken) (taken ++ more) (length taken)
@@ -44,15 +45,9 @@ pub front_system : (width : ℕ) (taken more : List Row) (lines rays : List (Lis
 front_system width taken more lines rays = (same_cone width taken (length taken) (taken ++ more) (length taken) lines rays (front_admits width taken more)).0
 
 -- what a conversion gave, as the state of a longer list
-pub front_state : (width : ℕ) (taken more : List Row) (cone : Cone) → width < 2 ^ 32 → IsConverted width taken cone → IsState width (taken ++ more) (length taken) (unspared cone)
-front_state width taken more cone narrow c =
-    let zeros = front_zeros taken more (vectors cone.rays.rows) cone.sat c.sat in
-    record {
-      narrow = narrow;
-      lists = c.lists;
-      system = front_system width taken more (vectors cone.lines.rows) (vectors cone.rays.rows) c.canon.system;
-      zeros = record { columns = zeros.columns; each = zeros.each };
-    }
+pub front_state : (width : ℕ) (taken more : List Row) (cone : Cone) (system : System) → width < 2 ^ 32 → IsConverted width taken cone → IsReopened cone system → IsState width (taken ++ more) (length taken) system
+front_state width taken more cone system narrow c same =
+    reopened_state width (taken ++ more) (length taken) cone system narrow c.lists (front_system width taken more (vectors cone.lines.rows) (vectors cone.rays.rows) c.canon.system) (front_zeros taken more (vectors cone.rays.rows) cone.sat c.sat) same
 
 -- the same state, under other names
 pub state_moved : (w width : ℕ) (rs rows : List Row) (n m : ℕ) (old new : System) → w ≡ width → rs ≡ rows → n ≡ m → old ≡ new → IsState w rs n old → IsState width rows m new

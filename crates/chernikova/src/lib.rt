@@ -12,6 +12,7 @@
 mod adjacency;
 mod beside;
 mod better_order;
+mod combining;
 mod cone;
 mod conversion;
 mod fault;

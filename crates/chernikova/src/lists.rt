@@ -1,7 +1,8 @@
 //! Copies of lists and of systems, from one form into the other.
 ghost use Rattle.std.specs.Prelude.{◌≡◌, ◌++◌, true, false, IfOk, OnOk};
 ghost use Rattle.row_core.specs.Lists.{AreMarked};
-ghost use Rattle.chernikova.specs.Conversion.{unspared};
+ghost use Rattle.chernikova.specs.Conversion.{IsReopened};
+ghost use Rattle.chernikova.specs.Vectors.{as_rows};
 
 use crate::cone::Cone;
 use crate::system::System;
@@ -12,7 +13,7 @@ use std::alloc::Global;
 /// The vectors as a list of rows, all with the mark.
 pub(crate) fn listed(alloc: Global, vectors: &VectorList, eq: bool) -> Result<RowList, Memory>
     requires { AreMarked eq vectors.now.rows }
-    ensures { IfOk result (λ list. list ≡ vectors.now) }
+    ensures { IfOk result (λ list. list ≡ as_rows vectors.now) }
 {
     let mut list = RowList::with_room(alloc, vectors.width(), vectors.len())?;
     for index in 0..vectors.len() {
@@ -24,7 +25,7 @@ pub(crate) fn listed(alloc: Global, vectors: &VectorList, eq: bool) -> Result<Ro
 /// The rows as vectors in one buffer.
 fn stored(alloc: Global, list: &RowList, eq: bool) -> Result<VectorList, Memory>
     requires { AreMarked eq list.now.rows }
-    ensures { IfOk result (λ vectors. vectors ≡ list.now) }
+    ensures { IfOk result (λ vectors. as_rows vectors ≡ list.now) }
 {
     let mut vectors = VectorList::with_room(alloc, list.width(), list.len())?;
     for index in 0..list.len() {
@@ -37,7 +38,7 @@ fn stored(alloc: Global, list: &RowList, eq: bool) -> Result<VectorList, Memory>
 pub(crate) fn reopened(alloc: Global, cone: Cone) -> Result<System, Memory>
     requires lines { AreMarked true cone.lines.rows }
     requires rays { AreMarked false cone.rays.rows }
-    ensures { IfOk result (λ system. system ≡ record { lines = cone.lines; rays = cone.rays; sat = cone.sat }) }
+    ensures { IfOk result (IsReopened cone) }
 {
     let lines = stored(alloc, &cone.lines, true)?;
     let rays = stored(alloc, &cone.rays, false)?;
@@ -52,7 +53,7 @@ pub(crate) fn reopened(alloc: Global, cone: Cone) -> Result<System, Memory>
 pub(crate) fn copied(alloc: Global, cone: &Cone) -> Result<System, Memory>
     requires lines { AreMarked true cone.now.lines.rows }
     requires rays { AreMarked false cone.now.rays.rows }
-    ensures { IfOk result (λ system. system ≡ unspared cone.now) }
+    ensures { IfOk result (IsReopened cone.now) }
 {
     let lines = stored(alloc, &cone.lines, true)?;
     let rays = stored(alloc, &cone.rays, false)?;

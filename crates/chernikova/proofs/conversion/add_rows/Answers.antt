@@ -1,8 +1,8 @@
-use Rattle.std.specs.Prelude.{◌≡◌, ◌-◌, ◌^◌, ◌<◌, ◌≤◌, ◌++◌, ℕ, List, length}
+use Rattle.std.specs.Prelude.{refl, ◌≡◌, ◌-◌, ◌^◌, ◌<◌, ◌≤◌, ◌++◌, ℕ, List, length}
 use Rattle.std.proofs.Common.{subst, arith, ◌∙◌, sym, length-append}
 use Rattle.std.proofs.lemmas.Result.{err_from_is_err_and}
 use Rattle.row_core.specs.Lists.{Row}
-use Rattle.chernikova.specs.Conversion.{IsState, IsConverted, unspared, IsCountedBetween, IsCountedBeforeFrom, IsRealOverflowFrom}
+use Rattle.chernikova.specs.Conversion.{IsState, IsConverted, IsCountedBetween, IsCountedBeforeFrom, IsRealOverflowFrom}
 use Rattle.chernikova.proofs.Prefixes.{front_state, state_moved}
 use Rattle.chernikova.proofs.Counts.{counted_start_from}
 use Rattle.chernikova.proofs.VectorLemmas.{length-vectors}
@@ -27,8 +27,8 @@ take_rows-requires-clause-state g c =
     let taken = c.args.taken.now in
     let rows = c.in_ok-rows.rows in
     let narrow : taken.width < 2 ^ 32 = subst (λ (n : ℕ). n < 2 ^ 32) c.in_ok-rows.ensures.width c.width-narrow.ensures.narrow in
-    state_moved taken.width rows.width (taken.rows ++ c.args.more.now.rows) rows.rows (length taken.rows) c.len-from.result (unspared c.args.cone.now) c.in_ok-system.system (sym c.in_ok-rows.ensures.width) (sym c.in_ok-rows.ensures.rows) (sym c.len-from.ensures) (sym c.in_ok-system.ensures)
-    (front_state taken.width taken.rows c.args.more.now.rows c.args.cone.now narrow c.requires.cone)
+    state_moved taken.width rows.width (taken.rows ++ c.args.more.now.rows) rows.rows (length taken.rows) c.len-from.result c.in_ok-system.system c.in_ok-system.system (sym c.in_ok-rows.ensures.width) (sym c.in_ok-rows.ensures.rows) (sym c.len-from.ensures) refl
+    (front_state taken.width taken.rows c.args.more.now.rows c.args.cone.now c.in_ok-system.system narrow c.requires.cone c.in_ok-system.ensures)
 
 pub sorted-requires-clause-as_many : goal.sorted-requires-clause-as_many
 sorted-requires-clause-as_many g c = c.in_ok-take_rows.ensures.state.zeros.each.as_many ∙ length-vectors c.take_rows.new.cone.rays.rows

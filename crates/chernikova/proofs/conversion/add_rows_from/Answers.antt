@@ -1,6 +1,5 @@
-use Rattle.std.proofs.Common.{sym, subst, ◌∙◌, arith}
-use Rattle.chernikova.specs.declared.system.System.{System}
-use Rattle.chernikova.specs.Conversion.{IsState}
+use Rattle.std.proofs.Common.{◌∙◌, arith}
+use Rattle.chernikova.proofs.NextStates.{reopened_state}
 use Rattle.chernikova.proofs.VectorLemmas.{length-vectors}
 use Rattle.chernikova.proofs.Counts.{counted_start_from}
 use Rattle.chernikova.proofs.Rankings.{rearranged_canon, rearranged_zeros, rearranged_lists}
@@ -11,8 +10,7 @@ returns-in_err-system-clause-counted g c = counted_start_from c.args.rows.now.wi
 
 pub take_rows-requires-clause-state : goal.take_rows-requires-clause-state
 take_rows-requires-clause-state g c =
-    subst (λ (s : System). IsState c.args.rows.now.width c.args.rows.now.rows c.args.from s) (sym c.in_ok-system.ensures)
-    (record { narrow = c.width-narrow.ensures.narrow; lists = c.requires.lists; system = c.requires.system; zeros = c.requires.sat })
+    reopened_state c.args.rows.now.width c.args.rows.now.rows c.args.from c.args.cone c.in_ok-system.system c.width-narrow.ensures.narrow c.requires.lists c.requires.system c.requires.sat c.in_ok-system.ensures
 
 pub sorted-requires-clause-as_many : goal.sorted-requires-clause-as_many
 sorted-requires-clause-as_many g c = c.in_ok-changed.ensures.state.zeros.each.as_many ∙ length-vectors c.take_rows.new.cone.rays.rows
