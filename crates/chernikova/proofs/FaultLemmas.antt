@@ -1,10 +1,10 @@
-use Rattle.std.specs.Prelude.{◌≡◌, ◌⊎◌, ℕ, ◌+◌, ◌<◌, List, [], ◌∷◌, length, ℤ, pos, slice_index_or, Contains}
+use Rattle.std.specs.Prelude.{◌≡◌, ℕ, ◌+◌, ◌<◌, List, [], ◌∷◌, length, ℤ, pos, slice_index_or, Contains}
 use Rattle.std.proofs.Common.{sym, ap, ◌∙◌, subst, arith, inl, inr}
-use Rattle.std.proofs.lemmas.List.Elements.{Contains-push_cases, Contains-get_or}
+use Rattle.std.proofs.lemmas.List.Elements.{Contains-push_cases}
 use Rattle.row_core.specs.Range.{DotStays, IsFirstToLeave}
 use Rattle.row_core.specs.Lists.{Row, row_at, vectors}
 use Rattle.cone_laws.specs.Canon.{vector_at}
-use Rattle.cone_laws.specs.Leaves.{CombinationLeaves, ShowsDot, ShowsCombination}
+use Rattle.cone_laws.specs.Leaves.{CombinationLeaves}
 use Rattle.chernikova.specs.declared.fault.ValueFault.{ValueFault}
 use Rattle.chernikova.specs.declared.fault.ValueFault.TheVariants.{Memory, Dot}
 use Rattle.chernikova.specs.declared.fault.CombineFault.{CombineFault}
@@ -12,7 +12,7 @@ use Rattle.chernikova.specs.declared.fault.Part.{Part}
 use Rattle.chernikova.specs.declared.fault.Part.TheVariants.{Lines, Rays}
 use Rattle.chernikova.specs.declared.fault.Place.{Place}
 use Rattle.chernikova.specs.Changes.{IsGrown}
-use Rattle.chernikova.specs.Faults.{IsLowerFault, IsOtherFault, IsLineFault, IsPairFault, IsDotFault, IsCombineFault, IsValuesFault, IsPositionFault, part_of, part_values, vector_of}
+use Rattle.chernikova.specs.Faults.{IsLowerFault, IsOtherFault, IsLineFault, IsPairFault, IsDotFault, IsValuesFault, IsPositionFault, part_of, part_values}
 use Rattle.chernikova.proofs.VectorLemmas.{vector_at-vectors}
 use Rattle.chernikova.proofs.ChangeLemmas.{row_at-grown}
 
@@ -50,25 +50,6 @@ pair_fault_before values pairs pair old cur fault grown held first second h =
     let P : List ℤ → Type 0 = λ v. CombinationLeaves (slice_index_or values fault.left.index (pos 0)) (slice_index_or values fault.right.index (pos 0)) v (vector_at (vectors cur) fault.right.index) fault.column in
     let Q : List ℤ → Type 0 = λ v. CombinationLeaves (slice_index_or values fault.left.index (pos 0)) (slice_index_or values fault.right.index (pos 0)) (vector_at (vectors old) fault.left.index) v fault.column in
     (subst (Contains pairs) here held, h.1, h.2, subst Q (vector_before fault.right.index at_right) (subst P (vector_before fault.left.index at_left) h.3))
-
--- ---- what is shown for a fault
-contained : (lines rays : List (List ℤ)) (part : Part) (index : ℕ) → index < length (part_of lines rays part) → Contains lines (vector_at (part_of lines rays part) index) ⊎ Contains rays (vector_at (part_of lines rays part) index)
-contained lines rays Lines index h = inl (Contains-get_or lines index [] h)
-contained lines rays Rays index h = inr (Contains-get_or rays index [] h)
-
--- a vector and the row
-pub shows_dot : (a : List ℤ) (lines rays : List (List ℤ)) (vector : Place) (column : ℕ) (left right : List ℤ) → IsDotFault a lines rays vector column → left ≡ vector_of lines rays vector → right ≡ a → ShowsDot a lines rays left right column
-shows_dot a lines rays vector column left right h at row = record {
-  vector = subst (λ (v : List ℤ). Contains lines v ⊎ Contains rays v) (sym at) (contained lines rays vector.part vector.index h.within);
-  row = row;
-  leaves = subst (λ (v : List ℤ). IsFirstToLeave (DotStays a v) (length a) column) (sym at) h.leaves;
-}
-
--- two vectors
-pub shows_combination : (rows : List Row) (k : ℕ) (lines rays : List (List ℤ)) (fault : CombineFault) (left right : List ℤ) → IsCombineFault rows k lines rays fault → left ≡ vector_of lines rays fault.left → right ≡ vector_of lines rays fault.right → ShowsCombination rows k (row_at rows k) lines rays left right fault.column
-shows_combination rows k lines rays fault left right h at behind =
-    subst (λ (v : List ℤ). ShowsCombination rows k (row_at rows k) lines rays v right fault.column) (sym at)
-    (subst (λ (w : List ℤ). ShowsCombination rows k (row_at rows k) lines rays (vector_of lines rays fault.left) w fault.column) (sym behind) (record { needed = h.needed; leaves = h.leaves }))
 
 -- ---- a fault at the value of a ray is one of the row's position
 pub values_fault_at : (rows : List Row) (k : ℕ) (a : List ℤ) (lines rays : List (List ℤ)) (fault : ValueFault) → a ≡ row_at rows k → IsValuesFault a Rays rays fault → IsPositionFault (row_at rows k) lines rays fault

@@ -1,6 +1,6 @@
 -- Room that is made for a step.
-use Rattle.std.specs.Prelude.{◌≡◌, ℕ, ◌+◌, ◌-◌, ◌<◌, List, length, true, false, ℤ, pos}
-use Rattle.std.proofs.Common.{refl, sym, ap, ◌∙◌, subst}
+use Rattle.std.specs.Prelude.{◌≡◌, ℕ, ◌<◌, List, length, true, false, ℤ, pos}
+use Rattle.std.proofs.Common.{sym, ap, ◌∙◌, subst}
 use Rattle.std.proofs.lemmas.List.Elements.{All-same}
 use Rattle.row_core.specs.Lists.{Row, row_at, is_eq_at, vectors}
 use Rattle.sat_matrix.specs.ZeroTables.{IsZeroTable}
@@ -13,7 +13,7 @@ use Rattle.chernikova.specs.declared.plan.Plan.{Plan}
 use Rattle.chernikova.specs.declared.plan.Plan.TheVariants as plan
 use Rattle.chernikova.specs.Systems.{values_on}
 use Rattle.chernikova.specs.Conversion.{IsState}
-use Rattle.chernikova.specs.Plans.{IsPlan, IsFlat, combinations_of}
+use Rattle.chernikova.specs.Plans.{IsPlan, IsFlat}
 use Rattle.chernikova.specs.Rooms.{HasSameVectors}
 
 -- the system with room, with the table of before, is that of the same rows
@@ -56,9 +56,3 @@ same_plan rows k old new (plan.Ray values marks pairs) same h = record {
   are_marks = h.are_marks;
   crosses = h.crosses;
 }
-
--- as many combinations
-pub same_combinations : (old new : System) (step : Plan) → HasSameVectors old new → combinations_of new step ≡ combinations_of old step
-same_combinations old new (plan.Line index line_values ray_values) same = ap (λ (ls : List Row). length ls + length new.rays.rows - 1) same.lines.rows ∙ ap (λ (rs : List Row). length old.lines.rows + length rs - 1) same.rays.rows
-same_combinations old new (plan.Same values) same = refl
-same_combinations old new (plan.Ray values marks pairs) same = refl
