@@ -53,7 +53,7 @@ fn zero_behind(alloc: Global, cons: &ConsSys, count: usize) -> Result<ConsSys, M
 {
     let front = padded_constraints(alloc, cons, cons.dim(), count)?;
     let back = zero_equalities(alloc, cons.dim(), count)?;
-    front.followed_by(alloc, &back)
+    front.followed_by(&back)
 }
 
 /// The generators with more variables behind, which are free.
@@ -64,7 +64,7 @@ fn free_behind(alloc: Global, gens: &GensSys, count: usize) -> Result<GensSys, M
 {
     let front = padded_generators(alloc, gens, count)?;
     let back = axis_lines(alloc, gens.dim(), count)?;
-    front.followed_by(alloc, &back)
+    front.followed_by(&back)
 }
 
 /// The table with more rows, all true.

@@ -34,7 +34,7 @@ fn step_constraints(alloc: Global, cons: &ConsSys, relation: &ConsSys) -> Result
     ensures { IfOk result (IsStepSystem cons.now relation.now) }
 {
     let front = padded_constraints(alloc, cons, cons.dim(), cons.dim())?;
-    relation.followed_by(alloc, &front)
+    relation.followed_by(&front)
 }
 
 /// The post of a set, from the stored pair of the relation: all y such that some x in the set has (x, y) in the

@@ -1,5 +1,6 @@
 pub mod VectorLemmas
 pub mod MarkedVectors
+pub mod CombinedRows
 pub mod ChangeLemmas
 pub mod FaultLemmas
 pub mod TableLemmas
@@ -16,4 +17,5 @@ pub mod Slack
 pub mod Reordered
 pub mod PlacedCones
 pub mod Positions
+pub mod RoomLemmas
 pub mod Told

@@ -1,20 +1,23 @@
 use Rattle.std.specs.Prelude.{◌≡◌, ℕ, ◌+◌, ◌^◌, ◌<◌, Bool, false, List, [], ◌∷◌, ◌++◌, length, map, ℤ, pos, ◌≤ℤ◌}
-use Rattle.std.proofs.Common.{refl, sym, ap, ◌∙◌, subst, arith, inl, inr, get_or, set, replicate, lit<}
+use Rattle.std.proofs.Common.{refl, sym, ap, ◌∙◌, subst, arith, inl, inr, get_or, set, replicate}
 use Rattle.std.proofs.lemmas.List.{get_or_default, length-map, length_push, get_or_past, length-set, length-replicate, get_or-replicate, get_or-set_same, get_or-set_other, set-set, set-get_or}
 use Rattle.std.proofs.lemmas.Bool.{cases_lt}
 use Rattle.row_core.specs.Vectors.{cell, dot}
-use Rattle.row_core.specs.Lists.{Row, Rows, row_at, is_eq_at, vectors}
+use Rattle.row_core.specs.Lists.{Row, Rows, row_at, is_eq_at, vectors, Pointwise}
 use Rattle.sat_matrix.specs.Tables.{Table}
+use Rattle.sat_matrix.specs.ZeroTables.{TellsZeros, IsZeroTable}
+use Rattle.chernikova.specs.Vectors.{Vectors, as_rows}
 use Rattle.cone_laws.specs.Cones.{Upto}
 use Rattle.cone_laws.specs.Canon.{vector_at, IsSystem}
 use Rattle.cone_laws.specs.Steps.{IsRowAt, AreUnits, stays, IsRayStep}
 use Rattle.cone_laws.proofs.UptoRows.{asks_least, both_zero}
 use Rattle.cone_laws.proofs.NextSystems.{units_system, line_step_system, ray_step_system}
 use Rattle.chernikova.specs.declared.system.System.{System}
+use Rattle.chernikova.specs.declared.cone.Cone.{Cone}
 use Rattle.chernikova.specs.Systems.{values_on}
 use Rattle.chernikova.specs.Tables.{HasLineStep, HasRayStep}
 use Rattle.chernikova.specs.Changes.{AreLists, AreAllCrosses, IsRayChange}
-use Rattle.chernikova.specs.Conversion.{IsState, IsLineOutcome, IsRayOutcome}
+use Rattle.chernikova.specs.Conversion.{IsState, IsReopened, IsLineOutcome, IsRayOutcome}
 use Rattle.chernikova.proofs.VectorLemmas.{length-vectors, vector_at-vectors, row_at-push_before, row_at-push_last}
 use Rattle.chernikova.proofs.StateLemmas.{length-values_on, zeros_after_line, ray_step_from}
 use Rattle.chernikova.proofs.RayTables.{zeros_after_ray}
@@ -39,7 +42,7 @@ pub rays_wide : (width : ℕ) (rows : List Row) (k : ℕ) (lines : List (List �
 rays_wide width rows k lines rays system i inside =
     ap length (sym (vector_at-vectors rays i)) ∙ (system.generates.rays_within i [] (omega (arith, inside, length-vectors rays))).wide
 
-pub line_state : (width : ℕ) (rows : List Row) (k : ℕ) (cone : System) (lines rays : Rows) (sat : Table) → k < length rows → IsState width rows k cone → IsLineOutcome width (row_at rows k, is_eq_at rows k) cone lines rays → HasLineStep (is_eq_at rows k) cone.sat sat → IsState width rows (k + 1) (record { lines = lines; rays = rays; sat = sat })
+pub line_state : (width : ℕ) (rows : List Row) (k : ℕ) (cone : System) (lines rays : Vectors) (sat : Table) → k < length rows → IsState width rows k cone → IsLineOutcome width (row_at rows k, is_eq_at rows k) cone lines rays → HasLineStep (is_eq_at rows k) cone.sat sat → IsState width rows (k + 1) (record { lines = lines; rays = rays; sat = sat })
 line_state width rows k cone lines rays sat below state outcome table = record {
   narrow = state.narrow;
   lists = outcome.lists;
@@ -47,7 +50,7 @@ line_state width rows k cone lines rays sat below state outcome table = record {
   zeros = zeros_after_line rows k (row_at rows k) (is_eq_at rows k) (vectors cone.lines.rows) (vectors cone.rays.rows) (vectors lines.rows) (vectors rays.rows) cone.sat sat refl (lines_flat width rows k (vectors cone.lines.rows) (vectors cone.rays.rows) state.system) state.zeros outcome.step table;
 }
 
-pub ray_state : (width : ℕ) (rows : List Row) (k : ℕ) (cone : System) (rays : Rows) (values : List ℤ) (marks : List Bool) (pairs : List (ℕ × ℕ)) (sat : Table) → k < length rows → IsState width rows k cone → IsRayOutcome width (row_at rows k, is_eq_at rows k) cone rays values marks pairs → HasRayStep values marks pairs cone.sat sat → IsState width rows (k + 1) (record { lines = cone.lines; rays = rays; sat = sat })
+pub ray_state : (width : ℕ) (rows : List Row) (k : ℕ) (cone : System) (rays : Vectors) (values : List ℤ) (marks : List Bool) (pairs : List (ℕ × ℕ)) (sat : Table) → k < length rows → IsState width rows k cone → IsRayOutcome width (row_at rows k, is_eq_at rows k) cone rays values marks pairs → HasRayStep values marks pairs cone.sat sat → IsState width rows (k + 1) (record { lines = cone.lines; rays = rays; sat = sat })
 ray_state width rows k cone rays values marks pairs sat below state outcome table =
     let a : List ℤ = row_at rows k in
     let eq : Bool = is_eq_at rows k in
@@ -100,7 +103,7 @@ units_all width rows h =
       zeros = λ i j below ne. ap (λ v. cell v j) (at i below) ∙ get_or-set_other (replicate width (pos 0)) i j (pos 1) (pos 0) (λ e. ne (sym e)) ∙ zero_cells width j;
     }
 
-pub start_state : (width : ℕ) (rows : List Row) (lines rays : Rows) (sat : Table) → width < 2 ^ 32 → AreLists width lines rays → AreUnits width (vectors lines.rows) → rays.rows ≡ [] → sat.columns ≡ 0 → sat.rows ≡ [] → IsState width rows 0 (record { lines = lines; rays = rays; sat = sat })
+pub start_state : (width : ℕ) (rows : List Row) (lines rays : Vectors) (sat : Table) → width < 2 ^ 32 → AreLists width (as_rows lines) (as_rows rays) → AreUnits width (vectors lines.rows) → rays.rows ≡ [] → sat.columns ≡ 0 → sat.rows ≡ [] → IsState width rows 0 (record { lines = lines; rays = rays; sat = sat })
 start_state width rows lines rays sat narrow lists units no_rays columns no_rows =
     let P : List Row → Type 0 = λ rs. IsSystem (Upto width rows 0) (vectors lines.rows) (vectors rs) in
     record {
@@ -119,3 +122,19 @@ start_state width rows lines rays sat narrow lists units no_rays columns no_rows
 pub zeros_back : (width i : ℕ) (items : List ℤ) → items ≡ replicate width (pos 0) → set (set items i (pos 1)) i (pos 0) ≡ replicate width (pos 0)
 zeros_back width i items e =
     set-set items i (pos 1) (pos 0) ∙ ap (λ xs. set xs i (pos 0)) e ∙ ap (λ z. set (replicate width (pos 0)) i z) (sym (zero_cells width i)) ∙ set-get_or (replicate width (pos 0)) i (pos 0)
+
+-- the system that a conversion gave, with its lists in another form
+pub reopened_state : (width : ℕ) (rows : List Row) (k : ℕ) (cone : Cone) (system : System) → width < 2 ^ 32 → AreLists width cone.lines cone.rays → IsSystem (Upto width rows k) (vectors cone.lines.rows) (vectors cone.rays.rows) → IsZeroTable rows k (vectors cone.rays.rows) cone.sat → IsReopened cone system → IsState width rows k system
+reopened_state width rows k cone system narrow lists canon zeros same =
+    let L : Rows → Type 0 = λ ls. AreLists width ls cone.rays in
+    let R : Rows → Type 0 = λ rs. AreLists width (as_rows system.lines) rs in
+    let M : Rows → Type 0 = λ ls. IsSystem (Upto width rows k) (vectors ls.rows) (vectors cone.rays.rows) in
+    let S : Rows → Type 0 = λ rs. IsSystem (Upto width rows k) (vectors system.lines.rows) (vectors rs.rows) in
+    let Z : Rows → Type 0 = λ rs. Pointwise (TellsZeros rows k) (vectors rs.rows) cone.sat.rows in
+    let T : List (List Bool) → Type 0 = λ bs. Pointwise (TellsZeros rows k) (vectors system.rays.rows) bs in
+    record {
+      narrow = narrow;
+      lists = subst R (sym same.rays) (subst L (sym same.lines) lists);
+      system = subst S (sym same.rays) (subst M (sym same.lines) canon);
+      zeros = record { columns = same.columns ∙ zeros.columns; each = subst T (sym same.zeros) (subst Z (sym same.rays) zeros.each) };
+    }

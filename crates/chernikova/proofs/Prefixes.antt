@@ -1,9 +1,9 @@
 -- The system of a list is that of its rows at the front of a longer one.
-use Rattle.std.specs.Prelude.{◌≡◌, ℕ, ◌≤◌, ◌↔◌, List, [], ◌++◌, length, ℤ, pos, IsTrue, false, slice_index_or}
+use Rattle.std.specs.Prelude.{◌≡◌, ℕ, ◌^◌, ◌<◌, ◌≤◌, ◌↔◌, List, [], ◌++◌, length, ℤ, pos, IsTrue, false, slice_index_or}
 use Rattle.std.proofs.Common.{sym, subst, ap, arith}
 use Rattle.std.proofs.lemmas.List.{get_or_append_left}
 use Rattle.row_core.specs.Vectors.{dot}
-use Rattle.row_core.specs.Lists.{Row, row_at}
+use Rattle.row_core.specs.Lists.{Row, row_at, vectors}
 use Rattle.row_core.specs.declared.errors.ConvErr.{ConvErr}
 use Rattle.row_core.specs.declared.errors.ConvErr.TheVariants.{Overflow, Memory}
 use Rattle.sat_matrix.specs.Tables.{Table}
@@ -12,8 +12,10 @@ use Rattle.cone_laws.specs.Cones.{Upto, Meets}
 use Rattle.cone_laws.specs.Canon.{IsSystem}
 use Rattle.cone_laws.specs.UniqueLaws.{AdmitSame}
 use Rattle.cone_laws.proofs.MemberLemmas.{same_cone}
+use Rattle.chernikova.proofs.NextStates.{reopened_state}
+use Rattle.chernikova.specs.declared.cone.Cone.{Cone}
 use Rattle.chernikova.specs.declared.system.System.{System}
-use Rattle.chernikova.specs.Conversion.{IsState, IsAtStep, IsRealOverflow, IsRealOverflowFrom}
+use Rattle.chernikova.specs.Conversion.{IsState, IsConverted, IsReopened, IsAtStep, IsRealOverflow, IsRealOverflowFrom}
 
 -- the vectors that the rows at the front admit
 front_admits : (width : ℕ) (taken more : List Row) → AdmitSame width taken (length taken) (taken ++ more) (length taken)
@@ -41,6 +43,11 @@ front_zeros taken more rays table z = record {
 
 pub front_system : (width : ℕ) (taken more : List Row) (lines rays : List (List ℤ)) → IsSystem (Upto width taken (length taken)) lines rays → IsSystem (Upto width (taken ++ more) (length taken)) lines rays
 front_system width taken more lines rays = (same_cone width taken (length taken) (taken ++ more) (length taken) lines rays (front_admits width taken more)).0
+
+-- what a conversion gave, as the state of a longer list
+pub front_state : (width : ℕ) (taken more : List Row) (cone : Cone) (system : System) → width < 2 ^ 32 → IsConverted width taken cone → IsReopened cone system → IsState width (taken ++ more) (length taken) system
+front_state width taken more cone system narrow c same =
+    reopened_state width (taken ++ more) (length taken) cone system narrow c.lists (front_system width taken more (vectors cone.lines.rows) (vectors cone.rays.rows) c.canon.system) (front_zeros taken more (vectors cone.rays.rows) cone.sat c.sat) same
 
 -- the same state, under other names
 pub state_moved : (w width : ℕ) (rs rows : List Row) (n m : ℕ) (old new : System) → w ≡ width → rs ≡ rows → n ≡ m → old ≡ new → IsState w rs n old → IsState width rows m new

@@ -1,10 +1,10 @@
-use Rattle.std.specs.Prelude.{◌≡◌, ◌≢◌, ℕ, ◌+◌, ◌-◌, ◌<◌, ◌≤◌, Bool, true, false, List, [], ◌∷◌, ◌++◌, length, map}
+use Rattle.std.specs.Prelude.{◌≡◌, ◌≢◌, ℕ, ◌+◌, ◌-◌, ◌<◌, ◌≤◌, Bool, true, false, List, [], ◌∷◌, ◌++◌, length}
 use Rattle.std.proofs.Common.{refl, sym, ap, ◌∙◌, arith, inl, inr, get_or, set, take}
 use Rattle.std.proofs.lemmas.List.{get_or_append_left, get_or_push, length_push, length-take, length-set, get_or-set_same, get_or-set_other, get_or-map, length-map, get_or-take, set_at}
 use Rattle.std.proofs.lemmas.Bool.{cases_lt, cases_eq}
 use Rattle.sat_matrix.specs.Tables.{Table, bits_of, conjunction, IsRectangular}
 use Rattle.cone_laws.specs.Steps.{pair_at}
-use Rattle.chernikova.specs.Tables.{HasColumn, HasPairs}
+use Rattle.chernikova.specs.Tables.{HasFalseColumn, HasColumn, HasPairs, IsAsLarge}
 
 pub bits_of-push_before : (rows : List (List Bool)) (row : List Bool) (i : ℕ) → i < length rows → bits_of (rows ++ row ∷ []) i ≡ bits_of rows i
 bits_of-push_before rows row i h = get_or_append_left rows (row ∷ []) [] i h
@@ -20,13 +20,20 @@ pub record IsColumnUpto (column : List Bool) (old new : Table) (last row : ℕ) 
   pub done : (i : ℕ) → i < row → bits_of new.rows i ≡ bits_of old.rows i ++ get_or column i false ∷ []
   pub left : (i : ℕ) → row ≤ i → i < length old.rows → bits_of new.rows i ≡ bits_of old.rows i ++ false ∷ []
 
-pub column_start : (column : List Bool) (old new : Table) → new ≡ record { columns = old.columns + 1; rows = map (λ row. row ++ false ∷ []) old.rows; spare = 0 } → IsColumnUpto column old new old.columns 0
-column_start column old new e = record {
-  columns = ap (λ (t : Table). t.columns) e;
-  as_many = ap (λ (t : Table). length t.rows) e ∙ length-map old.rows (λ row. row ++ false ∷ []);
+pub column_start : (column : List Bool) (old new : Table) → HasFalseColumn old new → IsColumnUpto column old new old.columns 0
+column_start column old new wide = record {
+  columns = wide.columns;
+  as_many = ap length wide.rows ∙ length-map old.rows (λ row. row ++ false ∷ []);
   done = λ i h. absurd (omega (arith, h));
-  left = λ i low h. ap (λ (t : Table). bits_of t.rows i) e ∙ get_or-map (λ (row : List Bool). row ++ false ∷ []) old.rows i [] [] h;
+  left = λ i low h. ap (λ rs. bits_of rs i) wide.rows ∙ get_or-map (λ (row : List Bool). row ++ false ∷ []) old.rows i [] [] h;
 }
+
+-- without the column more, each row is as wide as the table
+pub narrower : (old new : Table) → HasFalseColumn old new → IsRectangular new → IsRectangular old
+narrower old new wide one i below =
+    let size : length new.rows ≡ length old.rows = ap length wide.rows ∙ length-map old.rows (λ row. row ++ false ∷ []) in
+    let at : bits_of new.rows i ≡ bits_of old.rows i ++ false ∷ [] = ap (λ rs. bits_of rs i) wide.rows ∙ get_or-map (λ (row : List Bool). row ++ false ∷ []) old.rows i [] [] below in
+    omega (arith, one i (omega (arith, size, below)), ap length at, length_push (bits_of old.rows i) false, wide.columns)
 
 pub column_more : (column : List Bool) (old cur new : Table) (last row : ℕ) (bit : Bool) → IsRectangular old → last ≡ old.columns → row < length old.rows → bit ≡ get_or column row false → IsColumnUpto column old cur last row → new ≡ record cur { rows = set cur.rows row (set (bits_of cur.rows row) last bit) } → IsColumnUpto column old new last (row + 1)
 column_more column old cur new last row bit wide at inside is_bit h e =
@@ -54,6 +61,21 @@ column_end column old new row end h = record {
   columns = h.columns;
   as_many = h.as_many;
   each = λ i inside. h.done i (omega (arith, end));
+}
+
+-- a table with a column more has as many rows, and its last column is the number of the columns before
+pub widened_count : (old new : Table) → HasFalseColumn old new → length new.rows ≡ length old.rows
+widened_count old new wide = ap length wide.rows ∙ length-map old.rows (λ row. row ++ false ∷ [])
+
+pub last_of : (old new : Table) (columns : ℕ) → HasFalseColumn old new → columns ≡ new.columns → columns - 1 ≡ old.columns
+last_of old new columns wide e = omega (arith, wide.columns, e)
+
+-- a write leaves a table as large
+pub large_set : (old cur new : Table) (row : ℕ) (bits : List Bool) → IsAsLarge old cur → new ≡ record cur { rows = set cur.rows row bits } → IsAsLarge old new
+large_set old cur new row bits h e = record {
+  columns = ap (λ (t : Table). t.columns) e ∙ h.columns;
+  as_many = ap (λ (t : Table). length t.rows) e ∙ length-set cur.rows row bits ∙ h.as_many;
+  spare = ap (λ (t : Table). t.spare) e ∙ h.spare;
 }
 
 -- ---- rows for pairs

@@ -1,52 +1,54 @@
 use Rattle.std.specs.Prelude.{◌≡◌, ℕ, ◌+◌, ◌^◌, ◌<◌, ◌≤◌, ⊤, Bool, true, false, List, length, map, sum, ℤ, pos, slice_index_or}
 use Rattle.row_core.specs.Vectors.{dot}
-use Rattle.row_core.specs.Lists.{Row, Rows, row_at, is_eq_at, vectors}
+use Rattle.row_core.specs.Lists.{Row, vectors}
 use Rattle.row_core.specs.declared.errors.ConvErr.{ConvErr}
 use Rattle.row_core.specs.declared.errors.ConvErr.TheVariants.{Overflow, Memory}
 use Rattle.cone_laws.specs.Cones.{Upto}
-use Rattle.cone_laws.specs.Canon.{vector_at, IsSystem}
+use Rattle.cone_laws.specs.Canon.{vector_at, Canon, IsSystem}
 use Rattle.cone_laws.specs.Steps.{stays, IsLineStep}
 use Rattle.cone_laws.specs.SystemLaws.{HasSystemOf}
 use Rattle.cone_laws.specs.UniqueLaws.{AdmitSame}
 use Rattle.cone_laws.specs.Leaves.{Leaves}
+use Rattle.chernikova.specs.declared.cone.Cone.{Cone}
 use Rattle.chernikova.specs.declared.system.System.{System}
-use Rattle.chernikova.specs.declared.step.Change.{Change}
-use Rattle.chernikova.specs.declared.step.Change.TheVariants as change
 use Rattle.sat_matrix.specs.ZeroTables.{IsZeroTable}
 use Rattle.chernikova.specs.Systems.{values_on}
-use Rattle.chernikova.specs.Plans.{IsMet}
+use Rattle.chernikova.specs.Vectors.{Vectors, as_rows}
 use Rattle.chernikova.specs.Changes.{AreLists, AreAllCrosses, IsRayChange}
 
 -- the lines and rays are the system of the first k rows, and the table tells the rows on which each ray is 0
 pub record IsState (width : ℕ) (rows : List Row) (k : ℕ) (cone : System) : Type 0 where
   pub narrow : width < 2 ^ 32
-  pub lists : AreLists width cone.lines cone.rays
+  pub lists : AreLists width (as_rows cone.lines) (as_rows cone.rays)
   pub system : IsSystem (Upto width rows k) (vectors cone.lines.rows) (vectors cone.rays.rows)
   pub zeros : IsZeroTable rows k (vectors cone.rays.rows) cone.sat
 
+-- what a conversion of the rows gives: their canonical system, and the table that tells the rows on which each ray is 0
+pub record IsConverted (width : ℕ) (rows : List Row) (cone : Cone) : Type 0 where
+  pub canon : Canon (Upto width rows (length rows)) (vectors cone.lines.rows) (vectors cone.rays.rows)
+  pub lists : AreLists width cone.lines cone.rays
+  pub sat : IsZeroTable rows (length rows) (vectors cone.rays.rows) cone.sat
+
+-- the system has the lines and rays that a conversion gave, and the rows of their table
+pub record IsReopened (cone : Cone) (system : System) : Type 0 where
+  pub lines : as_rows system.lines ≡ cone.lines
+  pub rays : as_rows system.rays ≡ cone.rays
+  pub columns : system.sat.columns ≡ cone.sat.columns
+  pub zeros : system.sat.rows ≡ cone.sat.rows
+
 -- a row that isn't 0 on some line: the lines and rays of the next system
-pub record IsLineOutcome (width : ℕ) (row : Row) (cone : System) (lines rays : Rows) : Type 0 where
-  pub lists : AreLists width lines rays
+pub record IsLineOutcome (width : ℕ) (row : Row) (cone : System) (lines rays : Vectors) : Type 0 where
+  pub lists : AreLists width (as_rows lines) (as_rows rays)
   pub step : IsLineStep row (vectors cone.lines.rows) (vectors cone.rays.rows) (vectors lines.rows) (vectors rays.rows)
 
 -- a row that is 0 on all lines: the rays of the next system, the values of the old ones, which of them stay, and the pairs that were combined
-pub record IsRayOutcome (width : ℕ) (row : Row) (cone : System) (rays : Rows) (values : List ℤ) (marks : List Bool) (pairs : List (ℕ × ℕ)) : Type 0 where
-  pub lists : AreLists width cone.lines rays
+pub record IsRayOutcome (width : ℕ) (row : Row) (cone : System) (rays : Vectors) (values : List ℤ) (marks : List Bool) (pairs : List (ℕ × ℕ)) : Type 0 where
+  pub lists : AreLists width (as_rows cone.lines) (as_rows rays)
   pub flat : (i : ℕ) → i < length (vectors cone.lines.rows) → dot row.0 (vector_at (vectors cone.lines.rows) i) ≡ pos 0
   pub is_values : values ≡ values_on row.0 (vectors cone.rays.rows)
   pub is_marks : marks ≡ map (λ value. stays row.1 value) values
   pub crosses : AreAllCrosses values cone.sat pairs
   pub step : IsRayChange values marks pairs cone.rays.rows rays.rows
-
--- what a step with the row makes of a system, and the system that it leaves: the same, or that with the next rays
-abbrev pub IsOutcome : ℕ → Row → System → System → Change → Type 0
-IsOutcome width row cone left (change.Line lines rays) = (left ≡ cone) × IsLineOutcome width row cone lines rays
-IsOutcome width row cone left (change.Same values) = (left ≡ cone) × IsMet row cone values.items
-IsOutcome width row cone left (change.Ray values marks pairs) = (left ≡ record cone { rays = left.rays }) × IsRayOutcome width row cone left.rays values.items marks.items pairs.items
-
--- what a step with row k makes of the system of the rows before it, and the system that it leaves
-abbrev pub IsChanged : ℕ → List Row → ℕ → System → Change → Type 0
-IsChanged width rows k left change = (cone : System) × IsState width rows k cone × IsOutcome width (row_at rows k, is_eq_at rows k) cone left change
 
 -- the total is a sum of one number for each of the rows from one index up to another, and that of each row is at most the number of lines and rays of the system up to that row
 pub record IsCountedBetween (width : ℕ) (rows : List Row) (from to : ℕ) (total : ℕ) : Type 0 where

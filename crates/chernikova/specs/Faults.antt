@@ -4,8 +4,9 @@ use Rattle.row_core.specs.Range.{DotStays, IsFirstToLeave}
 use Rattle.row_core.specs.Lists.{Row, row_at}
 use Rattle.cone_laws.specs.Canon.{vector_at}
 use Rattle.cone_laws.specs.Leaves.{IsLineCase, IsRayCase, CombinationLeaves}
-use Rattle.chernikova.specs.declared.fault.Fault.{Fault}
-use Rattle.chernikova.specs.declared.fault.Fault.TheVariants.{Memory, Dot, Combine}
+use Rattle.chernikova.specs.declared.fault.ValueFault.{ValueFault}
+use Rattle.chernikova.specs.declared.fault.ValueFault.TheVariants.{Memory, Dot}
+use Rattle.chernikova.specs.declared.fault.CombineFault.{CombineFault}
 use Rattle.chernikova.specs.declared.fault.Part.{Part}
 use Rattle.chernikova.specs.declared.fault.Part.TheVariants.{Lines, Rays}
 use Rattle.chernikova.specs.declared.fault.Place.{Place}
@@ -37,48 +38,38 @@ pub record IsDotFault (a : List ℤ) (lines rays : List (List ℤ)) (vector : Pl
   pub within : IsPlace lines rays vector
   pub leaves : IsFirstToLeave (DotStays a (vector_of lines rays vector)) (length a) column
 
+-- no memory for the values on a row, or the dot of a vector of the system and the row leaves the range
+abbrev pub IsPositionFault : List ℤ → List (List ℤ) → List (List ℤ) → ValueFault → Type 0
+IsPositionFault a lines rays Memory = ⊤
+IsPositionFault a lines rays (Dot vector column) = IsDotFault a lines rays vector column
+
 -- the combination of the two vectors, which the step with row k must make, leaves the range first at the column
-pub record IsCombineFault (rows : List Row) (k : ℕ) (lines rays : List (List ℤ)) (left right : Place) (column : ℕ) : Type 0 where
-  pub left_within : IsPlace lines rays left
-  pub right_within : IsPlace lines rays right
-  pub needed : IsLineCase (row_at rows k) lines rays (vector_of lines rays left) (vector_of lines rays right) ⊎ IsRayCase rows k (row_at rows k) lines rays (vector_of lines rays left) (vector_of lines rays right)
-  pub leaves : CombinationLeaves (dot (row_at rows k) (vector_of lines rays left)) (dot (row_at rows k) (vector_of lines rays right)) (vector_of lines rays left) (vector_of lines rays right) column
+pub record IsCombineFault (rows : List Row) (k : ℕ) (lines rays : List (List ℤ)) (fault : CombineFault) : Type 0 where
+  pub left_within : IsPlace lines rays fault.left
+  pub right_within : IsPlace lines rays fault.right
+  pub needed : IsLineCase (row_at rows k) lines rays (vector_of lines rays fault.left) (vector_of lines rays fault.right) ⊎ IsRayCase rows k (row_at rows k) lines rays (vector_of lines rays fault.left) (vector_of lines rays fault.right)
+  pub leaves : CombinationLeaves (dot (row_at rows k) (vector_of lines rays fault.left)) (dot (row_at rows k) (vector_of lines rays fault.right)) (vector_of lines rays fault.left) (vector_of lines rays fault.right) fault.column
 
--- what a fault at the step with row k says of the system
-abbrev pub IsFaultAt : List Row → ℕ → List (List ℤ) → List (List ℤ) → Fault → Type 0
-IsFaultAt rows k lines rays Memory = ⊤
-IsFaultAt rows k lines rays (Dot vector column) = IsDotFault (row_at rows k) lines rays vector column
-IsFaultAt rows k lines rays (Combine left right column) = IsCombineFault rows k lines rays left right column
-
--- the fault is want of memory, or the dot of a vector of the list and the row
-abbrev pub IsValuesFault : List ℤ → Part → List (List ℤ) → Fault → Type 0
+-- no memory for the values of a list, or the dot of one of its vectors and the row leaves the range
+abbrev pub IsValuesFault : List ℤ → Part → List (List ℤ) → ValueFault → Type 0
 IsValuesFault a part vs Memory = ⊤
 IsValuesFault a part vs (Dot vector column) = (vector.part ≡ part) × (vector.index < length vs) × IsFirstToLeave (DotStays a (vector_at vs vector.index)) (length a) column
-IsValuesFault a part vs (Combine left right column) = ⊥
 
--- the fault is want of memory, or the combination with a line with the value u of a vector of the list from one index up to another
-abbrev pub IsLowerFault : ℤ → ℕ → List ℤ → Part → ℕ → ℕ → List ℤ → List (List ℤ) → Fault → Type 0
-IsLowerFault u index line part from to values vs Memory = ⊤
-IsLowerFault u index line part from to values vs (Dot vector column) = ⊥
-IsLowerFault u index line part from to values vs (Combine left right column) = (left ≡ record { part = Lines; index = index }) × (right.part ≡ part) × (from ≤ right.index) × (right.index < to) × CombinationLeaves u (slice_index_or values right.index (pos 0)) line (vector_at vs right.index) column
+-- the combination with a line with the value u of a vector of the list from one index up to another
+abbrev pub IsLowerFault : ℤ → ℕ → List ℤ → Part → ℕ → ℕ → List ℤ → List (List ℤ) → CombineFault → Type 0
+IsLowerFault u index line part from to values vs fault = (fault.left ≡ record { part = Lines; index = index }) × (fault.right.part ≡ part) × (from ≤ fault.right.index) × (fault.right.index < to) × CombinationLeaves u (slice_index_or values fault.right.index (pos 0)) line (vector_at vs fault.right.index) fault.column
 
 -- the same for all vectors but that at the index
-abbrev pub IsOtherFault : ℤ → ℕ → List ℤ → List ℤ → List (List ℤ) → Fault → Type 0
-IsOtherFault u index line values vs Memory = ⊤
-IsOtherFault u index line values vs (Dot vector column) = ⊥
-IsOtherFault u index line values vs (Combine left right column) = (left ≡ record { part = Lines; index = index }) × (right.part ≡ Lines) × (right.index ≢ index) × (right.index < length vs) × CombinationLeaves u (slice_index_or values right.index (pos 0)) line (vector_at vs right.index) column
+abbrev pub IsOtherFault : ℤ → ℕ → List ℤ → List ℤ → List (List ℤ) → CombineFault → Type 0
+IsOtherFault u index line values vs fault = (fault.left ≡ record { part = Lines; index = index }) × (fault.right.part ≡ Lines) × (fault.right.index ≢ index) × (fault.right.index < length vs) × CombinationLeaves u (slice_index_or values fault.right.index (pos 0)) line (vector_at vs fault.right.index) fault.column
 
 -- the fault of a line step: another line or a ray
-abbrev pub IsLineFault : ℕ → List ℤ → List ℤ → List (List ℤ) → List (List ℤ) → Fault → Type 0
-IsLineFault index line_values ray_values lines rays Memory = ⊤
-IsLineFault index line_values ray_values lines rays (Dot vector column) = ⊥
-IsLineFault index line_values ray_values lines rays (Combine left right column) = (left ≡ record { part = Lines; index = index }) × IsPlace lines rays right × (right ≢ left) × CombinationLeaves (slice_index_or line_values index (pos 0)) (value_of line_values ray_values right) (vector_at lines index) (vector_of lines rays right) column
+abbrev pub IsLineFault : ℕ → List ℤ → List ℤ → List (List ℤ) → List (List ℤ) → CombineFault → Type 0
+IsLineFault index line_values ray_values lines rays fault = (fault.left ≡ record { part = Lines; index = index }) × IsPlace lines rays fault.right × (fault.right ≢ fault.left) × CombinationLeaves (slice_index_or line_values index (pos 0)) (value_of line_values ray_values fault.right) (vector_at lines index) (vector_of lines rays fault.right) fault.column
 
 -- the fault of a ray step: one of the pairs
-abbrev pub IsPairFault : List ℤ → List (ℕ × ℕ) → List (List ℤ) → Fault → Type 0
-IsPairFault values pairs rays Memory = ⊤
-IsPairFault values pairs rays (Dot vector column) = ⊥
-IsPairFault values pairs rays (Combine left right column) = Contains pairs (left.index, right.index) × (left.part ≡ Rays) × (right.part ≡ Rays) × CombinationLeaves (slice_index_or values left.index (pos 0)) (slice_index_or values right.index (pos 0)) (vector_at rays left.index) (vector_at rays right.index) column
+abbrev pub IsPairFault : List ℤ → List (ℕ × ℕ) → List (List ℤ) → CombineFault → Type 0
+IsPairFault values pairs rays fault = Contains pairs (fault.left.index, fault.right.index) × (fault.left.part ≡ Rays) × (fault.right.part ≡ Rays) × CombinationLeaves (slice_index_or values fault.left.index (pos 0)) (slice_index_or values fault.right.index (pos 0)) (vector_at rays fault.left.index) (vector_at rays fault.right.index) fault.column
 
 -- whether the list has the lines
 abbrev pub is_lines : Part → Bool

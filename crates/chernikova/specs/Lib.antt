@@ -9,3 +9,4 @@ pub mod RowOrders
 pub mod Beside
 pub mod Orders
 pub mod CountTests
+pub mod Rooms

@@ -1,4 +1,4 @@
-use Rattle.std.specs.Prelude.{◌≡◌, ℕ, ◌+◌, ◌-◌, ◌<◌, ⊤, Bool, true, false, List, length, map, count_by, All, ℤ, pos}
+use Rattle.std.specs.Prelude.{◌≡◌, ℕ, ◌+◌, ◌-◌, ◌<◌, ⊤, Bool, true, false, List, ◌++◌, length, map, replicate, count_by, All, ℤ, pos}
 use Rattle.row_core.specs.Vectors.{dot}
 use Rattle.row_core.specs.Range.{InRange}
 use Rattle.row_core.specs.Lists.{Row, row_at, is_eq_at, vectors}
@@ -54,10 +54,10 @@ kept_of eq cone (position.Crossing index line_values ray_values) = 0
 kept_of eq cone (position.Met values) = length cone.lines.rows + count_by (λ value. stays eq value) values.items
 kept_of eq cone (position.Cutting values) = length cone.lines.rows + count_by (λ value. stays eq value) values.items
 
--- a row that some ray doesn't meet: the values of the rays, which of them stay, and the pairs that cross
+-- a row that some ray doesn't meet: the values of the rays, which of them stay, with a true mark more for each pair, and the pairs that cross
 pub record IsRayPlan (row : Row) (cone : System) (values : List ℤ) (marks : List Bool) (pairs : List (ℕ × ℕ)) : Type 0 where
   pub cutting : IsCutting row cone values
-  pub are_marks : marks ≡ map (λ value. stays row.1 value) values
+  pub are_marks : marks ≡ map (λ value. stays row.1 value) values ++ replicate (length pairs) true
   pub crosses : AreAllCrosses values cone.sat pairs
 
 -- what the step with row k is to do with a system

@@ -4,11 +4,26 @@ use Rattle.sat_matrix.specs.Tables.{Table, bits_of, conjunction}
 use Rattle.row_core.specs.Flat.{marked}
 use Rattle.cone_laws.specs.Steps.{pair_at}
 
+-- the table has one column more, which is false
+pub record HasFalseColumn (old new : Table) : Type 0 where
+  pub columns : new.columns ≡ old.columns + 1
+  pub rows : new.rows ≡ map (λ row. row ++ false ∷ []) old.rows
+
+-- the table has as many rows and columns, and as much room
+pub record IsAsLarge (old new : Table) : Type 0 where
+  pub columns : new.columns ≡ old.columns
+  pub as_many : length new.rows ≡ length old.rows
+  pub spare : new.spare ≡ old.spare
+
 -- the rows have one column more, with these truth values
 pub record HasColumn (column : List Bool) (old new : Table) : Type 0 where
   pub columns : new.columns ≡ old.columns + 1
   pub as_many : length new.rows ≡ length old.rows
   pub each : (i : ℕ) → i < length old.rows → bits_of new.rows i ≡ bits_of old.rows i ++ slice_index_or column i false ∷ []
+
+-- each pair is of indices below the bound
+abbrev pub AreWithin : ℕ → List (ℕ × ℕ) → Type 0
+AreWithin bound pairs = (i : ℕ) → i < length pairs → ((pair_at pairs i).0 < bound) × ((pair_at pairs i).1 < bound)
 
 -- a row was appended for each pair: the conjunction of the two, and true at the last column
 pub record HasPairs (pairs : List (ℕ × ℕ)) (old new : Table) : Type 0 where

@@ -1,5 +1,5 @@
 //! The conversion.
-ghost use Rattle.std.specs.Prelude.{◌≡◌, ℕ, ◌+◌, ◌^◌, ◌-◌, ◌<◌, ◌≤◌, List, length, pos, true, IfOk, IfErr, MatchResult, OnOk};
+ghost use Rattle.std.specs.Prelude.{◌≡◌, ℕ, ◌+◌, ◌^◌, ◌-◌, ◌<◌, ◌≤◌, ◌++◌, List, length, pos, true, IfOk, IfErr, MatchResult, OnOk};
 ghost use Rattle.row_core.specs.Lists.{row_at, vectors, AreMarked};
 ghost use Rattle.cone_laws.specs.Cones.{Upto};
 ghost use Rattle.cone_laws.specs.Canon.{Canon, IsSystem};
@@ -8,10 +8,10 @@ ghost use Rattle.cone_laws.specs.SystemLaws.{HasSystemOf};
 ghost use Rattle.row_core.specs.Range.{AllInRange};
 ghost use Rattle.sat_matrix.specs.ZeroTables.{IsZeroTable};
 ghost use Rattle.chernikova.specs.Changes.{AreLists};
-ghost use Rattle.chernikova.specs.Conversion.{IsState, IsAtStep, IsCountedUpto, IsCountedBetween, IsCountedBefore, IsCountedBeforeFrom, IsRealOverflow, IsRealOverflowFrom, TellsChange};
+ghost use Rattle.chernikova.specs.Conversion.{IsState, IsAtStep, IsCountedUpto, IsCountedBetween, IsCountedBefore, IsCountedBeforeFrom, IsConverted, IsRealOverflow, IsRealOverflowFrom, TellsChange};
 
 use crate::cone::{Added, Cone};
-use crate::lists::reopened;
+use crate::lists::{copied, joined, reopened};
 use crate::order::sorted;
 use crate::scratch::Scratch;
 use crate::system::System;
@@ -127,14 +127,49 @@ pub fn convert<L: Ledger>(
     Ok(sorted(alloc, &cone)?)
 }
 
+/// What [`convert`] gives on the rows that were taken, followed by more rows, from the canonical system
+/// of those that were taken with its table.
+///
+/// # Errors
+///
+/// Those of [`convert`] on that list, at one of the further rows.
+pub fn add_rows<L: Ledger>(
+    alloc: Global,
+    cone: &Cone,
+    taken: &RowList,
+    more: &RowList,
+    steps: &mut Steps<L>,
+) -> Result<Cone, ConvErr>
+    requires width { more.now.width ≡ taken.now.width }
+    requires cone { IsConverted taken.now.width taken.now.rows cone.now }
+    ensures cone { let rows = taken.now.rows ++ more.now.rows in
+        IfOk result (IsConverted taken.now.width rows) }
+    ensures overflow { let rows = taken.now.rows ++ more.now.rows in
+        IfErr result (IsRealOverflowFrom taken.now.width rows (length taken.now.rows)) }
+    ensures no_fewer { steps.old ≤ steps.new }
+    ensures counted { let rows = taken.now.rows ++ more.now.rows in
+        let from = length taken.now.rows in
+        IsCountedBetween taken.now.width rows from (length rows) (steps.new - steps.old) }
+    ensures counted_before { let rows = taken.now.rows ++ more.now.rows in
+        let from = length taken.now.rows in
+        IfErr result (IsCountedBeforeFrom taken.now.width rows from (steps.new - steps.old)) }
+{
+    let rows = joined(alloc, taken, more)?;
+    let _narrow = rows.width();
+    let mut system = copied(alloc, cone)?;
+    let from = taken.len();
+    take_rows(alloc, &mut system, &rows, from, steps)?;
+    Ok(sorted(alloc, &system)?)
+}
+
 /// What [`convert`] gives on a list, from the system of its first `from` rows with its table, and whether
 /// the further rows changed it: they didn't where each line and ray of it meets them all. The rays may
-/// stand in any order.
+/// stand in any order. The list isn't copied, and the system is used up.
 ///
 /// # Errors
 ///
 /// Those of [`convert`], at one of the further rows.
-pub fn add_rows<L: Ledger>(
+pub fn add_rows_from<L: Ledger>(
     alloc: Global,
     cone: Cone,
     rows: &RowList,

@@ -1,10 +1,10 @@
-//! Why a step gives no system, and the overflow that is shown for it.
+//! Why a row isn't taken in, and the overflow that is shown for it.
 ghost use Rattle.std.specs.Prelude.{◌≡◌, ℕ, ◌^◌, ◌<◌, length, IfOk};
 ghost use Rattle.row_core.specs.Range.{AllInRange};
-ghost use Rattle.row_core.specs.Lists.{vectors};
+ghost use Rattle.row_core.specs.Lists.{row_at, vectors};
 ghost use Rattle.cone_laws.specs.Leaves.{Shows};
-ghost use Rattle.chernikova.specs.Faults.{is_lines, IsPlace, vector_of, IsFaultAt};
-ghost use Rattle.chernikova.specs.declared.fault.Fault.TheVariants as fault;
+ghost use Rattle.chernikova.specs.Faults.{is_lines, IsPlace, vector_of, IsPositionFault, IsCombineFault};
+ghost use Rattle.chernikova.specs.declared.fault.ValueFault.TheVariants as fault;
 
 use crate::system::System;
 use row_core::{ConvErr, Memory, OverKind, Overflow, RowBuf, RowList};
@@ -36,45 +36,44 @@ pub(crate) struct Place {
     pub(crate) index: usize,
 }
 
-/// Why a step gives no system.
+/// Why the values of the vectors on a row aren't found.
 #[derive(Debug, Drop)]
-pub(crate) enum Fault {
+pub(crate) enum ValueFault {
     Memory,
     /// The dot product of a vector with the row leaves the range.
-    Dot {
-        vector: Place,
-        column: u32,
-    },
-    /// The combination of two vectors that is 0 on the row leaves the range.
-    Combine {
-        left: Place,
-        right: Place,
-        column: u32,
-    },
+    Dot { vector: Place, column: u32 },
 }
 
-impl From<Memory> for Fault {
+impl From<Memory> for ValueFault {
     ghost from_gives = { λ _ e. e ≡ fault.Memory };
 
-    fn from(_error: Memory) -> Fault {
-        Fault::Memory
+    fn from(_error: Memory) -> ValueFault {
+        ValueFault::Memory
     }
 }
 
-impl From<AllocError> for Fault {
+impl From<AllocError> for ValueFault {
     ghost from_gives = { λ _ e. e ≡ fault.Memory };
 
-    fn from(_error: AllocError) -> Fault {
-        Fault::Memory
+    fn from(_error: AllocError) -> ValueFault {
+        ValueFault::Memory
     }
 }
 
-impl<T: Drop> From<AllocFailed<T>> for Fault {
+impl<T: Drop> From<AllocFailed<T>> for ValueFault {
     ghost from_gives = { λ _ e. e ≡ fault.Memory };
 
-    fn from(_failed: AllocFailed<T>) -> Fault {
-        Fault::Memory
+    fn from(_failed: AllocFailed<T>) -> ValueFault {
+        ValueFault::Memory
     }
+}
+
+/// Two vectors whose combination that is 0 on a row leaves the range, and the first column at which it does.
+#[derive(Clone, Copy, Debug)]
+pub(crate) struct CombineFault {
+    pub(crate) left: Place,
+    pub(crate) right: Place,
+    pub(crate) column: u32,
 }
 
 impl System {
@@ -93,39 +92,63 @@ impl System {
     }
 }
 
-/// Copies the two rows that a fault names at the step with row `k`.
-pub(crate) fn shown(
+/// Copies the vector that a fault names at row `k`, and the row.
+pub(crate) fn shown_dot(
     alloc: Global,
     cone: &System,
     rows: &RowList,
     k: usize,
-    fault: Fault,
+    fault: ValueFault,
 ) -> Result<Overflow, Memory>
     requires row { k < length rows.now.rows }
     requires narrow { rows.now.width < 2 ^ 32 }
-    requires widths { (cone.now.lines.width ≡ rows.now.width) × (cone.now.rays.width ≡ rows.now.width) }
-    requires fault { IsFaultAt rows.now.rows k (vectors cone.now.lines.rows) (vectors cone.now.rays.rows) fault }
-    ensures { IfOk result (λ over. (over.step ≡ k) × Shows over.kind rows.now.rows k (vectors cone.now.lines.rows) (vectors cone.now.rays.rows) over.left over.right over.column) }
+    requires lines { cone.now.lines.width ≡ rows.now.width }
+    requires rays { cone.now.rays.width ≡ rows.now.width }
+    requires fault { let lines = vectors cone.now.lines.rows in
+        let rays = vectors cone.now.rays.rows in
+        IsPositionFault (row_at rows.now.rows k) lines rays fault }
+    ensures { let lines = vectors cone.now.lines.rows in
+        let rays = vectors cone.now.rays.rows in
+        IfOk result (λ over. (over.step ≡ k) ×
+        Shows over.kind rows.now.rows k lines rays over.left over.right over.column) }
 {
     match fault {
-        Fault::Memory => Err(Memory),
-        Fault::Dot { vector, column } => Ok(Overflow {
+        ValueFault::Memory => Err(Memory),
+        ValueFault::Dot { vector, column } => Ok(Overflow {
             kind: OverKind::Dot,
             step: k as u64,
             left: RowBuf::new(alloc, cone.vector(vector))?,
             right: RowBuf::new(alloc, rows.row(k))?,
             column,
         }),
-        Fault::Combine {
-            left,
-            right,
-            column,
-        } => Ok(Overflow {
-            kind: OverKind::Combine,
-            step: k as u64,
-            left: RowBuf::new(alloc, cone.vector(left))?,
-            right: RowBuf::new(alloc, cone.vector(right))?,
-            column,
-        }),
     }
+}
+
+/// Copies the two vectors that a fault names at the step with row `k`.
+pub(crate) fn shown_combination(
+    alloc: Global,
+    cone: &System,
+    rows: &RowList,
+    k: usize,
+    fault: CombineFault,
+) -> Result<Overflow, Memory>
+    requires row { k < length rows.now.rows }
+    requires narrow { rows.now.width < 2 ^ 32 }
+    requires lines { cone.now.lines.width ≡ rows.now.width }
+    requires rays { cone.now.rays.width ≡ rows.now.width }
+    requires fault { let lines = vectors cone.now.lines.rows in
+        let rays = vectors cone.now.rays.rows in
+        IsCombineFault rows.now.rows k lines rays fault }
+    ensures { let lines = vectors cone.now.lines.rows in
+        let rays = vectors cone.now.rays.rows in
+        IfOk result (λ over. (over.step ≡ k) ×
+        Shows over.kind rows.now.rows k lines rays over.left over.right over.column) }
+{
+    Ok(Overflow {
+        kind: OverKind::Combine,
+        step: k as u64,
+        left: RowBuf::new(alloc, cone.vector(fault.left))?,
+        right: RowBuf::new(alloc, cone.vector(fault.right))?,
+        column: fault.column,
+    })
 }

@@ -4,12 +4,15 @@
 //!
 //! - [`convert`] takes in one row after another, and [`Cone`] is what it gives.
 //! - [`convert_in_better_order`] gives the same, by whichever of two orders of the rows is done first.
-//! - [`add_rows`] takes further rows into such a system; [`Added`] also tells whether they changed it.
+//! - [`add_rows`] takes further rows into such a system. [`add_rows_from`] does so with one list and an
+//!   index, without a copy of the list; its answer [`Added`] also tells whether the rows changed the
+//!   system.
 #![tactic(auto)]
 
 mod adjacency;
 mod beside;
 mod better_order;
+mod combining;
 mod cone;
 mod conversion;
 mod fault;
@@ -30,4 +33,4 @@ mod zeros;
 
 pub use better_order::convert_in_better_order;
 pub use cone::{Added, Cone};
-pub use conversion::{add_rows, convert};
+pub use conversion::{add_rows, add_rows_from, convert};

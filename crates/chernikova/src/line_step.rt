@@ -1,63 +1,23 @@
 //! The step with a row that isn't 0 on some line.
-ghost use Rattle.std.specs.Prelude.{◌≡◌, ◌≢◌, ℕ, ◌+◌, ◌^◌, ◌<◌, ◌≤◌, ◌-◌, Bool, true, false, List, [], ◌∷◌, ◌++◌, length, All, pos, neg_ℤ, ◌*ℤ◌, MatchResult, IfOk, IfErr, OnOk, slice_index_or, take};
-ghost use Rattle.row_core.specs.Vectors.{scale};
+ghost use Rattle.std.specs.Prelude.{◌≡◌, ◌≢◌, ℕ, ◌+◌, ◌<◌, ◌≤◌, true, false, [], length, All, pos, MatchResult, OnOk};
 ghost use Rattle.row_core.specs.Range.{InRange, AllInRange};
 ghost use Rattle.row_core.specs.Content.{IsPrimitive};
 ghost use Rattle.row_core.specs.Lists.{row_at, vectors, AreMarked};
-ghost use Rattle.cone_laws.specs.Steps.{sign};
-ghost use Rattle.cone_laws.specs.Leaves.{CombinationLeaves};
-ghost use Rattle.cone_laws.specs.Combinations.{IsCombined};
+ghost use Rattle.chernikova.specs.Vectors.{as_rows};
 ghost use Rattle.chernikova.specs.Changes.{value_at, AreLowered, AreOthersLowered, AreLists, with_upward, IsLineChange};
 ghost use Rattle.chernikova.specs.Faults.{IsLowerFault, IsOtherFault, IsLineFault, is_lines};
+ghost use Rattle.chernikova.specs.Rooms.{HasLineRoom};
 
-use crate::fault::{Fault, Part, Place};
-use crate::scratch::{Scratch, cells, no_vectors};
+use crate::fault::{CombineFault, Part, Place};
+use crate::scratch::Scratch;
 use crate::system::System;
-use crate::vectors::VectorList;
-use cone_laws::combination::{combine, write_upward};
-use row_core::{Memory, Steps};
-use std::alloc::{AllocError, Global};
+use crate::vectors::{Crossing, VectorList};
+use row_core::Steps;
 use std::sync::ledger::Ledger;
 
-/// The line that is taken out, and its value on the row.
-#[derive(Clone, Copy)]
-pub(crate) struct Crossing<'a> {
-    pub(crate) index: usize,
-    pub(crate) line: &'a [i128],
-    pub(crate) value: i128,
-}
-
-/// Writes over `dst` a vector with its value on the row, lowered by the line onto the row.
-fn lower<L: Ledger>(
-    dst: &mut [i128],
-    line: &[i128],
-    line_value: i128,
-    vector: &[i128],
-    value: i128,
-    steps: &mut Steps<L>,
-) -> Result<(), u32>
-    requires same_width { (length dst.old ≡ length vector.now) × (length vector.now ≡ length line.now) }
-    requires narrow { length vector.now < 2 ^ 32 }
-    requires vector { AllInRange vector.now × IsPrimitive vector.now }
-    requires first_in_range { InRange line_value }
-    requires second_in_range { InRange value }
-    requires nonzero { line_value ≢ pos 0 }
-    ensures counted { (steps.old ≤ steps.new) × (steps.new ≤ steps.old + 1) }
-    ensures width { length dst.new ≡ length dst.old }
-    ensures combined { MatchResult result (λ _. IsCombined line_value value line.now vector.now dst.new) (CombinationLeaves line_value value line.now vector.now) }
-    ensures in_range { OnOk result (AllInRange dst.new) }
-{
-    if value == 0 {
-        dst.copy_from_slice(vector);
-        return Ok(());
-    }
-    combine(dst, line, line_value, vector, value, steps)
-}
-
-/// Appends the vectors from one index up to another, lowered by the line onto the row.
+/// Appends the vectors from one index up to another, lowered by the line onto the row, for which there is room.
 fn lower_range<L: Ledger>(
     into: &mut VectorList,
-    scratch: &mut [i128],
     part: Part,
     list: &VectorList,
     values: &[i128],
@@ -65,9 +25,10 @@ fn lower_range<L: Ledger>(
     to: usize,
     crossing: Crossing,
     steps: &mut Steps<L>,
-) -> Result<(), Fault>
-    requires widths { (list.now.width ≡ into.old.width) × (length scratch.old ≡ into.old.width) × (length crossing.line.now ≡ into.old.width) }
-    requires narrow { into.old.width < 2 ^ 32 }
+) -> Result<(), CombineFault>
+    requires spare { to ≤ into.old.spare + from }
+    requires line { length crossing.line.now ≡ into.old.width }
+    requires wide { list.now.width ≡ into.old.width }
     requires bounds { (from ≤ to) × (to ≤ length list.now.rows) }
     requires as_many { length values.now ≡ length list.now.rows }
     requires in_range { All InRange values.now × InRange crossing.value }
@@ -75,143 +36,121 @@ fn lower_range<L: Ledger>(
     requires primitive { All IsPrimitive (vectors list.now.rows) }
     requires marked { AreMarked (is_lines part) into.old.rows }
     ensures counted { (steps.old ≤ steps.new) × (steps.new + from ≤ steps.old + to) }
-    ensures width { (into.new.width ≡ into.old.width) × (length scratch.new ≡ length scratch.old) }
-    ensures lowered { MatchResult result (λ _. AreLowered crossing.entry.value crossing.entry.line.now values.now list.now.rows from to into.old.rows into.new.rows) (IsLowerFault crossing.entry.value crossing.entry.index crossing.entry.line.now part from to values.now (vectors list.now.rows)) }
+    ensures width { into.new.width ≡ into.old.width }
+    ensures spare { OnOk result (into.new.spare + to ≡ into.old.spare + from) }
+    ensures lowered { let u = crossing.entry.value in
+        let line = crossing.entry.line.now in
+        let rows = list.now.rows in
+        let index = crossing.entry.index in
+        let old = into.old.rows in
+        MatchResult result (λ _. AreLowered u line values.now rows from to old into.new.rows)
+        (IsLowerFault u index line part from to values.now (vectors rows)) }
     ensures marked { OnOk result (AreMarked (is_lines part) into.new.rows) }
 {
     for index in from..to {
-        let lowered = lower(
-            scratch,
-            crossing.line,
-            crossing.value,
-            list.row(index),
-            values[index],
-            steps,
-        );
+        let (vector, eq) = (list.row(index), part.is_equality());
+        let lowered = into.push_lowered(crossing, vector, values[index], eq, steps);
         if let Err(column) = lowered {
             let left = Place {
                 part: Part::Lines,
                 index: crossing.index,
             };
             let right = Place { part, index };
-            return Err(Fault::Combine {
+            return Err(CombineFault {
                 left,
                 right,
                 column,
             });
         }
-        into.push(scratch, part.is_equality())?;
     }
     Ok(())
 }
 
-/// Appends the line with the sign with which the row is above 0 on it, if the row is an inequality.
-fn push_upward(
-    rays: &mut VectorList,
-    scratch: &mut [i128],
-    line: &[i128],
-    value: i128,
-    eq: bool,
-) -> Result<(), Memory>
-    requires wide { (length line.now ≡ rays.old.width) × (length scratch.old ≡ rays.old.width) }
-    requires in_range { AllInRange line.now × InRange value }
-    requires nonzero { value ≢ pos 0 }
-    requires marked { AreMarked false rays.old.rows }
-    ensures width { rays.new.width ≡ rays.old.width }
-    ensures rows { OnOk result (rays.new.rows ≡ with_upward eq value line.now rays.old.rows) }
-{
-    if eq {
-        return Ok(());
-    }
-    write_upward(scratch, line, value);
-    rays.push(scratch, false)
-}
-
-/// The other lines, lowered onto the row.
-fn lowered_lines<L: Ledger>(
-    alloc: Global,
-    place: &mut VectorList,
-    scratch: &mut [i128],
+/// Appends the other lines, lowered onto the row.
+fn lower_lines<L: Ledger>(
+    into: &mut VectorList,
     lines: &VectorList,
     values: &[i128],
     crossing: Crossing,
     steps: &mut Steps<L>,
-) -> Result<VectorList, Fault>
-    requires width { (length crossing.line.now ≡ lines.now.width) × (length scratch.old ≡ lines.now.width) }
+) -> Result<(), CombineFault>
+    requires spare { length lines.now.rows ≤ into.old.spare }
+    requires empty { into.old.rows ≡ [] }
+    requires line { length crossing.line.now ≡ into.old.width }
+    requires wide { lines.now.width ≡ into.old.width }
     requires index { crossing.index < length lines.now.rows }
     requires as_many { length values.now ≡ length lines.now.rows }
     requires in_range { All InRange values.now × InRange crossing.value }
     requires nonzero { crossing.value ≢ pos 0 }
     requires primitive { All IsPrimitive (vectors lines.now.rows) }
-    ensures counted { (steps.old ≤ steps.new) × (steps.new + 1 ≤ steps.old + length lines.now.rows) }
-    ensures lowered { MatchResult result (λ new. AreOthersLowered crossing.entry.value crossing.entry.index crossing.entry.line.now values.now lines.now.rows new.rows) (IsOtherFault crossing.entry.value crossing.entry.index crossing.entry.line.now values.now (vectors lines.now.rows)) }
-    ensures list { IfOk result (λ new. (new.width ≡ lines.now.width) × AreMarked true new.rows) }
-    ensures scratch { length scratch.new ≡ length scratch.old }
+    ensures no_fewer { steps.old ≤ steps.new }
+    ensures counted { steps.new + 1 ≤ steps.old + length lines.now.rows }
+    ensures lowered { let u = crossing.entry.value in
+        let line = crossing.entry.line.now in
+        let rows = lines.now.rows in
+        let index = crossing.entry.index in
+        MatchResult result (λ _. AreOthersLowered u index line values.now rows into.new.rows)
+        (IsOtherFault u index line values.now (vectors rows)) }
+    ensures width { OnOk result (into.new.width ≡ into.old.width) }
+    ensures marked { OnOk result (AreMarked true into.new.rows) }
 {
-    let mut new = no_vectors(alloc, place, lines.width(), lines.len())?;
-    let index = crossing.index;
-    lower_range(
-        &mut new,
-        scratch,
-        Part::Lines,
-        lines,
-        values,
-        0,
-        index,
-        crossing,
-        steps,
-    )?;
-    lower_range(
-        &mut new,
-        scratch,
-        Part::Lines,
-        lines,
-        values,
-        index + 1,
-        lines.len(),
-        crossing,
-        steps,
-    )?;
-    Ok(new)
+    let (index, part) = (crossing.index, Part::Lines);
+    lower_range(into, part, lines, values, 0, index, crossing, steps)?;
+    let count = lines.len();
+    lower_range(into, part, lines, values, index + 1, count, crossing, steps)
 }
 
-/// The rays, lowered onto the row.
-fn lowered_rays<L: Ledger>(
-    alloc: Global,
-    place: &mut VectorList,
-    scratch: &mut [i128],
+/// Appends the rays, lowered onto the row.
+fn lower_rays<L: Ledger>(
+    into: &mut VectorList,
     rays: &VectorList,
     values: &[i128],
     crossing: Crossing,
     steps: &mut Steps<L>,
-) -> Result<VectorList, Fault>
-    requires width { (length crossing.line.now ≡ rays.now.width) × (length scratch.old ≡ rays.now.width) }
+) -> Result<(), CombineFault>
+    requires spare { length rays.now.rows + 1 ≤ into.old.spare }
+    requires empty { into.old.rows ≡ [] }
+    requires line { length crossing.line.now ≡ into.old.width }
+    requires wide { rays.now.width ≡ into.old.width }
     requires as_many { length values.now ≡ length rays.now.rows }
     requires in_range { All InRange values.now × InRange crossing.value }
     requires nonzero { crossing.value ≢ pos 0 }
     requires primitive { All IsPrimitive (vectors rays.now.rows) }
-    ensures counted { (steps.old ≤ steps.new) × (steps.new ≤ steps.old + length rays.now.rows) }
-    ensures lowered { MatchResult result (λ new. AreLowered crossing.entry.value crossing.entry.line.now values.now rays.now.rows 0 (length rays.now.rows) [] new.rows) (IsLowerFault crossing.entry.value crossing.entry.index crossing.entry.line.now Part.Rays 0 (length rays.now.rows) values.now (vectors rays.now.rows)) }
-    ensures list { IfOk result (λ new. (new.width ≡ rays.now.width) × AreMarked false new.rows) }
+    ensures no_fewer { steps.old ≤ steps.new }
+    ensures counted { steps.new ≤ steps.old + length rays.now.rows }
+    ensures lowered { let u = crossing.entry.value in
+        let line = crossing.entry.line.now in
+        let rows = rays.now.rows in
+        let index = crossing.entry.index in
+        let count = length rows in
+        MatchResult result (λ _. AreLowered u line values.now rows 0 count [] into.new.rows)
+        (IsLowerFault u index line Part.Rays 0 count values.now (vectors rows)) }
+    ensures width { OnOk result (into.new.width ≡ into.old.width) }
+    ensures marked { OnOk result (AreMarked false into.new.rows) }
+    ensures spare { OnOk result (0 < into.new.spare) }
 {
-    let mut new = no_vectors(alloc, place, rays.width(), rays.len().saturating_add(1))?;
-    lower_range(
-        &mut new,
-        scratch,
-        Part::Rays,
-        rays,
-        values,
-        0,
-        rays.len(),
-        crossing,
-        steps,
-    )?;
-    Ok(new)
+    let (count, part) = (rays.len(), Part::Rays);
+    lower_range(into, part, rays, values, 0, count, crossing, steps)
 }
 
-/// The lines and rays after a row that isn't 0 on line `index`, and on no later line.
+/// Appends the line with the sign with which the row is above 0 on it, if the row is an inequality.
+fn push_upward(rays: &mut VectorList, line: &[i128], value: i128, eq: bool)
+    requires spare { 0 < rays.old.spare }
+    requires wide { length line.now ≡ rays.old.width }
+    requires in_range { AllInRange line.now × InRange value }
+    requires nonzero { value ≢ pos 0 }
+    requires marked { AreMarked false rays.old.rows }
+    ensures width { rays.new.width ≡ rays.old.width }
+    ensures rows { rays.new.rows ≡ with_upward eq value line.now rays.old.rows }
+{
+    if !eq {
+        rays.push_upward(line, value);
+    }
+}
+
+/// Makes the lists for which there is room the lines and rays after a row that isn't 0 on line `index`, and on no
+/// later line.
 pub(crate) fn line_step<L: Ledger>(
-    alloc: Global,
     scratch: &mut Scratch,
     cone: &System,
     line_values: &[i128],
@@ -219,37 +158,38 @@ pub(crate) fn line_step<L: Ledger>(
     index: usize,
     eq: bool,
     steps: &mut Steps<L>,
-) -> Result<(VectorList, VectorList), Fault>
+) -> Result<(), CombineFault>
+    requires room { HasLineRoom scratch.old cone.now }
     requires widths { cone.now.lines.width ≡ cone.now.rays.width }
-    requires as_many { (length line_values.now ≡ length cone.now.lines.rows) × (length ray_values.now ≡ length cone.now.rays.rows) }
+    requires as_many { (length line_values.now ≡ length cone.now.lines.rows) ×
+        (length ray_values.now ≡ length cone.now.rays.rows) }
     requires in_range { All InRange line_values.now × All InRange ray_values.now }
-    requires crossing { (index < length cone.now.lines.rows) × (value_at line_values.now index ≢ pos 0) }
-    requires primitive { All IsPrimitive (vectors cone.now.lines.rows) × All IsPrimitive (vectors cone.now.rays.rows) }
-    ensures counted { (steps.old ≤ steps.new) × (steps.new + 1 ≤ steps.old + (length cone.now.lines.rows + length cone.now.rays.rows)) }
-    ensures change { MatchResult result (λ s. IsLineChange index line_values.now ray_values.now eq cone.now.lines.rows cone.now.rays.rows s.0.rows s.1.rows) (IsLineFault index line_values.now ray_values.now (vectors cone.now.lines.rows) (vectors cone.now.rays.rows)) }
-    ensures lists { IfOk result (λ s. AreLists cone.now.lines.width s.0 s.1) }
+    requires crossing { (index < length cone.now.lines.rows) ×
+        (value_at line_values.now index ≢ pos 0) }
+    requires primitive { All IsPrimitive (vectors cone.now.lines.rows) ×
+        All IsPrimitive (vectors cone.now.rays.rows) }
+    ensures counted { let vectors = length cone.now.lines.rows + length cone.now.rays.rows in
+        (steps.old ≤ steps.new) × (steps.new + 1 ≤ steps.old + vectors) }
+    ensures change { let lines = cone.now.lines.rows in
+        let rays = cone.now.rays.rows in
+        let values = line_values.now in
+        let new_lines = scratch.new.lines.rows in
+        let new_rays = scratch.new.rays.rows in
+        MatchResult result
+        (λ _. IsLineChange index values ray_values.now eq lines rays new_lines new_rays)
+        (IsLineFault index values ray_values.now (vectors lines) (vectors rays)) }
+    ensures lists { let width = cone.now.lines.width in
+        OnOk result (AreLists width (as_rows scratch.new.lines) (as_rows scratch.new.rays)) }
 {
     let crossing = Crossing {
         index,
         line: cone.lines.row(index),
         value: line_values[index],
     };
-    let mut row = cells(alloc, &mut scratch.row, cone.lines.width())?;
-    let place = &mut scratch.lines;
-    let lines = lowered_lines(
-        alloc,
-        place,
-        &mut row,
-        &cone.lines,
-        line_values,
-        crossing,
-        steps,
-    )?;
-    let place = &mut scratch.rays;
-    let mut rays = lowered_rays(
-        alloc, place, &mut row, &cone.rays, ray_values, crossing, steps,
-    )?;
-    push_upward(&mut rays, &mut row, crossing.line, crossing.value, eq)?;
-    scratch.row = row;
-    Ok((lines, rays))
+    let lines = &mut scratch.lines;
+    lower_lines(lines, &cone.lines, line_values, crossing, steps)?;
+    let rays = &mut scratch.rays;
+    lower_rays(rays, &cone.rays, ray_values, crossing, steps)?;
+    push_upward(rays, crossing.line, crossing.value, eq);
+    Ok(())
 }

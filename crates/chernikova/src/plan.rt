@@ -65,7 +65,8 @@ pub(crate) enum Plan {
     Same {
         values: Vec<i128>,
     },
-    /// The row is 0 on all lines: the values of the rays, which of them stay, and the pairs to combine.
+    /// The row is 0 on all lines: the values of the rays, which of them stay, with a true mark more for each pair,
+    /// and the pairs to combine.
     Ray {
         values: Vec<i128>,
         marks: Vec<bool>,

@@ -1,46 +1,36 @@
 //! The step with a row that is 0 on all lines.
-ghost use Rattle.std.specs.Prelude.{◌≡◌, ◌+◌, ◌^◌, ◌<◌, ◌≤◌, false, [], ◌∷◌, length, All, MatchResult, OnOk, OnErr};
-ghost use Rattle.row_core.specs.Range.{InRange, AllInRange};
+ghost use Rattle.std.specs.Prelude.{◌≡◌, ◌+◌, ◌<◌, ◌≤◌, Bool, true, false, List, [], ◌∷◌, ◌++◌, length, replicate, All, MatchResult, OnErr};
+ghost use Rattle.row_core.specs.Range.{InRange};
 ghost use Rattle.row_core.specs.Lists.{vectors, AreMarked};
+ghost use Rattle.chernikova.specs.Vectors.{IsAppended, HasSame};
 ghost use Rattle.chernikova.specs.Changes.{IsPairAt, ArePairs, IsPairCombined, HasMade, IsGrown, IsRayChange};
 ghost use Rattle.chernikova.specs.Faults.{IsPairFault};
 
-use crate::fault::{Fault, Part, Place};
-use crate::scratch::{Scratch, cells};
+use crate::fault::{CombineFault, Part, Place};
 use crate::vectors::VectorList;
-use crate::zeros::extended;
-use cone_laws::combination::combine;
 use row_core::Steps;
-use std::alloc::Global;
 use std::sync::ledger::Ledger;
 
-/// Writes over `dst` the ray of a pair that is 0 on the row.
-fn combine_pair<L: Ledger>(
-    dst: &mut [i128],
-    rays: &VectorList,
+/// Appends the ray of a pair that is 0 on the row. After a fault the rays are as before.
+fn push_pair<L: Ledger>(
+    rays: &mut VectorList,
     values: &[i128],
     pair: (usize, usize),
     steps: &mut Steps<L>,
-) -> Result<(), Fault>
-    requires width { length dst.old ≡ rays.now.width }
-    requires narrow { rays.now.width < 2 ^ 32 }
-    requires as_many { length values.now ≤ length rays.now.rows }
+) -> Result<(), CombineFault>
+    requires spare { 0 < rays.old.spare }
+    requires as_many { length values.now ≤ length rays.old.rows }
     requires in_range { All InRange values.now }
     requires opposite { IsPairAt values.now pair.0 pair.1 }
-    ensures counted { (steps.old ≤ steps.new) × (steps.new ≤ steps.old + 1) }
-    ensures width { length dst.new ≡ length dst.old }
-    ensures combined { MatchResult result (λ _. IsPairCombined values.now rays.now.rows pair dst.new) (IsPairFault values.now (pair ∷ []) (vectors rays.now.rows)) }
-    ensures in_range { OnOk result (AllInRange dst.new) }
+    requires marked { AreMarked false rays.old.rows }
+    ensures counted { steps.new ≡ steps.old + 1 }
+    ensures combined { let Is = IsPairCombined values.now rays.old.rows pair in
+        let Leaves = IsPairFault values.now (pair ∷ []) (vectors rays.old.rows) in
+        MatchResult result (λ _. IsAppended false Is rays.old rays.new)
+        (λ fault. HasSame rays.old rays.new × Leaves fault) }
 {
     let (above, below) = pair;
-    let combined = combine(
-        dst,
-        rays.row(above),
-        values[above],
-        rays.row(below),
-        values[below],
-        steps,
-    );
+    let combined = rays.push_combination(above, values[above], below, values[below], steps);
     if let Err(column) = combined {
         let left = Place {
             part: Part::Rays,
@@ -50,7 +40,7 @@ fn combine_pair<L: Ledger>(
             part: Part::Rays,
             index: below,
         };
-        return Err(Fault::Combine {
+        return Err(CombineFault {
             left,
             right,
             column,
@@ -61,14 +51,12 @@ fn combine_pair<L: Ledger>(
 
 /// Appends one ray for each pair, 0 on the row.
 fn push_made<L: Ledger>(
-    scratch: &mut [i128],
     rays: &mut VectorList,
     values: &[i128],
     pairs: &[(usize, usize)],
     steps: &mut Steps<L>,
-) -> Result<(), Fault>
-    requires width { length scratch.old ≡ rays.old.width }
-    requires narrow { rays.old.width < 2 ^ 32 }
+) -> Result<(), CombineFault>
+    requires spare { length pairs.now ≤ rays.old.spare }
     requires as_many { length values.now ≡ length rays.old.rows }
     requires in_range { All InRange values.now }
     requires opposite { ArePairs values.now pairs.now }
@@ -76,49 +64,49 @@ fn push_made<L: Ledger>(
     ensures counted { (steps.old ≤ steps.new) × (steps.new ≤ steps.old + length pairs.now) }
     ensures width { rays.new.width ≡ rays.old.width }
     ensures grown { IsGrown rays.old.rows rays.new.rows }
-    ensures made { MatchResult result (λ _. HasMade values.now rays.old.rows pairs.now rays.old.rows rays.new.rows) (IsPairFault values.now pairs.now (vectors rays.old.rows)) }
+    ensures made { let old = rays.old.rows in
+        MatchResult result (λ _. HasMade values.now old pairs.now old rays.new.rows)
+        (IsPairFault values.now pairs.now (vectors old)) }
     ensures marked { AreMarked false rays.new.rows }
 {
     for index in 0..pairs.len() {
-        combine_pair(scratch, rays, values, pairs[index], steps)?;
-        rays.push(scratch, false)?;
+        push_pair(rays, values, pairs[index], steps)?;
     }
     Ok(())
 }
 
-/// Keeps the marked rays, and appends one ray for each pair. After a fault the rays are as before.
+/// Keeps the marked rays, and appends one ray for each pair, for which there is room: the marks are those of the
+/// old rays, and true for each pair. After a fault the rays are as before.
 pub(crate) fn ray_step<L: Ledger>(
-    alloc: Global,
-    scratch: &mut Scratch,
     rays: &mut VectorList,
     values: &[i128],
-    marks: &[bool],
+    keep: &[bool],
     pairs: &[(usize, usize)],
     steps: &mut Steps<L>,
-) -> Result<(), Fault>
-    requires as_many { (length values.now ≡ length rays.old.rows) × (length marks.now ≡ length rays.old.rows) }
+) -> Result<(), CombineFault>
+    requires spare { length pairs.now ≤ rays.old.spare }
+    requires as_many { length values.now ≡ length rays.old.rows }
+    requires marks { length keep.now ≡ length rays.old.rows + length pairs.now }
     requires in_range { All InRange values.now }
     requires opposite { ArePairs values.now pairs.now }
     requires marked { AreMarked false rays.old.rows }
     ensures counted { (steps.old ≤ steps.new) × (steps.new ≤ steps.old + length pairs.now) }
     ensures width { rays.new.width ≡ rays.old.width }
-    ensures change { MatchResult result (λ _. IsRayChange values.now marks.now pairs.now rays.old.rows rays.new.rows) (IsPairFault values.now pairs.now (vectors rays.old.rows)) }
+    ensures change { let old = rays.old.rows in
+        let new = rays.new.rows in
+        let more = replicate (length pairs.now) true in
+        MatchResult result
+        (λ _. (marks : List Bool) → keep.now ≡ marks ++ more →
+        IsRayChange values.now marks pairs.now old new)
+        (IsPairFault values.now pairs.now (vectors old)) }
     ensures marked { AreMarked false rays.new.rows }
-    ensures same { OnErr result (rays.new ≡ rays.old) }
+    ensures same { OnErr result (HasSame rays.old rays.new) }
 {
-    let keep = extended(alloc, &mut scratch.keep, marks, pairs.len())?;
-    let mut row = cells(alloc, &mut scratch.row, rays.width())?;
     let count = rays.len();
-    match push_made(&mut row, rays, values, pairs, steps) {
-        Ok(()) => {
-            rays.keep_rows(&keep);
-            scratch.keep = keep;
-            scratch.row = row;
-            Ok(())
-        }
-        Err(fault) => {
-            rays.truncate(count);
-            Err(fault)
-        }
+    if let Err(fault) = push_made(rays, values, pairs, steps) {
+        rays.truncate(count);
+        return Err(fault);
     }
+    rays.keep_rows(keep);
+    Ok(())
 }

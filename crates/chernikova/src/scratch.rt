@@ -1,7 +1,7 @@
 //! The lists that a step works with.
-ghost use Rattle.std.specs.Prelude.{◌≡◌, ◌^◌, ◌<◌, [], vec_len, IfOk};
+ghost use Rattle.std.specs.Prelude.{◌≡◌, ◌^◌, ◌<◌, ◌≤◌, [], IfOk, OnOk};
 
-use crate::vectors::VectorList;
+use crate::vectors::{LEAST_VECTORS, VectorList};
 use row_core::Memory;
 use std::alloc::{AllocError, Global};
 use std::mem;
@@ -17,8 +17,6 @@ pub(crate) struct Scratch {
     pub(crate) above: Vec<usize>,
     pub(crate) below: Vec<usize>,
     pub(crate) pairs: Vec<(usize, usize)>,
-    pub(crate) keep: Vec<bool>,
-    pub(crate) row: Vec<i128>,
     pub(crate) lines: VectorList,
     pub(crate) rays: VectorList,
 }
@@ -33,8 +31,6 @@ impl Drop for Scratch {
             above: _,
             below: _,
             pairs: _,
-            keep: _,
-            row: _,
             lines: _,
             rays: _,
         } = self;
@@ -51,8 +47,6 @@ impl Scratch {
             above: Vec::new(alloc),
             below: Vec::new(alloc),
             pairs: Vec::new(alloc),
-            keep: Vec::new(alloc),
-            row: Vec::new(alloc),
             lines: VectorList::new(alloc, 0),
             rays: VectorList::new(alloc, 0),
         }
@@ -73,35 +67,21 @@ pub(crate) fn emptied<T: Copy + Drop>(
     Ok(list)
 }
 
-/// Takes a row out of its place, with that many cells.
-pub(crate) fn cells(
+/// Takes the vectors out of a list, and gives it a width and room for some.
+pub(crate) fn make_empty(
     alloc: Global,
-    place: &mut Vec<i128>,
-    width: usize,
-) -> Result<Vec<i128>, AllocError>
-    ensures { IfOk result (λ v. vec_len v ≡ width) }
-{
-    let mut row = emptied(alloc, place, width)?;
-    row.resize(width, 0)?;
-    Ok(row)
-}
-
-/// Takes a list of vectors out of its place, without its vectors, of that width, and with room for some.
-pub(crate) fn no_vectors(
-    alloc: Global,
-    place: &mut VectorList,
+    list: &mut VectorList,
     width: usize,
     room: usize,
-) -> Result<VectorList, Memory>
+) -> Result<(), Memory>
     requires { width < 2 ^ 32 }
-    ensures width { IfOk result (λ list. list.width ≡ width) }
-    ensures empty { IfOk result (λ list. list.rows ≡ []) }
+    ensures width { OnOk result (list.new.width ≡ width) }
+    ensures empty { OnOk result (list.new.rows ≡ []) }
+    ensures room { OnOk result (room ≤ list.new.spare) }
 {
-    let mut list = mem::replace(place, VectorList::new(alloc, width));
     if list.width() != width {
-        return VectorList::with_room(alloc, width, room);
+        *list = VectorList::new(alloc, width);
     }
     list.truncate(0);
-    list.reserve(room)?;
-    Ok(list)
+    list.reserve(room.max(LEAST_VECTORS))
 }

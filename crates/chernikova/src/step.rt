@@ -1,45 +1,25 @@
 //! One step: a row is taken in.
-ghost use Rattle.std.specs.Prelude.{◌≡◌, ℕ, ◌+◌, ◌-◌, ◌<◌, ◌≤◌, List, length, IfOk, OnOk, OnErr, MatchResult};
-ghost use Rattle.row_core.specs.Lists.{row_at, is_eq_at, vectors};
-ghost use Rattle.chernikova.specs.Faults.{IsFaultAt};
-ghost use Rattle.chernikova.specs.Conversion.{IsState, IsOutcome, IsChanged};
+ghost use Rattle.std.specs.Prelude.{◌≡◌, ◌+◌, ◌<◌, ◌≤◌, length, IfOk, OnOk, OnErr, MatchResult};
+ghost use Rattle.row_core.specs.Lists.{row_at, vectors};
+ghost use Rattle.chernikova.specs.Faults.{IsPositionFault, IsCombineFault};
+ghost use Rattle.chernikova.specs.Conversion.{IsState};
 ghost use Rattle.chernikova.specs.Plans.{IsPosition, IsPlan, combinations_of};
+ghost use Rattle.chernikova.specs.Tables.{HasFalseColumn};
+ghost use Rattle.chernikova.specs.Rooms.{HasSameVectors, HasRoom, IsReady};
 
 use crate::adjacency::{crossings, least_shared};
-use crate::fault::{Fault, Part};
+use crate::fault::{CombineFault, Part, ValueFault};
 use crate::line_step::line_step;
 use crate::plan::{Plan, Position};
 use crate::ray_step::ray_step;
-use crate::scratch::Scratch;
+use crate::scratch::{Scratch, make_empty};
 use crate::system::System;
-use crate::values::{all_meet, last_crossing, marks, values};
-use crate::vectors::VectorList;
-use crate::zeros::{after_line_step, after_ray_step, push_zeros};
+use crate::values::{all_meet, last_crossing, mark_pairs, marks, values};
+use crate::zeros::{after_line_step, after_ray_step, mark_zeros};
 use row_core::{Memory, RowList, Steps, all_narrow};
 use std::alloc::Global;
 use std::mem;
 use std::sync::ledger::Ledger;
-
-/// What a step makes of a system.
-#[derive(Drop)]
-pub(crate) enum Change {
-    /// The row isn't 0 on some line.
-    Line {
-        lines: VectorList,
-        rays: VectorList,
-    },
-    /// Each line and ray meets the row, and stays: the values of the rays.
-    Same {
-        values: Vec<i128>,
-    },
-    /// The row is 0 on all lines, and the rays are those of the next system: the values of the old ones,
-    /// which of them stayed, and the pairs that were combined.
-    Ray {
-        values: Vec<i128>,
-        marks: Vec<bool>,
-        pairs: Vec<(usize, usize)>,
-    },
-}
 
 /// How row `k` lies to the system of the rows before it.
 pub(crate) fn position(
@@ -48,10 +28,13 @@ pub(crate) fn position(
     cone: &System,
     rows: &RowList,
     k: usize,
-) -> Result<Position, Fault>
+) -> Result<Position, ValueFault>
     requires row { k < length rows.now.rows }
     requires state { IsState rows.now.width rows.now.rows k cone.now }
-    ensures { MatchResult result (IsPosition rows.now.rows k cone.now) (IsFaultAt rows.now.rows k (vectors cone.now.lines.rows) (vectors cone.now.rays.rows)) }
+    ensures { let lines = vectors cone.now.lines.rows in
+        let rays = vectors cone.now.rays.rows in
+        MatchResult result (IsPosition rows.now.rows k cone.now)
+        (IsPositionFault (row_at rows.now.rows k) lines rays) }
 {
     let row = rows.row(k);
     let narrow = all_narrow(row);
@@ -99,9 +82,10 @@ pub(crate) fn planned(
         }),
         Position::Met { values } => Ok(Plan::Same { values }),
         Position::Cutting { values } => {
-            let marks = marks(alloc, &mut scratch.marks, rows.is_eq(k), &values)?;
+            let mut marks = marks(alloc, &mut scratch.marks, rows.is_eq(k), &values)?;
             let least = least_shared(rows.width(), cone.lines.len());
             let pairs = crossings(alloc, scratch, &values, &cone.sat, least)?;
+            mark_pairs(&mut marks, &pairs)?;
             Ok(Plan::Ray {
                 values,
                 marks,
@@ -111,21 +95,56 @@ pub(crate) fn planned(
     }
 }
 
-/// Does with the system what is planned for row `k`. After a fault the system is as before.
-pub(crate) fn carried_out<L: Ledger>(
+/// Makes all room that the step takes, and appends to the table a column of false for the row. It changes no line
+/// and no ray.
+pub(crate) fn make_room(
     alloc: Global,
+    scratch: &mut Scratch,
+    cone: &mut System,
+    plan: &Plan,
+) -> Result<(), Memory>
+    ensures same { HasSameVectors cone.old cone.new }
+    ensures column { OnOk result (HasFalseColumn cone.old.sat cone.new.sat) }
+    ensures room { OnOk result (HasRoom plan.now scratch.new cone.new) }
+{
+    cone.sat.add_column()?;
+    match plan {
+        Plan::Line { .. } => {
+            let width = cone.lines.width();
+            let rays = cone.rays.len().checked_add(1).ok_or(Memory)?;
+            make_empty(alloc, &mut scratch.lines, width, cone.lines.len())?;
+            make_empty(alloc, &mut scratch.rays, width, rays)?;
+            cone.sat.reserve(1)?;
+            Ok(())
+        }
+        Plan::Same { .. } => Ok(()),
+        Plan::Ray { pairs, .. } => {
+            cone.sat.reserve(pairs.len())?;
+            cone.rays.reserve(pairs.len())
+        }
+    }
+}
+
+/// Does with the system what is planned for row `k`, for which there is room.
+///
+/// # Errors
+///
+/// Two vectors whose combination leaves the range. The lines and rays are then as before.
+pub(crate) fn carry_out<L: Ledger>(
     scratch: &mut Scratch,
     cone: &mut System,
     plan: Plan,
     rows: &RowList,
     k: usize,
     steps: &mut Steps<L>,
-) -> Result<Change, Fault>
+) -> Result<(), CombineFault>
     requires row { k < length rows.now.rows }
-    requires state { IsState rows.now.width rows.now.rows k cone.old }
-    requires plan { IsPlan rows.now.rows k cone.old plan }
-    ensures outcome { MatchResult result (IsOutcome rows.now.width (row_at rows.now.rows k, is_eq_at rows.now.rows k) cone.old cone.new) (IsFaultAt rows.now.rows k (vectors cone.old.lines.rows) (vectors cone.old.rays.rows)) }
-    ensures same { OnErr result (cone.new ≡ cone.old) }
+    requires ready { IsReady rows.now.width rows.now.rows k plan scratch.old cone.old }
+    ensures state { let lines = vectors cone.old.lines.rows in
+        let rays = vectors cone.old.rays.rows in
+        MatchResult result (λ _. IsState rows.now.width rows.now.rows (k + 1) cone.new)
+        (IsCombineFault rows.now.rows k lines rays) }
+    ensures same { OnErr result (HasSameVectors cone.old cone.new) }
     ensures no_fewer { steps.old ≤ steps.new }
     ensures counted { steps.new ≤ steps.old + combinations_of cone.old plan }
 {
@@ -136,71 +155,28 @@ pub(crate) fn carried_out<L: Ledger>(
             ray_values,
         } => {
             let eq = rows.is_eq(k);
-            let (lines, rays) = line_step(
-                alloc,
-                scratch,
-                cone,
-                &line_values,
-                &ray_values,
-                index,
-                eq,
-                steps,
-            )?;
+            line_step(scratch, cone, &line_values, &ray_values, index, eq, steps)?;
+            after_line_step(&mut cone.sat, eq);
+            mem::swap(&mut cone.lines, &mut scratch.lines);
+            mem::swap(&mut cone.rays, &mut scratch.rays);
             scratch.line_values = line_values;
             scratch.ray_values = ray_values;
-            Ok(Change::Line { lines, rays })
         }
-        Plan::Same { values } => Ok(Change::Same { values }),
+        Plan::Same { values } => {
+            mark_zeros(&mut cone.sat, &values);
+            scratch.ray_values = values;
+        }
         Plan::Ray {
             values,
             marks,
             pairs,
         } => {
-            let rays = &mut cone.rays;
-            ray_step(alloc, scratch, rays, &values, &marks, &pairs, steps)?;
-            Ok(Change::Ray {
-                values,
-                marks,
-                pairs,
-            })
-        }
-    }
-}
-
-/// Brings the system up to date with a change, and its table with it.
-pub(crate) fn apply_change(
-    scratch: &mut Scratch,
-    cone: &mut System,
-    change: Change,
-    rows: &RowList,
-    k: usize,
-) -> Result<(), Memory>
-    requires row { k < length rows.now.rows }
-    requires outcome { IsChanged rows.now.width rows.now.rows k cone.old change }
-    ensures { OnOk result (IsState rows.now.width rows.now.rows (k + 1) cone.new) }
-{
-    match change {
-        Change::Line { lines, rays } => {
-            after_line_step(&mut cone.sat, rows.is_eq(k))?;
-            scratch.lines = mem::replace(&mut cone.lines, lines);
-            scratch.rays = mem::replace(&mut cone.rays, rays);
-            Ok(())
-        }
-        Change::Same { values } => {
-            push_zeros(&mut cone.sat, &values)?;
-            scratch.ray_values = values;
-            Ok(())
-        }
-        Change::Ray {
-            values,
-            mut marks,
-            pairs,
-        } => {
-            after_ray_step(&mut cone.sat, &values, &mut marks, &pairs)?;
+            ray_step(&mut cone.rays, &values, &marks, &pairs, steps)?;
+            after_ray_step(&mut cone.sat, &values, &marks, &pairs);
             scratch.ray_values = values;
             scratch.marks = marks;
             scratch.pairs = pairs;
-            Ok(())
         }
     }
+    Ok(())
 }

@@ -7,10 +7,10 @@ ghost use Rattle.chernikova.specs.Plans.{IsPosition, IsPlan, kept_of, combinatio
 ghost use Rattle.chernikova.specs.Beside.{IsSearchOfRow};
 
 use crate::adjacency::least_shared;
-use crate::fault::shown;
+use crate::fault::{shown_combination, shown_dot};
 use crate::plan::{Plan, Position};
 use crate::scratch::Scratch;
-use crate::step::{apply_change, carried_out, planned, position};
+use crate::step::{carry_out, make_room, planned, position};
 use crate::system::System;
 use row_core::{ConvErr, RowList, Steps};
 use std::alloc::Global;
@@ -40,7 +40,7 @@ pub(crate) fn row_position(
 {
     match position(alloc, scratch, cone, rows, k) {
         Ok(position) => Ok(position),
-        Err(fault) => Err(ConvErr::Overflow(shown(alloc, cone, rows, k, fault)?)),
+        Err(fault) => Err(ConvErr::Overflow(shown_dot(alloc, cone, rows, k, fault)?)),
     }
 }
 
@@ -61,7 +61,7 @@ pub(crate) fn plan_row(
     Ok(planned(alloc, scratch, cone, position, rows, k)?)
 }
 
-/// Takes row `k` into the system as planned.
+/// Takes row `k` into the system as planned. All memory is taken before a line or a ray is changed.
 pub(crate) fn take_planned<L: Ledger>(
     alloc: Global,
     scratch: &mut Scratch,
@@ -79,10 +79,12 @@ pub(crate) fn take_planned<L: Ledger>(
     ensures no_fewer { steps.old ≤ steps.new }
     ensures counted { steps.new ≤ steps.old + combinations_of cone.old plan }
 {
-    match carried_out(alloc, scratch, cone, plan, rows, k, steps) {
-        Ok(change) => Ok(apply_change(scratch, cone, change, rows, k)?),
-        Err(fault) => Err(ConvErr::Overflow(shown(alloc, cone, rows, k, fault)?)),
+    make_room(alloc, scratch, cone, &plan)?;
+    if let Err(fault) = carry_out(scratch, cone, plan, rows, k, steps) {
+        let over = shown_combination(alloc, cone, rows, k, fault)?;
+        return Err(ConvErr::Overflow(over));
     }
+    Ok(())
 }
 
 /// Takes row `k` into the system from how it lies to it, and gives the number of its vectors less that of

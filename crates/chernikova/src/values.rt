@@ -1,5 +1,5 @@
 //! The values of vectors on a row.
-ghost use Rattle.std.specs.Prelude.{◌≡◌, ◌≢◌, ℕ, ◌^◌, ◌<◌, ◌≤◌, Bool, [], length, map, count_by, pos, All, IsTrue, MatchBool, MatchResult, MatchOption, IfOk, OnOk, slice_index_or};
+ghost use Rattle.std.specs.Prelude.{◌≡◌, ◌≢◌, ℕ, ◌^◌, ◌<◌, ◌≤◌, Bool, true, [], ◌++◌, length, map, replicate, count_by, pos, All, IsTrue, MatchBool, MatchResult, MatchOption, IfOk, OnOk, slice_index_or};
 ghost use Rattle.row_core.specs.Vectors.{dot};
 ghost use Rattle.row_core.specs.Range.{InRange};
 ghost use Rattle.row_core.specs.Narrow.{AllNarrow};
@@ -9,7 +9,7 @@ ghost use Rattle.chernikova.specs.Systems.{values_on};
 ghost use Rattle.chernikova.specs.Plans.{AllStay, SomeGoes};
 ghost use Rattle.chernikova.specs.Faults.{IsValuesFault};
 
-use crate::fault::{Fault, Part, Place};
+use crate::fault::{Part, Place, ValueFault};
 use crate::scratch::emptied;
 use crate::vectors::VectorList;
 use row_core::{dot, narrow_dot};
@@ -39,7 +39,7 @@ pub(crate) fn values(
     list: &VectorList,
     row: &[i128],
     narrow: bool,
-) -> Result<Vec<i128>, Fault>
+) -> Result<Vec<i128>, ValueFault>
     requires wide { length row.now ≡ list.now.width }
     requires narrow { length row.now < 2 ^ 32 }
     requires row { IsTrue narrow → AllNarrow row.now }
@@ -56,7 +56,7 @@ pub(crate) fn values(
             Ok(value) => values.push(value)?,
             Err(column) => {
                 let vector = Place { part, index };
-                return Err(Fault::Dot { vector, column });
+                return Err(ValueFault::Dot { vector, column });
             }
         }
     }
@@ -101,6 +101,17 @@ pub(crate) fn count_meeting(eq: bool, values: &[i128]) -> usize
     ensures { result ≡ count_by (λ value. stays eq value) values.now }
 {
     values.iter().filter(|value| meets(eq, **value)).count()
+}
+
+/// Appends true for each pair.
+pub(crate) fn mark_pairs(marks: &mut Vec<bool>, pairs: &[(usize, usize)]) -> Result<(), AllocError>
+    ensures { let more = replicate (length pairs.now) true in
+        OnOk result (marks.new.items ≡ marks.old.items ++ more) }
+{
+    for _pair in 0..pairs.len() {
+        marks.push(true)?;
+    }
+    Ok(())
 }
 
 /// Which vectors meet the row, from their values on it.

@@ -48,7 +48,7 @@ fn divisor_of(u: i128, v: i128) -> i128
 
 /// The factors of the second and of the first of two vectors with the values `u` and `v` on a row, in
 /// their combination that is 0 on the row.
-fn factors(u: i128, v: i128) -> (i128, i128)
+pub fn factors(u: i128, v: i128) -> (i128, i128)
     requires first_in_range { InRange u }
     requires second_in_range { InRange v }
     requires nonzero { u ≢ pos 0 }

@@ -106,17 +106,23 @@ impl ConsSys {
     }
 
     /// Returns these constraints and then the later ones, all over one dimension.
-    pub fn followed_by(&self, alloc: Global, later: &ConsSys) -> Result<ConsSys, Memory>
+    pub fn followed_by(&self, later: &ConsSys) -> Result<ConsSys, Memory>
         requires same_dimension { later.now.dim ≡ self.now.dim }
         ensures dim { IfOk result (λ both. both.dim ≡ self.now.dim) }
         ensures list { IfOk result (λ both. both.list ≡ self.now.list ++ later.now.list) }
     {
         let rows = self.rows.followed_by(&later.rows)?;
         Ok(ConsSys {
-            alloc,
+            alloc: self.alloc,
             dim: self.dim,
             rows,
         })
+    }
+
+    /// The allocator that the list keeps.
+    #[inline]
+    pub fn allocator(&self) -> Global {
+        self.alloc
     }
 
     /// The number of variables.

@@ -14,7 +14,7 @@ ghost use Rattle.cover_search.specs.Regions.{LeavesOnList, with_one, HoldNowhere
 use crate::halfspaces::Halfspaces;
 use crate::inequalities::{is_strict, push_primitive};
 use crate::walls::Walls;
-use chernikova::{Cone, add_rows, convert};
+use chernikova::{Cone, add_rows_from, convert};
 use cons_sys::ConsSys;
 use nnc_enc::encode_cons;
 use row_core::{ConvErr, Memory, RowBuf, RowList, Steps, dot};
@@ -224,7 +224,7 @@ impl Region {
         } = self;
         let from = list.len();
         push_one(&mut cons, &mut list, halfspaces, index)?;
-        let added = add_rows(alloc, cone, &list, from, steps)?;
+        let added = add_rows_from(alloc, cone, &list, from, steps)?;
         Ok(Region {
             cons,
             list,

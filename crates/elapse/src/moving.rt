@@ -29,7 +29,7 @@ fn moved<L: Ledger>(
     prove!(p.gens().dim() == p.dim());
     prove!(q.gens().dim() == q.dim());
     let moves = directions(alloc, q.gens())?;
-    let gens = p.gens().followed_by(alloc, &moves)?;
+    let gens = p.gens().followed_by(&moves)?;
     prove!(gens.dim() == p.dim());
     match Poly::from_gens(alloc, p.topology(), &gens, steps) {
         Ok(poly) => {

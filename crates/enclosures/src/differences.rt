@@ -31,7 +31,7 @@ fn part<L: Ledger>(
     ensures overflow { IfErr result (IsOverflowIn (LeavesOnPart p.now (constraint_at cons.now.list index))) }
 {
     let one = one_of(alloc, cons, index)?;
-    let made = p.add_cons(alloc, &one, steps)?;
+    let made = p.add_cons(&one, steps)?;
     let _kept = made.dim();
     Ok(made)
 }

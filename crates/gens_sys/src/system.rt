@@ -156,14 +156,14 @@ impl GensSys {
     }
 
     /// Returns these generators and then the later ones, all over one dimension.
-    pub fn followed_by(&self, alloc: Global, later: &GensSys) -> Result<GensSys, Memory>
+    pub fn followed_by(&self, later: &GensSys) -> Result<GensSys, Memory>
         requires same_dimension { later.now.dim ≡ self.now.dim }
         ensures dim { IfOk result (λ both. both.dim ≡ self.now.dim) }
         ensures list { IfOk result (λ both. both.list ≡ self.now.list ++ later.now.list) }
     {
         let rows = self.rows.followed_by(&later.rows)?;
         Ok(GensSys {
-            alloc,
+            alloc: self.alloc,
             dim: self.dim,
             rows,
         })

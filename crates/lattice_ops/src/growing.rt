@@ -1,16 +1,13 @@
 //! Sets that grow.
-ghost use Rattle.std.specs.Prelude.{◌≡◌, ◌↔◌, ◌-◌, ◌≤◌, length, IfOk, IfErr, IsTrue};
+ghost use Rattle.std.specs.Prelude.{◌≡◌, ◌↔◌, ◌-◌, IfOk, IsTrue};
 ghost use Rattle.poly_pair.specs.declared.topology.Topology.{Topology};
 ghost use Rattle.set_laws.specs.GeneratorLaws.{IsContained};
-ghost use Rattle.poly_pair.specs.TopologyLists.{AreGeneratorsFor, list_width, generators_of};
+ghost use Rattle.poly_pair.specs.TopologyLists.{AreGeneratorsFor};
 ghost use Rattle.poly_pair.specs.FirstLists.{LacksPoint};
-ghost use Rattle.poly_pair.specs.Additions.{with_generators};
 ghost use Rattle.poly_pair.specs.Polyhedra.{IsKept};
-ghost use Rattle.poly_pair.specs.Starts.{CanStart};
-ghost use Rattle.poly_pair.specs.Conversions.{IsCountedFrom, IsCountedOn};
-ghost use Rattle.poly_pair.specs.Refusals.{IsOverflowOn, IsCountedBeforeOn, IsCountedBeforeOnFrom};
-ghost use Rattle.lattice_ops.specs.Sets.{HaveSamePoints, both_generators};
+ghost use Rattle.lattice_ops.specs.Sets.{HaveSamePoints, hull_work};
 ghost use Rattle.lattice_ops.specs.Growing.{IsGrown, IsHullWith, IsGrownBy};
+ghost use Rattle.poly_pair.specs.Work.{Converts, added_gens};
 
 use crate::comparing::equal;
 use crate::containing::test_in_order;
@@ -51,12 +48,7 @@ pub fn grown<L: Ledger>(
     requires topology { p.now.topology ≡ q.now.topology }
     requires dim { p.now.cons.dim ≡ q.now.cons.dim }
     ensures grown { IfOk result (IsGrown p.now q.now) }
-    ensures overflow { IfErr result (IsOverflowOn (list_width p.now.topology p.now.cons.dim) p.now.cons.dim (generators_of p.now.topology (both_generators p.now q.now))) }
-    ensures no_fewer { steps.old ≤ steps.new }
-    ensures counted { IsCountedOn (list_width p.now.topology p.now.cons.dim) p.now.cons.dim (generators_of p.now.topology (both_generators p.now q.now)) (steps.new - steps.old) }
-    ensures counted_from { CanStart p.now → IsCountedFrom (list_width p.now.topology p.now.cons.dim) p.now.cons.dim (generators_of p.now.topology (both_generators p.now q.now)) (length p.now.gens.list) (steps.new - steps.old) }
-    ensures counted_before { IfErr result (IsCountedBeforeOn (list_width p.now.topology p.now.cons.dim) p.now.cons.dim (generators_of p.now.topology (both_generators p.now q.now)) (steps.new - steps.old)) }
-    ensures counted_before_from { CanStart p.now → IfErr result (IsCountedBeforeOnFrom (list_width p.now.topology p.now.cons.dim) p.now.cons.dim (generators_of p.now.topology (both_generators p.now q.now)) (length p.now.gens.list) (steps.new - steps.old)) }
+    ensures conversion { Converts (hull_work p.now q.now) steps.old steps.new result }
 {
     let joined = match hull(alloc, p, q, steps) {
         Ok(joined) => joined,
@@ -84,23 +76,17 @@ fn includes_spanned(p: &Poly, gens: &GensSys) -> bool
 }
 
 /// The smallest polyhedron of the topology that has the points of `p` and those that the generators span.
-fn hull_with<L: Ledger>(
-    alloc: Global,
-    p: &Poly,
-    gens: &GensSys,
-    steps: &mut Steps<L>,
-) -> Result<Poly, ConvErr>
+fn hull_with<L: Ledger>(p: &Poly, gens: &GensSys, steps: &mut Steps<L>) -> Result<Poly, ConvErr>
     requires dim { gens.now.dim ≡ p.now.cons.dim }
     requires kinds { AreGeneratorsFor p.now.topology gens.now }
     requires point { ¬ (LacksPoint gens.now.list) }
     ensures points { IfOk result (IsHullWith p.now gens.now) }
     ensures kept { IfOk result IsKept }
-    ensures overflow { IfErr result (IsOverflowOn (list_width p.now.topology p.now.cons.dim) p.now.cons.dim (generators_of p.now.topology (with_generators p.now gens.now))) }
-    ensures no_fewer { steps.old ≤ steps.new }
+    ensures conversion { Converts (added_gens p.now gens.now) steps.old steps.new result }
 {
     rows_fit(p);
     let _fit = gens.dim();
-    match p.add_gens(alloc, gens, steps) {
+    match p.add_gens(gens, steps) {
         Ok(made) => {
             rows_fit(&made);
             Ok(made)
@@ -118,7 +104,7 @@ fn hull_with<L: Ledger>(
 ///
 /// An overflow is one of the conversion of the list of the generators of `p` and then these, or of its second list.
 pub fn grown_by<L: Ledger>(
-    alloc: Global,
+    _alloc: Global,
     p: &Poly,
     gens: &GensSys,
     steps: &mut Steps<L>,
@@ -128,13 +114,12 @@ pub fn grown_by<L: Ledger>(
     requires kinds { AreGeneratorsFor p.now.topology gens.now }
     requires point { ¬ (LacksPoint gens.now.list) }
     ensures grown { IfOk result (IsGrownBy p.now gens.now) }
-    ensures overflow { IfErr result (IsOverflowOn (list_width p.now.topology p.now.cons.dim) p.now.cons.dim (generators_of p.now.topology (with_generators p.now gens.now))) }
-    ensures no_fewer { steps.old ≤ steps.new }
+    ensures conversion { Converts (added_gens p.now gens.now) steps.old steps.new result }
 {
     if includes_spanned(p, gens) {
         return Ok(None);
     }
-    let hull = match hull_with(alloc, p, gens, steps) {
+    let hull = match hull_with(p, gens, steps) {
         Ok(hull) => hull,
         Err(cause) => return Err(cause),
     };

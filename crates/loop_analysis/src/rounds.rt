@@ -53,7 +53,7 @@ pub fn round<L: Ledger>(
     ensures closed { IfOk result (IsClosedOver program.now.dim) }
     ensures overflow { IfErr result (IsOverflowIn (LeavesInRound program.now set.now)) }
 {
-    let mut states = set.add_cons(alloc, program.guard(), steps)?;
+    let mut states = set.add_cons(program.guard(), steps)?;
     let _kept = states.dim();
     for index in 0..program.len() {
         states = assigned(alloc, program.assignment(index), &states, steps)?;

@@ -18,3 +18,4 @@ pub mod SecondTables
 pub mod FaultCases
 pub mod Widths
 pub mod FlatBases
+pub mod ValidSystems

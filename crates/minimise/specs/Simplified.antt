@@ -1,4 +1,5 @@
-use Rattle.std.specs.Prelude.{ℕ, List, length}
+use Rattle.std.specs.Prelude.{◌≡◌, ℕ, ⊤, List, length, ℤ, pos, ◌≤ℤ◌}
+use Rattle.row_core.specs.Vectors.{dot}
 use Rattle.row_core.specs.Lists.{Row, Rows, vectors}
 use Rattle.cone_laws.specs.Canon.{Canon}
 use Rattle.cone_laws.specs.Members.{ConeOf}
@@ -14,6 +15,16 @@ pub record IsSystemOf (width : ℕ) (list : List Row) (lines rays : Rows) (sat :
   pub canon : Canon (ConeOf width list) (vectors lines.rows) (vectors rays.rows)
   pub lists : AreLists width lines rays
   pub zeros : IsZeroTable list (length list) (vectors rays.rows) sat
+
+-- the row is at least 0 on each vector of the set
+pub record IsValidOn (width : ℕ) (C : List ℤ → Type 0) (a : List ℤ) : Type 0 where
+  pub wide : length a ≡ width
+  pub least : (v : List ℤ) → C v → pos 0 ≤ℤ dot a v
+
+-- where it was found, it is the canonical system of all rows that are valid on the set
+abbrev pub IsSystemOfValid : ℕ → (List ℤ → Type 0) → Simplified → Type 0
+IsSystemOfValid width C (Done lines rays sat) = Canon (IsValidOn width C) (vectors lines.rows) (vectors rays.rows)
+IsSystemOfValid width C (Left left right column) = ⊤
 
 -- the canonical system of the second list was found
 abbrev pub IsDone : ℕ → List Row → Simplified → Type 0

@@ -7,7 +7,7 @@ ghost use Rattle.cone_laws.specs.MarkedLists.{AreLists};
 ghost use Rattle.sat_matrix.specs.ZeroTables.{IsZeroTable};
 ghost use Rattle.minimise.specs.Faults.{IsLeftFault};
 ghost use Rattle.minimise.specs.Parts.{AreArranged, IsArranged};
-ghost use Rattle.minimise.specs.Simplified.{IsSimplified, IsDone};
+ghost use Rattle.minimise.specs.Simplified.{IsSimplified, IsDone, IsSystemOfValid};
 
 use crate::facets::full_rows;
 use crate::fault::Fault;
@@ -104,6 +104,8 @@ pub fn simplify<L: Ledger>(
     requires lists { AreLists rows.now.width lines.now rays.now }
     requires sat { IsZeroTable rows.now.rows (length rows.now.rows) (vectors rays.now.rows) sat.now }
     ensures simplified { IfOk result (IsSimplified rows.now.width rows.now.rows (lines.now.rows ++ rays.now.rows)) }
+    ensures valid { let cone = ConeOf rows.now.width rows.now.rows in
+        IfOk result (IsSystemOfValid rows.now.width cone) }
     ensures no_fewer { steps.old ≤ steps.new }
     ensures counted { steps.new ≤ steps.old + 2 * (length rows.now.rows * rows.now.width) }
 {

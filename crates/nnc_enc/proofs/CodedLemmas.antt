@@ -21,7 +21,7 @@ use Rattle.nnc_enc.specs.StrongRows.{IsAdmittedVector}
 use Rattle.nnc_enc.proofs.EncodedRows.{insert_remove}
 use Rattle.nnc_enc.specs.Coded.{RayIsCoded, SecondListAdmits}
 use Rattle.nnc_enc.specs.Decoding.{AreDecodedRows, AreDecodedVectors}
-use Rattle.nnc_enc.specs.Results.{AreRows, AreVectors}
+use Rattle.nnc_enc.specs.Results.{AreRowsOf, AreVectorsOf}
 use Rattle.nnc_enc.proofs.ResultLemmas.{decoded_rows_code, decoded_vectors_code}
 use Rattle.nnc_enc.proofs.MarkLemmas.{length-vectors, vector_at-vectors}
 
@@ -69,16 +69,16 @@ admitted_is_dual width gens lines rays v g = (
   (λ u. record { wide = u.wide; admits = λ a m. subst (λ (z : ℤ). pos 0 ≤ℤ z) (dot_comm v a) (valid_of_row width (ConeOf width gens) lines rays g v u a m) }),
 )
 
-pub decoded_rows_hold : (dim : ℕ) (lines rays : List Row) (cs : Constraints) (p : List ℤ) → AreRows dim lines rays → AreDecodedRows dim lines rays cs.list → IsPoint dim p → In cs p ↔ Codes dim (ConeOf (dim + 2) (system_rows (vectors lines) (vectors rays))) p
-decoded_rows_hold dim lines rays cs p r d point =
-    let code = decoded_rows_code dim r.gens lines rays cs p r.rows d point in (
-      (λ h. codes_within dim (IsAdmittedVector (dim + 2) r.gens) (ConeOf (dim + 2) (system_rows (vectors lines) (vectors rays))) p (λ v u. (admitted_is_dual (dim + 2) r.gens (vectors lines) (vectors rays) v r.rows.system.generates).0 u) (code.0 h)),
-      (λ k. code.1 (codes_within dim (ConeOf (dim + 2) (system_rows (vectors lines) (vectors rays))) (IsAdmittedVector (dim + 2) r.gens) p (λ v u. (admitted_is_dual (dim + 2) r.gens (vectors lines) (vectors rays) v r.rows.system.generates).1 u) k)),
+pub decoded_rows_hold : (dim : ℕ) (gens lines rays : List Row) (cs : Constraints) (p : List ℤ) → AreRowsOf dim gens lines rays → AreDecodedRows dim lines rays cs.list → IsPoint dim p → In cs p ↔ Codes dim (ConeOf (dim + 2) (system_rows (vectors lines) (vectors rays))) p
+decoded_rows_hold dim gens lines rays cs p r d point =
+    let code = decoded_rows_code dim gens lines rays cs p r d point in (
+      (λ h. codes_within dim (IsAdmittedVector (dim + 2) gens) (ConeOf (dim + 2) (system_rows (vectors lines) (vectors rays))) p (λ v u. (admitted_is_dual (dim + 2) gens (vectors lines) (vectors rays) v r.system.generates).0 u) (code.0 h)),
+      (λ k. code.1 (codes_within dim (ConeOf (dim + 2) (system_rows (vectors lines) (vectors rays))) (IsAdmittedVector (dim + 2) gens) p (λ v u. (admitted_is_dual (dim + 2) gens (vectors lines) (vectors rays) v r.system.generates).1 u) k)),
     )
 
-pub decoded_vectors_span : (dim : ℕ) (lines rays : List Row) (gs : Generators) (v : List ℤ) → AreVectors dim lines rays → AreDecodedVectors dim lines rays gs.list → length v ≡ dim + 1 → Span gs v ↔ Codes dim (IsAdmittedVector (dim + 2) (system_rows (vectors lines) (vectors rays))) v
-decoded_vectors_span dim lines rays gs v r d wide =
-    let code = decoded_vectors_code dim r.rows lines rays gs v r.vectors d wide in (
-      (λ h. codes_within dim (ConeOf (dim + 2) r.rows) (IsAdmittedVector (dim + 2) (system_rows (vectors lines) (vectors rays))) v (λ u m. (second_list_admits (dim + 2) r.rows (vectors lines) (vectors rays) u r.vectors.system.generates).1 m) (code.0 h)),
-      (λ k. code.1 (codes_within dim (IsAdmittedVector (dim + 2) (system_rows (vectors lines) (vectors rays))) (ConeOf (dim + 2) r.rows) v (λ u m. (second_list_admits (dim + 2) r.rows (vectors lines) (vectors rays) u r.vectors.system.generates).0 m) k)),
+pub decoded_vectors_span : (dim : ℕ) (rows lines rays : List Row) (gs : Generators) (v : List ℤ) → AreVectorsOf dim rows lines rays → AreDecodedVectors dim lines rays gs.list → length v ≡ dim + 1 → Span gs v ↔ Codes dim (IsAdmittedVector (dim + 2) (system_rows (vectors lines) (vectors rays))) v
+decoded_vectors_span dim rows lines rays gs v r d wide =
+    let code = decoded_vectors_code dim rows lines rays gs v r d wide in (
+      (λ h. codes_within dim (ConeOf (dim + 2) rows) (IsAdmittedVector (dim + 2) (system_rows (vectors lines) (vectors rays))) v (λ u m. (second_list_admits (dim + 2) rows (vectors lines) (vectors rays) u r.system.generates).1 m) (code.0 h)),
+      (λ k. code.1 (codes_within dim (IsAdmittedVector (dim + 2) (system_rows (vectors lines) (vectors rays))) (ConeOf (dim + 2) rows) v (λ u m. (second_list_admits (dim + 2) rows (vectors lines) (vectors rays) u r.system.generates).0 m) k)),
     )

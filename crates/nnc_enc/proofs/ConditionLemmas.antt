@@ -1,5 +1,5 @@
 -- Which systems meet the conditions of the decoding and the strong calls.
-use Rattle.std.proofs.Common.{◌≡◌, ℕ, ◌+◌, ◌<◌, List, [], length, false, ℤ, pos, ◌<ℤ◌, sym, subst, arith}
+use Rattle.std.proofs.Common.{◌≡◌, ℕ, ◌+◌, List, [], length, false, ℤ, pos, ◌<ℤ◌, sym, subst, arith}
 use Rattle.row_core.specs.Vectors.{cell}
 use Rattle.row_core.specs.Lists.{Row, vectors, system_rows}
 use Rattle.cone_laws.specs.Cones.{Upto}

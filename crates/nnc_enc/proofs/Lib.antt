@@ -45,3 +45,4 @@ pub mod StoredLemmas
 pub mod PartLemmas
 pub mod CodedLemmas
 pub mod ConditionLemmas
+pub mod Dimensions

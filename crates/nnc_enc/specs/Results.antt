@@ -1,6 +1,6 @@
 use Rattle.std.specs.Prelude.{◌≡◌, ◌↔◌, ℕ, ◌+◌, ◌<◌, List, length, ℤ, pos, ◌<ℤ◌}
 use Rattle.row_core.specs.Vectors.{cell}
-use Rattle.row_core.specs.Lists.{Row, row_at, vectors}
+use Rattle.row_core.specs.Lists.{Row, Rows, row_at, vectors}
 use Rattle.row_core.specs.Points.{IsPoint}
 use Rattle.cone_laws.specs.Cones.{Upto}
 use Rattle.cone_laws.specs.Canon.{IsSystem}
@@ -28,15 +28,45 @@ pub record AreVectorsOf (dim : ℕ) (rows lines rays : List Row) : Type 0 where
   pub member : Upto (dim + 2) rows (length rows) vector
   pub above : pos 0 <ℤ cell vector dim
 
--- the lists are the canonical system of the rows that are valid on some encoded cone
-pub record AreRows (dim : ℕ) (lines rays : List Row) : Type 0 where
-  pub gens : List Row
-  pub rows : AreRowsOf dim gens lines rays
+-- lists with a column for each of some variables and the columns e and d: the lines and the rays are the canonical system of the rows that are valid on the first list, an encoded one
+pub record AreRowListsOf (gens lines rays : Rows) : Type 0 where
+  pub dim : ℕ
+  pub gens_width : gens.width ≡ dim + 2
+  pub lines_width : lines.width ≡ dim + 2
+  pub rays_width : rays.width ≡ dim + 2
+  pub rows : AreRowsOf dim gens.rows lines.rows rays.rows
 
--- the lists are the canonical system of some encoded cone
-pub record AreVectors (dim : ℕ) (lines rays : List Row) : Type 0 where
+-- such lists: the lines and the rays are the canonical system of the cone of the first list, an encoded one with a vector above 0 in column e
+pub record AreVectorListsOf (cons lines rays : Rows) : Type 0 where
+  pub dim : ℕ
+  pub cons_width : cons.width ≡ dim + 2
+  pub lines_width : lines.width ≡ dim + 2
+  pub rays_width : rays.width ≡ dim + 2
+  pub vectors : AreVectorsOf dim cons.rows lines.rows rays.rows
+
+-- such lists are the canonical system of the rows that are valid on some encoded cone
+pub record AreRowLists (lines rays : Rows) : Type 0 where
+  pub dim : ℕ
+  pub lines_width : lines.width ≡ dim + 2
+  pub rays_width : rays.width ≡ dim + 2
+  pub gens : List Row
+  pub rows : AreRowsOf dim gens lines.rows rays.rows
+
+-- such lists are the canonical system of some encoded cone
+pub record AreVectorLists (lines rays : Rows) : Type 0 where
+  pub dim : ℕ
+  pub lines_width : lines.width ≡ dim + 2
+  pub rays_width : rays.width ≡ dim + 2
   pub rows : List Row
-  pub vectors : AreVectorsOf dim rows lines rays
+  pub vectors : AreVectorsOf dim rows lines.rows rays.rows
+
+-- the constraints hold exactly at the points that the set codes
+abbrev pub HoldAtCoded : (List ℤ → Type 0) → Constraints → Type 0
+HoldAtCoded C cons = (p : List ℤ) → IsPoint cons.dim p → In cons p ↔ Codes cons.dim C p
+
+-- the generators span exactly the points that the set codes
+abbrev pub SpanCoded : (List ℤ → Type 0) → Generators → Type 0
+SpanCoded C gens = (v : List ℤ) → length v ≡ gens.dim + 1 → Span gens v ↔ Codes gens.dim C v
 
 -- decoded constraints hold exactly at the points that the cone codes
 abbrev pub DecodedRowsCode : Type 0

@@ -3,15 +3,13 @@ ghost use Rattle.std.specs.Prelude.{◌≡◌, ℕ, ◌+◌, ◌-◌, ◌^◌, �
 ghost use Rattle.row_core.specs.Vectors.{cell};
 ghost use Rattle.row_core.specs.Range.{AllInRange};
 ghost use Rattle.row_core.specs.Lists.{row_at, vectors, system_rows};
-ghost use Rattle.row_core.specs.Points.{IsPoint};
 ghost use Rattle.cone_laws.specs.Members.{ConeOf};
-ghost use Rattle.nnc_enc.specs.Encoding.{lowered, Codes};
+ghost use Rattle.nnc_enc.specs.Encoding.{lowered};
 ghost use Rattle.nnc_enc.specs.StrongRows.{IsAdmittedVector};
 ghost use Rattle.nnc_enc.specs.DecodedVectors.{kind_of, vector_kind, place_kind};
-ghost use Rattle.cons_sys.specs.Constraints.{In, Gains as ConGains};
+ghost use Rattle.cons_sys.specs.Constraints.{Gains as ConGains};
 ghost use Rattle.gens_sys.specs.Generators.{Gains as GenGains};
-ghost use Rattle.gens_sys.specs.Spans.{Span};
-ghost use Rattle.nnc_enc.specs.Results.{AreRows, AreVectors};
+ghost use Rattle.nnc_enc.specs.Results.{AreRowLists, AreVectorLists, HoldAtCoded, SpanCoded};
 ghost use Rattle.cons_sys.specs.declared.kind.ConKind.TheVariants.{Eq};
 ghost use Rattle.gens_sys.specs.declared.kind.GenKind.TheVariants.{Line};
 ghost use Rattle.nnc_enc.specs.Decoding.{con_kind, index_at, Grew, AreConstraintsOf, AreGeneratorsOf, AreKept, Rise, HaveVariables, AreDecodedRows, AreDecodedVectors, FitsKind, FitKinds};
@@ -21,6 +19,15 @@ use cons_sys::{ConKind, ConsSys};
 use gens_sys::{GenKind, GenPushErr, GensSys};
 use row_core::{Memory, RowList};
 use std::alloc::{AllocError, Global};
+
+/// The number of variables of an encoded list, which has two columns more.
+pub(crate) fn variables(list: &RowList) -> usize
+    requires { 2 ≤ list.now.width }
+    ensures columns { list.now.width ≡ result + 2 }
+    ensures narrow { result < 2 ^ 32 - 2 }
+{
+    list.width() - 2
+}
 
 /// A copy of the row without column e.
 pub(crate) fn lowered_row(alloc: Global, dim: usize, row: &[i128]) -> Result<Vec<i128>, AllocError>
@@ -182,21 +189,15 @@ fn decoded_rows(
 
 /// The constraints that a canonical system of valid rows stands for, in its order: they hold at the
 /// points that are coded by the vectors on which the lines are 0 and the rays at least 0.
-pub fn decode_cons(
-    alloc: Global,
-    dim: usize,
-    lines: &RowList,
-    rays: &RowList,
-) -> Result<ConsSys, Memory>
-    requires narrow { dim < 2 ^ 32 - 2 }
-    requires lines_width { lines.now.width ≡ dim + 2 }
-    requires rays_width { rays.now.width ≡ dim + 2 }
-    requires rows { AreRows dim lines.now.rows rays.now.rows }
-    ensures dim { IfOk result (λ cons. cons.dim ≡ dim) }
-    ensures list { IfOk result (λ cons. AreDecodedRows dim lines.now.rows rays.now.rows cons.list) }
-    ensures points { IfOk result (λ cons. (p : List ℤ) → IsPoint dim p → In cons p ↔ Codes dim (ConeOf (dim + 2) (system_rows (vectors lines.now.rows) (vectors rays.now.rows))) p) }
+pub fn decode_cons(alloc: Global, lines: &RowList, rays: &RowList) -> Result<ConsSys, Memory>
+    requires rows { AreRowLists lines.now rays.now }
+    ensures dim { IfOk result (λ cons. lines.now.width ≡ cons.dim + 2) }
+    ensures list { IfOk result (λ cons.
+        AreDecodedRows cons.dim lines.now.rows rays.now.rows cons.list) }
+    ensures points { let system = system_rows (vectors lines.now.rows) (vectors rays.now.rows) in
+        IfOk result (HoldAtCoded (ConeOf lines.now.width system)) }
 {
-    decoded_rows(alloc, dim, lines, rays)
+    decoded_rows(alloc, variables(lines), lines, rays)
 }
 
 /// Appends the generator of a vector.
@@ -334,19 +335,13 @@ fn decoded_vectors(
 
 /// The generators that a canonical system of vectors stands for, in its order: they span the points
 /// that are coded by what the lines and rays span.
-pub fn decode_gens(
-    alloc: Global,
-    dim: usize,
-    lines: &RowList,
-    rays: &RowList,
-) -> Result<GensSys, Memory>
-    requires narrow { dim < 2 ^ 32 - 2 }
-    requires lines_width { lines.now.width ≡ dim + 2 }
-    requires rays_width { rays.now.width ≡ dim + 2 }
-    requires vectors { AreVectors dim lines.now.rows rays.now.rows }
-    ensures dim { IfOk result (λ gens. gens.dim ≡ dim) }
-    ensures list { IfOk result (λ gens. AreDecodedVectors dim lines.now.rows rays.now.rows gens.list) }
-    ensures points { IfOk result (λ gens. (v : List ℤ) → length v ≡ dim + 1 → Span gens v ↔ Codes dim (IsAdmittedVector (dim + 2) (system_rows (vectors lines.now.rows) (vectors rays.now.rows))) v) }
+pub fn decode_gens(alloc: Global, lines: &RowList, rays: &RowList) -> Result<GensSys, Memory>
+    requires vectors { AreVectorLists lines.now rays.now }
+    ensures dim { IfOk result (λ gens. lines.now.width ≡ gens.dim + 2) }
+    ensures list { IfOk result (λ gens.
+        AreDecodedVectors gens.dim lines.now.rows rays.now.rows gens.list) }
+    ensures points { let system = system_rows (vectors lines.now.rows) (vectors rays.now.rows) in
+        IfOk result (SpanCoded (IsAdmittedVector lines.now.width system)) }
 {
-    decoded_vectors(alloc, dim, lines, rays)
+    decoded_vectors(alloc, variables(lines), lines, rays)
 }

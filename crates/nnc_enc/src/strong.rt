@@ -4,16 +4,13 @@ ghost use Rattle.std.specs.List.{Contains};
 ghost use Rattle.sat_matrix.specs.Tables.{bits_of};
 ghost use Rattle.row_core.specs.Lists.{row_at, vectors};
 ghost use Rattle.cone_laws.specs.Cones.{Upto};
-ghost use Rattle.row_core.specs.Points.{IsPoint};
-ghost use Rattle.cons_sys.specs.Constraints.{Constraint, In};
+ghost use Rattle.cons_sys.specs.Constraints.{Constraint};
 ghost use Rattle.gens_sys.specs.Generators.{Generator};
-ghost use Rattle.gens_sys.specs.Spans.{Span};
-ghost use Rattle.nnc_enc.specs.Encoding.{Codes};
 ghost use Rattle.nnc_enc.specs.Decoding.{AreDecodedRows, AreDecodedVectors, FitKinds};
 ghost use Rattle.nnc_enc.specs.Forms.{AreStoredConstraints, AreStoredGenerators};
 ghost use Rattle.nnc_enc.specs.Kept.{IsNeededConstraint};
 ghost use Rattle.nnc_enc.specs.NeededGenerators.{IsNeededGenerator};
-ghost use Rattle.nnc_enc.specs.Results.{AreRowsOf, AreVectorsOf};
+ghost use Rattle.nnc_enc.specs.Results.{AreRowListsOf, AreVectorListsOf, HoldAtCoded, SpanCoded};
 ghost use Rattle.nnc_enc.specs.StrongRows.{HasVariable, IsAdmittedVector};
 ghost use Rattle.sat_matrix.specs.ZeroTables.{IsZeroTable};
 ghost use Rattle.nnc_enc.specs.Marks.{flag};
@@ -21,7 +18,7 @@ ghost use Rattle.nnc_enc.specs.Passes.{IsClear};
 ghost use Rattle.nnc_enc.specs.Sorting.{AreStrongRows, AreStrongVectors};
 ghost use Rattle.nnc_enc.specs.Strong.{StaysAtFirst, AreFirstRows, AreFirstVectors, IsStrictPass, IsPointPass};
 
-use crate::decoding::{constraints_of, generators_of, kept};
+use crate::decoding::{constraints_of, generators_of, kept, variables};
 use crate::marks::{Mark, has_variable, marks};
 use crate::passes::{drop_covered, is_clear};
 use crate::sorting::ordered;
@@ -171,26 +168,27 @@ pub(crate) fn strong_rows(
 /// can be left out.
 pub fn strong_cons(
     alloc: Global,
-    dim: usize,
     lines: &RowList,
     rays: &RowList,
     gens: &RowList,
     sat: &SatMatrix,
 ) -> Result<ConsSys, Memory>
-    requires narrow { dim < 2 ^ 32 - 2 }
-    requires lines_width { lines.now.width ≡ dim + 2 }
-    requires rays_width { rays.now.width ≡ dim + 2 }
-    requires gens_width { gens.now.width ≡ dim + 2 }
-    requires rows { AreRowsOf dim gens.now.rows lines.now.rows rays.now.rows }
-    requires table { IsZeroTable gens.now.rows (length gens.now.rows) (vectors rays.now.rows) sat.now }
-    ensures dim { IfOk result (λ cons. cons.dim ≡ dim) }
-    ensures list { IfOk result (λ cons. AreStrongRows dim gens.now.rows lines.now.rows rays.now.rows cons.list) }
-    ensures points { IfOk result (λ cons. (p : List ℤ) → IsPoint dim p → In cons p ↔ Codes dim (IsAdmittedVector (dim + 2) gens.now.rows) p) }
-    ensures needed { IfOk result (λ cons. (i : ℕ) → i < length cons.list → IsNeededConstraint dim cons.list i) }
-    ensures part { IfOk result (λ cons. (decoded : List Constraint) → AreDecodedRows dim lines.now.rows rays.now.rows decoded → All (Contains decoded) cons.list) }
+    requires rows { AreRowListsOf gens.now lines.now rays.now }
+    requires table { IsZeroTable gens.now.rows (length gens.now.rows)
+        (vectors rays.now.rows) sat.now }
+    ensures dim { IfOk result (λ cons. lines.now.width ≡ cons.dim + 2) }
+    ensures list { IfOk result (λ cons.
+        AreStrongRows cons.dim gens.now.rows lines.now.rows rays.now.rows cons.list) }
+    ensures points { IfOk result (HoldAtCoded (IsAdmittedVector gens.now.width gens.now.rows)) }
+    ensures needed { IfOk result (λ cons.
+        (i : ℕ) → i < length cons.list → IsNeededConstraint cons.dim cons.list i) }
+    ensures part { IfOk result (λ cons.
+        (decoded : List Constraint) →
+        AreDecodedRows cons.dim lines.now.rows rays.now.rows decoded →
+        All (Contains decoded) cons.list) }
     ensures stored { IfOk result (λ cons. AreStoredConstraints (length lines.now.rows) cons.list) }
 {
-    strong_rows(alloc, dim, lines, rays, gens, sat)
+    strong_rows(alloc, variables(lines), lines, rays, gens, sat)
 }
 
 /// The generators of what a strong pass keeps, in order.
@@ -221,24 +219,26 @@ fn strong_vectors(
 /// be left out.
 pub fn strong_gens(
     alloc: Global,
-    dim: usize,
     lines: &RowList,
     rays: &RowList,
     cons: &RowList,
     sat: &SatMatrix,
 ) -> Result<GensSys, Memory>
-    requires narrow { dim < 2 ^ 32 - 2 }
-    requires lines_width { lines.now.width ≡ dim + 2 }
-    requires rays_width { rays.now.width ≡ dim + 2 }
-    requires cons_width { cons.now.width ≡ dim + 2 }
-    requires vectors { AreVectorsOf dim cons.now.rows lines.now.rows rays.now.rows }
-    requires table { IsZeroTable cons.now.rows (length cons.now.rows) (vectors rays.now.rows) sat.now }
-    ensures dim { IfOk result (λ gens. gens.dim ≡ dim) }
-    ensures list { IfOk result (λ gens. AreStrongVectors dim cons.now.rows lines.now.rows rays.now.rows gens.list) }
-    ensures points { IfOk result (λ gens. (v : List ℤ) → length v ≡ dim + 1 → Span gens v ↔ Codes dim (Upto (dim + 2) cons.now.rows (length cons.now.rows)) v) }
-    ensures needed { IfOk result (λ gens. (i : ℕ) → i < length gens.list → IsNeededGenerator dim gens i) }
-    ensures part { IfOk result (λ gens. (decoded : List Generator) → AreDecodedVectors dim lines.now.rows rays.now.rows decoded → All (Contains decoded) gens.list) }
+    requires vectors { AreVectorListsOf cons.now lines.now rays.now }
+    requires table { IsZeroTable cons.now.rows (length cons.now.rows)
+        (vectors rays.now.rows) sat.now }
+    ensures dim { IfOk result (λ gens. lines.now.width ≡ gens.dim + 2) }
+    ensures list { IfOk result (λ gens.
+        AreStrongVectors gens.dim cons.now.rows lines.now.rows rays.now.rows gens.list) }
+    ensures points { IfOk result (SpanCoded
+        (Upto cons.now.width cons.now.rows (length cons.now.rows))) }
+    ensures needed { IfOk result (λ gens.
+        (i : ℕ) → i < length gens.list → IsNeededGenerator gens.dim gens i) }
+    ensures part { IfOk result (λ gens.
+        (decoded : List Generator) →
+        AreDecodedVectors gens.dim lines.now.rows rays.now.rows decoded →
+        All (Contains decoded) gens.list) }
     ensures stored { IfOk result (λ gens. AreStoredGenerators (length lines.now.rows) gens.list) }
 {
-    strong_vectors(alloc, dim, lines, rays, cons, sat)
+    strong_vectors(alloc, variables(lines), lines, rays, cons, sat)
 }

@@ -6,10 +6,9 @@ use Rattle.row_core.specs.declared.errors.Overflow.{Overflow}
 use Rattle.row_core.specs.declared.errors.PairOver.{PairOver}
 use Rattle.cons_sys.specs.Constraints.{Constraints}
 use Rattle.gens_sys.specs.Generators.{Generators}
-use Rattle.chernikova.specs.Conversion.{IsRealOverflow}
 use Rattle.poly_pair.specs.Polyhedra.{Polyhedron}
-use Rattle.poly_pair.specs.TopologyLists.{list_width}
-use Rattle.lattice_ops.specs.Sets.{meet_list}
+use Rattle.poly_pair.specs.Work.{conv_overflow, IsFirstConversion}
+use Rattle.lattice_ops.specs.Sets.{meet_work}
 use Rattle.lattice_ops.specs.Questions.{Answers, LeavesRange}
 use Rattle.line_values.specs.declared.refusal.StepErr.{StepErr}
 use Rattle.line_values.specs.declared.refusal.StepErr.TheVariants as err
@@ -30,9 +29,9 @@ pub tested : (Answer : Result Bool PairOver → Type 0) (Statement : Type 0) (ho
 tested Answer Statement holds text answer true_of said = record { told = record { holds = holds; true_of = true_of; said = said }; tested = answer }
 
 -- the conversion of the list of both left the range
-pub disjoint_leaves : (p q : Polyhedron) (e : ConvErr) → Passes (alike p q no_fault) → IsRealOverflow (list_width p.topology p.cons.dim) (meet_list p q) e → IsPerformed (disjoint p q) (Err (refusal_of_conversion e))
-disjoint_leaves p q (conversion.Overflow over) passes leaves = (passes, leaves)
-disjoint_leaves p q conversion.Memory passes leaves = tt
+pub disjoint_leaves : (p q : Polyhedron) (old new : ℕ) (e : ConvErr) → Passes (alike p q no_fault) → IsFirstConversion (meet_work p q) old new (conv_overflow e) → IsPerformed (disjoint p q) (Err (refusal_of_conversion e))
+disjoint_leaves p q old new (conversion.Overflow over) passes converts = (passes, converts.overflow)
+disjoint_leaves p q old new conversion.Memory passes converts = tt
 
 -- the rows of a pair, by whose constraint and whose generator it has
 pub shows : (Answer : Result Bool PairOver → Type 0) (p q : Polyhedron) (pair : PairOver) (turned : Bool) (over : Overflow) → Answer (Err pair) → pair.turned ≡ turned → over ≡ shown_on turned p q pair → ShowsRows Answer p q over

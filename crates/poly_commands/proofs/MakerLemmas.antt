@@ -7,8 +7,9 @@ use Rattle.row_core.specs.declared.errors.ConvErr.TheVariants as conversion
 use Rattle.cons_sys.specs.Constraints.{Constraints}
 use Rattle.gens_sys.specs.Generators.{Generator, Generators}
 use Rattle.pair_laws.specs.WorkLists.{LeavesOn}
-use Rattle.poly_pair.specs.Polyhedra.{Polyhedron}
-use Rattle.poly_pair.specs.Additions.{with_constraints, with_generators}
+use Rattle.poly_pair.specs.Polyhedra.{Polyhedron, IsKept}
+use Rattle.poly_pair.specs.Additions.{with_constraints, with_generators, AddsNoPoint}
+use Rattle.poly_pair.proofs.AddedPoints.{lacks_added}
 use Rattle.poly_pair.specs.FirstLists.{LacksPoint}
 use Rattle.poly_pair.specs.TopologyLists.{list_width, constraints_of, generators_of}
 use Rattle.poly_pair.specs.Refusals.{IsOverflowOn, IsGenOverflowOn}
@@ -129,15 +130,15 @@ addgen_passes part p new law read has =
 abbrev generators_over : ℕ → List Generator → Generators
 generators_over dim list = record { dim = dim; list = list }
 
-pub addgen_made : (part : Part) (p : Polyhedron) (new : Generators) (r : Polyhedron) → GensHasOneAnswer → ReadsGenerators p.topology p.gens.dim part new → p.cons.dim ≡ p.gens.dim → (made r ≡ unmade generators.NoPoint) ↔ LacksPoint (p.gens.list ++ new.list) → IsResultOfGenerators p.topology (with_generators p new) r → IsPerformed (addgen part p) (Ok r)
-addgen_made part p new r law read e lacks is =
-    let has = made_has_point r (LacksPoint (p.gens.list ++ new.list)) lacks in
+pub addgen_made : (part : Part) (p : Polyhedron) (new : Generators) (r : Polyhedron) → GensHasOneAnswer → ReadsGenerators p.topology p.gens.dim part new → p.cons.dim ≡ p.gens.dim → IsKept p → (made r ≡ unmade generators.NoPoint) ↔ AddsNoPoint p new → IsResultOfGenerators p.topology (with_generators p new) r → IsPerformed (addgen part p) (Ok r)
+addgen_made part p new r law read e kept adds is =
+    let has : ¬ (LacksPoint (p.gens.list ++ new.list)) = λ (lacks : LacksPoint (p.gens.list ++ new.list)). made_has_point r (AddsNoPoint p new) adds ((lacks_added p new kept).0 lacks) in
     (addgen_passes part p new law read has, record { system = new; read = read.read; holds = subst (λ (dim : ℕ). IsResultOfGenerators p.topology (generators_over dim (p.gens.list ++ new.list)) r) e is })
 
-pub addgen_refuses : (part : Part) (p : Polyhedron) (new : Generators) (cause : GenErr) → GensHasOneAnswer → ReadsGenerators p.topology p.gens.dim part new → p.cons.dim ≡ p.gens.dim → (unmade cause ≡ unmade generators.NoPoint) ↔ LacksPoint (p.gens.list ++ new.list) → IsGenOverflowOn (list_width p.topology p.cons.dim) p.cons.dim (generators_of p.topology (with_generators p new)) cause → IsPerformed (addgen part p) (Err (refusal_of_generators cause))
-addgen_refuses part p new generators.NoPoint law read e lacks is =
-    refused_late (addgen part p).conditions NoPoint (addgen_early part p) read.faultless (inl (record { system = new; read = read.read; holds = lacks.0 refl }, refl))
-addgen_refuses part p new (generators.Overflow over) law read e lacks is =
-    let has : ¬ (LacksPoint (p.gens.list ++ new.list)) = λ (k : LacksPoint (p.gens.list ++ new.list)). let never : unmade (generators.Overflow over) ≡ unmade generators.NoPoint = lacks.1 k in cc in
+pub addgen_refuses : (part : Part) (p : Polyhedron) (new : Generators) (cause : GenErr) → GensHasOneAnswer → ReadsGenerators p.topology p.gens.dim part new → p.cons.dim ≡ p.gens.dim → IsKept p → (unmade cause ≡ unmade generators.NoPoint) ↔ AddsNoPoint p new → IsGenOverflowOn (list_width p.topology p.cons.dim) p.cons.dim (generators_of p.topology (with_generators p new)) cause → IsPerformed (addgen part p) (Err (refusal_of_generators cause))
+addgen_refuses part p new generators.NoPoint law read e kept adds is =
+    refused_late (addgen part p).conditions NoPoint (addgen_early part p) read.faultless (inl (record { system = new; read = read.read; holds = (lacks_added p new kept).1 (adds.0 refl) }, refl))
+addgen_refuses part p new (generators.Overflow over) law read e kept adds is =
+    let has : ¬ (LacksPoint (p.gens.list ++ new.list)) = λ (k : LacksPoint (p.gens.list ++ new.list)). let never : unmade (generators.Overflow over) ≡ unmade generators.NoPoint = adds.1 ((lacks_added p new kept).0 k) in cc in
     (addgen_passes part p new law read has, record { system = new; read = read.read; holds = subst (λ (dim : ℕ). LeavesOnGenerators p.topology (generators_over dim (p.gens.list ++ new.list)) over) e is })
-addgen_refuses part p new generators.Memory law read e lacks is = tt
+addgen_refuses part p new generators.Memory law read e kept adds is = tt

@@ -167,7 +167,7 @@ pub fn add<L: Ledger>(
         Ok(more) => more,
         Err(cause) => return Err(cause),
     };
-    match p.add_cons(alloc, &more, steps) {
+    match p.add_cons(&more, steps) {
         Ok(made) => Ok(made),
         Err(cause) => Err(StepErr::from(cause)),
     }
@@ -193,7 +193,7 @@ pub fn addgen<L: Ledger>(
         Ok(more) => more,
         Err(cause) => return Err(cause),
     };
-    match p.add_gens(alloc, &more, steps) {
+    match p.add_gens(&more, steps) {
         Ok(made) => Ok(made),
         Err(cause) => Err(StepErr::from(cause)),
     }

@@ -18,8 +18,10 @@ mod StartSystems
 mod NeededDivisor
 mod Starts
 mod Additions
+pub mod AddedPoints
 mod SameSets
 mod GeneratorRefusals
+pub mod WorkLemmas
 pub mod BothSystems
 pub mod SpanningSystems
 pub mod PairedSystems

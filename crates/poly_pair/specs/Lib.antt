@@ -15,3 +15,4 @@ pub mod Zeros
 pub mod Additions
 pub mod Spanning
 pub mod OtherSystems
+pub mod Work

@@ -24,7 +24,7 @@ use crate::poly::Poly;
 use crate::starting::cone_of_generators;
 use crate::systems::{Systems, systems_from};
 use crate::topology::{MAX_DIM, Topology};
-use chernikova::{Cone, add_rows};
+use chernikova::{Cone, add_rows_from};
 use cons_sys::ConsSys;
 use gens_sys::GensSys;
 use row_core::{ConvErr, RowList, Steps};
@@ -49,7 +49,7 @@ fn systems_of_start<L: Ledger>(
     ensures overflow { IfErr result (IsOverflowOn width column list.now.rows) }
     ensures no_fewer { steps.old ≤ steps.new }
 {
-    let added = add_rows(alloc, start, list, list.len(), steps)?;
+    let added = add_rows_from(alloc, start, list, list.len(), steps)?;
     systems_from(alloc, width, column, list, added.cone, steps)
 }
 

@@ -1,11 +1,9 @@
 -- A row that is changed in place.
-use Rattle.std.proofs.Common.{◌≡◌, ℕ, ◌+◌, ◌*◌, ◌<◌, ◌≤◌, Bool, false, List, ◌++◌, length, take, drop, set, sym, ap, subst, ◌∙◌, arith, ℤ}
+use Rattle.std.proofs.Common.{◌≡◌, ℕ, ◌+◌, ◌*◌, ◌<◌, ◌≤◌, List, ◌++◌, length, take, drop, set, sym, ap, subst, ◌∙◌, arith, ℤ}
 use Rattle.std.specs.Prelude.{All, Result, Ok, Err, OnOk, OnErr, MatchResult, max}
-use Rattle.std.proofs.lemmas.Bool.{false≢true}
 use Rattle.std.proofs.lemmas.List.Elements.{All-append, All-take, All-drop}
 use borrow.Rule.Slice.PartMut.{put_mid}
 use Rattle.row_core.specs.Range.{InRange, AllInRange}
-use Rattle.row_core.specs.Narrow.{AllNarrow}
 use Rattle.row_core.specs.Flat.{Flat, rows_of, AreCells, with_cells, window}
 use Rattle.row_store.specs.Stores.{IsKept, IsPartChanged, IsRowChanged}
 use Rattle.row_core.proofs.Flat.{row_end, rows_of-with_window, row_of_cells, with_cells_is, All-rows_of}
@@ -50,24 +48,16 @@ row_changed Related i cells new old are in_i long h =
 
 -- ---- what is kept
 -- other cells of the range
-pub kept_cells : (flag : Bool) (cells new : List ℤ) (t : Flat ℤ) → AreCells t cells → length new ≡ length cells → AllInRange new → IsKept flag t → IsKept false (with_cells t new)
-kept_cells flag cells new t are long all kept =
+pub kept_cells : (cells new : List ℤ) (t : Flat ℤ) → AreCells t cells → length new ≡ length cells → AllInRange new → IsKept t → IsKept (with_cells t new)
+kept_cells cells new t are long all kept =
     let rows = with_cells_is t cells new are.same long in
-    subst (IsKept false) (sym rows) (record {
-      narrow = kept.narrow;
-      in_range = All-rows_of InRange t.width (length t.rows) new all;
-      all_narrow = λ f. absurd (false≢true f);
-    })
+    subst IsKept (sym rows) (record { narrow = kept.narrow; in_range = All-rows_of InRange t.width (length t.rows) new all })
 
 -- other rows, of which what holds of the old ones holds
-pub kept_among : (flag : Bool) (t u : Flat ℤ) → u.width ≡ t.width → ((P : List ℤ → Type 0) → All P t.rows → All P u.rows) → IsKept flag t → IsKept flag u
-kept_among flag t u width among kept = record {
-  narrow = omega (arith, width, kept.narrow);
-  in_range = among AllInRange kept.in_range;
-  all_narrow = λ f. among AllNarrow (kept.all_narrow f);
-}
+pub kept_among : (t u : Flat ℤ) → u.width ≡ t.width → ((P : List ℤ → Type 0) → All P t.rows → All P u.rows) → IsKept t → IsKept u
+kept_among t u width among kept = record { narrow = omega (arith, width, kept.narrow); in_range = among AllInRange kept.in_range }
 
 -- more room
-pub kept_reserved : {A E : Type 0} (flag : Bool) (n : ℕ) (t u : Flat ℤ) (r : Result A E) → OnOk r (u ≡ record t { spare = max t.spare n }) → OnErr r (u ≡ t) → IsKept flag t → IsKept flag u
-kept_reserved flag n t u (Ok x) ok err kept = kept_among flag t u (ap (λ (v : Flat ℤ). v.width) ok) (λ P all. subst (All P) (sym (ap (λ (v : Flat ℤ). v.rows) ok)) all) kept
-kept_reserved flag n t u (Err x) ok err kept = subst (IsKept flag) (sym err) kept
+pub kept_reserved : {A E : Type 0} (n : ℕ) (t u : Flat ℤ) (r : Result A E) → OnOk r (u ≡ record t { spare = max t.spare n }) → OnErr r (u ≡ t) → IsKept t → IsKept u
+kept_reserved n t u (Ok x) ok err kept = kept_among t u (ap (λ (v : Flat ℤ). v.width) ok) (λ P all. subst (All P) (sym (ap (λ (v : Flat ℤ). v.rows) ok)) all) kept
+kept_reserved n t u (Err x) ok err kept = subst IsKept (sym err) kept

@@ -9,6 +9,7 @@ use Rattle.row_core.specs.Vectors.{scale, add}
 use Rattle.row_core.specs.Range.{CombineStays, IsFirstToLeave, AllStay}
 use Rattle.row_core.specs.Flat.{Flat, entries_at, rows_of, AreCells, with_cells, window, with_window}
 use Rattle.row_core.proofs.CellLemmas.{length-scale, length-add}
+use Rattle.row_store.specs.Stores.{IsCombinedWith, IsRefusedAt}
 use Rattle.row_core.proofs.Flat.{row_end, length_row, length-window, row_of_cells, rows_of-with_window, with_cells_is}
 
 -- ---- a row written over a part
@@ -87,14 +88,8 @@ pub rows_apart : (w i j : ℕ) → i ≢ j → (i * w + w ≤ j * w) ⊎ (j * w 
 rows_apart w i j other = elim (cases_lt i j) [ inl less ↦ inl (row_end w j i less) | inr more ↦ inr (row_end w i j (omega arith)) ]
 
 -- the outcome on the buffer, as an outcome on the rows
-abbrev pub IsCombinedRow : (s t : ℤ) (i j : ℕ) (old new : Flat ℤ) → Type 0
-IsCombinedRow s t i j old new = (new ≡ record old { rows = set old.rows i (add (scale s (entries_at old.rows i)) (scale t (entries_at old.rows j))) }) × AllStay (CombineStays (entries_at old.rows i) s (entries_at old.rows j) t) old.width
-
-abbrev pub IsRowLeft : (s t : ℤ) (i j : ℕ) (old new : Flat ℤ) (c : ℕ) → Type 0
-IsRowLeft s t i j old new c = (new ≡ old) × IsFirstToLeave (CombineStays (entries_at old.rows i) s (entries_at old.rows j) t) old.width c
-
 pub row_combined : (i j : ℕ) (s t : ℤ) (cells new : List ℤ) (old : Flat ℤ) → AreCells old cells → i < length old.rows → j < length old.rows → length new ≡ length cells
-    → IsCombinedPart (i * old.width) old.width s (window (j * old.width) old.width cells) t cells new → IsCombinedRow s t i j old (with_cells old new)
+    → IsCombinedPart (i * old.width) old.width s (window (j * old.width) old.width cells) t cells new → IsCombinedWith s t i (entries_at old.rows j) old (with_cells old new)
 row_combined i j s t cells new old are in_i in_j long h =
     let w : ℕ = old.width in
     let n : ℕ = length old.rows in
@@ -115,7 +110,7 @@ row_combined i j s t cells new old are in_i in_j long h =
     )
 
 pub row_left : (i j : ℕ) (s t : ℤ) (cells new : List ℤ) (old : Flat ℤ) (c : ℕ) → AreCells old cells → i < length old.rows → j < length old.rows
-    → IsPartLeft (i * old.width) old.width s (window (j * old.width) old.width cells) t cells new c → IsRowLeft s t i j old (with_cells old new) c
+    → IsPartLeft (i * old.width) old.width s (window (j * old.width) old.width cells) t cells new c → IsRefusedAt s t i (entries_at old.rows j) old (with_cells old new) c
 row_left i j s t cells new old c are in_i in_j h =
     let w : ℕ = old.width in
     let n : ℕ = length old.rows in
@@ -124,4 +119,33 @@ row_left i j s t cells new old c are in_i in_j h =
     let at_j : window (j * w) w cells ≡ entries_at old.rows j = row_of_cells old cells j are in_j in (
       with_cells_is old cells new are.same (ap length h.0) ∙ ap make (ap (λ (cs : List ℤ). rows_of w n cs) h.0 ∙ are.rows),
       subst (λ (r : List ℤ). IsFirstToLeave (CombineStays r s (entries_at old.rows j) t) w c) at_i (subst (λ (r : List ℤ). IsFirstToLeave (CombineStays (window (i * w) w cells) s r t) w c) at_j h.1),
+    )
+
+-- ---- one row of all, with a row from elsewhere
+pub combined_with : (i : ℕ) (v : List ℤ) (s t : ℤ) (cells new : List ℤ) (old : Flat ℤ) → AreCells old cells → i < length old.rows → length v ≡ old.width → length new ≡ length cells
+    → IsCombinedPart (i * old.width) old.width s v t cells new → IsCombinedWith s t i v old (with_cells old new)
+combined_with i v s t cells new old are in_i length_v long h =
+    let w : ℕ = old.width in
+    let n : ℕ = length old.rows in
+    let u : List ℤ = window (i * w) w cells in
+    let length_u : length u ≡ w = length_row w n i cells in_i are.taken in
+    let one : length (add (scale s u) (scale t v)) ≡ w = length-add (scale s u) (scale t v) (length-scale s u ∙ length_u ∙ sym (length-scale t v ∙ length_v)) ∙ length-scale t v ∙ length_v in
+    let make : List (List ℤ) → Flat ℤ = λ rs. record old { rows = rs } in
+    let at_i : u ≡ entries_at old.rows i = row_of_cells old cells i are in_i in (
+      with_cells_is old cells new are.same long
+          ∙ ap make (ap (λ (cs : List ℤ). rows_of w n cs) h.0 ∙ rows_of-with_window w n i cells (add (scale s u) (scale t v)) in_i are.taken one
+          ∙ ap (λ (rs : List (List ℤ)). set rs i (add (scale s u) (scale t v))) are.rows
+          ∙ ap (λ (r : List ℤ). set old.rows i (add (scale s r) (scale t v))) at_i),
+      λ c l. subst (λ (r : List ℤ). CombineStays r s v t c) at_i (h.1 c l),
+    )
+
+pub left_with : (i : ℕ) (v : List ℤ) (s t : ℤ) (cells new : List ℤ) (old : Flat ℤ) (c : ℕ) → AreCells old cells → i < length old.rows
+    → IsPartLeft (i * old.width) old.width s v t cells new c → IsRefusedAt s t i v old (with_cells old new) c
+left_with i v s t cells new old c are in_i h =
+    let w : ℕ = old.width in
+    let n : ℕ = length old.rows in
+    let make : List (List ℤ) → Flat ℤ = λ rs. record old { rows = rs } in
+    let at_i : window (i * w) w cells ≡ entries_at old.rows i = row_of_cells old cells i are in_i in (
+      with_cells_is old cells new are.same (ap length h.0) ∙ ap make (ap (λ (cs : List ℤ). rows_of w n cs) h.0 ∙ are.rows),
+      subst (λ (r : List ℤ). IsFirstToLeave (CombineStays r s v t) w c) at_i h.1,
     )

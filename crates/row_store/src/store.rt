@@ -1,22 +1,20 @@
 //! The rows.
-ghost use Rattle.std.specs.Prelude.{◌≡◌, ◌≢◌, ◌↔◌, ℕ, ◌+◌, ◌^◌, ◌<◌, ◌≤◌, List, [], ◌∷◌, ◌++◌, length, max, take, ℤ, slice_set, OnOk, OnErr, MatchResult, IsTrue};
-ghost use Rattle.row_core.specs.Vectors.{scale, add};
+ghost use Rattle.std.specs.Prelude.{◌≡◌, ◌≢◌, ◌↔◌, ℕ, ◌+◌, ◌^◌, ◌<◌, ◌≤◌, List, [], ◌∷◌, ◌++◌, length, max, take, ℤ, OnOk, OnErr, MatchResult, IsTrue};
 ghost use Rattle.row_core.specs.Content.{IsPrimitiveOf};
-ghost use Rattle.row_core.specs.Range.{AllInRange, CombineStays, IsFirstToLeave, AllStay};
+ghost use Rattle.row_core.specs.Range.{AllInRange};
 ghost use Rattle.row_core.specs.Narrow.{AllNarrow};
-ghost use Rattle.row_core.specs.Flat.{Flat, entries_at, marked};
-ghost use Rattle.row_store.specs.Stores.{IsKept, IsNegated, IsRowChanged};
+ghost use Rattle.row_core.specs.Flat.{Flat, entries_at, marked, HasOneWidth};
+ghost use Rattle.row_store.specs.Stores.{IsKept, IsNegated, IsCombinedWith, IsRefusedAt, IsRowChanged};
 
-use crate::windows::{combine_parts, make_part_primitive, negate_part};
+use crate::windows::{combine_part, combine_parts, make_part_primitive, negate_part};
 use row_core::{FlatRows, Memory, Steps, all_narrow};
 use std::alloc::Global;
 use std::marker::Model;
 use std::sync::ledger::Ledger;
 
-/// Rows of one width in one buffer, and a flag, which is set only while all their numbers are narrow.
+/// Rows of one width in one buffer.
 #[derive(Debug, Drop)]
 pub struct RowStore {
-    narrow: bool,
     rows: FlatRows<i128>,
 }
 
@@ -25,7 +23,7 @@ impl Model for RowStore {
 
     ghost view = { λ m. m.rows };
 
-    ghost invariant = { λ m. IsKept m.narrow m.rows };
+    ghost invariant = { λ m. IsKept m.rows };
 }
 
 impl RowStore {
@@ -37,7 +35,6 @@ impl RowStore {
         ensures spare { result.spare ≡ 0 }
     {
         RowStore {
-            narrow: true,
             rows: FlatRows::new(alloc, width),
         }
     }
@@ -47,6 +44,7 @@ impl RowStore {
     pub fn width(&self) -> usize
         ensures value { result ≡ self.now.width }
         ensures narrow { self.now.width < 2 ^ 32 }
+        ensures rectangular { HasOneWidth self.now }
     {
         self.rows.width()
     }
@@ -59,14 +57,10 @@ impl RowStore {
         self.rows.len()
     }
 
-    /// Whether all numbers are narrow. They are looked at where the flag isn't set.
-    #[inline]
+    /// Whether all numbers are narrow.
     pub fn is_narrow(&self) -> bool
         ensures { IsTrue result ↔ ((i : ℕ) → i < length self.now.rows → AllNarrow (entries_at self.now.rows i)) }
     {
-        if self.narrow {
-            return true;
-        }
         all_narrow(self.rows.cells())
     }
 
@@ -87,7 +81,6 @@ impl RowStore {
         ensures rows { self.new.rows ≡ self.old.rows ++ row.now ∷ [] }
         ensures spare { self.new.spare + 1 ≡ self.old.spare }
     {
-        self.narrow = self.narrow && all_narrow(row);
         self.rows.push(row);
     }
 
@@ -130,12 +123,36 @@ impl RowStore {
         requires second { j < length self.old.rows }
         requires other { i ≢ j }
         ensures counted { steps.new ≡ steps.old + 1 }
-        ensures combined { MatchResult result (λ _. (self.new ≡ record self.old { rows = slice_set self.old.rows i (add (scale s (entries_at self.old.rows i)) (scale t (entries_at self.old.rows j))) }) × AllStay (CombineStays (entries_at self.old.rows i) s (entries_at self.old.rows j) t) self.old.width) (λ c. (self.new ≡ self.old) × IsFirstToLeave (CombineStays (entries_at self.old.rows i) s (entries_at self.old.rows j) t) self.old.width c) }
+        ensures combined { let other = entries_at self.old.rows j in
+            MatchResult result (λ _. IsCombinedWith s t i other self.old self.new)
+            (IsRefusedAt s t i other self.old self.new) }
     {
         let width = self.rows.width();
         let (to, from) = (i * width, j * width);
-        self.narrow = false;
         combine_parts(self.rows.cells_mut(), width, to, s, from, t, steps)
+    }
+
+    /// Writes `s * row i + t * v` over row `i`, and counts one combination.
+    ///
+    /// # Errors
+    ///
+    /// The first column at which a product or the sum leaves the range. The rows are then as before.
+    pub fn combine_with<L: Ledger>(
+        &mut self,
+        i: usize,
+        s: i128,
+        v: &[i128],
+        t: i128,
+        steps: &mut Steps<L>,
+    ) -> Result<(), u32>
+        requires row { i < length self.old.rows }
+        requires wide { length v.now ≡ self.old.width }
+        ensures counted { steps.new ≡ steps.old + 1 }
+        ensures combined { MatchResult result (λ _. IsCombinedWith s t i v.now self.old self.new)
+            (IsRefusedAt s t i v.now self.old self.new) }
+    {
+        let width = self.rows.width();
+        combine_part(self.rows.cells_mut(), i * width, width, s, v, t, steps)
     }
 
     /// Divides row `i` by the greatest common divisor of its entries. It keeps all signs, and leaves
@@ -145,7 +162,6 @@ impl RowStore {
         ensures { IsRowChanged IsPrimitiveOf i self.old self.new }
     {
         let width = self.rows.width();
-        self.narrow = false;
         make_part_primitive(self.rows.cells_mut(), i * width, width);
     }
 
@@ -155,7 +171,6 @@ impl RowStore {
         ensures { IsRowChanged IsNegated i self.old self.new }
     {
         let width = self.rows.width();
-        self.narrow = false;
         negate_part(self.rows.cells_mut(), i * width, width);
     }
 

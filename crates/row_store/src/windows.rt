@@ -30,7 +30,7 @@ pub(crate) fn negate_part(cells: &mut [i128], at: usize, width: usize)
 }
 
 /// Combines the part of `width` cells from `at` on with a row.
-fn combine_part<L: Ledger>(
+pub(crate) fn combine_part<L: Ledger>(
     cells: &mut [i128],
     at: usize,
     width: usize,

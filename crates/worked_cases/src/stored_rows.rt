@@ -78,6 +78,47 @@ fn rows_are_combined(rt: HostRuntime) -> Result<(), Fail> {
     Ok(())
 }
 
+fn check_combination_with<L: Ledger>(rt: &impl Abort, store: RowStore, blank: Blank)
+    requires rows { length store.rows ≡ 2 }
+    requires width { store.width ≡ 2 }
+    requires name { blank.name ≡ L.name }
+    requires parts { blank.parts ≡ L.parts }
+    requires shared { 0 < blank.parts }
+{
+    let mut store = store;
+    let mut steps = Steps::<L>::new(blank);
+    assert_eq!(rt; store.combine_with(0, 1, &[K, 0], 1, &mut steps), Err(0));
+    assert_eq!(rt; store.len(), 2);
+    assert_eq!(rt;
+        store.row(0),
+        [2, 4].as_slice(),
+        "a refused combination writes nothing"
+    );
+    assert_eq!(rt; store.combine_with(0, 3, &[-1, 2], 2, &mut steps), Ok(()));
+    assert_eq!(rt; store.len(), 2);
+    assert_eq!(rt; store.row(0), [4, 16].as_slice());
+    assert_eq!(rt; store.row(1), [-3, 5].as_slice());
+}
+
+#[test]
+fn a_row_is_combined_with_another_slice(rt: HostRuntime) -> Result<(), Fail> {
+    let store = two_rows(rt.alloc())?;
+    check_combination_with::<Brand>(&rt, store, Blank::new(1));
+    Ok(())
+}
+
+#[test]
+fn narrow_numbers_are_told(rt: HostRuntime) -> Result<(), Fail> {
+    let mut store = two_rows(rt.alloc())?;
+    assert_eq!(rt; store.is_narrow(), true);
+    store.push_reserved(&[K, 0]);
+    assert_eq!(rt; store.is_narrow(), false);
+    assert_eq!(rt; store.len(), 3);
+    store.keep_rows(&[true, true, false]);
+    assert_eq!(rt; store.is_narrow(), true);
+    Ok(())
+}
+
 #[test]
 fn marked_rows_are_kept(rt: HostRuntime) -> Result<(), Fail> {
     let mut store = two_rows(rt.alloc())?;

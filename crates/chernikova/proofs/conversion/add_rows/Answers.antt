@@ -1,27 +1,76 @@
-use Rattle.std.proofs.Common.{sym, subst, ◌∙◌, arith}
-use Rattle.chernikova.specs.declared.system.System.{System}
-use Rattle.chernikova.specs.Conversion.{IsState}
-use Rattle.chernikova.proofs.VectorLemmas.{length-vectors}
+use Rattle.std.specs.Prelude.{refl, ◌≡◌, ◌-◌, ◌^◌, ◌<◌, ◌≤◌, ◌++◌, ℕ, List, length}
+use Rattle.std.proofs.Common.{subst, arith, ◌∙◌, sym, length-append}
+use Rattle.std.proofs.lemmas.Result.{err_from_is_err_and}
+use Rattle.row_core.specs.Lists.{Row}
+use Rattle.chernikova.specs.Conversion.{IsState, IsConverted, IsCountedBetween, IsCountedBeforeFrom, IsRealOverflowFrom}
+use Rattle.chernikova.proofs.Prefixes.{front_state, state_moved}
 use Rattle.chernikova.proofs.Counts.{counted_start_from}
+use Rattle.chernikova.proofs.VectorLemmas.{length-vectors}
 use Rattle.chernikova.proofs.Rankings.{rearranged_canon, rearranged_zeros, rearranged_lists}
 use Rattle.chernikova.proofs.conversion.add_rows.Goals as goal
 
-pub returns-in_err-system-clause-counted : goal.returns-in_err-system-clause-counted
-returns-in_err-system-clause-counted g c = counted_start_from c.args.rows.now.width c.args.rows.now.rows c.args.from _ c.requires.from (omega arith)
+-- what holds of a list, of the list that it is, from the index that it is
+moved : (P : ℕ → List Row → ℕ → Type 0) (w width : ℕ) (rs rows : List Row) (n from : ℕ) → w ≡ width → rs ≡ rows → n ≡ from → P w rs n → P width rows from
+moved P w width rs rows n from e f g h = subst (λ (k : ℕ). P width rows k) g (subst (λ (xs : List Row). P width xs n) f (subst (λ (m : ℕ). P m rs n) e h))
+
+-- the rows that were taken are no more than all
+front_fewer : (taken more : List Row) → length taken ≤ length (taken ++ more)
+front_fewer taken more = omega (arith, length-append taken more)
+
+pub take_rows-requires-clause-from : goal.take_rows-requires-clause-from
+take_rows-requires-clause-from g c =
+    subst (λ (xs : List Row). c.len-from.result ≤ length xs) (sym c.in_ok-rows.ensures.rows)
+    (subst (λ (k : ℕ). k ≤ length (c.args.taken.now.rows ++ c.args.more.now.rows)) (sym c.len-from.ensures) (front_fewer c.args.taken.now.rows c.args.more.now.rows))
 
 pub take_rows-requires-clause-state : goal.take_rows-requires-clause-state
 take_rows-requires-clause-state g c =
-    subst (λ (s : System). IsState c.args.rows.now.width c.args.rows.now.rows c.args.from s) (sym c.in_ok-system.ensures)
-    (record { narrow = c.width-narrow.ensures.narrow; lists = c.requires.lists; system = c.requires.system; zeros = c.requires.sat })
+    let taken = c.args.taken.now in
+    let rows = c.in_ok-rows.rows in
+    let narrow : taken.width < 2 ^ 32 = subst (λ (n : ℕ). n < 2 ^ 32) c.in_ok-rows.ensures.width c.width-narrow.ensures.narrow in
+    state_moved taken.width rows.width (taken.rows ++ c.args.more.now.rows) rows.rows (length taken.rows) c.len-from.result c.in_ok-system.system c.in_ok-system.system (sym c.in_ok-rows.ensures.width) (sym c.in_ok-rows.ensures.rows) (sym c.len-from.ensures) refl
+    (front_state taken.width taken.rows c.args.more.now.rows c.args.cone.now c.in_ok-system.system narrow c.requires.cone c.in_ok-system.ensures)
 
 pub sorted-requires-clause-as_many : goal.sorted-requires-clause-as_many
-sorted-requires-clause-as_many g c = c.in_ok-changed.ensures.state.zeros.each.as_many ∙ length-vectors c.take_rows.new.cone.rays.rows
+sorted-requires-clause-as_many g c = c.in_ok-take_rows.ensures.state.zeros.each.as_many ∙ length-vectors c.take_rows.new.cone.rays.rows
 
-pub returns-clause-canon : goal.returns-clause-canon
-returns-clause-canon g c = rearranged_canon _ _ _ c.take_rows.new.cone c.in_ok-cone.cone c.in_ok-changed.ensures.state c.in_ok-cone.ensures
+pub returns-in_err-rows-clause-counted : goal.returns-in_err-rows-clause-counted
+returns-in_err-rows-clause-counted g c = counted_start_from c.args.taken.now.width (c.args.taken.now.rows ++ c.args.more.now.rows) (length c.args.taken.now.rows) _ (front_fewer c.args.taken.now.rows c.args.more.now.rows) (omega arith)
 
-pub returns-clause-lists : goal.returns-clause-lists
-returns-clause-lists g c = rearranged_lists _ _ _ c.take_rows.new.cone c.in_ok-cone.cone c.in_ok-changed.ensures.state c.in_ok-cone.ensures
+pub returns-in_err-system-clause-counted : goal.returns-in_err-system-clause-counted
+returns-in_err-system-clause-counted g c = counted_start_from c.args.taken.now.width (c.args.taken.now.rows ++ c.args.more.now.rows) (length c.args.taken.now.rows) _ (front_fewer c.args.taken.now.rows c.args.more.now.rows) (omega arith)
 
-pub returns-clause-sat : goal.returns-clause-sat
-returns-clause-sat g c = rearranged_zeros _ _ _ c.take_rows.new.cone c.in_ok-cone.cone c.in_ok-changed.ensures.state c.in_ok-cone.ensures
+pub returns-in_err-take_rows-clause-overflow : goal.returns-in_err-take_rows-clause-overflow
+returns-in_err-take_rows-clause-overflow g c =
+    let error = c.in_err-take_rows.field-0.0 in
+    let p = err_from_is_err_and c.from_residual-in_err-take_rows.result c.from_residual-in_err-take_rows.ensures.1 in
+    rw (p.1, p.2) (moved (λ n xs k. IsRealOverflowFrom n xs k error) _ _ _ _ _ _ c.in_ok-rows.ensures.width c.in_ok-rows.ensures.rows c.len-from.ensures c.in_err-take_rows.ensures.overflow)
+
+pub returns-in_err-take_rows-clause-counted : goal.returns-in_err-take_rows-clause-counted
+returns-in_err-take_rows-clause-counted g c =
+    let total = c.take_rows.new.steps - c.args.steps.now in
+    moved (λ n xs k. IsCountedBetween n xs k (length xs) total) _ _ _ _ _ _ c.in_ok-rows.ensures.width c.in_ok-rows.ensures.rows c.len-from.ensures c.take_rows.ensures.counted
+
+pub returns-in_err-take_rows-clause-counted_before : goal.returns-in_err-take_rows-clause-counted_before
+returns-in_err-take_rows-clause-counted_before g c =
+    let error = c.in_err-take_rows.field-0.0 in
+    let total = c.take_rows.new.steps - c.args.steps.now in
+    let p = err_from_is_err_and c.from_residual-in_err-take_rows.result c.from_residual-in_err-take_rows.ensures.1 in
+    rw (p.1, p.2) (moved (λ n xs k. IsCountedBeforeFrom n xs k total error) _ _ _ _ _ _ c.in_ok-rows.ensures.width c.in_ok-rows.ensures.rows c.len-from.ensures c.in_err-take_rows.ensures.counted_before)
+
+pub returns-clause-cone : goal.returns-clause-cone
+returns-clause-cone g c =
+    let rows = c.in_ok-rows.rows in
+    let cone = c.in_ok-sorted.field-0 in
+    let system = c.take_rows.new.cone in
+    let state : IsState rows.width rows.rows (length rows.rows) system = c.in_ok-take_rows.ensures.state in
+    moved (λ n xs k. IsConverted n xs cone) _ _ _ _ _ _ c.in_ok-rows.ensures.width c.in_ok-rows.ensures.rows c.len-from.ensures
+    (record {
+      canon = rearranged_canon rows.width rows.rows (length rows.rows) system cone state c.in_ok-sorted.ensures;
+      lists = rearranged_lists rows.width rows.rows (length rows.rows) system cone state c.in_ok-sorted.ensures;
+      sat = rearranged_zeros rows.width rows.rows (length rows.rows) system cone state c.in_ok-sorted.ensures;
+    })
+
+pub returns-clause-counted : goal.returns-clause-counted
+returns-clause-counted g c =
+    let total = c.take_rows.new.steps - c.args.steps.now in
+    moved (λ n xs k. IsCountedBetween n xs k (length xs) total) _ _ _ _ _ _ c.in_ok-rows.ensures.width c.in_ok-rows.ensures.rows c.len-from.ensures c.take_rows.ensures.counted

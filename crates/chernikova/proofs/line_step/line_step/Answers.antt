@@ -29,50 +29,50 @@ passed_in_range values index below h = subst InRange (sym (to_z-of_z w128 _ (fit
 passed_nonzero : (values : List ℤ) (index : ℕ) → index < length values → All InRange values → value_at values index ≢ pos 0 → to_z w128 (of_z w128 (get_or values index (pos 0))) ≢ pos 0
 passed_nonzero values index below h nonzero = λ e. nonzero (sym (to_z-of_z w128 _ (fits_at values index below h)) ∙ e)
 
-pub returns-in_err-rays-clause-change : goal.returns-in_err-rays-clause-change
-returns-in_err-rays-clause-change g c =
+pub returns-in_err-lower_rays-clause-change : goal.returns-in_err-lower_rays-clause-change
+returns-in_err-lower_rays-clause-change g c =
     let lines = c.args.cone.now.lines.rows in
     let rays = c.args.cone.now.rays.rows in
     let value_fits = fits_at c.args.line_values.now c.args.index (omega (arith, c.requires.crossing.0, c.requires.as_many.0)) c.requires.in_range.0 in
-    let p = err_from_is_err_and c.from_residual-in_err-rays.result c.from_residual-in_err-rays.ensures.1 in
+    let p = err_from_is_err_and c.from_residual-in_err-lower_rays.result c.from_residual-in_err-lower_rays.ensures.1 in
     let line : c.row.result.now ≡ vector_at (vectors lines) c.args.index = c.row.ensures.value ∙ sym (vector_at-vectors lines c.args.index) in
-    let P : List ℤ → Type 0 = λ w. IsLowerFault (value_at c.args.line_values.now c.args.index) c.args.index w Rays 0 (length rays) c.args.ray_values.now (vectors rays) c.in_err-rays.field-0.0 in
-    rw (p.1, p.2) (line_fault_from_ray c.args.index c.args.line_values.now c.args.ray_values.now (vectors lines) (vectors rays) (length rays) c.in_err-rays.field-0.0 (sym (length-vectors rays)) (subst P line (simp to_z-of_z at c.in_err-rays.ensures.lowered)))
+    let P : List ℤ → Type 0 = λ w. IsLowerFault (value_at c.args.line_values.now c.args.index) c.args.index w Rays 0 (length rays) c.args.ray_values.now (vectors rays) c.in_err-lower_rays.field-0.0 in
+    rw (p.1, p.2) (line_fault_from_ray c.args.index c.args.line_values.now c.args.ray_values.now (vectors lines) (vectors rays) (length rays) c.in_err-lower_rays.field-0.0 (sym (length-vectors rays)) (subst P line (simp to_z-of_z at c.in_err-lower_rays.ensures.lowered)))
 
 pub returns-clause-lists : goal.returns-clause-lists
 returns-clause-lists g c = record {
-  lines_wide = c.in_ok-lines.ensures.list.0;
-  rays_wide = c.push_upward.ensures.width ∙ c.in_ok-rays.ensures.list.0 ∙ sym c.requires.widths;
-  lines_marked = c.in_ok-lines.ensures.list.1;
-  rays_marked = marked_with_upward c.args.eq _ _ c.in_ok-rays.rays.rows c.push_upward.new.rays.rows c.in_ok-push_upward.ensures.rows c.in_ok-rays.ensures.list.1;
+  lines_wide = c.in_ok-lower_lines.ensures.width ∙ c.requires.room.lines_width;
+  rays_wide = c.push_upward.ensures.width ∙ c.in_ok-lower_rays.ensures.width ∙ c.requires.room.rays_width;
+  lines_marked = c.in_ok-lower_lines.ensures.marked;
+  rays_marked = marked_with_upward c.args.eq _ _ c.lower_rays.new.into.rows c.push_upward.new.rays.rows c.push_upward.ensures.rows c.in_ok-lower_rays.ensures.marked;
 }
 
-pub lowered_lines-requires-clause-in_range : goal.lowered_lines-requires-clause-in_range
-lowered_lines-requires-clause-in_range g c = (c.requires.in_range.0, passed_in_range c.args.line_values.now c.args.index (subst (λ (n : ℕ). c.args.index < n) (sym c.requires.as_many.0) c.requires.crossing.0) c.requires.in_range.0)
+pub lower_lines-requires-clause-in_range : goal.lower_lines-requires-clause-in_range
+lower_lines-requires-clause-in_range g c = (c.requires.in_range.0, passed_in_range c.args.line_values.now c.args.index (subst (λ (n : ℕ). c.args.index < n) (sym c.requires.as_many.0) c.requires.crossing.0) c.requires.in_range.0)
 
-pub lowered_lines-requires-clause-nonzero : goal.lowered_lines-requires-clause-nonzero
-lowered_lines-requires-clause-nonzero g c = passed_nonzero c.args.line_values.now c.args.index (subst (λ (n : ℕ). c.args.index < n) (sym c.requires.as_many.0) c.requires.crossing.0) c.requires.in_range.0 c.requires.crossing.1
+pub lower_lines-requires-clause-nonzero : goal.lower_lines-requires-clause-nonzero
+lower_lines-requires-clause-nonzero g c = passed_nonzero c.args.line_values.now c.args.index (subst (λ (n : ℕ). c.args.index < n) (sym c.requires.as_many.0) c.requires.crossing.0) c.requires.in_range.0 c.requires.crossing.1
 
-pub lowered_rays-requires-clause-in_range : goal.lowered_rays-requires-clause-in_range
-lowered_rays-requires-clause-in_range g c = (c.requires.in_range.1, passed_in_range c.args.line_values.now c.args.index (subst (λ (n : ℕ). c.args.index < n) (sym c.requires.as_many.0) c.requires.crossing.0) c.requires.in_range.0)
+pub lower_rays-requires-clause-in_range : goal.lower_rays-requires-clause-in_range
+lower_rays-requires-clause-in_range g c = (c.requires.in_range.1, passed_in_range c.args.line_values.now c.args.index (subst (λ (n : ℕ). c.args.index < n) (sym c.requires.as_many.0) c.requires.crossing.0) c.requires.in_range.0)
 
-pub lowered_rays-requires-clause-nonzero : goal.lowered_rays-requires-clause-nonzero
-lowered_rays-requires-clause-nonzero g c = passed_nonzero c.args.line_values.now c.args.index (subst (λ (n : ℕ). c.args.index < n) (sym c.requires.as_many.0) c.requires.crossing.0) c.requires.in_range.0 c.requires.crossing.1
+pub lower_rays-requires-clause-nonzero : goal.lower_rays-requires-clause-nonzero
+lower_rays-requires-clause-nonzero g c = passed_nonzero c.args.line_values.now c.args.index (subst (λ (n : ℕ). c.args.index < n) (sym c.requires.as_many.0) c.requires.crossing.0) c.requires.in_range.0 c.requires.crossing.1
 
 pub push_upward-requires-clause-nonzero : goal.push_upward-requires-clause-nonzero
 push_upward-requires-clause-nonzero g c =
     let value_fits = fits_at c.args.line_values.now c.args.index (subst (λ (n : ℕ). c.args.index < n) (sym c.requires.as_many.0) c.requires.crossing.0) c.requires.in_range.0 in
     simp to_z-of_z c.requires.crossing.1
 
-pub returns-in_err-lines-clause-change : goal.returns-in_err-lines-clause-change
-returns-in_err-lines-clause-change g c =
+pub returns-in_err-lower_lines-clause-change : goal.returns-in_err-lower_lines-clause-change
+returns-in_err-lower_lines-clause-change g c =
     let lines = c.args.cone.now.lines.rows in
     let rays = c.args.cone.now.rays.rows in
     let value_fits = fits_at c.args.line_values.now c.args.index (omega (arith, c.requires.crossing.0, c.requires.as_many.0)) c.requires.in_range.0 in
-    let p = err_from_is_err_and c.from_residual-in_err-lines.result c.from_residual-in_err-lines.ensures.1 in
+    let p = err_from_is_err_and c.from_residual.result c.from_residual.ensures.1 in
     let line : c.row.result.now ≡ vector_at (vectors lines) c.args.index = c.row.ensures.value ∙ sym (vector_at-vectors lines c.args.index) in
-    let P : List ℤ → Type 0 = λ w. IsOtherFault (value_at c.args.line_values.now c.args.index) c.args.index w c.args.line_values.now (vectors lines) c.in_err-lines.field-0.0 in
-    rw (p.1, p.2) (line_fault_from_line c.args.index c.args.line_values.now c.args.ray_values.now (vectors lines) (vectors rays) c.in_err-lines.field-0.0 (subst P line (simp to_z-of_z at c.in_err-lines.ensures.lowered)))
+    let P : List ℤ → Type 0 = λ w. IsOtherFault (value_at c.args.line_values.now c.args.index) c.args.index w c.args.line_values.now (vectors lines) c.in_err-lower_lines.field-0.0 in
+    rw (p.1, p.2) (line_fault_from_line c.args.index c.args.line_values.now c.args.ray_values.now (vectors lines) (vectors rays) c.in_err-lower_lines.field-0.0 (subst P line (simp to_z-of_z at c.in_err-lower_lines.ensures.lowered)))
 
 pub push_upward-requires-clause-in_range : goal.push_upward-requires-clause-in_range
 push_upward-requires-clause-in_range g c =
@@ -85,27 +85,20 @@ push_upward-requires-clause-in_range g c =
 pub returns-clause-change : goal.returns-clause-change
 returns-clause-change g c =
     let value_fits = fits_at c.args.line_values.now c.args.index (omega (arith, c.requires.crossing.0, c.requires.as_many.0)) c.requires.in_range.0 in
-    line_change c.args.index c.args.line_values.now c.args.ray_values.now c.args.eq c.args.cone.now.lines.rows c.args.cone.now.rays.rows c.in_ok-lines.lines.rows c.in_ok-rays.rays.rows c.push_upward.new.rays.rows _ c.row.result.now (to_z-of_z w128 _ value_fits) c.row.ensures.value
-    c.in_ok-lines.ensures.lowered c.in_ok-rays.ensures.lowered (simp to_z-of_z at c.in_ok-push_upward.ensures.rows)
+    line_change c.args.index c.args.line_values.now c.args.ray_values.now c.args.eq c.args.cone.now.lines.rows c.args.cone.now.rays.rows c.lower_lines.new.into.rows c.lower_rays.new.into.rows c.push_upward.new.rays.rows _ c.row.result.now (to_z-of_z w128 _ value_fits) c.row.ensures.value
+    c.in_ok-lower_lines.ensures.lowered c.in_ok-lower_rays.ensures.lowered (simp to_z-of_z at c.push_upward.ensures.rows)
+
+pub lower_lines-requires-clause-line : goal.lower_lines-requires-clause-line
+lower_lines-requires-clause-line g c = ap (λ (v : List ℤ). length v) c.row.ensures.value ∙ c.row.ensures.wide ∙ sym c.requires.room.lines_width
+
+pub lower_rays-requires-clause-line : goal.lower_rays-requires-clause-line
+lower_rays-requires-clause-line g c = ap (λ (v : List ℤ). length v) c.row.ensures.value ∙ c.row.ensures.wide ∙ sym c.requires.room.rays_width
+
+pub lower_rays-requires-clause-wide : goal.lower_rays-requires-clause-wide
+lower_rays-requires-clause-wide g c = sym c.requires.widths ∙ sym c.requires.room.rays_width
 
 pub push_upward-requires-clause-wide : goal.push_upward-requires-clause-wide
-push_upward-requires-clause-wide g c = (
-  ap (λ (v : List ℤ). length v) c.row.ensures.value ∙ c.row.ensures.wide ∙ c.requires.widths ∙ sym c.in_ok-rays.ensures.list.0,
-  c.deref_mut-3.ensures.len ∙ c.in_ok-row.ensures ∙ c.width.ensures.value ∙ c.requires.widths ∙ sym c.in_ok-rays.ensures.list.0,
-)
+push_upward-requires-clause-wide g c = ap (λ (v : List ℤ). length v) c.row.ensures.value ∙ c.row.ensures.wide ∙ sym c.requires.room.rays_width ∙ sym c.in_ok-lower_rays.ensures.width
 
-pub lowered_rays-requires-clause-width : goal.lowered_rays-requires-clause-width
-lowered_rays-requires-clause-width g c =
-    (ap (λ (v : List ℤ). length v) c.row.ensures.value ∙ c.row.ensures.wide ∙ c.requires.widths, c.deref_mut-2.ensures.len ∙ c.in_ok-row.ensures ∙ c.width.ensures.value ∙ c.requires.widths)
-
-pub lowered_rays-requires-clause-as_many : goal.lowered_rays-requires-clause-as_many
-lowered_rays-requires-clause-as_many g c = c.requires.as_many.1
-
-pub lowered_lines-requires-clause-width : goal.lowered_lines-requires-clause-width
-lowered_lines-requires-clause-width g c =
-    (ap (λ (v : List ℤ). length v) c.row.ensures.value ∙ c.row.ensures.wide, c.deref_mut.ensures.len ∙ c.in_ok-row.ensures ∙ c.width.ensures.value)
-
-pub returns-in_err-push_upward-clause-change : goal.returns-in_err-push_upward-clause-change
-returns-in_err-push_upward-clause-change g c =
-    let p = err_from_is_err_and c.from_residual-in_err-push_upward.result c.from_residual-in_err-push_upward.ensures.1 in
-    rw (p.1, p.2) tt
+pub lower_rays-requires-clause-as_many : goal.lower_rays-requires-clause-as_many
+lower_rays-requires-clause-as_many g c = c.requires.as_many.1

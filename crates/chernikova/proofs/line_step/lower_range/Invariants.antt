@@ -1,4 +1,4 @@
-use Rattle.std.proofs.Common.{◌≡◌, ◌≤◌, ◌+◌, length}
+use Rattle.std.proofs.Common.{◌≡◌, ◌≤◌, ◌+◌}
 use Rattle.row_core.specs.Lists.{AreMarked}
 use Rattle.chernikova.specs.Faults.{is_lines}
 use Rattle.chernikova.specs.Changes.{AreLowered}
@@ -8,7 +8,7 @@ abbrev pub invariant-loop-index : goal.invariant-loop-index
 invariant-loop-index g l = record {
   above : l.from ≤ l.index;
   width : l.into.width ≡ l.initial.into.width;
-  scratch : length l.scratch ≡ length l.initial.scratch;
+  spare : l.into.spare + l.index ≡ l.initial.into.spare + l.from;
   no_fewer : l.initial.steps ≤ l.steps;
   no_more : l.steps + l.from ≤ l.initial.steps + l.index;
   lowered : AreLowered l.crossing.value l.crossing.line.now l.values l.list.rows l.from l.index l.initial.into.rows l.into.rows;

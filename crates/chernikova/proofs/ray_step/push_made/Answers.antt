@@ -1,10 +1,12 @@
-use Rattle.std.specs.Prelude.{List, ℕ, false}
-use Rattle.std.proofs.Common.{sym, subst, ◌∙◌, arith, rules}
+use Rattle.std.specs.Prelude.{◌≡◌, List, ℕ, false}
+use Rattle.std.proofs.Common.{subst, ◌∙◌, arith, rules}
 use Rattle.std.proofs.lemmas.List.{take_all, length_push}
-use Rattle.std.proofs.lemmas.List.Elements.{Contains-get_or}
+use Rattle.std.proofs.lemmas.List.Elements.{All-same, Contains-get_or}
 use Rattle.std.proofs.lemmas.Result.{err_from_is_err_and}
+use Rattle.row_core.specs.Lists.{Row}
 use Rattle.cone_laws.specs.Steps.{pair_at}
 use Rattle.chernikova.specs.Changes.{HasMade}
+use Rattle.chernikova.proofs.VectorLemmas.{marked_push}
 use Rattle.chernikova.proofs.ChangeLemmas.{has_made_none, has_made_more, pair_before}
 use Rattle.chernikova.proofs.FaultLemmas.{pair_fault_before}
 use Rattle.chernikova.proofs.ray_step.push_made.Goals as goal
@@ -12,7 +14,7 @@ use Rattle.chernikova.proofs.ray_step.push_made.Goals as goal
 pub loop-index-init : goal.loop-index-init
 loop-index-init g c = record {
   width = search rules;
-  scratch = search rules;
+  spare = omega (arith, c.requires.spare);
   as_many = omega (arith, c.requires.as_many);
   no_fewer = omega arith;
   no_more = omega arith;
@@ -27,33 +29,36 @@ loop-index-preserved g c =
     let cur = c.loop-index.rays.rows in
     let pair = pair_at c.args.pairs.now c.loop-index.index in
     let opposite = c.requires.opposite c.loop-index.index c.loop-index-test.true in
-    let rows = c.in_ok-push.ensures.rows in
-    let one = pair_before c.args.values.now old cur pair c.combine_pair.new.dst (inv.made.made, inv.made.result) (omega (arith, opposite.first, c.requires.as_many)) (omega (arith, opposite.second, c.requires.as_many)) c.in_ok-combine_pair.ensures.combined in
+    let gained = c.in_ok-push_pair.ensures.combined in
+    let one = pair_before c.args.values.now old cur pair gained.vector (inv.made.made, inv.made.result) (omega (arith, opposite.first, c.requires.as_many)) (omega (arith, opposite.second, c.requires.as_many)) gained.is in
     record {
-      width = c.in_ok-push.ensures.width ∙ inv.width;
-      scratch = c.combine_pair.ensures.width ∙ inv.scratch ∙ sym c.in_ok-push.ensures.width;
-      as_many = rw rows (omega (arith, inv.as_many, length_push cur (c.combine_pair.new.dst, false)));
-      no_fewer = omega (arith, inv.no_fewer, c.combine_pair.ensures.counted);
-      no_more = omega (arith, inv.no_more, c.combine_pair.ensures.counted);
-      made = rw rows (has_made_more c.args.values.now old c.args.pairs.now c.loop-index.index old cur c.combine_pair.new.dst false c.loop-index-test.true inv.made one);
-      marked = c.in_ok-push.ensures.marked;
+      width = gained.width ∙ inv.width;
+      spare = omega (arith, inv.spare, gained.spare);
+      as_many = rw gained.rows (omega (arith, inv.as_many, length_push cur (gained.vector, false)));
+      no_fewer = omega (arith, inv.no_fewer, c.push_pair.ensures.counted);
+      no_more = omega (arith, inv.no_more, c.push_pair.ensures.counted);
+      made = rw gained.rows (has_made_more c.args.values.now old c.args.pairs.now c.loop-index.index old cur gained.vector false c.loop-index-test.true inv.made one);
+      marked = All-same (λ (row : Row). row.1 ≡ false) c.push_pair.new.rays.rows _ gained.rows (marked_push false cur gained.vector inv.marked);
     }
 
-pub returns-in_err-combine_pair-clause-made : goal.returns-in_err-combine_pair-clause-made
-returns-in_err-combine_pair-clause-made g c =
+pub returns-in_err-push_pair-clause-made : goal.returns-in_err-push_pair-clause-made
+returns-in_err-push_pair-clause-made g c =
     let inv = c.loop-index.invariant in
     let pair = pair_at c.args.pairs.now c.loop-index.index in
     let opposite = c.requires.opposite c.loop-index.index c.loop-index-test.true in
     let p = err_from_is_err_and c.from_residual.result c.from_residual.ensures.1 in
     rw (p.1, p.2)
-    (pair_fault_before c.args.values.now c.args.pairs.now pair c.args.rays.now.rows c.loop-index.rays.rows c.in_err-combine_pair.field-0.0 (inv.made.made, inv.made.result)
-    (Contains-get_or c.args.pairs.now c.loop-index.index (0, 0) c.loop-index-test.true) (omega (arith, opposite.first, c.requires.as_many)) (omega (arith, opposite.second, c.requires.as_many)) c.in_err-combine_pair.ensures.combined)
+    (pair_fault_before c.args.values.now c.args.pairs.now pair c.args.rays.now.rows c.loop-index.rays.rows c.in_err-push_pair.field-0.0 (inv.made.made, inv.made.result)
+    (Contains-get_or c.args.pairs.now c.loop-index.index (0, 0) c.loop-index-test.true) (omega (arith, opposite.first, c.requires.as_many)) (omega (arith, opposite.second, c.requires.as_many)) c.in_err-push_pair.ensures.combined.1)
 
-pub returns-in_err-combine_pair-clause-grown : goal.returns-in_err-combine_pair-clause-grown
-returns-in_err-combine_pair-clause-grown g c = (c.loop-index.invariant.made.made, c.loop-index.invariant.made.result)
+pub returns-in_err-push_pair-clause-grown : goal.returns-in_err-push_pair-clause-grown
+returns-in_err-push_pair-clause-grown g c = (c.loop-index.invariant.made.made, c.in_err-push_pair.ensures.combined.0.rows ∙ c.loop-index.invariant.made.result)
 
-pub returns-in_err-push-clause-grown : goal.returns-in_err-push-clause-grown
-returns-in_err-push-clause-grown g c = (c.loop-index.invariant.made.made, c.in_err-push.ensures.rows ∙ c.loop-index.invariant.made.result)
+pub returns-in_err-push_pair-clause-width : goal.returns-in_err-push_pair-clause-width
+returns-in_err-push_pair-clause-width g c = c.in_err-push_pair.ensures.combined.0.width ∙ c.loop-index.invariant.width
+
+pub returns-in_err-push_pair-clause-marked : goal.returns-in_err-push_pair-clause-marked
+returns-in_err-push_pair-clause-marked g c = All-same (λ (row : Row). row.1 ≡ false) c.push_pair.new.rays.rows _ c.in_err-push_pair.ensures.combined.0.rows c.loop-index.invariant.marked
 
 pub returns-clause-grown : goal.returns-clause-grown
 returns-clause-grown g c = (c.loop-index.invariant.made.made, c.loop-index.invariant.made.result)

@@ -6,7 +6,7 @@ use Rattle.chernikova.proofs.ray_step.push_made.Given as goal
 abbrev pub invariant-loop-index : goal.invariant-loop-index
 invariant-loop-index g l = record {
   width : l.rays.width ≡ l.initial.rays.width;
-  scratch : length l.scratch ≡ l.rays.width;
+  spare : length l.pairs ≤ l.rays.spare + l.index;
   as_many : length l.values ≤ length l.rays.rows;
   no_fewer : l.initial.steps ≤ l.steps;
   no_more : l.steps ≤ l.initial.steps + l.index;

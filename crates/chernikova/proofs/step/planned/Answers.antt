@@ -1,4 +1,4 @@
-use Rattle.std.specs.Prelude.{ℤ, List, Bool, map}
+use Rattle.std.specs.Prelude.{ℕ, ℤ, List, Bool, true, ◌++◌, map, replicate}
 use Rattle.std.proofs.Common.{ap, subst, ◌∙◌, arith, length}
 use Rattle.row_core.specs.Lists.{row_at, is_eq_at, vectors}
 use Rattle.cone_laws.specs.Steps.{stays}
@@ -9,14 +9,14 @@ use Rattle.chernikova.proofs.CountLemmas.{counts_decide}
 use Rattle.chernikova.proofs.Positions.{has_values}
 use Rattle.chernikova.proofs.step.planned.Goals as goal
 
-pub returns-in_ok-pairs-in-Cutting : goal.returns-in_ok-pairs-in-Cutting
-returns-in_ok-pairs-in-Cutting c =
+pub returns-in_ok-mark_pairs-in-Cutting : goal.returns-in_ok-mark_pairs-in-Cutting
+returns-in_ok-mark_pairs-in-Cutting c =
     let P : Position → Type 0 = λ p. IsPosition c.args.rows.now.rows c.args.k c.args.cone.now p in
     let cutting : IsCutting (row_at c.args.rows.now.rows c.args.k, is_eq_at c.args.rows.now.rows c.args.k) c.args.cone.now c.in-Cutting.values.items = subst P c.in-Cutting.is c.requires.position in
     let Q : List ℤ → Type 0 = λ vs. AreAllCrosses vs c.args.cone.now.sat c.in_ok-pairs-in-Cutting.pairs.items in
     record {
       cutting = cutting;
-      are_marks = c.in_ok-marks-in-Cutting.ensures ∙ ap (λ vs. map (λ value. stays c.is_eq.result value) vs) c.deref.ensures.value ∙ ap (λ (eq : Bool). map (λ value. stays eq value) c.in-Cutting.values.items) c.is_eq.ensures;
+      are_marks = c.in_ok-mark_pairs-in-Cutting.ensures ∙ ap (λ (ps : List (ℕ × ℕ)). c.in_ok-marks-in-Cutting.marks.items ++ replicate (length ps) true) c.deref-in-Cutting-2.ensures.value ∙ ap (λ (ms : List Bool). ms ++ replicate (length c.in_ok-pairs-in-Cutting.pairs.items) true) (c.in_ok-marks-in-Cutting.ensures ∙ ap (λ vs. map (λ value. stays c.is_eq.result value) vs) c.deref.ensures.value ∙ ap (λ (eq : Bool). map (λ value. stays eq value) c.in-Cutting.values.items) c.is_eq.ensures);
       crosses = subst Q c.deref-in-Cutting.ensures.value c.in_ok-pairs-in-Cutting.ensures;
     }
 

@@ -18,7 +18,7 @@ loop-above-preserved c =
     let W : ℕ → List (List Bool) → List (List Bool) = λ m rs. set rs m (set (bits_of rs m) (c.columns-last.result - 1) true) in
     let rows : W at c.push_and.new.self.rows ≡ W (length c.loop-above.zeros.rows) (c.loop-above.zeros.rows ++ conjunction (bits_of c.loop-above.zeros.rows (pair_at c.args.pairs.now c.loop-above.above-index).0) (bits_of c.loop-above.zeros.rows (pair_at c.args.pairs.now c.loop-above.above-index).1) ∷ []) =
     ap (λ rs. W at rs) c.push_and.ensures.rows ∙ ap (λ m. W m (c.loop-above.zeros.rows ++ conjunction (bits_of c.loop-above.zeros.rows (pair_at c.args.pairs.now c.loop-above.above-index).0) (bits_of c.loop-above.zeros.rows (pair_at c.args.pairs.now c.loop-above.above-index).1) ∷ [])) c.len-row.ensures in
-    let is_last : last ≡ old.columns - 1 = ap (λ n. n - 1) (c.columns-last.ensures.value ∙ ap (λ (t : Table). t.columns) c.in_ok-reserve.ensures.ok) in
+    let is_last : last ≡ old.columns - 1 = ap (λ n. n - 1) c.columns-last.ensures.value in
     let P : Table → Type 0 = λ t. HasPairs (take (c.loop-above.above-index + 1) c.args.pairs.now) c.args.zeros.now t in
     record {
       spare = omega (arith, c.loop-above.invariant.spare, c.push_and.ensures.spare, ap (λ (t : Table). t.spare) c.set.ensures);

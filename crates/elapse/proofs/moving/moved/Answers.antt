@@ -2,8 +2,6 @@ use Rattle.std.proofs.Common.{Err, ap, subst, arith}
 use Rattle.std.proofs.lemmas.Result.{err_from_is_err_and}
 use Rattle.cons_sys.specs.Constraints.{FitDimension as FitConstraints}
 use Rattle.gens_sys.specs.Generators.{FitDimension}
-use Rattle.poly_pair.specs.TopologyLists.{list_width, generators_of}
-use Rattle.poly_pair.specs.Refusals.{IsGenOverflowOn}
 use Rattle.elapse.proofs.ElapsedPolyhedra.{joined_kinds, joined_has_point, joined_elapse, joined_stored, joined_leaves, same_followed, same_directions}
 use Rattle.elapse.proofs.moving.moved.Goals as goal
 
@@ -53,5 +51,5 @@ returns-in-Err-Overflow g c =
     (same_directions c.args.p.now c.args.q.now c.gens-3.result.now c.in_ok-moves.moves.list c.gens.ensures.kept c.gens-2.ensures.kept c.requires.same_dim c.gens-3.ensures.value c.in_ok-moves.ensures.list)
     t gs c.topology.ensures.value
     (same_followed gs c.args.p.now.gens c.gens-4.result.now c.in_ok-moves.moves.list c.in_ok-gens.ensures.dim c.in_ok-gens.ensures.list c.gens-4.ensures.value)
-    c.in-Err-Overflow.over (subst (IsGenOverflowOn (list_width t gs.dim) gs.dim (generators_of t gs)) c.in-Err-Overflow.field-0-is c.in-Err-Overflow.ensures.overflow) in
-    record { points = tt; stored = tt; overflow = leaves; no_fewer = c.from_gens.ensures.no_fewer }
+    c.in-Err-Overflow.over (rw c.in-Err-Overflow.field-0-is at c.in-Err-Overflow.ensures.conversion).overflow in
+    record { points = tt; stored = tt; overflow = leaves; no_fewer = c.from_gens.ensures.conversion.no_fewer }

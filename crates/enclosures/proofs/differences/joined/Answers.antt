@@ -7,6 +7,7 @@ use Rattle.row_core.specs.Refusals.{IsOverflowIn}
 use Rattle.lattice_ops.specs.Sets.{IsHull, both_generators}
 use Rattle.enclosures.specs.Differences.{IsJoinTo, LeavesAt}
 use Rattle.enclosures.proofs.JoinLemmas.{one_joined, join_leaves}
+use Rattle.poly_pair.proofs.WorkLemmas.{overflow_clause}
 use Rattle.enclosures.proofs.differences.joined.Goals as goal
 
 pub returns-clause-points : goal.returns-clause-points
@@ -23,4 +24,4 @@ returns-clause-overflow g c =
     let made = c.args.made.now in
     let part = c.in_ok-part.part in
     IfErr-weaker c.hull.result (IsOverflowOn (list_width made.topology made.cons.dim) made.cons.dim (generators_of made.topology (both_generators made part))) (IsOverflowIn (LeavesAt c.args.p.now ways c.args.index))
-    (join_leaves c.args.p.now ways c.args.index made part c.requires.made c.dim-kept.ensures.kept c.in_ok-part.ensures.points c.in_ok-part.ensures.kept) c.hull.ensures.overflow
+    (join_leaves c.args.p.now ways c.args.index made part c.requires.made c.dim-kept.ensures.kept c.in_ok-part.ensures.points c.in_ok-part.ensures.kept) (overflow_clause _ _ _ c.hull.result c.hull.ensures.conversion)

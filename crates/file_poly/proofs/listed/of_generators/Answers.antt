@@ -5,7 +5,7 @@ pub from_gens-requires : goal.from_gens-requires
 from_gens-requires g c = record { narrow = c.requires.narrow; kinds = c.requires.kinds }
 
 pub returns-in-Ok : goal.returns-in-Ok
-returns-in-Ok g c = let e = c.in-Ok.ensures in record { set = e.points; closed = e.points.over.same_topology; overflow = tt; no_fewer = e.no_fewer; counted = e.counted; counted_before = tt }
+returns-in-Ok g c = let e = c.in-Ok.ensures in record { set = e.points; closed = e.points.over.same_topology; overflow = tt; no_fewer = e.conversion.no_fewer; counted = e.conversion.counted; counted_before = tt }
 
 pub unreachable-requires : goal.unreachable-requires
 unreachable-requires g c = c.requires.point (c.in-Err-NoPoint.ensures.no_point.0 (ap Err c.in-Err-NoPoint.field-0-is))
@@ -16,11 +16,11 @@ returns-in-Err-Overflow g c =
     record {
       set = tt;
       closed = tt;
-      overflow = rw c.in-Err-Overflow.field-0-is at e.overflow;
-      no_fewer = e.no_fewer;
-      counted = e.counted;
-      counted_before = rw c.in-Err-Overflow.field-0-is at e.counted_before;
+      overflow = (rw c.in-Err-Overflow.field-0-is at e.conversion).overflow;
+      no_fewer = e.conversion.no_fewer;
+      counted = e.conversion.counted;
+      counted_before = (rw c.in-Err-Overflow.field-0-is at e.conversion).counted_before;
     }
 
 pub returns-in-Err-Memory : goal.returns-in-Err-Memory
-returns-in-Err-Memory g c = let e = c.in-Err-Memory.ensures in record { set = tt; closed = tt; overflow = tt; no_fewer = e.no_fewer; counted = e.counted; counted_before = tt }
+returns-in-Err-Memory g c = let e = c.in-Err-Memory.ensures in record { set = tt; closed = tt; overflow = tt; no_fewer = e.conversion.no_fewer; counted = e.conversion.counted; counted_before = tt }

@@ -11,6 +11,7 @@ use Rattle.widening.specs.RunLaws.{IsFound}
 use Rattle.hybrid.specs.Steps.{IsJumpPost, LeavesOnJump}
 use Rattle.hybrid.specs.Turns.{IsHullWith, LeavesAfter}
 use Rattle.hybrid.proofs.Joined.{found_of, leaves_of}
+use Rattle.poly_pair.proofs.WorkLemmas.{overflow_clause}
 use Rattle.hybrid.proofs.turns.jump_joined.Goals as goal
 
 pub returns-clause-found : goal.returns-clause-found
@@ -21,7 +22,7 @@ returns-clause-found g c =
 pub returns-clause-overflow : goal.returns-clause-overflow
 returns-clause-overflow g c =
     IfErr-weaker c.grown.result (IsOverflowOn (list_width c.args.old.now.topology c.args.old.now.cons.dim) c.args.old.now.cons.dim (generators_of c.args.old.now.topology (both_generators c.args.old.now c.in-Ok.post))) (IsOverflowIn (λ over. LeavesOnJump c.args.source.now c.args.inv.now c.args.relation.now c.args.target_inv.now over ⊎ LeavesAfter (IsJumpPost c.args.source.now c.args.inv.now c.args.relation.now c.args.target_inv.now) c.args.old.now over))
-    (leaves_of (IsJumpPost c.args.source.now c.args.inv.now c.args.relation.now c.args.target_inv.now) (LeavesOnJump c.args.source.now c.args.inv.now c.args.relation.now c.args.target_inv.now) c.args.old.now c.in-Ok.post c.in-Ok.ensures.post) c.grown.ensures.overflow
+    (leaves_of (IsJumpPost c.args.source.now c.args.inv.now c.args.relation.now c.args.target_inv.now) (LeavesOnJump c.args.source.now c.args.inv.now c.args.relation.now c.args.target_inv.now) c.args.old.now c.in-Ok.post c.in-Ok.ensures.post) (overflow_clause _ _ _ c.grown.result c.grown.ensures.conversion)
 
 pub returns-in-Err-clause-overflow : goal.returns-in-Err-clause-overflow
 returns-in-Err-clause-overflow g c = by c.in-Err.cause c.in-Err.ensures.overflow

@@ -9,6 +9,7 @@ use Rattle.widening.specs.RunLaws.{IsFound}
 use Rattle.hybrid.specs.Steps.{IsTimePost, LeavesOnTime}
 use Rattle.hybrid.specs.Turns.{IsHullWith, LeavesAfter}
 use Rattle.hybrid.proofs.Joined.{found_of, leaves_of}
+use Rattle.poly_pair.proofs.WorkLemmas.{overflow_clause}
 use Rattle.hybrid.proofs.turns.time_joined.Goals as goal
 
 pub returns-clause-found : goal.returns-clause-found
@@ -19,4 +20,4 @@ returns-clause-found g c =
 pub returns-clause-overflow : goal.returns-clause-overflow
 returns-clause-overflow g c =
     IfErr-weaker c.grown.result (IsOverflowOn (list_width c.args.old.now.topology c.args.old.now.cons.dim) c.args.old.now.cons.dim (generators_of c.args.old.now.topology (both_generators c.args.old.now c.in-Ok.post))) (IsOverflowIn (λ over. LeavesOnTime c.args.old.now c.args.inv.now c.args.flow.now over ⊎ LeavesAfter (IsTimePost c.args.old.now c.args.inv.now c.args.flow.now) c.args.old.now over))
-    (leaves_of (IsTimePost c.args.old.now c.args.inv.now c.args.flow.now) (LeavesOnTime c.args.old.now c.args.inv.now c.args.flow.now) c.args.old.now c.in-Ok.post c.in-Ok.ensures.post) c.grown.ensures.overflow
+    (leaves_of (IsTimePost c.args.old.now c.args.inv.now c.args.flow.now) (LeavesOnTime c.args.old.now c.args.inv.now c.args.flow.now) c.args.old.now c.in-Ok.post c.in-Ok.ensures.post) (overflow_clause _ _ _ c.grown.result c.grown.ensures.conversion)

@@ -1,10 +1,8 @@
 use Rattle.std.proofs.Common.{ap, subst, ◌∙◌}
 use Rattle.std.specs.Prelude.{Err}
 use Rattle.poly_pair.specs.declared.errors.GenErr.{GenErr}
-use Rattle.poly_pair.specs.TopologyLists.{list_width, generators_of}
-use Rattle.poly_pair.specs.Additions.{with_generators}
-use Rattle.poly_pair.specs.Refusals.{IsGenOverflowOn}
-use Rattle.lattice_ops.proofs.KeptSets.{added_is_proper, proper_without_lack, proper_has_point, hull_with_generators}
+use Rattle.lattice_ops.proofs.KeptSets.{proper_without_lack, hull_with_generators}
+use Rattle.poly_pair.specs.Work.{added_gens, gen_overflow, IsConversion}
 use Rattle.lattice_ops.proofs.growing.hull_with.Goals as goal
 
 pub returns-in-Ok-clause-points : goal.returns-in-Ok-clause-points
@@ -15,13 +13,10 @@ returns-in-Ok-clause-points g c =
 
 pub unreachable-requires : goal.unreachable-requires
 unreachable-requires g c =
-    let p = c.args.p.now in
-    let gs = c.args.gens.now in
-    let lacks = c.add_gens.ensures.no_point.0 (c.in-Err-NoPoint.is ∙ ap (λ (e : GenErr). Err e) c.in-Err-NoPoint.field-0-is) in
-    proper_has_point (with_generators p gs) (added_is_proper p gs c.rows_fit.ensures.kept (proper_without_lack gs c.requires.point)) lacks
+    c.requires.point (c.add_gens.ensures.no_point.0 (c.in-Err-NoPoint.is ∙ ap (λ (e : GenErr). Err e) c.in-Err-NoPoint.field-0-is)).lacks
 
-pub returns-in-Err-Overflow-clause-overflow : goal.returns-in-Err-Overflow-clause-overflow
-returns-in-Err-Overflow-clause-overflow g c =
-    let p = c.args.p.now in
-    let gs = with_generators p c.args.gens.now in
-    subst (IsGenOverflowOn (list_width p.topology gs.dim) gs.dim (generators_of p.topology gs)) c.in-Err-Overflow.field-0-is c.in-Err-Overflow.ensures.overflow
+pub returns-in-Err-Overflow-clause-conversion : goal.returns-in-Err-Overflow-clause-conversion
+returns-in-Err-Overflow-clause-conversion g c = subst (λ (e : GenErr). IsConversion (added_gens c.args.p.now c.args.gens.now) c.args.steps.now c.add_gens.new.steps (gen_overflow e)) c.in-Err-Overflow.field-0-is c.in-Err-Overflow.ensures.conversion
+
+pub returns-in-Err-Memory-clause-conversion : goal.returns-in-Err-Memory-clause-conversion
+returns-in-Err-Memory-clause-conversion g c = subst (λ (e : GenErr). IsConversion (added_gens c.args.p.now c.args.gens.now) c.args.steps.now c.add_gens.new.steps (gen_overflow e)) c.in-Err-Memory.field-0-is c.in-Err-Memory.ensures.conversion

@@ -8,6 +8,7 @@ use Rattle.poly_pair.specs.TopologyLists.{list_width, constraints_of}
 use Rattle.poly_pair.specs.Refusals.{IsOverflowOn}
 use Rattle.enclosures.specs.Differences.{IsDifference, LeavesInDifference}
 use Rattle.loop_analysis.proofs.AnalysisLemmas.{open_leaves, outside_leaves}
+use Rattle.poly_pair.proofs.WorkLemmas.{refused_overflow}
 use Rattle.loop_analysis.proofs.analysis.behind.Goals as goal
 
 pub from_cons-requires-clause-narrow : goal.from_cons-requires-clause-narrow
@@ -32,7 +33,7 @@ returns-clause-behind g c = record {
 pub returns-in_err-opened-clause-overflow : goal.returns-in_err-opened-clause-overflow
 returns-in_err-opened-clause-overflow g c =
     let leaves = open_leaves c.args.program.now c.args.head.now c.in_err-opened.field-0.0
-    (subst (λ (cs : Constraints). IsOverflowOn (list_width Nnc cs.dim) cs.dim (constraints_of Nnc cs) c.in_err-opened.field-0.0) c.cons.ensures.value c.in_err-opened.ensures.overflow) in
+    (subst (λ (cs : Constraints). IsOverflowOn (list_width Nnc cs.dim) cs.dim (constraints_of Nnc cs) c.in_err-opened.field-0.0) c.cons.ensures.value (refused_overflow _ _ _ c.in_err-opened.field-0.0 c.in_err-opened.ensures.conversion)) in
     search (rules, leaves)
 
 pub returns-in_err-made-clause-overflow : goal.returns-in_err-made-clause-overflow

@@ -9,6 +9,7 @@ use Rattle.poly_pair.specs.Refusals.{IsOverflowOn}
 use Rattle.loop_analysis.specs.Analysis.{IsStart}
 use Rattle.loop_analysis.proofs.RunLemmas.{head_holds, behind_holds}
 use Rattle.loop_analysis.proofs.AnalysisLemmas.{start_of, start_leaves, head_leaves, behind_leaves, head_box_leaves, behind_box_leaves}
+use Rattle.poly_pair.proofs.WorkLemmas.{refused_overflow}
 use Rattle.loop_analysis.proofs.analysis.find_bounds.Goals as goal
 
 pub from_cons-requires-clause-narrow : goal.from_cons-requires-clause-narrow
@@ -20,7 +21,7 @@ from_cons-requires-clause-kinds g c = subst AreClosed (sym c.start.ensures.value
 pub returns-in_err-start-clause-overflow : goal.returns-in_err-start-clause-overflow
 returns-in_err-start-clause-overflow g c =
     let e = c.in_err-start.field-0.0 in
-    let leaves = start_leaves c.args.program.now e (subst (λ (cs : Constraints). IsOverflowOn (list_width Closed cs.dim) cs.dim (constraints_of Closed cs) e) c.start.ensures.value c.in_err-start.ensures.overflow) in
+    let leaves = start_leaves c.args.program.now e (subst (λ (cs : Constraints). IsOverflowOn (list_width Closed cs.dim) cs.dim (constraints_of Closed cs) e) c.start.ensures.value (refused_overflow _ _ _ e c.in_err-start.ensures.conversion)) in
     search (rules, leaves)
 
 pub head-requires : goal.head-requires

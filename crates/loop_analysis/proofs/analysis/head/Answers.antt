@@ -1,6 +1,7 @@
 use Rattle.std.proofs.Common.{◌≡◌, rules, sym, ◌∙◌}
 use Rattle.loop_analysis.proofs.TurnLemmas.{hull_leaves}
 use Rattle.loop_analysis.proofs.AnalysisLemmas.{hull_closed, last_round_leaves, last_hull_leaves}
+use Rattle.poly_pair.proofs.WorkLemmas.{refused_overflow}
 use Rattle.loop_analysis.proofs.analysis.head.Goals as goal
 
 pub returns-in_err-states-clause-overflow : goal.returns-in_err-states-clause-overflow
@@ -20,7 +21,7 @@ returns-in_err-made-clause-overflow g c =
     let invariant = c.in_ok-invariant.invariant in
     let e = c.in_err-made.field-0.0 in
     let leaves = last_hull_leaves l c.args.start.now invariant c.in_ok-invariant.ensures.invariant e
-    (hull_leaves l invariant c.args.start.now c.in_ok-states.states c.requires.over.same_topology c.in_ok-states.ensures.round c.in_ok-states.ensures.closed.kept e c.in_err-made.ensures.overflow) in
+    (hull_leaves l invariant c.args.start.now c.in_ok-states.states c.requires.over.same_topology c.in_ok-states.ensures.round c.in_ok-states.ensures.closed.kept e (refused_overflow _ _ _ e c.in_err-made.ensures.conversion)) in
     search (rules, leaves)
 
 pub returns-clause-head : goal.returns-clause-head

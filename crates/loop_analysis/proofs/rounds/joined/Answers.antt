@@ -10,6 +10,7 @@ use Rattle.widening.specs.RunLaws.{IsFound}
 use Rattle.loop_analysis.specs.Rounds.{IsJoined, LeavesInJoin}
 use Rattle.loop_analysis.proofs.RunLemmas.{round_leaves, last_leaves}
 use Rattle.loop_analysis.proofs.TurnLemmas.{found_of, hull_leaves}
+use Rattle.poly_pair.proofs.WorkLemmas.{overflow_clause}
 use Rattle.loop_analysis.proofs.rounds.joined.Goals as goal
 
 pub returns-in_err-states-clause-overflow : goal.returns-in_err-states-clause-overflow
@@ -38,4 +39,4 @@ returns-clause-overflow g c =
     let l = c.args.program.now in
     let states = c.in_ok-states.states in
     IfErr-weaker c.grown.result (IsOverflowOn (list_width set.topology set.cons.dim) set.cons.dim (generators_of set.topology (both_generators set states))) (IsOverflowIn (LeavesInJoin l set))
-    (λ (e : ConvErr) h. last_leaves l set e (hull_leaves l set set states c.requires.over.same_topology c.in_ok-states.ensures.round c.in_ok-states.ensures.closed.kept e h)) c.grown.ensures.overflow
+    (λ (e : ConvErr) h. last_leaves l set e (hull_leaves l set set states c.requires.over.same_topology c.in_ok-states.ensures.round c.in_ok-states.ensures.closed.kept e h)) (overflow_clause _ _ _ c.grown.result c.grown.ensures.conversion)

@@ -9,6 +9,7 @@ use Rattle.poly_pair.specs.Additions.{with_constraints}
 use Rattle.poly_pair.specs.Refusals.{IsOverflowOn}
 use Rattle.loop_analysis.specs.Rounds.{LeavesInRound}
 use Rattle.loop_analysis.proofs.RunLemmas.{guarded_of, guarded_closed, image_closed, images_next, all_images, fits_set, guard_leaves, body_leaves}
+use Rattle.poly_pair.proofs.WorkLemmas.{refused_overflow}
 use Rattle.loop_analysis.proofs.rounds.round.Goals as goal
 
 pub add_cons-requires-clause-dim : goal.add_cons-requires-clause-dim
@@ -23,7 +24,7 @@ pub returns-in_err-states-clause-overflow : goal.returns-in_err-states-clause-ov
 returns-in_err-states-clause-overflow g c =
     let set = c.args.set.now in
     let leaves = guard_leaves c.args.program.now set c.args.program.now.dim c.requires c.in_err-states.field-0.0
-    (subst (λ (cs : Constraints). IsOverflowOn (list_width set.topology set.cons.dim) set.cons.dim (constraints_of set.topology (with_constraints set cs)) c.in_err-states.field-0.0) c.guard.ensures.value c.in_err-states.ensures.overflow) in
+    (subst (λ (cs : Constraints). IsOverflowOn (list_width set.topology set.cons.dim) set.cons.dim (constraints_of set.topology (with_constraints set cs)) c.in_err-states.field-0.0) c.guard.ensures.value (refused_overflow _ _ _ c.in_err-states.field-0.0 c.in_err-states.ensures.conversion)) in
     search (rules, leaves)
 
 pub loop-index-init : goal.loop-index-init

@@ -26,4 +26,4 @@ returns-in-Err g c =
     subst (λ (e : StepErr). IsPerformed (on_two (option_copied c.args.p) (option_copied c.args.q) disjoint) (Err e)) (sym c.from.ensures)
     (subst (λ (o : Option Polyhedron). IsPerformed (on_two o (option_copied c.args.q) disjoint) (Err (refusal_of_conversion c.in-Err.cause))) (sym one)
     (subst (λ (o : Option Polyhedron). IsPerformed (on_two (Some c.in-Some-Some.p.now) o disjoint) (Err (refusal_of_conversion c.in-Err.cause))) (sym two)
-    (disjoint_leaves c.in-Some-Some.p.now c.in-Some-Some.q.now c.in-Err.cause passes c.in-Err.ensures.overflow)))
+    (disjoint_leaves c.in-Some-Some.p.now c.in-Some-Some.q.now c.args.steps.now c.disjoint.new.steps c.in-Err.cause passes c.in-Err.ensures.conversion)))

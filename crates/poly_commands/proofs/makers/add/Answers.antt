@@ -8,6 +8,7 @@ use Rattle.poly_commands.specs.Makers.{add}
 use Rattle.line_values.specs.Performed.{IsPerformed}
 use Rattle.line_values.specs.Texts.{constraints_fault, IsTextRefusal, ReadsConstraints}
 use Rattle.poly_commands.proofs.MakerLemmas.{add_refused, add_made, add_leaves}
+use Rattle.poly_pair.proofs.WorkLemmas.{refused_overflow}
 use Rattle.poly_commands.proofs.makers.add.Goals as goal
 
 pub returns-in-Err : goal.returns-in-Err
@@ -33,4 +34,4 @@ returns g c =
     let read = subst (λ (t : Topology). ReadsConstraints t c.in-Some.p.now.cons.dim c.args.part.now c.in-Ok.more) c.topology-topology.ensures.value at in
     let found : option_copied c.args.p ≡ Some c.in-Some.p.now = ap option_copied c.in-Some.is in
     subst (λ (o : Option Polyhedron). IsPerformed (on_one o (add c.args.part.now)) (Err c.from.result)) (sym found)
-    (rw c.from.ensures (add_leaves c.args.part.now c.in-Some.p.now c.in-Ok.more c.in-Err-add_cons.cause read c.in-Err-add_cons.ensures.overflow))
+    (rw c.from.ensures (add_leaves c.args.part.now c.in-Some.p.now c.in-Ok.more c.in-Err-add_cons.cause read (refused_overflow _ _ _ c.in-Err-add_cons.cause c.in-Err-add_cons.ensures.conversion)))

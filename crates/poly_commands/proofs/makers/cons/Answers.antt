@@ -3,6 +3,7 @@ use Rattle.poly_pair.specs.declared.topology.TheConstants.{MAX_DIM}
 use Rattle.line_values.specs.Texts.{ReadsConstraints}
 use Rattle.line_values.proofs.PerformedLemmas.{not_full}
 use Rattle.poly_commands.proofs.MakerLemmas.{cons_full, cons_made, cons_leaves}
+use Rattle.poly_pair.proofs.WorkLemmas.{refused_overflow}
 use Rattle.poly_commands.proofs.makers.cons.Goals as goal
 
 pub returns-then-full : goal.returns-then-full
@@ -23,4 +24,4 @@ returns g c =
     let small = subst (λ (k : ℕ). k ≤ MAX_DIM) c.in-Some.ensures.0 c.in-Some.ensures.1 in
     let read = subst (λ (k : ℕ). ReadsConstraints c.args.topology k c.args.part.now c.in-Ok.system) c.in-Some.ensures.0 c.in-Ok.ensures in
     let room = not_full c.args.full c.if-full.false in
-    rw c.from.ensures (cons_leaves c.args.full c.args.topology c.args.n c.args.part.now c.in-Ok.system c.in-Err-from_cons.cause small read room c.in-Err-from_cons.ensures.overflow)
+    rw c.from.ensures (cons_leaves c.args.full c.args.topology c.args.n c.args.part.now c.in-Ok.system c.in-Err-from_cons.cause small read room (refused_overflow _ _ _ c.in-Err-from_cons.cause c.in-Err-from_cons.ensures.conversion))

@@ -1,8 +1,10 @@
-use Rattle.std.proofs.Common.{ℕ, ◌≤◌, subst}
+use Rattle.std.proofs.Common.{ℕ, ◌≤◌, Err, subst}
 use Rattle.poly_pair.specs.declared.topology.TheConstants.{MAX_DIM}
 use Rattle.line_values.specs.Texts.{generators_fault, IsTextRefusal, ReadsGenerators}
 use Rattle.line_values.proofs.PerformedLemmas.{not_full}
 use Rattle.poly_commands.proofs.MakerLemmas.{gens_refused, gens_lack, gens_full, gens_made, gens_leaves}
+use Rattle.poly_pair.proofs.WorkLemmas.{gen_overflow_clause}
+use Rattle.poly_pair.specs.Polyhedra.{Polyhedron}
 use Rattle.poly_commands.proofs.makers.gens.Goals as goal
 
 pub returns-in-Err : goal.returns-in-Err
@@ -34,4 +36,4 @@ returns g c =
     let small = subst (λ (k : ℕ). k ≤ MAX_DIM) c.in-Some.ensures.0 c.in-Some.ensures.1 in
     let read = subst (λ (k : ℕ). ReadsGenerators c.args.topology k c.args.part.now c.in-Ok.system) c.in-Some.ensures.0 c.in-Ok.ensures in
     let room = not_full c.args.full c.if-full.false in
-    rw c.from.ensures (gens_leaves c.args.full c.args.topology c.args.n c.args.part.now c.in-Ok.system c.in-Err-from_gens.cause c.one_answer.ensures.gens small read c.if-lacks_point.ensures room c.in-Err-from_gens.ensures.no_point c.in-Err-from_gens.ensures.overflow)
+    rw c.from.ensures (gens_leaves c.args.full c.args.topology c.args.n c.args.part.now c.in-Ok.system c.in-Err-from_gens.cause c.one_answer.ensures.gens small read c.if-lacks_point.ensures room c.in-Err-from_gens.ensures.no_point (gen_overflow_clause {T = Polyhedron} _ _ _ (Err c.in-Err-from_gens.cause) c.in-Err-from_gens.ensures.conversion))

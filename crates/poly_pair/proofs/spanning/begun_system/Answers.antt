@@ -14,55 +14,55 @@ use Rattle.poly_pair.proofs.Additions.{moved, real_from}
 use Rattle.poly_pair.proofs.SpanningSystems.{begun_fewer, begun_start, canon_at, wide_at}
 use Rattle.poly_pair.proofs.spanning.begun_system.Goals as goal
 
-pub add_rows-requires-clause-from : goal.add_rows-requires-clause-from
-add_rows-requires-clause-from g c = begun_fewer c.args.p.now c.args.cons.now c.requires.begins (c.len-from.result + 1) c.in_ok-rows.rows.rows c.in_ok-rows.ensures.rows (ap (λ (n : ℕ). n + 1) (c.len-from.ensures ∙ ap (λ (cs : Constraints). length cs.list) c.cons.ensures.value))
+pub add_rows_from-requires-clause-from : goal.add_rows_from-requires-clause-from
+add_rows_from-requires-clause-from g c = begun_fewer c.args.p.now c.args.cons.now c.requires.begins (c.len-from.result + 1) c.in_ok-rows.rows.rows c.in_ok-rows.ensures.rows (ap (λ (n : ℕ). n + 1) (c.len-from.ensures ∙ ap (λ (cs : Constraints). length cs.list) c.cons.ensures.value))
 
-pub add_rows-requires-clause-system : goal.add_rows-requires-clause-system
-add_rows-requires-clause-system g c =
+pub add_rows_from-requires-clause-system : goal.add_rows_from-requires-clause-system
+add_rows_from-requires-clause-system g c =
     (begun_start c.args.p.now c.args.cons.now c.requires.begins c.in_ok-start.start c.in_ok-start.ensures c.in_ok-rows.rows.width (c.len-from.result + 1) c.in_ok-rows.rows.rows c.in_ok-rows.ensures.width c.in_ok-rows.ensures.rows (ap (λ (n : ℕ). n + 1) (c.len-from.ensures ∙ ap (λ (cs : Constraints). length cs.list) c.cons.ensures.value))).system
 
-pub add_rows-requires-clause-lists : goal.add_rows-requires-clause-lists
-add_rows-requires-clause-lists g c =
+pub add_rows_from-requires-clause-lists : goal.add_rows_from-requires-clause-lists
+add_rows_from-requires-clause-lists g c =
     (begun_start c.args.p.now c.args.cons.now c.requires.begins c.in_ok-start.start c.in_ok-start.ensures c.in_ok-rows.rows.width (c.len-from.result + 1) c.in_ok-rows.rows.rows c.in_ok-rows.ensures.width c.in_ok-rows.ensures.rows (ap (λ (n : ℕ). n + 1) (c.len-from.ensures ∙ ap (λ (cs : Constraints). length cs.list) c.cons.ensures.value))).lists
 
-pub add_rows-requires-clause-sat : goal.add_rows-requires-clause-sat
-add_rows-requires-clause-sat g c =
+pub add_rows_from-requires-clause-sat : goal.add_rows_from-requires-clause-sat
+add_rows_from-requires-clause-sat g c =
     (begun_start c.args.p.now c.args.cons.now c.requires.begins c.in_ok-start.start c.in_ok-start.ensures c.in_ok-rows.rows.width (c.len-from.result + 1) c.in_ok-rows.rows.rows c.in_ok-rows.ensures.width c.in_ok-rows.ensures.rows (ap (λ (n : ℕ). n + 1) (c.len-from.ensures ∙ ap (λ (cs : Constraints). length cs.list) c.cons.ensures.value))).zeros
 
 pub returns-clause-canon : goal.returns-clause-canon
 returns-clause-canon g c =
     let cs = c.args.cons.now in
-    IfOk-weaker c.add_rows.result (λ a. Canon (ConeOf c.in_ok-rows.rows.width c.in_ok-rows.rows.rows) (vectors a.cone.lines.rows) (vectors a.cone.rays.rows)) (λ a. Canon (ConeOf (cs.dim + 1) (constraint_list cs)) (vectors a.cone.lines.rows) (vectors a.cone.rays.rows))
-    (λ a h. canon_at (cs.dim + 1) c.in_ok-rows.rows.width (constraint_list cs) c.in_ok-rows.rows.rows (vectors a.cone.lines.rows) (vectors a.cone.rays.rows) c.in_ok-rows.ensures.width c.in_ok-rows.ensures.rows h) c.add_rows.ensures.canon
+    IfOk-weaker c.add_rows_from.result (λ a. Canon (ConeOf c.in_ok-rows.rows.width c.in_ok-rows.rows.rows) (vectors a.cone.lines.rows) (vectors a.cone.rays.rows)) (λ a. Canon (ConeOf (cs.dim + 1) (constraint_list cs)) (vectors a.cone.lines.rows) (vectors a.cone.rays.rows))
+    (λ a h. canon_at (cs.dim + 1) c.in_ok-rows.rows.width (constraint_list cs) c.in_ok-rows.rows.rows (vectors a.cone.lines.rows) (vectors a.cone.rays.rows) c.in_ok-rows.ensures.width c.in_ok-rows.ensures.rows h) c.add_rows_from.ensures.canon
 
 pub returns-clause-lists : goal.returns-clause-lists
-returns-clause-lists g c = subst (λ (w : ℕ). IfOk c.add_rows.result (λ a. AreLists w a.cone.lines a.cone.rays)) c.in_ok-rows.ensures.width c.add_rows.ensures.lists
+returns-clause-lists g c = subst (λ (w : ℕ). IfOk c.add_rows_from.result (λ a. AreLists w a.cone.lines a.cone.rays)) c.in_ok-rows.ensures.width c.add_rows_from.ensures.lists
 
 pub returns-clause-wide : goal.returns-clause-wide
 returns-clause-wide g c =
     let cs = c.args.cons.now in
-    IfOk-weaker c.add_rows.result (λ a. AreLists c.in_ok-rows.rows.width a.cone.lines a.cone.rays) (λ a. (j : ℕ) → j < length (constraint_list cs) → length (row_at (constraint_list cs) j) ≡ cs.dim + 1)
-    (λ a h. wide_at Closed cs c.in_ok-rows.rows c.width-width.ensures.rows c.in_ok-rows.ensures.width c.in_ok-rows.ensures.rows) c.add_rows.ensures.lists
+    IfOk-weaker c.add_rows_from.result (λ a. AreLists c.in_ok-rows.rows.width a.cone.lines a.cone.rays) (λ a. (j : ℕ) → j < length (constraint_list cs) → length (row_at (constraint_list cs) j) ≡ cs.dim + 1)
+    (λ a h. wide_at Closed cs c.in_ok-rows.rows c.width-width.ensures.rows c.in_ok-rows.ensures.width c.in_ok-rows.ensures.rows) c.add_rows_from.ensures.lists
 
 pub returns-clause-overflow : goal.returns-clause-overflow
 returns-clause-overflow g c =
-    IfErr-weaker c.add_rows.result (IsRealOverflowFrom c.in_ok-rows.rows.width c.in_ok-rows.rows.rows (c.len-from.result + 1)) (IsRealOverflow (c.args.cons.now.dim + 1) (constraint_list c.args.cons.now))
+    IfErr-weaker c.add_rows_from.result (IsRealOverflowFrom c.in_ok-rows.rows.width c.in_ok-rows.rows.rows (c.len-from.result + 1)) (IsRealOverflow (c.args.cons.now.dim + 1) (constraint_list c.args.cons.now))
     (λ e h. moved (λ w rs. IsRealOverflow w rs e) c.in_ok-rows.rows.width (c.args.cons.now.dim + 1) c.in_ok-rows.rows.rows (constraint_list c.args.cons.now) c.in_ok-rows.ensures.width c.in_ok-rows.ensures.rows
-    (real_from c.in_ok-rows.rows.width c.in_ok-rows.rows.rows (c.len-from.result + 1) e h)) c.add_rows.ensures.overflow
+    (real_from c.in_ok-rows.rows.width c.in_ok-rows.rows.rows (c.len-from.result + 1) e h)) c.add_rows_from.ensures.overflow
 
 pub returns-clause-counted : goal.returns-clause-counted
 returns-clause-counted g c =
     let from = length c.args.p.now.cons.list + 1 in
-    let total = c.add_rows.new.steps - c.args.steps.now in
+    let total = c.add_rows_from.new.steps - c.args.steps.now in
     moved (λ w rs. IsCountedBetween w rs from (length rs) total) c.in_ok-rows.rows.width (c.args.cons.now.dim + 1) c.in_ok-rows.rows.rows (constraint_list c.args.cons.now) c.in_ok-rows.ensures.width c.in_ok-rows.ensures.rows
-    (subst (λ (n : ℕ). IsCountedBetween c.in_ok-rows.rows.width c.in_ok-rows.rows.rows n (length c.in_ok-rows.rows.rows) total) (ap (λ (n : ℕ). n + 1) (c.len-from.ensures ∙ ap (λ (cs : Constraints). length cs.list) c.cons.ensures.value)) c.add_rows.ensures.counted)
+    (subst (λ (n : ℕ). IsCountedBetween c.in_ok-rows.rows.width c.in_ok-rows.rows.rows n (length c.in_ok-rows.rows.rows) total) (ap (λ (n : ℕ). n + 1) (c.len-from.ensures ∙ ap (λ (cs : Constraints). length cs.list) c.cons.ensures.value)) c.add_rows_from.ensures.counted)
 
 pub returns-clause-counted_before : goal.returns-clause-counted_before
 returns-clause-counted_before g c =
     let from = length c.args.p.now.cons.list + 1 in
-    let total = c.add_rows.new.steps - c.args.steps.now in
-    moved (λ w rs. IfErr c.add_rows.result (IsCountedBeforeFrom w rs from total)) c.in_ok-rows.rows.width (c.args.cons.now.dim + 1) c.in_ok-rows.rows.rows (constraint_list c.args.cons.now) c.in_ok-rows.ensures.width c.in_ok-rows.ensures.rows
-    (subst (λ (n : ℕ). IfErr c.add_rows.result (IsCountedBeforeFrom c.in_ok-rows.rows.width c.in_ok-rows.rows.rows n total)) (ap (λ (n : ℕ). n + 1) (c.len-from.ensures ∙ ap (λ (cs : Constraints). length cs.list) c.cons.ensures.value)) c.add_rows.ensures.counted_before)
+    let total = c.add_rows_from.new.steps - c.args.steps.now in
+    moved (λ w rs. IfErr c.add_rows_from.result (IsCountedBeforeFrom w rs from total)) c.in_ok-rows.rows.width (c.args.cons.now.dim + 1) c.in_ok-rows.rows.rows (constraint_list c.args.cons.now) c.in_ok-rows.ensures.width c.in_ok-rows.ensures.rows
+    (subst (λ (n : ℕ). IfErr c.add_rows_from.result (IsCountedBeforeFrom c.in_ok-rows.rows.width c.in_ok-rows.rows.rows n total)) (ap (λ (n : ℕ). n + 1) (c.len-from.ensures ∙ ap (λ (cs : Constraints). length cs.list) c.cons.ensures.value)) c.add_rows_from.ensures.counted_before)
 
 pub returns-in_err-rows : goal.returns-in_err-rows
 returns-in_err-rows g c =

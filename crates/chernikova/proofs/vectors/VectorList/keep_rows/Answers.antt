@@ -1,12 +1,12 @@
-use Rattle.std.specs.Prelude.{ℕ, List}
-use Rattle.std.proofs.Common.{ap, ◌∙◌}
-use Rattle.row_core.specs.Lists.{Row, Rows}
-use Rattle.chernikova.specs.Vectors.{with_mark}
+use Rattle.std.specs.Prelude.{All}
+use Rattle.std.proofs.Common.{sym, subst}
+use Rattle.row_core.specs.Narrow.{AllNarrow}
+use Rattle.row_core.proofs.PointwiseLemmas.{all_marked}
 use Rattle.chernikova.proofs.MarkedVectors.{kept_seen}
 use Rattle.chernikova.proofs.vectors.VectorList.keep_rows.Goals as goal
 
-pub returns : goal.returns
-returns c =
-    let W : ℕ → Rows = λ width. record { width = width; rows = with_mark c.self.inside.eq c.keep_rows.new.self.rows } in
-    let R : List Row → Rows = λ rows. record { width = c.args.self.now.width; rows = rows } in
-    ap W (c.keep_rows.ensures.width ∙ ap (λ (l : Rows). l.width) c.self.view_is) ∙ ap R (kept_seen c.self.inside.eq c.self.inside.store c.args.self.now c.keep_rows.new.self.rows c.args.keep.now c.self.view_is c.keep_rows.ensures.rows)
+pub returns-clause-rows : goal.returns-clause-rows
+returns-clause-rows c = kept_seen c.self.inside.eq c.self.inside.store c.args.self.now c.keep_rows.new.self.rows c.args.keep.now c.self.view_is c.keep_rows.ensures.rows
+
+pub invariant_of-self : goal.invariant_of-self
+invariant_of-self c = λ flag. subst (All AllNarrow) (sym c.keep_rows.ensures.rows) (all_marked AllNarrow c.args.keep.now c.self.inside.store.rows (c.self.invariant flag))

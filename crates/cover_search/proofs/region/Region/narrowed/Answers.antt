@@ -9,13 +9,13 @@ use Rattle.std.proofs.lemmas.Result.{err_from_is_err_and}
 use Rattle.std.proofs.lemmas.List.{length_push}
 use Rattle.cover_search.proofs.region.Region.narrowed.Goals as goal
 
-pub add_rows-requires-clause-system : goal.add_rows-requires-clause-system
-add_rows-requires-clause-system g c =
+pub add_rows_from-requires-clause-system : goal.add_rows_from-requires-clause-system
+add_rows_from-requires-clause-system g c =
     let more = encoded_constraint c.self.inside.cons.dim (constraint_at c.args.halfspaces.now.list c.args.index) ∷ [] in
     (front_cone c.self.inside.cons c.self.inside.list more c.push_one.new.list c.len-from.result c.self.inside.cone c.self.invariant c.in_ok-push_one.ensures.width c.in_ok-push_one.ensures.rows c.len-from.ensures).system
 
-pub add_rows-requires-clause-sat : goal.add_rows-requires-clause-sat
-add_rows-requires-clause-sat g c =
+pub add_rows_from-requires-clause-sat : goal.add_rows_from-requires-clause-sat
+add_rows_from-requires-clause-sat g c =
     let more = encoded_constraint c.self.inside.cons.dim (constraint_at c.args.halfspaces.now.list c.args.index) ∷ [] in
     (front_cone c.self.inside.cons c.self.inside.list more c.push_one.new.list c.len-from.result c.self.inside.cone c.self.invariant c.in_ok-push_one.ensures.width c.in_ok-push_one.ensures.rows c.len-from.ensures).zeros
 
@@ -47,5 +47,5 @@ returns-in_err-added-clause-region g c = let p = err_from_is_err_and c.from_resi
 pub returns-in_err-push_one-clause-region : goal.returns-in_err-push_one-clause-region
 returns-in_err-push_one-clause-region g c = let p = err_from_is_err_and c.from_residual.result c.from_residual.ensures.1 in rw p.1 tt
 
-pub add_rows-requires-clause-from : goal.add_rows-requires-clause-from
-add_rows-requires-clause-from g c = omega (arith, c.len-from.ensures, ap (λ (rows : List Row). length rows) c.in_ok-push_one.ensures.rows ∙ length_push c.self.inside.list.rows _)
+pub add_rows_from-requires-clause-from : goal.add_rows_from-requires-clause-from
+add_rows_from-requires-clause-from g c = omega (arith, c.len-from.ensures, ap (λ (rows : List Row). length rows) c.in_ok-push_one.ensures.rows ∙ length_push c.self.inside.list.rows _)

@@ -2,6 +2,8 @@ use Rattle.std.proofs.Common.{◌≡◌, subst}
 use Rattle.std.proofs.lemmas.Result.{IfOk-weaker}
 use Rattle.poly_pair.specs.Polyhedra.{Polyhedron, IsOfConstraints}
 use Rattle.poly_pair.specs.declared.topology.Topology.TheVariants.{Closed}
+use Rattle.poly_pair.specs.Work.{cons_work}
+use Rattle.poly_pair.proofs.WorkLemmas.{overflow_clause, before_clause}
 use Rattle.file_poly.specs.Files.{IsFit}
 use Rattle.file_poly.proofs.listed.Listed.polyhedron.Goals as goal
 
@@ -17,10 +19,10 @@ returns-in-Cons g c =
     rw c.in-Cons.is (record {
       set = e.points;
       closed = IfOk-weaker c.from_cons.result (IsOfConstraints Closed c.in-Cons.cons) (λ (p : Polyhedron). p.topology ≡ Closed) (λ p h. h.over.same_topology) e.points;
-      overflow = e.overflow;
-      no_fewer = e.no_fewer;
-      counted = e.counted;
-      counted_before = e.counted_before;
+      overflow = overflow_clause (cons_work Closed c.in-Cons.cons) c.args.steps.now c.from_cons.new.steps c.from_cons.result e.conversion;
+      no_fewer = e.conversion.no_fewer;
+      counted = e.conversion.counted;
+      counted_before = before_clause (cons_work Closed c.in-Cons.cons) c.args.steps.now c.from_cons.new.steps c.from_cons.result e.conversion;
     })
 
 pub returns-in-Gens : goal.returns-in-Gens

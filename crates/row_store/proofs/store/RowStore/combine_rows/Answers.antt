@@ -29,7 +29,7 @@ combine_parts-requires-clause-apart g c = rows_apart c.width-width.result c.args
 pub invariant_of-self : goal.invariant_of-self
 invariant_of-self g c =
     let t = c.self.inside.rows in
-    kept_cells _ c.cells_mut.result.now c.combine_parts.new.cells t c.cells_mut.ensures.cells c.combine_parts.auto.cells
+    kept_cells c.cells_mut.result.now c.combine_parts.new.cells t c.cells_mut.ensures.cells c.combine_parts.auto.cells
     (c.combine_parts.ensures.in_range (All-cells InRange t c.cells_mut.result.now c.cells_mut.ensures.cells c.self.invariant.in_range)) c.self.invariant
 
 pub returns-clause-combined : goal.returns-clause-combined

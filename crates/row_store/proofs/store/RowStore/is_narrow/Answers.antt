@@ -1,12 +1,9 @@
-use Rattle.std.proofs.Common.{[], rules, refl}
+use Rattle.std.proofs.Common.{[]}
 use Rattle.std.specs.Prelude.{All}
 use Rattle.std.proofs.lemmas.List.Elements.{All-from_get_or}
 use Rattle.row_core.specs.Narrow.{IsNarrow}
 use Rattle.row_core.proofs.Flat.{All-each, All-cells}
 use Rattle.row_store.proofs.store.RowStore.is_narrow.Goals as goal
-
-pub returns-then-self : goal.returns-then-self
-returns-then-self c = rw (← c.self.view_is) ((λ flag i h. c.self.invariant.all_narrow (search rules) i [] h), (λ rows. refl))
 
 pub returns : goal.returns
 returns c =

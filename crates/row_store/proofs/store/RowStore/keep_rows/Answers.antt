@@ -7,5 +7,5 @@ use Rattle.row_store.proofs.store.RowStore.keep_rows.Goals as goal
 pub invariant_of-self : goal.invariant_of-self
 invariant_of-self c =
     let t = c.self.inside.rows in
-    kept_among _ t c.keep_rows.new.self c.keep_rows.ensures.width
+    kept_among t c.keep_rows.new.self c.keep_rows.ensures.width
     (λ P all. subst (All P) (sym c.keep_rows.ensures.rows) (all_marked P c.args.keep.now t.rows all)) c.self.invariant

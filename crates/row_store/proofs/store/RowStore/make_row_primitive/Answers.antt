@@ -17,7 +17,7 @@ pub make_part_primitive-requires-clause-in_range : goal.make_part_primitive-requ
 make_part_primitive-requires-clause-in_range c = All-cells InRange c.self.inside.rows c.cells_mut.result.now c.cells_mut.ensures.cells c.self.invariant.in_range
 
 pub invariant_of-self : goal.invariant_of-self
-invariant_of-self c = kept_cells _ c.cells_mut.result.now c.make_part_primitive.new.cells c.self.inside.rows c.cells_mut.ensures.cells c.make_part_primitive.auto.cells c.make_part_primitive.ensures.in_range c.self.invariant
+invariant_of-self c = kept_cells c.cells_mut.result.now c.make_part_primitive.new.cells c.self.inside.rows c.cells_mut.ensures.cells c.make_part_primitive.auto.cells c.make_part_primitive.ensures.in_range c.self.invariant
 
 pub returns : goal.returns
 returns c =

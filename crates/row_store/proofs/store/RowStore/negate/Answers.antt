@@ -16,7 +16,7 @@ pub negate_part-requires-clause-in_range : goal.negate_part-requires-clause-in_r
 negate_part-requires-clause-in_range c = All-cells InRange c.self.inside.rows c.cells_mut.result.now c.cells_mut.ensures.cells c.self.invariant.in_range
 
 pub invariant_of-self : goal.invariant_of-self
-invariant_of-self c = kept_cells _ c.cells_mut.result.now c.negate_part.new.cells c.self.inside.rows c.cells_mut.ensures.cells c.negate_part.auto.cells c.negate_part.ensures.in_range c.self.invariant
+invariant_of-self c = kept_cells c.cells_mut.result.now c.negate_part.new.cells c.self.inside.rows c.cells_mut.ensures.cells c.negate_part.auto.cells c.negate_part.ensures.in_range c.self.invariant
 
 pub returns : goal.returns
 returns c =

@@ -8,5 +8,5 @@ use Rattle.row_store.proofs.store.RowStore.truncate.Goals as goal
 pub invariant_of-self : goal.invariant_of-self
 invariant_of-self c =
     let t = c.self.inside.rows in
-    kept_among _ t c.truncate.new.self (ap (λ (u : Flat ℤ). u.width) c.truncate.ensures)
+    kept_among t c.truncate.new.self (ap (λ (u : Flat ℤ). u.width) c.truncate.ensures)
     (λ P all. subst (All P) (sym (ap (λ (u : Flat ℤ). u.rows) c.truncate.ensures)) (All-take P c.args.count t.rows all)) c.self.invariant

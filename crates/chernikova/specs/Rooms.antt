@@ -1,0 +1,45 @@
+use Rattle.std.specs.Prelude.{◌≡◌, ℕ, ◌+◌, ◌≤◌, ⊤, List, [], length}
+use Rattle.sat_matrix.specs.Tables.{Table}
+use Rattle.row_core.specs.Lists.{Row}
+use Rattle.chernikova.specs.Vectors.{HasSame}
+use Rattle.chernikova.specs.Tables.{HasFalseColumn}
+use Rattle.chernikova.specs.Conversion.{IsState}
+use Rattle.chernikova.specs.Plans.{IsPlan}
+use Rattle.chernikova.specs.declared.scratch.Scratch.{Scratch}
+use Rattle.chernikova.specs.declared.system.System.{System}
+use Rattle.chernikova.specs.declared.plan.Plan.{Plan}
+use Rattle.chernikova.specs.declared.plan.Plan.TheVariants as plan
+
+-- the system has the same lines and rays
+pub record HasSameVectors (old new : System) : Type 0 where
+  pub lines : HasSame old.lines new.lines
+  pub rays : HasSame old.rays new.rays
+
+-- the lists of a line step are empty, and have room for all lines and rays of the next system, and its table for one more row
+pub record HasLineRoom (scratch : Scratch) (cone : System) : Type 0 where
+  pub lines_width : scratch.lines.width ≡ cone.lines.width
+  pub rays_width : scratch.rays.width ≡ cone.lines.width
+  pub no_lines : scratch.lines.rows ≡ []
+  pub no_rays : scratch.rays.rows ≡ []
+  pub lines : length cone.lines.rows ≤ scratch.lines.spare
+  pub rays : length cone.rays.rows + 1 ≤ scratch.rays.spare
+  pub zeros : 1 ≤ cone.sat.spare
+
+-- there is room for the ray of each of so many pairs, and for its row of the table
+pub record HasRayRoom (pairs : ℕ) (cone : System) : Type 0 where
+  pub rays : pairs ≤ cone.rays.spare
+  pub zeros : pairs ≤ cone.sat.spare
+
+-- there is all room that the step takes
+abbrev pub HasRoom : Plan → Scratch → System → Type 0
+HasRoom (plan.Line index line_values ray_values) scratch cone = HasLineRoom scratch cone
+HasRoom (plan.Same values) scratch cone = ⊤
+HasRoom (plan.Ray values marks pairs) scratch cone = HasRayRoom (length pairs.items) cone
+
+-- the system is that of the rows before row k, the plan is what the step with row k is to do with it, and there is room for it
+pub record IsReady (width : ℕ) (rows : List Row) (k : ℕ) (step : Plan) (scratch : Scratch) (cone : System) : Type 0 where
+  pub before : Table
+  pub state : IsState width rows k (record cone { sat = before })
+  pub planned : IsPlan rows k (record cone { sat = before }) step
+  pub column : HasFalseColumn before cone.sat
+  pub room : HasRoom step scratch cone
