@@ -9,6 +9,10 @@ mod bits;
 #[cfg(test)]
 mod constraint_systems;
 #[cfg(test)]
+mod conversions;
+#[cfg(test)]
+mod decoded_systems;
+#[cfg(test)]
 mod forms;
 #[cfg(test)]
 mod generator_systems;
