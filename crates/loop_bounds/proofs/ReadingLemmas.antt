@@ -36,10 +36,10 @@ line_read word line part Q P e = shown_part word line part Q P (λ x. IsBehind w
 pub no_word : (word line : List ℕ) (P : List ℕ → Fault → Type 0) (cause : ReadErr) → (¬ (HasPart word line)) × (cause ≡ Input (Syntax 1)) → IsRefusedFor (IsLineFault word line P) cause
 no_word word line P cause (none, e) = subst (IsRefusedFor (IsLineFault word line P)) (sym e) (inl (none, refl))
 
-pub assignment_read : (dim variable : ℕ) (word line part : List ℕ) → word ≡ assignment_word variable → line ≡ word ++ part → (read shown : Result Assignment ReadErr) → MatchResult read (λ a. IsValue dim variable a part × IsAssignment dim a) (IsRefusedFor (IsVariableFault dim variable part)) → MatchResult read (λ a. shown ≡ Ok a) (λ cause. shown ≡ Err (refused_behind (length word) cause)) → MatchResult shown (λ a. IsAssignmentLine dim line a × IsAssignment dim a) (IsRefusedFor (IsAssignmentFault dim line))
-assignment_read dim variable word line part named e = shown_part word line part (λ a text. IsValue dim variable a text × IsAssignment dim a) (IsVariableFault dim variable) (λ a. IsAssignmentLine dim line a × IsAssignment dim a) (IsAssignmentFault dim line) e
+pub assignment_read : (dim variable : ℕ) (word line part : List ℕ) → variable < MAX_DIM → word ≡ assignment_word variable → line ≡ word ++ part → (read shown : Result Assignment ReadErr) → MatchResult read (λ a. IsValue dim variable a part × IsAssignment dim a) (IsRefusedFor (IsVariableFault dim variable part)) → MatchResult read (λ a. shown ≡ Ok a) (λ cause. shown ≡ Err (refused_behind (length word) cause)) → MatchResult shown (λ a. IsAssignmentLine dim line a × IsAssignment dim a) (IsRefusedFor (IsAssignmentFault dim line))
+assignment_read dim variable word line part known named e = shown_part word line part (λ a text. IsValue dim variable a text × IsAssignment dim a) (IsVariableFault dim variable) (λ a. IsAssignmentLine dim line a × IsAssignment dim a) (IsAssignmentFault dim line) e
     (λ a is. ((variable, record { part = part; behind = e ∙ ap (λ (w : List ℕ). w ++ part) named; holds = is.0 }), is.1))
-    (λ fault is. inr (variable, subst (λ (w : List ℕ). IsPartFault w line (IsVariableFault dim variable) fault) named is))
+    (λ fault is. inr (variable, known, subst (λ (w : List ℕ). IsPartFault w line (IsVariableFault dim variable) fault) named is))
 
 -- ---- the number of variables
 one_cell : (row : List ℤ) → length row ≡ 1 → row ≡ cell row 0 ∷ []

@@ -121,7 +121,8 @@ IsVariableFault dim variable part fault = ((dim ≤ variable) × (fault ≡ OutO
 
 -- no variable begins the line, or one does and what stands behind it has a fault
 abbrev pub IsAssignmentFault : ℕ → List ℕ → Fault → Type 0
-IsAssignmentFault dim line fault = (((j : ℕ) → j < MAX_DIM → ¬ (HasPart (assignment_word j) line)) × (fault ≡ Syntax 1)) ⊎ ((j : ℕ) × IsPartFault (assignment_word j) line (IsVariableFault dim j) fault)
+IsAssignmentFault dim line fault = (((j : ℕ) → j < MAX_DIM → ¬ (HasPart (assignment_word j) line)) × (fault ≡ Syntax 1))
+    ⊎ ((j : ℕ) × (j < MAX_DIM) × IsPartFault (assignment_word j) line (IsVariableFault dim j) fault)
 
 -- the fault of a line that isn't silent, behind lines that say so much
 abbrev pub HasFault : Draft → List ℕ → Fault → Type 0

@@ -31,10 +31,10 @@ module _ (one : HasOneAnswer) (p q : Polyhedron) (tests : Passes (alike p q (roo
       (tests.0, (tests.1.0, (λ ne. ne closed, (tests.1.1.1.0, (tests.1.1.1.1.0, (tests.1.1.1.1.1.0, (tests.1.1.1.1.1.1.0, (tests.1.1.1.1.1.1.1.0, (tests.1.1.1.1.1.1.1.1.0, (tests.1.1.1.1.1.1.1.1.1.0, (tests.1.1.1.1.1.1.1.1.1.1.0, (tests.1.1.1.1.1.1.1.1.1.1.1.0, (tests.1.1.1.1.1.1.1.1.1.1.1.1.0, (λ other. never (one q.cons.list p.gens.list false r (Ok false) answer other), tt))))))))))))))
 
   pub widened : (made : Polyhedron) → Answers q.cons.list p.gens.list false (Ok true) → IsIncluded p q → IsWidening p q made → IsPerformed (widen false p q) (Ok made)
-  widened made answer included is = (passes (Ok true) answer (λ e. cc), record { nested = included; widening = is })
+  widened made answer included is = (passes (Ok true) answer (λ e. cc), record { tested = answer; nested = included; widening = is })
 
   pub overflows : (cause : ConvErr) → Answers q.cons.list p.gens.list false (Ok true) → IsWideningOverflow p q cause → IsPerformed (widen false p q) (Err (refusal_of_conversion cause))
-  overflows (conversion.Overflow over) answer is = (passes (Ok true) answer (λ e. cc), inr is)
+  overflows (conversion.Overflow over) answer is = (passes (Ok true) answer (λ e. cc), inr (record { tested = answer; leaves = is }))
   overflows conversion.Memory answer is = tt
 
   pub shows_pair : (pair : PairOver) (over : Overflow) → Answers q.cons.list p.gens.list false (Err pair) → over ≡ shown_rows q.cons p.gens pair → IsPerformed (widen false p q) (Err (err.Overflow over))

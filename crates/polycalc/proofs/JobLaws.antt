@@ -132,7 +132,7 @@ module _ (words : List (List ℕ)) (task : Job) (given : List ℕ) (left now old
   pub when_refused : status ≡ Refused → Ends words left now old new false
   when_refused e = let o = at Refused e in record { job = task; asked = asked; given = given; gave = gave; read_out = o.1; finishes = o.2 }
 
-  stops : (Writes : Job → List ℕ → Option (List ℕ) → Option (List ℕ) → Type 0) → Writes task given old new → Stops words left now old new Writes
+  stops : (Writes : Job → List ℕ → Option (List ℕ) → Option (List ℕ) → Option (List ℕ) → Type 0) → Writes task given now old new → Stops words left now old new Writes
   stops Writes w = record { job = task; asked = asked; given = given; gave = gave; writes = w }
 
   pub when_unread : status ≡ ReadFault → Stops words left now old new AnswersRead

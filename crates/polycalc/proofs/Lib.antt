@@ -4,6 +4,7 @@ pub mod CompleteRuns
 pub mod CutRuns
 pub mod StreamLaws
 pub mod EndLaws
+pub mod FirstLines
 pub mod WriteLaws
 pub mod ConversionLaws
 pub mod SampleLaws

@@ -27,6 +27,7 @@ use Rattle.polycalc.specs.declared.status.Status.{Status}
 use Rattle.polycalc.specs.declared.status.Status.TheVariants.{Done, Refused, Usage, ReadFault, WriteFault, Memory, InputTooLong}
 use Rattle.polycalc.proofs.RunLaws.{Run-then, written-more}
 use Rattle.polycalc.proofs.CutRuns.{run_of_cut, parts_of_cut, one_of_cut, run_of_part}
+use Rattle.polycalc.proofs.FirstLines.{AreWholeWhenCut, first_of_parts, line_of_fed, all_lines, bool_cases}
 
 -- where a run stands: the bytes given so far are cut into the lines answered and what is pending, and the replies are
 -- those that were written and those that are gathered
@@ -119,17 +120,17 @@ empty_lacks [] e (k, h, i) = omega arith
 empty_lacks (b ∷ p) e h = cc
 
 -- the first lines of some bytes are answered, and a front of the replies is written
-prefix_of_cut : (all : List ℕ) (answered others : List (List ℕ)) (old new : Option (List ℕ)) (state : State) (replies : List Reply) (n : ℕ) → cut all ≡ answered ++ others →
-    Run (closed []) answered replies state → new ≡ append_known old (take n (replies_bytes replies)) → WritesPrefix all old new
-prefix_of_cut all answered others old new state replies n e r h =
-    let p = parts_of_cut (lines all) answered others e in
+prefix_of_cut : (all : List ℕ) (answered others : List (List ℕ)) (left old new : Option (List ℕ)) (state : State) (replies : List Reply) (n : ℕ) → cut all ≡ answered ++ others → AreWholeWhenCut all left answered →
+    Run (closed []) answered replies state → new ≡ append_known old (take n (replies_bytes replies)) → WritesPrefix all left old new
+prefix_of_cut all answered others left old new state replies n e q r h =
+    let p = first_of_parts all left answered others e q in
     record {
-      answered = p.first;
-      others = p.second;
-      cut = p.both;
+      answered = p.answered;
+      others = p.others;
+      first = p.first;
       state = state;
       replies = replies;
-      run = run_of_part (lines all) answered others replies state p r;
+      run = run_of_cut (closed []) p.answered replies state (subst (λ (t : List (List ℕ)). Run (closed []) t replies state) (sym p.is_cut) r);
       further = [];
       is_end = inl refl;
       count = n;
@@ -137,17 +138,17 @@ prefix_of_cut all answered others old new state replies n e r h =
     }
 
 -- the first lines of some bytes are answered, and all replies to them are written
-first_of_cut : (all : List ℕ) (answered others : List (List ℕ)) (old new : Option (List ℕ)) (state : State) (replies : List Reply) → cut all ≡ answered ++ others →
-    Run (closed []) answered replies state → new ≡ append_known old (replies_bytes replies) → AnswersFirst all old new
-first_of_cut all answered others old new state replies e r h =
-    let p = parts_of_cut (lines all) answered others e in
+first_of_cut : (all : List ℕ) (answered others : List (List ℕ)) (left old new : Option (List ℕ)) (state : State) (replies : List Reply) → cut all ≡ answered ++ others → AreWholeWhenCut all left answered →
+    Run (closed []) answered replies state → new ≡ append_known old (replies_bytes replies) → AnswersFirst all left old new
+first_of_cut all answered others left old new state replies e q r h =
+    let p = first_of_parts all left answered others e q in
     record {
-      answered = p.first;
-      others = p.second;
-      cut = p.both;
+      answered = p.answered;
+      others = p.others;
+      first = p.first;
       state = state;
       replies = replies;
-      run = run_of_part (lines all) answered others replies state p r;
+      run = run_of_cut (closed []) p.answered replies state (subst (λ (t : List (List ℕ)). Run (closed []) t replies state) (sym p.is_cut) r);
       held = h;
     }
 
@@ -173,12 +174,30 @@ some_written given old now later state reader w n g h =
     h ∙ ap (λ (k : Option (List ℕ)). append_known k (take n w.bytes)) g.held ∙ sym (append_known-append old g.flushed (take n w.bytes))
     ∙ ap (λ (x : List ℕ). append_known old x) (sym (front g.flushed w.bytes n) ∙ ap (take (length g.flushed + n)) g.bytes)
 
+-- the lines that are answered are whole ones, unless the source has ended
+whole_of_goes : (given more : List ℕ) (left old now : Option (List ℕ)) (state : State) (reader : Reading) (w : Written) (g : Goes given old now state reader w) →
+    (reader.ended ≡ true → IsAtEnd left) → AreWholeWhenCut (given ++ more) left g.done
+whole_of_goes given more left old now state reader w g last =
+    elim (bool_cases reader.ended) [
+      | inl ended ↦ inl (last ended)
+      | inr going ↦
+          let line = line_of_fed (reader.pending ++ more) in
+          inr (
+            line.next,
+            line.others,
+            ap cut (append_assoc given more (10 ∷ [])) ∙ g.cuts (more ++ 10 ∷ []) (λ (e : reader.ended ≡ true). (let no : true ≡ false = sym e ∙ going in cc))
+            ∙ ap (λ (x : List (List ℕ)). g.done ++ x) (ap cut (sym (append_assoc reader.pending more (10 ∷ []))) ∙ line.cut_is),
+          )
+    ]
+
 -- a front of what was gathered is written
-pub front_of_goes : (given : List ℕ) (old now later : Option (List ℕ)) (state : State) (reader : Reading) (w : Written) (n : ℕ) → Goes given old now state reader w →
-    later ≡ append_known now (take n w.bytes) → WritesPrefix given old later
-front_of_goes given old now later state reader w n g h =
-    prefix_of_cut given g.done (cut (reader.pending ++ [])) old later state g.replies (length g.flushed + n)
-    (ap cut (sym (append-nil given)) ∙ g.cuts [] (λ (e : reader.ended ≡ true). refl)) g.run (some_written given old now later state reader w n g h)
+pub front_of_goes : (given : List ℕ) (left old now later : Option (List ℕ)) (state : State) (reader : Reading) (w : Written) (n : ℕ) → (reader.ended ≡ true → IsAtEnd left) → Goes given old now state reader w →
+    later ≡ append_known now (take n w.bytes) → WritesPrefix given left old later
+front_of_goes given left old now later state reader w n last g h =
+    prefix_of_cut given g.done (cut (reader.pending ++ [])) left old later state g.replies (length g.flushed + n)
+    (ap cut (sym (append-nil given)) ∙ g.cuts [] (λ (e : reader.ended ≡ true). refl))
+    (subst (λ (x : List ℕ). AreWholeWhenCut x left g.done) (append-nil given) (whole_of_goes given [] left old now state reader w g last))
+    g.run (some_written given old now later state reader w n g h)
 
 -- all that was gathered is written
 all_written : (given : List ℕ) (old now : Option (List ℕ)) (state : State) (reader : Reading) (w : Written) (g : Goes given old now state reader w) → w.bytes ≡ [] → now ≡ append_known old (replies_bytes g.replies)
@@ -227,16 +246,16 @@ completes all old now later state w clean h verdict held = record {
   verdict = list_all-append is_answer h.replies (at_end state) ∙ ap (λ (b : Bool). b && is_clean (at_end state)) (sym h.clean) ∙ verdict;
 }
 
-cut_short : (all : List ℕ) (old now later : Option (List ℕ)) (state : State) (w : Written) (n : ℕ) → HasEnded all old now state w → later ≡ append_known now (take n (replies_bytes (at_end state))) → WritesPrefix all old later
-cut_short all old now later state w n h held = record {
+cut_short : (all : List ℕ) (left old now later : Option (List ℕ)) (state : State) (w : Written) (n : ℕ) → IsAtEnd left → HasEnded all old now state w → later ≡ append_known now (take n (replies_bytes (at_end state))) → WritesPrefix all left old later
+cut_short all left old now later state w n last h held = record {
   answered = lines all;
   others = [];
-  cut = sym (append-nil (lines all));
+  first = all_lines all left last;
   state = state;
   replies = h.replies;
   run = h.run;
   further = at_end state;
-  is_end = inr (refl, refl);
+  is_end = inr (last, refl, refl);
   count = length (replies_bytes h.replies) + n;
   held = held ∙ ap (λ (k : Option (List ℕ)). append_known k (take n (replies_bytes (at_end state)))) h.held ∙ sym (append_known-append old (replies_bytes h.replies) (take n (replies_bytes (at_end state))))
       ∙ ap (append_known old) (sym (front (replies_bytes h.replies) (replies_bytes (at_end state)) n) ∙ ap (take (length (replies_bytes h.replies) + n)) (sym (both_bytes h.replies (at_end state))));
@@ -246,8 +265,8 @@ cut_short all old now later state w n h held = record {
 pub ends_script : (all : List ℕ) (left old now later : Option (List ℕ)) (state : State) (w : Written) (status : Status) → length all ≤ 2 ^ 26 → IsAtEnd left → HasEnded all old now state w → Closes (at_end state) w.clean now later status → Outcome job.Run all left old later status
 ends_script all left old now later state w Done few last h (done verdict held) = (few, last, completes all old now later state w true h verdict held)
 ends_script all left old now later state w Refused few last h (refused verdict held) = (few, last, completes all old now later state w false h verdict held)
-ends_script all left old now later state w WriteFault few last h (unwritten n held) = (few, cut_short all old now later state w n h held)
-ends_script all left old now later state w Memory few last h (unmade n held) = (few, cut_short all old now later state w n h held)
+ends_script all left old now later state w WriteFault few last h (unwritten n held) = (few, cut_short all left old now later state w n last h held)
+ends_script all left old now later state w Memory few last h (unmade n held) = (few, cut_short all left old now later state w n last h held)
 ends_script all left old now later state w Usage few last h closes = elim closes [ ]
 ends_script all left old now later state w ReadFault few last h closes = elim closes [ ]
 ends_script all left old now later state w InputTooLong few last h closes = elim closes [ ]
@@ -263,13 +282,13 @@ goes_failed given more old now state reader new w g all t s going a =
     g.run (all_written given old now state reader w g all)
 
 -- too many bytes were given
-pub goes_too_long : (given more : List ℕ) (old now : Option (List ℕ)) (state : State) (reader new : Reading) (w : Written) → Goes given old now state reader w →
-    new.taken ≡ reader.taken + length more → IsStill more reader new → Answers more reader new TooLong → WritesPrefix (given ++ more) old now
-goes_too_long given more old now state reader new w g t s a =
-    prefix_of_cut (given ++ more) g.done (cut (new.pending ++ [])) old now state g.replies (length g.flushed + 0)
+pub goes_too_long : (given more : List ℕ) (left old now : Option (List ℕ)) (state : State) (reader new : Reading) (w : Written) → (reader.ended ≡ true → IsAtEnd left) → Goes given old now state reader w →
+    new.taken ≡ reader.taken + length more → IsStill more reader new → Answers more reader new TooLong → WritesPrefix (given ++ more) left old now
+goes_too_long given more left old now state reader new w last g t s a =
+    prefix_of_cut (given ++ more) g.done (cut (new.pending ++ [])) left old now state g.replies (length g.flushed + 0)
     (ap cut (sym (append-nil (given ++ more)) ∙ append_assoc given more [])
     ∙ g.cuts (more ++ []) (nothing_more more [] reader new t s (λ (e : new.ended ≡ true). refl)) ∙ ap (λ (x : List (List ℕ)). g.done ++ x) (a.0 []))
-    g.run (none_written given old now state reader w g)
+    (whole_of_goes given more left old now state reader w g last) g.run (none_written given old now state reader w g)
 
 -- and all whole lines that were given before the last read are answered
 pub goes_earlier : (given more : List ℕ) (old now : Option (List ℕ)) (state : State) (reader : Reading) (w : Written) → Goes given old now state reader w → w.bytes ≡ [] →
@@ -296,41 +315,42 @@ line_cut given more old now state reader new w g t s a =
     ∙ g.cuts (more ++ []) (nothing_more more [] reader new t s (λ (e : new.ended ≡ true). refl)) ∙ ap (λ (x : List (List ℕ)). g.done ++ x) (a.0 [] (λ (e : new.ended ≡ true). refl))
 
 -- all that was gathered before it is written
-pub goes_before : (given more : List ℕ) (old now later : Option (List ℕ)) (state : State) (reader new : Reading) (w : Written) → Goes given old now state reader w →
-    new.taken ≡ reader.taken + length more → IsStill more reader new → Answers more reader new Line → later ≡ append_known now w.bytes → AnswersFirst (given ++ more) old later
-goes_before given more old now later state reader new w g t s a h =
-    first_of_cut (given ++ more) g.done (new.line ∷ cut (new.pending ++ [])) old later state g.replies (line_cut given more old now state reader new w g t s a) g.run
+pub goes_before : (given more : List ℕ) (left old now later : Option (List ℕ)) (state : State) (reader new : Reading) (w : Written) → (reader.ended ≡ true → IsAtEnd left) → Goes given old now state reader w →
+    new.taken ≡ reader.taken + length more → IsStill more reader new → Answers more reader new Line → later ≡ append_known now w.bytes → AnswersFirst (given ++ more) left old later
+goes_before given more left old now later state reader new w last g t s a h =
+    first_of_cut (given ++ more) g.done (new.line ∷ cut (new.pending ++ [])) left old later state g.replies (line_cut given more old now state reader new w g t s a)
+    (whole_of_goes given more left old now state reader w g last) g.run
     (h ∙ ap (λ (k : Option (List ℕ)). append_known k w.bytes) g.held ∙ sym (append_known-append old g.flushed w.bytes) ∙ ap (append_known old) g.bytes)
 
 -- a front of it is written
-unanswered : (given more : List ℕ) (old now later : Option (List ℕ)) (state : State) (reader new : Reading) (w : Written) (n : ℕ) → Goes given old now state reader w →
-    new.taken ≡ reader.taken + length more → IsStill more reader new → Answers more reader new Line → later ≡ append_known now (take n w.bytes) → WritesPrefix (given ++ more) old later
-unanswered given more old now later state reader new w n g t s a h =
-    prefix_of_cut (given ++ more) g.done (new.line ∷ cut (new.pending ++ [])) old later state g.replies (length g.flushed + n) (line_cut given more old now state reader new w g t s a)
-    g.run (some_written given old now later state reader w n g h)
+unanswered : (given more : List ℕ) (left old now later : Option (List ℕ)) (state : State) (reader new : Reading) (w : Written) (n : ℕ) → (reader.ended ≡ true → IsAtEnd left) → Goes given old now state reader w →
+    new.taken ≡ reader.taken + length more → IsStill more reader new → Answers more reader new Line → later ≡ append_known now (take n w.bytes) → WritesPrefix (given ++ more) left old later
+unanswered given more left old now later state reader new w n last g t s a h =
+    prefix_of_cut (given ++ more) g.done (new.line ∷ cut (new.pending ++ [])) left old later state g.replies (length g.flushed + n) (line_cut given more old now state reader new w g t s a)
+    (whole_of_goes given more left old now state reader w g last) g.run (some_written given old now later state reader w n g h)
 
-pub goes_unanswered : (given more : List ℕ) (left old now later : Option (List ℕ)) (state : State) (reader new : Reading) (w : Written) (n : ℕ) (status : Status) → length (given ++ more) ≤ 2 ^ 26 → Goes given old now state reader w →
+pub goes_unanswered : (given more : List ℕ) (left old now later : Option (List ℕ)) (state : State) (reader new : Reading) (w : Written) (n : ℕ) (status : Status) → length (given ++ more) ≤ 2 ^ 26 → (reader.ended ≡ true → IsAtEnd left) → Goes given old now state reader w →
     new.taken ≡ reader.taken + length more → IsStill more reader new → Answers more reader new Line → later ≡ append_known now (take n w.bytes) →
     (status ≡ WriteFault) ⊎ (status ≡ Memory) → Outcome job.Run (given ++ more) left old later status
-goes_unanswered given more left old now later state reader new w n status few g t s a h (inl e) =
-    subst (λ (x : Status). Outcome job.Run (given ++ more) left old later x) (sym e) (few, unanswered given more old now later state reader new w n g t s a h)
-goes_unanswered given more left old now later state reader new w n status few g t s a h (inr e) =
-    subst (λ (x : Status). Outcome job.Run (given ++ more) left old later x) (sym e) (few, unanswered given more old now later state reader new w n g t s a h)
+goes_unanswered given more left old now later state reader new w n status few last g t s a h (inl e) =
+    subst (λ (x : Status). Outcome job.Run (given ++ more) left old later x) (sym e) (few, unanswered given more left old now later state reader new w n last g t s a h)
+goes_unanswered given more left old now later state reader new w n status few last g t s a h (inr e) =
+    subst (λ (x : Status). Outcome job.Run (given ++ more) left old later x) (sym e) (few, unanswered given more left old now later state reader new w n last g t s a h)
 
 -- the input has ended: all lines are among the first
-pub ended_before : (all : List ℕ) (old now : Option (List ℕ)) (state : State) (w : Written) → HasEnded all old now state w → AnswersFirst all old now
-ended_before all old now state w h = record {
+pub ended_before : (all : List ℕ) (left old now : Option (List ℕ)) (state : State) (w : Written) → IsAtEnd left → HasEnded all old now state w → AnswersFirst all left old now
+ended_before all left old now state w last h = record {
   answered = lines all;
   others = [];
-  cut = sym (append-nil (lines all));
+  first = all_lines all left last;
   state = state;
   replies = h.replies;
   run = h.run;
   held = h.held;
 }
 
-pub none_before : (held : Option (List ℕ)) → AnswersFirst [] held held
-none_before held = first_of_cut [] [] (cut []) held held (closed []) [] refl refl (sym (append_known-nil held))
+pub none_before : (left held : Option (List ℕ)) → AnswersFirst [] left held held
+none_before left held = first_of_cut [] [] (cut []) left held held (closed []) [] refl (inr ([], [], refl)) refl (sym (append_known-nil held))
 
 -- a count that has risen in a part of a call has risen in the call
 pub risen_since : (old mid new : ℕ) → old ≤ mid → HasRisen mid new → HasRisen old new
@@ -338,11 +358,11 @@ risen_since old mid new h (inl k) = inl (omega (arith, h, k))
 risen_since old mid new h (inr e) = inr e
 
 -- nothing is a front of the replies to no line
-pub nothing_streamed : (held : Option (List ℕ)) → WritesPrefix [] held held
-nothing_streamed held = record {
+pub nothing_streamed : (left held : Option (List ℕ)) → WritesPrefix [] left held held
+nothing_streamed left held = record {
   answered = [];
   others = lines [];
-  cut = refl;
+  first = record { cut = refl; whole = inr (record { next = []; others = []; cut = refl }) };
   state = closed [];
   replies = [];
   run = refl;

@@ -17,8 +17,8 @@ use Rattle.polycalc.specs.declared.status.Status.TheVariants.{Done, Refused, Usa
 one_converted : (want : Format) (file : List ℕ) (left old new : Option (List ℕ)) (reply : Reply) (s : Status) → ConvertsTo want file reply → length file ≤ 2 ^ 26 → IsAtEnd left → Writes (with_reply (written []) reply) old new s → Outcome (job.Convert want) file left old new s
 one_converted want file left old new reply Done is few ended (clean, held) = (few, ended, record { reply = reply; converts = is; held = held; verdict = clean })
 one_converted want file left old new reply Refused is few ended (clean, held) = (few, ended, record { reply = reply; converts = is; held = held; verdict = clean })
-one_converted want file left old new reply WriteFault is few ended (count, held) = (few, inr (record { reply = reply; converts = is; count = count; held = held }))
-one_converted want file left old new reply Memory is few ended (count, held) = (few, inr (record { reply = reply; converts = is; count = count; held = held }))
+one_converted want file left old new reply WriteFault is few ended (count, held) = (few, inr (ended, record { reply = reply; converts = is; count = count; held = held }))
+one_converted want file left old new reply Memory is few ended (count, held) = (few, inr (ended, record { reply = reply; converts = is; count = count; held = held }))
 one_converted want file left old new reply Usage is few ended h = absurd h
 one_converted want file left old new reply ReadFault is few ended h = absurd h
 one_converted want file left old new reply InputTooLong is few ended h = absurd h

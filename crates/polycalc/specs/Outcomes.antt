@@ -22,20 +22,31 @@ pub record Completes (script : List ℕ) (clean : Bool) (old new : Option (List 
   pub held : new ≡ append_known old (replies_bytes (replies ++ at_end state))
   pub verdict : is_clean (replies ++ at_end state) ≡ clean
 
--- no reply, or behind the last line that to the end of the script
-abbrev pub IsEndReply : List (List ℕ) → State → List Reply → Type 0
-IsEndReply others state further = (further ≡ []) ⊎ ((others ≡ []) × (further ≡ at_end state))
+-- a line feed ends each of these lines, the script's first: after one more line feed another line follows
+pub record AreWholeLines (script : List ℕ) (answered : List (List ℕ)) : Type 0 where
+  pub next : List ℕ
+  pub others : List (List ℕ)
+  pub cut : lines (script ++ 10 ∷ []) ≡ answered ++ next ∷ others
+
+-- the first lines of what a source gave, and the others: where it isn't at its end, the first are whole lines
+pub record AreFirstLines (given : List ℕ) (left : Option (List ℕ)) (answered others : List (List ℕ)) : Type 0 where
+  pub cut : lines given ≡ answered ++ others
+  pub whole : IsAtEnd left ⊎ AreWholeLines given answered
+
+-- no reply, or after the last line of a source that is at its end that to the end of the script
+abbrev pub IsEndReply : Option (List ℕ) → List (List ℕ) → State → List Reply → Type 0
+IsEndReply left others state further = (further ≡ []) ⊎ (IsAtEnd left × (others ≡ []) × (further ≡ at_end state))
 
 -- what was held, and behind it a front of the replies of a run over the first lines of the script, or over all and to its end
-pub record WritesPrefix (script : List ℕ) (old new : Option (List ℕ)) : Type 0 where
+pub record WritesPrefix (script : List ℕ) (left old new : Option (List ℕ)) : Type 0 where
   pub answered : List (List ℕ)
   pub others : List (List ℕ)
-  pub cut : lines script ≡ answered ++ others
+  pub first : AreFirstLines script left answered others
   pub state : State
   pub replies : List Reply
   pub run : Run (closed []) answered replies state
   pub further : List Reply
-  pub is_end : IsEndReply others state further
+  pub is_end : IsEndReply left others state further
   pub count : ℕ
   pub held : new ≡ append_known old (take count (replies_bytes (replies ++ further)))
 
@@ -59,10 +70,10 @@ pub record AnswersEarlier (script : List ℕ) (old new : Option (List ℕ)) : Ty
   pub answers : AnswersWhole earlier old new
 
 -- what was held, and behind it the replies of a run over the first lines of the script
-pub record AnswersFirst (script : List ℕ) (old new : Option (List ℕ)) : Type 0 where
+pub record AnswersFirst (script : List ℕ) (left old new : Option (List ℕ)) : Type 0 where
   pub answered : List (List ℕ)
   pub others : List (List ℕ)
-  pub cut : lines script ≡ answered ++ others
+  pub first : AreFirstLines script left answered others
   pub state : State
   pub replies : List Reply
   pub run : Run (closed []) answered replies state
@@ -111,44 +122,44 @@ Finishes job.Run script clean old new = Completes script clean old new
 Finishes (job.Convert want) file clean old new = Converts want file clean old new
 Finishes (job.Sample n) given clean old new = Samples n clean old new
 
--- a front of them is written, or none
-abbrev pub WritesFront : Job → List ℕ → Option (List ℕ) → Option (List ℕ) → Type 0
-WritesFront job.Run script old new = WritesPrefix script old new
-WritesFront (job.Convert want) file old new = (new ≡ old) ⊎ ConvertsPrefix want file old new
-WritesFront (job.Sample n) given old new = (new ≡ old) ⊎ SamplesPrefix n old new
+-- a front of them is written, or none, where the source gave these bytes and has those left; of a file none before its end
+abbrev pub WritesFront : Job → List ℕ → Option (List ℕ) → Option (List ℕ) → Option (List ℕ) → Type 0
+WritesFront job.Run script left old new = WritesPrefix script left old new
+WritesFront (job.Convert want) file left old new = (new ≡ old) ⊎ (IsAtEnd left × ConvertsPrefix want file old new)
+WritesFront (job.Sample n) given left old new = (new ≡ old) ⊎ SamplesPrefix n old new
 
 -- what is written where the source gave these bytes and not its last: the replies to whole lines, and of a file nothing; for a
 -- sample it isn't read
-abbrev pub AnswersRead : Job → List ℕ → Option (List ℕ) → Option (List ℕ) → Type 0
-AnswersRead job.Run script old new = AnswersWhole script old new
-AnswersRead (job.Convert want) file old new = new ≡ old
-AnswersRead (job.Sample n) given old new = ⊥
+abbrev pub AnswersRead : Job → List ℕ → Option (List ℕ) → Option (List ℕ) → Option (List ℕ) → Type 0
+AnswersRead job.Run script left old new = AnswersWhole script old new
+AnswersRead (job.Convert want) file left old new = new ≡ old
+AnswersRead (job.Sample n) given left old new = ⊥
 
 -- likewise, but for the bytes of one read
-abbrev pub AnswersFront : Job → List ℕ → Option (List ℕ) → Option (List ℕ) → Type 0
-AnswersFront job.Run script old new = AnswersEarlier script old new
-AnswersFront (job.Convert want) file old new = new ≡ old
-AnswersFront (job.Sample n) given old new = ⊥
+abbrev pub AnswersFront : Job → List ℕ → Option (List ℕ) → Option (List ℕ) → Option (List ℕ) → Type 0
+AnswersFront job.Run script left old new = AnswersEarlier script old new
+AnswersFront (job.Convert want) file left old new = new ≡ old
+AnswersFront (job.Sample n) given left old new = ⊥
 
 -- what is written where memory was wanted elsewhere than at the sink: the replies to the lines before, and of a file or a
 -- sample nothing
-abbrev pub AnswersBefore : Job → List ℕ → Option (List ℕ) → Option (List ℕ) → Type 0
-AnswersBefore job.Run script old new = AnswersFirst script old new
-AnswersBefore (job.Convert want) file old new = new ≡ old
-AnswersBefore (job.Sample n) given old new = new ≡ old
+abbrev pub AnswersBefore : Job → List ℕ → Option (List ℕ) → Option (List ℕ) → Option (List ℕ) → Type 0
+AnswersBefore job.Run script left old new = AnswersFirst script left old new
+AnswersBefore (job.Convert want) file left old new = new ≡ old
+AnswersBefore (job.Sample n) given left old new = new ≡ old
 
 -- the source gave some bytes, and that is written
 abbrev pub GivesUp : Job → Option (List ℕ) → Option (List ℕ) → Option (List ℕ) → Option (List ℕ) → Type 0
-GivesUp task left left_now old new = (given : List ℕ) × (left ≡ prepend_known given left_now) × AnswersBefore task given old new
+GivesUp task left left_now old new = (given : List ℕ) × (left ≡ prepend_known given left_now) × AnswersBefore task given left_now old new
 
 -- what came of a job, after the source gave these bytes and now has those left
 abbrev pub Outcome : Job → List ℕ → Option (List ℕ) → Option (List ℕ) → Option (List ℕ) → Status → Type 0
 Outcome task given left old new Done = (length given ≤ 2 ^ 26) × IsReadOut task given left × Finishes task given true old new
 Outcome task given left old new Refused = (length given ≤ 2 ^ 26) × IsReadOut task given left × Finishes task given false old new
-Outcome task given left old new ReadFault = (length given ≤ 2 ^ 26) × AnswersRead task given old new
-Outcome task given left old new WriteFault = (length given ≤ 2 ^ 26) × WritesFront task given old new
-Outcome task given left old new Memory = (length given ≤ 2 ^ 26) × WritesFront task given old new
-Outcome task given left old new InputTooLong = (2 ^ 26 < length given) × (length given ≤ 2 ^ 26 + 2 ^ 16) × WritesFront task given old new × AnswersFront task given old new
+Outcome task given left old new ReadFault = (length given ≤ 2 ^ 26) × AnswersRead task given left old new
+Outcome task given left old new WriteFault = (length given ≤ 2 ^ 26) × WritesFront task given left old new
+Outcome task given left old new Memory = (length given ≤ 2 ^ 26) × WritesFront task given left old new
+Outcome task given left old new InputTooLong = (2 ^ 26 < length given) × (length given ≤ 2 ^ 26 + 2 ^ 16) × WritesFront task given left old new × AnswersFront task given left old new
 Outcome task given left old new Usage = ⊥
 
 -- ---- what the top call promises of the job that the words ask for
@@ -162,12 +173,12 @@ pub record Ends (words : List (List ℕ)) (left left_now old new : Option (List 
   pub finishes : Finishes job given clean old new
 
 -- the source gave some bytes, and this is written
-pub record Stops (words : List (List ℕ)) (left left_now old new : Option (List ℕ)) (Writes : Job → List ℕ → Option (List ℕ) → Option (List ℕ) → Type 0) : Type 0 where
+pub record Stops (words : List (List ℕ)) (left left_now old new : Option (List ℕ)) (Writes : Job → List ℕ → Option (List ℕ) → Option (List ℕ) → Option (List ℕ) → Type 0) : Type 0 where
   pub job : Job
   pub asked : IsAskedBy words job
   pub given : List ℕ
   pub gave : left ≡ prepend_known given left_now
-  pub writes : Writes job given old new
+  pub writes : Writes job given left_now old new
 
 -- the script is answered: behind what was held stand the replies of a run over its lines, from the state without names and
 -- without a file, and that to its end; each line that must succeed is answered, and the status tells whether some reply is a fault or an overflow

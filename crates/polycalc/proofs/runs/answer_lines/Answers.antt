@@ -88,7 +88,7 @@ returns-in-TooLong-clause-outcome g c =
       (
         omega (arith, many, size),
         omega (arith, e.bounded, size),
-        goes_too_long h.0 a.0 (held c.args.sink.now) (held c.loop-calc.sink) c.loop-calc.calc c.loop-calc.reader c.next.new.self c.loop-calc.replies h.2 a.2 e.still a.3,
+        goes_too_long h.0 a.0 (left c.next.new.source) (held c.args.sink.now) (held c.loop-calc.sink) c.loop-calc.calc c.loop-calc.reader c.next.new.self c.loop-calc.replies (λ t. e.ended (e.still t).0) h.2 a.2 e.still a.3,
         goes_earlier h.0 a.0 (held c.args.sink.now) (held c.loop-calc.sink) c.loop-calc.calc c.loop-calc.reader c.loop-calc.replies h.2 written going
             (lacks_unless c.loop-calc.reader.pending no_line) a.3.1,
       ),
@@ -108,7 +108,7 @@ returns-in_default-clause-outcome g c =
       h.0 ++ a.0,
       prepend_known-then h.0 a.0 (left c.args.source.now) (left c.loop-calc.source) (left c.next.new.source) h.1 a.1,
       goes_unanswered h.0 a.0 (left c.next.new.source) (held c.args.sink.now) (held c.loop-calc.sink) (held c.give_up.new.sink) c.loop-calc.calc c.loop-calc.reader c.next.new.self c.loop-calc.replies p.0 c.give_up.result
-          (omega (arith, few, size)) h.2 a.2 e.still a.3 (p.1 ∙ ap (λ (w : Written). append_known (held c.loop-calc.sink) (take p.0 w.bytes)) same) c.give_up.ensures.status,
+          (omega (arith, few, size)) (λ t. e.ended (e.still t).0) h.2 a.2 e.still a.3 (p.1 ∙ ap (λ (w : Written). append_known (held c.loop-calc.sink) (take p.0 w.bytes)) same) c.give_up.ensures.status,
     )
 
 pub loop-calc-preserved-in-Ok-write_all : goal.loop-calc-preserved-in-Ok-write_all
@@ -161,7 +161,7 @@ returns-in-Err-Failed-clause-outcome g c =
       given,
       (
         omega (arith, few, size),
-        front_of_goes (h.0 ++ a.0) (held c.args.sink.now) (held c.loop-calc.sink) (held c.write_all.new.sink) c.reply_to.new.calc new c.reply_to.new.replies p.0 more
+        front_of_goes (h.0 ++ a.0) (left c.next.new.source) (held c.args.sink.now) (held c.loop-calc.sink) (held c.write_all.new.sink) c.reply_to.new.calc new c.reply_to.new.replies p.0 e.ended more
             (p.1 ∙ ap (λ (x : List ℕ). append_known (held c.loop-calc.sink) (take p.0 x)) c.bytes.ensures),
       ),
     )
@@ -187,7 +187,7 @@ returns-in-Err-Memory-clause-outcome g c =
       given,
       (
         omega (arith, few, size),
-        front_of_goes (h.0 ++ a.0) (held c.args.sink.now) (held c.loop-calc.sink) (held c.write_all.new.sink) c.reply_to.new.calc new c.reply_to.new.replies p.0 more
+        front_of_goes (h.0 ++ a.0) (left c.next.new.source) (held c.args.sink.now) (held c.loop-calc.sink) (held c.write_all.new.sink) c.reply_to.new.calc new c.reply_to.new.replies p.0 e.ended more
             (p.1 ∙ ap (λ (x : List ℕ). append_known (held c.loop-calc.sink) (take p.0 x)) c.bytes.ensures),
       ),
     )
@@ -241,8 +241,8 @@ returns-in-End-clause-lines_before g c = λ memory calm.
     let same = c.end_script.ensures.untouched memory (λ r. calm (risen_since (wants c.args.sink.now) (wants c.loop-calc.sink) (wants c.end_script.new.sink) h.8 r)) in (
       h.0 ++ a.0,
       prepend_known-then h.0 a.0 (left c.args.source.now) (left c.loop-calc.source) (left c.next.new.source) h.1 a.1,
-      subst (λ later. AnswersFirst (h.0 ++ a.0) (held c.args.sink.now) later) (sym same)
-          (ended_before (h.0 ++ a.0) (held c.args.sink.now) (held c.loop-calc.sink) c.loop-calc.calc c.loop-calc.replies
+      subst (λ later. AnswersFirst (h.0 ++ a.0) (left c.next.new.source) (held c.args.sink.now) later) (sym same)
+          (ended_before (h.0 ++ a.0) (left c.next.new.source) (held c.args.sink.now) (held c.loop-calc.sink) c.loop-calc.calc c.loop-calc.replies (e.ended a.3.0)
           (goes_end h.0 a.0 (held c.args.sink.now) (held c.loop-calc.sink) c.loop-calc.calc c.loop-calc.reader c.next.new.self c.loop-calc.replies h.2 h.3 a.2 e.still a.3)),
     )
 
@@ -258,8 +258,8 @@ returns-in_default-clause-lines_before g c = λ memory calm.
     let whole = c.give_up.ensures.whole memory (λ r. calm (risen_since (wants c.args.sink.now) (wants c.loop-calc.sink) (wants c.give_up.new.sink) h.8 r)) in (
       h.0 ++ a.0,
       prepend_known-then h.0 a.0 (left c.args.source.now) (left c.loop-calc.source) (left c.next.new.source) h.1 a.1,
-      goes_before h.0 a.0 (held c.args.sink.now) (held c.loop-calc.sink) (held c.give_up.new.sink) c.loop-calc.calc c.loop-calc.reader c.next.new.self c.loop-calc.replies
-          h.2 a.2 e.still a.3 (whole ∙ ap (λ (w : Written). append_known (held c.loop-calc.sink) w.bytes) same),
+      goes_before h.0 a.0 (left c.next.new.source) (held c.args.sink.now) (held c.loop-calc.sink) (held c.give_up.new.sink) c.loop-calc.calc c.loop-calc.reader c.next.new.self c.loop-calc.replies
+          (λ t. e.ended (e.still t).0) h.2 a.2 e.still a.3 (whole ∙ ap (λ (w : Written). append_known (held c.loop-calc.sink) w.bytes) same),
     )
 
 pub returns-in-Err-Memory-clause-lines_before : goal.returns-in-Err-Memory-clause-lines_before
