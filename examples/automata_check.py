@@ -151,6 +151,24 @@ AUTOMATA = [
         ],
     ),
     (
+        "an assignment changes no variable that another component alone controls",
+        component("owner", "x", location("here", flow="x' == 0"))
+        + component(
+            "user",
+            "x:uncontrolled",
+            location("here", flow="true"),
+            location("there", flow="true"),
+            move("here", "there", assignment="x' >= 5"),
+        )
+        + component("both", "x", bind("owner", "o", "x=x"), bind("user", "u", "x=x")),
+        'initially = "loc(u)==here & 0<=x<=6"\n',
+        [
+            "loc(o)==here & loc(u)==here: x >= 0, -x >= -6",
+            "loc(o)==here & loc(u)==there: x >= 5, -x >= -6",
+            "safe",
+        ],
+    ),
+    (
         "a controlled variable that no flow names does anything, and a constant stays",
         component(
             "c",
@@ -207,11 +225,11 @@ AUTOMATA = [
     ),
     (
         "alternatives of forbidden states, and a state with fractions",
-        component("c", "x y", location("here", flow="2*x' == 1 & 3*y' == 1", invariant="x <= 1")),
+        component("c", "x y", location("here", flow="2*x' == 1 & 3*y' == -1", invariant="x <= 1")),
         'initially = "x==0 & y==0"\nforbidden = "x>=2 | 4*x == 1 & loc(c)==here | y <= -1"\n',
         [
-            "loc(c)==here: 2*x - 3*y = 0, y >= 0, -3*y >= -2; meets the forbidden states",
-            "may be reached in loc(c)==here at x = 1/4, y = 1/6",
+            "loc(c)==here: 2*x + 3*y = 0, 3*y >= -2, -y >= 0; meets the forbidden states",
+            "may be reached in loc(c)==here at x = 1/4, y = -1/6",
         ],
     ),
     (
