@@ -34,6 +34,6 @@ abbrev pub widen : Bool → Polyhedron → Polyhedron → Meaning Polyhedron
 widen full p q = record {
   conditions = nested p q (room full);
   overflows = λ over.
-    ShowsRows (Answers q.cons.list p.gens.list false) q p over ⊎ OverflowsInWidening p q over;
+      ShowsRows (Answers q.cons.list p.gens.list false) q p over ⊎ OverflowsInWidening p q over;
   does = IsWidened p q;
 }

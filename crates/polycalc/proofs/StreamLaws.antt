@@ -186,7 +186,7 @@ whole_of_goes given more left old now state reader w g last =
             line.next,
             line.others,
             ap cut (append_assoc given more (10 ∷ [])) ∙ g.cuts (more ++ 10 ∷ []) (λ (e : reader.ended ≡ true). (let no : true ≡ false = sym e ∙ going in cc))
-            ∙ ap (λ (x : List (List ℕ)). g.done ++ x) (ap cut (sym (append_assoc reader.pending more (10 ∷ []))) ∙ line.cut_is),
+                ∙ ap (λ (x : List (List ℕ)). g.done ++ x) (ap cut (sym (append_assoc reader.pending more (10 ∷ []))) ∙ line.cut_is),
           )
     ]
 
