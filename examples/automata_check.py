@@ -339,6 +339,8 @@ WRONG_AUTOMATA = [
         'name="x" type="real" local="false" d1="2"',
         "xml:4: a vector or a matrix: x",
     ),
+    ('local="true"', 'local="True"', "xml:23: local and controlled are true or false: full"),
+    ('controlled="true"', 'controlled="no"', "xml:4: local and controlled are true or false: x"),
     ('id="2" name="resting"', 'id="1" name="resting"', "xml:11: two locations 1 resting"),
     ('id="2" name="resting"', 'id="2" name="filling"', "xml:11: two locations 2 filling"),
     ('id="2" name="resting"', 'name="resting"', "xml:11: there is no attribute id"),

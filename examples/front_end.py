@@ -2,7 +2,7 @@
 as constraints, replies told in these names, and the calculator that is there. To be copied, as client.py.
 
     rows = relation("0.5 <= x < 2*(y + 1)", {"x": {"x": Fraction(1)}, "y": {"y": Fraction(1)}})
-    print(*(constraint(row, {"x": "A", "y": "B"}) for row in rows), sep=", ")  # 2*A >= 1, 2*B - 1*A >= -2
+    print(*(constraint(row, {"x": "A", "y": "B"}) for row in rows), sep=", ")  # 2*A >= 1, 2*B - A >= -2
 
 An expression is a dictionary: the factor of each name, and the constant under the empty name. A row is an expression
 with whole numbers, and "=" or ">=", which compares it with 0; a strict relation gives a row that isn't strict.
@@ -90,7 +90,8 @@ def constraint(row, columns):
     """A row as a constraint; `columns` has the calculator's variable of each name."""
     terms = [(columns[name], factor) for name, factor in row[0].items() if name]
     text = " ".join(f"{'-' if factor < 0 else '+'} {abs(factor)}*{column}" for column, factor in terms)
-    return f"{text.removeprefix('+ ') or 0} {row[1]} {-row[0].get('', 0)}"
+    text = re.sub(r"(?<!\d)1\*", "", text.removeprefix("+ "))
+    return f"{text or 0} {row[1]} {-row[0].get('', 0)}"
 
 
 def in_names(reply, names):
