@@ -1,6 +1,7 @@
 """The automata of examples/models_check: what examples/spaceex writes on the models of examples/models, on small ones
 that stand here, and on wrong ones."""
 import glob
+import importlib.util
 import os
 import random
 import re
@@ -516,6 +517,13 @@ class Automata:
         code, _, said = self.answer(program, f"{HEAD}{grows}</sspaceex>\n", 'initially = "x==0"', "--delay", "9")
         self.check("an overflow", code == 3 and said.startswith(f"spaceex: {program}: overflow "), code, said)
 
+    def check_picture(self, program):
+        """A picture is drawn if matplotlib is there; if not, the exit code is 3."""
+        picture, model = self.stem + ".svg", os.path.join(HERE, "models", "thermostat.xml")
+        code, written, said = self.run("spaceex", program, model, "--plot", "x", "h", picture)
+        wanted = (3, False) if importlib.util.find_spec("matplotlib") is None else (0, True)
+        self.check("a picture", (code, os.path.exists(picture)) == wanted, code, written, said)
+
     def check_large(self, program):
         """Products of 100 locations are answered, within ten seconds of a processor's time."""
         for sizes in ((10, 10), (5, 5, 4)):
@@ -538,4 +546,5 @@ def check_automata(program, check, run, folder):
     automata.check_wrong(program)
     automata.check_page()
     automata.check_script(program)
+    automata.check_picture(program)
     automata.check_large(program)
