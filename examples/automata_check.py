@@ -114,6 +114,12 @@ AUTOMATA = [
         ["loc(one)==here & loc(two)==here: one.x + 2*two.x = -10, two.x >= -10, -two.x >= 5", "safe"],
     ),
     (
+        "a label is no constant, whatever its dynamics",
+        component("c", "x yx:label:const", location("here", flow="x' == 1"), move("here", "here", label="yx")),
+        'initially = "x==0"\n',
+        ["loc(c)==here: x >= 0", "safe"],
+    ),
+    (
         "nested networks pass names and numbers on",
         component("clock", "x rate:const", location("here", flow="x' == rate"))
         + component("inner", "y:local z r:const", bind("clock", "c", "x=y rate=r"), bind("clock", "d", "x=z rate=2"))
