@@ -5,6 +5,7 @@ so they touch, contain and miss each other. The maker keeps what each name stand
 name, kind, dimension, variable, number or byte. What a spoilt line makes, if it is accepted, the maker doesn't know.
 """
 import random
+import re
 
 POLYHEDRA = ["a", "b", "c", "d", "e", "f"]
 SYSTEMS, POWERSETS, SHAPES, AUTOMATA = ["s", "t"], ["u", "v", "w"], ["k", "l", "m"], ["y", "z"]
@@ -14,15 +15,15 @@ MOST_DIMENSION = 6
 MOST_ROWS = 12
 MOST = 2 ** 127 - 1
 
-# what is written in place of what, as a mistake
+# what is written in place of what, as a mistake: patterns and texts
 MISTAKES = [
     (" closed ", [" nnc "]),
     (" nnc ", [" closed "]),
     ("A", ["Z", "A1", "K2", "L2", "A99999999999"]),
     (" >= ", [" > ", " < ", " == "]),
     ("1", [str(MOST), str(MOST + 1)]),
-    ("p(", ["r(", "c(", "r(0*"]),
-    (")/", [")/0"]),
+    (r"p\(", ["r(", "c(", "r(0*"]),
+    (r"\)/\d+", [")/0", ")/007"]),
 ]
 
 # how large numbers are; `mixed` scripts have one of the other kinds each
@@ -289,7 +290,7 @@ class Script:
         """The line with one mistake: of a kind for which it has a place."""
         mistakes = [self.other_name] * 4 + [self.other_number] * 3 + [self.other_byte]
         for before, after in MISTAKES:
-            mistakes.append(lambda line, before=before, after=after: line.replace(before, self.random.choice(after)))
+            mistakes.append(lambda line, before=before, after=after: re.sub(before, self.random.choice(after), line))
         while True:
             made = self.random.choice(mistakes)(line)
             if made != line:

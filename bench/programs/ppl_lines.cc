@@ -100,7 +100,7 @@ struct Reader {
     const char* from = at;
     while (std::isdigit(*at))
       ++at;
-    return mpz_class(std::string(from, at));
+    return mpz_class(std::string(from, at), 10);
   }
   Variable variable() {
     blanks();
@@ -723,7 +723,7 @@ static Set of_file(const std::vector<std::string>& lines, bool is_generators) {
     for (mpq_class& entry : entries) {
       std::string text;
       words >> text;
-      entry = mpq_class(text);
+      entry = mpq_class(text, 10);
       entry.canonicalize();
       mpz_lcm(divisor.get_mpz_t(), divisor.get_mpz_t(), entry.get_den_mpz_t());
     }
