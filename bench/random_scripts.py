@@ -139,8 +139,14 @@ class Script:
     def step(self, dim):
         """Constraints of a relation: a guard, and what each variable becomes."""
         guard = [self.row(dim, "closed", self.random.choice(self.middles)) for _ in range(self.random.randint(0, 2))]
+        falling = self.random.randrange(2 * dim)
+        if falling < dim:
+            guard.append(f"{variable(falling)} >= {self.random.randint(-3, 3)}")
         for number in range(dim):
             target = variable(dim + number)
+            if number == falling:
+                guard.append(f"{target} = {sum_text([int(other == number) for other in range(dim)], -self.random.randint(1, 3))}")
+                continue
             kind = self.random.randint(0, 5)
             if kind <= 2:
                 guard.append(f"{target} = {sum_text([int(other == number) for other in range(dim)], self.random.randint(-2, 2))}")
@@ -203,9 +209,13 @@ class Script:
         return found
 
     def pair(self, topology=None):
-        """Two polyhedra of the same topology and dimension."""
+        """Two polyhedra of the same topology and dimension, mostly different ones."""
         first = self.polyhedron(topology)
-        return first, self.polyhedron(*self.kinds[first][1:])
+        second = self.polyhedron(*self.kinds[first][1:])
+        if second == first and self.chance(0.8):
+            line, second, kind = self.new_polyhedron(*self.kinds[first][1:])
+            self.give(line, second, kind)
+        return first, second
 
     def new_polyhedron(self, topology=None, dim=None):
         """A line that makes a polyhedron, its name and its kind."""
@@ -250,13 +260,19 @@ class Script:
         found = self.named("powerset", topology, dim)
         if found and self.chance(0.9):
             return found
+        return self.new_powerset(topology, dim)
+
+    def new_powerset(self, topology, dim):
         set_name, name = self.polyhedron(topology, dim), self.random.choice(POWERSETS)
         self.give(f"pset {name} {set_name}", name, ("powerset", *self.kinds[set_name][1:], 1))
         return name
 
     def two_powersets(self):
         first = self.powerset()
-        return first, self.powerset(*self.kinds[first][1:3])
+        second = self.powerset(*self.kinds[first][1:3])
+        if second == first and self.chance(0.8):
+            second = self.new_powerset(*self.kinds[first][1:3])
+        return first, second
 
     def shape(self, dim=None):
         found = self.named("shape", dim)
@@ -273,7 +289,7 @@ class Script:
 
     def tell(self, line, name=None, kind=None, file=()):
         """One more command; the name stands for what it makes, unless the line is spoilt."""
-        if self.chance(0.33):
+        if self.chance(0.4):
             self.made.append([self.spoilt(line), *file])
         else:
             self.give(line, name, kind, file)
