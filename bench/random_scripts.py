@@ -9,7 +9,7 @@ import re
 
 POLYHEDRA = ["a", "b", "c", "d", "e", "f"]
 SYSTEMS, POWERSETS, SHAPES, AUTOMATA = ["s", "t"], ["u", "v", "w"], ["k", "l", "m"], ["y", "z"]
-MOST_LOCATIONS = 3
+MOST_LOCATIONS = 4
 NAMES = POLYHEDRA + SYSTEMS + POWERSETS + SHAPES + AUTOMATA + [f"x{location}" for location in range(MOST_LOCATIONS)]
 MOST_DIMENSION = 6
 MOST_ROWS = 12
