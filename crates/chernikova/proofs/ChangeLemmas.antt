@@ -8,7 +8,7 @@ use Rattle.row_core.specs.Vectors.{cell, scale}
 use Rattle.row_core.specs.Lists.{Row, row_at, vectors, AreMarked}
 use Rattle.row_core.specs.Content.{IsPrimitive}
 use Rattle.sat_matrix.specs.Tables.{Table}
-use Rattle.row_core.specs.Flat.{marked}
+use Rattle.flat_rows.specs.Flat.{marked}
 use Rattle.sat_matrix.proofs.BitRows.{marked-map}
 use Rattle.chernikova.proofs.StateLemmas.{marked-append, marked_all}
 use Rattle.cone_laws.specs.Steps.{sign, pair_at}

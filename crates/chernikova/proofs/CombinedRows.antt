@@ -6,7 +6,7 @@ use Rattle.std.proofs.lemmas.Int.{ints}
 use Rattle.row_core.proofs.Ring.{one-mul}
 use Rattle.row_core.specs.Vectors.{scale, add}
 use Rattle.row_core.specs.Content.{IsPrimitiveOf}
-use Rattle.row_core.specs.Flat.{Flat, entries_at, HasOneWidth}
+use Rattle.flat_rows.specs.Flat.{Flat, entries_at, HasOneWidth}
 use Rattle.row_core.specs.Range.{CombineStays, IsFirstToLeave}
 use Rattle.row_core.proofs.CellLemmas.{length-scale, length-add}
 use Rattle.row_store.specs.Stores.{IsNegated, IsRowChanged}

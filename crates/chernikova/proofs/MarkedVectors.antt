@@ -3,7 +3,7 @@ use Rattle.std.specs.Prelude.{◌≡◌, ℕ, ◌<◌, Bool, List, [], ◌∷◌
 use Rattle.std.proofs.Common.{refl, sym, ap, subst, ◌∙◌, arith}
 use Rattle.std.proofs.lemmas.List.{length-map, get_or-map, get_or_push, map_push}
 use Rattle.std.proofs.lemmas.List.Elements.{All-push}
-use Rattle.row_core.specs.Flat.{Flat, entries_at, marked}
+use Rattle.flat_rows.specs.Flat.{Flat, entries_at, marked}
 use Rattle.row_core.specs.Lists.{Row, row_at, AreMarked}
 use Rattle.sat_matrix.proofs.BitRows.{marked-map}
 use Rattle.chernikova.specs.Vectors.{Vectors, with_mark, IsAppended, HasSame, IsRowAppended, HasSameRows}

@@ -7,10 +7,12 @@ use Rattle.std.proofs.lemmas.List.Edits.{length-remove, get_or-remove_below, get
 use Rattle.row_core.specs.Vectors.{cell, dot, scale}
 use Rattle.row_core.specs.Lists.{Row, row_at, vectors, Pointwise}
 use Rattle.sat_matrix.specs.Tables.{Table, bits_of, HasThird}
-use Rattle.row_core.specs.Flat.{marked}
+use Rattle.flat_rows.specs.Flat.{marked}
 use Rattle.cone_laws.specs.Canon.{vector_at}
 use Rattle.cone_laws.specs.Steps.{sign, pair_at, stays, IsLowered, IsLastCrossing, IsLineStep, IsMade, IsMadeOf, NoThird, IsCrossing, IsRayStep, upward}
-pub use Rattle.row_core.proofs.PointwiseLemmas.{pointwise_tail, pointwise_cons, pointwise_append, pointwise_marked, marked_all}
+pub use Rattle.row_core.proofs.PointwiseLemmas.{pointwise_tail, pointwise_cons, pointwise_append}
+pub use Rattle.sat_matrix.proofs.MarkedRows.{pointwise_marked}
+pub use Rattle.flat_rows.proofs.Marked.{marked_all}
 use Rattle.row_core.proofs.Ring.{ring, mul-zero, neg-mul, zero_of_mul}
 use Rattle.cone_laws.proofs.UptoRows.{IsSumOf, dot_sum}
 use Rattle.cone_laws.specs.Combinations.{IsCombined}

@@ -2,7 +2,7 @@ use Rattle.std.specs.Prelude.{◌≡◌, ◌≢◌, ℕ, ◌+◌, ◌-◌, ◌<�
 use Rattle.row_core.specs.Vectors.{scale}
 use Rattle.row_core.specs.Lists.{Row, row_at, vectors}
 use Rattle.sat_matrix.specs.Tables.{Table, HasThird}
-use Rattle.row_core.specs.Flat.{marked}
+use Rattle.flat_rows.specs.Flat.{marked}
 use Rattle.cone_laws.specs.Steps.{sign, pair_at}
 use Rattle.cone_laws.specs.Combinations.{IsCombined}
 use Rattle.chernikova.specs.declared.adjacency.Side.{Side}

@@ -1,5 +1,5 @@
 use Rattle.std.specs.Prelude.{◌≡◌, ℕ, ◌+◌, Bool, List, [], ◌∷◌, ◌++◌, map, ℤ}
-use Rattle.row_core.specs.Flat.{Flat}
+use Rattle.flat_rows.specs.Flat.{Flat}
 use Rattle.row_core.specs.Lists.{Row, Rows}
 
 -- vectors of one width, in order, each with a mark, and how many can be appended without memory

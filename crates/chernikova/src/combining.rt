@@ -2,7 +2,7 @@
 ghost use Rattle.std.specs.Prelude.{◌≡◌, ◌≢◌, ◌+◌, ◌≤◌, ◌<◌, [], ◌∷◌, ◌++◌, length, pos, MatchResult};
 ghost use Rattle.row_core.specs.Vectors.{scale};
 ghost use Rattle.row_core.specs.Content.{IsPrimitive};
-ghost use Rattle.row_core.specs.Flat.{entries_at};
+ghost use Rattle.flat_rows.specs.Flat.{entries_at};
 ghost use Rattle.row_core.specs.Range.{InRange, AllInRange};
 ghost use Rattle.cone_laws.specs.Steps.{sign};
 ghost use Rattle.cone_laws.specs.Combinations.{IsCombined};

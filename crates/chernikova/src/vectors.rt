@@ -4,7 +4,7 @@ ghost use Rattle.row_core.specs.Vectors.{scale};
 ghost use Rattle.row_core.specs.Content.{IsPrimitive};
 ghost use Rattle.row_core.specs.Range.{InRange, AllInRange};
 ghost use Rattle.row_core.specs.Narrow.{AllNarrow};
-ghost use Rattle.row_core.specs.Flat.{marked};
+ghost use Rattle.flat_rows.specs.Flat.{marked};
 ghost use Rattle.row_core.specs.Lists.{row_at, AreMarked};
 ghost use Rattle.cone_laws.specs.Steps.{sign};
 ghost use Rattle.cone_laws.specs.Combinations.{IsCombined};

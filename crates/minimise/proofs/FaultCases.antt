@@ -4,7 +4,7 @@ use Rattle.std.specs.Prelude.{All, Contains, Result, Ok, Err, MatchResult}
 use Rattle.std.proofs.lemmas.Int.{ints}
 use Rattle.std.proofs.lemmas.List.{take_all}
 use Rattle.row_core.specs.Vectors.{cell}
-use Rattle.row_core.specs.Flat.{marked}
+use Rattle.flat_rows.specs.Flat.{marked}
 use Rattle.row_core.specs.Lists.{Row, Rows, row_at, vectors}
 use Rattle.cone_laws.specs.Canon.{vector_at, IsPivot}
 use Rattle.cone_laws.proofs.VectorLemmas.{length-vectors, vector_at-vectors}

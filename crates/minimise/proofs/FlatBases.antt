@@ -1,8 +1,8 @@
 -- The basis of the marked rows, one after another.
 use Rattle.std.proofs.Common.{◌≡◌, ℕ, ◌+◌, ◌*◌, ◌<◌, ◌≤◌, Bool, true, false, List, [], ◌∷◌, ◌++◌, length, take, slice_index_or, ℤ, sym, ap, ◌∙◌, subst, arith, add-one, length-append}
-use Rattle.row_core.specs.Flat.{marked}
+use Rattle.flat_rows.specs.Flat.{marked}
 use Rattle.row_core.specs.Lists.{Row, row_at, vectors}
-use Rattle.row_core.proofs.Flat.{marked_skip, marked_take}
+use Rattle.flat_rows.proofs.Flat.{marked_skip, marked_take}
 use Rattle.cone_laws.proofs.VectorLemmas.{length-vectors, vector_at-vectors}
 use Rattle.minimise.specs.Bases.{IsBasis, IsGrown}
 use Rattle.minimise.proofs.Growing.{basis_grown}

@@ -7,7 +7,7 @@ use Rattle.std.proofs.lemmas.List.{length-take-le, take-append-drop, get_or-appe
 use Rattle.std.proofs.lemmas.List.Edits.{remove-append_right}
 use Rattle.std.proofs.Math.Seq.{take-suc}
 use Rattle.row_core.specs.Vectors.{cell}
-use Rattle.row_core.specs.Flat.{marked}
+use Rattle.flat_rows.specs.Flat.{marked}
 use Rattle.row_core.specs.Lists.{Row, row_at, Pointwise}
 use Rattle.row_core.proofs.Ring.{neg-mul}
 use Rattle.row_core.proofs.CellLemmas.{length-scale}

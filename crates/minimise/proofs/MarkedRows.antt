@@ -3,8 +3,8 @@ use Rattle.std.proofs.Common.{◌≡◌, ℕ, zero, suc, ◌+◌, ◌<◌, Bool,
 use Rattle.std.specs.Prelude.{remove}
 use Rattle.std.specs.List.{range_with_len}
 use Rattle.std.proofs.lemmas.List.FromFn.{length-range_with_len, get_or-range_with_len}
-use Rattle.row_core.specs.Flat.{marked}
-use Rattle.row_core.proofs.Flat.{marked_skip, marked_take}
+use Rattle.flat_rows.specs.Flat.{marked}
+use Rattle.flat_rows.proofs.Flat.{marked_skip, marked_take}
 
 marked_whole : {X : Type 0} (n : ℕ) (xs : List X) → n ≡ length xs → marked (replicate n true) xs ≡ xs
 marked_whole zero [] e = refl

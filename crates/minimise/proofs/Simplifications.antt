@@ -6,7 +6,7 @@ use Rattle.std.proofs.lemmas.Bool.{cases_lt}
 use Rattle.std.proofs.lemmas.List.{length-map, get_or-map, get_or_append_left, get_or-append_right, get_or_default}
 use Rattle.std.proofs.lemmas.List.Elements.{All-head, All-tail}
 use Rattle.row_core.specs.Vectors.{dot}
-use Rattle.row_core.specs.Flat.{marked}
+use Rattle.flat_rows.specs.Flat.{marked}
 use Rattle.row_core.specs.Lists.{Row, Rows, row_at, vectors, system_rows, AreMarked, Pointwise}
 use Rattle.sat_matrix.specs.Tables.{Table, bits_of, transposed}
 use Rattle.sat_matrix.specs.ZeroTables.{TellsZeros, IsZeroTable}

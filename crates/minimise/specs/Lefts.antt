@@ -1,6 +1,6 @@
 use Rattle.std.specs.Prelude.{◌≡◌, ◌≢◌, ℕ, ◌-◌, ◌<◌, ◌≤◌, ◌⊎◌, Bool, List, length, take, ℤ, Contains}
 use Rattle.row_core.specs.Vectors.{cell}
-use Rattle.row_core.specs.Flat.{marked}
+use Rattle.flat_rows.specs.Flat.{marked}
 use Rattle.row_core.specs.Lists.{Row, row_at, vectors}
 use Rattle.cone_laws.specs.Canon.{vector_at, IsPivot}
 use Rattle.cone_laws.specs.Leaves.{CombinationLeaves}

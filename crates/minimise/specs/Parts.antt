@@ -1,6 +1,6 @@
 use Rattle.std.specs.Prelude.{◌≡◌, ℕ, ◌+◌, Bool, true, false, not, List, length, map}
 use Rattle.std.specs.List.{range_with_len}
-use Rattle.row_core.specs.Flat.{marked}
+use Rattle.flat_rows.specs.Flat.{marked}
 use Rattle.row_core.specs.Lists.{Rows, row_at, vectors, AreMarked, Pointwise, FitWidth}
 use Rattle.sat_matrix.specs.Tables.{Table, bits_of}
 use Rattle.cone_laws.specs.Orders.{IsOrderOf}

@@ -3,7 +3,7 @@ ghost use Rattle.std.specs.Prelude.{◌≡◌, ◌≢◌, ℕ, ◌+◌, ◌*◌,
 ghost use Rattle.row_core.specs.Vectors.{cell};
 ghost use Rattle.row_core.specs.Range.{AllInRange};
 ghost use Rattle.row_core.specs.Content.{IsPrimitive};
-ghost use Rattle.row_core.specs.Flat.{marked};
+ghost use Rattle.flat_rows.specs.Flat.{marked};
 ghost use Rattle.row_core.specs.Lists.{vectors, AreMarked};
 ghost use Rattle.cone_laws.specs.Canon.{vector_at, IsPivot, IsEchelon};
 ghost use Rattle.minimise.specs.Bases.{IsBasis, IsLeading, IsPlace, HasTaken, IsCleared, AreCleared, IsNewLine, IsGrown, turned_up};

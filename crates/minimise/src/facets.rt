@@ -1,7 +1,7 @@
 //! The rows that aren't 0 on the whole cone, one for each greatest set of zeros.
 ghost use Rattle.std.specs.Prelude.{◌≡◌, ℕ, ◌+◌, ◌<◌, ◌≤◌, length, map, not, remove, Bool, List, All, IsTrue, IfOk, OnOk};
 ghost use Rattle.std.specs.List.{range_with_len};
-ghost use Rattle.row_core.specs.Flat.{marked};
+ghost use Rattle.flat_rows.specs.Flat.{marked};
 ghost use Rattle.sat_matrix.specs.Tables.{bits_of};
 ghost use Rattle.sat_matrix.specs.Counts.{ones};
 ghost use Rattle.minimise.specs.Facets.{TellsFull, AreGreatest, IsLedBy, AreMarkedAt, AreLed};

@@ -1,6 +1,6 @@
 //! The lines and rays of the second system, before the rays are sorted.
 ghost use Rattle.std.specs.Prelude.{◌≡◌, ◌+◌, ◌*◌, ◌<◌, ◌≤◌, [], false, length, All, IfOk, MatchResult};
-ghost use Rattle.row_core.specs.Flat.{marked};
+ghost use Rattle.flat_rows.specs.Flat.{marked};
 ghost use Rattle.row_core.specs.Lists.{row_at, vectors, AreMarked, Pointwise};
 ghost use Rattle.cone_laws.specs.Canon.{IsEchelon};
 ghost use Rattle.minimise.specs.Bases.{IsReduced};

@@ -4,10 +4,12 @@ use Rattle.std.proofs.Common.{refl, sym, ap, ◌∙◌, arith, subst, inl, inr, 
 use Rattle.std.proofs.lemmas.List.{append_assoc, take_more, length-append, append-nil, length-take, length-drop, get_or-drop, length-set, length-map, length-replicate, get_or-set_same, get_or-set_other, get_or-map, get_or_default, get_or-replicate}
 use Rattle.std.proofs.lemmas.List.Elements.{All-head, All-tail, All-map, All-append}
 use Rattle.std.proofs.lemmas.Bool.{cases_eq}
-use Rattle.row_core.specs.Flat.{marked}
+use Rattle.flat_rows.specs.Flat.{marked}
 use Rattle.row_core.specs.Vectors.{cell, dot}
 use Rattle.row_core.specs.Lists.{Row, row_at, vectors, system_rows, Pointwise}
-use Rattle.row_core.proofs.PointwiseLemmas.{pointwise_nil, pointwise_cons, pointwise_tail, pointwise_append, pointwise_marked, marked-map}
+use Rattle.row_core.proofs.PointwiseLemmas.{pointwise_nil, pointwise_cons, pointwise_tail, pointwise_append}
+use Rattle.sat_matrix.proofs.MarkedRows.{pointwise_marked}
+use Rattle.flat_rows.proofs.Marked.{marked-map}
 use Rattle.cone_laws.specs.Canon.{vector_at}
 use Rattle.cone_laws.specs.Cones.{Generates}
 use Rattle.cone_laws.specs.Members.{ConeOf}

@@ -1,6 +1,6 @@
 //! Which constraints of a closed set with a point are 0 on which of its generators.
 ghost use Rattle.std.specs.Prelude.{◌≡◌, ◌+◌, ◌<◌, ◌≤◌, ◌++◌, ◌∷◌, [], not, true, List, length, map, drop, replicate, IfOk, OnOk, ℤ};
-ghost use Rattle.row_core.specs.Flat.{marked};
+ghost use Rattle.flat_rows.specs.Flat.{marked};
 ghost use Rattle.row_core.specs.Lists.{Row, vectors, system_rows};
 ghost use Rattle.chernikova.specs.Changes.{AreLists};
 ghost use Rattle.sat_matrix.specs.Tables.{bits_of};

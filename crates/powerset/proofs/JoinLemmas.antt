@@ -7,7 +7,8 @@ use Rattle.std.proofs.lemmas.Grind.{flat_map-append}
 use Rattle.row_core.specs.Lists.{Pointwise}
 use Rattle.row_core.specs.declared.errors.ConvErr.{ConvErr}
 use Rattle.row_core.specs.declared.errors.ConvErr.TheVariants as conversion
-use Rattle.row_core.proofs.PointwiseLemmas.{pointwise_nil, pointwise_one, pointwise_append, all_marked}
+use Rattle.row_core.proofs.PointwiseLemmas.{pointwise_nil, pointwise_one, pointwise_append}
+use Rattle.flat_rows.proofs.Marked.{all_marked}
 use Rattle.poly_pair.specs.declared.topology.Topology.{Topology}
 use Rattle.poly_pair.specs.TopologyLists.{list_width}
 use Rattle.poly_pair.specs.Polyhedra.{Polyhedron}

@@ -4,7 +4,7 @@ use Rattle.std.specs.Prelude.{All, Contains, MatchBool}
 use Rattle.std.proofs.lemmas.Bool.{cases_lt}
 use Rattle.std.proofs.lemmas.Option.{slice_get-get_or, slice_get_within, get_or_from_slice_get}
 use Rattle.std.proofs.lemmas.List.Elements.{All-contains, All-contains_itself, Contains-append_right}
-use Rattle.row_core.specs.Flat.{marked}
+use Rattle.flat_rows.specs.Flat.{marked}
 use Rattle.row_core.specs.Points.{IsPoint}
 use Rattle.cons_sys.specs.Constraints.{In}
 use Rattle.poly_pair.specs.Polyhedra.{Polyhedron, HasNoPoint}
@@ -15,7 +15,7 @@ use Rattle.powerset.specs.UnionLaws.{AreOfDimension, ReductionKeepsPoints, IsIrr
 use Rattle.powerset.proofs.Climbs.{climbs}
 use Rattle.cover_search.proofs.BranchLemmas.{all_at}
 use Rattle.powerset.proofs.ReductionLemmas.{same_back}
-use Rattle.row_core.proofs.PointwiseLemmas.{all_marked}
+use Rattle.flat_rows.proofs.Marked.{all_marked}
 
 -- ---- marked elements
 kept_listed : {X : Type 0} (keep : List Bool) (xs : List X) (i : ℕ) (d : X) → i < length keep → i < length xs → get_or keep i false ≡ true → Contains (marked keep xs) (get_or xs i d)

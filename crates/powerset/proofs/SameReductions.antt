@@ -3,10 +3,10 @@ use Rattle.std.proofs.Common.{◌≡◌, ◌⊎◌, inl, inr, ℕ, ◌<◌, List
 use Rattle.std.specs.Prelude.{◌↔◌, MatchBool}
 use Rattle.std.proofs.lemmas.Option.{slice_get-get_or, slice_get_within, get_or_from_slice_get}
 use Rattle.std.proofs.lemmas.List.{ext_get_or}
-use Rattle.row_core.specs.Flat.{marked}
+use Rattle.flat_rows.specs.Flat.{marked}
 use Rattle.row_core.specs.Lists.{Pointwise}
 use Rattle.row_core.specs.Points.{IsPoint}
-use Rattle.row_core.proofs.PointwiseLemmas.{pointwise_marked}
+use Rattle.sat_matrix.proofs.MarkedRows.{pointwise_marked}
 use Rattle.cons_sys.specs.Constraints.{In}
 use Rattle.poly_pair.specs.Polyhedra.{Polyhedron, HasNoPoint}
 use Rattle.lattice_ops.specs.Sets.{IsIncluded, HaveSamePoints}

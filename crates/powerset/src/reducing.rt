@@ -1,6 +1,6 @@
 //! Lists of polyhedra without members that others include.
 ghost use Rattle.std.specs.Prelude.{◌≡◌, ◌≢◌, ◌↔◌, ◌<◌, length, slice_get, All, IfErr, IfOk, IsTrue, Some, MatchBool, ℕ, remove};
-ghost use Rattle.row_core.specs.Flat.{marked};
+ghost use Rattle.flat_rows.specs.Flat.{marked};
 ghost use Rattle.row_core.specs.Range.{DotStays, IsFirstToLeave};
 ghost use Rattle.cons_sys.specs.Constraints as constraints;
 ghost use Rattle.gens_sys.specs.Generators as generators;

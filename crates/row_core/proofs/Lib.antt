@@ -7,7 +7,6 @@ pub mod CellLemmas
 pub mod ContentLemmas
 pub mod OnePrimitive
 pub mod SamenessLemmas
-pub mod Flat
 pub mod SpanLemmas
 pub mod RefusalLemmas
 pub mod PointwiseLemmas

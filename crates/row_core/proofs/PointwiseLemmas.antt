@@ -1,9 +1,8 @@
--- Lists that are related element by element, and the marked elements of a list.
+-- Lists that are related element by element.
 use Rattle.std.proofs.Common.{◌≡◌, ℕ, suc, zero, ◌+◌, ◌<◌, Bool, true, false, List, [], ◌∷◌, ◌++◌, length, map, replicate, take, get_or, refl, sym, ap, subst, arith}
 use Rattle.std.specs.Prelude.{All}
 use Rattle.std.proofs.lemmas.List.{take_more}
 use Rattle.std.proofs.lemmas.List.Elements.{All-nil, All-cons, All-head, All-tail}
-use Rattle.row_core.specs.Flat.{marked}
 use Rattle.row_core.specs.Lists.{Pointwise}
 
 -- ---- lists that are related element by element
@@ -37,30 +36,3 @@ pub pointwise_more : {A B : Type 0} (R : A → B → Type 0) (xs : List A) (ys n
 pointwise_more {A} {B} R xs ys new i d y h p r is =
     subst (λ (zs : List A). Pointwise R zs new) (sym (take_more xs i d h))
     (subst (λ (bs : List B). Pointwise R (take i xs ++ get_or xs i d ∷ []) bs) (sym is) (pointwise_push R (take i xs) ys (get_or xs i d) y p r))
-
--- ---- marked elements
-pub pointwise_marked : {A B : Type 0} (R : A → B → Type 0) (marks : List Bool) (xs : List A) (ys : List B) → Pointwise R xs ys → Pointwise R (marked marks xs) (marked marks ys)
-pointwise_marked R [] xs ys h = record { as_many = refl; each = λ i d e below. absurd (omega (arith, below)) }
-pointwise_marked R (m ∷ marks) [] [] h = h
-pointwise_marked R (m ∷ marks) [] (y ∷ ys) h = absurd (omega (arith, h.as_many))
-pointwise_marked R (m ∷ marks) (x ∷ xs) [] h = absurd (omega (arith, h.as_many))
-pointwise_marked R (true ∷ marks) (x ∷ xs) (y ∷ ys) h = pointwise_cons R x (marked marks xs) y (marked marks ys) (h.each 0 x y (omega arith)) (pointwise_marked R marks xs ys (pointwise_tail R x xs y ys h))
-pointwise_marked R (false ∷ marks) (x ∷ xs) (y ∷ ys) h = pointwise_marked R marks xs ys (pointwise_tail R x xs y ys h)
-
-pub marked_all : {X : Type 0} (n : ℕ) (xs : List X) → n ≡ length xs → marked (replicate n true) xs ≡ xs
-marked_all zero [] e = refl
-marked_all zero (x ∷ xs) e = absurd (omega (arith, e))
-marked_all (suc n) [] e = absurd (omega (arith, e))
-marked_all (suc n) (x ∷ xs) e = ap (λ ys. x ∷ ys) (marked_all n xs (omega (arith, e)))
-
-pub marked-map : {X Y : Type 0} (f : X → Y) (keep : List Bool) (xs : List X) → map f (marked keep xs) ≡ marked keep (map f xs)
-marked-map f [] xs = refl
-marked-map f (k ∷ keep) [] = refl
-marked-map f (true ∷ keep) (x ∷ xs) = ap (λ (ys : List _). f x ∷ ys) (marked-map f keep xs)
-marked-map f (false ∷ keep) (x ∷ xs) = marked-map f keep xs
-
-pub all_marked : {X : Type 0} (P : X → Type 0) (keep : List Bool) (xs : List X) → All P xs → All P (marked keep xs)
-all_marked P [] xs h = All-nil P
-all_marked P (k ∷ keep) [] h = All-nil P
-all_marked P (true ∷ keep) (x ∷ xs) h = All-cons P x (marked keep xs) (All-head P x xs h) (all_marked P keep xs (All-tail P x xs h))
-all_marked P (false ∷ keep) (x ∷ xs) h = all_marked P keep xs (All-tail P x xs h)

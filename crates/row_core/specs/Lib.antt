@@ -6,7 +6,5 @@ pub mod Points
 pub mod Lists
 pub mod Laws
 pub mod Sameness
-pub mod Flat
-pub mod FlatLends
 pub mod Spans
 pub mod Refusals

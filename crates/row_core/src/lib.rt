@@ -2,7 +2,6 @@
 //!
 //! - [`RowBuf`], [`MarkedRows`] and [`RowList`] keep rows whose numbers are of the range, from
 //!   `-(2^127 - 1)` to `2^127 - 1`.
-//! - [`FlatRows`] keeps rows of one width in one buffer, whatever their entries are.
 //! - [`Memory`], [`Overflow`], [`PairOver`] and [`ConvErr`] are the answers that a call may refuse by.
 //! - [`Steps`] counts combinations of two rows.
 //! - [`dot`], [`combine_into`] and [`combine_onto`] give the exact numbers, or the first column that
@@ -17,7 +16,6 @@
 mod buffers;
 mod counting;
 mod errors;
-mod flat_rows;
 mod in_place;
 mod laws;
 mod linear;
@@ -29,7 +27,6 @@ mod signs;
 pub use buffers::{RowBuf, RowList};
 pub use counting::Steps;
 pub use errors::{ConvErr, Memory, OverKind, Overflow, PairOver};
-pub use flat_rows::FlatRows;
 pub use in_place::combine_onto;
 pub use laws::one_primitive;
 pub use linear::{combination, combine_into, dot, product, sum};

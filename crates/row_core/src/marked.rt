@@ -12,7 +12,6 @@ ghost use Rattle.row_core.specs.Sameness.{is_same_marked, same_marked_equiv};
 
 use crate::buffers::RowBuf;
 use crate::errors::Memory;
-use crate::flat_rows::append_row;
 use crate::narrow::all_narrow;
 use crate::primitive::make_primitive;
 use std::alloc::{AllocError, Global};
@@ -71,6 +70,15 @@ fn make_rest_primitive(cells: &mut [i128], start: usize)
     ensures { IsRestPrimitive start cells.old cells.new }
 {
     make_primitive(&mut cells[start..]);
+}
+
+/// Appends a row, for which there is room.
+fn append_row(cells: &mut Vec<i128>, row: &[i128])
+    requires { vec_len cells.old + length row.now ≤ vec_capacity cells.old }
+    ensures items { cells.new.items ≡ cells.old.items ++ row.now }
+    ensures len { vec_len cells.new ≡ vec_len cells.old + length row.now }
+{
+    let _appended = cells.extend_from_slice(row);
 }
 
 /// Appends a row, made primitive, for which there is room.

@@ -4,9 +4,9 @@ use Rattle.std.specs.Prelude.{All, Result, Ok, Err, OnOk, OnErr, MatchResult, ma
 use Rattle.std.proofs.lemmas.List.Elements.{All-append, All-take, All-drop}
 use borrow.Rule.Slice.PartMut.{put_mid}
 use Rattle.row_core.specs.Range.{InRange, AllInRange}
-use Rattle.row_core.specs.Flat.{Flat, rows_of, AreCells, with_cells, window}
+use Rattle.flat_rows.specs.Flat.{Flat, rows_of, AreCells, with_cells, window}
 use Rattle.row_store.specs.Stores.{IsKept, IsPartChanged, IsRowChanged}
-use Rattle.row_core.proofs.Flat.{row_end, rows_of-with_window, row_of_cells, with_cells_is, All-rows_of}
+use Rattle.flat_rows.proofs.Flat.{row_end, rows_of-with_window, row_of_cells, with_cells_is, All-rows_of}
 use Rattle.row_store.proofs.Parts.{with_window_is}
 
 -- a row that was changed where a part of the cells was lent

@@ -7,10 +7,10 @@ use Rattle.std.proofs.lemmas.List.Edits.{paste_all}
 use borrow.Rule.Slice.PartMut.{put_mid}
 use Rattle.row_core.specs.Vectors.{scale, add}
 use Rattle.row_core.specs.Range.{CombineStays, IsFirstToLeave, AllStay}
-use Rattle.row_core.specs.Flat.{Flat, entries_at, rows_of, AreCells, with_cells, window, with_window}
+use Rattle.flat_rows.specs.Flat.{Flat, entries_at, rows_of, AreCells, with_cells, window, with_window}
 use Rattle.row_core.proofs.CellLemmas.{length-scale, length-add}
 use Rattle.row_store.specs.Stores.{IsCombinedWith, IsRefusedAt}
-use Rattle.row_core.proofs.Flat.{row_end, length_row, length-window, row_of_cells, rows_of-with_window, with_cells_is}
+use Rattle.flat_rows.proofs.Flat.{row_end, length_row, length-window, row_of_cells, rows_of-with_window, with_cells_is}
 
 -- ---- a row written over a part
 pub with_window_is : (p w k : ℕ) (cells row : List ℤ) → k ≡ w → length row ≡ w → put_mid p k cells row ≡ with_window p w row cells

@@ -2,7 +2,7 @@ use Rattle.std.specs.Prelude.{◌≡◌, ℕ, ◌^◌, ◌<◌, List, length, �
 use Rattle.std.proofs.Math.IntN.{neg_ℤ}
 use Rattle.row_core.specs.Vectors.{scale, add}
 use Rattle.row_core.specs.Range.{AllInRange, CombineStays, IsFirstToLeave, AllStay}
-use Rattle.row_core.specs.Flat.{Flat, entries_at, window, with_window}
+use Rattle.flat_rows.specs.Flat.{Flat, entries_at, window, with_window}
 
 -- a u32 names each column, and each number is of the range
 pub record IsKept (t : Flat ℤ) : Type 0 where

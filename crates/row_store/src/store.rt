@@ -3,11 +3,12 @@ ghost use Rattle.std.specs.Prelude.{◌≡◌, ◌≢◌, ◌↔◌, ℕ, ◌+�
 ghost use Rattle.row_core.specs.Content.{IsPrimitiveOf};
 ghost use Rattle.row_core.specs.Range.{AllInRange};
 ghost use Rattle.row_core.specs.Narrow.{AllNarrow};
-ghost use Rattle.row_core.specs.Flat.{Flat, entries_at, marked, HasOneWidth};
+ghost use Rattle.flat_rows.specs.Flat.{Flat, entries_at, marked, HasOneWidth};
 ghost use Rattle.row_store.specs.Stores.{IsKept, IsNegated, IsCombinedWith, IsRefusedAt, IsRowChanged};
 
 use crate::windows::{combine_part, combine_parts, make_part_primitive, negate_part};
-use row_core::{FlatRows, Memory, Steps, all_narrow};
+use flat_rows::FlatRows;
+use row_core::{Memory, Steps, all_narrow};
 use std::alloc::Global;
 use std::marker::Model;
 use std::sync::ledger::Ledger;
@@ -69,7 +70,7 @@ impl RowStore {
         ensures ok { OnOk result (self.new ≡ record self.old { spare = max self.old.spare n }) }
         ensures err { OnErr result (self.new ≡ self.old) }
     {
-        self.rows.reserve(n)
+        Ok(self.rows.reserve(n)?)
     }
 
     /// Appends a row, for which room was made.

@@ -1,7 +1,7 @@
 //! Parts of a buffer.
 ghost use Rattle.std.specs.Prelude.{◌≡◌, ◌≢◌, ℕ, ◌+◌, ◌*◌, ◌^◌, ◌<◌, ◌≤◌, ◌++◌, ◌⊎◌, length, take, drop, MatchResult};
 ghost use Rattle.row_core.specs.Vectors.{scale, add};
-ghost use Rattle.row_core.specs.Flat.{window, with_window};
+ghost use Rattle.flat_rows.specs.Flat.{window, with_window};
 ghost use Rattle.row_core.specs.Content.{IsPrimitiveOf};
 ghost use Rattle.row_core.specs.Range.{AllInRange, CombineStays, IsFirstToLeave, AllStay};
 ghost use Rattle.row_store.specs.Stores.{IsNegated, IsPartChanged};

@@ -9,8 +9,8 @@ use Rattle.std.proofs.lemmas.Bool.{cases_lt, cases_eq}
 use Rattle.sat_bits.specs.Places.{place, bit_in, IsSubsetOfAnd}
 use Rattle.sat_bits.proofs.PlaceLemmas.{places_and}
 use Rattle.sat_matrix.proofs.WordRows.{length-and_words}
-use Rattle.row_core.specs.Flat.{Flat, entries_at, HasOneWidth, marked}
-pub use Rattle.row_core.proofs.PointwiseLemmas.{marked-map, all_marked}
+use Rattle.flat_rows.specs.Flat.{Flat, entries_at, HasOneWidth, marked}
+pub use Rattle.flat_rows.proofs.Marked.{marked-map, all_marked}
 use Rattle.sat_matrix.specs.Tables.{Table, bits_of, bit_at, conjunction, Covers}
 use Rattle.sat_matrix.specs.Words.{bits_in, and_words, IsPadded, IsTable, IsPlaceSet}
 

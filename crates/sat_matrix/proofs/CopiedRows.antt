@@ -6,8 +6,8 @@ use Rattle.std.proofs.lemmas.List.{ext_get_or, get_or_past, get_or-replicate, le
 use Rattle.std.proofs.lemmas.List.Elements.{All-map}
 use Rattle.std.proofs.lemmas.List.FromFn.{get_or-map-range_with_len}
 use Rattle.sat_bits.specs.Places.{place, bit_in}
-use Rattle.row_core.specs.Flat.{Flat, entries_at, fitted}
-use Rattle.row_core.proofs.Flat.{length-fitted}
+use Rattle.flat_rows.specs.Flat.{Flat, entries_at, fitted}
+use Rattle.flat_rows.proofs.Flat.{length-fitted}
 use Rattle.sat_matrix.specs.Tables.{Table, bits_of}
 use Rattle.sat_matrix.specs.Words.{bits_in, IsPadded, IsTable}
 use Rattle.sat_matrix.proofs.BitRows.{seen_bits, seen_in, length-bits_in, bit_is, none_in_zeros, with_column, column_seen}

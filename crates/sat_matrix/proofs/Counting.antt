@@ -4,7 +4,7 @@ use Rattle.std.specs.List.{range_with_len, count_by}
 use Rattle.std.proofs.lemmas.List.Sums.{sum_by-cons}
 use Rattle.sat_bits.specs.Places.{place}
 use Rattle.sat_bits.proofs.CountLemmas.{joined}
-use Rattle.row_core.specs.Flat.{Flat, entries_at}
+use Rattle.flat_rows.specs.Flat.{Flat, entries_at}
 use Rattle.sat_matrix.specs.Tables.{Table, bits_of, conjunction}
 use Rattle.sat_matrix.specs.Counts.{ones}
 use Rattle.sat_matrix.specs.Words.{bits_in, IsPadded, IsTable}

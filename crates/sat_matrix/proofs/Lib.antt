@@ -6,3 +6,4 @@ pub mod Counting
 pub mod SingleWords
 pub mod CopiedRows
 pub mod NextSharing
+pub mod MarkedRows

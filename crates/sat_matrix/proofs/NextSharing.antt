@@ -1,7 +1,7 @@
 -- The first row of a list that shares enough places, by the words of the rows.
 use Rattle.std.proofs.Common.{◌≡◌, ℕ, ◌+◌, ◌^◌, ◌<◌, ◌≤◌, List, length, inl, inr, refl, sym, ap, ◌∙◌, subst, get_or, arith}
 use Rattle.std.proofs.lemmas.Bool.{cases_eq}
-use Rattle.row_core.specs.Flat.{Flat, entries_at, HasOneWidth}
+use Rattle.flat_rows.specs.Flat.{Flat, entries_at, HasOneWidth}
 use Rattle.sat_matrix.specs.Tables.{Table, bits_of, conjunction, IsRectangular}
 use Rattle.sat_matrix.specs.Counts.{ones}
 use Rattle.sat_matrix.specs.Words.{IsTable}

@@ -1,7 +1,7 @@
 -- Conjunctions of two rows of words, and rows of which the first words are conjunctions.
 use Rattle.std.proofs.Common.{◌≡◌, ◌≢◌, ℕ, suc, zero, ◌+◌, ◌<◌, bit_and, List, [], ◌∷◌, ◌++◌, length, get_or, set, take, drop, refl, sym, ap, ◌∙◌, arith, add-one}
 use Rattle.std.proofs.lemmas.List.{get_or-set_same, get_or-set_other, set-set, get_or_append_left}
-use Rattle.row_core.specs.Flat.{Flat, entries_at}
+use Rattle.flat_rows.specs.Flat.{Flat, entries_at}
 use Rattle.sat_matrix.specs.Words.{and_words}
 use Rattle.sat_matrix.proofs.WrittenRows.{set_last, last_row}
 

@@ -1,7 +1,7 @@
 -- A row that is written place by place.
 use Rattle.std.proofs.Common.{◌≡◌, ℕ, zero, suc, ◌+◌, ◌<◌, Bool, false, List, [], ◌∷◌, ◌++◌, length, get_or, set, take, drop, refl, sym, ap, ◌∙◌, arith}
 use Rattle.std.proofs.lemmas.List.{get_or-set_same, set-set}
-use Rattle.row_core.specs.Flat.{entries_at}
+use Rattle.flat_rows.specs.Flat.{entries_at}
 use Rattle.sat_matrix.specs.Tables.{bits_of}
 
 -- one place more

@@ -3,7 +3,7 @@ use Rattle.std.specs.List.{range_with_len, count_by}
 use Rattle.sat_bits.specs.Places.{place}
 use Rattle.sat_matrix.specs.Tables.{bits_of, conjunction}
 use Rattle.sat_matrix.specs.Counts.{ones}
-use Rattle.row_core.specs.Flat.{entries_at}
+use Rattle.flat_rows.specs.Flat.{entries_at}
 
 -- next is the first number from one on and below the size at which something holds, or the size where there is none
 pub record IsFirstFrom (holds : ℕ → Type 0) (from size next : ℕ) : Type 0 where

@@ -1,7 +1,7 @@
 use Rattle.std.specs.Prelude.{◌≡◌, ◌≢◌, ℕ, ◌*◌, ◌<◌, ◌≤◌, Bool, false, List, [], ◌∷◌, All, map, length, slice_index_or, bit_and}
 use Rattle.std.specs.List.{range_with_len}
 use Rattle.sat_bits.specs.Places.{place, IsNoneMissing, IsSubsetOfAnd}
-use Rattle.row_core.specs.Flat.{Flat, entries_at}
+use Rattle.flat_rows.specs.Flat.{Flat, entries_at}
 
 -- the conjunctions of two rows, word by word
 abbrev pub and_words : List ℕ → List ℕ → List ℕ

@@ -1,6 +1,6 @@
 //! The table.
 ghost use Rattle.std.specs.Prelude.{◌≡◌, ℕ, ◌+◌, ◌<◌, ◌≤◌, ◌↔◌, List, [], ◌∷◌, ◌++◌, length, map, max, replicate, Bool, true, false, ◌-◌, slice_set, IsTrue, OnOk, OnErr, IfOk, slice_index_or};
-ghost use Rattle.row_core.specs.Flat.{marked};
+ghost use Rattle.flat_rows.specs.Flat.{marked};
 ghost use Rattle.sat_bits.specs.Places.{place};
 ghost use Rattle.sat_matrix.specs.Columns.{IsBitOf, IsColumnMarked};
 ghost use Rattle.sat_matrix.specs.Tables.{Table, bits_of, bit_at, conjunction, transposed, Covers, HasThird, IsRectangular};
@@ -10,7 +10,8 @@ ghost use Rattle.sat_matrix.specs.Searches.{IsFirstFrom, Shares};
 
 use crate::searches::{has_third_row, next_sharing};
 use crate::words::{push_and, widened};
-use row_core::{FlatRows, Memory};
+use flat_rows::FlatRows;
+use row_core::Memory;
 use sat_bits::{count, count_and, get, is_subset_of_and, with_bit};
 use std::alloc::{AllocError, Global};
 use std::marker::Model;
@@ -99,7 +100,7 @@ impl SatMatrix {
         ensures ok { OnOk result (self.new ≡ record self.old { spare = max self.old.spare rows }) }
         ensures err { OnErr result (self.new ≡ self.old) }
     {
-        self.words.reserve(rows)
+        Ok(self.words.reserve(rows)?)
     }
 
     /// Appends a row whose places all are `bit`.

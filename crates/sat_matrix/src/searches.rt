@@ -1,12 +1,12 @@
 //! Searches among rows of words. The width of the rows is tested once for each search, and the loops are compiled
 //! for each of the small ones.
 ghost use Rattle.std.specs.Prelude.{◌≡◌, ◌↔◌, ℕ, ◌^◌, ◌<◌, ◌≤◌, IsTrue, length, slice_index_or};
-ghost use Rattle.row_core.specs.Flat.{entries_at};
+ghost use Rattle.flat_rows.specs.Flat.{entries_at};
 ghost use Rattle.sat_matrix.specs.Words.{HasThirdRow};
 ghost use Rattle.sat_matrix.specs.Searches.{IsFirstFrom, SharesPlaces, shared_places};
 
 use crate::words::has_third_word;
-use row_core::FlatRows;
+use flat_rows::FlatRows;
 use sat_bits::{count_and, is_subset_of_and};
 
 /// The first position from `from` on at which the list names a row that shares at least `least` places with

@@ -1,9 +1,10 @@
 //! Rows of words.
 ghost use Rattle.std.specs.Prelude.{◌≡◌, ◌≢◌, ◌↔◌, ℕ, ◌+◌, ◌^◌, ◌<◌, IsTrue, ◌∷◌, [], ◌++◌, length, map, slice_index_or, slice_set, IfOk};
-ghost use Rattle.row_core.specs.Flat.{entries_at, fitted, HasOneWidth};
+ghost use Rattle.flat_rows.specs.Flat.{entries_at, fitted, HasOneWidth};
 ghost use Rattle.sat_matrix.specs.Words.{and_words, HasThirdWord, HasThirdRow};
 
-use row_core::{FlatRows, Memory};
+use flat_rows::FlatRows;
+use row_core::Memory;
 use std::alloc::Global;
 
 /// Appends the conjunction of rows `i` and `j`, for which room was made.

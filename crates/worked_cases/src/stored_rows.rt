@@ -1,6 +1,6 @@
 //! Rows in one buffer.
 ghost use Rattle.std.specs.Prelude.{◌≡◌, ◌<◌, length, IfOk};
-ghost use Rattle.row_core.specs.Flat.{Flat};
+ghost use Rattle.flat_rows.specs.Flat.{Flat};
 
 use row_core::{Memory, Steps};
 use row_store::RowStore;

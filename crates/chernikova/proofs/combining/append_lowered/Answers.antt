@@ -3,7 +3,7 @@ use Rattle.std.specs.Int.{w128}
 use Rattle.std.proofs.Common.{sym, ap, ◌∙◌, to_z}
 use Rattle.std.proofs.lemmas.Int.{to_z-of_z}
 use mir.Val.{SFits}
-use Rattle.row_core.specs.Flat.{entries_at}
+use Rattle.flat_rows.specs.Flat.{entries_at}
 use Rattle.cone_laws.proofs.FactorLemmas.{fits, back}
 use Rattle.chernikova.proofs.ChangeLemmas.{combined_zero}
 use Rattle.chernikova.proofs.CombinedRows.{is_appended, is_left, leaves_at, pushed_last}

@@ -5,7 +5,7 @@ use Rattle.std.proofs.lemmas.Result.{err_from_is_err_and}
 use Rattle.std.proofs.lemmas.List.{take_all}
 use Rattle.std.proofs.lemmas.List.Elements.{All-same}
 use Rattle.row_core.specs.Range.{AllInRange}
-use Rattle.row_core.specs.Flat.{marked}
+use Rattle.flat_rows.specs.Flat.{marked}
 use Rattle.row_core.specs.Lists.{Row, Rows, vectors, AreMarked}
 use Rattle.cone_laws.proofs.VectorLemmas.{length-vectors}
 use Rattle.minimise.specs.Bases.{IsBasis, IsGrown}

@@ -1,5 +1,5 @@
 use Rattle.std.proofs.Common.{◌≡◌, ◌≤◌, ◌+◌, ◌*◌, length, take, true}
-use Rattle.row_core.specs.Flat.{marked}
+use Rattle.flat_rows.specs.Flat.{marked}
 use Rattle.row_core.specs.Lists.{vectors, AreMarked}
 use Rattle.minimise.specs.Bases.{IsBasis}
 use Rattle.minimise.proofs.bases.basis.Given as goal

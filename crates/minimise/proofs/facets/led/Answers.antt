@@ -1,5 +1,5 @@
 use Rattle.std.proofs.Common.{◌≡◌, ℕ, List, Bool, length, sym, ap, ◌∙◌, subst}
-use Rattle.row_core.specs.Flat.{marked}
+use Rattle.flat_rows.specs.Flat.{marked}
 use Rattle.minimise.specs.Facets.{AreLed, AreMarkedAt}
 use Rattle.minimise.proofs.FacetLemmas.{led_marked}
 use Rattle.minimise.proofs.facets.led.Goals as goal

@@ -2,7 +2,7 @@ use Rattle.std.proofs.Common.{ap, ◌∙◌, arith, length, take, List, Bool, �
 use Rattle.std.specs.List.{range_with_len}
 use Rattle.std.proofs.lemmas.List.{take_all}
 use Rattle.std.proofs.lemmas.List.FromFn.{length-range_with_len}
-use Rattle.row_core.specs.Flat.{marked}
+use Rattle.flat_rows.specs.Flat.{marked}
 use Rattle.minimise.proofs.MarkedRows.{index_more, index_skip}
 use Rattle.minimise.proofs.facets.marked_indices.Goals as goal
 use Rattle.minimise.proofs.facets.marked_indices.Goals.{then-marks-index+in_ok-push, else-marks-index}

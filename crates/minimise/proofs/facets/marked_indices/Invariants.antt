@@ -1,6 +1,6 @@
 use Rattle.std.proofs.Common.{◌≡◌, length, take}
 use Rattle.std.specs.List.{range_with_len}
-use Rattle.row_core.specs.Flat.{marked}
+use Rattle.flat_rows.specs.Flat.{marked}
 use Rattle.minimise.proofs.facets.marked_indices.Given as goal
 
 abbrev pub invariant-loop-index : goal.invariant-loop-index

@@ -1,6 +1,6 @@
 use Rattle.std.proofs.Common.{ap, ◌∙◌, arith, take, List, Bool, ℕ}
 use Rattle.std.proofs.lemmas.List.{take_all}
-use Rattle.row_core.specs.Flat.{marked}
+use Rattle.flat_rows.specs.Flat.{marked}
 use Rattle.minimise.proofs.MarkedRows.{element_more, element_skip}
 use Rattle.minimise.proofs.facets.marked_of.Goals as goal
 use Rattle.minimise.proofs.facets.marked_of.Goals.{then-marks-index+in_ok-push, else-marks-index}

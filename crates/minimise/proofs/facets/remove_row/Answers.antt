@@ -1,5 +1,5 @@
 use Rattle.std.proofs.Common.{List, Bool, false, set, ap, ◌∙◌}
-use Rattle.row_core.specs.Flat.{marked}
+use Rattle.flat_rows.specs.Flat.{marked}
 use Rattle.minimise.proofs.MarkedRows.{marked_but}
 use Rattle.minimise.proofs.facets.remove_row.Goals as goal
 

@@ -3,7 +3,7 @@ use Rattle.std.specs.List.{range_with_len}
 use Rattle.std.proofs.Common.{arith, sym, ap, subst}
 use Rattle.std.proofs.lemmas.Result.{err_from_is_err_and}
 use Rattle.std.proofs.lemmas.List.FromFn.{length-range_with_len}
-use Rattle.row_core.specs.Flat.{marked}
+use Rattle.flat_rows.specs.Flat.{marked}
 use Rattle.row_core.specs.Lists.{row_at, vectors, Pointwise}
 use Rattle.cone_laws.proofs.VectorLemmas.{length-vectors}
 use Rattle.minimise.specs.Bases.{IsReduced}

@@ -2,7 +2,7 @@ use Rattle.std.proofs.Common.{◌∙◌, Bool, List, ap, false, length, map, sym
 use Rattle.std.proofs.lemmas.List.{length-map}
 use Rattle.std.specs.Prelude.{slice_index_or}
 use Rattle.std.proofs.lemmas.List.FromFn.{length-map-range_with_len}
-use Rattle.row_core.specs.Flat.{marked}
+use Rattle.flat_rows.specs.Flat.{marked}
 use Rattle.row_core.specs.Lists.{Row, vectors}
 use Rattle.sat_matrix.specs.ZeroTables.{IsZeroTable}
 use Rattle.sat_matrix.specs.Tables.{Table}

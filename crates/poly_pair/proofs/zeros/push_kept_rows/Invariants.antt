@@ -1,5 +1,5 @@
 use Rattle.std.proofs.Common.{◌≡◌, ◌+◌, ◌≤◌, ◌++◌, length, map, not, take, drop}
-use Rattle.row_core.specs.Flat.{marked}
+use Rattle.flat_rows.specs.Flat.{marked}
 use Rattle.row_core.specs.Lists.{vectors}
 use Rattle.pair_laws.specs.StoredForms.{is_divisor_row}
 use Rattle.poly_pair.proofs.zeros.push_kept_rows.Given as goal

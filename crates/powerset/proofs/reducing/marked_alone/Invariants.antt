@@ -1,5 +1,5 @@
 use Rattle.std.proofs.Common.{◌≡◌, ◌≤◌, ◌++◌, length, take, drop}
-use Rattle.row_core.specs.Flat.{marked}
+use Rattle.flat_rows.specs.Flat.{marked}
 use Rattle.powerset.proofs.reducing.marked_alone.Given as goal
 
 abbrev pub invariant-loop-index : goal.invariant-loop-index

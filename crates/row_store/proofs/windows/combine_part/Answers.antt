@@ -6,8 +6,8 @@ use Rattle.std.proofs.lemmas.Int.{to_z-of_z}
 use Rattle.std.proofs.lemmas.Result.{MatchResult-weaker}
 use Rattle.std.proofs.lemmas.List.Elements.{All-take, All-drop}
 use Rattle.row_core.specs.Range.{InRange}
-use Rattle.row_core.specs.Flat.{window}
-use Rattle.row_core.proofs.Flat.{length-window}
+use Rattle.flat_rows.specs.Flat.{window}
+use Rattle.flat_rows.proofs.Flat.{length-window}
 use Rattle.row_store.proofs.ChangedRows.{part_in_range, changed_or_left}
 use Rattle.row_store.proofs.Parts.{part_combined, part_left}
 use Rattle.row_store.proofs.windows.combine_part.Goals as goal

@@ -6,8 +6,8 @@ use Rattle.std.proofs.lemmas.Int.{to_z-of_z}
 use Rattle.std.proofs.lemmas.Result.{MatchResult-weaker}
 use Rattle.std.proofs.lemmas.List.Elements.{All-append, All-take, All-drop}
 use Rattle.row_core.specs.Range.{InRange, AllInRange}
-use Rattle.row_core.specs.Flat.{window, with_window}
-use Rattle.row_core.proofs.Flat.{take-drop-append, length-window}
+use Rattle.flat_rows.specs.Flat.{window, with_window}
+use Rattle.flat_rows.proofs.Flat.{take-drop-append, length-window}
 use Rattle.row_store.proofs.Parts.{moved_combined, moved_left, with_window_in_front, window_in_back, with_window_in_back}
 use Rattle.row_store.proofs.windows.combine_parts.Goals as goal
 

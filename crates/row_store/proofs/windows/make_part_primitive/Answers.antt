@@ -3,8 +3,8 @@ use Rattle.std.proofs.Common.{arith, refl, ap, ◌∙◌}
 use Rattle.std.proofs.lemmas.List.Elements.{All-take, All-drop}
 use Rattle.row_core.specs.Content.{IsPrimitiveOf}
 use Rattle.row_core.specs.Range.{InRange}
-use Rattle.row_core.specs.Flat.{window}
-use Rattle.row_core.proofs.Flat.{length-window}
+use Rattle.flat_rows.specs.Flat.{window}
+use Rattle.flat_rows.proofs.Flat.{length-window}
 use Rattle.row_store.proofs.ChangedRows.{part_changed, part_in_range}
 use Rattle.row_store.proofs.windows.make_part_primitive.Goals as goal
 

@@ -2,7 +2,7 @@ use Rattle.std.proofs.Common.{subst, arith, below_more, sym, ℕ, List}
 use Rattle.std.proofs.lemmas.Bool.{false≢true}
 use Rattle.std.specs.Prelude.{IsTrue}
 use Rattle.sat_bits.specs.Places.{IsSubsetOfAnd}
-use Rattle.row_core.specs.Flat.{entries_at}
+use Rattle.flat_rows.specs.Flat.{entries_at}
 use Rattle.sat_matrix.specs.Words.{IsThirdRow}
 use Rattle.sat_matrix.proofs.searches.has_third_as_wide.Goals as goal
 use Rattle.sat_matrix.proofs.searches.has_third_as_wide.Goals.{else-is_subset_of_and-via-then-is_subset_of_and+then-k-i+else-k-j, else-is_subset_of_and-via-then-is_subset_of_and+else-k-i, else-is_subset_of_and-via-else-is_subset_of_and}

@@ -1,5 +1,5 @@
 use Rattle.std.proofs.Common.{◌<◌, List, ℕ, length, get_or, ap, arith}
-use Rattle.row_core.specs.Flat.{Flat, entries_at}
+use Rattle.flat_rows.specs.Flat.{Flat, entries_at}
 use Rattle.sat_matrix.proofs.WordRows.{anded_put}
 use Rattle.sat_matrix.proofs.words.and_onto.Goals as goal
 

@@ -1,5 +1,5 @@
 use Rattle.std.proofs.Common.{◌≡◌, set}
-use Rattle.row_core.specs.Flat.{entries_at}
+use Rattle.flat_rows.specs.Flat.{entries_at}
 use Rattle.sat_matrix.proofs.WordRows.{anded}
 use Rattle.sat_matrix.proofs.words.and_onto.Given as goal
 

@@ -1,5 +1,5 @@
 use Rattle.std.proofs.Common.{ℕ, ap}
-use Rattle.row_core.specs.Flat.{Flat, entries_at}
+use Rattle.flat_rows.specs.Flat.{Flat, entries_at}
 use Rattle.sat_matrix.proofs.WordRows.{and_pushed}
 use Rattle.sat_matrix.proofs.words.push_and.Goals as goal
 

@@ -1,7 +1,7 @@
 use Rattle.std.proofs.Common.{◌<◌, ◌≤◌, ◌+◌, ℕ, List, [], ◌∷◌, ◌++◌, length, map, take, ap, sym, ◌∙◌, arith}
 use Rattle.std.proofs.lemmas.List.{map_more, take_all}
 use Rattle.std.proofs.lemmas.Result.{IfOk-from_err}
-use Rattle.row_core.specs.Flat.{fitted}
+use Rattle.flat_rows.specs.Flat.{fitted}
 use Rattle.sat_matrix.proofs.words.widened.Goals as goal
 
 pub returns-in_err-width : goal.returns-in_err-width

@@ -1,5 +1,5 @@
 use Rattle.std.proofs.Common.{◌≡◌, ◌+◌, ◌<◌, map, take, length}
-use Rattle.row_core.specs.Flat.{fitted}
+use Rattle.flat_rows.specs.Flat.{fitted}
 use Rattle.sat_matrix.proofs.words.widened.Given as goal
 
 abbrev pub invariant-loop-i : goal.invariant-loop-i

@@ -1,7 +1,7 @@
 use Rattle.std.specs.Prelude.{All}
 use Rattle.std.proofs.Common.{sym, subst}
 use Rattle.row_core.specs.Narrow.{AllNarrow}
-use Rattle.row_core.proofs.PointwiseLemmas.{all_marked}
+use Rattle.flat_rows.proofs.Marked.{all_marked}
 use Rattle.chernikova.proofs.MarkedVectors.{kept_seen}
 use Rattle.chernikova.proofs.vectors.VectorList.keep_rows.Goals as goal
 

@@ -2,7 +2,7 @@ use Rattle.std.specs.Prelude.{◌≡◌, ◌++◌, ◌∷◌, []}
 use Rattle.std.proofs.Common.{ap, ◌∙◌}
 use Rattle.std.specs.Prelude.{ℤ}
 use Rattle.std.proofs.lemmas.List.Elements.{All-same}
-use Rattle.row_core.specs.Flat.{Flat}
+use Rattle.flat_rows.specs.Flat.{Flat}
 use Rattle.row_core.specs.Lists.{Row}
 use Rattle.chernikova.specs.Vectors.{with_mark}
 use Rattle.chernikova.proofs.MarkedVectors.{pushed_seen}

@@ -5,7 +5,7 @@ use Rattle.std.proofs.lemmas.Int.{to_z-of_z}
 use Rattle.std.proofs.lemmas.Bool.{false≢true}
 use Rattle.std.proofs.lemmas.Result.{err_from_is_err_and}
 use mir.Val.{SFits}
-use Rattle.row_core.specs.Flat.{entries_at}
+use Rattle.flat_rows.specs.Flat.{entries_at}
 use Rattle.row_core.specs.Lists.{row_at}
 use Rattle.row_core.specs.Narrow.{AllNarrow}
 use Rattle.cone_laws.specs.Combinations.{IsCombined}

@@ -2,7 +2,7 @@ use Rattle.std.specs.Prelude.{List, ℤ, All}
 use Rattle.std.proofs.Common.{sym, ap, subst, ◌∙◌, arith, take}
 use Rattle.std.proofs.lemmas.List.{take-map}
 use Rattle.std.proofs.lemmas.List.Elements.{All-take}
-use Rattle.row_core.specs.Flat.{Flat}
+use Rattle.flat_rows.specs.Flat.{Flat}
 use Rattle.row_core.specs.Lists.{Row}
 use Rattle.row_core.specs.Narrow.{AllNarrow}
 use Rattle.chernikova.specs.Vectors.{Vectors}

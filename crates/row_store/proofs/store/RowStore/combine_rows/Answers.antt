@@ -5,8 +5,8 @@ use Rattle.std.proofs.Common.{arith, subst}
 use Rattle.std.proofs.lemmas.Int.{to_z-of_z}
 use Rattle.std.proofs.lemmas.Result.{MatchResult-weaker}
 use Rattle.row_core.specs.Range.{InRange}
-use Rattle.row_core.specs.Flat.{Flat, window}
-use Rattle.row_core.proofs.Flat.{All-cells}
+use Rattle.flat_rows.specs.Flat.{Flat, window}
+use Rattle.flat_rows.proofs.Flat.{All-cells}
 use Rattle.row_store.proofs.Parts.{IsCombinedPart, IsPartLeft, rows_apart, row_combined, row_left}
 use Rattle.row_store.proofs.ChangedRows.{row_ends, kept_cells}
 use Rattle.row_store.proofs.store.RowStore.combine_rows.Goals as goal

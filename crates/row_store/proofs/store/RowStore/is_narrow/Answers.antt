@@ -2,7 +2,7 @@ use Rattle.std.proofs.Common.{[]}
 use Rattle.std.specs.Prelude.{All}
 use Rattle.std.proofs.lemmas.List.Elements.{All-from_get_or}
 use Rattle.row_core.specs.Narrow.{IsNarrow}
-use Rattle.row_core.proofs.Flat.{All-each, All-cells}
+use Rattle.flat_rows.proofs.Flat.{All-each, All-cells}
 use Rattle.row_store.proofs.store.RowStore.is_narrow.Goals as goal
 
 pub returns : goal.returns

@@ -1,6 +1,6 @@
 use Rattle.std.proofs.Common.{sym, subst}
 use Rattle.std.specs.Prelude.{All}
-use Rattle.row_core.proofs.PointwiseLemmas.{all_marked}
+use Rattle.flat_rows.proofs.Marked.{all_marked}
 use Rattle.row_store.proofs.ChangedRows.{kept_among}
 use Rattle.row_store.proofs.store.RowStore.keep_rows.Goals as goal
 

@@ -3,7 +3,7 @@ use Rattle.std.proofs.Common.{arith, subst}
 use Rattle.row_core.specs.Range.{InRange}
 use Rattle.row_core.specs.Content.{IsPrimitiveOf}
 use Rattle.row_store.specs.Stores.{IsPartChanged}
-use Rattle.row_core.proofs.Flat.{All-cells}
+use Rattle.flat_rows.proofs.Flat.{All-cells}
 use Rattle.row_store.proofs.ChangedRows.{row_ends, row_changed, kept_cells}
 use Rattle.row_store.proofs.store.RowStore.make_row_primitive.Goals as goal
 

@@ -2,7 +2,7 @@ use Rattle.std.specs.Prelude.{◌*◌, ℕ}
 use Rattle.std.proofs.Common.{arith, subst}
 use Rattle.row_core.specs.Range.{InRange}
 use Rattle.row_store.specs.Stores.{IsNegated, IsPartChanged}
-use Rattle.row_core.proofs.Flat.{All-cells}
+use Rattle.flat_rows.proofs.Flat.{All-cells}
 use Rattle.row_store.proofs.ChangedRows.{row_ends, row_changed, kept_cells}
 use Rattle.row_store.proofs.store.RowStore.negate.Goals as goal
 

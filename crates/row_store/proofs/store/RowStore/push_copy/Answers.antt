@@ -1,7 +1,7 @@
 use Rattle.std.proofs.Common.{◌<◌, [], length, sym, subst, ap, arith}
 use Rattle.std.specs.Prelude.{All, ℤ}
 use Rattle.std.proofs.lemmas.List.Elements.{All-push}
-use Rattle.row_core.specs.Flat.{Flat, entries_at}
+use Rattle.flat_rows.specs.Flat.{Flat, entries_at}
 use Rattle.row_store.proofs.ChangedRows.{kept_among}
 use Rattle.row_store.proofs.store.RowStore.push_copy.Goals as goal
 

@@ -1,7 +1,7 @@
 use Rattle.std.proofs.Common.{sym, subst, ap}
 use Rattle.std.specs.Prelude.{All, ℤ}
 use Rattle.std.proofs.lemmas.List.Elements.{All-take}
-use Rattle.row_core.specs.Flat.{Flat}
+use Rattle.flat_rows.specs.Flat.{Flat}
 use Rattle.row_store.proofs.ChangedRows.{kept_among}
 use Rattle.row_store.proofs.store.RowStore.truncate.Goals as goal
 

@@ -1,6 +1,6 @@
 use Rattle.std.proofs.Common.{ℕ, List, ◌+◌, map, ap, sym, subst, arith}
 use Rattle.std.specs.Prelude.{All}
-use Rattle.row_core.specs.Flat.{Flat}
+use Rattle.flat_rows.specs.Flat.{Flat}
 use Rattle.sat_matrix.specs.Words.{bits_in, IsPadded}
 use Rattle.sat_matrix.proofs.BitRows.{column_seen}
 use Rattle.sat_matrix.proofs.CopiedRows.{wider_column, all_fitted}

@@ -1,7 +1,7 @@
 use Rattle.std.proofs.Common.{◌<◌, List, [], ℕ, length, arith, sym, subst, ◌∙◌}
 use Rattle.std.specs.Prelude.{All}
 use Rattle.std.proofs.lemmas.List.Elements.{All-append, All-cons, All-nil}
-use Rattle.row_core.specs.Flat.{entries_at}
+use Rattle.flat_rows.specs.Flat.{entries_at}
 use Rattle.sat_matrix.specs.Words.{and_words, IsPadded}
 use Rattle.sat_matrix.proofs.BitRows.{seen_in, and_seen, padded_and}
 use Rattle.sat_matrix.proofs.matrix.SatMatrix.push_and.Goals as goal

@@ -1,7 +1,7 @@
 use Rattle.std.proofs.Common.{◌≡◌, ◌++◌, ◌∷◌, ◌∙◌, ap, ◌<◌, List, [], ℕ, length, arith, sym, subst}
 use Rattle.std.specs.Prelude.{All}
 use Rattle.std.proofs.lemmas.List.Elements.{All-append, All-cons, All-nil}
-use Rattle.row_core.specs.Flat.{entries_at, fitted}
+use Rattle.flat_rows.specs.Flat.{entries_at, fitted}
 use Rattle.sat_matrix.specs.Words.{IsPadded}
 use Rattle.sat_matrix.proofs.BitRows.{seen_in}
 use Rattle.sat_matrix.proofs.CopiedRows.{padded_fitted, copy_seen}

@@ -1,7 +1,7 @@
 use Rattle.std.proofs.Common.{[], ◌≡◌, ◌<◌, ◌/◌, List, ℕ, length, set, slice_index_or, arith, ap, ◌∙◌}
 use Rattle.std.proofs.lemmas.List.Elements.{All-set}
 use Rattle.sat_bits.specs.Places.{bit_in}
-use Rattle.row_core.specs.Flat.{Flat, entries_at}
+use Rattle.flat_rows.specs.Flat.{Flat, entries_at}
 use Rattle.sat_matrix.specs.Words.{IsPlaceSet, IsPadded}
 use Rattle.sat_matrix.proofs.BitRows.{seen_in, seen_bits, place_set, padded_set, set_in}
 use Rattle.sat_matrix.proofs.matrix.SatMatrix.set.Goals as goal
