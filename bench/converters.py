@@ -1,7 +1,9 @@
 """The converters that the comparisons of conversions run, and what one run of a converter takes."""
 import os
 import shutil
+import signal
 import subprocess
+import threading
 from collections import namedtuple
 
 HERE = os.path.dirname(os.path.abspath(__file__))
@@ -24,24 +26,36 @@ def peers(folder):
     return {"PPL": [ppl], "Normaliz": [built(folder, "normaliz_convert", "-lnormaliz", "-leanticxx")]}
 
 
+def with_lrs(others):
+    """The other converters, and lrs where it is installed (Debian: lrslib)."""
+    lrs = shutil.which("lrs")
+    return {**others, "lrs": [lrs]} if lrs else others
+
+
 def ours(polycalc, path):
     return [os.path.abspath(polycalc), "ext2ine" if path.endswith(".ext") else "ine2ext"]
 
 
-def run(command, path):
-    """One run on the file: all of the process, with reading and printing."""
+def run(command, path, limit=None):
+    """One run on the file: all of the process, with reading and printing; nothing where it took longer than the limit."""
     with open(path) as file:
         process = subprocess.Popen(command, stdin=file, stdout=subprocess.PIPE, stderr=subprocess.DEVNULL)
+        timer = threading.Timer(limit or 1e6, process.send_signal, [signal.SIGKILL])
+        timer.start()
         output = process.stdout.read()
         _, status, usage = os.wait4(process.pid, 0)
+        timer.cancel()
         process.returncode = os.waitstatus_to_exitcode(status)
+    if process.returncode == -signal.SIGKILL:
+        return None
     return Run(usage.ru_utime + usage.ru_stime, usage.ru_maxrss, output.decode())
 
 
 def rows_of(output):
-    """How many rows a written file has, or nothing where it is none."""
-    lines = output.splitlines()
-    for i, line in enumerate(lines):
-        if line.strip() == "begin":
-            return int(lines[i + 1].split()[0])
-    return None
+    """How many rows a written file has, or nothing where it is none. lrs writes asterisks for their number."""
+    lines = [line.strip() for line in output.splitlines()]
+    if "begin" not in lines:
+        return None
+    first = lines.index("begin") + 1
+    count = lines[first].split()[0]
+    return int(count) if count.isdigit() else lines.index("end") - first - 1

@@ -1,6 +1,10 @@
 #!/usr/bin/env python3
-"""Files of polytopes in the format of cdd, for the comparison of conversions: make_polytopes.py FOLDER."""
+"""Files of polytopes in the format of cdd, for the comparison of conversions: make_polytopes.py FOLDER [large].
+
+With `large` the files that take some converter a tenth of a second to a minute.
+"""
 import itertools
+import math
 import os
 import random
 import sys
@@ -86,6 +90,76 @@ def signed_units(dim):
     return [(">=", [1] + unit(dim, {i: sign})) for i, sign in itertools.product(range(dim), (1, -1))]
 
 
+def direction(source, dim, length):
+    """A vector of integers that is about so long, in a random direction."""
+    while True:
+        vector = [source.gauss(0, 1) for _ in range(dim)]
+        norm = math.sqrt(sum(x * x for x in vector))
+        if norm > 1e-9:
+            return [round(length * x / norm) for x in vector]
+
+
+def directions(dim, count, seed):
+    """Different such vectors, shorter in high dimensions, so that the numbers of a conversion keep below 128 bits."""
+    source = random.Random(seed)
+    length = 1000 if dim <= 5 else 100
+    found = {}
+    while len(found) < count:
+        found.setdefault(tuple(direction(source, dim, length)))
+    return length, list(found)
+
+
+def sphere(dim, count, seed=1):
+    """Points near a sphere."""
+    _, points = directions(dim, count, seed)
+    return [(">=", [1] + list(point)) for point in points]
+
+
+def tangents(dim, count, seed=2):
+    """Half-spaces that nearly touch a ball."""
+    length, normals = directions(dim, count, seed)
+    return [(">=", [length] + [-x for x in normal]) for normal in normals]
+
+
+def corners(dim, count, seed=1):
+    """Different points of which all coordinates are 0 or 1."""
+    source = random.Random(seed)
+    numbers = source.sample(range(2 ** dim), count)
+    return [(">=", [1] + [number >> j & 1 for j in range(dim)]) for number in numbers]
+
+
+def knapsack(size, seed=1):
+    """Points of the unit cube of at most half of the greatest weight."""
+    source = random.Random(seed)
+    weights = [source.randint(10, 99) for _ in range(size)]
+    box = [row for j in range(size) for row in (at_least(0, size, {j: 1}), at_least(1, size, {j: -1}))]
+    return box + [(">=", [sum(weights) // 2] + [-weight for weight in weights])]
+
+
+def permutahedron(size):
+    """The hull of the orders of 1 to size: each few coordinates have at least the sum of as many least numbers."""
+    rows = [exactly(-size * (size + 1) // 2, size, {j: 1 for j in range(size)})]
+    for count in range(1, size):
+        least = -count * (count + 1) // 2
+        rows += [at_least(least, size, {j: 1 for j in some}) for some in itertools.combinations(range(size), count)]
+    return rows
+
+
+def voronoi(dim, count, seed=1):
+    """The points above all planes that touch the paraboloid above a site: its faces are the Voronoi cells."""
+    source = random.Random(seed)
+    sites = {}
+    while len(sites) < count:
+        sites.setdefault(tuple(source.randint(-50, 50) for _ in range(dim)))
+    return [(">=", [sum(x * x for x in site)] + [-2 * x for x in site] + [1]) for site in sites]
+
+
+def dwarfed_cube(size):
+    """A cube of which a half-space leaves only one corner and its neighbourhood (Avis, Bremner, Seidel, 1997)."""
+    box = [row for j in range(size) for row in (at_least(0, size, {j: 1}), at_least(2, size, {j: -2}))]
+    return box + [(">=", [3] + [-2] * size)]
+
+
 # files that take a converter some milliseconds, so that the start of its process doesn't decide
 GROUP = {
     **{f"cube-{n}.ine": constraints(cube(n)) for n in (8, 10, 12)},
@@ -105,6 +179,32 @@ GROUP = {
     "redundant-5.ext": redundant_points(40, 80, 5, 3),
 }
 
+# files that take some converter a tenth of a second to a minute
+LARGE = {
+    "birkhoff-6.ine": lambda: constraints(birkhoff(6)),
+    "cube-16.ine": lambda: constraints(cube(16)),
+    "cross-13.ine": lambda: constraints(cross(13)),
+    "cyclic-4-300.ext": lambda: moment_points(4, 300),
+    "cyclic-5-100.ext": lambda: moment_points(5, 100),
+    "cyclic-6-36.ext": lambda: moment_points(6, 36),
+    "cyclic-8-24.ext": lambda: moment_points(8, 24),
+    "dwarfed-16.ine": lambda: dwarfed_cube(16),
+    "knapsack-15.ine": lambda: knapsack(15),
+    "permutahedron-7.ine": lambda: permutahedron(7),
+    "corners-8-100.ext": lambda: corners(8, 100),
+    "corners-9-100.ext": lambda: corners(9, 100),
+    "corners-10-60.ext": lambda: corners(10, 60),
+    "sphere-4-1000.ext": lambda: sphere(4, 1000),
+    "sphere-5-400.ext": lambda: sphere(5, 400),
+    "sphere-6-200.ext": lambda: sphere(6, 200),
+    "sphere-8-60.ext": lambda: sphere(8, 60),
+    "tangents-5-400.ine": lambda: tangents(5, 400),
+    "tangents-6-200.ine": lambda: tangents(6, 200),
+    "transportation-4x6.ine": lambda: transportation([17, 19, 23, 21], [15, 8, 16, 11, 17, 13]),
+    "transportation-5x5.ine": lambda: transportation([17, 19, 23, 21, 14], [15, 18, 16, 21, 24]),
+    "voronoi-4-500.ine": lambda: voronoi(4, 500),
+}
+
 
 def text(name, rows):
     kind = "V" if name.endswith(".ext") else "H"
@@ -117,10 +217,15 @@ def text(name, rows):
     return "\n".join(lines + ["end", ""])
 
 
+def files(large):
+    """The names of the files with their rows."""
+    return ((name, rows()) for name, rows in LARGE.items()) if large else iter(GROUP.items())
+
+
 def main():
     folder = sys.argv[1]
     os.makedirs(folder, exist_ok=True)
-    for name, rows in GROUP.items():
+    for name, rows in files(sys.argv[2:] == ["large"]):
         with open(os.path.join(folder, name), "w") as file:
             file.write(text(name, rows))
 
