@@ -13,31 +13,13 @@ use Rattle.cone_laws.proofs.OneMore.{one_more_law}
 use Rattle.cone_laws.proofs.TooFew.{too_few_law}
 use Rattle.chernikova.proofs.VectorLemmas.{length-vectors}
 use Rattle.sat_matrix.specs.Counts.{ones}
+use Rattle.sat_matrix.proofs.SharedCounts.{fewer_both, both_turned}
 use Rattle.sat_matrix.specs.ZeroTables.{TellsZeros, IsZeroTable}
-use Rattle.chernikova.specs.CountTests.{CountsDecide}
+use Rattle.sat_matrix.specs.CountTests.{CountsDecide}
 use Rattle.chernikova.proofs.RayTables.{both_true, get_or-conjunction}
 use Rattle.chernikova.proofs.StateLemmas.{no_third_from, has_third_to}
 
 -- ---- counts
-fewer_both : (xs ys : List Bool) → ones (conjunction xs ys) ≤ ones xs
-fewer_both [] ys = omega arith
-fewer_both (x ∷ xs) [] = omega arith
-fewer_both (true ∷ xs) (true ∷ ys) = omega (arith, fewer_both xs ys)
-fewer_both (true ∷ xs) (false ∷ ys) = omega (arith, fewer_both xs ys)
-fewer_both (false ∷ xs) (y ∷ ys) = fewer_both xs ys
-
-one_more_true : (a b : ℕ) → a ≡ b → 1 + a ≡ 1 + b
-one_more_true a b e = omega arith
-
-pub both_turned : (xs ys : List Bool) → ones (conjunction xs ys) ≡ ones (conjunction ys xs)
-both_turned [] [] = refl
-both_turned [] (y ∷ ys) = refl
-both_turned (x ∷ xs) [] = refl
-both_turned (true ∷ xs) (true ∷ ys) = one_more_true (ones (conjunction xs ys)) (ones (conjunction ys xs)) (both_turned xs ys)
-both_turned (true ∷ xs) (false ∷ ys) = both_turned xs ys
-both_turned (false ∷ xs) (true ∷ ys) = both_turned xs ys
-both_turned (false ∷ xs) (false ∷ ys) = both_turned xs ys
-
 -- as many in both as in the first: the second is true wherever the first is
 as_many_both : (xs ys : List Bool) → length xs ≡ length ys → ones xs ≡ ones (conjunction xs ys) → (j : ℕ) → IsTrue (get_or xs j false) → IsTrue (get_or ys j false)
 as_many_both [] ys e h j t = absurd (false≢true t)

@@ -16,7 +16,7 @@ use Rattle.cone_laws.specs.SystemLaws.{HasSystem, HasSystemOf, AreAllCrossings}
 use Rattle.cone_laws.proofs.StepExistence.{every_prefix, line_step_count, ray_step_count, ray_step_kept}
 use Rattle.sat_matrix.specs.ZeroTables.{IsZeroTable}
 use Rattle.chernikova.specs.Systems.{values_on}
-use Rattle.chernikova.specs.Changes.{AreAllCrosses}
+use Rattle.sat_matrix.specs.Pairs.{AreAllCrosses}
 use Rattle.row_core.specs.declared.errors.ConvErr.{ConvErr}
 use Rattle.row_core.specs.declared.errors.ConvErr.TheVariants.{Overflow, Memory}
 use Rattle.chernikova.specs.Conversion.{IsCountedUpto, IsCountedBetween, IsAtStep, IsCountedBeforeFrom}

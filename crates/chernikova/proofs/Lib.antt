@@ -3,7 +3,6 @@ pub mod MarkedVectors
 pub mod CombinedRows
 pub mod ChangeLemmas
 pub mod FaultLemmas
-pub mod TableLemmas
 pub mod StateLemmas
 pub mod StepLemmas
 pub mod RayTables
@@ -11,7 +10,6 @@ pub mod NextStates
 pub mod Counts
 pub mod Rankings
 pub mod CountLemmas
-pub mod Apart
 pub mod Prefixes
 pub mod Slack
 pub mod Reordered

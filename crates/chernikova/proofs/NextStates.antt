@@ -15,8 +15,9 @@ use Rattle.cone_laws.proofs.NextSystems.{units_system, line_step_system, ray_ste
 use Rattle.chernikova.specs.declared.system.System.{System}
 use Rattle.chernikova.specs.declared.cone.Cone.{Cone}
 use Rattle.chernikova.specs.Systems.{values_on}
-use Rattle.chernikova.specs.Tables.{HasLineStep, HasRayStep}
-use Rattle.chernikova.specs.Changes.{AreLists, AreAllCrosses, IsRayChange}
+use Rattle.sat_matrix.specs.TableSteps.{HasLineStep, HasRayStep}
+use Rattle.chernikova.specs.Changes.{AreLists, IsRayChange}
+use Rattle.sat_matrix.specs.Pairs.{AreAllCrosses}
 use Rattle.chernikova.specs.Conversion.{IsState, IsReopened, IsLineOutcome, IsRayOutcome}
 use Rattle.chernikova.proofs.VectorLemmas.{length-vectors, vector_at-vectors, row_at-push_before, row_at-push_last}
 use Rattle.chernikova.proofs.StateLemmas.{length-values_on, zeros_after_line, ray_step_from}

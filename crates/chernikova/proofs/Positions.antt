@@ -16,8 +16,9 @@ use Rattle.chernikova.specs.declared.system.System.{System}
 use Rattle.chernikova.specs.declared.plan.Position.{Position}
 use Rattle.chernikova.specs.declared.plan.Position.TheVariants as position
 use Rattle.chernikova.specs.Systems.{values_on}
-use Rattle.chernikova.specs.Tables.{HasColumn, HasRayStep}
-use Rattle.chernikova.specs.Changes.{value_at, AreAllCrosses, IsRayChange}
+use Rattle.sat_matrix.specs.TableSteps.{HasColumn, HasRayStep}
+use Rattle.chernikova.specs.Changes.{value_at, IsRayChange}
+use Rattle.sat_matrix.specs.Pairs.{AreAllCrosses}
 use Rattle.chernikova.specs.Conversion.{IsState, IsRayOutcome}
 use Rattle.chernikova.specs.Plans.{AllStay, IsMet, IsPosition, HasValues}
 use Rattle.chernikova.proofs.StateLemmas.{length-values_on, marked_all, ray_step_from}

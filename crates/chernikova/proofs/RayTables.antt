@@ -17,8 +17,9 @@ use Rattle.cone_laws.proofs.UptoRows.{IsSumOf, dot_sum}
 use Rattle.cone_laws.specs.Combinations.{IsCombined}
 use Rattle.sat_matrix.specs.ZeroTables.{TellsZeros, IsZeroTable}
 use Rattle.chernikova.specs.Systems.{values_on}
-use Rattle.chernikova.specs.Tables.{HasRayStep}
-use Rattle.chernikova.specs.Changes.{value_at, AreAllCrosses, IsRayChange}
+use Rattle.sat_matrix.specs.TableSteps.{HasRayStep}
+use Rattle.chernikova.specs.Changes.{value_at, IsRayChange}
+use Rattle.sat_matrix.specs.Pairs.{AreAllCrosses}
 use Rattle.cone_laws.proofs.FactorLemmas.{combined_along, sign_above, magnitude-positive}
 use Rattle.chernikova.proofs.VectorLemmas.{length-vectors, vector_at-vectors}
 use Rattle.chernikova.proofs.StateLemmas.{length-values_on, value_at-values_on, tells_more, pointwise_by_rows, pointwise_marked, marked_all, marked-append}

@@ -12,7 +12,7 @@ use Rattle.chernikova.specs.declared.plan.Position.{Position}
 use Rattle.chernikova.specs.declared.plan.Position.TheVariants as position
 use Rattle.chernikova.specs.declared.plan.Plan.{Plan}
 use Rattle.chernikova.specs.declared.plan.Plan.TheVariants as plan
-use Rattle.chernikova.specs.Changes.{AreAllCrosses}
+use Rattle.sat_matrix.specs.Pairs.{AreAllCrosses}
 use Rattle.chernikova.specs.Conversion.{IsState, IsCountedBetween, IsCountedUpto}
 use Rattle.chernikova.specs.Plans.{IsFlat, IsPosition, IsPlan, kept_of, combinations_of}
 use Rattle.chernikova.proofs.Counts.{count_none, count_line, count_kept, count_pairs, counted_more, counted_all}

@@ -19,8 +19,9 @@ use Rattle.cone_laws.specs.Combinations.{IsCombined}
 use Rattle.sat_matrix.specs.ZeroTables.{TellsZeros, IsZeroTable}
 use Rattle.chernikova.specs.Systems.{values_on}
 use Rattle.cone_laws.proofs.Columns.{dot-scale}
-use Rattle.chernikova.specs.Tables.{HasLineStep}
-use Rattle.chernikova.specs.Changes.{value_at, AreLowered, AreOthersLowered, with_upward, IsLineChange, IsCross, AreAllCrosses, IsRayChange}
+use Rattle.sat_matrix.specs.TableSteps.{HasLineStep}
+use Rattle.chernikova.specs.Changes.{value_at, AreLowered, AreOthersLowered, with_upward, IsLineChange, IsRayChange}
+use Rattle.sat_matrix.specs.Pairs.{IsCross, AreAllCrosses}
 use Rattle.cone_laws.proofs.FactorLemmas.{combined_along, sign_above, magnitude-positive, magnitude_above, sign_times}
 use Rattle.chernikova.proofs.VectorLemmas.{length-vectors, vector_at-vectors, vectors_push}
 

@@ -14,7 +14,8 @@ use Rattle.chernikova.specs.declared.fault.Part.TheVariants.{Lines, Rays}
 use Rattle.chernikova.specs.declared.fault.Place.{Place}
 use Rattle.sat_matrix.specs.ZeroTables.{IsZeroTable}
 use Rattle.chernikova.specs.Systems.{values_on}
-use Rattle.chernikova.specs.Changes.{value_at, IsCross, AreAllCrosses}
+use Rattle.chernikova.specs.Changes.{value_at}
+use Rattle.sat_matrix.specs.Pairs.{IsCross, AreAllCrosses}
 use Rattle.chernikova.specs.Faults.{part_of, part_values, vector_of, value_of, IsCombineFault, IsLineFault, IsPairFault}
 use Rattle.chernikova.proofs.StateLemmas.{length-values_on, value_at-values_on, crossing_from}
 

@@ -14,7 +14,8 @@ use Rattle.chernikova.specs.declared.system.System.{System}
 use Rattle.sat_matrix.specs.ZeroTables.{IsZeroTable}
 use Rattle.chernikova.specs.Systems.{values_on}
 use Rattle.chernikova.specs.Vectors.{Vectors, as_rows}
-use Rattle.chernikova.specs.Changes.{AreLists, AreAllCrosses, IsRayChange}
+use Rattle.chernikova.specs.Changes.{AreLists, IsRayChange}
+use Rattle.sat_matrix.specs.Pairs.{AreAllCrosses}
 
 -- the lines and rays are the system of the first k rows, and the table tells the rows on which each ray is 0
 pub record IsState (width : ℕ) (rows : List Row) (k : ℕ) (cone : System) : Type 0 where

@@ -2,11 +2,9 @@ pub mod Systems
 pub mod Vectors
 pub mod Faults
 pub mod Changes
-pub mod Tables
 pub mod Conversion
 pub mod Plans
 pub mod RowOrders
 pub mod Beside
 pub mod Orders
-pub mod CountTests
 pub mod Rooms

@@ -5,7 +5,8 @@ use Rattle.row_core.specs.Lists.{Row, row_at, is_eq_at, vectors}
 use Rattle.cone_laws.specs.Canon.{vector_at}
 use Rattle.cone_laws.specs.Steps.{stays, IsLastCrossing}
 use Rattle.chernikova.specs.Systems.{values_on}
-use Rattle.chernikova.specs.Changes.{value_at, AreAllCrosses}
+use Rattle.chernikova.specs.Changes.{value_at}
+use Rattle.sat_matrix.specs.Pairs.{AreAllCrosses}
 use Rattle.chernikova.specs.declared.system.System.{System}
 use Rattle.chernikova.specs.declared.plan.Position.{Position}
 use Rattle.chernikova.specs.declared.plan.Position.TheVariants as position

@@ -2,7 +2,7 @@ use Rattle.std.specs.Prelude.{◌≡◌, ℕ, ◌+◌, ◌≤◌, ⊤, List, [],
 use Rattle.sat_matrix.specs.Tables.{Table}
 use Rattle.row_core.specs.Lists.{Row}
 use Rattle.chernikova.specs.Vectors.{HasSame}
-use Rattle.chernikova.specs.Tables.{HasFalseColumn}
+use Rattle.sat_matrix.specs.TableSteps.{HasFalseColumn}
 use Rattle.chernikova.specs.Conversion.{IsState}
 use Rattle.chernikova.specs.Plans.{IsPlan}
 use Rattle.chernikova.specs.declared.scratch.Scratch.{Scratch}

@@ -10,7 +10,6 @@ ghost use Rattle.chernikova.specs.Conversion.{IsState, IsAtStep, IsCountedUpto, 
 ghost use Rattle.chernikova.specs.RowOrders.{bits_at, IsPlaced};
 ghost use Rattle.chernikova.specs.Beside.{IsBeside, IsDone};
 
-use crate::adjacency::least_shared;
 use crate::beside::Beside;
 use crate::cone::Cone;
 use crate::conversion::start;
@@ -19,7 +18,7 @@ use crate::scratch::Scratch;
 use crate::system::System;
 use crate::taking::{row_position, take_row_sparing};
 use row_core::{ConvErr, Memory, RowList, Steps};
-use sat_matrix::SatMatrix;
+use sat_matrix::{SatMatrix, least_shared};
 use std::alloc::Global;
 use std::sync::ledger::Ledger;
 

@@ -9,7 +9,6 @@
 //!   system.
 #![tactic(auto)]
 
-mod adjacency;
 mod beside;
 mod better_order;
 mod combining;
@@ -18,7 +17,6 @@ mod conversion;
 mod fault;
 mod line_step;
 mod lists;
-mod looks;
 mod order;
 mod plan;
 mod ray_step;
@@ -29,7 +27,6 @@ mod system;
 mod taking;
 mod values;
 mod vectors;
-mod zeros;
 
 pub use better_order::convert_in_better_order;
 pub use cone::{Added, Cone};

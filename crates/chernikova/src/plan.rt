@@ -2,10 +2,9 @@
 ghost use Rattle.std.specs.Prelude.{◌≡◌, length};
 ghost use Rattle.chernikova.specs.Plans.{HasValues, kept_of, changes_system, combinations_of};
 
-use crate::looks::looks;
 use crate::system::System;
 use crate::values::count_meeting;
-use sat_matrix::SatMatrix;
+use sat_matrix::{SatMatrix, expected_looks};
 
 /// How a row lies to a system.
 #[derive(Drop)]
@@ -33,7 +32,7 @@ impl Position {
         requires { HasValues (length zeros.now.rows) self.now }
     {
         match self {
-            Position::Cutting { values } => looks(values, zeros, least),
+            Position::Cutting { values } => expected_looks(values, zeros, least),
             _ => 0,
         }
     }

@@ -3,20 +3,15 @@ ghost use Rattle.std.specs.Prelude.{◌≡◌, ◌^◌, ◌<◌, ◌≤◌, [], 
 
 use crate::vectors::{LEAST_VECTORS, VectorList};
 use row_core::Memory;
-use std::alloc::{AllocError, Global};
-use std::mem;
-
-/// Room for the numbers of most conversions, so that their lists grow once.
-const LEAST_ROOM: usize = 32;
+use sat_matrix::PairLists;
+use std::alloc::Global;
 
 /// Lists that one step leaves to the next, which needs no new memory for as many elements.
 pub(crate) struct Scratch {
     pub(crate) line_values: Vec<i128>,
     pub(crate) ray_values: Vec<i128>,
     pub(crate) marks: Vec<bool>,
-    pub(crate) above: Vec<usize>,
-    pub(crate) below: Vec<usize>,
-    pub(crate) pairs: Vec<(usize, usize)>,
+    pub(crate) pair_lists: PairLists,
     pub(crate) lines: VectorList,
     pub(crate) rays: VectorList,
 }
@@ -28,9 +23,7 @@ impl Drop for Scratch {
             line_values: _,
             ray_values: _,
             marks: _,
-            above: _,
-            below: _,
-            pairs: _,
+            pair_lists: _,
             lines: _,
             rays: _,
         } = self;
@@ -44,27 +37,11 @@ impl Scratch {
             line_values: Vec::new(alloc),
             ray_values: Vec::new(alloc),
             marks: Vec::new(alloc),
-            above: Vec::new(alloc),
-            below: Vec::new(alloc),
-            pairs: Vec::new(alloc),
+            pair_lists: PairLists::new(alloc),
             lines: VectorList::new(alloc, 0),
             rays: VectorList::new(alloc, 0),
         }
     }
-}
-
-/// Takes a list out of its place, without its elements, and with room for some.
-pub(crate) fn emptied<T: Copy + Drop>(
-    alloc: Global,
-    place: &mut Vec<T>,
-    room: usize,
-) -> Result<Vec<T>, AllocError>
-    ensures { IfOk result (λ v. v.items ≡ []) }
-{
-    let mut list = mem::replace(place, Vec::new(alloc));
-    list.clear();
-    list.reserve(room.max(LEAST_ROOM))?;
-    Ok(list)
 }
 
 /// Takes the vectors out of a list, and gives it a width and room for some.

@@ -4,10 +4,9 @@ ghost use Rattle.row_core.specs.Lists.{row_at, vectors};
 ghost use Rattle.chernikova.specs.Faults.{IsPositionFault, IsCombineFault};
 ghost use Rattle.chernikova.specs.Conversion.{IsState};
 ghost use Rattle.chernikova.specs.Plans.{IsPosition, IsPlan, combinations_of};
-ghost use Rattle.chernikova.specs.Tables.{HasFalseColumn};
+ghost use Rattle.sat_matrix.specs.TableSteps.{HasFalseColumn};
 ghost use Rattle.chernikova.specs.Rooms.{HasSameVectors, HasRoom, IsReady};
 
-use crate::adjacency::{crossings, least_shared};
 use crate::fault::{CombineFault, Part, ValueFault};
 use crate::line_step::line_step;
 use crate::plan::{Plan, Position};
@@ -15,8 +14,8 @@ use crate::ray_step::ray_step;
 use crate::scratch::{Scratch, make_empty};
 use crate::system::System;
 use crate::values::{all_meet, last_crossing, mark_pairs, marks, values};
-use crate::zeros::{after_line_step, after_ray_step, mark_zeros};
 use row_core::{Memory, RowList, Steps, all_narrow};
+use sat_matrix::{after_line_step, after_ray_step, crossings, least_shared, mark_zeros};
 use std::alloc::Global;
 use std::mem;
 use std::sync::ledger::Ledger;
@@ -84,7 +83,8 @@ pub(crate) fn planned(
         Position::Cutting { values } => {
             let mut marks = marks(alloc, &mut scratch.marks, rows.is_eq(k), &values)?;
             let least = least_shared(rows.width(), cone.lines.len());
-            let pairs = crossings(alloc, scratch, &values, &cone.sat, least)?;
+            let lists = &mut scratch.pair_lists;
+            let pairs = crossings(alloc, lists, &values, &cone.sat, least)?;
             mark_pairs(&mut marks, &pairs)?;
             Ok(Plan::Ray {
                 values,
@@ -175,7 +175,7 @@ pub(crate) fn carry_out<L: Ledger>(
             after_ray_step(&mut cone.sat, &values, &marks, &pairs);
             scratch.ray_values = values;
             scratch.marks = marks;
-            scratch.pairs = pairs;
+            scratch.pair_lists.pairs = pairs;
         }
     }
     Ok(())

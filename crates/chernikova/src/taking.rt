@@ -6,13 +6,13 @@ ghost use Rattle.chernikova.specs.Conversion.{IsState, IsAtStep, IsRealOverflow}
 ghost use Rattle.chernikova.specs.Plans.{IsPosition, IsPlan, kept_of, combinations_of};
 ghost use Rattle.chernikova.specs.Beside.{IsSearchOfRow};
 
-use crate::adjacency::least_shared;
 use crate::fault::{shown_combination, shown_dot};
 use crate::plan::{Plan, Position};
 use crate::scratch::Scratch;
 use crate::step::{carry_out, make_room, planned, position};
 use crate::system::System;
 use row_core::{ConvErr, RowList, Steps};
+use sat_matrix::least_shared;
 use std::alloc::Global;
 use std::sync::ledger::Ledger;
 

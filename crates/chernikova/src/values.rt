@@ -10,9 +10,8 @@ ghost use Rattle.chernikova.specs.Plans.{AllStay, SomeGoes};
 ghost use Rattle.chernikova.specs.Faults.{IsValuesFault};
 
 use crate::fault::{Part, Place, ValueFault};
-use crate::scratch::emptied;
 use crate::vectors::VectorList;
-use row_core::{dot, narrow_dot};
+use row_core::{dot, emptied, narrow_dot};
 use std::alloc::{AllocError, Global};
 
 /// Appends the values of narrow vectors on a narrow row to a list without elements.

@@ -8,6 +8,7 @@ use Rattle.std.proofs.Math.Nat.{eq-zero_of_zero-dvd}
 use Rattle.std.proofs.lemmas.Int.{unsigned_abs-mul, ints, to_z-of_z, to_z_pos, fits_signed_from_abs}
 use Rattle.cone_laws.specs.Leaves.{AreFactors}
 use Rattle.cone_laws.specs.Steps.{sign}
+pub use Rattle.row_core.proofs.SignTests.{fits, above_zero, below_zero, not_above, under_zero, not_under}
 use Rattle.row_core.proofs.Ring.{ring, mul_comm, mul_assoc, mul-zero, one-mul, neg-mul, mul-positive, zero_of_mul, square_positive}
 use Rattle.cone_laws.proofs.Columns.{cell-scale, cell-add}
 use Rattle.row_core.specs.Vectors.{cell, add, scale}
@@ -129,20 +130,6 @@ combined_from_written u v second first left right dst new f ne above is wide sam
 pub combined_along : (u v u' v' : ℤ) (left right new : List ℤ) → u' ≡ u → v' ≡ v → IsCombined u v left right new → IsCombined u' v' left right new
 combined_along u v u' v' left right new e f h = let P : ℤ → Type 0 = λ x. IsCombined x v' left right new in subst P (sym e) (let Q : ℤ → Type 0 = λ y. IsCombined u y left right new in subst Q (sym f) h)
 
--- a number of the range is one of an i128
-pub fits : (z : ℤ) → InRange z → SFits w128 z
-fits z h = fits_signed_from_abs w128 z h.size
-
-pub above_zero : (u : ℤ) → int_lt (pos 0) u ≡ true → pos 0 <ℤ u
-above_zero (pos zero) e = absurd (let f : false ≡ true = e in false≢true f)
-above_zero (pos (suc n)) e = omega (arith, ints)
-above_zero (negsuc n) e = absurd (let f : false ≡ true = e in false≢true f)
-
-pub below_zero : (u : ℤ) → u ≢ pos 0 → int_lt (pos 0) u ≡ false → u <ℤ pos 0
-below_zero (pos zero) ne e = absurd (ne refl)
-below_zero (pos (suc n)) ne e = absurd (let f = ltb-false 0 (suc n) e in omega (arith, f))
-below_zero (negsuc n) ne e = omega (arith, ints)
-
 pub sign_above : (u x : ℤ) → pos 0 <ℤ u → x ≡ sign u *ℤ x
 sign_above (pos zero) x h = absurd (omega (arith, ints, h))
 sign_above (pos (suc n)) x h = sym (one-mul x)
@@ -158,16 +145,3 @@ sign_below (negsuc n) x h = minus_one x
 
 scale_step : (k x : ℤ) (v : List ℤ) (i : ℕ) → scale k (take (i + 1) v) ≡ scale k (take i v) ++ (k *ℤ cell v i) ∷ [] → scale k (take (suc i + 1) (x ∷ v)) ≡ (k *ℤ x) ∷ (scale k (take i v) ++ (k *ℤ cell v i) ∷ [])
 scale_step k x v i h = let number : suc i + 1 ≡ suc (i + 1) = omega arith in rw number (ap (λ zs. (k *ℤ x) ∷ zs) h)
-
-pub not_above : (u : ℤ) → int_lt (pos 0) u ≡ false → ¬ (pos 0 <ℤ u)
-not_above u e above =
-    let below : u <ℤ pos 0 = below_zero u (λ z. omega (arith, ints, above, z)) e in
-    omega (arith, ints, above, below)
-
-pub under_zero : (u : ℤ) → int_lt u (pos 0) ≡ true → u <ℤ pos 0
-under_zero (pos n) e = absurd (let f : ltb n 0 ≡ true = e in omega (arith, ltb-true n 0 f))
-under_zero (negsuc n) e = omega (arith, ints)
-
-pub not_under : (u : ℤ) → int_lt u (pos 0) ≡ false → ¬ (u <ℤ pos 0)
-not_under (pos n) e under = omega (arith, ints, under)
-not_under (negsuc n) e under = let f : true ≡ false = e in false≢true (sym f)

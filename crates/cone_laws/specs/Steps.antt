@@ -4,6 +4,7 @@ use Rattle.std.proofs.Math.IntN.{◌*ℤ◌}
 use Rattle.row_core.specs.Vectors.{cell, dot, scale}
 use Rattle.row_core.specs.Content.{IsPrimitive}
 use Rattle.row_core.specs.Lists.{Row, row_at, Pointwise}
+pub use Rattle.row_core.specs.Pairs.{pair_at}
 use Rattle.cone_laws.specs.Canon.{vector_at}
 
 -- the row is row k of the list
@@ -56,10 +57,6 @@ pub record IsCrossing (rows : List Row) (k : ℕ) (a : List ℤ) (rays : List (L
 abbrev pub stays : Bool → ℤ → Bool
 stays true value = int_eq value (pos 0)
 stays false value = int_le (pos 0) value
-
--- the pair at index i of the list
-abbrev pub pair_at : List (ℕ × ℕ) → ℕ → ℕ × ℕ
-pair_at pairs i = slice_index_or pairs i (0, 0)
 
 -- the vectors made are one of each of the pairs
 abbrev pub IsMadeOf : List ℤ → List (List ℤ) → ℕ × ℕ → List ℤ → Type 0

@@ -11,3 +11,4 @@ pub mod SpanLemmas
 pub mod RefusalLemmas
 pub mod PointwiseLemmas
 pub mod SignLemmas
+pub mod SignTests

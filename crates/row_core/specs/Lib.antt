@@ -4,6 +4,7 @@ pub mod Narrow
 pub mod Content
 pub mod Points
 pub mod Lists
+pub mod Pairs
 pub mod Laws
 pub mod Sameness
 pub mod Spans

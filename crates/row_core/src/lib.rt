@@ -10,6 +10,7 @@
 //! - [`narrow_dot`] needs no such test, where [`all_narrow`] told that all numbers are small.
 //! - [`gcd`] and [`make_primitive`] divide a row by the greatest common divisor of its entries;
 //!   [`negate`] changes all signs.
+//! - [`emptied`] takes a list out of its place, so that its room is used again.
 //! - [`one_primitive`] is a law of primitive rows.
 #![tactic(auto)]
 
@@ -22,6 +23,7 @@ mod linear;
 mod marked;
 mod narrow;
 mod primitive;
+mod reuse;
 mod signs;
 
 pub use buffers::{RowBuf, RowList};
@@ -33,4 +35,5 @@ pub use linear::{combination, combine_into, dot, product, sum};
 pub use marked::{Iter, MarkedRows};
 pub use narrow::{all_narrow, narrow_dot};
 pub use primitive::{gcd, make_primitive};
+pub use reuse::emptied;
 pub use signs::negate;

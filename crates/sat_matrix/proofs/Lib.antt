@@ -7,3 +7,8 @@ pub mod SingleWords
 pub mod CopiedRows
 pub mod NextSharing
 pub mod MarkedRows
+pub mod SharedCounts
+pub mod TableLemmas
+pub mod Sides
+pub mod FoundPairs
+pub mod Apart

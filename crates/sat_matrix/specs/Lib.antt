@@ -4,3 +4,6 @@ pub mod Counts
 pub mod ZeroTables
 pub mod Words
 pub mod Searches
+pub mod Pairs
+pub mod CountTests
+pub mod TableSteps

@@ -1,10 +1,19 @@
 //! Tables of truth values, with a row for each ray and a column for each constraint.
 //!
 //! - [`SatMatrix`] keeps the rows as bits, and is appended to without memory once it is reserved.
+//! - [`crossings`] gives the pairs of adjacent rays on the two sides of a row, with what [`least_shared`]
+//!   tells of them; [`PairLists`] keeps its lists, and [`expected_looks`] tells how much work it is.
+//! - [`mark_zeros`], [`after_line_step`] and [`after_ray_step`] bring the table up to date with a row.
 #![tactic(auto)]
 
+mod adjacency;
+mod looks;
 mod matrix;
 mod searches;
 mod words;
+mod zeros;
 
+pub use adjacency::{PairLists, crossings, least_shared};
+pub use looks::expected_looks;
 pub use matrix::SatMatrix;
+pub use zeros::{after_line_step, after_ray_step, mark_zeros};

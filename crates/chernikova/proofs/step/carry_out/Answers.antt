@@ -7,8 +7,9 @@ use Rattle.cone_laws.specs.Steps.{stays, IsLineStep}
 use Rattle.chernikova.specs.declared.plan.Plan.{Plan}
 use Rattle.chernikova.specs.Vectors.{Vectors, as_rows}
 use Rattle.chernikova.specs.Systems.{values_on}
-use Rattle.chernikova.specs.Tables.{HasColumn, HasLineStep, HasRayStep}
-use Rattle.chernikova.specs.Changes.{AreLists, AreAllCrosses, IsLineChange, IsRayChange}
+use Rattle.sat_matrix.specs.TableSteps.{HasColumn, HasLineStep, HasRayStep}
+use Rattle.chernikova.specs.Changes.{AreLists, IsLineChange, IsRayChange}
+use Rattle.sat_matrix.specs.Pairs.{AreAllCrosses}
 use Rattle.chernikova.specs.Conversion.{IsState}
 use Rattle.chernikova.specs.Plans.{IsPlan, IsLinePlan, IsMet, IsRayPlan}
 use Rattle.chernikova.proofs.StateLemmas.{line_step_from}

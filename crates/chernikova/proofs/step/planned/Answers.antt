@@ -3,7 +3,7 @@ use Rattle.std.proofs.Common.{ap, subst, ◌∙◌, arith, length}
 use Rattle.row_core.specs.Lists.{row_at, is_eq_at, vectors}
 use Rattle.cone_laws.specs.Steps.{stays}
 use Rattle.chernikova.specs.declared.plan.Position.{Position}
-use Rattle.chernikova.specs.Changes.{AreAllCrosses}
+use Rattle.sat_matrix.specs.Pairs.{AreAllCrosses}
 use Rattle.chernikova.specs.Plans.{IsPosition, IsCutting, HasValues}
 use Rattle.chernikova.proofs.CountLemmas.{counts_decide}
 use Rattle.chernikova.proofs.Positions.{has_values}

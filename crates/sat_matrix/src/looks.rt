@@ -1,0 +1,57 @@
+//! How many rays the search for adjacent pairs looks at.
+ghost use Rattle.std.specs.Prelude.{◌≡◌, length};
+
+use crate::matrix::SatMatrix;
+
+/// Among so few rays a search isn't counted.
+const FEW_RAYS: usize = 32;
+
+/// Of how many rays a search for a third one is expected to see one.
+const SEEN: u64 = 32;
+
+/// The rays on one side of a row, and those of them that are 0 on more rows than rays of a simple cone.
+#[derive(Clone, Copy)]
+struct RayCount {
+    rays: u64,
+    crowded: u64,
+}
+
+impl RayCount {
+    const NONE: RayCount = RayCount {
+        rays: 0,
+        crowded: 0,
+    };
+
+    // Counts a ray.
+    fn count(&mut self, crowded: bool) {
+        self.rays = self.rays.saturating_add(1);
+        if crowded {
+            self.crowded = self.crowded.saturating_add(1);
+        }
+    }
+}
+
+/// How many rays the search for adjacent pairs is expected to look at, from the values of the rays on the
+/// row: one for each pair of a ray above the row and one below it, and part of all rays for each such pair
+/// of which both are 0 on more than one row above the least number, since only for those a third ray is
+/// looked for.
+pub fn expected_looks(values: &[i128], zeros: &SatMatrix, least: usize) -> u64
+    requires { length values.now ≡ length zeros.now.rows }
+{
+    if values.len() <= FEW_RAYS {
+        return 0;
+    }
+    let mut above = RayCount::NONE;
+    let mut below = RayCount::NONE;
+    for ray in 0..values.len() {
+        let crowded = zeros.ones(ray) > least.saturating_add(1);
+        if values[ray] > 0 {
+            above.count(crowded);
+        } else if values[ray] < 0 {
+            below.count(crowded);
+        }
+    }
+    let pairs = above.rays.saturating_mul(below.rays);
+    let searches = above.crowded.saturating_mul(below.crowded);
+    pairs.saturating_add(searches.saturating_mul(values.len() as u64 / SEEN))
+}
