@@ -1,24 +1,20 @@
-use Rattle.std.specs.Prelude.{◌≡◌, ◌≢◌, ℕ, ◌+◌, ◌-◌, ◌<◌, ◌≤◌, ◌⊎◌, Bool, true, false, List, [], ◌∷◌, ◌++◌, length, ℤ, pos, ◌*ℤ◌, ◌-ℤ◌, ◌<ℤ◌, int_lt, unsigned_abs, Contains}
+use Rattle.std.specs.Prelude.{◌≡◌, ◌≢◌, ℕ, ◌+◌, ◌-◌, ◌<◌, ◌≤◌, Bool, true, false, List, [], ◌∷◌, ◌++◌, length, ℤ, pos, ◌*ℤ◌, ◌-ℤ◌, unsigned_abs}
 use Rattle.std.proofs.Common.{refl, sym, ap, ◌∙◌, subst, arith, inl, inr, take, replicate}
-use Rattle.std.proofs.lemmas.List.{get_or_append_left, get_or_push, length_push, length-take, get_or-take, append_assoc, append-nil, map-append}
-use Rattle.std.proofs.lemmas.List.Elements.{All-same, Contains-append_left, Contains-push}
+use Rattle.std.proofs.lemmas.List.{get_or_append_left, length_push, length-take, get_or-take, append_assoc, append-nil, map-append}
+use Rattle.std.proofs.lemmas.List.Elements.{All-same}
 use Rattle.std.proofs.lemmas.Int.{ints}
-use Rattle.std.proofs.lemmas.Bool.{cases_lt, false≢true, true_from_ne_false}
+use Rattle.std.proofs.lemmas.Bool.{cases_lt}
 use Rattle.row_core.specs.Vectors.{cell, scale}
 use Rattle.row_core.specs.Lists.{Row, row_at, vectors, AreMarked}
 use Rattle.row_core.specs.Content.{IsPrimitive}
-use Rattle.sat_matrix.specs.Tables.{Table}
 use Rattle.flat_rows.specs.Flat.{marked}
 use Rattle.sat_matrix.proofs.BitRows.{marked-map}
 use Rattle.chernikova.proofs.StateLemmas.{marked-append, marked_all}
 use Rattle.cone_laws.specs.Steps.{sign, pair_at}
 use Rattle.row_core.proofs.Ring.{zero-mul, mul-zero}
 use Rattle.cone_laws.specs.Combinations.{IsCombined}
-use Rattle.chernikova.specs.Changes.{value_at, AreLowered, AreOthersLowered, with_upward, AreMade, HasMade, IsGrown, IsPairCombined, IsPairAt, IsLineChange}
-use Rattle.sat_matrix.specs.Pairs.{is_on, pair_on, index_at, AreRising, AreOn, IsAdjacent, pair_of, IsBefore, IsFoundAt, AreFound, AreAllFound, AreAllCrosses}
-use Rattle.sat_matrix.specs.declared.adjacency.Side.{Side}
-use Rattle.sat_matrix.specs.declared.adjacency.Side.TheVariants.{Above, Below}
-use Rattle.cone_laws.proofs.FactorLemmas.{magnitude_above, above_zero, not_above, under_zero, not_under}
+use Rattle.chernikova.specs.Changes.{value_at, AreLowered, AreOthersLowered, with_upward, AreMade, HasMade, IsGrown, IsPairCombined, IsLineChange}
+use Rattle.cone_laws.proofs.FactorLemmas.{magnitude_above}
 use Rattle.chernikova.proofs.VectorLemmas.{row_at-push_before, row_at-push_last, marked_push}
 
 minus_zero : (x c l : ℤ) → c ≡ pos 0 → x ≡ x -ℤ c *ℤ l

@@ -1,12 +1,9 @@
-use Rattle.std.specs.Prelude.{◌≡◌, ◌≢◌, ℕ, ◌+◌, ◌-◌, ◌<◌, ◌≤◌, ◌⊎◌, Bool, true, false, ◌++◌, [], ◌∷◌, List, length, ℤ, pos, ◌<ℤ◌, int_lt, slice_index_or, Contains}
+use Rattle.std.specs.Prelude.{◌≡◌, ℕ, ◌+◌, ◌-◌, ◌<◌, ◌≤◌, Bool, true, false, ◌++◌, [], ◌∷◌, List, length, ℤ}
 use Rattle.row_core.specs.Vectors.{scale}
 use Rattle.row_core.specs.Lists.{Row, row_at, vectors}
-use Rattle.sat_matrix.specs.Tables.{Table, HasThird}
 use Rattle.flat_rows.specs.Flat.{marked}
 use Rattle.cone_laws.specs.Steps.{sign, pair_at}
 use Rattle.cone_laws.specs.Combinations.{IsCombined}
-use Rattle.sat_matrix.specs.declared.adjacency.Side.{Side}
-use Rattle.sat_matrix.specs.declared.adjacency.Side.TheVariants.{Above, Below}
 pub use Rattle.row_core.specs.Pairs.{value_at, IsPairAt}
 pub use Rattle.cone_laws.specs.MarkedLists.{AreLists}
 
