@@ -32,7 +32,6 @@ pub mod UniqueLines
 pub mod UniqueRays
 pub mod UniqueSystems
 pub mod Rearranging
-pub mod TurnedOrder
 pub mod PrimitiveSteps
 pub mod NextSystems
 pub mod PrimitivePart
@@ -48,6 +47,3 @@ pub mod ExtremeRays
 pub mod LikeRays
 pub mod ZeroFaces
 pub mod FactorLemmas
-pub mod VectorLemmas
-pub mod KeyLemmas
-pub mod Rankings

@@ -1,12 +1,7 @@
 -- Systems whose rays stand in another order, and lists with the same members and no member twice.
-use Rattle.std.specs.Prelude.{◌≡◌, ◌≢◌, ℕ, ◌+◌, ◌-◌, ◌<◌, ◌≤◌, List, [], ◌∷◌, length, slice_index_or, remove, ℤ, pos, ◌+ℤ◌, ◌<ℤ◌, ◌≤ℤ◌, ◌⊎◌, All, Contains, IsPermutation, refl}
+use Rattle.std.specs.Prelude.{◌≡◌, ◌≢◌, ℕ, ◌+◌, ◌-◌, ◌<◌, ◌≤◌, List, [], ◌∷◌, length, slice_index_or, remove, ℤ, pos, ◌+ℤ◌, ◌≤ℤ◌, ◌⊎◌, All, Contains, IsPermutation, refl}
 use Prim.Native.Nat.{suc, zero}
 use Rattle.std.specs.List.{swap}
-use Rattle.std.specs.Ordering.{MatchOrdering, int_cmp, ordering_then}
-use Rattle.std.specs.declared.cmp.Ordering.{Ordering}
-use Rattle.std.specs.declared.cmp.Ordering.TheVariants.{Less, Equal, Greater}
-use Rattle.std.specs.Cmp.Lexicographic.{slice_cmp}
-use Rattle.std.proofs.lemmas.Cmp.{int_ranked}
 use Rattle.std.proofs.Math.IntN.{◌*ℤ◌}
 use Rattle.std.proofs.Common.{sym, ◌∙◌, ap, subst, inl, inr, arith}
 use Rattle.std.proofs.lemmas.Int.{ints}
@@ -18,9 +13,10 @@ use Rattle.std.proofs.lemmas.List.Sorted.{IsPermutation-refl, IsPermutation-sym,
 use Rattle.row_core.specs.Vectors.{cell, add, combined}
 use Rattle.row_core.specs.Content.{IsPrimitive}
 use Rattle.cone_laws.specs.Cones.{Spans}
-use Rattle.cone_laws.specs.Canon.{vector_at, IsEchelon, IsIrredundant, IsGreater, AreSorted, IsSystem, Canon}
+use Rattle.row_core.specs.Orders.{IsGreater, AreSorted, AreInOrder}
+use Rattle.cone_laws.specs.Canon.{vector_at, IsEchelon, IsIrredundant, IsSystem, Canon}
 use Rattle.cone_laws.specs.ConeSets.{IsCone}
-use Rattle.cone_laws.specs.UniqueLaws.{AreInOrder}
+use Rattle.row_core.proofs.OrderLemmas.{compare_vectors}
 use Rattle.cone_laws.proofs.Columns.{cell-add}
 use Rattle.cone_laws.proofs.SortedLists.{IsWithin, Contains-cases, Contains-first, Contains-later, Contains-nil}
 use Rattle.cone_laws.proofs.EchelonForm.{old_place, old_place_is, old_place-other, old_place-same, old_place-below, remove-place}
@@ -235,39 +231,6 @@ system_rearranged C lines rays others s p = record {
 }
 
 -- ---- sorting
-greater_cons : (a : ℤ) (u v : List ℤ) → IsGreater u v → (b : ℤ) → a ≡ b → IsGreater (a ∷ u) (b ∷ v)
-greater_cons a u v g b e = record { column = suc g.column; before = before; greater = g.greater }
-  where
-    before : (i : ℕ) → i < suc g.column → cell (a ∷ u) i ≡ cell (b ∷ v) i
-    before zero h = e
-    before (suc i) h = g.before i (omega (arith, h))
-
-greater_first : (a b : ℤ) (u v : List ℤ) → b <ℤ a → IsGreater (a ∷ u) (b ∷ v)
-greater_first a b u v h = record { column = zero; before = λ i l. absurd (omega (arith, l)); greater = h }
-
-by_comparison : (a b : ℤ) (u v : List ℤ) (first rest : Ordering) → MatchOrdering first (a <ℤ b) (a ≡ b) (b <ℤ a) → MatchOrdering rest (IsGreater v u) (u ≡ v) (IsGreater u v) → MatchOrdering (ordering_then first rest) (IsGreater (b ∷ v) (a ∷ u)) (a ∷ u ≡ b ∷ v) (IsGreater (a ∷ u) (b ∷ v))
-by_comparison a b u v Less rest h r = greater_first b a v u h
-by_comparison a b u v Greater rest h r = greater_first a b u v h
-by_comparison a b u v Equal Less e r = greater_cons b v u r a (sym e)
-by_comparison a b u v Equal Equal e r = cc
-by_comparison a b u v Equal Greater e r = greater_cons a u v r b e
-
--- comparing entry by entry tells which of two vectors of one width is greater
-pub order_lexicographic : (u v : List ℤ) → length u ≡ length v → MatchOrdering (slice_cmp int_cmp u v) (IsGreater v u) (u ≡ v) (IsGreater u v)
-order_lexicographic [] [] e = refl
-order_lexicographic [] (b ∷ v) e = absurd (omega (arith, e))
-order_lexicographic (a ∷ u) [] e = absurd (omega (arith, e))
-order_lexicographic (a ∷ u) (b ∷ v) e = by_comparison a b u v (int_cmp a b) (slice_cmp int_cmp u v) (int_ranked a b (int_cmp a b) refl) (order_lexicographic u v (omega (arith, e)))
-
--- of two vectors of one width one is greater, or they are equal
-pub compare_vectors : (u v : List ℤ) → length u ≡ length v → (u ≡ v) ⊎ (IsGreater u v ⊎ IsGreater v u)
-compare_vectors u v e = by_answer (slice_cmp int_cmp u v) (order_lexicographic u v e)
-  where
-    by_answer : (o : Ordering) → MatchOrdering o (IsGreater v u) (u ≡ v) (IsGreater u v) → (u ≡ v) ⊎ (IsGreater u v ⊎ IsGreater v u)
-    by_answer Less g = inr (inr g)
-    by_answer Equal d = inl d
-    by_answer Greater g = inr (inl g)
-
 -- a list of vectors of one width, none twice and none less than the next, is sorted
 pub sorted_from_weak : (width : ℕ) (vs : List (List ℤ)) → All (λ v. length v ≡ width) vs → IsApart vs → AreInOrder vs → AreSorted vs
 sorted_from_weak width vs wide apart weak i h = by_order (compare_vectors (vector_at vs i) (vector_at vs (i + 1)) (wide i [] (omega (arith, h)) ∙ sym (wide (i + 1) [] h)))

@@ -11,7 +11,8 @@ use Rattle.row_core.specs.Lists.{Row}
 use Rattle.cone_laws.specs.Cones.{Meets, Upto, Spans, negated}
 use Rattle.cone_laws.specs.Canon.{vector_at, IsSystem, Canon}
 use Rattle.cone_laws.specs.ConeSets.{IsCone}
-use Rattle.cone_laws.specs.UniqueLaws.{AdmitSame, AreInOrder}
+use Rattle.row_core.specs.Orders.{AreInOrder}
+use Rattle.cone_laws.specs.UniqueLaws.{AdmitSame}
 use Rattle.row_core.proofs.Ring.{mul-at_least_zero, at_least_zero_of_mul, zero_of_mul, by_sign, same_or_not, mul_comm}
 use Rattle.cone_laws.proofs.Primitive.{primitive_same}
 use Rattle.cone_laws.proofs.Columns.{cell-scale, value, value_linear, value_both, dot_is, dot-scale}

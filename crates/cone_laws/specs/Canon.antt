@@ -1,11 +1,9 @@
-use Rattle.std.specs.Prelude.{◌≡◌, ◌≢◌, ℕ, ◌+◌, ◌<◌, List, [], length, slice_index_or, remove, ℤ, pos, ◌<ℤ◌, All}
+use Rattle.std.specs.Prelude.{◌≡◌, ◌≢◌, ℕ, ◌<◌, List, length, remove, ℤ, pos, ◌<ℤ◌, All}
 use Rattle.row_core.specs.Vectors.{cell}
 use Rattle.row_core.specs.Content.{IsPrimitive}
+use Rattle.row_core.specs.Orders.{AreSorted}
+pub use Rattle.row_core.specs.Lists.{vector_at}
 use Rattle.cone_laws.specs.Cones.{Spans, Generates, HasLineality}
-
--- vector i of the list
-abbrev pub vector_at : List (List ℤ) → ℕ → List ℤ
-vector_at vectors i = slice_index_or vectors i []
 
 -- the vector is positive at column j, and 0 at each column before it
 pub record IsPivot (v : List ℤ) (j : ℕ) : Type 0 where
@@ -23,16 +21,6 @@ pub record IsEchelon (lines rays : List (List ℤ)) : Type 0 where
 -- no ray is spanned by the lines and the other rays
 abbrev pub IsIrredundant : (lines rays : List (List ℤ)) → Type 0
 IsIrredundant lines rays = (i : ℕ) → i < length rays → ¬ (Spans lines (remove rays i) (vector_at rays i))
-
--- the two agree before some column, and there the first has the greater entry
-pub record IsGreater (u v : List ℤ) : Type 0 where
-  pub column : ℕ
-  pub before : (i : ℕ) → i < column → cell u i ≡ cell v i
-  pub greater : cell v column <ℤ cell u column
-
--- each vector is greater than the next
-abbrev pub AreSorted : List (List ℤ) → Type 0
-AreSorted vectors = (i : ℕ) → i + 1 < length vectors → IsGreater (vector_at vectors i) (vector_at vectors (i + 1))
 
 -- the lines and rays are the canonical system of the set, but for the order of the rays
 pub record IsSystem (C : List ℤ → Type 0) (lines rays : List (List ℤ)) : Type 0 where

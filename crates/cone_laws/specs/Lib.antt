@@ -13,6 +13,4 @@ pub mod Members
 pub mod DualSystems
 pub mod ExtremeRays
 pub mod Combinations
-pub mod Keys
-pub mod Orders
 pub mod MarkedLists

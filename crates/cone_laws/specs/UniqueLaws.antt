@@ -1,9 +1,10 @@
-use Rattle.std.specs.Prelude.{◌≡◌, ℕ, ◌+◌, ◌<◌, List, length, ℤ, IsPermutation}
+use Rattle.std.specs.Prelude.{◌≡◌, ℕ, List, length, ℤ, IsPermutation}
 use Rattle.std.specs.Ordering.{MatchOrdering, int_cmp}
 use Rattle.std.specs.Cmp.Lexicographic.{slice_cmp}
 use Rattle.row_core.specs.Lists.{Row}
+use Rattle.row_core.specs.Orders.{IsGreater, AreInOrder}
 use Rattle.cone_laws.specs.Cones.{Upto}
-use Rattle.cone_laws.specs.Canon.{vector_at, IsGreater, IsSystem, Canon}
+use Rattle.cone_laws.specs.Canon.{IsSystem, Canon}
 
 -- the first k rows of the one list admit the vectors that the first n of the other admit
 pub record AdmitSame (width : ℕ) (rows : List Row) (k : ℕ) (others : List Row) (n : ℕ) : Type 0 where
@@ -17,10 +18,6 @@ SystemIsUnique = (width : ℕ) (rows : List Row) (k : ℕ) (others : List Row) (
 -- a cone has one canonical system
 abbrev pub CanonIsUnique : Type 0
 CanonIsUnique = (width : ℕ) (rows : List Row) (k : ℕ) (others : List Row) (n : ℕ) (lines rays other_lines other_rays : List (List ℤ)) → AdmitSame width rows k others n → Canon (Upto width rows k) lines rays → Canon (Upto width others n) other_lines other_rays → (lines ≡ other_lines) × (rays ≡ other_rays)
-
--- no vector is less than the next
-abbrev pub AreInOrder : List (List ℤ) → Type 0
-AreInOrder vectors = (i : ℕ) → i + 1 < length vectors → ¬ (IsGreater (vector_at vectors (i + 1)) (vector_at vectors i))
 
 -- in each order of its rays a system is a system
 abbrev pub OrderKeepsSystem : Type 0

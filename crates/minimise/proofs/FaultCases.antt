@@ -7,7 +7,7 @@ use Rattle.row_core.specs.Vectors.{cell}
 use Rattle.flat_rows.specs.Flat.{marked}
 use Rattle.row_core.specs.Lists.{Row, Rows, row_at, vectors}
 use Rattle.cone_laws.specs.Canon.{vector_at, IsPivot}
-use Rattle.cone_laws.proofs.VectorLemmas.{length-vectors, vector_at-vectors}
+use Rattle.row_core.proofs.RowListLemmas.{length-vectors, vector_at-vectors}
 use Rattle.minimise.specs.FlatRows.{TellsFlat}
 use Rattle.minimise.specs.Bases.{IsBasis, IsReduced, IsLeading, IsNewLine, IsPlace, HasTaken, IsGrown, turned_up}
 use Rattle.minimise.specs.Faults.{IsReductionLeft, IsCombineFault, IsReduceFault, IsClearFault, IsTakeFault, IsGrowFault, IsListFault, IsRowFault, IsLeftFault}

@@ -3,7 +3,7 @@ use Rattle.std.proofs.Common.{◌≡◌, ℕ, ◌+◌, ◌*◌, ◌<◌, ◌≤�
 use Rattle.flat_rows.specs.Flat.{marked}
 use Rattle.row_core.specs.Lists.{Row, row_at, vectors}
 use Rattle.flat_rows.proofs.Flat.{marked_skip, marked_take}
-use Rattle.cone_laws.proofs.VectorLemmas.{length-vectors, vector_at-vectors}
+use Rattle.row_core.proofs.RowListLemmas.{length-vectors, vector_at-vectors}
 use Rattle.minimise.specs.Bases.{IsBasis, IsGrown}
 use Rattle.minimise.proofs.Growing.{basis_grown}
 

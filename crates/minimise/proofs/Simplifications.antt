@@ -16,7 +16,7 @@ use Rattle.cone_laws.specs.MarkedLists.{AreLists}
 use Rattle.cone_laws.proofs.UniqueSystems.{upto_canon_from_sorted}
 use Rattle.cone_laws.proofs.Columns.{dot_comm}
 use Rattle.cone_laws.proofs.SystemLists.{met_line}
-use Rattle.cone_laws.proofs.VectorLemmas.{length-vectors, vector_at-vectors}
+use Rattle.row_core.proofs.RowListLemmas.{length-vectors, vector_at-vectors}
 use Rattle.minimise.specs.FlatRows.{IsZeroOnAll}
 use Rattle.minimise.specs.Bases.{IsBasis, IsReduced}
 use Rattle.minimise.specs.Facets.{TellsFull, AreFacets, AreGreatest}

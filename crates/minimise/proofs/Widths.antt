@@ -4,7 +4,7 @@ use Rattle.std.specs.Prelude.{All}
 use Rattle.std.proofs.lemmas.List.Elements.{All-from_get_or}
 use Rattle.row_core.specs.Lists.{Rows, vectors, FitWidth}
 use Rattle.cone_laws.specs.Canon.{IsEchelon}
-use Rattle.cone_laws.proofs.VectorLemmas.{length-vectors, vector_at-vectors}
+use Rattle.row_core.proofs.RowListLemmas.{length-vectors, vector_at-vectors}
 use Rattle.minimise.proofs.NarrowBases.{echelon_is_narrow}
 
 pub vectors_wide : (width : ℕ) (list : Rows) → FitWidth list → list.width ≡ width → All (λ (l : List ℤ). length l ≡ width) (vectors list.rows)

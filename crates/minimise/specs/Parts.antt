@@ -3,7 +3,7 @@ use Rattle.std.specs.List.{range_with_len}
 use Rattle.flat_rows.specs.Flat.{marked}
 use Rattle.row_core.specs.Lists.{Rows, row_at, vectors, AreMarked, Pointwise, FitWidth}
 use Rattle.sat_matrix.specs.Tables.{Table, bits_of}
-use Rattle.cone_laws.specs.Orders.{IsOrderOf}
+use Rattle.ray_order.specs.Orders.{IsOrderOf}
 use Rattle.minimise.specs.Bases.{IsBasis, IsReduced}
 use Rattle.minimise.specs.Facets.{AreGreatest}
 use Rattle.minimise.specs.SecondSystems.{behind_lines}

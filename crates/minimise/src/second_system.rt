@@ -13,7 +13,7 @@ use crate::facets::full_rows;
 use crate::fault::Fault;
 use crate::parts::{Parts, parts_of};
 use crate::second_table::second_table;
-use cone_laws::order::{descending, picked};
+use ray_order::{descending_order, rays_at};
 use row_core::{Memory, RowBuf, RowList, Steps};
 use sat_matrix::SatMatrix;
 use std::alloc::Global;
@@ -44,8 +44,8 @@ fn arranged_rays(alloc: Global, lines: usize, parts: &Parts) -> Result<(RowList,
     requires { length parts.now.facets.zeros.rows ≡ length parts.now.reduced.rows }
     ensures { IfOk result (λ s. AreArranged lines parts.now parts.now.equalities s.0 s.1) }
 {
-    let order = descending(alloc, &parts.reduced)?;
-    let rays = picked(alloc, &parts.reduced, &order)?;
+    let order = descending_order(alloc, &parts.reduced)?;
+    let rays = rays_at(alloc, &parts.reduced, &order)?;
     let sat = second_table(alloc, lines, &parts.facets.zeros, &order)?;
     Ok((rays, sat))
 }

@@ -10,11 +10,12 @@ use Rattle.row_core.specs.Content.{IsMultipleOf}
 use Rattle.row_core.proofs.OnePrimitive.{IsPrimitiveOf-once}
 use Rattle.row_core.specs.Lists.{Row, row_at, vectors}
 use Rattle.cone_laws.specs.Cones.{Upto}
-use Rattle.cone_laws.specs.Canon.{vector_at, IsGreater}
+use Rattle.row_core.specs.Orders.{IsGreater}
+use Rattle.cone_laws.specs.Canon.{vector_at}
 use Rattle.cone_laws.proofs.Ring.{ring, mul-zero, mul-positive, zero_of_mul, positive_of_mul, same_or_not}
 use Rattle.cone_laws.proofs.Sums.{spans_of_multiple, spans_sums, sums_one_ray}
 use Rattle.cone_laws.proofs.Columns.{dot-scale, cell-scale, length-scale}
-use Rattle.cone_laws.proofs.Rearranging.{order_lexicographic}
+use Rattle.row_core.proofs.OrderLemmas.{order_lexicographic}
 use Rattle.gens_sys.specs.Generators.{Generators, generator_at}
 use Rattle.nnc_enc.specs.Encoding.{lowered}
 use Rattle.nnc_enc.specs.StrongRows.{IsApart}

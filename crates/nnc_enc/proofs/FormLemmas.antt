@@ -6,17 +6,17 @@ use Rattle.row_core.specs.Vectors.{cell, dot}
 use Rattle.row_core.specs.Content.{IsMultipleOf}
 use Rattle.row_core.proofs.OnePrimitive.{IsPrimitiveOf-once}
 use Rattle.row_core.specs.Lists.{Row, row_at, vectors}
-use Rattle.cone_laws.specs.Canon.{vector_at, IsGreater, IsPivot, IsEchelon}
+use Rattle.row_core.specs.Orders.{IsGreater}
+use Rattle.cone_laws.specs.Canon.{vector_at, IsPivot, IsEchelon}
 use Rattle.cone_laws.proofs.Ring.{zero_of_mul, positive_of_mul}
-use Rattle.cone_laws.proofs.Columns.{cell-scale}
+use Rattle.cone_laws.proofs.Columns.{cell-scale, length-scale}
 use Rattle.nnc_enc.specs.Encoding.{lowered}
 use Rattle.nnc_enc.proofs.Relaxed.{cell-remove, skip_before}
-use Rattle.nnc_enc.specs.Decoding.{index_at, AreListed}
+use Rattle.nnc_enc.specs.Decoding.{index_at, AreListed, con_kind}
 use Rattle.nnc_enc.specs.Sorting.{IsOrdered, AreStrongRows}
 use Rattle.nnc_enc.specs.Results.{AreRowsOf}
 use Rattle.nnc_enc.proofs.MarkLemmas.{length-vectors, vector_at-vectors}
 use Rattle.nnc_enc.specs.Kept.{IsNeededConstraint}
-use Rattle.nnc_enc.specs.Decoding.{con_kind}
 use Rattle.nnc_enc.proofs.ResultLemmas.{strong_rows_are_needed}
 use Rattle.nnc_enc.proofs.OrderLemmas.{within_permutation}
 use Rattle.nnc_enc.proofs.EncodedDuals.{lowered_width}
@@ -26,8 +26,7 @@ use Rattle.std.specs.Ordering.{MatchOrdering, int_cmp}
 use Rattle.std.specs.Cmp.Lexicographic.{slice_cmp}
 use Rattle.std.specs.declared.cmp.Ordering.{Ordering}
 use Rattle.std.specs.declared.cmp.Ordering.TheVariants.{Less, Equal, Greater}
-use Rattle.cone_laws.proofs.Rearranging.{order_lexicographic}
-use Rattle.cone_laws.proofs.Columns.{length-scale}
+use Rattle.row_core.proofs.OrderLemmas.{order_lexicographic}
 
 -- ---- the stored form
 positive_times : (n : ℕ) → 0 < n → pos 0 <ℤ pos n

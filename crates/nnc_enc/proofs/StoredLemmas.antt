@@ -5,8 +5,9 @@ use Rattle.std.proofs.lemmas.List.{get_or-map, get_or-take, get_or-drop, length-
 use Rattle.std.proofs.lemmas.List.Elements.{All-from_get_or}
 use Rattle.row_core.specs.Vectors.{cell}
 use Rattle.row_core.specs.Content.{IsPrimitive}
-use Rattle.row_core.specs.Lists.{Row, row_at}
-use Rattle.cone_laws.specs.Canon.{vector_at, IsGreater, IsPivot}
+use Rattle.row_core.specs.Lists.{Row, row_at, vectors}
+use Rattle.row_core.specs.Orders.{IsGreater}
+use Rattle.cone_laws.specs.Canon.{vector_at, IsPivot}
 use Rattle.cons_sys.specs.Constraints.{Constraint}
 use Rattle.cons_sys.specs.declared.kind.ConKind.{ConKind}
 use Rattle.cons_sys.specs.declared.kind.ConKind.TheVariants.{Eq}
@@ -15,7 +16,6 @@ use Rattle.gens_sys.specs.declared.kind.GenKind.{GenKind}
 use Rattle.gens_sys.specs.declared.kind.GenKind.TheVariants.{Line}
 use Rattle.nnc_enc.specs.DecodedVectors.{place_kind, vector_kind, kind_of}
 use Rattle.nnc_enc.proofs.RowHeights.{pivot_below}
-use Rattle.row_core.specs.Lists.{vectors}
 use Rattle.nnc_enc.specs.Decoding.{index_at, con_kind, AreListed}
 use Rattle.nnc_enc.specs.Forms.{entries, IsStoredForm, AreStoredConstraints, AreStoredGenerators}
 use Rattle.nnc_enc.specs.Results.{AreRowsOf, AreVectorsOf}

@@ -1,6 +1,7 @@
 use Rattle.std.specs.Prelude.{◌≡◌, ◌↔◌, ℕ, ◌<◌, List, [], length, map, take, drop, slice_index_or, ℤ, All}
 use Rattle.row_core.specs.Content.{IsPrimitive}
-use Rattle.cone_laws.specs.Canon.{IsEchelon, AreSorted}
+use Rattle.row_core.specs.Orders.{AreSorted}
+use Rattle.cone_laws.specs.Canon.{IsEchelon}
 use Rattle.cons_sys.specs.Constraints.{Constraint}
 use Rattle.cons_sys.specs.declared.kind.ConKind.TheVariants.{Eq}
 use Rattle.gens_sys.specs.Generators.{Generator}

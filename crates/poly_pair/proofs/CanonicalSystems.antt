@@ -5,12 +5,11 @@ use Rattle.std.proofs.Common.{inl, inr, sym, ◌∙◌, subst, arith}
 use Rattle.std.proofs.lemmas.List.Elements.{All-head, All-tail}
 use Rattle.std.proofs.lemmas.List.Sorted.{IsPermutation-refl, IsPermutation-cons, IsPermutation-trans, IsPermutation-insert, All-permutation}
 use Rattle.row_core.specs.Lists.{Row}
-use Rattle.cone_laws.specs.Canon.{Canon, IsGreater, vector_at}
+use Rattle.row_core.specs.Orders.{IsGreater, AreInOrder}
+use Rattle.cone_laws.specs.Canon.{Canon, vector_at}
 use Rattle.cone_laws.specs.Members.{ConeOf}
 use Rattle.cone_laws.specs.SystemLaws.{HasSystem}
-use Rattle.cone_laws.specs.UniqueLaws.{AreInOrder}
-use Rattle.cone_laws.proofs.Rearranging.{compare_vectors}
-use Rattle.cone_laws.proofs.SortedLists.{IsGreater-self, IsGreater-trans}
+use Rattle.row_core.proofs.OrderLemmas.{compare_vectors, IsGreater-self, IsGreater-trans}
 use Rattle.cone_laws.proofs.StepExistence.{every_prefix}
 use Rattle.cone_laws.proofs.UniqueSystems.{upto_canon_from_sorted, upto_cone}
 

@@ -1,5 +1,6 @@
 pub mod Ring
 pub mod RowListLemmas
+pub mod OrderLemmas
 pub mod DotLemmas
 pub mod NarrowLemmas
 pub mod ColumnLemmas

@@ -5,6 +5,7 @@ pub mod Content
 pub mod Points
 pub mod Lists
 pub mod Pairs
+pub mod Orders
 pub mod Laws
 pub mod Sameness
 pub mod Spans

@@ -23,6 +23,10 @@ is_eq_at rows i = (slice_index_or rows i ([], false)).1
 abbrev pub vectors : List Row → List (List ℤ)
 vectors rows = map (λ (row : Row). row.0) rows
 
+-- vector i of the list
+abbrev pub vector_at : List (List ℤ) → ℕ → List ℤ
+vector_at vectors i = slice_index_or vectors i []
+
 -- each row is marked as an equality, or each as an inequality
 abbrev pub AreMarked : Bool → List Row → Type 0
 AreMarked eq rows = All (λ (row : Row). row.1 ≡ eq) rows

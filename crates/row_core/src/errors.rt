@@ -1,9 +1,10 @@
 //! The answers by which a call refuses.
-ghost use Rattle.std.specs.Prelude.{◌≡◌};
+ghost use Rattle.std.specs.Prelude.{◌≡◌, ◌^◌, ◌<◌, length, IfOk};
+ghost use Rattle.row_core.specs.Range.{AllInRange};
 ghost use Rattle.row_core.specs.declared.errors.ConvErr.TheVariants;
 
 use crate::buffers::RowBuf;
-use std::alloc::{AllocError, AllocFailed};
+use std::alloc::{AllocError, AllocFailed, Global};
 use thiserror::Error;
 
 /// Want of memory.
@@ -51,6 +52,32 @@ pub struct Overflow {
     pub right: RowBuf,
     /// The first column at which the range was left, counted from 0.
     pub column: u32,
+}
+
+impl Overflow {
+    /// Returns the overflow that shows copies of two rows, of which no conversion was made: its step is 0.
+    pub fn of_rows(
+        alloc: Global,
+        kind: OverKind,
+        left: &[i128],
+        right: &[i128],
+        column: u32,
+    ) -> Result<Overflow, Memory>
+        requires left { AllInRange left.now × (length left.now < 2 ^ 32) }
+        requires right { AllInRange right.now × (length right.now < 2 ^ 32) }
+        ensures { IfOk result (λ over. over ≡ record
+            { kind = kind; step = 0; left = left.now; right = right.now; column = column }) }
+    {
+        let left = RowBuf::new(alloc, left)?;
+        let right = RowBuf::new(alloc, right)?;
+        Ok(Overflow {
+            kind,
+            step: 0,
+            left,
+            right,
+            column,
+        })
+    }
 }
 
 /// Two rows, by their numbers in lists that the call names, from which a number outside the range

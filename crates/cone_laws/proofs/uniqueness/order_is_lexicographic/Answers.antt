@@ -1,4 +1,4 @@
-use Rattle.cone_laws.proofs.Rearranging.{order_lexicographic}
+use Rattle.row_core.proofs.OrderLemmas.{order_lexicographic}
 use Rattle.cone_laws.proofs.uniqueness.order_is_lexicographic.Goals as goal
 
 pub returns : goal.returns

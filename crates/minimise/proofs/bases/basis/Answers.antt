@@ -7,7 +7,7 @@ use Rattle.std.proofs.lemmas.List.Elements.{All-same}
 use Rattle.row_core.specs.Range.{AllInRange}
 use Rattle.flat_rows.specs.Flat.{marked}
 use Rattle.row_core.specs.Lists.{Row, Rows, vectors, AreMarked}
-use Rattle.cone_laws.proofs.VectorLemmas.{length-vectors}
+use Rattle.row_core.proofs.RowListLemmas.{length-vectors}
 use Rattle.minimise.specs.Bases.{IsBasis, IsGrown}
 use Rattle.minimise.proofs.Growing.{basis_none}
 use Rattle.minimise.proofs.LeftCases.{marked_next, length-marked_front}

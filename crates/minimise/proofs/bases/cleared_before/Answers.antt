@@ -6,7 +6,7 @@ use Rattle.row_core.specs.Range.{AllInRange}
 use Rattle.row_core.specs.Content.{IsPrimitive}
 use Rattle.row_core.specs.Lists.{Row, vectors}
 use Rattle.cone_laws.specs.Canon.{vector_at}
-use Rattle.cone_laws.proofs.VectorLemmas.{length-vectors, vector_at-vectors, vectors_push, marked_push}
+use Rattle.row_core.proofs.RowListLemmas.{length-vectors, vector_at-vectors, vectors_push, marked_push}
 use Rattle.minimise.specs.Bases.{IsCleared, AreCleared}
 use Rattle.minimise.proofs.ClearedRows.{cleared_more, cleared_none}
 use Rattle.minimise.proofs.FaultCases.{clear_fault}

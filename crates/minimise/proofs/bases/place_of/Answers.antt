@@ -1,7 +1,7 @@
 use Rattle.std.proofs.Common.{◌<◌, List, ℤ, length, sym, ◌∙◌, subst, arith}
 use Rattle.row_core.specs.Lists.{vectors}
 use Rattle.cone_laws.specs.Canon.{IsPivot}
-use Rattle.cone_laws.proofs.VectorLemmas.{length-vectors, vector_at-vectors}
+use Rattle.row_core.proofs.RowListLemmas.{length-vectors, vector_at-vectors}
 use Rattle.minimise.proofs.Places.{place_more, place_here}
 use Rattle.minimise.proofs.bases.place_of.Goals as goal
 

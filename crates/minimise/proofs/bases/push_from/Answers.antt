@@ -3,7 +3,7 @@ use Rattle.std.proofs.Common.{◌≡◌, ◌++◌, ◌∷◌, [], drop, take, sy
 use Rattle.std.proofs.lemmas.List.{append_assoc}
 use Rattle.std.proofs.lemmas.List.Elements.{All-same}
 use Rattle.row_core.specs.Lists.{Row, vectors}
-use Rattle.cone_laws.proofs.VectorLemmas.{length-vectors, vector_at-vectors, vectors_push, marked_push}
+use Rattle.row_core.proofs.RowListLemmas.{length-vectors, vector_at-vectors, vectors_push, marked_push}
 use Rattle.minimise.proofs.ClearedRows.{drop_more}
 use Rattle.minimise.proofs.bases.push_from.Goals as goal
 

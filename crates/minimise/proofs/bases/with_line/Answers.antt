@@ -3,7 +3,7 @@ use Rattle.std.proofs.Common.{◌++◌, ◌∷◌, [], drop, ap, ◌∙◌, arit
 use Rattle.std.proofs.lemmas.Result.{err_from_is_err_and}
 use Rattle.std.proofs.lemmas.Grind.{common_steps}
 use Rattle.row_core.specs.Lists.{vectors, Row}
-use Rattle.cone_laws.proofs.VectorLemmas.{length-vectors, vectors_push, marked_push}
+use Rattle.row_core.proofs.RowListLemmas.{length-vectors, vectors_push, marked_push}
 use Rattle.minimise.proofs.ClearedRows.{taken_from}
 use Rattle.minimise.proofs.FaultCases.{new_apart, take_fault}
 use Rattle.std.proofs.lemmas.List.Elements.{All-same}

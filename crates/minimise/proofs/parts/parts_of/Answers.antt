@@ -5,7 +5,7 @@ use Rattle.std.proofs.lemmas.Result.{err_from_is_err_and}
 use Rattle.std.proofs.lemmas.List.FromFn.{length-range_with_len}
 use Rattle.flat_rows.specs.Flat.{marked}
 use Rattle.row_core.specs.Lists.{row_at, vectors, Pointwise}
-use Rattle.cone_laws.proofs.VectorLemmas.{length-vectors}
+use Rattle.row_core.proofs.RowListLemmas.{length-vectors}
 use Rattle.minimise.specs.Bases.{IsReduced}
 use Rattle.minimise.proofs.FacetLemmas.{length-both, greatest_within}
 use Rattle.minimise.proofs.FaultCases.{list_fault_of_row}

@@ -4,7 +4,7 @@ use Rattle.std.proofs.lemmas.List.{take_at, take_all}
 use Rattle.std.proofs.lemmas.List.Elements.{All-same, All-nil}
 use Rattle.row_core.specs.Content.{IsPrimitiveOf, IsMultipleOf}
 use Rattle.row_core.specs.Lists.{Row, row_at, vectors, Pointwise}
-use Rattle.cone_laws.proofs.VectorLemmas.{vectors_push, marked_push}
+use Rattle.row_core.proofs.RowListLemmas.{vectors_push, marked_push}
 use Rattle.minimise.specs.Bases.{IsReduced}
 use Rattle.minimise.proofs.PointwiseLists.{pointwise_more, pointwise_none}
 use Rattle.minimise.proofs.Reductions.{reduced_none}

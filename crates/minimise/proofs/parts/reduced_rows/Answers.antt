@@ -6,7 +6,7 @@ use Rattle.std.proofs.lemmas.List.{take_all, nil_from_length}
 use Rattle.std.proofs.lemmas.List.Elements.{All-same, All-nil}
 use Rattle.row_core.specs.Range.{AllInRange}
 use Rattle.row_core.specs.Lists.{Row, row_at, vectors, Pointwise}
-use Rattle.cone_laws.proofs.VectorLemmas.{length-vectors, vectors_push, marked_push}
+use Rattle.row_core.proofs.RowListLemmas.{length-vectors, vectors_push, marked_push}
 use Rattle.minimise.specs.Bases.{IsReduced}
 use Rattle.minimise.proofs.Widths.{lines_narrow}
 use Rattle.minimise.proofs.PointwiseLists.{pointwise_more, pointwise_none}

@@ -6,7 +6,7 @@ use Rattle.row_core.specs.Range.{AllInRange}
 use Rattle.row_core.specs.Content.{IsPrimitive}
 use Rattle.row_core.specs.Lists.{vectors}
 use Rattle.cone_laws.specs.Canon.{vector_at, IsPivot}
-use Rattle.cone_laws.proofs.VectorLemmas.{length-vectors, vector_at-vectors}
+use Rattle.row_core.proofs.RowListLemmas.{length-vectors, vector_at-vectors}
 use Rattle.minimise.specs.Bases.{IsCleared, IsReduced}
 use Rattle.minimise.proofs.Reductions.{reduced_none, reduced_more}
 use Rattle.minimise.proofs.FaultCases.{reduce_fault}

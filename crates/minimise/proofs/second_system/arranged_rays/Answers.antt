@@ -5,8 +5,8 @@ use Rattle.sat_matrix.specs.Tables.{bits_of}
 use Rattle.minimise.specs.SecondSystems.{behind_lines}
 use Rattle.minimise.proofs.second_system.arranged_rays.Goals as goal
 
-pub picked-requires : goal.picked-requires
-picked-requires c = subst (λ (is : List ℕ). All (λ i. i < length c.args.parts.now.reduced.rows) is) (sym c.deref.ensures.value) c.in_ok-order.ensures.within
+pub rays_at-requires : goal.rays_at-requires
+rays_at-requires c = subst (λ (is : List ℕ). All (λ i. i < length c.args.parts.now.reduced.rows) is) (sym c.deref.ensures.value) c.in_ok-order.ensures.within
 
 pub second_table-requires : goal.second_table-requires
 second_table-requires c = subst (λ (is : List ℕ). All (λ i. i < length c.args.parts.now.facets.zeros.rows) is) (sym c.deref-2.ensures.value) (subst (λ (n : ℕ). All (λ i. i < n) c.in_ok-order.order.items) (sym c.requires) c.in_ok-order.ensures.within)

@@ -3,7 +3,7 @@ use Rattle.std.proofs.Common.{arith, sym, ap, ◌∙◌, subst}
 use Rattle.std.proofs.lemmas.Result.{err_from_is_err_and}
 use Rattle.row_core.specs.Lists.{vectors}
 use Rattle.sat_matrix.specs.Tables.{Table}
-use Rattle.cone_laws.proofs.VectorLemmas.{length-vectors}
+use Rattle.row_core.proofs.RowListLemmas.{length-vectors}
 use Rattle.minimise.specs.Facets.{TellsFull}
 use Rattle.minimise.specs.Parts.{IsArranged}
 use Rattle.minimise.proofs.FacetLemmas.{TellsRows, turned_tells, flat_told}

@@ -1,0 +1,3 @@
+pub mod TurnedOrder
+mod KeyLemmas
+pub mod Rankings
