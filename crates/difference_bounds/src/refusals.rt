@@ -5,7 +5,7 @@ ghost use Rattle.difference_bounds.specs.Fractions.{IsFraction, IsLowestOf, IsBe
 ghost use Rattle.difference_bounds.specs.Overflows.{IsOverflowOf, LeavesInSum, LeavesInCompare};
 
 use crate::fraction::Fraction;
-use row_core::{ConvErr, Memory, OverKind, Overflow, RowBuf};
+use row_core::{ConvErr, Memory, OverKind, Overflow};
 use std::alloc::Global;
 
 /// The overflow of two fractions, each shown by its numerator and its denominator.
@@ -20,15 +20,8 @@ fn overflow(
     requires right { IsFraction right }
     ensures { IfOk result (IsOverflowOf kind left right column) }
 {
-    let left = RowBuf::new(alloc, &[left.num, left.den])?;
-    let right = RowBuf::new(alloc, &[right.num, right.den])?;
-    Ok(Overflow {
-        kind,
-        step: 0,
-        left,
-        right,
-        column,
-    })
+    let (left, right) = ([left.num, left.den], [right.num, right.den]);
+    Overflow::of_rows(alloc, kind, &left, &right, column)
 }
 
 /// The sum of two fractions.
