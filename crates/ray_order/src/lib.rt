@@ -1,6 +1,7 @@
 //! Rays in descending order: by the first column at which two of them differ.
 //!
-//! - [`descending_order`] gives the indices of the rays, the greatest first, and [`rays_at`] the rays at some indices.
+//! - [`descending_order`] gives the indices of the rays, the greatest first, and [`rays_at`] the rays
+//!   at some indices.
 //! - [`LendRows`] is what both read: a list that lends rows of one width.
 #![tactic(auto)]
 

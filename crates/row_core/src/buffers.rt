@@ -205,7 +205,8 @@ impl RowList {
         requires wide { length row.now ≡ self.old.width }
         requires in_range { AllInRange row.now }
         ensures width { self.new.width ≡ self.old.width }
-        ensures rows { MatchResult result (λ _. self.new.rows ≡ self.old.rows ++ (row.now, eq) ∷ []) (λ _. self.new.rows ≡ self.old.rows) }
+        ensures rows { MatchResult result (λ _. self.new.rows ≡ self.old.rows ++ (row.now, eq) ∷ [])
+            (λ _. self.new.rows ≡ self.old.rows) }
     {
         self.marked.push_copy(row, eq)?;
         Ok(())
@@ -215,7 +216,8 @@ impl RowList {
     pub fn push_row(&mut self, row: RowBuf, eq: bool) -> Result<(), Memory>
         requires { length row ≡ self.old.width }
         ensures width { self.new.width ≡ self.old.width }
-        ensures rows { MatchResult result (λ _. self.new.rows ≡ self.old.rows ++ (row, eq) ∷ []) (λ _. self.new.rows ≡ self.old.rows) }
+        ensures rows { MatchResult result (λ _. self.new.rows ≡ self.old.rows ++ (row, eq) ∷ [])
+            (λ _. self.new.rows ≡ self.old.rows) }
     {
         self.marked.push(row, eq)?;
         Ok(())

@@ -5,36 +5,9 @@ ghost use Rattle.row_core.specs.Range.{AllInRange, CombineStays, IsFirstToLeave,
 ghost use Rattle.row_core.specs.Narrow.{IsNarrow, AllNarrow};
 
 use crate::counting::Steps;
-use crate::linear::{check_combination, combined};
-use crate::narrow::{both_narrow, narrow_combined, rows_narrow};
+use crate::linear::{check_combination, combined_entry};
+use crate::narrow::{both_narrow, narrow_combined_entry, rows_narrow};
 use std::sync::ledger::Ledger;
-
-/// Writes `s * dst + t * v` over `dst`.
-fn write_onto(dst: &mut [i128], s: i128, v: &[i128], t: i128)
-    requires same_width { length dst.old ≡ length v.now }
-    requires stays { AllStay (CombineStays dst.old s v.now t) (length dst.old) }
-    ensures combined { dst.new ≡ add (scale s dst.old) (scale t v.now) }
-    ensures in_range { AllInRange dst.new }
-{
-    for j in 0..dst.len() {
-        dst[j] = combined(s, dst[j], t, v[j]);
-    }
-}
-
-/// Writes `s * dst + t * v` over `dst`, where all are narrow.
-fn narrow_onto(dst: &mut [i128], s: i128, v: &[i128], t: i128)
-    requires same_width { length dst.old ≡ length v.now }
-    requires factors { IsNarrow s × IsNarrow t }
-    requires left { AllNarrow dst.old }
-    requires right { AllNarrow v.now }
-    ensures combined { dst.new ≡ add (scale s dst.old) (scale t v.now) }
-    ensures stays { AllStay (CombineStays dst.old s v.now t) (length dst.old) }
-    ensures in_range { AllInRange dst.new }
-{
-    for j in 0..dst.len() {
-        dst[j] = narrow_combined(s, dst[j], t, v[j]);
-    }
-}
 
 /// Writes `s * dst + t * v` over `dst`, and counts one combination. Both rows have one width.
 ///
@@ -52,7 +25,10 @@ pub fn combine_onto<L: Ledger>(
     requires narrow { length v.now < 2 ^ 32 }
     ensures counted { steps.new ≡ steps.old + 1 }
     ensures width { length dst.new ≡ length dst.old }
-    ensures combined { MatchResult result (λ _. (dst.new ≡ add (scale s dst.old) (scale t v.now)) × AllStay (CombineStays dst.old s v.now t) (length dst.old)) (λ j. (dst.new ≡ dst.old) × IsFirstToLeave (CombineStays dst.old s v.now t) (length dst.old) j) }
+    ensures combined { let Stays = CombineStays dst.old s v.now t in let width = length dst.old in
+        MatchResult result
+        (λ _. (dst.new ≡ add (scale s dst.old) (scale t v.now)) × AllStay Stays width)
+        (λ j. (dst.new ≡ dst.old) × IsFirstToLeave Stays width j) }
     ensures in_range { OnOk result (AllInRange dst.new) }
 {
     steps.tick();
@@ -63,4 +39,31 @@ pub fn combine_onto<L: Ledger>(
     check_combination(dst, s, v, t)?;
     write_onto(dst, s, v, t);
     Ok(())
+}
+
+/// Writes `s * dst + t * v` over `dst`.
+fn write_onto(dst: &mut [i128], s: i128, v: &[i128], t: i128)
+    requires same_width { length dst.old ≡ length v.now }
+    requires stays { AllStay (CombineStays dst.old s v.now t) (length dst.old) }
+    ensures combined { dst.new ≡ add (scale s dst.old) (scale t v.now) }
+    ensures in_range { AllInRange dst.new }
+{
+    for j in 0..dst.len() {
+        dst[j] = combined_entry(s, dst[j], t, v[j]);
+    }
+}
+
+/// Writes `s * dst + t * v` over `dst`, where all are narrow.
+fn narrow_onto(dst: &mut [i128], s: i128, v: &[i128], t: i128)
+    requires same_width { length dst.old ≡ length v.now }
+    requires factors { IsNarrow s × IsNarrow t }
+    requires left { AllNarrow dst.old }
+    requires right { AllNarrow v.now }
+    ensures combined { dst.new ≡ add (scale s dst.old) (scale t v.now) }
+    ensures stays { AllStay (CombineStays dst.old s v.now t) (length dst.old) }
+    ensures in_range { AllInRange dst.new }
+{
+    for j in 0..dst.len() {
+        dst[j] = narrow_combined_entry(s, dst[j], t, v[j]);
+    }
 }

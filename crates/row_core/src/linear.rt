@@ -10,6 +10,58 @@ use std::sync::ledger::Ledger;
 /// The one `i128` outside the range.
 const OUTSIDE: i128 = i128::MIN;
 
+/// The sum of the products of equal columns of two rows of one width.
+///
+/// # Errors
+///
+/// The first column at which a product or a partial sum leaves the range.
+pub fn dot(u: &[i128], v: &[i128]) -> Result<i128, u32>
+    requires same_width { length u.now ≡ length v.now }
+    requires narrow { length u.now < 2 ^ 32 }
+    ensures exact { let Stays = DotStays u.now v.now in let width = length u.now in
+        MatchResult result (λ d. (d ≡ dot u.now v.now) × AllStay Stays width)
+        (IsFirstToLeave Stays width) }
+    ensures in_range { IfOk result InRange }
+{
+    if rows_narrow(u, v) {
+        return Ok(narrow_dot(u, v));
+    }
+    checked_dot(u, v)
+}
+
+/// Writes `s * u + t * v` over `dst`, and counts one combination. All three rows have one width.
+///
+/// # Errors
+///
+/// The first column at which a product or the sum leaves the range. `dst` is then as before.
+pub fn combine_into<L: Ledger>(
+    dst: &mut [i128],
+    u: &[i128],
+    s: i128,
+    v: &[i128],
+    t: i128,
+    steps: &mut Steps<L>,
+) -> Result<(), u32>
+    requires same_width { (length dst.old ≡ length u.now) × (length u.now ≡ length v.now) }
+    requires narrow { length u.now < 2 ^ 32 }
+    ensures counted { steps.new ≡ steps.old + 1 }
+    ensures width { length dst.new ≡ length dst.old }
+    ensures combined { let Stays = CombineStays u.now s v.now t in let width = length u.now in
+        MatchResult result
+        (λ _. (dst.new ≡ add (scale s u.now) (scale t v.now)) × AllStay Stays width)
+        (λ j. (dst.new ≡ dst.old) × IsFirstToLeave Stays width j) }
+    ensures in_range { OnOk result (AllInRange dst.new) }
+{
+    steps.tick();
+    if both_narrow(s, t) && rows_narrow(u, v) {
+        narrow_combination(dst, u, s, v, t);
+        return Ok(());
+    }
+    check_combination(u, s, v, t)?;
+    write_combination(dst, u, s, v, t);
+    Ok(())
+}
+
 /// The product, if it is in the range.
 #[inline]
 pub fn product(a: i128, b: i128) -> Option<i128>
@@ -35,14 +87,6 @@ pub fn sum(a: i128, b: i128) -> Option<i128>
     }
 }
 
-/// The total and a product added, if the product and the sum are in the range.
-#[inline]
-fn add_product(total: i128, a: i128, b: i128) -> Option<i128>
-    ensures { SomeIff result (InRange (a *ℤ b) × InRange (total +ℤ a *ℤ b)) (total +ℤ a *ℤ b) }
-{
-    sum(total, product(a, b)?)
-}
-
 /// `s * x + t * y`, if it and both products are in the range.
 #[inline]
 pub fn combination(s: i128, x: i128, t: i128, y: i128) -> Option<i128>
@@ -53,40 +97,6 @@ pub fn combination(s: i128, x: i128, t: i128, y: i128) -> Option<i128>
     sum(left, right)
 }
 
-/// The sum of the products of equal columns, with each product and each partial sum tested.
-fn checked_dot(u: &[i128], v: &[i128]) -> Result<i128, u32>
-    requires same_width { length u.now ≡ length v.now }
-    requires narrow { length u.now < 2 ^ 32 }
-    ensures exact { MatchResult result (λ d. (d ≡ dot u.now v.now) × AllStay (DotStays u.now v.now) (length u.now)) (IsFirstToLeave (DotStays u.now v.now) (length u.now)) }
-    ensures in_range { IfOk result InRange }
-{
-    let mut total = 0;
-    for j in 0..u.len() {
-        let Some(next) = add_product(total, u[j], v[j]) else {
-            return Err(j as u32);
-        };
-        total = next;
-    }
-    Ok(total)
-}
-
-/// The sum of the products of equal columns of two rows of one width.
-///
-/// # Errors
-///
-/// The first column at which a product or a partial sum leaves the range.
-pub fn dot(u: &[i128], v: &[i128]) -> Result<i128, u32>
-    requires same_width { length u.now ≡ length v.now }
-    requires narrow { length u.now < 2 ^ 32 }
-    ensures exact { MatchResult result (λ d. (d ≡ dot u.now v.now) × AllStay (DotStays u.now v.now) (length u.now)) (IsFirstToLeave (DotStays u.now v.now) (length u.now)) }
-    ensures in_range { IfOk result InRange }
-{
-    if rows_narrow(u, v) {
-        return Ok(narrow_dot(u, v));
-    }
-    checked_dot(u, v)
-}
-
 /// Whether `s * u + t * v` and all products in it are in the range.
 ///
 /// # Errors
@@ -95,7 +105,8 @@ pub fn dot(u: &[i128], v: &[i128]) -> Result<i128, u32>
 pub(crate) fn check_combination(u: &[i128], s: i128, v: &[i128], t: i128) -> Result<(), u32>
     requires same_width { length u.now ≡ length v.now }
     requires narrow { length u.now < 2 ^ 32 }
-    ensures { MatchResult result (λ _. AllStay (CombineStays u.now s v.now t) (length u.now)) (IsFirstToLeave (CombineStays u.now s v.now t) (length u.now)) }
+    ensures { let Stays = CombineStays u.now s v.now t in let width = length u.now in
+        MatchResult result (λ _. AllStay Stays width) (IsFirstToLeave Stays width) }
 {
     for column in 0..u.len() {
         let Some(_) = combination(s, u[column], t, v[column]) else {
@@ -107,7 +118,7 @@ pub(crate) fn check_combination(u: &[i128], s: i128, v: &[i128], t: i128) -> Res
 
 /// `s * x + t * y`.
 #[inline]
-pub(crate) fn combined(s: i128, x: i128, t: i128, y: i128) -> i128
+pub(crate) fn combined_entry(s: i128, x: i128, t: i128, y: i128) -> i128
     requires { ColumnStays s x t y }
     ensures value { result ≡ s *ℤ x +ℤ t *ℤ y }
     ensures in_range { InRange result }
@@ -125,36 +136,33 @@ fn write_combination(dst: &mut [i128], u: &[i128], s: i128, v: &[i128], t: i128)
     ensures in_range { AllInRange dst.new }
 {
     for j in 0..dst.len() {
-        dst[j] = combined(s, u[j], t, v[j]);
+        dst[j] = combined_entry(s, u[j], t, v[j]);
     }
 }
 
-/// Writes `s * u + t * v` over `dst`, and counts one combination. All three rows have one width.
-///
-/// # Errors
-///
-/// The first column at which a product or the sum leaves the range. `dst` is then as before.
-pub fn combine_into<L: Ledger>(
-    dst: &mut [i128],
-    u: &[i128],
-    s: i128,
-    v: &[i128],
-    t: i128,
-    steps: &mut Steps<L>,
-) -> Result<(), u32>
-    requires same_width { (length dst.old ≡ length u.now) × (length u.now ≡ length v.now) }
+/// The sum of the products of equal columns, with each product and each partial sum tested.
+fn checked_dot(u: &[i128], v: &[i128]) -> Result<i128, u32>
+    requires same_width { length u.now ≡ length v.now }
     requires narrow { length u.now < 2 ^ 32 }
-    ensures counted { steps.new ≡ steps.old + 1 }
-    ensures width { length dst.new ≡ length dst.old }
-    ensures combined { MatchResult result (λ _. (dst.new ≡ add (scale s u.now) (scale t v.now)) × AllStay (CombineStays u.now s v.now t) (length u.now)) (λ j. (dst.new ≡ dst.old) × IsFirstToLeave (CombineStays u.now s v.now t) (length u.now) j) }
-    ensures in_range { OnOk result (AllInRange dst.new) }
+    ensures exact { let Stays = DotStays u.now v.now in let width = length u.now in
+        MatchResult result (λ d. (d ≡ dot u.now v.now) × AllStay Stays width)
+        (IsFirstToLeave Stays width) }
+    ensures in_range { IfOk result InRange }
 {
-    steps.tick();
-    if both_narrow(s, t) && rows_narrow(u, v) {
-        narrow_combination(dst, u, s, v, t);
-        return Ok(());
+    let mut total = 0;
+    for j in 0..u.len() {
+        let Some(next) = add_product(total, u[j], v[j]) else {
+            return Err(j as u32);
+        };
+        total = next;
     }
-    check_combination(u, s, v, t)?;
-    write_combination(dst, u, s, v, t);
-    Ok(())
+    Ok(total)
+}
+
+/// The total and a product added, if the product and the sum are in the range.
+#[inline]
+fn add_product(total: i128, a: i128, b: i128) -> Option<i128>
+    ensures { SomeIff result (InRange (a *ℤ b) × InRange (total +ℤ a *ℤ b)) (total +ℤ a *ℤ b) }
+{
+    sum(total, product(a, b)?)
 }

@@ -20,79 +20,6 @@ use std::marker::Model;
 /// How many rows the first one makes room for where none was made before.
 const LEAST_ROWS: usize = 4;
 
-/// Where the cells of a row stand, and its mark.
-#[derive(Debug, Drop)]
-struct Span<M> {
-    start: usize,
-    end: usize,
-    mark: M,
-}
-
-impl<M: Copy> Clone for Span<M> {
-    ghost is_clone = { λ span copy. copy ≡ span };
-
-    fn clone(&self) -> Result<Span<M>, AllocError> {
-        Ok(Span {
-            start: self.start,
-            end: self.end,
-            mark: self.mark,
-        })
-    }
-}
-
-/// Lends the cells from one place to another.
-#[inline]
-fn part(cells: &[i128], start: usize, end: usize) -> &[i128]
-    requires { IsSpan (length cells.now) start end }
-    ensures value { result.now ≡ part start end cells.now }
-    ensures narrow { length result.now < 2 ^ 32 }
-{
-    &cells[start..end]
-}
-
-/// Makes room for one more row. After want of memory the cells are as before.
-fn make_room(cells: &mut Vec<i128>, width: usize) -> Result<(), AllocError>
-    requires { width < 2 ^ 32 }
-    ensures items { cells.new.items ≡ cells.old.items }
-    ensures len { vec_len cells.new ≡ vec_len cells.old }
-    ensures room { OnOk result (vec_len cells.new + width ≤ vec_capacity cells.new) }
-{
-    if cells.capacity() == 0 {
-        return cells.reserve(LEAST_ROWS * width);
-    }
-    cells.reserve(width)
-}
-
-/// Makes the cells from one place on primitive.
-fn make_rest_primitive(cells: &mut [i128], start: usize)
-    requires within { start ≤ length cells.old }
-    requires in_range { AllInRange (drop start cells.old) }
-    ensures { IsRestPrimitive start cells.old cells.new }
-{
-    make_primitive(&mut cells[start..]);
-}
-
-/// Appends a row, for which there is room.
-fn append_row(cells: &mut Vec<i128>, row: &[i128])
-    requires { vec_len cells.old + length row.now ≤ vec_capacity cells.old }
-    ensures items { cells.new.items ≡ cells.old.items ++ row.now }
-    ensures len { vec_len cells.new ≡ vec_len cells.old + length row.now }
-{
-    let _appended = cells.extend_from_slice(row);
-}
-
-/// Appends a row, made primitive, for which there is room.
-fn append_primitive(cells: &mut Vec<i128>, row: &[i128])
-    requires room { vec_len cells.old + length row.now ≤ vec_capacity cells.old }
-    requires in_range { AllInRange row.now }
-    ensures cells { IsPrimitiveAppended cells.old.items cells.new.items row.now }
-    ensures len { vec_len cells.new ≡ vec_len cells.old + length row.now }
-{
-    let start = cells.len();
-    append_row(cells, row);
-    make_rest_primitive(cells.as_mut_slice(), start);
-}
-
 /// Rows in order, each with a mark. Their cells stand in one buffer.
 #[derive(Debug, Drop)]
 pub struct MarkedRows<M> {
@@ -105,7 +32,8 @@ impl<M> Model for MarkedRows<M> {
 
     ghost view = { λ l. map (λ s. (part s.start s.end l.cells.items, s.mark)) l.spans.items };
 
-    ghost invariant = { λ l. All (λ s. IsSpan (length l.cells.items) s.start s.end) l.spans.items × AllInRange l.cells.items };
+    ghost invariant = { λ l. All (λ s. IsSpan (length l.cells.items) s.start s.end) l.spans.items
+        × AllInRange l.cells.items };
 }
 
 impl<M: Copy> MarkedRows<M> {
@@ -132,7 +60,8 @@ impl<M: Copy> MarkedRows<M> {
     /// Appends a row. The first one is taken over without a copy, if no room was made for it. After want
     /// of memory the list is as before, and the row is dropped.
     pub fn push(&mut self, row: RowBuf, mark: M) -> Result<(), Memory>
-        ensures { MatchResult result (λ _. self.new ≡ self.old ++ (row, mark) ∷ []) (λ _. self.new ≡ self.old) }
+        ensures { MatchResult result (λ _. self.new ≡ self.old ++ (row, mark) ∷ [])
+            (λ _. self.new ≡ self.old) }
     {
         if self.cells.capacity() > 0 || !self.spans.is_empty() {
             return self.push_copy(row.cells(), mark);
@@ -152,7 +81,8 @@ impl<M: Copy> MarkedRows<M> {
     pub fn push_copy(&mut self, row: &[i128], mark: M) -> Result<(), Memory>
         requires in_range { AllInRange row.now }
         requires narrow { length row.now < 2 ^ 32 }
-        ensures { MatchResult result (λ _. self.new ≡ self.old ++ (row.now, mark) ∷ []) (λ _. self.new ≡ self.old) }
+        ensures { MatchResult result (λ _. self.new ≡ self.old ++ (row.now, mark) ∷ [])
+            (λ _. self.new ≡ self.old) }
     {
         make_room(&mut self.cells, row.len())?;
         self.spans.reserve(1)?;
@@ -167,7 +97,8 @@ impl<M: Copy> MarkedRows<M> {
     pub fn push_primitive(&mut self, row: &[i128], mark: M) -> Result<(), Memory>
         requires in_range { AllInRange row.now }
         requires narrow { length row.now < 2 ^ 32 }
-        ensures { MatchResult result (λ _. GainsPrimitive self.old self.new row.now mark) (λ _. self.new ≡ self.old) }
+        ensures { MatchResult result (λ _. GainsPrimitive self.old self.new row.now mark)
+            (λ _. self.new ≡ self.old) }
     {
         make_room(&mut self.cells, row.len())?;
         self.spans.reserve(1)?;
@@ -276,7 +207,8 @@ impl<M: Eq> MarkedRows<M> {
     fn is_same_at(&self, other: &MarkedRows<M>, i: usize) -> bool
         requires left { i < length self.now }
         requires right { i < length other.now }
-        ensures { (d : List ℤ × M) → result ≡ is_same_marked M.eq (slice_index_or self.now i d) (slice_index_or other.now i d) }
+        ensures { (d : List ℤ × M) →
+            result ≡ is_same_marked M.eq (slice_index_or self.now i d) (slice_index_or other.now i d) }
     {
         let (left, right) = (&self.spans[i], &other.spans[i]);
         part(self.cells.as_slice(), left.start, left.end)
@@ -325,7 +257,8 @@ impl<'a, M> Model for Iter<'a, M> {
 impl<'a, M: Copy> Iterator for Iter<'a, M> {
     type Item = (&'a [i128], M);
 
-    ghost next_gives = { YieldsFirstBy (λ (x : Bor (List ℤ) × M). (x.0.now, x.1)) (λ (rest : List (List ℤ × M)). rest) };
+    ghost next_gives = { YieldsFirstBy (λ (x : Bor (List ℤ) × M). (x.0.now, x.1))
+        (λ (rest : List (List ℤ × M)). rest) };
 
     ghost remaining = { item_count (λ (rest : List (List ℤ × M)). rest) };
 
@@ -335,4 +268,77 @@ impl<'a, M: Copy> Iterator for Iter<'a, M> {
         self.rest = rest;
         Some((part(self.cells, first.start, first.end), first.mark))
     }
+}
+
+/// Where the cells of a row stand, and its mark.
+#[derive(Debug, Drop)]
+struct Span<M> {
+    start: usize,
+    end: usize,
+    mark: M,
+}
+
+impl<M: Copy> Clone for Span<M> {
+    ghost is_clone = { λ span copy. copy ≡ span };
+
+    fn clone(&self) -> Result<Span<M>, AllocError> {
+        Ok(Span {
+            start: self.start,
+            end: self.end,
+            mark: self.mark,
+        })
+    }
+}
+
+/// Lends the cells from one place to another.
+#[inline]
+fn part(cells: &[i128], start: usize, end: usize) -> &[i128]
+    requires { IsSpan (length cells.now) start end }
+    ensures value { result.now ≡ part start end cells.now }
+    ensures narrow { length result.now < 2 ^ 32 }
+{
+    &cells[start..end]
+}
+
+/// Makes room for one more row. After want of memory the cells are as before.
+fn make_room(cells: &mut Vec<i128>, width: usize) -> Result<(), AllocError>
+    requires { width < 2 ^ 32 }
+    ensures items { cells.new.items ≡ cells.old.items }
+    ensures len { vec_len cells.new ≡ vec_len cells.old }
+    ensures room { OnOk result (vec_len cells.new + width ≤ vec_capacity cells.new) }
+{
+    if cells.capacity() == 0 {
+        return cells.reserve(LEAST_ROWS * width);
+    }
+    cells.reserve(width)
+}
+
+/// Appends a row, made primitive, for which there is room.
+fn append_primitive(cells: &mut Vec<i128>, row: &[i128])
+    requires room { vec_len cells.old + length row.now ≤ vec_capacity cells.old }
+    requires in_range { AllInRange row.now }
+    ensures cells { IsPrimitiveAppended cells.old.items cells.new.items row.now }
+    ensures len { vec_len cells.new ≡ vec_len cells.old + length row.now }
+{
+    let start = cells.len();
+    append_row(cells, row);
+    make_rest_primitive(cells.as_mut_slice(), start);
+}
+
+/// Appends a row, for which there is room.
+fn append_row(cells: &mut Vec<i128>, row: &[i128])
+    requires { vec_len cells.old + length row.now ≤ vec_capacity cells.old }
+    ensures items { cells.new.items ≡ cells.old.items ++ row.now }
+    ensures len { vec_len cells.new ≡ vec_len cells.old + length row.now }
+{
+    let _appended = cells.extend_from_slice(row);
+}
+
+/// Makes the cells from one place on primitive.
+fn make_rest_primitive(cells: &mut [i128], start: usize)
+    requires within { start ≤ length cells.old }
+    requires in_range { AllInRange (drop start cells.old) }
+    ensures { IsRestPrimitive start cells.old cells.new }
+{
+    make_primitive(&mut cells[start..]);
 }

@@ -8,35 +8,6 @@ ghost use Rattle.row_core.specs.Narrow.{IsNarrow, AllNarrow};
 /// The greatest size of a narrow number.
 const LIMIT: i128 = 1 << 47;
 
-/// Whether the number is narrow.
-#[inline]
-fn is_narrow(x: i128) -> bool
-    ensures { IsTrue result ↔ IsNarrow x }
-{
-    -LIMIT <= x && x <= LIMIT
-}
-
-/// Whether two numbers are narrow.
-#[inline]
-pub(crate) fn both_narrow(x: i128, y: i128) -> bool
-    ensures { IsTrue result → IsNarrow x × IsNarrow y }
-{
-    is_narrow(x) && is_narrow(y)
-}
-
-/// Whether all entries of two rows are narrow.
-pub(crate) fn rows_narrow(u: &[i128], v: &[i128]) -> bool
-    requires { length u.now ≡ length v.now }
-    ensures { IsTrue result → AllNarrow u.now × AllNarrow v.now }
-{
-    for j in 0..u.len() {
-        if !both_narrow(u[j], v[j]) {
-            return false;
-        }
-    }
-    true
-}
-
 /// Whether all entries of a row are narrow, which is at most 2^47 in size.
 pub fn all_narrow(row: &[i128]) -> bool
     ensures { IsTrue result ↔ AllNarrow row.now }
@@ -47,17 +18,6 @@ pub fn all_narrow(row: &[i128]) -> bool
         }
     }
     true
-}
-
-/// The product of narrow numbers, by one multiplication of words.
-#[inline]
-pub(crate) fn narrow_product(x: i128, y: i128) -> i128
-    requires left { IsNarrow x }
-    requires right { IsNarrow y }
-    ensures value { result ≡ x *ℤ y }
-    ensures size { unsigned_abs result ≤ 2 ^ 94 }
-{
-    i128::from(x as i64) * i128::from(y as i64)
 }
 
 /// The dot product of narrow rows of one width, without tests.
@@ -78,18 +38,6 @@ pub fn narrow_dot(u: &[i128], v: &[i128]) -> i128
     total
 }
 
-/// `s * x + t * y` of narrow numbers.
-#[inline]
-pub(crate) fn narrow_combined(s: i128, x: i128, t: i128, y: i128) -> i128
-    requires factors { IsNarrow s × IsNarrow t }
-    requires left { IsNarrow x }
-    requires right { IsNarrow y }
-    ensures value { result ≡ s *ℤ x +ℤ t *ℤ y }
-    ensures in_range { InRange result }
-{
-    narrow_product(s, x) + narrow_product(t, y)
-}
-
 /// Writes `s * u + t * v` over `dst`, where all are narrow.
 pub(crate) fn narrow_combination(dst: &mut [i128], u: &[i128], s: i128, v: &[i128], t: i128)
     requires same_width { (length dst.old ≡ length u.now) × (length u.now ≡ length v.now) }
@@ -101,6 +49,58 @@ pub(crate) fn narrow_combination(dst: &mut [i128], u: &[i128], s: i128, v: &[i12
     ensures in_range { AllInRange dst.new }
 {
     for j in 0..dst.len() {
-        dst[j] = narrow_combined(s, u[j], t, v[j]);
+        dst[j] = narrow_combined_entry(s, u[j], t, v[j]);
     }
+}
+
+/// `s * x + t * y` of narrow numbers.
+#[inline]
+pub(crate) fn narrow_combined_entry(s: i128, x: i128, t: i128, y: i128) -> i128
+    requires factors { IsNarrow s × IsNarrow t }
+    requires left { IsNarrow x }
+    requires right { IsNarrow y }
+    ensures value { result ≡ s *ℤ x +ℤ t *ℤ y }
+    ensures in_range { InRange result }
+{
+    narrow_product(s, x) + narrow_product(t, y)
+}
+
+/// The product of narrow numbers, by one multiplication of words.
+#[inline]
+pub(crate) fn narrow_product(x: i128, y: i128) -> i128
+    requires left { IsNarrow x }
+    requires right { IsNarrow y }
+    ensures value { result ≡ x *ℤ y }
+    ensures size { unsigned_abs result ≤ 2 ^ 94 }
+{
+    i128::from(x as i64) * i128::from(y as i64)
+}
+
+/// Whether all entries of two rows are narrow.
+pub(crate) fn rows_narrow(u: &[i128], v: &[i128]) -> bool
+    requires { length u.now ≡ length v.now }
+    ensures { IsTrue result → AllNarrow u.now × AllNarrow v.now }
+{
+    for j in 0..u.len() {
+        if !both_narrow(u[j], v[j]) {
+            return false;
+        }
+    }
+    true
+}
+
+/// Whether two numbers are narrow.
+#[inline]
+pub(crate) fn both_narrow(x: i128, y: i128) -> bool
+    ensures { IsTrue result → IsNarrow x × IsNarrow y }
+{
+    is_narrow(x) && is_narrow(y)
+}
+
+/// Whether the number is narrow.
+#[inline]
+fn is_narrow(x: i128) -> bool
+    ensures { IsTrue result ↔ IsNarrow x }
+{
+    -LIMIT <= x && x <= LIMIT
 }

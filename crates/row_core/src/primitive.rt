@@ -1,5 +1,5 @@
 //! Greatest common divisors, and rows divided by that of their entries.
-ghost use Rattle.std.specs.Prelude.{◌≡◌, ℕ, ◌^◌, ◌<◌, length, pos, unsigned_abs, ◌<ℤ◌, ◌*ℤ◌};
+ghost use Rattle.std.specs.Prelude.{◌≡◌, ℕ, ◌^◌, ◌<◌, length, pos, unsigned_abs, ◌<ℤ◌, ◌*ℤ◌, IsTrue};
 ghost use Rattle.std.specs.Int.{IsGcd};
 ghost use Prim.Native.Nat.{◌∣◌};
 ghost use Rattle.row_core.specs.Vectors.{scale};
@@ -10,6 +10,82 @@ use crate::narrow::both_narrow;
 
 /// The greatest number of one word.
 const WORD: u128 = 0xffff_ffff_ffff_ffff;
+
+/// Divides the row by the greatest common divisor of its entries. It keeps all signs, and leaves an
+/// all-zero row.
+pub fn make_primitive(row: &mut [i128])
+    requires { AllInRange row.old }
+    ensures in_range { AllInRange row.new }
+    ensures width { length row.new ≡ length row.old }
+    ensures multiple { IsMultipleOf row.old row.new }
+    ensures primitive { IsPrimitive row.new }
+{
+    let divisor = content(row);
+    if divisor > 1 {
+        divide_all(row, divisor as i128);
+    }
+}
+
+/// The greatest common divisor, by Euclid's algorithm. That of 0 and 0 is 0.
+pub fn gcd(a: u128, b: u128) -> u128
+    ensures { IsGcd a b result }
+{
+    if a <= WORD && b <= WORD {
+        return u128::from(word_gcd(a as u64, b as u64));
+    }
+    wide_gcd(a, b)
+}
+
+/// The greatest common divisor of the entries, and 0 where all are 0.
+fn content(row: &[i128]) -> u128
+    requires { AllInRange row.now }
+    ensures divides { DividesAll result row.now }
+    ensures greatest { (d : ℕ) → DividesAll d row.now → d ∣ result }
+    ensures below { result < 2 ^ 127 }
+{
+    if has_unit(row) {
+        return 1;
+    }
+    let mut divisor = 0;
+    for j in 0..row.len() {
+        divisor = divisor_with(divisor, row[j].unsigned_abs());
+        if divisor == 1 {
+            return 1;
+        }
+    }
+    divisor
+}
+
+/// Whether some entry is 1 or -1, so that nothing but 1 divides each entry.
+fn has_unit(row: &[i128]) -> bool
+    ensures { IsTrue result → (d : ℕ) → DividesAll d row.now → d ∣ 1 }
+{
+    for j in 0..row.len() {
+        if is_unit(row[j]) {
+            return true;
+        }
+    }
+    false
+}
+
+/// Whether the number is 1 or -1.
+#[inline]
+fn is_unit(x: i128) -> bool
+    ensures { IsTrue result → unsigned_abs x ≡ 1 }
+{
+    x == 1 || x == -1
+}
+
+/// The greatest common divisor of that of the entries before and one entry more.
+#[inline]
+fn divisor_with(divisor: u128, entry: u128) -> u128
+    ensures { IsGcd divisor entry result }
+{
+    if entry == 0 {
+        return divisor;
+    }
+    gcd(entry, divisor)
+}
 
 /// The greatest common divisor of words, by Euclid's algorithm. That of 0 and 0 is 0.
 fn word_gcd(a: u64, b: u64) -> u64
@@ -39,42 +115,17 @@ fn wide_gcd(a: u128, b: u128) -> u128
     x
 }
 
-/// The greatest common divisor, by Euclid's algorithm. That of 0 and 0 is 0.
-pub fn gcd(a: u128, b: u128) -> u128
-    ensures { IsGcd a b result }
+/// Divides each entry.
+fn divide_all(row: &mut [i128], divisor: i128)
+    requires in_range { AllInRange row.old }
+    requires positive { pos 0 <ℤ divisor }
+    requires divides { DividesAll (unsigned_abs divisor) row.old }
+    ensures multiple { row.old ≡ scale divisor row.new }
+    ensures in_range { AllInRange row.new }
 {
-    if a <= WORD && b <= WORD {
-        return u128::from(word_gcd(a as u64, b as u64));
-    }
-    wide_gcd(a, b)
-}
-
-/// The greatest common divisor of that of the entries before and one entry more.
-#[inline]
-fn divisor_with(divisor: u128, entry: u128) -> u128
-    ensures { IsGcd divisor entry result }
-{
-    if entry == 0 {
-        return divisor;
-    }
-    gcd(entry, divisor)
-}
-
-/// The greatest common divisor of the entries, and 0 where all are 0.
-fn content(row: &[i128]) -> u128
-    requires { AllInRange row.now }
-    ensures divides { DividesAll result row.now }
-    ensures greatest { (d : ℕ) → DividesAll d row.now → d ∣ result }
-    ensures below { result < 2 ^ 127 }
-{
-    let mut divisor = 0;
     for j in 0..row.len() {
-        divisor = divisor_with(divisor, row[j].unsigned_abs());
-        if divisor == 1 {
-            return 1;
-        }
+        row[j] = quotient(row[j], divisor);
     }
-    divisor
 }
 
 /// An exact quotient.
@@ -90,32 +141,4 @@ fn quotient(x: i128, divisor: i128) -> i128
         return i128::from(x as i64 / divisor as i64);
     }
     x / divisor
-}
-
-/// Divides each entry.
-fn divide_all(row: &mut [i128], divisor: i128)
-    requires in_range { AllInRange row.old }
-    requires positive { pos 0 <ℤ divisor }
-    requires divides { DividesAll (unsigned_abs divisor) row.old }
-    ensures multiple { row.old ≡ scale divisor row.new }
-    ensures in_range { AllInRange row.new }
-{
-    for j in 0..row.len() {
-        row[j] = quotient(row[j], divisor);
-    }
-}
-
-/// Divides the row by the greatest common divisor of its entries. It keeps all signs, and leaves an
-/// all-zero row.
-pub fn make_primitive(row: &mut [i128])
-    requires { AllInRange row.old }
-    ensures in_range { AllInRange row.new }
-    ensures width { length row.new ≡ length row.old }
-    ensures multiple { IsMultipleOf row.old row.new }
-    ensures primitive { IsPrimitive row.new }
-{
-    let divisor = content(row);
-    if divisor > 1 {
-        divide_all(row, divisor as i128);
-    }
 }

@@ -4,14 +4,6 @@ ghost use Rattle.std.specs.Int.RustNames.{count_ones};
 ghost use Rattle.std.specs.List.{range_with_len, count_by};
 ghost use Rattle.sat_bits.specs.Places.{place};
 
-/// The number of bits of a word.
-#[inline]
-fn bits(word: u64) -> usize
-    ensures { result ≡ count_ones word }
-{
-    word.count_ones() as usize
-}
-
 /// The number of true places.
 #[inline]
 pub fn count(a: &[u64]) -> usize
@@ -44,4 +36,12 @@ pub fn count_and(a: &[u64], b: &[u64]) -> usize
         total += (a[word] & b[word]).count_ones() as usize;
     }
     total
+}
+
+/// The number of bits of a word.
+#[inline]
+fn bits(word: u64) -> usize
+    ensures { result ≡ count_ones word }
+{
+    word.count_ones() as usize
 }

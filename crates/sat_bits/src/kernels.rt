@@ -4,35 +4,6 @@ ghost use Rattle.sat_bits.specs.Places.{place, IsSubsetOfAnd, IsNoneMissing, Are
 
 use std::simd::u64x8;
 
-/// Writes over `dst`, from word `at` on, the conjunction of two blocks of words.
-#[inline]
-fn and_block(dst: &mut [u64], at: usize, a: &[u64; 8], b: &[u64; 8])
-    requires { at + 8 ≤ length dst.old }
-    ensures width { length dst.new ≡ length dst.old }
-    ensures inside { (k : ℕ) → k < 8 → slice_index_or dst.new (at + k) 0 ≡ bit_and (slice_index_or a.now k 0) (slice_index_or b.now k 0) }
-    ensures outside { (k : ℕ) → k < at → slice_index_or dst.new k 0 ≡ slice_index_or dst.old k 0 }
-{
-    let both = u64x8::from_array(*a) & u64x8::from_array(*b);
-    both.copy_to_slice(&mut dst[at..]);
-}
-
-/// Whether in a block the third words have each bit that the first and the second both have.
-#[inline]
-fn is_block_covered(a: &[u64; 8], b: &[u64; 8], c: &[u64; 8]) -> bool
-    ensures { IsTrue result ↔ AreNoneMissing a.now b.now c.now 8 }
-{
-    let missing = u64x8::from_array(*a) & u64x8::from_array(*b) & !u64x8::from_array(*c);
-    missing.reduce_or() == 0
-}
-
-/// Whether the third word has each bit that the first and the second both have.
-#[inline]
-fn is_word_covered(a: u64, b: u64, c: u64) -> bool
-    ensures { IsTrue result ↔ IsNoneMissing a b c }
-{
-    a & b & !c == 0
-}
-
 /// Writes the conjunction of two rows over `dst`.
 pub fn and_into(dst: &mut [u64], a: &[u64], b: &[u64])
     requires first { length a.now ≡ length dst.old }
@@ -48,21 +19,6 @@ pub fn and_into(dst: &mut [u64], a: &[u64], b: &[u64])
     for word in a_blocks.len() * 8..a.len() {
         dst[word] = a[word] & b[word];
     }
-}
-
-/// Whether each place that is true in both `a` and `b` is true in `c`, word by word.
-#[inline(always)]
-fn is_subset_by_words(a: &[u64], b: &[u64], c: &[u64]) -> bool
-    requires second { length b.now ≡ length a.now }
-    requires third { length c.now ≡ length a.now }
-    ensures { IsTrue result ↔ IsSubsetOfAnd a.now b.now c.now }
-{
-    for word in 0..a.len() {
-        if !is_word_covered(a[word], b[word], c[word]) {
-            return false;
-        }
-    }
-    true
 }
 
 /// Whether each place that is true in both `a` and `b` is true in `c`. Where the caller knows that rows have
@@ -90,4 +46,48 @@ pub fn is_subset_of_and(a: &[u64], b: &[u64], c: &[u64]) -> bool
         }
     }
     true
+}
+
+/// Whether each place that is true in both `a` and `b` is true in `c`, word by word.
+#[inline(always)]
+fn is_subset_by_words(a: &[u64], b: &[u64], c: &[u64]) -> bool
+    requires second { length b.now ≡ length a.now }
+    requires third { length c.now ≡ length a.now }
+    ensures { IsTrue result ↔ IsSubsetOfAnd a.now b.now c.now }
+{
+    for word in 0..a.len() {
+        if !is_word_covered(a[word], b[word], c[word]) {
+            return false;
+        }
+    }
+    true
+}
+
+/// Writes over `dst`, from word `at` on, the conjunction of two blocks of words.
+#[inline]
+fn and_block(dst: &mut [u64], at: usize, a: &[u64; 8], b: &[u64; 8])
+    requires { at + 8 ≤ length dst.old }
+    ensures width { length dst.new ≡ length dst.old }
+    ensures inside { (k : ℕ) → k < 8 → slice_index_or dst.new (at + k) 0 ≡ bit_and (slice_index_or a.now k 0) (slice_index_or b.now k 0) }
+    ensures outside { (k : ℕ) → k < at → slice_index_or dst.new k 0 ≡ slice_index_or dst.old k 0 }
+{
+    let both = u64x8::from_array(*a) & u64x8::from_array(*b);
+    both.copy_to_slice(&mut dst[at..]);
+}
+
+/// Whether in a block the third words have each bit that the first and the second both have.
+#[inline]
+fn is_block_covered(a: &[u64; 8], b: &[u64; 8], c: &[u64; 8]) -> bool
+    ensures { IsTrue result ↔ AreNoneMissing a.now b.now c.now 8 }
+{
+    let missing = u64x8::from_array(*a) & u64x8::from_array(*b) & !u64x8::from_array(*c);
+    missing.reduce_or() == 0
+}
+
+/// Whether the third word has each bit that the first and the second both have.
+#[inline]
+fn is_word_covered(a: u64, b: u64, c: u64) -> bool
+    ensures { IsTrue result ↔ IsNoneMissing a b c }
+{
+    a & b & !c == 0
 }

@@ -3,7 +3,7 @@ use Rattle.std.specs.Int.{w128}
 use Rattle.std.proofs.Common.{refl}
 use Rattle.std.proofs.lemmas.Int.{to_z-of_z, fits_signed_from_abs}
 use mir.Val.{SFits}
-use Rattle.row_core.proofs.linear.combined.Goals as goal
+use Rattle.row_core.proofs.linear.combined_entry.Goals as goal
 
 pub overflow_add-result : goal.overflow_add-result
 overflow_add-result c =

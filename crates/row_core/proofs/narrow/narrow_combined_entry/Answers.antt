@@ -5,7 +5,7 @@ use Rattle.std.proofs.lemmas.Int.{to_z-of_z, fits_signed_from_abs}
 use mir.Val.{SFits}
 use Rattle.row_core.specs.Range.{ColumnStays}
 use Rattle.row_core.proofs.NarrowLemmas.{ColumnStays-narrow}
-use Rattle.row_core.proofs.narrow.narrow_combined.Goals as goal
+use Rattle.row_core.proofs.narrow.narrow_combined_entry.Goals as goal
 
 stays : (c : goal.After-narrow_product-2) → ColumnStays c.args.s c.args.x c.args.t c.args.y
 stays c = ColumnStays-narrow c.args.s c.args.x c.args.t c.args.y c.requires.factors.0 c.requires.left c.requires.factors.1 c.requires.right
