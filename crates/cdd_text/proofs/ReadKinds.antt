@@ -11,8 +11,8 @@ use Rattle.cons_sys.specs.declared.kind.ConKind.TheVariants.{Eq, Ge, Gt}
 use Rattle.gens_sys.specs.Generators.{Generator, Generators}
 use Rattle.gens_sys.specs.declared.kind.GenKind.{GenKind}
 use Rattle.gens_sys.specs.declared.kind.GenKind.TheVariants.{Point, ClosurePoint}
-use Rattle.cdd_text.specs.Tokens.{has_some}
-use Rattle.cdd_text.specs.Files.{IsRowOf, IsVectorOf, IsKind, IsIneFile, IsExtFile, is_point, origin}
+use Rattle.cdd_reading.specs.Tokens.{has_some}
+use Rattle.cdd_reading.specs.Files.{IsRowOf, IsVectorOf, IsKind, IsIneFile, IsExtFile, is_point, origin}
 use Rattle.cdd_text.specs.Written.{HasNoStrict, HasNoClosurePoint}
 
 never_strict : (m : Bool) (k : ConKind) → k ≡ (if m then Eq else Ge) → k ≢ Gt

@@ -7,10 +7,11 @@ use Rattle.std.proofs.lemmas.Bool.{cond-false, cond-true, cases_lt}
 use Rattle.std.proofs.lemmas.List.{get_or_past, map-append}
 use Rattle.std.proofs.lemmas.List.Splits.{slice_split_none, slice_split_at, length-slice_split}
 use Rattle.std.proofs.lemmas.List.Elements.{All-nil, All-cons, All-head, All-tail, All-append, All-get_or, All-weaker}
-use Rattle.cdd_text.specs.Tokens.{is_gap, has_some, tokens, texts, numbered, Token}
+use Rattle.cdd_reading.specs.Tokens.{is_gap, has_some, tokens, texts, numbered, Token}
 use Rattle.cdd_text.specs.Written.{line_of}
-use Rattle.cdd_text.proofs.BodyLaws.{and-left, and-right}
-use Rattle.cdd_text.proofs.LineCuts.{is_feed, lines_of_parts-cons}
+use Rattle.cdd_reading.proofs.BodyLaws.{and-left, and-right}
+use Rattle.plain_text.proofs.LineCuts.{lines_of_parts-cons}
+use Rattle.plain_text.specs.Lines.{is_feed}
 use Rattle.cdd_text.proofs.WrittenNumbers.{is_inner, is_plain}
 
 not_true : (p : Bool) → not p ≡ true → p ≡ false

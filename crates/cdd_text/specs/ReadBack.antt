@@ -5,11 +5,11 @@ use Rattle.cons_sys.specs.Constraints.{Constraints}
 use Rattle.cons_sys.specs.Constraints as cons
 use Rattle.gens_sys.specs.Generators.{Generators}
 use Rattle.gens_sys.specs.Generators as gens
-use Rattle.cdd_text.specs.Files.{IsIneFile, IsExtFile, is_point}
-use Rattle.cdd_text.specs.Refusals.{tests, NoneOf}
+use Rattle.cdd_reading.specs.Files.{IsIneFile, IsExtFile, is_point}
+use Rattle.cdd_reading.specs.Refusals.{tests, NoneOf}
 use Rattle.cdd_text.specs.Written.{ine_text, ext_text, is_equality_constraint, is_line_generator, HasNoStrict, HasNoClosurePoint}
-use Rattle.cdd_text.specs.declared.format.Format.TheVariants.{Ine, Ext}
-use Rattle.cdd_text.specs.declared.table.TheConstants.{MAX_WIDTH}
+use Rattle.cdd_reading.specs.declared.format.Format.TheVariants.{Ine, Ext}
+use Rattle.cdd_reading.specs.declared.table.TheConstants.{MAX_WIDTH}
 
 -- what is written of constraints without a strict one, of a dimension within the limit and fewer than 2^64, holds them; where at most as many as a file may have columns are equalities, as in a stored polyhedron, it passes all tests
 abbrev pub ConstraintsAreReadBack : Type 0

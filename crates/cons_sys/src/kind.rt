@@ -1,6 +1,6 @@
 //! What a constraint asks of the value of its row.
-ghost use Rattle.std.specs.Prelude.{◌↔◌, IsTrue};
-ghost use Rattle.cons_sys.specs.Kinds.{Allows};
+ghost use Rattle.std.specs.Prelude.{◌≡◌, ◌↔◌, IsTrue};
+ghost use Rattle.cons_sys.specs.Kinds.{Allows, is_equality};
 
 /// What a constraint asks of the value of its row.
 #[derive(Clone, Copy, Debug, PartialEq, Eq)]
@@ -23,6 +23,17 @@ impl ConKind {
             ConKind::Eq => value == 0,
             ConKind::Ge => value >= 0,
             ConKind::Gt => value > 0,
+        }
+    }
+
+    /// Whether a constraint of this kind is an equality.
+    #[inline]
+    pub fn is_equality(self) -> bool
+        ensures { result ≡ is_equality self }
+    {
+        match self {
+            ConKind::Eq => true,
+            ConKind::Ge | ConKind::Gt => false,
         }
     }
 }

@@ -11,18 +11,18 @@ use Rattle.gens_sys.specs.Generators.{Generator, Generators}
 use Rattle.gens_sys.specs.declared.kind.GenKind.{GenKind}
 use Rattle.gens_sys.specs.declared.kind.GenKind.TheVariants.{Line, Ray, Point, ClosurePoint}
 use Rattle.reply_text.specs.declared.faults.Fault.TheVariants as fault
-use Rattle.cdd_text.specs.Tokens.{has_some}
-use Rattle.cdd_text.specs.Files.{IsIneFile, IsExtFile, is_point, origin}
-use Rattle.cdd_text.specs.Refusals.{tests, NoneOf}
+use Rattle.cdd_reading.specs.Tokens.{has_some}
+use Rattle.cdd_reading.specs.Files.{IsIneFile, IsExtFile, is_point, origin}
+use Rattle.cdd_reading.specs.Refusals.{tests, NoneOf}
 use Rattle.cdd_text.specs.Written.{HasNoStrict, HasNoClosurePoint}
-use Rattle.cdd_text.specs.declared.format.Format.TheVariants.{Ine, Ext}
+use Rattle.cdd_reading.specs.declared.format.Format.TheVariants.{Ine, Ext}
 use Rattle.cdd_text.proofs.ReadKinds.{ine_without_strict, ext_without_closure_points}
 use Rattle.pair_laws.specs.PointSets.{IsClosedKind, AreClosed, IsClosedGenKind, IsClosedGen, AreClosedGens}
 use Rattle.poly_pair.specs.FirstLists.{HasNoPointKind, LacksPoint}
 use Rattle.file_poly.specs.Files.{IsFit}
 use Rattle.file_poly.specs.declared.listed.Listed.TheVariants.{Cons, Gens}
 use Rattle.poly_pair.specs.declared.topology.TheConstants.{MAX_DIM}
-use Rattle.cdd_text.specs.declared.table.TheConstants.{MAX_WIDTH}
+use Rattle.cdd_reading.specs.declared.table.TheConstants.{MAX_WIDTH}
 
 -- ---- kinds
 closed_kind : (k : ConKind) → k ≢ Gt → IsClosedKind k

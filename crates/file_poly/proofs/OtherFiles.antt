@@ -6,7 +6,7 @@ use Rattle.gens_sys.specs.Generators as gens
 use Rattle.gens_sys.specs.Generators.{Generators}
 use Rattle.cdd_text.specs.ReadBack.{ConstraintsAreReadBack, GeneratorsAreReadBack}
 use Rattle.cdd_text.specs.Written.{ine_text, ext_text, HasNoStrict, HasNoClosurePoint}
-use Rattle.cdd_text.specs.declared.format.Format.TheVariants.{Ine, Ext}
+use Rattle.cdd_reading.specs.declared.format.Format.TheVariants.{Ine, Ext}
 use Rattle.row_core.specs.declared.errors.ConvErr.{ConvErr}
 use Rattle.row_core.specs.declared.errors.ConvErr.TheVariants as conversion
 use Rattle.chernikova.specs.Conversion.{IsRealOverflow}

@@ -9,10 +9,10 @@ use Rattle.gens_sys.specs.Generators.{Generator}
 use Rattle.gens_sys.specs.Spans.{Span}
 use Rattle.row_core.specs.Points.{IsPoint}
 use Rattle.gens_sys.specs.declared.kind.GenKind.TheVariants.{Line, Ray, Point, ClosurePoint}
-use Rattle.cdd_text.specs.Files.{is_point}
+use Rattle.cdd_reading.specs.Files.{is_point}
 use Rattle.cdd_text.specs.ReadBack.{ConstraintsAreReadBack, GeneratorsAreReadBack}
 use Rattle.cdd_text.specs.Written.{ine_text, ext_text}
-use Rattle.cdd_text.specs.declared.format.Format.TheVariants.{Ine, Ext}
+use Rattle.cdd_reading.specs.declared.format.Format.TheVariants.{Ine, Ext}
 use Rattle.pair_laws.specs.PointSets.{IsWithin}
 use Rattle.pair_laws.specs.StoredLaws.{StoredIsClosed, AreClosedForms}
 use Rattle.poly_pair.specs.FirstLists.{HasNoPointKind}

@@ -11,7 +11,7 @@ mod listed;
 mod reading;
 mod writing;
 
-pub use cdd_text::Format;
+pub use cdd_reading::Format;
 pub use listed::Listed;
 pub use reading::read_file;
 pub use writing::write_file;

@@ -1,10 +1,10 @@
 //! Reading a file.
 ghost use Rattle.std.specs.Prelude.{IfOk, MatchResult};
-ghost use Rattle.cdd_text.specs.Refusals.{tests, NoneOf, IsRefusal};
+ghost use Rattle.cdd_reading.specs.Refusals.{tests, NoneOf, IsRefusal};
 ghost use Rattle.file_poly.specs.Files.{IsFit, IsListOf};
 
 use crate::listed::Listed;
-use cdd_text::{Format, read_ext, read_ine};
+use cdd_reading::{Format, read_ext, read_ine};
 use reply_text::ReadErr;
 use std::alloc::Global;
 

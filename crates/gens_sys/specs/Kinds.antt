@@ -29,3 +29,10 @@ is_line Line = true
 is_line Ray = false
 is_line Point = false
 is_line ClosurePoint = false
+
+-- whether a generator of the kind is a point of the set
+abbrev pub is_point : GenKind → Bool
+is_point Point = true
+is_point Line = false
+is_point Ray = false
+is_point ClosurePoint = false

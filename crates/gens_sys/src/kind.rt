@@ -1,7 +1,7 @@
 //! Kinds of generators, and refusals of vectors.
 ghost use Rattle.std.specs.Prelude.{◌≡◌, ℕ, ◌+◌, ◌<◌, ◌↔◌, length, IsTrue};
 ghost use Rattle.row_core.specs.Vectors.{cell};
-ghost use Rattle.gens_sys.specs.Kinds.{HasBadDivisor, IsZeroDirection};
+ghost use Rattle.gens_sys.specs.Kinds.{HasBadDivisor, IsZeroDirection, is_line, is_point};
 ghost use Rattle.gens_sys.specs.declared.kind.GenPushErr.TheVariants;
 
 use row_core::Memory;
@@ -39,6 +39,28 @@ impl GenKind {
         match self {
             GenKind::Line | GenKind::Ray => row.iter().all(|entry| *entry == 0),
             GenKind::Point | GenKind::ClosurePoint => false,
+        }
+    }
+
+    /// Whether a generator of this kind is a line.
+    #[inline]
+    pub fn is_line(self) -> bool
+        ensures { result ≡ is_line self }
+    {
+        match self {
+            GenKind::Line => true,
+            GenKind::Ray | GenKind::Point | GenKind::ClosurePoint => false,
+        }
+    }
+
+    /// Whether a generator of this kind is a point of the set.
+    #[inline]
+    pub fn is_point(self) -> bool
+        ensures { result ≡ is_point self }
+    {
+        match self {
+            GenKind::Point => true,
+            GenKind::Line | GenKind::Ray | GenKind::ClosurePoint => false,
         }
     }
 }

@@ -5,8 +5,8 @@ use Rattle.reply_text.specs.declared.faults.ReadErr.{ReadErr}
 use Rattle.reply_text.specs.declared.faults.ReadErr.TheVariants as unread
 use Rattle.row_core.specs.declared.errors.ConvErr.{ConvErr}
 use Rattle.row_core.specs.declared.errors.ConvErr.TheVariants as conversion
-use Rattle.cdd_text.specs.Refusals.{tests, IsFirstOf, NoneOf, IsRefusal}
-use Rattle.cdd_text.proofs.Stages.{first_longer, first_behind, none_both}
+use Rattle.cdd_reading.specs.Refusals.{tests, IsFirstOf, NoneOf, IsRefusal}
+use Rattle.cdd_reading.proofs.Stages.{first_longer, first_behind, none_both}
 use Rattle.file_poly.specs.Files.{IsListOf, IsOverflowOnList}
 use Rattle.file_poly.specs.declared.listed.Listed.{Listed}
 use Rattle.line_values.specs.Refusals.{refusal_of_reading, refusal_of_conversion}

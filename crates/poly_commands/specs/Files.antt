@@ -2,8 +2,8 @@
 use Rattle.std.specs.Prelude.{◌≡◌, ◌≢◌, ℕ, List, Bool, false, true}
 use Rattle.reply_text.specs.declared.faults.Fault.TheVariants as fault
 use Rattle.cdd_text.specs.Written.{ine_text, ext_text}
-use Rattle.cdd_text.specs.declared.format.Format.{Format}
-use Rattle.cdd_text.specs.declared.format.Format.TheVariants.{Ine, Ext}
+use Rattle.cdd_reading.specs.declared.format.Format.{Format}
+use Rattle.cdd_reading.specs.declared.format.Format.TheVariants.{Ine, Ext}
 use Rattle.poly_pair.specs.Polyhedra.{Polyhedron}
 use Rattle.poly_pair.specs.declared.topology.Topology.TheVariants.{Closed}
 use Rattle.line_values.specs.Order.{Conditions}

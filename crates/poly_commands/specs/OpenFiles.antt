@@ -1,7 +1,7 @@
 -- Files that are being read, and what comes of a whole one.
 use Rattle.std.specs.Prelude.{◌≡◌, ℕ, List, [], ◌∷◌, ◌++◌, take, Bool, IsTrue, Result, Ok, Err}
 use Rattle.reply_text.specs.declared.faults.Fault.TheVariants as fault
-use Rattle.cdd_text.specs.Refusals.{Test, tests, IsFirstOf, NoneOf}
+use Rattle.cdd_reading.specs.Refusals.{Test, tests, IsFirstOf, NoneOf}
 use Rattle.poly_pair.specs.Polyhedra.{Polyhedron}
 use Rattle.file_poly.specs.Files.{IsOfFile, LeavesOnFile}
 use Rattle.line_values.specs.declared.refusal.StepErr.{StepErr}

@@ -1,6 +1,6 @@
 //! A file that is being read.
 ghost use Rattle.std.specs.Prelude.{◌≡◌, ◌<◌, ◌++◌, ◌∷◌, [], take, IfOk, OnOk, OnErr, MatchResult};
-ghost use Rattle.cdd_text.specs.Refusals.{tests, NoneOf, IsRefusal};
+ghost use Rattle.cdd_reading.specs.Refusals.{tests, NoneOf, IsRefusal};
 ghost use Rattle.file_poly.specs.Files.{IsFit, IsListOf};
 ghost use Rattle.poly_commands.specs.Files.{format_of as named_format};
 ghost use Rattle.poly_commands.specs.OpenFiles.{with_line, IsFileRead};

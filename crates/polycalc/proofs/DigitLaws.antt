@@ -1,7 +1,7 @@
 -- The number that digits spell, by one digit after another.
 use Rattle.std.proofs.Common.{◌≡◌, ℕ, ◌+◌, ◌-◌, ◌*◌, ◌^◌, ◌<◌, List, [], ◌∷◌, ◌++◌, length, get_or, min, take, refl, ap, sym, ◌∙◌, arith}
 use Rattle.std.proofs.lemmas.List.{take_more}
-use Rattle.term_text.specs.Numbers.{number_after}
+use Rattle.plain_text.specs.Digits.{number_after}
 
 number_after-push : (n : ℕ) (ds : List ℕ) (b : ℕ) → number_after n (ds ++ b ∷ []) ≡ 10 * number_after n ds + (b - 48)
 number_after-push n [] b = refl

@@ -4,10 +4,10 @@ use Rattle.std.specs.Prelude.{Option, None, Some, ◌↔◌, if◌then◌else◌
 use Rattle.std.proofs.lemmas.List.{append-nil}
 use Rattle.std.specs.Str.Lines.{lines}
 use Rattle.std.specs.Io.KnownBytes.{prepend_known, IsAtEnd}
-use Rattle.cdd_text.specs.declared.format.Format.TheVariants.{Ine, Ext}
+use Rattle.cdd_reading.specs.declared.format.Format.TheVariants.{Ine, Ext}
 use Rattle.calc_state.specs.State.{closed}
-use Rattle.cdd_text.specs.Tokens.{number}
-use Rattle.cdd_text.specs.declared.format.Format.{Format}
+use Rattle.plain_text.specs.Digits.{number}
+use Rattle.cdd_reading.specs.declared.format.Format.{Format}
 use Rattle.polycalc.specs.Words.{IsAskedBy, SpellsSize}
 use Rattle.calc_state.specs.Runs.{RunsAreComplete}
 use Rattle.polycalc.specs.Outcomes.{Completes, Converts, Samples, IsReadOut, Finishes, WritesFront, AnswersRead, AnswersFront, Outcome, Ends, Stops, IsRunAnswered, IsFileAnswered, IsSampleAnswered, IsAnswered}

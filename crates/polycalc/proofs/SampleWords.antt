@@ -2,7 +2,7 @@
 use Rattle.std.proofs.Common.{◌≡◌, ℕ, List, [], ◌∷◌, length, ap, sym, ◌∙◌, subst, arith, Bool, true, false}
 use Rattle.std.specs.Prelude.{Option, None, Some, MatchOption, IsTrue, ◌↔◌, slice_index_or, codes}
 use Rattle.std.specs.Bool.{Decides}
-use Rattle.cdd_text.specs.declared.format.Format.TheVariants.{Ine, Ext}
+use Rattle.cdd_reading.specs.declared.format.Format.TheVariants.{Ine, Ext}
 use Rattle.polycalc.specs.Words.{SpellsSize, IsAskedBy}
 use Rattle.polycalc.specs.declared.job.Job.{Job}
 use Rattle.polycalc.specs.declared.job.Job.TheVariants as job

@@ -2,7 +2,7 @@
 use Rattle.std.proofs.Common.{◌≡◌, ℕ, ◌^◌, ◌≤◌, List, [], length, refl, subst, inr, arith}
 use Rattle.std.specs.Prelude.{Option}
 use Rattle.std.specs.Io.KnownBytes.{IsAtEnd}
-use Rattle.cdd_text.specs.declared.format.Format.{Format}
+use Rattle.cdd_reading.specs.declared.format.Format.{Format}
 use Rattle.calc_state.specs.Step.{Reply}
 use Rattle.polycalc.specs.Replies.{Written, written, with_reply}
 use Rattle.polycalc.specs.Conversions.{ConvertsTo}

@@ -3,7 +3,7 @@ use Rattle.std.specs.Io.KnownBytes.{append_known, prepend_known, IsAtEnd}
 use Rattle.std.specs.Str.Lines.{lines}
 use Rattle.calc_state.specs.State.{State, closed}
 use Rattle.calc_state.specs.Step.{Reply}
-use Rattle.cdd_text.specs.declared.format.Format.{Format}
+use Rattle.cdd_reading.specs.declared.format.Format.{Format}
 use Rattle.polycalc.specs.Words.{IsAskedBy}
 use Rattle.polycalc.specs.Replies.{reply_bytes, replies_bytes, is_clean}
 use Rattle.polycalc.specs.Conversions.{ConvertsTo, MustConvert}

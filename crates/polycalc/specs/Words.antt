@@ -1,6 +1,6 @@
 use Rattle.std.specs.Prelude.{◌≡◌, ℕ, ◌≤◌, List, [], ◌∷◌, length, true, codes}
-use Rattle.cdd_text.specs.Tokens.{is_nat, number}
-use Rattle.cdd_text.specs.declared.format.Format.TheVariants.{Ine, Ext}
+use Rattle.plain_text.specs.Digits.{is_nat, number}
+use Rattle.cdd_reading.specs.declared.format.Format.TheVariants.{Ine, Ext}
 use Rattle.polycalc.specs.declared.job.Job.{Job}
 use Rattle.polycalc.specs.declared.job.Job.TheVariants.{Run, Convert, Sample}
 

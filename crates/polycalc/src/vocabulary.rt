@@ -1,6 +1,6 @@
 //! The words of a command line.
 ghost use Rattle.std.specs.Prelude.{◌≡◌, ℕ, ◌-◌, ◌^◌, ◌<◌, ◌==◌, ◌↔◌, min, List, [], ◌∷◌, ◌++◌, length, slice_index_or, IsTrue, OnOk, OnErr, MatchOption};
-ghost use Rattle.cdd_text.specs.Tokens.{is_nat, number};
+ghost use Rattle.plain_text.specs.Digits.{is_nat, number};
 ghost use Rattle.polycalc.specs.Words.{IsAskedBy, SpellsSize};
 ghost use Rattle.polycalc.specs.declared.job.Job.{Job};
 ghost use Rattle.polycalc.specs.declared.job.Job.TheVariants.{Sample};

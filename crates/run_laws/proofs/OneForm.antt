@@ -10,7 +10,7 @@ use Rattle.expr_text.specs.OneAnswer.{ConsHasOneAnswer, GensHasOneAnswer, FracHa
 use Rattle.widening.specs.WideningLaws.{OneWidening}
 use Rattle.fixpoint.specs.RunLaws.{HasOneLimit}
 use Rattle.hybrid.specs.Reaches.{HasOneReach}
-use Rattle.cdd_text.specs.OneAnswer.{HasOneIne, HasOneExt}
+use Rattle.cdd_reading.specs.OneAnswer.{HasOneIne, HasOneExt}
 use Rattle.pair_laws.specs.PointSets.{HoldSame}
 use Rattle.pair_laws.specs.StoredLaws.{StoredIsUnique, AreSameSystems}
 use Rattle.nnc_enc.specs.EncodedGenerators.{HasPoint}

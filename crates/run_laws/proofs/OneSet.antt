@@ -12,8 +12,8 @@ use Rattle.set_laws.specs.JoinedSets.{GenerateSame}
 use Rattle.poly_pair.specs.Polyhedra.{Polyhedron, IsOver, IsOfConstraints, IsOfGenerators, IsUniverse, IsEmpty}
 use Rattle.poly_pair.specs.declared.topology.Topology.{Topology}
 use Rattle.poly_pair.specs.declared.topology.Topology.TheVariants.{Closed}
-use Rattle.cdd_text.specs.declared.format.Format.{Format}
-use Rattle.cdd_text.specs.declared.format.Format.TheVariants.{Ine, Ext}
+use Rattle.cdd_reading.specs.declared.format.Format.{Format}
+use Rattle.cdd_reading.specs.declared.format.Format.TheVariants.{Ine, Ext}
 use Rattle.file_poly.specs.Files.{IsListOf, IsOfList, IsOfFile}
 use Rattle.file_poly.specs.declared.listed.Listed.{Listed}
 use Rattle.file_poly.specs.declared.listed.Listed.TheVariants as listed

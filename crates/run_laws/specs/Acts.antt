@@ -1,6 +1,6 @@
 -- What a run accepts.
 use Rattle.std.specs.Prelude.{◌≡◌, ◌⊎◌, ℕ, List, [], ◌∷◌, map, Option, None, Some}
-use Rattle.cdd_text.specs.Files.{IsEnd}
+use Rattle.cdd_reading.specs.Files.{IsEnd}
 use Rattle.script_text.specs.Line.{Spells}
 use Rattle.script_text.specs.declared.command.Command.{Command}
 use Rattle.poly_commands.specs.OpenFiles.{OpenFile, with_line}

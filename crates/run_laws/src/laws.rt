@@ -31,7 +31,7 @@ pub fn sets_are_as_commanded()
 {
     names_stay_distinct();
     one_answer();
-    cdd_text::one_answer();
+    cdd_reading::one_answer();
     stored_is_unique();
     kept_is_pair();
     kept_is_empty();
@@ -72,7 +72,7 @@ pub fn accepted_decide()
     names_stay_distinct();
     one_command();
     one_answer();
-    cdd_text::one_answer();
+    cdd_reading::one_answer();
     constraints_are_read_back();
     generators_are_read_back();
     stored_is_unique();

@@ -1,9 +1,6 @@
+-- Sizes and variables, with a cap.
 use Rattle.std.specs.Prelude.{ℕ, ◌+◌, ◌-◌, ◌*◌, ◌^◌, List, [], ◌∷◌, min}
-
--- the number that the digits of n and then these spell
-abbrev pub number_after : ℕ → List ℕ → ℕ
-number_after n [] = n
-number_after n (b ∷ bs) = number_after (10 * n + (b - 48)) bs
+pub use Rattle.plain_text.specs.Digits.{number_after}
 
 -- the number that digits spell; 2^127 stands for all greater ones too
 abbrev pub size_of : List ℕ → ℕ

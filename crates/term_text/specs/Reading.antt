@@ -9,11 +9,8 @@ use Rattle.term_text.specs.declared.scan.Place.{Place}
 use Rattle.term_text.specs.declared.scan.Place.TheVariants.{Left, Right, Divisor}
 use Rattle.term_text.specs.declared.scan.State.{State}
 use Rattle.std.specs.List.{slice_split}
+pub use Rattle.plain_text.specs.Digits.{is_digit, next_number}
 use Rattle.term_text.specs.Values.{Comparison, Ratio, never}
-
--- the number with one more digit, where the greatest stands for all greater ones too
-abbrev pub next_number : ℕ → ℕ → ℕ → ℕ
-next_number most n digit = min (10 * n + digit) most
 
 -- the term so far and one more digit
 abbrev pub with_digit : Part → ℕ → Part
@@ -36,9 +33,6 @@ with_equals (Right AtMost) = Right Equal
 with_equals (Right Above) = Right AtLeast
 with_equals (Right Below) = Right AtMost
 with_equals Divisor = Right Equal
-
-abbrev pub is_digit : ℕ → Bool
-is_digit b = nat_le 48 b && nat_le b 57
 
 abbrev pub is_upper : ℕ → Bool
 is_upper b = nat_le 65 b && nat_le b 90

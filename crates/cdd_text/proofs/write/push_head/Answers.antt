@@ -1,6 +1,6 @@
 use Rattle.std.proofs.Common.{◌≡◌, ◌+◌, ◌++◌, ◌∷◌, [], length, ◌∙◌, ap, rules}
 use Rattle.std.specs.Prelude.{decimal, codes}
-use Rattle.cdd_text.specs.Bodies.{type_word}
+use Rattle.cdd_reading.specs.Bodies.{type_word}
 use Rattle.cdd_text.specs.Written.{linearity_text}
 use Rattle.cdd_text.proofs.WrittenLaws.{head_written}
 use Rattle.cdd_text.proofs.write.push_head.Goals as goal

@@ -1,5 +1,5 @@
 use Rattle.std.proofs.Common.{◌∙◌, eq-eqb, rules}
-use Rattle.cdd_text.proofs.MarkLaws.{not_same}
+use Rattle.cdd_reading.proofs.MarkLaws.{not_same}
 use Rattle.cdd_text.proofs.WrittenLaws.{no_linearity, linearity_starts, count_marked}
 use Rattle.cdd_text.proofs.write.push_linearity.Goals as goal
 

@@ -3,7 +3,7 @@ use Rattle.std.specs.Prelude.{IfOk}
 use Rattle.cons_sys.specs.Constraints as cons
 use Rattle.cons_sys.specs.Constraints.{Constraints}
 use Rattle.cdd_text.specs.Written.{ine_text, HasNoStrict}
-use Rattle.cdd_text.specs.declared.format.Format.TheVariants.{Ine}
+use Rattle.cdd_reading.specs.declared.format.Format.TheVariants.{Ine}
 use Rattle.file_poly.specs.Files.{IsOfFile}
 use Rattle.file_poly.proofs.FileKinds.{written_constraints}
 use Rattle.file_poly.proofs.WrittenPolyhedra.{closed_forms, constraints_of_points, at_text}

@@ -3,7 +3,7 @@ use Rattle.std.specs.Prelude.{IfOk}
 use Rattle.gens_sys.specs.Generators as gens
 use Rattle.gens_sys.specs.Generators.{Generators}
 use Rattle.cdd_text.specs.Written.{ext_text, HasNoClosurePoint}
-use Rattle.cdd_text.specs.declared.format.Format.TheVariants.{Ext}
+use Rattle.cdd_reading.specs.declared.format.Format.TheVariants.{Ext}
 use Rattle.file_poly.specs.Files.{IsOfFile}
 use Rattle.file_poly.proofs.FileKinds.{written_generators}
 use Rattle.file_poly.proofs.WrittenPolyhedra.{closed_forms, generators_of_points, at_text}

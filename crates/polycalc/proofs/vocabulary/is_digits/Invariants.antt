@@ -1,6 +1,6 @@
 use Rattle.std.proofs.Common.{◌≡◌, take, true}
 use Rattle.std.specs.List.{list_all}
-use Rattle.term_text.specs.Reading.{is_digit}
+use Rattle.plain_text.specs.Digits.{is_digit}
 use Rattle.polycalc.proofs.vocabulary.is_digits.Given as goal
 
 abbrev pub invariant-loop-byte : goal.invariant-loop-byte

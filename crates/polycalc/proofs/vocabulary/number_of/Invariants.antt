@@ -1,5 +1,5 @@
 use Rattle.std.proofs.Common.{◌≡◌, ◌-◌, ◌^◌, min, take}
-use Rattle.term_text.specs.Numbers.{number_after}
+use Rattle.plain_text.specs.Digits.{number_after}
 use Rattle.polycalc.proofs.vocabulary.number_of.Given as goal
 
 abbrev pub invariant-loop-byte : goal.invariant-loop-byte

@@ -1,7 +1,7 @@
 use Rattle.std.proofs.Common.{◌≡◌, ℕ, List, ap, ◌∙◌, subst}
 use Rattle.std.specs.Prelude.{MatchResult}
-use Rattle.cdd_text.specs.Refusals.{tests, NoneOf, IsRefusal}
-use Rattle.cdd_text.specs.declared.format.Format.{Format}
+use Rattle.cdd_reading.specs.Refusals.{tests, NoneOf, IsRefusal}
+use Rattle.cdd_reading.specs.declared.format.Format.{Format}
 use Rattle.file_poly.specs.Files.{IsListOf}
 use Rattle.poly_commands.specs.Files.{format_of}
 use Rattle.poly_commands.specs.OpenFiles.{OpenFile}

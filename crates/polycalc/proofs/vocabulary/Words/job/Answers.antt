@@ -1,4 +1,4 @@
-use Rattle.cdd_text.specs.declared.format.Format.TheVariants.{Ine, Ext}
+use Rattle.cdd_reading.specs.declared.format.Format.TheVariants.{Ine, Ext}
 use Rattle.polycalc.specs.Words.{IsAskedBy}
 use Rattle.polycalc.specs.declared.job.Job.TheVariants as job
 use Rattle.polycalc.proofs.SampleWords.{not_so, no_job}

@@ -1,0 +1,10 @@
+pub mod Bodies
+pub mod Files
+pub mod FirstWrong
+pub mod Fractions
+pub mod Headings
+pub mod OneAnswer
+pub mod Refusals
+pub mod Scaling
+pub mod Tables
+pub mod Tokens

@@ -1,7 +1,0 @@
-use Rattle.std.proofs.Common.{◌≡◌, take, true}
-use Rattle.std.specs.List.{list_all}
-use Rattle.term_text.specs.Reading.{is_digit}
-use Rattle.cdd_text.proofs.numbers.is_nat.Given as goal
-
-abbrev pub invariant-loop-byte : goal.invariant-loop-byte
-invariant-loop-byte l = list_all is_digit (take l.byte-index l.token) ≡ true
