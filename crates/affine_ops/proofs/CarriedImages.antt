@@ -12,7 +12,7 @@ use Rattle.cone_laws.specs.Canon.{IsSystem}
 use Rattle.cone_laws.specs.Duality.{lines_of, rays_of}
 use Rattle.cone_laws.specs.Members.{ConeOf}
 use Rattle.cone_laws.proofs.Columns.{length-scale}
-use Rattle.cone_laws.proofs.FactorLemmas.{back, magnitude-neg}
+use Rattle.row_core.proofs.Magnitudes.{back, magnitude-neg}
 use Rattle.cons_sys.specs.Constraints.{Constraints, FitDimension as FitConstraints}
 use Rattle.gens_sys.specs.declared.kind.GenKind.{GenKind}
 use Rattle.gens_sys.specs.declared.kind.GenKind.TheVariants.{Line, Ray, Point, ClosurePoint}

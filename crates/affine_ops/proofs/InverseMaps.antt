@@ -8,7 +8,7 @@ use Rattle.std.specs.Int.{w128}
 use mir.Val.{to_z, of_z}
 use Rattle.row_core.specs.Range.{InRange}
 use Rattle.cone_laws.proofs.Ring.{ring, mul-positive, by_sign}
-use Rattle.cone_laws.proofs.FactorLemmas.{magnitude-positive, magnitude-negative, magnitude-neg, back as back_in_range}
+use Rattle.row_core.proofs.Magnitudes.{magnitude-positive, magnitude-negative, magnitude-neg, back as back_in_range}
 use Rattle.cone_laws.proofs.Columns.{cell-scale, length-scale, dot_comm, value, value_linear, value_both, dot_is}
 use Rattle.cone_laws.proofs.Factors.{single, cell-single_same, cell-single_other}
 use Rattle.affine_ops.specs.Maps.{substituted}

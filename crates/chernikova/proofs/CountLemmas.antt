@@ -4,14 +4,14 @@ use Rattle.std.specs.Prelude.{IsTrue}
 use Rattle.std.proofs.lemmas.Bool.{false≢true}
 use Rattle.std.proofs.lemmas.List.Elements.{Contains-get_or, Contains-append_right}
 use Rattle.row_core.specs.Vectors.{dot}
-use Rattle.row_core.specs.Lists.{Row, row_at, vectors}
+use Rattle.row_core.specs.Lists.{Row, row_at, vectors, vector_at}
 use Rattle.sat_matrix.specs.Tables.{Table, bits_of, conjunction, IsThird, HasThird}
 use Rattle.cone_laws.specs.Cones.{Upto}
-use Rattle.cone_laws.specs.Canon.{vector_at, IsSystem}
+use Rattle.cone_laws.specs.Canon.{IsSystem}
 use Rattle.cone_laws.specs.AdjacencyLaws.{IsMinimal, IsOneMore}
 use Rattle.cone_laws.proofs.OneMore.{one_more_law}
 use Rattle.cone_laws.proofs.TooFew.{too_few_law}
-use Rattle.chernikova.proofs.VectorLemmas.{length-vectors}
+use Rattle.row_core.proofs.RowListLemmas.{length-vectors}
 use Rattle.sat_matrix.specs.Counts.{ones}
 use Rattle.sat_matrix.proofs.SharedCounts.{fewer_both, both_turned}
 use Rattle.sat_matrix.specs.ZeroTables.{TellsZeros, IsZeroTable}

@@ -7,20 +7,22 @@ use Rattle.std.proofs.lemmas.List.Folds.{fold-map}
 use Rattle.std.proofs.lemmas.List.Sums.{sum_by_push}
 use Rattle.std.proofs.lemmas.Bool.{cases_lt}
 use Rattle.row_core.specs.Vectors.{dot}
-use Rattle.row_core.specs.Lists.{Row, row_at, is_eq_at, vectors}
+use Rattle.row_core.specs.Lists.{Row, row_at, is_eq_at, vectors, vector_at}
 use Rattle.sat_matrix.specs.Tables.{Table}
 use Rattle.cone_laws.specs.Cones.{Upto}
-use Rattle.cone_laws.specs.Canon.{vector_at, IsSystem}
-use Rattle.cone_laws.specs.Steps.{IsLastCrossing, pair_at, stays}
+use Rattle.cone_laws.specs.Canon.{IsSystem}
+use Rattle.cone_laws.specs.Steps.{IsLastCrossing}
+use Rattle.row_core.specs.Pairs.{pair_at}
+use Rattle.row_core.specs.Signs.{stays}
 use Rattle.cone_laws.specs.SystemLaws.{HasSystem, HasSystemOf, AreAllCrossings}
 use Rattle.cone_laws.proofs.StepExistence.{every_prefix, line_step_count, ray_step_count, ray_step_kept}
 use Rattle.sat_matrix.specs.ZeroTables.{IsZeroTable}
-use Rattle.chernikova.specs.Systems.{values_on}
+use Rattle.row_store.specs.Values.{values_on}
 use Rattle.sat_matrix.specs.Pairs.{AreAllCrosses}
 use Rattle.row_core.specs.declared.errors.ConvErr.{ConvErr}
 use Rattle.row_core.specs.declared.errors.ConvErr.TheVariants.{Overflow, Memory}
 use Rattle.chernikova.specs.Conversion.{IsCountedUpto, IsCountedBetween, IsAtStep, IsCountedBeforeFrom}
-use Rattle.chernikova.proofs.VectorLemmas.{length-vectors}
+use Rattle.row_core.proofs.RowListLemmas.{length-vectors}
 use Rattle.chernikova.proofs.StateLemmas.{crossing_from, cross_from}
 use Rattle.chernikova.proofs.NextStates.{row_is_at}
 

@@ -1,7 +1,3 @@
-pub mod VectorLemmas
-pub mod MarkedVectors
-pub mod CombinedRows
-pub mod ChangeLemmas
 pub mod FaultLemmas
 pub mod StateLemmas
 pub mod StepLemmas

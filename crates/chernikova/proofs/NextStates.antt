@@ -3,24 +3,27 @@ use Rattle.std.proofs.Common.{refl, sym, ap, ◌∙◌, subst, arith, inl, inr, 
 use Rattle.std.proofs.lemmas.List.{get_or_default, length-map, length_push, get_or_past, length-set, length-replicate, get_or-replicate, get_or-set_same, get_or-set_other, set-set, set-get_or}
 use Rattle.std.proofs.lemmas.Bool.{cases_lt}
 use Rattle.row_core.specs.Vectors.{cell, dot}
-use Rattle.row_core.specs.Lists.{Row, Rows, row_at, is_eq_at, vectors, Pointwise}
+use Rattle.row_core.specs.Lists.{Row, Rows, row_at, is_eq_at, vectors, Pointwise, vector_at}
 use Rattle.sat_matrix.specs.Tables.{Table}
 use Rattle.sat_matrix.specs.ZeroTables.{TellsZeros, IsZeroTable}
-use Rattle.chernikova.specs.Vectors.{Vectors, as_rows}
+use Rattle.row_store.specs.Vectors.{Vectors, as_rows}
 use Rattle.cone_laws.specs.Cones.{Upto}
-use Rattle.cone_laws.specs.Canon.{vector_at, IsSystem}
-use Rattle.cone_laws.specs.Steps.{IsRowAt, AreUnits, stays, IsRayStep}
+use Rattle.cone_laws.specs.Canon.{IsSystem}
+use Rattle.cone_laws.specs.Steps.{IsRowAt, AreUnits, IsRayStep}
+use Rattle.row_core.specs.Signs.{stays}
 use Rattle.cone_laws.proofs.UptoRows.{asks_least, both_zero}
 use Rattle.cone_laws.proofs.NextSystems.{units_system, line_step_system, ray_step_system}
 use Rattle.chernikova.specs.declared.system.System.{System}
 use Rattle.chernikova.specs.declared.cone.Cone.{Cone}
-use Rattle.chernikova.specs.Systems.{values_on}
+use Rattle.row_store.specs.Values.{values_on}
 use Rattle.sat_matrix.specs.TableSteps.{HasLineStep, HasRayStep}
-use Rattle.chernikova.specs.Changes.{AreLists, IsRayChange}
+use Rattle.row_core.specs.MarkedLists.{AreLists}
+use Rattle.row_store.specs.Changes.{IsRayChange}
 use Rattle.sat_matrix.specs.Pairs.{AreAllCrosses}
 use Rattle.chernikova.specs.Conversion.{IsState, IsReopened, IsLineOutcome, IsRayOutcome}
-use Rattle.chernikova.proofs.VectorLemmas.{length-vectors, vector_at-vectors, row_at-push_before, row_at-push_last}
-use Rattle.chernikova.proofs.StateLemmas.{length-values_on, zeros_after_line, ray_step_from}
+use Rattle.row_core.proofs.RowListLemmas.{length-vectors, vector_at-vectors, row_at-push_before, row_at-push_last}
+use Rattle.chernikova.proofs.StateLemmas.{zeros_after_line, ray_step_from}
+use Rattle.row_store.proofs.ValueLemmas.{length-values_on}
 use Rattle.chernikova.proofs.RayTables.{zeros_after_ray}
 
 pub row_is_at : (rows : List Row) (k : ℕ) → k < length rows → IsRowAt rows k (row_at rows k, is_eq_at rows k)

@@ -10,7 +10,7 @@ use Rattle.cone_laws.specs.Canon.{Canon}
 use Rattle.cone_laws.proofs.MemberLemmas.{same_cone}
 use Rattle.chernikova.specs.declared.beside.Beside.{Beside}
 use Rattle.chernikova.specs.declared.cone.Cone.{Cone}
-use Rattle.chernikova.specs.Changes.{AreLists}
+use Rattle.row_core.specs.MarkedLists.{AreLists}
 use Rattle.chernikova.specs.Conversion.{IsState}
 use Rattle.chernikova.specs.RowOrders.{IsPlaced}
 use Rattle.chernikova.specs.Beside.{IsBeside, IsDone}

@@ -9,19 +9,23 @@ use Rattle.flat_rows.specs.Flat.{marked}
 use Rattle.sat_matrix.specs.Tables.{Table}
 use Rattle.cone_laws.specs.Cones.{Upto}
 use Rattle.cone_laws.specs.Canon.{IsSystem}
-use Rattle.cone_laws.specs.Steps.{stays, IsRayStep}
+use Rattle.cone_laws.specs.Steps.{IsRayStep}
+use Rattle.row_core.specs.Signs.{stays}
 use Rattle.cone_laws.proofs.RaySteps.{stays_asks}
 use Rattle.cone_laws.proofs.NextSystems.{ray_step_system}
 use Rattle.chernikova.specs.declared.system.System.{System}
 use Rattle.chernikova.specs.declared.plan.Position.{Position}
 use Rattle.chernikova.specs.declared.plan.Position.TheVariants as position
-use Rattle.chernikova.specs.Systems.{values_on}
+use Rattle.row_store.specs.Values.{values_on, AllStay}
 use Rattle.sat_matrix.specs.TableSteps.{HasColumn, HasRayStep}
-use Rattle.chernikova.specs.Changes.{value_at, IsRayChange}
+use Rattle.row_core.specs.Pairs.{value_at}
+use Rattle.row_store.specs.Changes.{IsRayChange}
 use Rattle.sat_matrix.specs.Pairs.{AreAllCrosses}
 use Rattle.chernikova.specs.Conversion.{IsState, IsRayOutcome}
-use Rattle.chernikova.specs.Plans.{AllStay, IsMet, IsPosition, HasValues}
-use Rattle.chernikova.proofs.StateLemmas.{length-values_on, marked_all, ray_step_from}
+use Rattle.chernikova.specs.Plans.{IsMet, IsPosition, HasValues}
+use Rattle.chernikova.proofs.StateLemmas.{ray_step_from}
+use Rattle.row_store.proofs.ValueLemmas.{length-values_on}
+use Rattle.flat_rows.proofs.Marked.{marked_all}
 use Rattle.chernikova.proofs.NextStates.{row_is_at, rays_wide, ray_state}
 
 -- ---- a row that each ray meets

@@ -6,23 +6,27 @@ use Rattle.std.proofs.lemmas.Bool.Decides.{Decides-int_eq}
 use Rattle.std.proofs.lemmas.Int.{ints}
 use Rattle.std.proofs.lemmas.List.{get_or-map, get_or_append_left, get_or-append-add, length-set, get_or-set_same, get_or-set_other}
 use Rattle.row_core.specs.Vectors.{cell, dot}
-use Rattle.row_core.specs.Lists.{Row, row_at, vectors, Pointwise}
+use Rattle.row_core.specs.Lists.{Row, row_at, vectors, Pointwise, vector_at}
 use Rattle.sat_matrix.specs.Tables.{Table, bits_of, conjunction}
 use Rattle.flat_rows.specs.Flat.{marked}
 use Rattle.sat_matrix.proofs.BitRows.{length-conjunction}
-use Rattle.cone_laws.specs.Canon.{vector_at}
-use Rattle.cone_laws.specs.Steps.{sign, pair_at, IsPair}
+use Rattle.cone_laws.specs.Steps.{IsPair}
+use Rattle.row_core.specs.Signs.{sign}
+use Rattle.row_core.specs.Pairs.{pair_at, value_at}
 use Rattle.row_core.proofs.Ring.{ring, mul-zero, neg-mul, zero_of_mul, mul-at_least_zero}
 use Rattle.cone_laws.proofs.UptoRows.{IsSumOf, dot_sum}
-use Rattle.cone_laws.specs.Combinations.{IsCombined}
+use Rattle.row_core.specs.Combinations.{IsCombined}
 use Rattle.sat_matrix.specs.ZeroTables.{TellsZeros, IsZeroTable}
-use Rattle.chernikova.specs.Systems.{values_on}
+use Rattle.row_store.specs.Values.{values_on}
 use Rattle.sat_matrix.specs.TableSteps.{HasRayStep}
-use Rattle.chernikova.specs.Changes.{value_at, IsRayChange}
+use Rattle.row_store.specs.Changes.{IsRayChange}
 use Rattle.sat_matrix.specs.Pairs.{AreAllCrosses}
-use Rattle.cone_laws.proofs.FactorLemmas.{combined_along, sign_above, magnitude-positive}
-use Rattle.chernikova.proofs.VectorLemmas.{length-vectors, vector_at-vectors}
-use Rattle.chernikova.proofs.StateLemmas.{length-values_on, value_at-values_on, tells_more, pointwise_by_rows, pointwise_marked, marked_all, marked-append}
+use Rattle.row_store.proofs.FactorLemmas.{combined_along}
+use Rattle.row_core.proofs.Magnitudes.{sign_above, magnitude-positive}
+use Rattle.row_core.proofs.RowListLemmas.{length-vectors, vector_at-vectors}
+use Rattle.chernikova.proofs.StateLemmas.{tells_more, pointwise_by_rows, pointwise_marked}
+use Rattle.row_store.proofs.ValueLemmas.{length-values_on, value_at-values_on}
+use Rattle.flat_rows.proofs.Marked.{marked_all, marked-append}
 
 -- whether a number is 0
 pub zero_test : (x : ℤ) → IsTrue (int_eq x (pos 0)) ↔ (x ≡ pos 0)

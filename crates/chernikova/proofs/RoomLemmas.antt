@@ -2,16 +2,16 @@
 use Rattle.std.specs.Prelude.{◌≡◌, ℕ, ◌<◌, List, length, true, false, ℤ, pos}
 use Rattle.std.proofs.Common.{sym, ap, ◌∙◌, subst}
 use Rattle.std.proofs.lemmas.List.Elements.{All-same}
-use Rattle.row_core.specs.Lists.{Row, row_at, is_eq_at, vectors}
+use Rattle.row_core.specs.Lists.{Row, row_at, is_eq_at, vectors, vector_at}
 use Rattle.sat_matrix.specs.ZeroTables.{IsZeroTable}
 use Rattle.cone_laws.specs.Cones.{Upto}
-use Rattle.cone_laws.specs.Canon.{vector_at, IsSystem}
+use Rattle.cone_laws.specs.Canon.{IsSystem}
 use Rattle.row_core.specs.Vectors.{dot}
 use Rattle.cone_laws.specs.Steps.{IsLastCrossing}
 use Rattle.chernikova.specs.declared.system.System.{System}
 use Rattle.chernikova.specs.declared.plan.Plan.{Plan}
 use Rattle.chernikova.specs.declared.plan.Plan.TheVariants as plan
-use Rattle.chernikova.specs.Systems.{values_on}
+use Rattle.row_store.specs.Values.{values_on}
 use Rattle.chernikova.specs.Conversion.{IsState}
 use Rattle.chernikova.specs.Plans.{IsPlan, IsFlat}
 use Rattle.chernikova.specs.Rooms.{HasSameVectors}

@@ -5,7 +5,7 @@ use Rattle.std.proofs.Common.{refl, sym, ap, ◌∙◌, subst, arith, inl, inr}
 use Rattle.std.proofs.lemmas.Bool.{cases_lt}
 use Rattle.std.proofs.lemmas.List.Sums.{sum_by-cons}
 use Rattle.row_core.specs.Lists.{Row, row_at, is_eq_at, vectors}
-use Rattle.cone_laws.specs.Steps.{stays}
+use Rattle.row_core.specs.Signs.{stays}
 use Rattle.cone_laws.specs.SystemLaws.{HasSystemOf}
 use Rattle.chernikova.specs.declared.system.System.{System}
 use Rattle.chernikova.specs.declared.plan.Position.{Position}
@@ -16,7 +16,7 @@ use Rattle.sat_matrix.specs.Pairs.{AreAllCrosses}
 use Rattle.chernikova.specs.Conversion.{IsState, IsCountedBetween, IsCountedUpto}
 use Rattle.chernikova.specs.Plans.{IsFlat, IsPosition, IsPlan, kept_of, combinations_of}
 use Rattle.chernikova.proofs.Counts.{count_none, count_line, count_kept, count_pairs, counted_more, counted_all}
-use Rattle.chernikova.proofs.VectorLemmas.{length-vectors}
+use Rattle.row_core.proofs.RowListLemmas.{length-vectors}
 
 -- numbers of which none is above the one at its index, with a sum of their own
 record AreLower (counts : List ℕ) (less : ℕ) : Type 0 where

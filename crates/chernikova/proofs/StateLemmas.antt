@@ -5,32 +5,28 @@ use Rattle.std.proofs.lemmas.Int.{ints}
 use Rattle.std.proofs.lemmas.List.{get_or-map, get_or_default, length-map, append-nil, length_push, get_or_append_left, get_or_push, length-set, length-replicate, get_or-replicate, get_or-set_same, get_or-set_other}
 use Rattle.std.proofs.lemmas.List.Edits.{length-remove, get_or-remove_below, get_or-remove_above}
 use Rattle.row_core.specs.Vectors.{cell, dot, scale}
-use Rattle.row_core.specs.Lists.{Row, row_at, vectors, Pointwise}
+use Rattle.row_core.specs.Lists.{Row, row_at, vectors, Pointwise, vector_at}
 use Rattle.sat_matrix.specs.Tables.{Table, bits_of, HasThird}
 use Rattle.flat_rows.specs.Flat.{marked}
-use Rattle.cone_laws.specs.Canon.{vector_at}
-use Rattle.cone_laws.specs.Steps.{sign, pair_at, stays, IsLowered, IsLastCrossing, IsLineStep, IsMade, IsMadeOf, NoThird, IsCrossing, IsRayStep, upward}
+use Rattle.cone_laws.specs.Steps.{IsLowered, IsLastCrossing, IsLineStep, IsMade, IsMadeOf, NoThird, IsCrossing, IsRayStep, upward}
+use Rattle.row_core.specs.Signs.{sign, stays}
+use Rattle.row_core.specs.Pairs.{pair_at, value_at}
 pub use Rattle.row_core.proofs.PointwiseLemmas.{pointwise_tail, pointwise_cons, pointwise_append}
 pub use Rattle.sat_matrix.proofs.MarkedRows.{pointwise_marked}
 pub use Rattle.flat_rows.proofs.Marked.{marked_all}
 use Rattle.row_core.proofs.Ring.{ring, mul-zero, neg-mul, zero_of_mul}
 use Rattle.cone_laws.proofs.UptoRows.{IsSumOf, dot_sum}
-use Rattle.cone_laws.specs.Combinations.{IsCombined}
+use Rattle.row_core.specs.Combinations.{IsCombined}
 use Rattle.sat_matrix.specs.ZeroTables.{TellsZeros, IsZeroTable}
-use Rattle.chernikova.specs.Systems.{values_on}
+use Rattle.row_store.specs.Values.{values_on}
 use Rattle.cone_laws.proofs.Columns.{dot-scale}
 use Rattle.sat_matrix.specs.TableSteps.{HasLineStep}
-use Rattle.chernikova.specs.Changes.{value_at, AreLowered, AreOthersLowered, with_upward, IsLineChange, IsRayChange}
+use Rattle.row_store.specs.Changes.{AreLowered, AreOthersLowered, with_upward, IsLineChange, IsRayChange}
 use Rattle.sat_matrix.specs.Pairs.{IsCross, AreAllCrosses}
-use Rattle.cone_laws.proofs.FactorLemmas.{combined_along, sign_above, magnitude-positive, magnitude_above, sign_times}
-use Rattle.chernikova.proofs.VectorLemmas.{length-vectors, vector_at-vectors, vectors_push}
-
--- ---- values
-pub length-values_on : (a : List ℤ) (vs : List (List ℤ)) → length (values_on a vs) ≡ length vs
-length-values_on a vs = length-map vs (λ v. dot a v)
-
-pub value_at-values_on : (a : List ℤ) (vs : List (List ℤ)) (i : ℕ) → i < length vs → value_at (values_on a vs) i ≡ dot a (vector_at vs i)
-value_at-values_on a vs i h = get_or-map (λ v. dot a v) vs i [] (pos 0) h
+use Rattle.row_store.proofs.FactorLemmas.{combined_along}
+use Rattle.row_store.proofs.ValueLemmas.{length-values_on, value_at-values_on}
+use Rattle.row_core.proofs.Magnitudes.{sign_above, magnitude-positive, magnitude_above, sign_times}
+use Rattle.row_core.proofs.RowListLemmas.{length-vectors, vector_at-vectors, vectors_push}
 
 -- ---- the step with a line
 lowered_from : (a l w r : List ℤ) → IsCombined (dot a l) (dot a w) l w r → IsLowered a l w r
@@ -283,13 +279,6 @@ tells_upward rows k w columns size flat crosses = record {
             subst P (sym here) ((λ t. absurd (false≢true (sym at ∙ t))), (λ z. absurd (crosses z)))
       ];
 }
-
-pub marked-append : {X : Type 0} (marks more : List Bool) (xs ys : List X) → length marks ≡ length xs → marked (marks ++ more) (xs ++ ys) ≡ marked marks xs ++ marked more ys
-marked-append [] more [] ys e = refl
-marked-append [] more (x ∷ xs) ys e = absurd (omega (arith, e))
-marked-append (m ∷ marks) more [] ys e = absurd (omega (arith, e))
-marked-append (true ∷ marks) more (x ∷ xs) ys e = ap (λ zs. x ∷ zs) (marked-append marks more xs ys (omega (arith, e)))
-marked-append (false ∷ marks) more (x ∷ xs) ys e = marked-append marks more xs ys (omega (arith, e))
 
 -- the lists with all their rows, by index
 pub pointwise_by_rows : (R : List ℤ → List Bool → Type 0) (vs : List (List ℤ)) (rows : List (List Bool)) → length rows ≡ length vs → ((i : ℕ) → i < length vs → R (vector_at vs i) (bits_of rows i)) → Pointwise R vs rows

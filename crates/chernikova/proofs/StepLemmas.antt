@@ -3,21 +3,23 @@ use Rattle.std.proofs.Common.{refl, sym, ap, ◌∙◌, subst, arith, inl, inr}
 use Rattle.std.proofs.lemmas.List.{get_or_default}
 use Rattle.std.proofs.lemmas.List.Elements.{Contains-get_or}
 use Rattle.row_core.specs.Vectors.{dot}
-use Rattle.row_core.specs.Lists.{Row, row_at}
+use Rattle.row_core.specs.Lists.{Row, row_at, vector_at}
 use Rattle.sat_matrix.specs.Tables.{Table}
-use Rattle.cone_laws.specs.Canon.{vector_at}
-use Rattle.cone_laws.specs.Steps.{pair_at, IsLastCrossing, IsCrossing}
-use Rattle.cone_laws.specs.Leaves.{IsOther, IsLineCase, IsRayCase, CombinationLeaves}
-use Rattle.chernikova.specs.declared.fault.CombineFault.{CombineFault}
-use Rattle.chernikova.specs.declared.fault.Part.{Part}
-use Rattle.chernikova.specs.declared.fault.Part.TheVariants.{Lines, Rays}
-use Rattle.chernikova.specs.declared.fault.Place.{Place}
+use Rattle.cone_laws.specs.Steps.{IsLastCrossing, IsCrossing}
+use Rattle.row_core.specs.Pairs.{pair_at, value_at}
+use Rattle.cone_laws.specs.Leaves.{IsOther, IsLineCase, IsRayCase}
+use Rattle.row_core.specs.Combinations.{CombinationLeaves}
+use Rattle.row_store.specs.declared.fault.CombineFault.{CombineFault}
+use Rattle.row_store.specs.declared.fault.Part.{Part}
+use Rattle.row_store.specs.declared.fault.Part.TheVariants.{Lines, Rays}
+use Rattle.row_store.specs.declared.fault.Place.{Place}
 use Rattle.sat_matrix.specs.ZeroTables.{IsZeroTable}
-use Rattle.chernikova.specs.Systems.{values_on}
-use Rattle.chernikova.specs.Changes.{value_at}
+use Rattle.row_store.specs.Values.{values_on}
 use Rattle.sat_matrix.specs.Pairs.{IsCross, AreAllCrosses}
-use Rattle.chernikova.specs.Faults.{part_of, part_values, vector_of, value_of, IsCombineFault, IsLineFault, IsPairFault}
-use Rattle.chernikova.proofs.StateLemmas.{length-values_on, value_at-values_on, crossing_from}
+use Rattle.chernikova.specs.Faults.{IsCombineFault}
+use Rattle.row_store.specs.Faults.{part_of, part_values, vector_of, value_of, IsLineFault, IsPairFault}
+use Rattle.chernikova.proofs.StateLemmas.{crossing_from}
+use Rattle.row_store.proofs.ValueLemmas.{length-values_on, value_at-values_on}
 
 -- what the values tell of the last line that crosses
 pub last_from : (a : List ℤ) (lines : List (List ℤ)) (values : List ℤ) (i : ℕ) → values ≡ values_on a lines → (i < length values) × (value_at values i ≢ pos 0) × ((k : ℕ) → i < k → k < length values → value_at values k ≡ pos 0) → IsLastCrossing a lines i

@@ -4,10 +4,9 @@ use Rattle.std.proofs.Common.{sym, ap, ◌∙◌, arith}
 use Rattle.std.proofs.lemmas.Bool.{false≢true}
 use Rattle.std.proofs.lemmas.List.Elements.{AllWithin-upto}
 use Rattle.row_core.specs.Vectors.{dot}
-use Rattle.row_core.specs.Lists.{Row, row_at, is_eq_at, vectors}
+use Rattle.row_core.specs.Lists.{Row, row_at, is_eq_at, vectors, vector_at}
 use Rattle.cone_laws.specs.Cones.{Upto, Meets}
-use Rattle.cone_laws.specs.Canon.{vector_at}
-use Rattle.cone_laws.specs.Steps.{stays}
+use Rattle.row_core.specs.Signs.{stays}
 use Rattle.cone_laws.specs.UniqueLaws.{AdmitSame}
 use Rattle.cone_laws.proofs.MemberLemmas.{spanned_within}
 use Rattle.cone_laws.proofs.RaySteps.{asks_stays}
@@ -15,10 +14,10 @@ use Rattle.cone_laws.proofs.UptoRows.{both_zero, upto_less, upto_row}
 use Rattle.chernikova.specs.declared.system.System.{System}
 use Rattle.chernikova.specs.declared.plan.Plan.{Plan}
 use Rattle.chernikova.specs.declared.plan.Plan.TheVariants as plan
-use Rattle.chernikova.specs.Changes.{value_at}
+use Rattle.row_core.specs.Pairs.{value_at}
 use Rattle.chernikova.specs.Conversion.{IsState, TellsChange}
 use Rattle.chernikova.specs.Plans.{IsLinePlan, IsMet, IsCutting, IsPlan, changes_system}
-use Rattle.chernikova.proofs.StateLemmas.{length-values_on, value_at-values_on}
+use Rattle.row_store.proofs.ValueLemmas.{length-values_on, value_at-values_on}
 use Rattle.chernikova.proofs.NextStates.{row_is_at}
 use Rattle.chernikova.proofs.Positions.{met_system}
 

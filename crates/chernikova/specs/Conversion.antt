@@ -1,20 +1,22 @@
 use Rattle.std.specs.Prelude.{◌≡◌, ℕ, ◌+◌, ◌^◌, ◌<◌, ◌≤◌, ⊤, Bool, true, false, List, length, map, sum, ℤ, pos, slice_index_or}
 use Rattle.row_core.specs.Vectors.{dot}
-use Rattle.row_core.specs.Lists.{Row, vectors}
+use Rattle.row_core.specs.Lists.{Row, vectors, vector_at}
 use Rattle.row_core.specs.declared.errors.ConvErr.{ConvErr}
 use Rattle.row_core.specs.declared.errors.ConvErr.TheVariants.{Overflow, Memory}
 use Rattle.cone_laws.specs.Cones.{Upto}
-use Rattle.cone_laws.specs.Canon.{vector_at, Canon, IsSystem}
-use Rattle.cone_laws.specs.Steps.{stays, IsLineStep}
+use Rattle.cone_laws.specs.Canon.{Canon, IsSystem}
+use Rattle.cone_laws.specs.Steps.{IsLineStep}
+use Rattle.row_core.specs.Signs.{stays}
 use Rattle.cone_laws.specs.SystemLaws.{HasSystemOf}
 use Rattle.cone_laws.specs.UniqueLaws.{AdmitSame}
 use Rattle.cone_laws.specs.Leaves.{Leaves}
 use Rattle.chernikova.specs.declared.cone.Cone.{Cone}
 use Rattle.chernikova.specs.declared.system.System.{System}
 use Rattle.sat_matrix.specs.ZeroTables.{IsZeroTable}
-use Rattle.chernikova.specs.Systems.{values_on}
-use Rattle.chernikova.specs.Vectors.{Vectors, as_rows}
-use Rattle.chernikova.specs.Changes.{AreLists, IsRayChange}
+use Rattle.row_store.specs.Values.{values_on}
+use Rattle.row_store.specs.Vectors.{Vectors, as_rows}
+use Rattle.row_core.specs.MarkedLists.{AreLists}
+use Rattle.row_store.specs.Changes.{IsRayChange}
 use Rattle.sat_matrix.specs.Pairs.{AreAllCrosses}
 
 -- the lines and rays are the system of the first k rows, and the table tells the rows on which each ray is 0

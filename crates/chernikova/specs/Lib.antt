@@ -1,7 +1,4 @@
-pub mod Systems
-pub mod Vectors
 pub mod Faults
-pub mod Changes
 pub mod Conversion
 pub mod Plans
 pub mod RowOrders

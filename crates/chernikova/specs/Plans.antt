@@ -1,11 +1,11 @@
 use Rattle.std.specs.Prelude.{◌≡◌, ℕ, ◌+◌, ◌-◌, ◌<◌, ⊤, Bool, true, false, List, ◌++◌, length, map, replicate, count_by, All, ℤ, pos}
 use Rattle.row_core.specs.Vectors.{dot}
 use Rattle.row_core.specs.Range.{InRange}
-use Rattle.row_core.specs.Lists.{Row, row_at, is_eq_at, vectors}
-use Rattle.cone_laws.specs.Canon.{vector_at}
-use Rattle.cone_laws.specs.Steps.{stays, IsLastCrossing}
-use Rattle.chernikova.specs.Systems.{values_on}
-use Rattle.chernikova.specs.Changes.{value_at}
+use Rattle.row_core.specs.Lists.{Row, row_at, is_eq_at, vectors, vector_at}
+use Rattle.cone_laws.specs.Steps.{IsLastCrossing}
+use Rattle.row_core.specs.Signs.{stays}
+use Rattle.row_store.specs.Values.{values_on, AllStay, SomeGoes}
+use Rattle.row_core.specs.Pairs.{value_at}
 use Rattle.sat_matrix.specs.Pairs.{AreAllCrosses}
 use Rattle.chernikova.specs.declared.system.System.{System}
 use Rattle.chernikova.specs.declared.plan.Position.{Position}
@@ -20,14 +20,6 @@ pub record IsLinePlan (row : Row) (cone : System) (index : ℕ) (line_values ray
   pub are_ray_values : ray_values ≡ values_on row.0 (vectors cone.rays.rows)
   pub lines_in_range : All InRange line_values
   pub rays_in_range : All InRange ray_values
-
--- each value stays on its side of a row
-abbrev pub AllStay : Bool → List ℤ → Type 0
-AllStay eq values = (i : ℕ) → i < length values → stays eq (value_at values i) ≡ true
-
--- some value doesn't
-abbrev pub SomeGoes : Bool → List ℤ → Type 0
-SomeGoes eq values = (i : ℕ) × (i < length values) × (stays eq (value_at values i) ≡ false)
 
 -- a row that is 0 on all lines, and the values of the rays
 pub record IsFlat (row : Row) (cone : System) (values : List ℤ) : Type 0 where

@@ -1,7 +1,7 @@
 use Rattle.std.specs.Prelude.{◌≡◌, ℕ, ◌+◌, ◌≤◌, ⊤, List, [], length}
 use Rattle.sat_matrix.specs.Tables.{Table}
 use Rattle.row_core.specs.Lists.{Row}
-use Rattle.chernikova.specs.Vectors.{HasSame}
+use Rattle.row_store.specs.Vectors.{HasSame}
 use Rattle.sat_matrix.specs.TableSteps.{HasFalseColumn}
 use Rattle.chernikova.specs.Conversion.{IsState}
 use Rattle.chernikova.specs.Plans.{IsPlan}

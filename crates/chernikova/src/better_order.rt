@@ -5,7 +5,7 @@ ghost use Rattle.cone_laws.specs.Cones.{Upto};
 ghost use Rattle.cone_laws.specs.Canon.{Canon};
 ghost use Rattle.cone_laws.specs.SystemLaws.{HasSystemOf};
 ghost use Rattle.sat_matrix.specs.ZeroTables.{IsZeroTable};
-ghost use Rattle.chernikova.specs.Changes.{AreLists};
+ghost use Rattle.row_core.specs.MarkedLists.{AreLists};
 ghost use Rattle.chernikova.specs.Conversion.{IsState, IsAtStep, IsCountedUpto, IsCountedBefore, IsRealOverflow};
 ghost use Rattle.chernikova.specs.RowOrders.{bits_at, IsPlaced};
 ghost use Rattle.chernikova.specs.Beside.{IsBeside, IsDone};

@@ -7,7 +7,7 @@ ghost use Rattle.cone_laws.specs.Steps.{AreUnits};
 ghost use Rattle.cone_laws.specs.SystemLaws.{HasSystemOf};
 ghost use Rattle.row_core.specs.Range.{AllInRange};
 ghost use Rattle.sat_matrix.specs.ZeroTables.{IsZeroTable};
-ghost use Rattle.chernikova.specs.Changes.{AreLists};
+ghost use Rattle.row_core.specs.MarkedLists.{AreLists};
 ghost use Rattle.chernikova.specs.Conversion.{IsState, IsAtStep, IsCountedUpto, IsCountedBetween, IsCountedBefore, IsCountedBeforeFrom, IsConverted, IsRealOverflow, IsRealOverflowFrom, TellsChange};
 
 use crate::cone::{Added, Cone};
@@ -16,8 +16,8 @@ use crate::order::sorted;
 use crate::scratch::Scratch;
 use crate::system::System;
 use crate::taking::{plan_row, take_planned};
-use crate::vectors::VectorList;
 use row_core::{ConvErr, Memory, RowList, Steps};
+use row_store::VectorList;
 use sat_matrix::SatMatrix;
 use std::alloc::Global;
 use std::sync::ledger::Ledger;

@@ -1,80 +1,15 @@
-//! Why a row isn't taken in, and the overflow that is shown for it.
-ghost use Rattle.std.specs.Prelude.{◌≡◌, ℕ, ◌^◌, ◌<◌, length, IfOk};
+//! The overflow that is shown for a row that isn't taken in.
+ghost use Rattle.std.specs.Prelude.{◌≡◌, ◌^◌, ◌<◌, length, IfOk};
 ghost use Rattle.row_core.specs.Range.{AllInRange};
 ghost use Rattle.row_core.specs.Lists.{row_at, vectors};
 ghost use Rattle.cone_laws.specs.Leaves.{Shows};
-ghost use Rattle.chernikova.specs.Faults.{is_lines, IsPlace, vector_of, IsPositionFault, IsCombineFault};
-ghost use Rattle.chernikova.specs.declared.fault.ValueFault.TheVariants as fault;
+ghost use Rattle.row_store.specs.Faults.{IsPlace, vector_of};
+ghost use Rattle.chernikova.specs.Faults.{IsPositionFault, IsCombineFault};
 
 use crate::system::System;
-use row_core::{ConvErr, Memory, OverKind, Overflow, RowBuf, RowList};
-use std::alloc::{AllocError, AllocFailed, Global};
-
-/// A list of a system.
-#[derive(Clone, Copy, Debug)]
-pub(crate) enum Part {
-    Lines,
-    Rays,
-}
-
-impl Part {
-    /// Whether the vectors of the list are marked as equalities.
-    pub(crate) fn is_equality(self) -> bool
-        ensures { result ≡ is_lines self }
-    {
-        match self {
-            Part::Lines => true,
-            Part::Rays => false,
-        }
-    }
-}
-
-/// A vector of a system, by its list and its index there.
-#[derive(Clone, Copy, Debug)]
-pub(crate) struct Place {
-    pub(crate) part: Part,
-    pub(crate) index: usize,
-}
-
-/// Why the values of the vectors on a row aren't found.
-#[derive(Debug, Drop)]
-pub(crate) enum ValueFault {
-    Memory,
-    /// The dot product of a vector with the row leaves the range.
-    Dot { vector: Place, column: u32 },
-}
-
-impl From<Memory> for ValueFault {
-    ghost from_gives = { λ _ e. e ≡ fault.Memory };
-
-    fn from(_error: Memory) -> ValueFault {
-        ValueFault::Memory
-    }
-}
-
-impl From<AllocError> for ValueFault {
-    ghost from_gives = { λ _ e. e ≡ fault.Memory };
-
-    fn from(_error: AllocError) -> ValueFault {
-        ValueFault::Memory
-    }
-}
-
-impl<T: Drop> From<AllocFailed<T>> for ValueFault {
-    ghost from_gives = { λ _ e. e ≡ fault.Memory };
-
-    fn from(_failed: AllocFailed<T>) -> ValueFault {
-        ValueFault::Memory
-    }
-}
-
-/// Two vectors whose combination that is 0 on a row leaves the range, and the first column at which it does.
-#[derive(Clone, Copy, Debug)]
-pub(crate) struct CombineFault {
-    pub(crate) left: Place,
-    pub(crate) right: Place,
-    pub(crate) column: u32,
-}
+use row_core::{Memory, OverKind, Overflow, RowBuf, RowList};
+use row_store::{CombineFault, Part, Place, ValueFault};
+use std::alloc::Global;
 
 impl System {
     // Lends a vector.

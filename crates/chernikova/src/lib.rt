@@ -11,7 +11,6 @@
 
 mod beside;
 mod better_order;
-mod combining;
 mod cone;
 mod conversion;
 mod fault;
@@ -19,14 +18,11 @@ mod line_step;
 mod lists;
 mod order;
 mod plan;
-mod ray_step;
 mod row_order;
 mod scratch;
 mod step;
 mod system;
 mod taking;
-mod values;
-mod vectors;
 
 pub use better_order::convert_in_better_order;
 pub use cone::{Added, Cone};

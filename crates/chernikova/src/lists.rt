@@ -2,12 +2,12 @@
 ghost use Rattle.std.specs.Prelude.{◌≡◌, ◌++◌, true, false, IfOk, OnOk};
 ghost use Rattle.row_core.specs.Lists.{AreMarked};
 ghost use Rattle.chernikova.specs.Conversion.{IsReopened};
-ghost use Rattle.chernikova.specs.Vectors.{as_rows};
+ghost use Rattle.row_store.specs.Vectors.{as_rows};
 
 use crate::cone::Cone;
 use crate::system::System;
-use crate::vectors::VectorList;
 use row_core::{Memory, RowList};
+use row_store::VectorList;
 use std::alloc::Global;
 
 /// The vectors as a list of rows, all with the mark.

@@ -3,7 +3,7 @@ ghost use Rattle.std.specs.Prelude.{◌≡◌, length};
 ghost use Rattle.chernikova.specs.Plans.{HasValues, kept_of, changes_system, combinations_of};
 
 use crate::system::System;
-use crate::values::count_meeting;
+use row_store::count_meeting;
 use sat_matrix::{SatMatrix, expected_looks};
 
 /// How a row lies to a system.

@@ -1,8 +1,5 @@
 //! The lists that a step works with.
-ghost use Rattle.std.specs.Prelude.{◌≡◌, ◌^◌, ◌<◌, ◌≤◌, [], IfOk, OnOk};
-
-use crate::vectors::{LEAST_VECTORS, VectorList};
-use row_core::Memory;
+use row_store::VectorList;
 use sat_matrix::PairLists;
 use std::alloc::Global;
 
@@ -42,23 +39,4 @@ impl Scratch {
             rays: VectorList::new(alloc, 0),
         }
     }
-}
-
-/// Takes the vectors out of a list, and gives it a width and room for some.
-pub(crate) fn make_empty(
-    alloc: Global,
-    list: &mut VectorList,
-    width: usize,
-    room: usize,
-) -> Result<(), Memory>
-    requires { width < 2 ^ 32 }
-    ensures width { OnOk result (list.new.width ≡ width) }
-    ensures empty { OnOk result (list.new.rows ≡ []) }
-    ensures room { OnOk result (room ≤ list.new.spare) }
-{
-    if list.width() != width {
-        *list = VectorList::new(alloc, width);
-    }
-    list.truncate(0);
-    list.reserve(room.max(LEAST_VECTORS))
 }

@@ -7,14 +7,15 @@ ghost use Rattle.chernikova.specs.Plans.{IsPosition, IsPlan, combinations_of};
 ghost use Rattle.sat_matrix.specs.TableSteps.{HasFalseColumn};
 ghost use Rattle.chernikova.specs.Rooms.{HasSameVectors, HasRoom, IsReady};
 
-use crate::fault::{CombineFault, Part, ValueFault};
 use crate::line_step::line_step;
 use crate::plan::{Plan, Position};
-use crate::ray_step::ray_step;
-use crate::scratch::{Scratch, make_empty};
+use crate::scratch::Scratch;
 use crate::system::System;
-use crate::values::{all_meet, last_crossing, mark_pairs, marks, values};
 use row_core::{Memory, RowList, Steps, all_narrow};
+use row_store::{
+    CombineFault, Part, ValueFault, all_meet, last_crossing, make_empty, mark_pairs, marks,
+    ray_step, values,
+};
 use sat_matrix::{after_line_step, after_ray_step, crossings, least_shared, mark_zeros};
 use std::alloc::Global;
 use std::mem;

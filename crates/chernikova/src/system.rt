@@ -1,5 +1,5 @@
 //! The system of the rows that were taken in.
-use crate::vectors::VectorList;
+use row_store::VectorList;
 use sat_matrix::SatMatrix;
 
 /// Lines and rays, and a table with a row for each ray and a column for each row that was taken in, true

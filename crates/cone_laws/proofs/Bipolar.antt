@@ -3,10 +3,10 @@ use Rattle.std.proofs.Common.{◌≡◌, ◌≢◌, ◌⊎◌, inl, inr, ℕ, ze
 use Rattle.std.proofs.lemmas.Int.{ints}
 use Rattle.std.proofs.lemmas.List.Elements.{All-from_get_or, All-map, All-filter, filter_passes}
 use Rattle.row_core.specs.Vectors.{cell, dot}
-use Rattle.row_core.specs.Lists.{Row}
+use Rattle.row_core.specs.Lists.{Row, vector_at}
 use Rattle.cone_laws.specs.Cones.{Upto, Spans, negated}
-use Rattle.cone_laws.specs.Canon.{vector_at}
-use Rattle.cone_laws.specs.Steps.{IsRowAt, sign, upward}
+use Rattle.cone_laws.specs.Steps.{IsRowAt, upward}
+use Rattle.row_core.specs.Signs.{sign}
 use Rattle.cone_laws.specs.StepLaws.{GeneratesUpto}
 use Rattle.cone_laws.specs.Duality.{lines_of, rays_of, IsAdmitted}
 use Rattle.row_core.proofs.Ring.{ring, magnitude_positive, mul-zero, same_or_not, square_positive}

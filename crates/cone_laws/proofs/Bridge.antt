@@ -4,7 +4,7 @@ use Rattle.std.proofs.lemmas.Int.{ints}
 use Rattle.std.proofs.lemmas.List.Elements.{All-nil, All-cons, All-head, All-tail}
 use Rattle.row_core.specs.Vectors.{cell, combined}
 use Rattle.cone_laws.specs.Cones.{Spans}
-use Rattle.cone_laws.specs.Canon.{vector_at}
+use Rattle.row_core.specs.Lists.{vector_at}
 use Rattle.row_core.proofs.Ring.{mul-zero, add-mul}
 use Rattle.cone_laws.proofs.Sums.{V, IsMore, Nothing, Among, Sums, none, line, ray, SpansBy, sums_add, sums_more, spans_more}
 

@@ -6,9 +6,9 @@ use Rattle.std.proofs.lemmas.Bool.{cases_lt}
 use Rattle.std.proofs.lemmas.List.{get_or_append_left, get_or_push}
 use Rattle.std.proofs.lemmas.List.Elements.{Contains-append_left, Contains-push}
 use Rattle.row_core.specs.Vectors.{dot}
-use Rattle.row_core.specs.Lists.{Row}
-use Rattle.cone_laws.specs.Canon.{vector_at}
-use Rattle.cone_laws.specs.Steps.{NoThird, IsCrossing, pair_at}
+use Rattle.row_core.specs.Lists.{Row, vector_at}
+use Rattle.cone_laws.specs.Steps.{NoThird, IsCrossing}
+use Rattle.row_core.specs.Pairs.{pair_at}
 use Rattle.cone_laws.specs.SystemLaws.{AreAllCrossings}
 use Rattle.row_core.proofs.Ring.{by_sign}
 use Rattle.cone_laws.proofs.ThirdRay.{IsThird, third_or_none}

@@ -11,9 +11,11 @@ use Rattle.std.proofs.lemmas.List.Edits.{length-remove, get_or-remove_below, get
 use Rattle.std.proofs.lemmas.List.Elements.{All-append, All-filter, All-from_get_or, All-nil, All-cons}
 use Rattle.row_core.specs.Vectors.{cell, dot}
 use Rattle.row_core.specs.Content.{IsPrimitive}
-use Rattle.row_core.specs.Lists.{Row}
-use Rattle.cone_laws.specs.Canon.{vector_at, IsPivot, IsEchelon}
-use Rattle.cone_laws.specs.Steps.{AreUnits, IsMade, pair_at, IsRayStep, stays, sign, IsLowered, upward, IsLineStep}
+use Rattle.row_core.specs.Lists.{Row, vector_at}
+use Rattle.cone_laws.specs.Canon.{IsPivot, IsEchelon}
+use Rattle.cone_laws.specs.Steps.{AreUnits, IsMade, IsRayStep, IsLowered, upward, IsLineStep}
+use Rattle.row_core.specs.Pairs.{pair_at}
+use Rattle.row_core.specs.Signs.{stays, sign}
 use Rattle.cone_laws.proofs.Columns.{cell-scale}
 use Rattle.row_core.proofs.Ring.{magnitude_positive, zero_of_mul, positive_of_mul, mul-positive}
 

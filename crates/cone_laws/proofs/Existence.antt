@@ -3,9 +3,9 @@ use Rattle.std.proofs.Common.{◌≡◌, ◌≢◌, ◌⊎◌, inl, inr, ℕ, ze
 use Rattle.std.proofs.lemmas.Int.{ints}
 use Rattle.std.proofs.lemmas.List.{get_or_default}
 use Rattle.row_core.specs.Vectors.{cell, dot, scale, add}
-use Rattle.row_core.specs.Lists.{Row}
-use Rattle.cone_laws.specs.Canon.{vector_at}
-use Rattle.cone_laws.specs.Steps.{IsRowAt, IsPair, sign}
+use Rattle.row_core.specs.Lists.{Row, vector_at}
+use Rattle.cone_laws.specs.Steps.{IsRowAt, IsPair}
+use Rattle.row_core.specs.Signs.{sign}
 use Rattle.row_core.proofs.Ring.{ring, same_or_not}
 use Rattle.cone_laws.proofs.Columns.{cell-add, cell-scale, length-add, length-scale}
 use Rattle.cone_laws.proofs.LineSteps.{LowersTo}

@@ -5,9 +5,9 @@ use Rattle.std.proofs.lemmas.Bool.{cases_eq}
 use Rattle.std.proofs.lemmas.List.{get_or_default}
 use Rattle.std.proofs.lemmas.List.Elements.{All-nil, All-cons}
 use Rattle.row_core.specs.Vectors.{cell, dot, scale, add, combined}
-use Rattle.row_core.specs.Lists.{Row, row_at}
+use Rattle.row_core.specs.Lists.{Row, row_at, vector_at}
 use Rattle.cone_laws.specs.Cones.{Meets, Upto, Spans, negated}
-use Rattle.cone_laws.specs.Canon.{vector_at, IsSystem}
+use Rattle.cone_laws.specs.Canon.{IsSystem}
 use Rattle.cone_laws.proofs.Ring.{ring, mul-at_least_zero, by_sign, mul-zero}
 use Rattle.cone_laws.proofs.Columns.{cell-scale, cell-negated, cell-add, length-scale, length-add, dot-add, dot-scale, dot-negated}
 use Rattle.cone_laws.proofs.UptoRows.{asks_least}

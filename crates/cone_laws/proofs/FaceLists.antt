@@ -1,9 +1,9 @@
 -- Adjacent rays of a list, and third rays between them.
 use Rattle.std.proofs.Common.{◌≡◌, ◌≢◌, ◌⊎◌, inl, inr, ℕ, zero, suc, ◌<◌, List, [], ◌∷◌, length, slice_index_or, false, ℤ, pos, ◌*ℤ◌, ◌≤ℤ◌, refl, sym, ap, ◌∙◌, subst, arith}
 use Rattle.row_core.specs.Vectors.{cell, dot}
-use Rattle.row_core.specs.Lists.{Row, row_at}
+use Rattle.row_core.specs.Lists.{Row, row_at, vector_at}
 use Rattle.cone_laws.specs.Cones.{Upto, Generates}
-use Rattle.cone_laws.specs.Canon.{vector_at, IsIrredundant}
+use Rattle.cone_laws.specs.Canon.{IsIrredundant}
 use Rattle.cone_laws.specs.Steps.{NoThird}
 use Rattle.cone_laws.specs.AdjacencyLaws.{AreAdjacent, FaceLaw, NoRayIsIrredundant, RaysAreNotZero}
 use Rattle.row_core.proofs.Ring.{mul-zero}

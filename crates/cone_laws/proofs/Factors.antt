@@ -8,7 +8,7 @@ use Rattle.std.proofs.lemmas.Bool.{cases_lt}
 use Rattle.std.proofs.lemmas.List.{get_or_past}
 use Rattle.std.proofs.lemmas.List.Elements.{All-append, All-take, All-drop, All-from_get_or}
 use Rattle.row_core.specs.Vectors.{cell, scale, add, combined}
-use Rattle.cone_laws.specs.Canon.{vector_at}
+use Rattle.row_core.specs.Lists.{vector_at}
 use Rattle.row_core.proofs.Ring.{ring}
 pub use Rattle.row_core.proofs.CellLemmas.{combined-scale}
 use Rattle.cone_laws.proofs.Columns.{cell-scale, cell-add}

@@ -1,7 +1,7 @@
 -- Where the vectors that pass a test stand in the list.
 use Rattle.std.proofs.Common.{◌≡◌, ℕ, zero, suc, ◌<◌, List, [], ◌∷◌, length, Bool, true, false, cond, refl, arith}
 use Rattle.std.specs.List.{filter}
-use Rattle.cone_laws.specs.Canon.{vector_at}
+use Rattle.row_core.specs.Lists.{vector_at}
 use Rattle.std.specs.Prelude.{ℤ}
 
 -- place i of the rest, where one element stands before it that passes or doesn't

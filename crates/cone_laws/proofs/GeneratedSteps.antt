@@ -1,8 +1,7 @@
 -- Both kinds of step generate the cone of one row more.
 use Rattle.std.proofs.Common.{ℕ, ◌+◌, List, remove, ℤ, sym, subst}
-use Rattle.row_core.specs.Lists.{Row, Pointwise}
+use Rattle.row_core.specs.Lists.{Row, Pointwise, vector_at}
 use Rattle.cone_laws.specs.Cones.{Upto, Generates}
-use Rattle.cone_laws.specs.Canon.{vector_at}
 use Rattle.cone_laws.specs.Steps.{IsRowAt, IsLowered, IsLineStep}
 use Rattle.cone_laws.specs.StepLaws.{GeneratesUpto}
 use Rattle.cone_laws.proofs.LineSteps.{LowersTo, generates_more, lineality_more}

@@ -4,9 +4,9 @@ use Rattle.std.proofs.lemmas.Int.{ints}
 use Rattle.std.proofs.lemmas.List.{get_or_default}
 use Rattle.std.proofs.lemmas.List.Edits.{length-remove}
 use Rattle.row_core.specs.Vectors.{cell, dot, scale, add}
-use Rattle.row_core.specs.Lists.{Row, row_at}
+use Rattle.row_core.specs.Lists.{Row, row_at, vector_at}
 use Rattle.cone_laws.specs.Cones.{Upto, Generates, HasLineality, negated}
-use Rattle.cone_laws.specs.Canon.{vector_at, IsIrredundant}
+use Rattle.cone_laws.specs.Canon.{IsIrredundant}
 use Rattle.row_core.proofs.Ring.{mul-zero}
 use Rattle.cone_laws.proofs.Sums.{V, Same, Nothing, Among, SpansBy, same_value, spans_same, spans_more}
 use Rattle.cone_laws.proofs.Columns.{value, value_linear, dot_is, cell-scale, cell-add, length-scale, length-add, dot-add, dot-scale}

@@ -46,4 +46,3 @@ pub mod ValidRows
 pub mod ExtremeRays
 pub mod LikeRays
 pub mod ZeroFaces
-pub mod FactorLemmas

@@ -6,7 +6,8 @@ use Rattle.std.proofs.lemmas.List.Elements.{All-head}
 use Rattle.row_core.specs.Vectors.{cell, combined}
 use Rattle.row_core.specs.Content.{IsPrimitive}
 use Rattle.cone_laws.specs.Cones.{Spans}
-use Rattle.cone_laws.specs.Canon.{vector_at, IsEchelon}
+use Rattle.cone_laws.specs.Canon.{IsEchelon}
+use Rattle.row_core.specs.Lists.{vector_at}
 use Rattle.cone_laws.proofs.Ring.{mul_comm, zero_of_mul, by_sign}
 use Rattle.cone_laws.proofs.Primitive.{primitive_same}
 use Rattle.cone_laws.proofs.EchelonForm.{zero_left, zero_right}

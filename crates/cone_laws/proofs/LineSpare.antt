@@ -4,9 +4,10 @@ use Rattle.std.proofs.lemmas.Int.{ints}
 use Rattle.std.proofs.lemmas.Bool.{cases_lt}
 use Rattle.std.proofs.lemmas.List.{get_or_append_left, get_or_push}
 use Rattle.row_core.specs.Vectors.{cell, dot}
-use Rattle.row_core.specs.Lists.{Row, Pointwise}
-use Rattle.cone_laws.specs.Canon.{vector_at, IsIrredundant}
-use Rattle.cone_laws.specs.Steps.{IsLowered, IsLoweredBy, sign, upward, IsLineStep}
+use Rattle.row_core.specs.Lists.{Row, Pointwise, vector_at}
+use Rattle.cone_laws.specs.Canon.{IsIrredundant}
+use Rattle.cone_laws.specs.Steps.{IsLowered, IsLoweredBy, upward, IsLineStep}
+use Rattle.row_core.specs.Signs.{sign}
 use Rattle.row_core.proofs.Ring.{neg-mul, magnitude_positive, zero_of_mul}
 use Rattle.cone_laws.proofs.Sums.{V, Same, Nothing, SpansBy, same_value, sums_zero, sums_one_line, sums_one_ray, spans_sums, spans_same, spans_of_multiple, spans_add, spans_spans}
 use Rattle.cone_laws.proofs.Columns.{value, value_linear, dot_is, cell-scale}

@@ -6,10 +6,10 @@ use Rattle.std.proofs.lemmas.Bool.{cases_lt}
 use Rattle.std.proofs.lemmas.List.Edits.{length-remove, get_or-remove_below, get_or-remove_above}
 use Rattle.std.proofs.lemmas.List.Elements.{All-push}
 use Rattle.row_core.specs.Vectors.{cell, dot}
-use Rattle.row_core.specs.Lists.{Row, Pointwise}
+use Rattle.row_core.specs.Lists.{Row, Pointwise, vector_at}
 use Rattle.cone_laws.specs.Cones.{Upto, Generates, HasLineality, negated}
-use Rattle.cone_laws.specs.Canon.{vector_at}
-use Rattle.cone_laws.specs.Steps.{IsRowAt, IsLoweredBy, sign, upward}
+use Rattle.cone_laws.specs.Steps.{IsRowAt, IsLoweredBy, upward}
+use Rattle.row_core.specs.Signs.{sign}
 use Rattle.row_core.proofs.Ring.{ring, magnitude_positive, mul_assoc, mul_comm, zero_of_mul}
 use Rattle.cone_laws.proofs.Sums.{V, Same, Nothing, SpansBy, sums_one_line, sums_one_ray, spans_sums, spans_spans, same_value}
 use Rattle.cone_laws.proofs.Columns.{value, value_linear, dot_is, dot-scale, dot-negated, cell-scale, cell-negated, length-scale}

@@ -4,9 +4,9 @@ use Rattle.std.proofs.Common.{arith}
 use Rattle.std.proofs.lemmas.List.Elements.{All-nil, All-from_get_or}
 use Rattle.row_core.specs.Vectors.{dot}
 use Rattle.row_core.specs.Content.{IsPrimitive}
-use Rattle.row_core.specs.Lists.{Row}
+use Rattle.row_core.specs.Lists.{Row, vector_at}
 use Rattle.cone_laws.specs.Cones.{Upto}
-use Rattle.cone_laws.specs.Canon.{vector_at, IsSystem}
+use Rattle.cone_laws.specs.Canon.{IsSystem}
 use Rattle.cone_laws.specs.Steps.{IsRowAt, AreUnits, IsLineStep, IsRayStep}
 use Rattle.cone_laws.specs.AdjacencyLaws.{IsMinimal}
 use Rattle.cone_laws.specs.StepLaws.{GeneratesUpto}

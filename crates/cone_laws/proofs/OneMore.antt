@@ -2,8 +2,7 @@
 use Rattle.std.proofs.Common.{◌≡◌, ◌≢◌, ◌⊎◌, inl, inr, ℕ, ◌<◌, length, ℤ, pos, ◌+ℤ◌, ◌*ℤ◌, neg_ℤ, ◌≤ℤ◌, ◌<ℤ◌, refl, sym, ap, ◌∙◌, arith}
 use Rattle.std.proofs.lemmas.Int.{ints}
 use Rattle.row_core.specs.Vectors.{dot}
-use Rattle.row_core.specs.Lists.{row_at}
-use Rattle.cone_laws.specs.Canon.{vector_at}
+use Rattle.row_core.specs.Lists.{row_at, vector_at}
 use Rattle.cone_laws.specs.AdjacencyLaws.{OneMoreLaw}
 use Rattle.row_core.proofs.Ring.{ring, mul-positive, mul-at_least_zero, mul-zero, at_least_zero_or_not}
 use Rattle.cone_laws.proofs.Sums.{V, Among, Nothing, SpansBy, same_value, sums_one_ray, spans_sums, spans_more, spans_of_multiple, spans_add}

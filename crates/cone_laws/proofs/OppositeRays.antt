@@ -3,9 +3,8 @@ use Rattle.std.proofs.Common.{◌≡◌, ℕ, ◌+◌, ◌<◌, List, [], length
 use Rattle.std.proofs.lemmas.Int.{ints}
 use Rattle.std.proofs.lemmas.List.{get_or_default}
 use Rattle.row_core.specs.Vectors.{cell, dot}
-use Rattle.row_core.specs.Lists.{Row}
+use Rattle.row_core.specs.Lists.{Row, vector_at}
 use Rattle.cone_laws.specs.Cones.{Upto, Generates, negated}
-use Rattle.cone_laws.specs.Canon.{vector_at}
 use Rattle.cone_laws.specs.Steps.{IsRowAt, IsPair}
 use Rattle.row_core.proofs.Ring.{ring, zero_of_mul}
 use Rattle.cone_laws.proofs.Columns.{dot-negated}

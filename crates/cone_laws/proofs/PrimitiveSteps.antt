@@ -7,9 +7,10 @@ use Rattle.std.proofs.lemmas.Int.{ints, unsigned_abs-mul}
 use Rattle.std.proofs.lemmas.List.Elements.{All-nil, All-cons, All-append, All-filter, All-from_get_or}
 use Rattle.row_core.specs.Vectors.{cell, dot, scale}
 use Rattle.row_core.specs.Content.{IsPrimitive}
-use Rattle.row_core.specs.Lists.{Row}
-use Rattle.cone_laws.specs.Canon.{vector_at}
-use Rattle.cone_laws.specs.Steps.{sign, upward, IsLineStep, IsMade, pair_at, stays, IsRayStep}
+use Rattle.row_core.specs.Lists.{Row, vector_at}
+use Rattle.cone_laws.specs.Steps.{upward, IsLineStep, IsMade, IsRayStep}
+use Rattle.row_core.specs.Signs.{sign, stays}
+use Rattle.row_core.specs.Pairs.{pair_at}
 use Rattle.cone_laws.proofs.Columns.{cell-scale, length-scale}
 use Rattle.cone_laws.proofs.EchelonForm.{zero_right}
 

@@ -7,10 +7,12 @@ use Rattle.std.proofs.lemmas.Bool.Decides.{Decides-int_eq}
 use Rattle.std.proofs.lemmas.List.{get_or_append_left, get_or-append-add, get_or_default}
 use Rattle.std.proofs.lemmas.List.Elements.{filter_passes, All-from_get_or}
 use Rattle.row_core.specs.Vectors.{cell, dot}
-use Rattle.row_core.specs.Lists.{Row}
+use Rattle.row_core.specs.Lists.{Row, vector_at}
 use Rattle.cone_laws.specs.Cones.{Upto, Generates, HasLineality, negated}
-use Rattle.cone_laws.specs.Canon.{vector_at, IsIrredundant}
-use Rattle.cone_laws.specs.Steps.{IsRowAt, NoThird, IsOpposite, IsCrossing, IsPair, stays, pair_at, IsRayStep}
+use Rattle.cone_laws.specs.Canon.{IsIrredundant}
+use Rattle.cone_laws.specs.Steps.{IsRowAt, NoThird, IsOpposite, IsCrossing, IsPair, IsRayStep}
+use Rattle.row_core.specs.Signs.{stays}
+use Rattle.row_core.specs.Pairs.{pair_at}
 use Rattle.cone_laws.specs.AdjacencyLaws.{IsMinimal}
 use Rattle.row_core.proofs.Ring.{ring, neg-mul, zero-mul, zero_of_mul}
 use Rattle.cone_laws.proofs.Sums.{V, Same, Nothing, SpansBy, same_value, sums_one_line, sums_one_ray, spans_sums, spans_same, spans_of_multiple, spans_add, spans_spans}

@@ -14,7 +14,8 @@ use Rattle.row_core.specs.Vectors.{cell, add, combined}
 use Rattle.row_core.specs.Content.{IsPrimitive}
 use Rattle.cone_laws.specs.Cones.{Spans}
 use Rattle.row_core.specs.Orders.{IsGreater, AreSorted, AreInOrder}
-use Rattle.cone_laws.specs.Canon.{vector_at, IsEchelon, IsIrredundant, IsSystem, Canon}
+use Rattle.cone_laws.specs.Canon.{IsEchelon, IsIrredundant, IsSystem, Canon}
+use Rattle.row_core.specs.Lists.{vector_at}
 use Rattle.cone_laws.specs.ConeSets.{IsCone}
 use Rattle.row_core.proofs.OrderLemmas.{compare_vectors}
 use Rattle.cone_laws.proofs.Columns.{cell-add}

@@ -4,9 +4,8 @@ use Rattle.std.proofs.lemmas.Int.{ints}
 use Rattle.std.proofs.lemmas.Bool.{cases_lt}
 use Rattle.std.proofs.lemmas.List.{get_or_past, get_or_default}
 use Rattle.row_core.specs.Vectors.{cell, dot, scale, add, combined}
-use Rattle.row_core.specs.Lists.{Row}
+use Rattle.row_core.specs.Lists.{Row, vector_at}
 use Rattle.cone_laws.specs.Cones.{Upto, Spans, negated}
-use Rattle.cone_laws.specs.Canon.{vector_at}
 use Rattle.cone_laws.specs.Steps.{AreUnits}
 use Rattle.cone_laws.specs.StepLaws.{GeneratesUpto}
 use Rattle.row_core.proofs.Ring.{at_least_zero_of_mul, mul-zero}

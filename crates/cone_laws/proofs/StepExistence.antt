@@ -7,10 +7,12 @@ use Rattle.std.proofs.lemmas.List.{get_or_default, get_or_append_left, get_or_pu
 use Rattle.std.proofs.lemmas.List.Elements.{All-head, All-tail, All-from_get_or}
 use Rattle.std.proofs.lemmas.List.Sums.{length-filter}
 use Rattle.row_core.specs.Vectors.{cell, dot}
-use Rattle.row_core.specs.Lists.{Row, Pointwise}
+use Rattle.row_core.specs.Lists.{Row, Pointwise, vector_at}
 use Rattle.cone_laws.specs.Cones.{Upto}
-use Rattle.cone_laws.specs.Canon.{vector_at, IsSystem}
-use Rattle.cone_laws.specs.Steps.{IsRowAt, AreUnits, IsCrossing, IsMadeOf, pair_at, stays, sign, IsLowered, IsLastCrossing, upward}
+use Rattle.cone_laws.specs.Canon.{IsSystem}
+use Rattle.cone_laws.specs.Steps.{IsRowAt, AreUnits, IsCrossing, IsMadeOf, IsLowered, IsLastCrossing, upward}
+use Rattle.row_core.specs.Pairs.{pair_at}
+use Rattle.row_core.specs.Signs.{stays, sign}
 use Rattle.cone_laws.specs.SystemLaws.{HasSystem, HasSystemOf, AreAllCrossings}
 use Rattle.row_core.proofs.Ring.{neg-mul, same_or_not}
 use Rattle.cone_laws.proofs.Factors.{All-remove}

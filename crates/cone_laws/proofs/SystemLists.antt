@@ -4,9 +4,8 @@ use Rattle.std.specs.Prelude.{All}
 use Rattle.std.proofs.lemmas.List.{get_or-map, length-map}
 use Rattle.std.proofs.lemmas.List.Elements.{All-append, All-map, All-from_get_or, All-weaker}
 use Rattle.row_core.specs.Vectors.{dot}
-use Rattle.row_core.specs.Lists.{Row, system_rows}
+use Rattle.row_core.specs.Lists.{Row, system_rows, vector_at}
 use Rattle.cone_laws.specs.Cones.{Meets, Spans, Generates, negated}
-use Rattle.cone_laws.specs.Canon.{vector_at}
 use Rattle.cone_laws.specs.Duality.{lines_of, rays_of, IsAdmitted}
 use Rattle.cone_laws.proofs.Columns.{dot_comm}
 use Rattle.cone_laws.proofs.Bipolar.{admitted_is_spanned}

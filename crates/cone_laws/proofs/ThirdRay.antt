@@ -1,8 +1,7 @@
 -- Whether a third ray is 0 on all of the first rows on which two rays are: a search that finds one or shows that there is none.
 use Rattle.std.proofs.Common.{◌≡◌, ◌≢◌, ◌⊎◌, inl, inr, ℕ, zero, suc, ◌<◌, ◌≤◌, List, length, ℤ, pos, sym, arith, subst}
 use Rattle.row_core.specs.Vectors.{dot}
-use Rattle.row_core.specs.Lists.{Row, row_at}
-use Rattle.cone_laws.specs.Canon.{vector_at}
+use Rattle.row_core.specs.Lists.{Row, row_at, vector_at}
 use Rattle.cone_laws.specs.Steps.{IsBetween, NoThird}
 use Rattle.row_core.proofs.Ring.{same_or_not}
 

@@ -4,9 +4,8 @@ use Rattle.std.proofs.lemmas.Int.{ints}
 use Rattle.std.proofs.lemmas.List.{length-append}
 use Rattle.std.proofs.lemmas.List.Elements.{All-nil, All-cons, All-head, All-tail, All-contains, Contains-get_or, Contains-append_left, Contains-append_right}
 use Rattle.row_core.specs.Vectors.{cell, dot, add}
-use Rattle.row_core.specs.Lists.{Row, row_at}
+use Rattle.row_core.specs.Lists.{Row, row_at, vector_at}
 use Rattle.cone_laws.specs.Cones.{Upto, Spans}
-use Rattle.cone_laws.specs.Canon.{vector_at}
 use Rattle.cone_laws.specs.Steps.{NoThird}
 use Rattle.cone_laws.specs.AdjacencyLaws.{IsMinimal, TooFewLaw}
 use Rattle.row_core.proofs.Ring.{mul-zero, neg-mul, by_sign, same_or_not, zero_of_mul}

@@ -10,7 +10,8 @@ use Rattle.std.proofs.lemmas.List.Elements.{Contains-get_or}
 use Rattle.row_core.specs.Vectors.{cell, combined}
 use Rattle.row_core.specs.Content.{IsPrimitive}
 use Rattle.cone_laws.specs.Cones.{Spans}
-use Rattle.cone_laws.specs.Canon.{vector_at, IsPivot, IsEchelon}
+use Rattle.cone_laws.specs.Canon.{IsPivot, IsEchelon}
+use Rattle.row_core.specs.Lists.{vector_at}
 use Rattle.row_core.proofs.Ring.{mul-positive, zero_of_mul, same_or_not, mul_comm}
 use Rattle.cone_laws.proofs.Primitive.{primitive_same_at}
 use Rattle.cone_laws.proofs.SortedLists.{IsDescending, IsWithin, descending_same}

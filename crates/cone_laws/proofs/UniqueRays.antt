@@ -8,7 +8,8 @@ use Rattle.std.proofs.lemmas.Bool.{cases_eq}
 use Rattle.std.proofs.lemmas.List.Elements.{All-nil, All-head, All-tail}
 use Rattle.row_core.specs.Vectors.{cell, scale, add, combined}
 use Rattle.cone_laws.specs.Cones.{negated, Spans}
-use Rattle.cone_laws.specs.Canon.{vector_at, IsSystem}
+use Rattle.cone_laws.specs.Canon.{IsSystem}
+use Rattle.row_core.specs.Lists.{vector_at}
 use Rattle.cone_laws.specs.ConeSets.{IsCone}
 use Rattle.row_core.proofs.Ring.{ring, mul-neg, mul-positive, mul-at_least_zero, zero_of_mul, by_sign, at_least_zero_or_not, mul_comm}
 use Rattle.cone_laws.proofs.Sums.{V}

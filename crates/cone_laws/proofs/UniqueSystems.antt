@@ -7,9 +7,9 @@ use Rattle.std.proofs.lemmas.Int.{ints}
 use Rattle.std.proofs.lemmas.List.{get_or_default}
 use Rattle.std.proofs.lemmas.List.Elements.{Contains-get_or, All-nil}
 use Rattle.row_core.specs.Vectors.{cell, dot, scale, combined}
-use Rattle.row_core.specs.Lists.{Row}
+use Rattle.row_core.specs.Lists.{Row, vector_at}
 use Rattle.cone_laws.specs.Cones.{Meets, Upto, Spans, negated}
-use Rattle.cone_laws.specs.Canon.{vector_at, IsSystem, Canon}
+use Rattle.cone_laws.specs.Canon.{IsSystem, Canon}
 use Rattle.cone_laws.specs.ConeSets.{IsCone}
 use Rattle.row_core.specs.Orders.{AreInOrder}
 use Rattle.cone_laws.specs.UniqueLaws.{AdmitSame}

@@ -3,9 +3,8 @@ use Rattle.std.proofs.Common.{◌≡◌, ℕ, ◌<◌, List, [], length, true, �
 use Rattle.std.specs.Prelude.{filter}
 use Rattle.std.specs.Ordering.{int_eq}
 use Rattle.row_core.specs.Vectors.{cell, dot}
-use Rattle.row_core.specs.Lists.{Row}
+use Rattle.row_core.specs.Lists.{Row, vector_at}
 use Rattle.cone_laws.specs.Cones.{Upto, Spans, Generates, negated}
-use Rattle.cone_laws.specs.Canon.{vector_at}
 use Rattle.cone_laws.proofs.Ring.{mul-zero}
 use Rattle.cone_laws.proofs.Sums.{V, SpansBy, same_value, sums_more}
 use Rattle.cone_laws.proofs.Columns.{value, value_linear, dot_is, dot-negated}

@@ -1,8 +1,8 @@
 use Rattle.std.specs.Prelude.{◌≡◌, ◌≢◌, ℕ, ◌+◌, ◌<◌, ◌≤◌, ◌↔◌, List, [], ◌∷◌, length, ℤ, pos, All, Contains}
 use Rattle.row_core.specs.Vectors.{cell, dot}
-use Rattle.row_core.specs.Lists.{Row, row_at}
+use Rattle.row_core.specs.Lists.{Row, row_at, vector_at}
 use Rattle.cone_laws.specs.Cones.{Upto, Spans, Generates, HasLineality}
-use Rattle.cone_laws.specs.Canon.{vector_at, IsIrredundant}
+use Rattle.cone_laws.specs.Canon.{IsIrredundant}
 use Rattle.cone_laws.specs.Steps.{IsRowAt, NoThird, IsRayStep, IsLineStep}
 
 -- the vector is 0 on each of the first k rows on which both rays are 0

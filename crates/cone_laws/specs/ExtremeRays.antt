@@ -3,9 +3,9 @@ use Rattle.std.specs.Ordering.{int_eq}
 use Rattle.std.proofs.Math.IntN.{◌*ℤ◌}
 use Rattle.row_core.specs.Vectors.{cell, dot}
 use Rattle.row_core.specs.Content.{IsPrimitive}
-use Rattle.row_core.specs.Lists.{Row, row_at}
+use Rattle.row_core.specs.Lists.{Row, row_at, vector_at}
 use Rattle.cone_laws.specs.Cones.{Upto, Spans, Generates}
-use Rattle.cone_laws.specs.Canon.{vector_at, IsEchelon, IsSystem}
+use Rattle.cone_laws.specs.Canon.{IsEchelon, IsSystem}
 use Rattle.cone_laws.specs.Members.{ConeOf}
 
 -- the rays of a system are extreme: of two members whose sum is a multiple of a ray, each with a positive factor in the sum is spanned by the lines and that ray

@@ -3,28 +3,14 @@ use Rattle.std.specs.Int.{IsGcd}
 use Rattle.std.proofs.Math.IntN.{◌*ℤ◌}
 use Rattle.row_core.specs.Vectors.{dot}
 use Rattle.row_core.specs.Range.{DotStays, CombineStays, IsFirstToLeave}
-use Rattle.row_core.specs.Lists.{Row, row_at}
+use Rattle.row_core.specs.Lists.{Row, row_at, vector_at}
+use Rattle.row_core.specs.Combinations.{CombinationLeaves}
 use Rattle.row_core.specs.declared.errors.Overflow.{Overflow}
 use Rattle.row_core.specs.declared.errors.OverKind.{OverKind}
 use Rattle.row_core.specs.declared.errors.OverKind.TheVariants.{Dot, Combine, Scale, Compare}
 use Rattle.cone_laws.specs.Cones.{Upto}
-use Rattle.cone_laws.specs.Canon.{vector_at, IsSystem}
+use Rattle.cone_laws.specs.Canon.{IsSystem}
 use Rattle.cone_laws.specs.Steps.{NoThird, IsOpposite, IsLastCrossing}
-
--- of two vectors with the values u and v on a row, the factors of the second and of the first in their combination that is 0 on the row: the magnitudes of u and v, divided by their greatest common divisor, and the latter with the sign that makes the value 0
-pub record AreFactors (u v second first : ℤ) : Type 0 where
-  pub divisor : ℕ
-  pub greatest : IsGcd (unsigned_abs u) (unsigned_abs v) divisor
-  pub second_is : second *ℤ pos divisor ≡ pos (unsigned_abs u)
-  pub first_is : unsigned_abs first * divisor ≡ unsigned_abs v
-  pub zero : second *ℤ v +ℤ first *ℤ u ≡ pos 0
-
--- in the combination of two vectors with the values u and v on a row that is 0 on it, j is the first column at which a product or the sum leaves the range
-pub record CombinationLeaves (u v : ℤ) (left right : List ℤ) (j : ℕ) : Type 0 where
-  pub second : ℤ
-  pub first : ℤ
-  pub factors : AreFactors u v second first
-  pub column : IsFirstToLeave (CombineStays right second left first) (length right) j
 
 -- the vector is a line with another index, or a ray
 abbrev pub IsOther : List (List ℤ) → List (List ℤ) → ℕ → List ℤ → Type 0

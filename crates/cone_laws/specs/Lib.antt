@@ -12,5 +12,3 @@ pub mod SystemLaws
 pub mod Members
 pub mod DualSystems
 pub mod ExtremeRays
-pub mod Combinations
-pub mod MarkedLists

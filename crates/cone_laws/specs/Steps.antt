@@ -3,9 +3,9 @@ use Rattle.std.specs.Ordering.{int_eq}
 use Rattle.std.proofs.Math.IntN.{◌*ℤ◌}
 use Rattle.row_core.specs.Vectors.{cell, dot, scale}
 use Rattle.row_core.specs.Content.{IsPrimitive}
-use Rattle.row_core.specs.Lists.{Row, row_at, Pointwise}
-pub use Rattle.row_core.specs.Pairs.{pair_at}
-use Rattle.cone_laws.specs.Canon.{vector_at}
+use Rattle.row_core.specs.Lists.{Row, row_at, Pointwise, vector_at}
+use Rattle.row_core.specs.Signs.{sign, stays}
+use Rattle.row_core.specs.Pairs.{pair_at}
 
 -- the row is row k of the list
 pub record IsRowAt (rows : List Row) (k : ℕ) (row : Row) : Type 0 where
@@ -53,11 +53,6 @@ pub record IsCrossing (rows : List Row) (k : ℕ) (a : List ℤ) (rays : List (L
   pub opposite : IsOpposite a rays p n
   pub adjacent : NoThird rows k rays p n
 
--- whether a vector on which the row has this value meets the row: 0 where the row is an equality, at least 0 otherwise
-abbrev pub stays : Bool → ℤ → Bool
-stays true value = int_eq value (pos 0)
-stays false value = int_le (pos 0) value
-
 -- the vectors made are one of each of the pairs
 abbrev pub IsMadeOf : List ℤ → List (List ℤ) → ℕ × ℕ → List ℤ → Type 0
 IsMadeOf a rays pair r = IsMade a (vector_at rays pair.0) (vector_at rays pair.1) r
@@ -73,12 +68,6 @@ pub record IsRayStep (rows : List Row) (k : ℕ) (row : Row) (rays new : List (L
   pub each_made : Pointwise (IsMadeOf row.0 rays) pairs made
 
 -- ---- a line that crosses a row
-
--- 1, 0 or -1
-abbrev pub sign : ℤ → ℤ
-sign (pos zero) = pos 0
-sign (pos (suc n)) = pos 1
-sign (negsuc n) = neg_ℤ (pos 1)
 
 -- a positive multiple of the result is the magnitude of the row's value on the line times the vector, less so much of the line that the row is 0 on it
 pub record IsLoweredBy (a l w r : List ℤ) : Type 0 where

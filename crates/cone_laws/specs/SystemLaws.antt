@@ -1,9 +1,11 @@
 use Rattle.std.specs.Prelude.{◌≡◌, ◌≢◌, ℕ, ◌+◌, ◌<◌, ◌≤◌, List, [], length, count_by, ℤ, pos, Contains}
 use Rattle.row_core.specs.Vectors.{dot}
-use Rattle.row_core.specs.Lists.{Row}
+use Rattle.row_core.specs.Lists.{Row, vector_at}
 use Rattle.cone_laws.specs.Cones.{Upto}
-use Rattle.cone_laws.specs.Canon.{vector_at, IsSystem}
-use Rattle.cone_laws.specs.Steps.{IsRowAt, AreUnits, pair_at, stays, IsCrossing, IsLineStep, IsRayStep}
+use Rattle.cone_laws.specs.Canon.{IsSystem}
+use Rattle.cone_laws.specs.Steps.{IsRowAt, AreUnits, IsCrossing, IsLineStep, IsRayStep}
+use Rattle.row_core.specs.Pairs.{pair_at}
+use Rattle.row_core.specs.Signs.{stays}
 
 -- the unit vectors as lines, without a ray, are the system of no row
 abbrev pub StartIsSystem : Type 0

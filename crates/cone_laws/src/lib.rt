@@ -2,7 +2,6 @@
 #![tactic(auto)]
 
 pub mod adjacency;
-pub mod combination;
 pub mod duality;
 pub mod echelon;
 pub mod extreme_rays;

@@ -18,7 +18,7 @@ use Rattle.row_core.proofs.Ring.{positive_of_mul}
 use Rattle.cone_laws.specs.Members.{ConeOf}
 use Rattle.cone_laws.specs.Canon.{Canon, IsSystem, vector_at}
 use Rattle.cone_laws.specs.Leaves.{Leaves}
-use Rattle.cone_laws.specs.MarkedLists.{AreLists}
+use Rattle.row_core.specs.MarkedLists.{AreLists}
 use Rattle.cone_laws.proofs.Ring.{by_sign}
 use Rattle.cone_laws.proofs.Columns.{cell-scale, length-scale}
 use Rattle.chernikova.specs.declared.cone.Cone.{Cone}

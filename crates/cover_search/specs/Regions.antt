@@ -7,7 +7,7 @@ use Rattle.sat_matrix.specs.ZeroTables.{IsZeroTable}
 use Rattle.cone_laws.specs.Members.{ConeOf}
 use Rattle.cone_laws.specs.Canon.{Canon}
 use Rattle.cone_laws.specs.Leaves.{Leaves}
-use Rattle.cone_laws.specs.MarkedLists.{AreLists}
+use Rattle.row_core.specs.MarkedLists.{AreLists}
 use Rattle.chernikova.specs.declared.cone.Cone.{Cone}
 use Rattle.cons_sys.specs.Constraints.{Constraint, Constraints, Satisfies, In}
 use Rattle.nnc_enc.specs.Encoding.{encoded_constraint, encoded_constraints}

@@ -6,12 +6,12 @@ use Rattle.std.proofs.lemmas.Bool.{cases_lt}
 use Rattle.std.proofs.lemmas.List.{get_or_append_left, get_or-append_right, get_or-drop, get_or_push, get_or_default, take_more, drop-append-le, length-take-le}
 use Rattle.row_core.specs.Vectors.{cell}
 use Rattle.row_core.specs.Content.{IsPrimitive}
-use Rattle.row_core.specs.Lists.{Pointwise}
+use Rattle.row_core.specs.Lists.{Pointwise, vector_at}
 use Rattle.row_core.proofs.Ring.{zero-mul}
-use Rattle.cone_laws.specs.Canon.{vector_at, IsPivot, IsEchelon}
-use Rattle.cone_laws.specs.Steps.{sign}
-use Rattle.cone_laws.specs.Combinations.{IsCombined}
-use Rattle.cone_laws.proofs.FactorLemmas.{magnitude-positive, sign_above}
+use Rattle.cone_laws.specs.Canon.{IsPivot, IsEchelon}
+use Rattle.row_core.specs.Signs.{sign}
+use Rattle.row_core.specs.Combinations.{IsCombined}
+use Rattle.row_core.proofs.Magnitudes.{magnitude-positive, sign_above}
 use Rattle.minimise.specs.Bases.{IsCleared, AreCleared, IsPlace, HasTaken}
 use Rattle.minimise.proofs.LeftCases.{remove_between}
 

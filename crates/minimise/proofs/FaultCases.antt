@@ -5,8 +5,8 @@ use Rattle.std.proofs.lemmas.Int.{ints}
 use Rattle.std.proofs.lemmas.List.{take_all}
 use Rattle.row_core.specs.Vectors.{cell}
 use Rattle.flat_rows.specs.Flat.{marked}
-use Rattle.row_core.specs.Lists.{Row, Rows, row_at, vectors}
-use Rattle.cone_laws.specs.Canon.{vector_at, IsPivot}
+use Rattle.row_core.specs.Lists.{Row, Rows, row_at, vectors, vector_at}
+use Rattle.cone_laws.specs.Canon.{IsPivot}
 use Rattle.row_core.proofs.RowListLemmas.{length-vectors, vector_at-vectors}
 use Rattle.minimise.specs.FlatRows.{TellsFlat}
 use Rattle.minimise.specs.Bases.{IsBasis, IsReduced, IsLeading, IsNewLine, IsPlace, HasTaken, IsGrown, turned_up}

@@ -11,9 +11,10 @@ use Rattle.row_core.specs.Content.{IsPrimitive}
 use Rattle.row_core.proofs.Ring.{ring, mul-zero, neg-mul, one-mul}
 use Rattle.row_core.proofs.CellLemmas.{cell-scale}
 use Rattle.cone_laws.specs.Cones.{Spans}
-use Rattle.cone_laws.specs.Canon.{vector_at, IsPivot, IsEchelon}
-use Rattle.cone_laws.specs.Steps.{sign}
-use Rattle.cone_laws.proofs.FactorLemmas.{sign_times, magnitude_above}
+use Rattle.cone_laws.specs.Canon.{IsPivot, IsEchelon}
+use Rattle.row_core.specs.Lists.{vector_at}
+use Rattle.row_core.specs.Signs.{sign}
+use Rattle.row_core.proofs.Magnitudes.{sign_times, magnitude_above}
 use Rattle.cone_laws.proofs.PrimitiveSteps.{sign_primitive}
 use Rattle.cone_laws.proofs.Sums.{V, Nothing, none, SpansBy, sums_one_line, spans_sums, spans_same, spans_more, spans_spans, lines_spans_scale}
 use Rattle.cone_laws.proofs.Bridge.{columns, In, in_at, to_lines, from_lines}

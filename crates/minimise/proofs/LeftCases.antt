@@ -8,11 +8,11 @@ use Rattle.std.proofs.lemmas.List.Edits.{remove-append_right}
 use Rattle.std.proofs.Math.Seq.{take-suc}
 use Rattle.row_core.specs.Vectors.{cell}
 use Rattle.flat_rows.specs.Flat.{marked}
-use Rattle.row_core.specs.Lists.{Row, row_at, Pointwise}
+use Rattle.row_core.specs.Lists.{Row, row_at, Pointwise, vector_at}
 use Rattle.row_core.proofs.Ring.{neg-mul}
 use Rattle.row_core.proofs.CellLemmas.{length-scale}
-use Rattle.cone_laws.specs.Canon.{vector_at, IsPivot}
-use Rattle.cone_laws.specs.Steps.{sign}
+use Rattle.cone_laws.specs.Canon.{IsPivot}
+use Rattle.row_core.specs.Signs.{sign}
 use Rattle.cone_laws.proofs.PrimitivePart.{HasPrimitiveSum, primitive_sum}
 use Rattle.cone_laws.proofs.StepExistence.{HasRelated, HasPointwise, pointwise_exists}
 use Rattle.minimise.specs.Bases.{IsBasis, IsCleared, IsPlace, HasTaken, turned_up}

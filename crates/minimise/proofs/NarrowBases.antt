@@ -5,7 +5,8 @@ use Rattle.std.proofs.lemmas.Int.{ints}
 use Rattle.std.proofs.lemmas.Bool.{cases_lt}
 use Rattle.std.proofs.lemmas.List.{get_or_past}
 use Rattle.row_core.specs.Vectors.{cell}
-use Rattle.cone_laws.specs.Canon.{vector_at, IsPivot, IsEchelon}
+use Rattle.cone_laws.specs.Canon.{IsPivot, IsEchelon}
+use Rattle.row_core.specs.Lists.{vector_at}
 use Rattle.minimise.specs.Bases.{IsLeading, EchelonIsNarrow}
 
 -- a pivot is a column

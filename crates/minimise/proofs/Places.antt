@@ -1,7 +1,8 @@
 -- Where a line stands between others.
 use Rattle.std.proofs.Common.{◌≡◌, ℕ, ◌+◌, ◌<◌, ◌≤◌, ◌⊎◌, inl, inr, List, [], length, ℤ, subst, arith, below_more}
 use Rattle.std.proofs.lemmas.Bool.{cases_order}
-use Rattle.cone_laws.specs.Canon.{vector_at, IsPivot, IsEchelon}
+use Rattle.cone_laws.specs.Canon.{IsPivot, IsEchelon}
+use Rattle.row_core.specs.Lists.{vector_at}
 use Rattle.cone_laws.proofs.UniqueLines.{pivot_same}
 use Rattle.minimise.specs.Bases.{IsPlace}
 

@@ -7,7 +7,8 @@ use Rattle.row_core.specs.Vectors.{cell, scale, add, combined}
 use Rattle.row_core.specs.Content.{IsPrimitiveOf}
 use Rattle.row_core.proofs.Ring.{ring, mul_assoc, mul-positive}
 use Rattle.row_core.proofs.CellLemmas.{cell-scale, combined-scale}
-use Rattle.cone_laws.specs.Canon.{vector_at, IsPivot, IsEchelon}
+use Rattle.cone_laws.specs.Canon.{IsPivot, IsEchelon}
+use Rattle.row_core.specs.Lists.{vector_at}
 use Rattle.cone_laws.proofs.EchelonForm.{lowered_zero, zero_right}
 use Rattle.cone_laws.proofs.Factors.{combined-add, single, combined-single}
 use Rattle.cone_laws.proofs.UniqueLines.{pivot_same}

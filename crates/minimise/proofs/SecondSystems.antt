@@ -8,15 +8,14 @@ use Rattle.std.proofs.lemmas.List.Edits.{length-remove, get_or-remove_below, get
 use Rattle.std.proofs.lemmas.List.Elements.{All-filter, All-from_get_or, filter_passes}
 use Rattle.row_core.specs.Vectors.{cell, dot, scale, add, combined}
 use Rattle.row_core.specs.Content.{IsPrimitive}
-use Rattle.row_core.specs.Lists.{Row, row_at, system_rows}
+use Rattle.row_core.specs.Lists.{Row, row_at, system_rows, vector_at, Pointwise}
 use Rattle.cone_laws.specs.Members.{ConeOf}
 use Rattle.cone_laws.proofs.MemberLemmas.{zero_of_signs}
 use Rattle.cone_laws.proofs.SystemLists.{met_line, met_ray, cone_of_system}
 use Rattle.cone_laws.proofs.ValidRows.{valid_of_row}
 use Rattle.cone_laws.specs.Cones.{Spans, Generates, HasLineality, negated}
-use Rattle.cone_laws.specs.Canon.{vector_at, IsEchelon, IsIrredundant, IsSystem}
+use Rattle.cone_laws.specs.Canon.{IsEchelon, IsIrredundant, IsSystem}
 use Rattle.cone_laws.specs.Duality.{lines_of, rays_of}
-use Rattle.row_core.specs.Lists.{Pointwise}
 use Rattle.row_core.proofs.Ring.{mul_comm, mul-zero, neg-mul, mul-at_least_zero, mul-positive, at_least_zero_of_mul, zero_of_mul}
 use Rattle.cone_laws.proofs.Sums.{V, Nothing, Among, Sums, none, line, ray, SpansBy, IsLinear, same_value, sums_zero, sums_one_ray, spans_more, spans_same, spans_sums, spans_add, spans_of_multiple, spans_spans}
 use Rattle.cone_laws.proofs.Columns.{value, value_linear, dot_is, dot_comm, dot-add, dot-scale, dot-negated, length-scale, length-add}

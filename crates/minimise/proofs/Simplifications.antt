@@ -7,12 +7,12 @@ use Rattle.std.proofs.lemmas.List.{length-map, get_or-map, get_or_append_left, g
 use Rattle.std.proofs.lemmas.List.Elements.{All-head, All-tail}
 use Rattle.row_core.specs.Vectors.{dot}
 use Rattle.flat_rows.specs.Flat.{marked}
-use Rattle.row_core.specs.Lists.{Row, Rows, row_at, vectors, system_rows, AreMarked, Pointwise}
+use Rattle.row_core.specs.Lists.{Row, Rows, row_at, vectors, system_rows, AreMarked, Pointwise, vector_at}
 use Rattle.sat_matrix.specs.Tables.{Table, bits_of, transposed}
 use Rattle.sat_matrix.specs.ZeroTables.{TellsZeros, IsZeroTable}
-use Rattle.cone_laws.specs.Canon.{vector_at, IsSystem, Canon}
+use Rattle.cone_laws.specs.Canon.{IsSystem, Canon}
 use Rattle.cone_laws.specs.Members.{ConeOf}
-use Rattle.cone_laws.specs.MarkedLists.{AreLists}
+use Rattle.row_core.specs.MarkedLists.{AreLists}
 use Rattle.cone_laws.proofs.UniqueSystems.{upto_canon_from_sorted}
 use Rattle.cone_laws.proofs.Columns.{dot_comm}
 use Rattle.cone_laws.proofs.SystemLists.{met_line}

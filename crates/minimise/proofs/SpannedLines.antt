@@ -2,7 +2,7 @@
 use Rattle.std.proofs.Common.{◌≡◌, ℕ, zero, suc, ◌<◌, List, [], ◌∷◌, length, ℤ, pos, ◌+ℤ◌, ◌*ℤ◌, ◌<ℤ◌, ◌≤ℤ◌, refl, sym, arith}
 use Rattle.std.proofs.lemmas.Int.{ints}
 use Rattle.row_core.specs.Vectors.{cell, combined}
-use Rattle.cone_laws.specs.Canon.{vector_at}
+use Rattle.row_core.specs.Lists.{vector_at}
 use Rattle.cone_laws.proofs.Sums.{V, Nothing, none, SpansBy, spans_sums, spans_add, lines_spans_scale, spans_of_multiple}
 
 once : (x y c v d w : ℤ) → x ≡ c *ℤ v → y ≡ d *ℤ w → x +ℤ y ≡ pos 1 *ℤ x +ℤ pos 1 *ℤ y

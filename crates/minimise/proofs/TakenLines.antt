@@ -7,8 +7,8 @@ use Rattle.std.proofs.lemmas.Int.{ints}
 use Rattle.std.proofs.lemmas.Bool.{cases_lt, cond-true, cond-false, lt-ltb, le-ltb}
 use Rattle.std.proofs.lemmas.List.Edits.{length-remove, get_or-remove_below, get_or-remove_above}
 use Rattle.row_core.specs.Vectors.{cell}
-use Rattle.cone_laws.specs.Canon.{vector_at, IsPivot, IsEchelon}
-use Rattle.row_core.specs.Lists.{Pointwise}
+use Rattle.cone_laws.specs.Canon.{IsPivot, IsEchelon}
+use Rattle.row_core.specs.Lists.{vector_at, Pointwise}
 use Rattle.row_core.proofs.Ring.{ring, zero_of_mul}
 use Rattle.cone_laws.proofs.EchelonForm.{lowered_zero, lowered_positive, zero_right, zero_left}
 use Rattle.minimise.specs.Bases.{IsClearedAt, EchelonTakesLine}

@@ -4,7 +4,7 @@ use Rattle.std.proofs.Common.{sym, subst}
 use Rattle.row_core.specs.Lists.{Row, Rows, vectors, system_rows}
 use Rattle.cone_laws.specs.Canon.{Canon, IsSystem}
 use Rattle.cone_laws.specs.Members.{ConeOf}
-use Rattle.cone_laws.specs.MarkedLists.{AreLists}
+use Rattle.row_core.specs.MarkedLists.{AreLists}
 use Rattle.cone_laws.proofs.MemberLemmas.{canon_same}
 use Rattle.cone_laws.proofs.ValidRows.{valid_of_row, row_of_valid}
 use Rattle.minimise.specs.declared.second_system.Simplified.{Simplified}

@@ -2,10 +2,10 @@ use Rattle.std.specs.Prelude.{◌≡◌, ◌≢◌, ℕ, ◌<◌, ◌≤◌, ◌
 use Rattle.std.proofs.Math.IntN.{◌*ℤ◌}
 use Rattle.row_core.specs.Vectors.{cell, scale, combined}
 use Rattle.row_core.specs.Content.{IsPrimitive}
-use Rattle.row_core.specs.Lists.{Pointwise}
+use Rattle.row_core.specs.Lists.{Pointwise, vector_at}
 use Rattle.cone_laws.specs.Cones.{Spans}
-use Rattle.cone_laws.specs.Canon.{vector_at, IsPivot, IsEchelon}
-use Rattle.cone_laws.specs.Steps.{sign}
+use Rattle.cone_laws.specs.Canon.{IsPivot, IsEchelon}
+use Rattle.row_core.specs.Signs.{sign}
 
 -- the lines are the reduced echelon basis of what the vectors span
 pub record IsBasis (spanning lines : List (List ℤ)) : Type 0 where

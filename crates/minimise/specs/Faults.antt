@@ -1,8 +1,8 @@
 use Rattle.std.specs.Prelude.{◌≡◌, ℕ, ◌<◌, ◌⊎◌, ⊤, List, length, take, ℤ, All, Contains}
 use Rattle.row_core.specs.Vectors.{cell}
-use Rattle.row_core.specs.Lists.{Row, row_at}
-use Rattle.cone_laws.specs.Canon.{vector_at, IsPivot}
-use Rattle.cone_laws.specs.Leaves.{CombinationLeaves}
+use Rattle.row_core.specs.Lists.{Row, row_at, vector_at}
+use Rattle.cone_laws.specs.Canon.{IsPivot}
+use Rattle.row_core.specs.Combinations.{CombinationLeaves}
 use Rattle.minimise.specs.Bases.{IsReduced, IsLeading, IsPlace, turned_up}
 use Rattle.minimise.specs.Lefts.{IsLeftAmong, IsLeft}
 use Rattle.minimise.specs.declared.fault.Fault.{Fault}

@@ -1,9 +1,9 @@
 use Rattle.std.specs.Prelude.{◌≡◌, ◌≢◌, ℕ, ◌-◌, ◌<◌, ◌≤◌, ◌⊎◌, Bool, List, length, take, ℤ, Contains}
 use Rattle.row_core.specs.Vectors.{cell}
 use Rattle.flat_rows.specs.Flat.{marked}
-use Rattle.row_core.specs.Lists.{Row, row_at, vectors}
-use Rattle.cone_laws.specs.Canon.{vector_at, IsPivot}
-use Rattle.cone_laws.specs.Leaves.{CombinationLeaves}
+use Rattle.row_core.specs.Lists.{Row, row_at, vectors, vector_at}
+use Rattle.cone_laws.specs.Canon.{IsPivot}
+use Rattle.row_core.specs.Combinations.{CombinationLeaves}
 use Rattle.minimise.specs.FlatRows.{TellsFlat}
 use Rattle.minimise.specs.Bases.{IsBasis, IsReduced}
 

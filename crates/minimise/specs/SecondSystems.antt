@@ -1,6 +1,6 @@
 use Rattle.std.specs.Prelude.{◌≡◌, ℕ, ◌<◌, Bool, true, List, ◌++◌, length, replicate, ℤ, All}
-use Rattle.row_core.specs.Lists.{Row, row_at, system_rows, Pointwise}
-use Rattle.cone_laws.specs.Canon.{vector_at, IsSystem}
+use Rattle.row_core.specs.Lists.{Row, row_at, system_rows, Pointwise, vector_at}
+use Rattle.cone_laws.specs.Canon.{IsSystem}
 use Rattle.cone_laws.specs.Members.{ConeOf}
 use Rattle.minimise.specs.FlatRows.{IsZeroOnAll}
 use Rattle.minimise.specs.Bases.{IsBasis, IsReduced}

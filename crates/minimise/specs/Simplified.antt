@@ -3,7 +3,7 @@ use Rattle.row_core.specs.Vectors.{dot}
 use Rattle.row_core.specs.Lists.{Row, Rows, vectors}
 use Rattle.cone_laws.specs.Canon.{Canon}
 use Rattle.cone_laws.specs.Members.{ConeOf}
-use Rattle.cone_laws.specs.MarkedLists.{AreLists}
+use Rattle.row_core.specs.MarkedLists.{AreLists}
 use Rattle.sat_matrix.specs.Tables.{Table}
 use Rattle.sat_matrix.specs.ZeroTables.{IsZeroTable}
 use Rattle.minimise.specs.Lefts.{IsLeft}

@@ -4,15 +4,15 @@ ghost use Rattle.row_core.specs.Vectors.{cell};
 ghost use Rattle.row_core.specs.Range.{AllInRange};
 ghost use Rattle.row_core.specs.Content.{IsPrimitive};
 ghost use Rattle.flat_rows.specs.Flat.{marked};
-ghost use Rattle.row_core.specs.Lists.{vectors, AreMarked};
-ghost use Rattle.cone_laws.specs.Canon.{vector_at, IsPivot, IsEchelon};
+ghost use Rattle.row_core.specs.Lists.{vectors, AreMarked, vector_at};
+ghost use Rattle.cone_laws.specs.Canon.{IsPivot, IsEchelon};
 ghost use Rattle.minimise.specs.Bases.{IsBasis, IsLeading, IsPlace, HasTaken, IsCleared, AreCleared, IsNewLine, IsGrown, turned_up};
 ghost use Rattle.minimise.specs.Faults.{IsCombineFault, IsClearFault, IsTakeFault, IsGrowFault, IsListFault};
 
 use crate::fault::Fault;
 use crate::reduction::{clear, leading, pivot_of, reduce, zeros};
-use cone_laws::combination::write_upward;
 use row_core::{Memory, RowBuf, RowList, Steps};
+use row_store::write_upward;
 use std::alloc::Global;
 use std::sync::ledger::Ledger;
 

@@ -5,13 +5,13 @@ ghost use Rattle.row_core.specs.Range.{AllInRange};
 ghost use Rattle.row_core.specs.Content.{IsPrimitive};
 ghost use Rattle.row_core.specs.Lists.{vectors};
 ghost use Rattle.cone_laws.specs.Canon.{IsPivot, IsEchelon};
-ghost use Rattle.cone_laws.specs.Leaves.{CombinationLeaves};
+ghost use Rattle.row_core.specs.Combinations.{CombinationLeaves};
 ghost use Rattle.minimise.specs.Bases.{IsCleared, IsLeading, IsReduced};
 ghost use Rattle.minimise.specs.Faults.{IsCombineFault, IsReduceFault};
 
 use crate::fault::{Fault, left_of};
-use cone_laws::combination::combine;
 use row_core::{Memory, RowBuf, RowList, Steps};
+use row_store::combine;
 use std::alloc::Global;
 use std::sync::ledger::Ledger;
 

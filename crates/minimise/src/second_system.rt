@@ -3,7 +3,7 @@ ghost use Rattle.std.specs.Prelude.{◌≡◌, ◌+◌, ◌*◌, ◌≤◌, ◌+
 ghost use Rattle.row_core.specs.Lists.{vectors};
 ghost use Rattle.cone_laws.specs.Canon.{IsSystem};
 ghost use Rattle.cone_laws.specs.Members.{ConeOf};
-ghost use Rattle.cone_laws.specs.MarkedLists.{AreLists};
+ghost use Rattle.row_core.specs.MarkedLists.{AreLists};
 ghost use Rattle.sat_matrix.specs.ZeroTables.{IsZeroTable};
 ghost use Rattle.minimise.specs.Faults.{IsLeftFault};
 ghost use Rattle.minimise.specs.Parts.{AreArranged, IsArranged};

@@ -6,7 +6,7 @@ use Rattle.row_core.specs.Lists.{Row, vectors}
 use Rattle.sat_matrix.specs.Tables.{Table}
 use Rattle.sat_matrix.specs.ZeroTables.{IsZeroTable}
 use Rattle.chernikova.specs.declared.cone.Cone.{Cone}
-use Rattle.chernikova.specs.Changes.{AreLists}
+use Rattle.row_core.specs.MarkedLists.{AreLists}
 use Rattle.poly_pair.specs.Starts.{IsStartOf}
 use Rattle.poly_pair.specs.Zeros.{ArePairZeros, KeepsZeros}
 use Rattle.cone_laws.specs.Canon.{IsSystem}

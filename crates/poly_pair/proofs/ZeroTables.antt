@@ -9,7 +9,7 @@ use Rattle.row_core.specs.Vectors.{cell, dot}
 use Rattle.row_core.specs.Lists.{Row, row_at, vectors, system_rows, Pointwise}
 use Rattle.row_core.proofs.PointwiseLemmas.{pointwise_nil, pointwise_cons, pointwise_tail, pointwise_append}
 use Rattle.sat_matrix.proofs.MarkedRows.{pointwise_marked}
-use Rattle.flat_rows.proofs.Marked.{marked-map}
+use Rattle.flat_rows.proofs.Marked.{marked-map, marked-append}
 use Rattle.cone_laws.specs.Canon.{vector_at}
 use Rattle.cone_laws.specs.Cones.{Generates}
 use Rattle.cone_laws.specs.Members.{ConeOf}
@@ -17,8 +17,7 @@ use Rattle.cone_laws.proofs.Columns.{dot_comm}
 use Rattle.cone_laws.proofs.SystemLists.{zero_on_lines}
 use Rattle.sat_matrix.specs.Tables.{Table, bits_of, transposed}
 use Rattle.sat_matrix.specs.ZeroTables.{TellsZeros, IsZeroTable}
-use Rattle.chernikova.proofs.StateLemmas.{marked-append}
-use Rattle.chernikova.proofs.VectorLemmas.{length-vectors, vector_at-vectors}
+use Rattle.row_core.proofs.RowListLemmas.{length-vectors, vector_at-vectors}
 use Rattle.minimise.proofs.FacetLemmas.{TellsRows, turned_tells}
 use Rattle.gens_sys.specs.declared.kind.GenKind.TheVariants.{Line}
 use Rattle.gens_sys.specs.Generators.{Generator, Generators, row_at as generator_at}

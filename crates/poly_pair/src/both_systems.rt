@@ -4,7 +4,7 @@ ghost use Rattle.row_core.specs.Lists.{Row, vectors};
 ghost use Rattle.cone_laws.specs.Canon.{IsSystem};
 ghost use Rattle.cone_laws.specs.Duality.{lines_of, rays_of};
 ghost use Rattle.cone_laws.specs.Members.{ConeOf};
-ghost use Rattle.cone_laws.specs.MarkedLists.{AreLists};
+ghost use Rattle.row_core.specs.MarkedLists.{AreLists};
 ghost use Rattle.sat_matrix.specs.ZeroTables.{IsZeroTable};
 ghost use Rattle.pair_laws.specs.PointSets.{AreClosed, AreClosedKinds};
 ghost use Rattle.pair_laws.specs.WorkLists.{constraint_list, generator_list};

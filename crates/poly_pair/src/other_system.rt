@@ -4,7 +4,7 @@ ghost use Rattle.std.specs.Prelude.{◌≡◌, ℕ, ◌+◌, ◌-◌, ◌^◌, �
 ghost use Rattle.row_core.specs.Lists.{vectors};
 ghost use Rattle.cone_laws.specs.Canon.{Canon};
 ghost use Rattle.cone_laws.specs.Members.{ConeOf};
-ghost use Rattle.chernikova.specs.Changes.{AreLists};
+ghost use Rattle.row_core.specs.MarkedLists.{AreLists};
 ghost use Rattle.chernikova.specs.Conversion.{IsRealOverflow, IsCountedUpto, IsCountedBefore};
 ghost use Rattle.pair_laws.specs.PointSets.{AreClosed, AreClosedKinds};
 ghost use Rattle.pair_laws.specs.WorkLists.{constraint_list, generator_list};

@@ -2,7 +2,7 @@
 ghost use Rattle.std.specs.Prelude.{◌≡◌, ◌+◌, ◌<◌, ◌≤◌, ◌++◌, ◌∷◌, [], not, true, List, length, map, drop, replicate, IfOk, OnOk, ℤ};
 ghost use Rattle.flat_rows.specs.Flat.{marked};
 ghost use Rattle.row_core.specs.Lists.{Row, vectors, system_rows};
-ghost use Rattle.chernikova.specs.Changes.{AreLists};
+ghost use Rattle.row_core.specs.MarkedLists.{AreLists};
 ghost use Rattle.sat_matrix.specs.Tables.{bits_of};
 ghost use Rattle.sat_matrix.specs.ZeroTables.{IsZeroTable};
 ghost use Rattle.pair_laws.specs.WorkLists.{divisor_row, generator_list};

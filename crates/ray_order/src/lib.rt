@@ -2,10 +2,11 @@
 //!
 //! - [`descending_order`] gives the indices of the rays, the greatest first, and [`rays_at`] the rays
 //!   at some indices.
-//! - [`LendRows`] is what both read: a list that lends rows of one width.
+//!
+//! Both read any list that lends rows of one width (`LendRows` of row_core).
 #![tactic(auto)]
 
 mod keys;
 mod order;
 
-pub use order::{LendRows, descending_order, rays_at};
+pub use order::{descending_order, rays_at};

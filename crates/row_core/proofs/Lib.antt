@@ -13,3 +13,4 @@ pub mod RefusalLemmas
 pub mod PointwiseLemmas
 pub mod SignLemmas
 pub mod SignTests
+pub mod Magnitudes

@@ -10,3 +10,6 @@ pub mod Laws
 pub mod Sameness
 pub mod Spans
 pub mod Refusals
+pub mod Signs
+pub mod Combinations
+pub mod MarkedLists

@@ -10,6 +10,7 @@
 //! - [`narrow_dot`] needs no such test, where [`all_narrow`] told that all numbers are small.
 //! - [`gcd`] and [`make_primitive`] divide a row by the greatest common divisor of its entries;
 //!   [`negate`] changes all signs.
+//! - [`LendRows`] is what lists have in common that lend rows of one width.
 //! - [`emptied`] takes a list out of its place, so that its room is used again.
 //! - [`one_primitive`] is a law of primitive rows.
 #![tactic(auto)]
@@ -19,6 +20,7 @@ mod counting;
 mod errors;
 mod in_place;
 mod laws;
+mod lending;
 mod linear;
 mod marked;
 mod narrow;
@@ -31,6 +33,7 @@ pub use counting::Steps;
 pub use errors::{ConvErr, Memory, OverKind, Overflow, PairOver};
 pub use in_place::combine_onto;
 pub use laws::one_primitive;
+pub use lending::LendRows;
 pub use linear::{combination, combine_into, dot, product, sum};
 pub use marked::{Iter, MarkedRows};
 pub use narrow::{all_narrow, narrow_dot};

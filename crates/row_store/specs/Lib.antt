@@ -1,1 +1,5 @@
 pub mod Stores
+pub mod Vectors
+pub mod Values
+pub mod Changes
+pub mod Faults

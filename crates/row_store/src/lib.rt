@@ -1,9 +1,31 @@
-//! Rows of exact integers in one buffer, which are appended without memory once it is reserved.
+//! Rows of exact integers in one buffer, which are appended without memory once it is reserved, and what
+//! a step of a conversion makes of them.
 //!
-//! - [`RowStore`] keeps the rows, and combines two of them in place.
+//! - [`RowStore`] keeps rows, and combines two of them in place.
+//! - [`VectorList`] keeps the lines or the rays of a system, with one mark. [`values`] gives their values
+//!   on a row; [`last_crossing`], [`all_meet`], [`count_meeting`] and [`marks`] tell from these how they
+//!   lie to it.
+//! - [`lower_lines`], [`lower_rays`] and [`push_upward`] are the parts of a step with a line on which the row
+//!   isn't 0, and [`ray_step`] is the step with a row that is 0 on all lines.
+//! - [`combine`] gives the combination of two vectors that is 0 on a row, and [`write_upward`] the line with
+//!   the sign with which a row is above 0 on it.
+//! - [`ValueFault`] and [`CombineFault`] name the vectors whose value or combination leaves the range.
 #![tactic(auto)]
 
+mod combination;
+mod combining;
+mod fault;
+mod line_steps;
+mod ray_steps;
+mod row_values;
 mod store;
+mod vectors;
 mod windows;
 
+pub use combination::{combine, write_upward};
+pub use fault::{CombineFault, Part, Place, ValueFault};
+pub use line_steps::{lower_lines, lower_rays, push_upward};
+pub use ray_steps::ray_step;
+pub use row_values::{all_meet, count_meeting, last_crossing, mark_pairs, marks, values};
 pub use store::RowStore;
+pub use vectors::{Crossing, VectorList, make_empty};

@@ -7,7 +7,7 @@ use Rattle.row_core.specs.Lists.{Row, Rows, IsRow, FitWidth, vectors}
 use Rattle.cone_laws.specs.Cones.{Upto}
 use Rattle.cone_laws.specs.Canon.{Canon, IsSystem}
 use Rattle.cone_laws.specs.Members.{ConeOf}
-use Rattle.cone_laws.specs.MarkedLists.{AreLists}
+use Rattle.row_core.specs.MarkedLists.{AreLists}
 use Rattle.gens_sys.specs.Generators.{Generator, Generators, FitDimension, Gains}
 use Rattle.gens_sys.specs.declared.kind.GenKind.{GenKind}
 use Rattle.gens_sys.specs.declared.kind.GenKind.TheVariants.{Line, Point}

@@ -6,7 +6,8 @@ use Rattle.std.proofs.lemmas.List.Elements.{All-set}
 use mir.Val.{to_z, of_z}
 use Rattle.row_core.specs.Range.{InRange, AllInRange}
 use Rattle.row_core.specs.Vectors.{cell, scale}
-use Rattle.cone_laws.proofs.FactorLemmas.{under_zero, not_under, back}
+use Rattle.row_core.proofs.SignTests.{under_zero, not_under}
+use Rattle.row_core.proofs.Magnitudes.{back}
 use Rattle.affine_ops.proofs.InverseMaps.{inverse_below, inverse_above, negated_entry, negated_in_range, above_zero}
 use Rattle.affine_ops.proofs.inverse_maps.inverse_row.Goals as goal
 

@@ -5,7 +5,7 @@ use Rattle.cone_laws.specs.Canon.{Canon}
 use Rattle.std.proofs.Common.{sym, subst, arith}
 use Rattle.std.proofs.lemmas.Grind.{common_steps}
 use Rattle.chernikova.specs.Beside.{IsDone}
-use Rattle.chernikova.specs.Changes.{AreLists}
+use Rattle.row_core.specs.MarkedLists.{AreLists}
 use Rattle.chernikova.specs.Conversion.{IsState, IsCountedUpto, IsCountedBefore, IsRealOverflow}
 use Rattle.chernikova.proofs.Counts.{counted_start}
 use Rattle.chernikova.proofs.Rankings.{rearranged_canon, rearranged_zeros, rearranged_lists}

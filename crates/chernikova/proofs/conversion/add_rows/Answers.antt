@@ -5,7 +5,7 @@ use Rattle.row_core.specs.Lists.{Row}
 use Rattle.chernikova.specs.Conversion.{IsState, IsConverted, IsCountedBetween, IsCountedBeforeFrom, IsRealOverflowFrom}
 use Rattle.chernikova.proofs.Prefixes.{front_state, state_moved}
 use Rattle.chernikova.proofs.Counts.{counted_start_from}
-use Rattle.chernikova.proofs.VectorLemmas.{length-vectors}
+use Rattle.row_core.proofs.RowListLemmas.{length-vectors}
 use Rattle.chernikova.proofs.Rankings.{rearranged_canon, rearranged_zeros, rearranged_lists}
 use Rattle.chernikova.proofs.conversion.add_rows.Goals as goal
 

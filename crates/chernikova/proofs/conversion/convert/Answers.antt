@@ -3,7 +3,7 @@ use Rattle.std.proofs.Common.{refl, subst, arith, ◌∙◌, sym}
 use Rattle.chernikova.specs.Conversion.{IsState, IsCountedUpto, IsCountedBefore, IsRealOverflow}
 use Rattle.chernikova.proofs.Prefixes.{state_moved, overflow_any}
 use Rattle.chernikova.proofs.Counts.{counted_start}
-use Rattle.chernikova.proofs.VectorLemmas.{length-vectors}
+use Rattle.row_core.proofs.RowListLemmas.{length-vectors}
 use Rattle.chernikova.proofs.Rankings.{rearranged_canon, rearranged_zeros, rearranged_lists}
 use Rattle.std.proofs.lemmas.Result.{err_from_is_err_and}
 use Rattle.chernikova.proofs.conversion.convert.Goals as goal

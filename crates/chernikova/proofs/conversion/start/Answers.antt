@@ -1,7 +1,7 @@
 use Rattle.std.specs.Prelude.{◌≡◌, false, []}
 use Rattle.std.proofs.lemmas.List.Elements.{All-same}
 use Rattle.row_core.specs.Lists.{Row}
-use Rattle.chernikova.proofs.ChangeLemmas.{marked_none}
+use Rattle.row_store.proofs.ChangeLemmas.{marked_none}
 use Rattle.chernikova.proofs.NextStates.{start_state}
 use Rattle.chernikova.proofs.conversion.start.Goals as goal
 

@@ -3,7 +3,7 @@ use Rattle.std.proofs.Common.{sym, ap, subst, ◌∙◌, arith, set}
 use Rattle.std.proofs.lemmas.List.Elements.{All-same}
 use Rattle.std.proofs.lemmas.Grind.{common_steps}
 use Rattle.row_core.specs.Lists.{Row}
-use Rattle.chernikova.proofs.VectorLemmas.{marked_push}
+use Rattle.row_core.proofs.RowListLemmas.{marked_push}
 use Rattle.chernikova.proofs.NextStates.{AreUnitsUpto, units_more, units_all, unit, zeros_back}
 use Rattle.chernikova.proofs.conversion.units.Goals as goal
 

@@ -6,15 +6,14 @@ use Rattle.std.proofs.lemmas.List.Elements.{All-get_or}
 use mir.Val.{SFits, to_z, of_z}
 use Rattle.row_core.specs.Range.{InRange, AllInRange}
 use Rattle.std.proofs.lemmas.Result.{err_from_is_err_and}
-use Rattle.cone_laws.specs.Canon.{vector_at}
-use Rattle.chernikova.specs.declared.fault.Part.TheVariants.{Rays}
-use Rattle.row_core.specs.Lists.{vectors}
-use Rattle.chernikova.specs.Changes.{value_at}
-use Rattle.chernikova.specs.Faults.{IsLowerFault, IsOtherFault}
-use Rattle.cone_laws.proofs.FactorLemmas.{fits}
-use Rattle.chernikova.proofs.VectorLemmas.{vector_at-vectors, length-vectors}
-use Rattle.chernikova.proofs.FaultLemmas.{line_fault_from_line, line_fault_from_ray}
-use Rattle.chernikova.proofs.ChangeLemmas.{line_change, marked_with_upward}
+use Rattle.row_core.specs.Lists.{vector_at, vectors}
+use Rattle.row_store.specs.declared.fault.Part.TheVariants.{Rays}
+use Rattle.row_core.specs.Pairs.{value_at}
+use Rattle.row_store.specs.Faults.{IsLowerFault, IsOtherFault}
+use Rattle.row_core.proofs.SignTests.{fits}
+use Rattle.row_core.proofs.RowListLemmas.{vector_at-vectors, length-vectors}
+use Rattle.row_store.proofs.FaultLemmas.{line_fault_from_line, line_fault_from_ray}
+use Rattle.row_store.proofs.ChangeLemmas.{line_change, marked_with_upward}
 use Rattle.chernikova.proofs.line_step.line_step.Goals as goal
 
 -- a value in the range is itself where it is passed on

@@ -3,12 +3,14 @@ use Rattle.std.specs.Ordering.{int_eq}
 use Rattle.std.proofs.Common.{refl, sym, ap, subst, ◌∙◌}
 use Rattle.std.proofs.lemmas.Result.{err_from_is_err_and}
 use Rattle.row_core.specs.Lists.{row_at, is_eq_at, vectors}
-use Rattle.cone_laws.specs.Steps.{stays, IsLineStep}
+use Rattle.cone_laws.specs.Steps.{IsLineStep}
+use Rattle.row_core.specs.Signs.{stays}
 use Rattle.chernikova.specs.declared.plan.Plan.{Plan}
-use Rattle.chernikova.specs.Vectors.{Vectors, as_rows}
-use Rattle.chernikova.specs.Systems.{values_on}
+use Rattle.row_store.specs.Vectors.{Vectors, as_rows}
+use Rattle.row_store.specs.Values.{values_on}
 use Rattle.sat_matrix.specs.TableSteps.{HasColumn, HasLineStep, HasRayStep}
-use Rattle.chernikova.specs.Changes.{AreLists, IsLineChange, IsRayChange}
+use Rattle.row_core.specs.MarkedLists.{AreLists}
+use Rattle.row_store.specs.Changes.{IsLineChange, IsRayChange}
 use Rattle.sat_matrix.specs.Pairs.{AreAllCrosses}
 use Rattle.chernikova.specs.Conversion.{IsState}
 use Rattle.chernikova.specs.Plans.{IsPlan, IsLinePlan, IsMet, IsRayPlan}

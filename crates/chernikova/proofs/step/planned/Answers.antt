@@ -1,7 +1,7 @@
 use Rattle.std.specs.Prelude.{ℕ, ℤ, List, Bool, true, ◌++◌, map, replicate}
 use Rattle.std.proofs.Common.{ap, subst, ◌∙◌, arith, length}
 use Rattle.row_core.specs.Lists.{row_at, is_eq_at, vectors}
-use Rattle.cone_laws.specs.Steps.{stays}
+use Rattle.row_core.specs.Signs.{stays}
 use Rattle.chernikova.specs.declared.plan.Position.{Position}
 use Rattle.sat_matrix.specs.Pairs.{AreAllCrosses}
 use Rattle.chernikova.specs.Plans.{IsPosition, IsCutting, HasValues}

@@ -2,8 +2,7 @@ use Rattle.std.specs.Prelude.{ℤ, List, Bool}
 use Rattle.std.proofs.Common.{ap, subst, ◌∙◌, sym, length}
 use Rattle.row_core.specs.Lists.{row_at, vectors}
 use Rattle.cone_laws.specs.Steps.{IsLastCrossing}
-use Rattle.chernikova.specs.Systems.{values_on}
-use Rattle.chernikova.specs.Plans.{AllStay, SomeGoes}
+use Rattle.row_store.specs.Values.{values_on, AllStay, SomeGoes}
 use Rattle.chernikova.proofs.PlacedCones.{first_of, second_of}
 use Rattle.chernikova.proofs.StepLemmas.{last_from, flat_from}
 use Rattle.std.proofs.lemmas.Result.{err_from_is_err_and}

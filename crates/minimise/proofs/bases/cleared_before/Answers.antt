@@ -4,8 +4,7 @@ use Rattle.std.proofs.lemmas.Result.{err_from_is_err_and}
 use Rattle.std.proofs.lemmas.List.Elements.{All-same, Contains-get_or, All-nil}
 use Rattle.row_core.specs.Range.{AllInRange}
 use Rattle.row_core.specs.Content.{IsPrimitive}
-use Rattle.row_core.specs.Lists.{Row, vectors}
-use Rattle.cone_laws.specs.Canon.{vector_at}
+use Rattle.row_core.specs.Lists.{Row, vectors, vector_at}
 use Rattle.row_core.proofs.RowListLemmas.{length-vectors, vector_at-vectors, vectors_push, marked_push}
 use Rattle.minimise.specs.Bases.{IsCleared, AreCleared}
 use Rattle.minimise.proofs.ClearedRows.{cleared_more, cleared_none}

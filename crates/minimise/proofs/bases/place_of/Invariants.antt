@@ -1,6 +1,6 @@
 use Rattle.std.proofs.Common.{ℕ, ◌<◌}
-use Rattle.row_core.specs.Lists.{vectors}
-use Rattle.cone_laws.specs.Canon.{vector_at, IsPivot}
+use Rattle.row_core.specs.Lists.{vectors, vector_at}
+use Rattle.cone_laws.specs.Canon.{IsPivot}
 use Rattle.minimise.proofs.bases.place_of.Given as goal
 
 abbrev pub invariant-loop-index : goal.invariant-loop-index

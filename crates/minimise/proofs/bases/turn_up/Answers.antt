@@ -7,8 +7,8 @@ use Rattle.std.proofs.lemmas.List.Elements.{All-get_or}
 use Rattle.row_core.specs.Range.{InRange, AllInRange}
 use Rattle.row_core.specs.Vectors.{scale}
 use Rattle.row_core.proofs.CellLemmas.{length-scale}
-use Rattle.cone_laws.specs.Steps.{sign}
-use Rattle.cone_laws.proofs.FactorLemmas.{fits}
+use Rattle.row_core.specs.Signs.{sign}
+use Rattle.row_core.proofs.SignTests.{fits}
 use Rattle.minimise.proofs.bases.turn_up.Goals as goal
 
 pub returns-clause-turned : goal.returns-clause-turned

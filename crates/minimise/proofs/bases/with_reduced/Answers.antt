@@ -3,7 +3,7 @@ use Rattle.std.proofs.Common.{◌≡◌, List, ℤ, length, sym, ap, ◌∙◌, 
 use Rattle.row_core.specs.Vectors.{cell}
 use Rattle.row_core.specs.Lists.{vectors}
 use Rattle.row_core.proofs.CellLemmas.{length-scale}
-use Rattle.cone_laws.specs.Steps.{sign}
+use Rattle.row_core.specs.Signs.{sign}
 use Rattle.minimise.specs.Bases.{IsNewLine, HasTaken, turned_up}
 use Rattle.minimise.specs.Faults.{IsTakeFault}
 use Rattle.minimise.proofs.NarrowBases.{leading_below}

@@ -1,6 +1,6 @@
 use Rattle.std.proofs.Common.{List, ℤ, refl, sym, arith, subst}
 use Rattle.row_core.specs.Vectors.{cell}
-use Rattle.cone_laws.specs.Leaves.{CombinationLeaves}
+use Rattle.row_core.specs.Combinations.{CombinationLeaves}
 use Rattle.minimise.specs.Faults.{IsCombineFault}
 use Rattle.minimise.specs.declared.fault.Fault.{Fault}
 use Rattle.minimise.proofs.reduction.clear.Goals as goal

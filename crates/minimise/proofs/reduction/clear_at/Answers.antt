@@ -7,7 +7,7 @@ use Rattle.std.proofs.lemmas.List.Elements.{All-get_or}
 use Rattle.std.proofs.lemmas.Grind.{common_steps}
 use mir.Val.{SFits, to_z}
 use Rattle.row_core.specs.Range.{InRange}
-use Rattle.cone_laws.proofs.FactorLemmas.{fits}
+use Rattle.row_core.proofs.SignTests.{fits}
 use Rattle.minimise.specs.Bases.{IsCleared}
 use Rattle.minimise.proofs.ClearedRows.{cleared_zero, cleared_from_combined}
 use Rattle.minimise.proofs.NarrowBases.{pivot_below}

@@ -4,8 +4,8 @@ use Rattle.std.proofs.lemmas.Result.{err_from_is_err_and}
 use Rattle.std.proofs.lemmas.Grind.{common_steps}
 use Rattle.row_core.specs.Range.{AllInRange}
 use Rattle.row_core.specs.Content.{IsPrimitive}
-use Rattle.row_core.specs.Lists.{vectors}
-use Rattle.cone_laws.specs.Canon.{vector_at, IsPivot}
+use Rattle.row_core.specs.Lists.{vectors, vector_at}
+use Rattle.cone_laws.specs.Canon.{IsPivot}
 use Rattle.row_core.proofs.RowListLemmas.{length-vectors, vector_at-vectors}
 use Rattle.minimise.specs.Bases.{IsCleared, IsReduced}
 use Rattle.minimise.proofs.Reductions.{reduced_none, reduced_more}

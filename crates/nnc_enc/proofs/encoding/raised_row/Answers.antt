@@ -4,7 +4,7 @@ use Rattle.std.proofs.lemmas.List.Elements.{All-append, All-cons, All-take, All-
 use Rattle.std.specs.Int.{w128}
 use Rattle.std.proofs.lemmas.Int.{to_z-of_z}
 use mir.Val.{to_z, of_z}
-use Rattle.cone_laws.proofs.FactorLemmas.{fits}
+use Rattle.row_core.proofs.SignTests.{fits}
 use Rattle.row_core.specs.Range.{InRange, AllInRange}
 use Rattle.nnc_enc.proofs.encoding.raised_row.Goals as goal
 

@@ -8,7 +8,7 @@ use mir.Val.{SFits}
 use Rattle.row_core.specs.Vectors.{cell}
 use Rattle.row_core.specs.Range.{InRange, AllInRange}
 use Rattle.row_core.specs.Lists.{row_at}
-use Rattle.cone_laws.proofs.FactorLemmas.{fits}
+use Rattle.row_core.proofs.SignTests.{fits}
 use Rattle.nnc_enc.specs.Marks.{Tells}
 use Rattle.nnc_enc.proofs.MarkLemmas.{told_more}
 use Rattle.nnc_enc.proofs.marks.marks.Goals as goal

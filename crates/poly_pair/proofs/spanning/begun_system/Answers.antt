@@ -4,7 +4,7 @@ use Rattle.std.proofs.lemmas.Result.{IfOk-weaker, IfErr-weaker, err_from_is_err_
 use Rattle.row_core.specs.Lists.{row_at, vectors}
 use Rattle.cone_laws.specs.Canon.{Canon}
 use Rattle.cone_laws.specs.Members.{ConeOf}
-use Rattle.chernikova.specs.Changes.{AreLists}
+use Rattle.row_core.specs.MarkedLists.{AreLists}
 use Rattle.chernikova.specs.Conversion.{IsRealOverflow, IsRealOverflowFrom, IsCountedBetween, IsCountedBeforeFrom}
 use Rattle.chernikova.proofs.Counts.{counted_start_from}
 use Rattle.cons_sys.specs.Constraints.{Constraints}

@@ -4,7 +4,7 @@ use Rattle.std.proofs.lemmas.Result.{IfOk-weaker}
 use Rattle.row_core.specs.Lists.{Row, row_at, vectors}
 use Rattle.cone_laws.specs.Canon.{Canon}
 use Rattle.cone_laws.specs.Members.{ConeOf}
-use Rattle.chernikova.specs.Changes.{AreLists}
+use Rattle.row_core.specs.MarkedLists.{AreLists}
 use Rattle.chernikova.specs.Conversion.{IsRealOverflow, IsCountedUpto, IsCountedBefore}
 use Rattle.poly_pair.specs.TopologyLists.{list_width, constraints_of}
 use Rattle.poly_pair.proofs.CountLemmas.{upto_none}

@@ -1,7 +1,7 @@
 use Rattle.std.proofs.Common.{◌∷◌, ◌++◌, ◌∙◌, [], ℕ, ◌+◌, length, ap, sym, subst}
 use Rattle.row_core.specs.Lists.{vectors}
 use Rattle.sat_matrix.specs.ZeroTables.{IsZeroTable}
-use Rattle.chernikova.proofs.VectorLemmas.{length-vectors}
+use Rattle.row_core.proofs.RowListLemmas.{length-vectors}
 use Rattle.pair_laws.specs.WorkLists.{divisor_row, generator_list}
 use Rattle.poly_pair.specs.Zeros.{kept_inequalities}
 use Rattle.poly_pair.proofs.ZeroTables.{zeros_full, zeros_kept}

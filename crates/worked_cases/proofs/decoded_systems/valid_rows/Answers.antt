@@ -2,7 +2,7 @@ use Rattle.row_core.specs.Lists.{vectors}
 use Rattle.std.specs.Prelude.{length}
 use Rattle.cone_laws.specs.Cones.{Upto}
 use Rattle.cone_laws.specs.Canon.{Canon}
-use Rattle.cone_laws.specs.MarkedLists.{AreLists}
+use Rattle.row_core.specs.MarkedLists.{AreLists}
 use Rattle.nnc_enc.specs.Results.{AreRowLists}
 use Rattle.worked_cases.proofs.DecodedLists.{are_row_lists, ok_of_both}
 use Rattle.worked_cases.proofs.decoded_systems.valid_rows.Goals as goal

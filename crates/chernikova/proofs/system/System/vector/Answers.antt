@@ -1,8 +1,8 @@
 use Rattle.std.proofs.Common.{ℕ, ◌<◌, length, subst}
 use Rattle.row_core.specs.Lists.{vectors}
-use Rattle.chernikova.specs.declared.fault.Part.{Part}
-use Rattle.chernikova.specs.Faults.{part_of}
-use Rattle.chernikova.proofs.VectorLemmas.{length-vectors}
+use Rattle.row_store.specs.declared.fault.Part.{Part}
+use Rattle.row_store.specs.Faults.{part_of}
+use Rattle.row_core.proofs.RowListLemmas.{length-vectors}
 use Rattle.chernikova.proofs.system.System.vector.Goals as goal
 
 pub row-requires-in-Rays : goal.row-requires-in-Rays

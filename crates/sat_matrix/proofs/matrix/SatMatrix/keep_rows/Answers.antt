@@ -1,7 +1,8 @@
 use Rattle.std.proofs.Common.{List, ℕ, arith, sym, subst}
 use Rattle.std.specs.Prelude.{All}
 use Rattle.sat_matrix.specs.Words.{IsPadded}
-use Rattle.sat_matrix.proofs.BitRows.{kept_seen, all_marked}
+use Rattle.sat_matrix.proofs.BitRows.{kept_seen}
+use Rattle.flat_rows.proofs.Marked.{all_marked}
 use Rattle.sat_matrix.proofs.matrix.SatMatrix.keep_rows.Goals as goal
 
 pub invariant_of-self : goal.invariant_of-self

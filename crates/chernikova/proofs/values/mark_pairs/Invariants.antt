@@ -1,5 +1,0 @@
-use Rattle.std.proofs.Common.{◌≡◌, ◌++◌, replicate, true}
-use Rattle.chernikova.proofs.values.mark_pairs.Given as goal
-
-abbrev pub invariant-loop-pair : goal.invariant-loop-pair
-invariant-loop-pair l = l.marks.items ≡ l.fn.marks.items ++ replicate l._pair true

@@ -1,0 +1,52 @@
+-- Magnitudes and signs of numbers.
+use Rattle.std.specs.Prelude.{◌≡◌, ◌≢◌, ℕ, zero, suc, ◌^◌, ◌<◌, ℤ, pos, negsuc, neg_ℤ, ◌*ℤ◌, ◌<ℤ◌, unsigned_abs}
+use Rattle.std.specs.Int.{w128}
+use Rattle.std.proofs.Common.{refl, sym, ap, ◌∙◌, arith, to_z, of_z}
+use Rattle.std.proofs.lemmas.Int.{ints, to_z-of_z, to_z_pos, fits_signed_from_abs}
+use Rattle.row_core.specs.Range.{InRange}
+use Rattle.row_core.specs.Signs.{sign}
+use Rattle.row_core.proofs.Ring.{one-mul, neg-mul}
+
+pub magnitude_above : (u : ℤ) → u ≢ pos 0 → 0 < unsigned_abs u
+magnitude_above (pos zero) ne = absurd (ne refl)
+magnitude_above (pos (suc n)) ne = omega arith
+magnitude_above (negsuc n) ne = omega arith
+
+pub magnitude-positive : (u : ℤ) → pos 0 <ℤ u → pos (unsigned_abs u) ≡ u
+magnitude-positive (pos n) h = refl
+magnitude-positive (negsuc n) h = absurd (omega (arith, ints, h))
+
+pub magnitude-negative : (u : ℤ) → u <ℤ pos 0 → pos (unsigned_abs u) ≡ neg_ℤ u
+magnitude-negative (pos n) h = absurd (omega (arith, ints, h))
+magnitude-negative (negsuc n) h = refl
+
+pub magnitude-neg : (u : ℤ) → unsigned_abs (neg_ℤ u) ≡ unsigned_abs u
+magnitude-neg (pos zero) = refl
+magnitude-neg (pos (suc n)) = refl
+magnitude-neg (negsuc n) = refl
+
+-- a number of the range, as code passes it on
+pub back : (z : ℤ) → InRange z → to_z w128 (of_z w128 z) ≡ z
+back z h = to_z-of_z w128 z (fits_signed_from_abs w128 z h.size)
+
+-- a natural number below the range's end, as a signed one
+pub back_pos : (n : ℕ) → n < 2 ^ 127 → to_z w128 n ≡ pos n
+back_pos n h = to_z_pos w128 n h
+
+pub sign_times : (u : ℤ) → sign u *ℤ u ≡ pos (unsigned_abs u)
+sign_times (pos zero) = refl
+sign_times (pos (suc n)) = omega (arith, ints)
+sign_times (negsuc n) = omega (arith, ints)
+
+pub sign_above : (u x : ℤ) → pos 0 <ℤ u → x ≡ sign u *ℤ x
+sign_above (pos zero) x h = absurd (omega (arith, ints, h))
+sign_above (pos (suc n)) x h = sym (one-mul x)
+sign_above (negsuc n) x h = absurd (omega (arith, ints, h))
+
+minus_one : (x : ℤ) → neg_ℤ x ≡ neg_ℤ (pos 1) *ℤ x
+minus_one x = let e : neg_ℤ (pos 1) *ℤ x ≡ neg_ℤ (pos 1 *ℤ x) = neg-mul (pos 1) x in sym (e ∙ ap neg_ℤ (one-mul x))
+
+pub sign_below : (u x : ℤ) → u <ℤ pos 0 → neg_ℤ x ≡ sign u *ℤ x
+sign_below (pos zero) x h = absurd (omega (arith, ints, h))
+sign_below (pos (suc n)) x h = absurd (omega (arith, ints, h))
+sign_below (negsuc n) x h = minus_one x

@@ -1,0 +1,102 @@
+-- Rows that are combined where they were appended.
+use Rattle.std.specs.Prelude.{◌≡◌, ◌≢◌, ℕ, zero, suc, ◌+◌, ◌<◌, List, [], ◌∷◌, ◌++◌, length, ℤ, pos, negsuc, neg_ℤ, ◌<ℤ◌, take}
+use Rattle.std.proofs.Common.{refl, sym, ap, ◌∙◌, subst, arith, set}
+use Rattle.std.proofs.lemmas.List.{get_or_append_left, get_or_push, set_at, take_at}
+use Rattle.std.proofs.lemmas.Int.{ints}
+use Rattle.row_core.proofs.Ring.{one-mul}
+use Rattle.row_core.specs.Vectors.{scale, add}
+use Rattle.row_core.specs.Content.{IsPrimitiveOf}
+use Rattle.flat_rows.specs.Flat.{Flat, entries_at, HasOneWidth}
+use Rattle.row_core.specs.Range.{CombineStays, IsFirstToLeave}
+use Rattle.row_core.proofs.CellLemmas.{length-scale, length-add}
+use Rattle.row_store.specs.Stores.{IsNegated, IsRowChanged}
+use Rattle.row_core.specs.Signs.{sign}
+use Rattle.row_core.specs.Combinations.{AreFactors, CombinationLeaves, IsCombined}
+use Rattle.row_store.proofs.FactorLemmas.{combined_from_written}
+use Rattle.row_core.proofs.Magnitudes.{magnitude_above}
+use Rattle.row_store.specs.Vectors.{IsRowAppended, HasSameRows}
+
+-- the row that was pushed, and those before
+pub pushed_last : (rows : List (List ℤ)) (row : List ℤ) (last : ℕ) → last ≡ length rows → entries_at (rows ++ row ∷ []) last ≡ row
+pushed_last rows row last e = get_or_push rows row [] last (sym e)
+
+pub pushed_before : (rows : List (List ℤ)) (row : List ℤ) (i : ℕ) → i < length rows → entries_at (rows ++ row ∷ []) i ≡ entries_at rows i
+pushed_before rows row i h = get_or_append_left rows (row ∷ []) [] i h
+
+-- a combination that was written over the row that was pushed, and made primitive
+pub is_appended : (u v second first : ℤ) (left right : List ℤ) (last : ℕ) (old pushed written new : Flat ℤ) → AreFactors u v second first → u ≢ pos 0 → length left ≡ length right → last ≡ length old.rows
+    → pushed.width ≡ old.width → pushed.rows ≡ old.rows ++ right ∷ [] → pushed.spare + 1 ≡ old.spare
+    → written ≡ record pushed { rows = set pushed.rows last (add (scale second (entries_at pushed.rows last)) (scale first left)) } → IsRowChanged IsPrimitiveOf last written new
+    → IsRowAppended (IsCombined u v left right) old new
+is_appended u v second first left right last old pushed written new factors ne wide at width rows spare is changed =
+    let here : entries_at pushed.rows last ≡ right = ap (λ (rs : List (List ℤ)). entries_at rs last) rows ∙ pushed_last old.rows right last at in
+    let combined : List ℤ = add (scale second right) (scale first left) in
+    let size : length combined ≡ length right = length-add (scale second right) (scale first left) (length-scale second right ∙ sym wide ∙ sym (length-scale first left)) ∙ length-scale first left ∙ wide in
+    let after : written.rows ≡ old.rows ++ combined ∷ [] =
+    ap (λ (t : Flat ℤ). t.rows) is ∙ ap (λ (r : List ℤ). set pushed.rows last (add (scale second r) (scale first left))) here ∙ ap (λ (rs : List (List ℤ)). set rs last combined) rows ∙ set_at old.rows right [] combined last (sym at) in
+    let source : entries_at written.rows last ≡ combined = ap (λ (rs : List (List ℤ)). entries_at rs last) after ∙ pushed_last old.rows combined last at in
+    let primitive : IsPrimitiveOf combined changed.row = subst (λ (r : List ℤ). IsPrimitiveOf r changed.row) source changed.related in
+    record {
+      row = changed.row;
+      is = combined_from_written u v second first left right combined changed.row factors ne (magnitude_above u ne) refl size (sym (ap length primitive.multiple.same ∙ length-scale (pos primitive.multiple.times) changed.row)) primitive.multiple primitive.primitive;
+      width = ap (λ (t : Flat ℤ). t.width) changed.same ∙ ap (λ (t : Flat ℤ). t.width) is ∙ width;
+      rows = ap (λ (t : Flat ℤ). t.rows) changed.same ∙ ap (λ (rs : List (List ℤ)). set rs last changed.row) after ∙ set_at old.rows combined [] changed.row last (sym at);
+      spare = ap (λ (n : ℕ). n + 1) (ap (λ (t : Flat ℤ). t.spare) changed.same ∙ ap (λ (t : Flat ℤ). t.spare) is) ∙ spare;
+    }
+
+-- the rows after a combination was refused
+pub is_left : (right : List ℤ) (last : ℕ) (old pushed left new : Flat ℤ) → last ≡ length old.rows → pushed.width ≡ old.width → pushed.rows ≡ old.rows ++ right ∷ [] → left ≡ pushed → new ≡ record left { rows = take last left.rows } → HasSameRows old new
+is_left right last old pushed left new at width rows same is = record {
+  width = ap (λ (t : Flat ℤ). t.width) is ∙ ap (λ (t : Flat ℤ). t.width) same ∙ width;
+  rows = ap (λ (t : Flat ℤ). t.rows) is ∙ ap (λ (t : Flat ℤ). take last t.rows) same ∙ ap (λ (rs : List (List ℤ)). take last rs) rows ∙ take_at old.rows (right ∷ []) last (sym at);
+}
+
+-- the first column at which the combination leaves the range
+pub leaves_at : (u v second first : ℤ) (left right source : List ℤ) (width column : ℕ) → AreFactors u v second first → source ≡ right → length right ≡ width → IsFirstToLeave (CombineStays source second left first) width column → CombinationLeaves u v left right column
+leaves_at u v second first left right source width column factors here wide h = record {
+  second = second;
+  first = first;
+  factors = factors;
+  column = subst (λ (n : ℕ). IsFirstToLeave (CombineStays right second left first) n column) (sym wide) (subst (λ (r : List ℤ). IsFirstToLeave (CombineStays r second left first) width column) here h);
+}
+
+-- ---- where the other row is one of the store
+pub is_appended_of : (u v second first : ℤ) (i j last : ℕ) (old pushed written new : Flat ℤ) → HasOneWidth old → i < length old.rows → j < length old.rows → AreFactors u v second first → u ≢ pos 0 → last ≡ length old.rows
+    → pushed.width ≡ old.width → pushed.rows ≡ old.rows ++ entries_at old.rows j ∷ [] → pushed.spare + 1 ≡ old.spare
+    → written ≡ record pushed { rows = set pushed.rows last (add (scale second (entries_at pushed.rows last)) (scale first (entries_at pushed.rows i))) } → IsRowChanged IsPrimitiveOf last written new
+    → IsRowAppended (IsCombined u v (entries_at old.rows i) (entries_at old.rows j)) old new
+is_appended_of u v second first i j last old pushed written new one in_i in_j factors ne at width rows spare is changed =
+    let before : entries_at pushed.rows i ≡ entries_at old.rows i = ap (λ (rs : List (List ℤ)). entries_at rs i) rows ∙ pushed_before old.rows (entries_at old.rows j) i in_i in
+    let make : List ℤ → Flat ℤ = λ r. record pushed { rows = set pushed.rows last (add (scale second (entries_at pushed.rows last)) (scale first r)) } in
+    is_appended u v second first (entries_at old.rows i) (entries_at old.rows j) last old pushed written new factors ne (one i in_i ∙ sym (one j in_j)) at width rows spare (is ∙ ap make before) changed
+
+pub leaves_at_of : (u v second first : ℤ) (i j last column : ℕ) (old pushed : Flat ℤ) → HasOneWidth old → i < length old.rows → j < length old.rows → AreFactors u v second first → last ≡ length old.rows → pushed.width ≡ old.width → pushed.rows ≡ old.rows ++ entries_at old.rows j ∷ []
+    → IsFirstToLeave (CombineStays (entries_at pushed.rows last) second (entries_at pushed.rows i) first) pushed.width column → CombinationLeaves u v (entries_at old.rows i) (entries_at old.rows j) column
+leaves_at_of u v second first i j last column old pushed one in_i in_j factors at width rows h =
+    let before : entries_at pushed.rows i ≡ entries_at old.rows i = ap (λ (rs : List (List ℤ)). entries_at rs i) rows ∙ pushed_before old.rows (entries_at old.rows j) i in_i in
+    let here : entries_at pushed.rows last ≡ entries_at old.rows j = ap (λ (rs : List (List ℤ)). entries_at rs last) rows ∙ pushed_last old.rows (entries_at old.rows j) last at in
+    leaves_at u v second first (entries_at old.rows i) (entries_at old.rows j) (entries_at pushed.rows last) pushed.width column factors here (one j in_j ∙ sym width)
+    (subst (λ (r : List ℤ). IsFirstToLeave (CombineStays (entries_at pushed.rows last) second r first) pushed.width column) before h)
+
+-- ---- a line with the sign of a value
+scale_one : (v : List ℤ) → scale (pos 1) v ≡ v
+scale_one [] = refl
+scale_one (a ∷ v) = ap (λ (x : ℤ). x ∷ scale (pos 1) v) (one-mul a) ∙ ap (λ (r : List ℤ). a ∷ r) (scale_one v)
+
+upward_above : (u : ℤ) (line : List ℤ) → u ≢ pos 0 → ¬ (u <ℤ pos 0) → scale (sign u) line ≡ line
+upward_above (pos zero) line ne least = absurd (ne refl)
+upward_above (pos (suc n)) line ne least = scale_one line
+upward_above (negsuc n) line ne least = absurd (least (omega (arith, ints)))
+
+upward_below : (u : ℤ) (line : List ℤ) → u <ℤ pos 0 → scale (sign u) line ≡ scale (neg_ℤ (pos 1)) line
+upward_below (pos n) line below = absurd (omega (arith, ints, below))
+upward_below (negsuc n) line below = refl
+
+pub kept_upward : (u : ℤ) (line : List ℤ) (old pushed : Flat ℤ) → u ≢ pos 0 → ¬ (u <ℤ pos 0) → pushed.rows ≡ old.rows ++ line ∷ [] → pushed.rows ≡ old.rows ++ scale (sign u) line ∷ []
+kept_upward u line old pushed ne least rows = rows ∙ ap (λ (r : List ℤ). old.rows ++ r ∷ []) (sym (upward_above u line ne least))
+
+pub turned_upward : (u : ℤ) (line : List ℤ) (last : ℕ) (old pushed new : Flat ℤ) → u <ℤ pos 0 → last ≡ length old.rows → pushed.rows ≡ old.rows ++ line ∷ [] → IsRowChanged IsNegated last pushed new → new.rows ≡ old.rows ++ scale (sign u) line ∷ []
+turned_upward u line last old pushed new below at rows h =
+    let here : entries_at pushed.rows last ≡ line = ap (λ (rs : List (List ℤ)). entries_at rs last) rows ∙ pushed_last old.rows line last at in
+    let is : h.row ≡ scale (sign u) line = h.related ∙ ap (λ (r : List ℤ). scale (neg_ℤ (pos 1)) r) here ∙ sym (upward_below u line below) in
+    ap (λ (t : Flat ℤ). t.rows) h.same ∙ ap (λ (rs : List (List ℤ)). set rs last h.row) rows ∙ set_at old.rows line [] h.row last (sym at) ∙ ap (λ (r : List ℤ). old.rows ++ r ∷ []) is

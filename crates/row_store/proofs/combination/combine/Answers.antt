@@ -1,0 +1,45 @@
+use Rattle.std.specs.Int.{w128}
+use Rattle.std.proofs.Common.{arith, ◌∙◌}
+use Rattle.std.proofs.lemmas.Result.{err_from_is_err_and}
+use Rattle.std.proofs.lemmas.Int.{to_z-of_z}
+use mir.Val.{SFits}
+use Rattle.row_store.proofs.FactorLemmas.{combined_from_written}
+use Rattle.row_core.proofs.Magnitudes.{magnitude_above}
+use Rattle.row_core.proofs.SignTests.{fits}
+use Rattle.row_store.proofs.combination.combine.Goals as goal
+
+pub returns-in_err-combine_into-clause-combined : goal.returns-in_err-combine_into-clause-combined
+returns-in_err-combine_into-clause-combined g c =
+    let u_fits : SFits w128 c.args.u = c.ranges.u in
+    let v_fits : SFits w128 c.args.v = c.ranges.v in
+    let s_fits : SFits w128 c.factors-second.result.0 = fits c.factors-second.result.0 c.factors-second.ensures.in_range.0 in
+    let f_fits : SFits w128 c.factors-second.result.1 = fits c.factors-second.result.1 c.factors-second.ensures.in_range.1 in
+    let factors = simp to_z-of_z at c.factors-second.ensures.factors in
+    let left = simp to_z-of_z at c.in_err-combine_into.ensures.combined in
+    let p = err_from_is_err_and c.from_residual.result c.from_residual.ensures.1 in
+    rw (p.1, p.2) (record { second = c.factors-second.result.0; first = c.factors-second.result.1; factors = factors; column = left.1 })
+
+pub returns-clause-combined : goal.returns-clause-combined
+returns-clause-combined g c =
+    let u_fits : SFits w128 c.args.u = c.ranges.u in
+    let v_fits : SFits w128 c.args.v = c.ranges.v in
+    let s_fits : SFits w128 c.factors-second.result.0 = fits c.factors-second.result.0 c.factors-second.ensures.in_range.0 in
+    let f_fits : SFits w128 c.factors-second.result.1 = fits c.factors-second.result.1 c.factors-second.ensures.in_range.1 in
+    let factors = simp to_z-of_z at c.factors-second.ensures.factors in
+    let written = simp to_z-of_z at c.in_ok-combine_into.ensures.combined in
+    combined_from_written c.args.u c.args.v c.factors-second.result.0 c.factors-second.result.1 c.args.left.now c.args.right.now c.combine_into.new.dst c.make_primitive.new.row factors c.requires.nonzero (magnitude_above c.args.u c.requires.nonzero) written.0 (omega (arith, c.in_ok-combine_into.ensures.width, c.requires.same_width.0)) c.make_primitive.ensures.width c.make_primitive.ensures.multiple c.make_primitive.ensures.primitive
+
+pub factors-second-requires : goal.factors-second-requires
+factors-second-requires g c = rw (to_z-of_z w128 c.args.u c.ranges.u, to_z-of_z w128 c.args.v c.ranges.v) (record { first_in_range = c.requires.first_in_range; second_in_range = c.requires.second_in_range; nonzero = c.requires.nonzero })
+
+pub make_primitive-requires : goal.make_primitive-requires
+make_primitive-requires g c = c.in_ok-combine_into.ensures.in_range
+
+pub returns-clause-in_range : goal.returns-clause-in_range
+returns-clause-in_range g c = c.make_primitive.ensures.in_range
+
+pub returns-clause-width : goal.returns-clause-width
+returns-clause-width g c = c.make_primitive.ensures.width ∙ c.in_ok-combine_into.ensures.width
+
+pub returns-in_err-combine_into-clause-in_range : goal.returns-in_err-combine_into-clause-in_range
+returns-in_err-combine_into-clause-in_range g c = let p = err_from_is_err_and c.from_residual.result c.from_residual.ensures.1 in rw p.1 tt

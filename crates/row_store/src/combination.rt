@@ -1,0 +1,118 @@
+//! The combination of two vectors that is 0 on a row, from their values on it.
+ghost use Rattle.std.specs.Prelude.{◌≡◌, ◌≢◌, ℕ, ◌+◌, ◌^◌, ◌<◌, length, pos, neg_ℤ, ◌<ℤ◌, ◌*ℤ◌, unsigned_abs, MatchResult, OnOk};
+ghost use Prim.Native.Nat.{◌∣◌};
+ghost use Rattle.std.specs.Int.{IsGcd};
+ghost use Rattle.row_core.specs.Vectors.{scale};
+ghost use Rattle.row_core.specs.Range.{InRange, AllInRange};
+ghost use Rattle.row_core.specs.Signs.{sign};
+ghost use Rattle.row_core.specs.Combinations.{AreFactors, CombinationLeaves, IsCombined};
+
+use row_core::{Steps, combine_into, gcd, make_primitive};
+use std::sync::ledger::Ledger;
+
+/// An exact quotient.
+#[inline]
+fn quotient(x: i128, divisor: i128) -> i128
+    requires in_range { InRange x }
+    requires positive { pos 0 <ℤ divisor }
+    requires divides { unsigned_abs divisor ∣ unsigned_abs x }
+    ensures value { x ≡ divisor *ℤ result }
+    ensures in_range { InRange result }
+{
+    x / divisor
+}
+
+/// The number with the other sign.
+#[inline]
+fn negated(x: i128) -> i128
+    requires { InRange x }
+    ensures value { result ≡ neg_ℤ x }
+    ensures in_range { InRange result }
+{
+    -x
+}
+
+/// The greatest common divisor of two numbers, of which the first isn't 0.
+#[inline]
+fn divisor_of(u: i128, v: i128) -> i128
+    requires first_in_range { InRange u }
+    requires second_in_range { InRange v }
+    requires nonzero { u ≢ pos 0 }
+    ensures positive { pos 0 <ℤ result }
+    ensures greatest { IsGcd (unsigned_abs u) (unsigned_abs v) (unsigned_abs result) }
+    ensures in_range { InRange result }
+{
+    gcd(u.unsigned_abs(), v.unsigned_abs()) as i128
+}
+
+/// The factors of the second and of the first of two vectors with the values `u` and `v` on a row, in
+/// their combination that is 0 on the row.
+pub(crate) fn factors(u: i128, v: i128) -> (i128, i128)
+    requires first_in_range { InRange u }
+    requires second_in_range { InRange v }
+    requires nonzero { u ≢ pos 0 }
+    ensures factors { AreFactors u v result.0 result.1 }
+    ensures in_range { InRange result.0 × InRange result.1 }
+{
+    let divisor = divisor_of(u, v);
+    let left = quotient(u, divisor);
+    let right = quotient(v, divisor);
+    if u > 0 {
+        (left, negated(right))
+    } else {
+        (negated(left), right)
+    }
+}
+
+/// Writes over `dst` the primitive combination, 0 on a row, of two vectors with the values `u` and `v`
+/// on it. The factor of the second vector is positive.
+///
+/// # Errors
+///
+/// The first column at which a product or the sum leaves the range.
+pub fn combine<L: Ledger>(
+    dst: &mut [i128],
+    left: &[i128],
+    u: i128,
+    right: &[i128],
+    v: i128,
+    steps: &mut Steps<L>,
+) -> Result<(), u32>
+    requires same_width { (length dst.old ≡ length right.now) × (length right.now ≡ length left.now) }
+    requires narrow { length right.now < 2 ^ 32 }
+    requires first_in_range { InRange u }
+    requires second_in_range { InRange v }
+    requires nonzero { u ≢ pos 0 }
+    ensures counted { steps.new ≡ steps.old + 1 }
+    ensures width { length dst.new ≡ length dst.old }
+    ensures combined { MatchResult result (λ _. IsCombined u v left.now right.now dst.new) (CombinationLeaves u v left.now right.now) }
+    ensures in_range { OnOk result (AllInRange dst.new) }
+{
+    let (second, first) = factors(u, v);
+    combine_into(dst, right, second, left, first, steps)?;
+    make_primitive(dst);
+    Ok(())
+}
+
+/// The number times the sign of a value that isn't 0.
+fn turned(x: i128, value: i128) -> i128
+    requires in_range { InRange x }
+    requires nonzero { value ≢ pos 0 }
+    ensures value { result ≡ sign value *ℤ x }
+    ensures in_range { InRange result }
+{
+    if value > 0 { x } else { negated(x) }
+}
+
+/// Writes over `dst` the line with the sign with which a row with this value on it is above 0 on it.
+pub fn write_upward(dst: &mut [i128], line: &[i128], value: i128)
+    requires same_width { length dst.old ≡ length line.now }
+    requires in_range { AllInRange line.now }
+    requires nonzero { value ≢ pos 0 }
+    ensures upward { dst.new ≡ scale (sign value) line.now }
+    ensures in_range { AllInRange dst.new }
+{
+    for index in 0..dst.len() {
+        dst[index] = turned(line[index], value);
+    }
+}

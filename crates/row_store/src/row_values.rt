@@ -1,0 +1,129 @@
+//! The values of vectors on a row.
+ghost use Rattle.std.specs.Prelude.{◌≡◌, ◌≢◌, ℕ, ◌^◌, ◌<◌, ◌≤◌, Bool, true, [], ◌++◌, length, map, replicate, count_by, pos, All, IsTrue, MatchBool, MatchResult, MatchOption, IfOk, OnOk, slice_index_or};
+ghost use Rattle.row_core.specs.Vectors.{dot};
+ghost use Rattle.row_core.specs.Range.{InRange};
+ghost use Rattle.row_core.specs.Narrow.{AllNarrow};
+ghost use Rattle.row_core.specs.Signs.{stays};
+ghost use Rattle.row_core.specs.Lists.{row_at, vectors};
+ghost use Rattle.row_store.specs.Values.{values_on, AllStay, SomeGoes};
+ghost use Rattle.row_store.specs.Faults.{IsValuesFault};
+
+use crate::fault::{Part, Place, ValueFault};
+use crate::vectors::VectorList;
+use row_core::{dot, emptied, narrow_dot};
+use std::alloc::{AllocError, Global};
+
+/// Appends the values of narrow vectors on a narrow row to a list without elements.
+fn narrow_values(values: &mut Vec<i128>, list: &VectorList, row: &[i128]) -> Result<(), AllocError>
+    requires empty { values.old.items ≡ [] }
+    requires wide { length row.now ≡ list.now.width }
+    requires narrow { length row.now < 2 ^ 32 }
+    requires row { AllNarrow row.now }
+    requires vectors { (i : ℕ) → i < length list.now.rows → AllNarrow (row_at list.now.rows i) }
+    ensures values { OnOk result (values.new.items ≡ values_on row.now (vectors list.now.rows)) }
+    ensures in_range { OnOk result (All InRange values.new.items) }
+{
+    for index in 0..list.len() {
+        values.push(narrow_dot(row, list.row(index)))?;
+    }
+    Ok(())
+}
+
+/// The value of each vector on the row, in the list of that place. `narrow` tells of the row.
+pub fn values(
+    alloc: Global,
+    place: &mut Vec<i128>,
+    part: Part,
+    list: &VectorList,
+    row: &[i128],
+    narrow: bool,
+) -> Result<Vec<i128>, ValueFault>
+    requires wide { length row.now ≡ list.now.width }
+    requires narrow { length row.now < 2 ^ 32 }
+    requires row { IsTrue narrow → AllNarrow row.now }
+    ensures values { MatchResult result (λ v. v.items ≡ values_on row.now (vectors list.now.rows)) (IsValuesFault row.now part (vectors list.now.rows)) }
+    ensures in_range { IfOk result (λ v. All InRange v.items) }
+{
+    let mut values = emptied(alloc, place, list.len())?;
+    if narrow && list.is_narrow() {
+        narrow_values(&mut values, list, row)?;
+        return Ok(values);
+    }
+    for index in 0..list.len() {
+        match dot(row, list.row(index)) {
+            Ok(value) => values.push(value)?,
+            Err(column) => {
+                let vector = Place { part, index };
+                return Err(ValueFault::Dot { vector, column });
+            }
+        }
+    }
+    Ok(values)
+}
+
+/// The index of the last value that isn't 0.
+pub fn last_crossing(values: &[i128]) -> Option<usize>
+    ensures { MatchOption result ((k : ℕ) → k < length values.now → slice_index_or values.now k (pos 0) ≡ pos 0) (λ i. (i < length values.now) × (slice_index_or values.now i (pos 0) ≢ pos 0) × ((k : ℕ) → i < k → k < length values.now → slice_index_or values.now k (pos 0) ≡ pos 0)) }
+{
+    let mut last = None;
+    for index in 0..values.len() {
+        if values[index] != 0 {
+            last = Some(index);
+        }
+    }
+    last
+}
+
+/// Whether a vector with this value on a row meets the row: 0 for an equality, at least 0 otherwise.
+#[inline]
+fn meets(eq: bool, value: i128) -> bool
+    ensures { result ≡ stays eq value }
+{
+    if eq { value == 0 } else { value >= 0 }
+}
+
+/// Whether all vectors meet the row, from their values on it.
+pub fn all_meet(eq: bool, values: &[i128]) -> bool
+    ensures { MatchBool result (AllStay eq values.now) (SomeGoes eq values.now) }
+{
+    for index in 0..values.len() {
+        if !meets(eq, values[index]) {
+            return false;
+        }
+    }
+    true
+}
+
+/// How many vectors meet the row, from their values on it.
+pub fn count_meeting(eq: bool, values: &[i128]) -> usize
+    ensures { result ≡ count_by (λ value. stays eq value) values.now }
+{
+    values.iter().filter(|value| meets(eq, **value)).count()
+}
+
+/// Appends true for each pair.
+pub fn mark_pairs(marks: &mut Vec<bool>, pairs: &[(usize, usize)]) -> Result<(), AllocError>
+    ensures { let more = replicate (length pairs.now) true in
+        OnOk result (marks.new.items ≡ marks.old.items ++ more) }
+{
+    for _pair in 0..pairs.len() {
+        marks.push(true)?;
+    }
+    Ok(())
+}
+
+/// Which vectors meet the row, from their values on it.
+pub fn marks(
+    alloc: Global,
+    place: &mut Vec<bool>,
+    eq: bool,
+    values: &[i128],
+) -> Result<Vec<bool>, AllocError>
+    ensures { IfOk result (λ v. v.items ≡ map (λ value. stays eq value) values.now) }
+{
+    let mut marks = emptied(alloc, place, values.len())?;
+    for value in values {
+        marks.push(meets(eq, *value))?;
+    }
+    Ok(marks)
+}
