@@ -1,20 +1,69 @@
 #!/usr/bin/env python3
 """Makes the tables of the machines that decide forms of text, and the texts that name their states.
 
-    bench/make_tables.py [--classes NAME] [--specs FILE].. NAME=FORM..
+    bench/make_tables.py FOLDER
 
-A FORM is an expression over the definitions of crates/grammar/specs/Grammar.antt and of the further files, as
-`alone cons` or `gap · name · blanks · perhaps comment`. A definition may have several clauses, over [] and x ∷ xs,
-None and Some x. The forms of one run share one table of the classes of bytes.
+Written are, in FOLDER as they stand in the repository, `src/tables.rt` of `grammar` and of `line_forms`, and for each
+machine its file of proofs/, with the texts and the lemma that its table decides its form. `examples/made` compares them
+with those that stand, and writes them in their places.
 
-Written are the constants for a file of src/, and behind them, for files of proofs/, the lists of texts and the lemmas.
-A form whose name isn't an abbreviation needs `unfolding NAME` under its lemma's signature, for each such name in it.
+A form, below, is an expression over the definitions of crates/grammar/specs/Grammar.antt, for lines also of
+crates/line_forms/specs/Layouts.antt. A definition may have several clauses, over [] and x ∷ xs, None and Some x. The
+forms of one table of the classes of bytes share it: at most 32 classes.
 The states of a machine are the sets of rows that come behind a text, found breadth first, texts in the order of bytes.
 Nothing here need be trusted: each lemma compares each entry of its tables with the forms.
 """
-import argparse
 import os
 import re
+import sys
+
+TOP = os.path.dirname(os.path.dirname(os.path.abspath(__file__)))
+GRAMMAR = 'crates/grammar/specs/Grammar.antt'
+LAYOUTS = 'crates/line_forms/specs/Layouts.antt'
+
+# Each machine of `grammar` and its form.
+TEXTS = {
+    'CLASSES': {
+        'EXPR': 'alone expr',
+        'FRAC': 'alone frac',
+        'CON': 'alone con',
+        'CONS': 'alone cons',
+        'POINT': 'alone point',
+        'GENS': 'alone gens',
+    }
+}
+
+# Each machine of `line_forms` and its form: what stands behind a command word, and NOTHING, a whole line without one.
+# FILE has a table of its own, since with the letters of its form one table would have more than 32 classes of bytes.
+LINES = {
+    'CLASSES': {
+        'CONS': 'words_form (name ∷ top ∷ nat ∷ []) · tail_form (Some cons) · perhaps comment',
+        'GENS': 'words_form (name ∷ top ∷ nat ∷ []) · tail_form (Some gens) · perhaps comment',
+        'SPACE': 'words_form (name ∷ top ∷ nat ∷ []) · tail_form None · perhaps comment',
+        'TWO_NAMES': 'words_form (name ∷ name ∷ []) · tail_form None · perhaps comment',
+        'ONE_NAME': 'words_form (name ∷ []) · tail_form None · perhaps comment',
+        'ADD': 'words_form (name ∷ []) · tail_form (Some cons) · perhaps comment',
+        'ADDGEN': 'words_form (name ∷ []) · tail_form (Some gens) · perhaps comment',
+        'HAS': 'words_form (name ∷ []) · tail_form (Some point) · perhaps comment',
+        'PRINT': 'words_form (stored_list ∷ name ∷ []) · tail_form None · perhaps comment',
+        'NO_WORDS': 'words_form [] · tail_form None · perhaps comment',
+        'NOTHING': 'blanks · perhaps comment',
+        'THREE_NAMES': 'words_form (name ∷ name ∷ name ∷ []) · tail_form None · perhaps comment',
+        'RELATION': 'words_form (name ∷ []) · tail_form (Some con) · perhaps comment',
+        'OPTIMUM': 'words_form (name ∷ []) · tail_form (Some expr) · perhaps comment',
+        'IMAGE': 'words_form (name ∷ name ∷ var ∷ []) · related_form frac · perhaps comment',
+        'TWO_NAMES_NAT': 'words_form (name ∷ name ∷ nat ∷ []) · tail_form None · perhaps comment',
+        'REMOVE': 'words_form (name ∷ name ∷ []) · tail_form (Some vars) · perhaps comment',
+        'NAME_NAT_NAT': 'words_form (name ∷ nat ∷ nat ∷ []) · tail_form None · perhaps comment',
+        'NAME_NAT_NAME': 'words_form (name ∷ nat ∷ name ∷ []) · tail_form None · perhaps comment',
+        'NAME_NAT_NAT_NAME': 'words_form (name ∷ nat ∷ nat ∷ name ∷ []) · tail_form None · perhaps comment',
+        'NAME_NAT_PREFIX': 'words_form (name ∷ nat ∷ prefix ∷ []) · tail_form None · perhaps comment',
+        'BOUNDS': 'words_form (name ∷ nat ∷ []) · tail_form (Some cons) · perhaps comment',
+    },
+    'FILE_CLASSES': {
+        'FILE': 'words_form (name ∷ format ∷ []) · tail_form None · perhaps comment',
+    },
+}
 
 DEAD = 255
 WIDTH = 32
@@ -227,31 +276,96 @@ def codes(text):
     return ''.join(f'{b} ∷ ' for b in text) + '[]'
 
 
+def definitions_of(path):
+    """The names that a file of definitions has, in its order, each with whether a proof must ask for its value."""
+    found = re.findall(r'^(abbrev|unfoldable) pub (\S+) :', open(os.path.join(TOP, path), encoding='utf-8').read(), re.M)
+    return {name: kind == 'unfoldable' for kind, name in found}
+
+
+def names_in(form, clauses):
+    """The names of definitions that a form's text has, and those that its value is made of."""
+    written = {INFIX.get(token, token) for token in TOKEN.findall(form)}
+    meant, new = set(), written
+    while new:
+        meant |= new
+        bodies = [body for name in new for patterns, body in clauses.get(name, [])]
+        new = {name for body in bodies for name in names_of(body)} - meant
+    return written, meant
+
+
+def names_of(expression):
+    if isinstance(expression, tuple) and expression and isinstance(expression[0], str):
+        if expression[0] == 'name':
+            return {expression[1]}
+        return {name for part in expression[1:] for name in names_of(part)}
+    return set()
+
+
+def rust_of(title, use, tables):
+    """A file of tables: for each table of classes its machines."""
+    parts = [f'//! {title}\n\n{use}\n']
+    for classes_name, (forms, machines, classes) in tables.items():
+        parts.append('// The class of each byte.\n' + constant(classes_name, 'u8', [str(c) for c in classes]))
+        for name, machine in machines.items():
+            parts.append(constant(f'{name}_STEPS', 'u8', [str(s) for s in steps_of(machine, classes)]))
+            parts.append(constant(f'{name}_ENDS', 'bool', [str(end).lower() for end in machine.ends]))
+            parts.append(
+                f"/// The machine of `{forms[name]}`.\npub const {name}: Machine<'static> = Machine {{\n"
+                f'    classes: &{classes_name},\n    steps: &{name}_STEPS,\n    ends: &{name}_ENDS,\n}};\n'
+            )
+    return '\n'.join(parts)
+
+
+def lemma_of(crate, name, form, classes_name, machine, clauses, definitions):
+    """A file of proofs/: the texts that name the machine's states, and that its table decides its form."""
+    written, meant = names_in(form, clauses)
+    low = name.lower()
+    tables = f'{classes_name} {name}_STEPS {name}_ENDS ({form})'
+    common = ', '.join(['ℕ', 'List', '[]', '◌∷◌'] + [option for option in ('Some', 'None') if option in written] + ['refl'])
+    asked = {path: [x for x, hidden in names.items() if x in written or hidden and x in meant] for path, names in definitions.items()}
+    hidden = [x for x, hidden in definitions[GRAMMAR].items() if hidden and x in meant]
+    lines = ['-- The machine decides its form.', f'use Rattle.std.proofs.Common.{{{common}}}']
+    for path, module in ((GRAMMAR, 'grammar.specs.Grammar'), (LAYOUTS, 'line_forms.specs.Layouts')):
+        if asked.get(path):
+            lines.append(f'use Rattle.{module}.{{{", ".join(asked[path])}}}')
+    lines.append('use Rattle.grammar.specs.Machine.{Decides}')
+    lines.append('use Rattle.grammar.proofs.TableLaws.{decides_by}')
+    lines.append(f'use Rattle.{crate}.specs.declared.tables.TheConstants.{{{classes_name}, {name}_STEPS, {name}_ENDS}}')
+    texts = ''.join(f'({codes(text)}) ∷ ' for text in machine.texts[1:])
+    lines += ['', f'abbrev pub {low}_texts : List (List ℕ)', f'{low}_texts =', f'    {texts}[]', '']
+    lines.append(f'pub {low}_decides : Decides {tables}')
+    lines += [f'unfolding {" ".join(hidden)}'] if hidden else []
+    lines.append(f'{low}_decides = decides_by {tables} {low}_texts refl')
+    return '\n'.join(lines) + '\n'
+
+
+def write(folder, path, text):
+    path = os.path.join(folder, path)
+    os.makedirs(os.path.dirname(path), exist_ok=True)
+    with open(path, 'w', encoding='utf-8') as file:
+        file.write(text)
+
+
+def make(folder, crate, title, use, paths, groups):
+    known = Definitions([os.path.join(TOP, path) for path in paths])
+    definitions = {path: definitions_of(path) for path in paths}
+    tables = {}
+    for classes_name, forms in groups.items():
+        machines = {name: Machine(known.value(Parser(form).expression(), {})) for name, form in forms.items()}
+        tables[classes_name] = (forms, machines, classes_of(machines.values()))
+        for name, machine in machines.items():
+            lemma = lemma_of(crate, name, forms[name], classes_name, machine, known.clauses, definitions)
+            write(folder, f'crates/{crate}/proofs/{name.title().replace("_", "")}Table.antt', lemma)
+    write(folder, f'crates/{crate}/src/tables.rt', rust_of(title, use, tables))
+
+
 def main():
-    options = argparse.ArgumentParser(description=__doc__, formatter_class=argparse.RawDescriptionHelpFormatter)
-    options.add_argument('--classes', default='CLASSES', metavar='NAME')
-    options.add_argument('--specs', action='append', default=[], metavar='FILE')
-    options.add_argument('forms', nargs='+', metavar='NAME=FORM')
-    given = options.parse_args()
-    top = os.path.dirname(os.path.dirname(os.path.abspath(__file__)))
-    known = Definitions([os.path.join(top, 'crates/grammar/specs/Grammar.antt')] + given.specs)
-    forms = dict(form.split('=', 1) for form in given.forms)
-    machines = {name: Machine(known.value(Parser(text).expression(), {})) for name, text in forms.items()}
-    classes = classes_of(machines.values())
-    print('// The class of each byte.\n' + constant(given.classes, 'u8', [str(c) for c in classes]))
-    for name, machine in machines.items():
-        print(constant(f'{name}_STEPS', 'u8', [str(s) for s in steps_of(machine, classes)]))
-        print(constant(f'{name}_ENDS', 'bool', [str(end).lower() for end in machine.ends]))
-        print(f'/// The machine of `{forms[name]}`.')
-        print(f"pub const {name}: Machine<'static> = Machine {{")
-        print(f'    classes: &{given.classes},\n    steps: &{name}_STEPS,\n    ends: &{name}_ENDS,\n}};\n')
-    for name, machine in machines.items():
-        low = name.lower()
-        tables = f'{given.classes} {name}_STEPS {name}_ENDS ({forms[name]})'
-        texts = ''.join(f'({codes(text)}) ∷ ' for text in machine.texts[1:])
-        print(f'-- {len(machine.texts)} states, texts of at most {max(map(len, machine.texts))} bytes')
-        print(f'abbrev pub {low}_texts : List (List ℕ)\n{low}_texts =\n    {texts}[]\n')
-        print(f'pub {low}_decides : Decides {tables}\n{low}_decides = decides_by {tables} {low}_texts refl\n')
+    if len(sys.argv) != 2:
+        sys.exit(__doc__)
+    title = 'The tables of the forms that are decided by a machine; `bench/make_tables.py` makes them.'
+    make(sys.argv[1], 'grammar', title, 'use crate::machine::Machine;', [GRAMMAR], TEXTS)
+    title = 'The tables of what stands behind a command word; `bench/make_tables.py` makes them.'
+    make(sys.argv[1], 'line_forms', title, 'use grammar::Machine;', [GRAMMAR, LAYOUTS], LINES)
 
 
 if __name__ == '__main__':

@@ -7,10 +7,10 @@ use Rattle.grammar.specs.Form.{Matches, Times}
 use Rattle.grammar.specs.Grammar.{◌·◌, ◌⋯◌, symbol, blanks, digit, var, vars}
 use Rattle.term_text.specs.Numbers.{number_after}
 use Rattle.term_text.specs.Reading.{is_digit, is_upper}
-use Rattle.script_text.specs.Words.{is_blank}
+use Rattle.line_forms.specs.Words.{is_blank}
 use Rattle.script_text.specs.Variables.{variable_of, variables_of, further_variables_by, variables_by}
-use Rattle.script_text.proofs.WordLemmas.{Each, Stops, take_while-append}
-use Rattle.script_text.proofs.RestLaws.{Each-times, Each-blanks}
+use Rattle.line_forms.proofs.WordLemmas.{Each, Stops, take_while-append}
+use Rattle.line_forms.proofs.RestLaws.{Each-times, Each-blanks}
 
 a_digit : (b : ℕ) → 48 ≤ b → b ≤ 57 → is_digit b ≡ true
 a_digit b h k = grind (arith, nat_tests)

@@ -1,5 +1,5 @@
 -- What a line spells.
-use Rattle.std.specs.Prelude.{◌≡◌, ℕ, ◌<◌, ◌≤◌, List, map, length}
+use Rattle.std.specs.Prelude.{◌≡◌, ℕ, ◌<◌, ◌≤◌, List, length}
 use Rattle.grammar.specs.Form.{Matches, IsColumnOfAny}
 use Rattle.grammar.specs.Grammar.{alone}
 use Rattle.grammar.specs.Cases.{expr_cases, frac_cases, con_cases, cons_cases, gens_cases, point_cases}
@@ -7,24 +7,24 @@ use Rattle.reply_text.specs.declared.faults.Fault.{Fault}
 use Rattle.reply_text.specs.declared.faults.Fault.TheVariants as fault
 use Rattle.reply_text.specs.declared.faults.ReadErr.{ReadErr}
 use Rattle.reply_text.specs.declared.faults.ReadErr.TheVariants.{Input, Memory}
-use Rattle.script_text.specs.Rows.{row_form, rows}
-use Rattle.script_text.specs.Fields.{fields_of_row}
+use Rattle.line_forms.specs.CommandWords.{HasForm, line_forms}
+use Rattle.line_forms.specs.Fields.{fields_of}
+use Rattle.line_forms.specs.declared.form.LineForm.{LineForm}
 use Rattle.script_text.specs.Commands.{command_of, is_strict}
-use Rattle.script_text.specs.declared.row.Row.{Row}
 use Rattle.script_text.specs.declared.command.Command.{Command}
 use Rattle.script_text.specs.declared.command.Command.TheVariants.{Cons, Gens, Add, Addgen, Has, Relation, Bound, Map, Bounds}
 
--- the line is one of the row's, and this is the command of its fields
+-- the line has a form, and this is the command of its fields
 pub record Spells (line : List ℕ) (c : Command) : Type 0 where
   pub short : length line ≤ 65535
-  pub row : Row
-  pub form : Matches (row_form row) line
-  pub is : c ≡ command_of row (fields_of_row row line form)
+  pub form : LineForm
+  pub has : HasForm form line
+  pub is : c ≡ command_of form (fields_of form line has)
 
--- why the line gave no command: it is too long, or else no row has it, or memory ran out
+-- why the line gave no command: it is too long, or else it has no form, or memory ran out
 abbrev pub IsUnread : List ℕ → ReadErr → Type 0
 IsUnread line (Input fault.LineTooLong) = 65535 < length line
-IsUnread line (Input (fault.Syntax column)) = (length line ≤ 65535) × IsColumnOfAny (map row_form rows) line column
+IsUnread line (Input (fault.Syntax column)) = (length line ≤ 65535) × IsColumnOfAny line_forms line column
 IsUnread line (Input other) = ⊥
 IsUnread line Memory = Unit {0}
 

@@ -207,8 +207,8 @@ pub enum Command {
         p: Text,
         expr: Part,
     },
-    /// `image OUT P V REL FRAC`, `preimage OUT P V REL FRAC`; `v` is the number of the variable, 0 for `A`, 26
-    /// for `A1`.
+    /// `image OUT P V REL FRAC`, `preimage OUT P V REL FRAC`; `v` is the number of the variable,
+    /// 0 for `A`, 26 for `A1`.
     Map {
         by: Mapping,
         out: Text,

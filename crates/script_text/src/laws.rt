@@ -1,13 +1,6 @@
 //! Laws of the definitions that the contracts cite.
-ghost use Rattle.script_text.specs.Laws.{FieldsAreWords};
 ghost use Rattle.script_text.specs.Line.{SpellsOne, ReadsOnce};
 ghost use Rattle.script_text.specs.Variables.{VariablesAreListed};
-
-/// The fields of a line, however it matches, are those of its words.
-#[tactic(auto, using(crate::proofs::RowLaws::row_law))]
-pub fn fields_are_words()
-    ensures { FieldsAreWords }
-{}
 
 /// A line spells one command at most.
 #[tactic(auto, using(crate::proofs::SpellLemmas::spells_one))]

@@ -1,20 +1,23 @@
-//! The command of a row and its fields.
-ghost use Rattle.std.specs.Prelude.{◌≡◌, ℕ, List, ◌∷◌, length, take_while, IfOk, MatchResult};
+//! The command of a form and its fields.
+ghost use Rattle.std.specs.Prelude.{◌≡◌, ℕ, List, ◌∷◌, length, take_while, IfOk};
 ghost use Rattle.term_text.specs.Reading.{is_digit, is_upper};
-ghost use Rattle.reply_text.specs.declared.faults.ReadErr.TheVariants as read_err;
-ghost use Rattle.script_text.specs.Commands.{command_of, number_of, is_strict, begins_strict, part_from, relation_of};
-ghost use Rattle.script_text.specs.Fields.{fields_in};
+ghost use Rattle.script_text.specs.Commands.{number_of, is_strict, begins_strict, part_from};
+ghost use Rattle.script_text.specs.Commands.{relation_of, IsMade};
+ghost use Rattle.line_forms.specs.Words.{nth_word, part_of};
+ghost use Rattle.line_forms.specs.declared.form.LineForm.TheVariants as form;
 ghost use Rattle.script_text.specs.Variables.{variable_of, variables_of};
-ghost use Rattle.script_text.specs.Words.{nth_word, part_of};
-ghost use Rattle.script_text.specs.declared.row.Row.TheVariants as row;
+ghost use Rattle.script_text.specs.declared.command.Command.TheVariants as command;
 
-use crate::command::{Command, Mapping, Part, Rel, Space};
-use crate::row::{
-    NameAndPart, NameFormat, NameNumberName, NameNumberPrefix, OneName, Row, SpaceAndPart,
-    ThreeNames, TwoNames, TwoNamesNumber,
+use crate::command::{
+    Command, Comparison, Extension, Extremum, LocationPart, Mapping, Operator, Part,
+    PowersetOperator, Rel, ShapeOperator, Space,
 };
 use crate::variables::VarList;
-use crate::words::{is_word, part_of, sign_of, split_word, three_words, two_words};
+use line_forms::{
+    LineForm, NameAndPart, NameFormat, NameNumberName, NameNumberPrefix, OneName, SpaceAlone,
+    SpaceAndPart, ThreeNames, TwoNames, TwoNamesMap, TwoNamesNumber, is_word, part_of, sign_of,
+    split_word, three_words, two_words,
+};
 use reply_text::{ReadErr, Text};
 use row_core::Memory;
 use std::alloc::Global;
@@ -79,7 +82,9 @@ fn two_texts(alloc: Global, rest: &[u8]) -> Result<(Text, Text), Memory>
 
 /// Copies of the first three words.
 fn three_texts(alloc: Global, rest: &[u8]) -> Result<(Text, Text, Text), Memory>
-    ensures { IfOk result (λ t. (t.0 ≡ nth_word 0 rest.now) × (t.1 ≡ nth_word 1 rest.now) × (t.2 ≡ nth_word 2 rest.now)) }
+    ensures first { IfOk result (λ t. t.0 ≡ nth_word 0 rest.now) }
+    ensures second { IfOk result (λ t. t.1 ≡ nth_word 1 rest.now) }
+    ensures third { IfOk result (λ t. t.2 ≡ nth_word 2 rest.now) }
 {
     let (first, behind) = split_word(rest);
     let first = text(alloc, first)?;
@@ -89,7 +94,8 @@ fn three_texts(alloc: Global, rest: &[u8]) -> Result<(Text, Text, Text), Memory>
 
 /// A copy of the first word, and the part behind the colon.
 fn text_and_part(alloc: Global, rest: &[u8]) -> Result<(Text, Part), Memory>
-    ensures { IfOk result (λ t. (t.0 ≡ nth_word 0 rest.now) × (t.1 ≡ part_from (part_of rest.now))) }
+    ensures first { IfOk result (λ t. t.0 ≡ nth_word 0 rest.now) }
+    ensures part { IfOk result (λ t. t.1 ≡ part_from (part_of rest.now)) }
 {
     let (first, _) = split_word(rest);
     let first = text(alloc, first)?;
@@ -123,8 +129,8 @@ fn digits_len(text: &[u8]) -> usize
     text.iter().take_while(|b| b.is_ascii_digit()).count()
 }
 
-/// The number of the variable in front, from its letter and the digits behind it; `u64::MAX` stands for
-/// all later ones too.
+/// The number of the variable in front, from its letter and the digits behind it; `u64::MAX` stands
+/// for all later ones too.
 fn variable(text: &[u8]) -> u64
     ensures { result ≡ variable_of text.now }
 {
@@ -167,7 +173,7 @@ fn relation(sign: &[u8]) -> Rel
 
 /// A command with one name.
 fn of_one_name(alloc: Global, kind: OneName, rest: &[u8]) -> Result<Command, ReadErr>
-    ensures { MatchResult result (λ c. c ≡ command_of (row.OneName kind) (fields_in rest.now)) (λ e. e ≡ read_err.Memory) }
+    ensures { IsMade (form.OneName kind) rest.now result }
 {
     let (first, _) = split_word(rest);
     let p = text(alloc, first)?;
@@ -183,7 +189,7 @@ fn of_one_name(alloc: Global, kind: OneName, rest: &[u8]) -> Result<Command, Rea
 
 /// A command with a name and a part.
 fn of_name_part(alloc: Global, kind: NameAndPart, rest: &[u8]) -> Result<Command, ReadErr>
-    ensures { MatchResult result (λ c. c ≡ command_of (row.NameAndPart kind) (fields_in rest.now)) (λ e. e ≡ read_err.Memory) }
+    ensures { IsMade (form.NameAndPart kind) rest.now result }
 {
     let (p, part) = text_and_part(alloc, rest)?;
     Ok(match kind {
@@ -191,19 +197,42 @@ fn of_name_part(alloc: Global, kind: NameAndPart, rest: &[u8]) -> Result<Command
         NameAndPart::Addgen => Command::Addgen { p, gens: part },
         NameAndPart::Has => Command::Has { p, point: part },
         NameAndPart::Relation => Command::Relation { p, con: part },
-        NameAndPart::Bound(of) => Command::Bound { of, p, expr: part },
+        NameAndPart::Max => Command::Bound {
+            of: Extremum::Max,
+            p,
+            expr: part,
+        },
+        NameAndPart::Min => Command::Bound {
+            of: Extremum::Min,
+            p,
+            expr: part,
+        },
     })
 }
 
 /// A command with two names.
 fn of_two_names(alloc: Global, kind: TwoNames, rest: &[u8]) -> Result<Command, ReadErr>
-    ensures { MatchResult result (λ c. c ≡ command_of (row.TwoNames kind) (fields_in rest.now)) (λ e. e ≡ read_err.Memory) }
+    ensures { IsMade (form.TwoNames kind) rest.now result }
 {
     let (p, q) = two_texts(alloc, rest)?;
     Ok(match kind {
         TwoNames::Copy => Command::Copy { out: p, p: q },
         TwoNames::Closure => Command::Closure { out: p, p: q },
-        TwoNames::Compare(by) => Command::Compare { by, p, q },
+        TwoNames::Contains => Command::Compare {
+            by: Comparison::Contains,
+            p,
+            q,
+        },
+        TwoNames::Equal => Command::Compare {
+            by: Comparison::Equal,
+            p,
+            q,
+        },
+        TwoNames::Disjoint => Command::Compare {
+            by: Comparison::Disjoint,
+            p,
+            q,
+        },
         TwoNames::Pset => Command::Pset { out: p, p: q },
         TwoNames::Covers => Command::Covers { s: p, t: q },
         TwoNames::Rank => Command::Rank { out: p, r: q },
@@ -214,45 +243,72 @@ fn of_two_names(alloc: Global, kind: TwoNames, rest: &[u8]) -> Result<Command, R
     })
 }
 
+/// What is made of two polyhedra.
+fn of_two(op: Operator, out: Text, p: Text, q: Text) -> Command
+    ensures { result ≡ command.OfTwo op out p q }
+{
+    Command::OfTwo { op, out, p, q }
+}
+
+/// What is made of two powersets.
+fn of_two_powersets(op: PowersetOperator, out: Text, s: Text, t: Text) -> Command
+    ensures { result ≡ command.OfTwoPowersets op out s t }
+{
+    Command::OfTwoPowersets { op, out, s, t }
+}
+
+/// What is made of two shapes.
+fn of_two_shapes(op: ShapeOperator, out: Text, s: Text, t: Text) -> Command
+    ensures { result ≡ command.OfTwoShapes op out s t }
+{
+    Command::OfTwoShapes { op, out, s, t }
+}
+
 /// A command with three names.
 fn of_three_names(alloc: Global, kind: ThreeNames, rest: &[u8]) -> Result<Command, ReadErr>
-    ensures { MatchResult result (λ c. c ≡ command_of (row.ThreeNames kind) (fields_in rest.now)) (λ e. e ≡ read_err.Memory) }
+    ensures { IsMade (form.ThreeNames kind) rest.now result }
 {
     let (out, p, q) = three_texts(alloc, rest)?;
     Ok(match kind {
-        ThreeNames::OfTwo(op) => Command::OfTwo { op, out, p, q },
+        ThreeNames::Meet => of_two(Operator::Meet, out, p, q),
+        ThreeNames::Hull => of_two(Operator::Hull, out, p, q),
+        ThreeNames::Concat => of_two(Operator::Concat, out, p, q),
+        ThreeNames::Elapse => of_two(Operator::Elapse, out, p, q),
         ThreeNames::Widen => Command::Widen { out, p, q },
-        ThreeNames::OfTwoPowersets(op) => Command::OfTwoPowersets {
-            op,
-            out,
-            s: p,
-            t: q,
-        },
-        ThreeNames::OfTwoShapes(op) => Command::OfTwoShapes {
-            op,
-            out,
-            s: p,
-            t: q,
-        },
+        ThreeNames::Join => of_two_powersets(PowersetOperator::Join, out, p, q),
+        ThreeNames::PowersetMeet => of_two_powersets(PowersetOperator::Meet, out, p, q),
+        ThreeNames::ShapeMeet => of_two_shapes(ShapeOperator::Meet, out, p, q),
+        ThreeNames::ShapeHull => of_two_shapes(ShapeOperator::Hull, out, p, q),
     })
 }
 
 /// A command with a name, a topology and a number.
-fn of_space(alloc: Global, space: Space, rest: &[u8]) -> Result<Command, ReadErr>
-    ensures { MatchResult result (λ c. c ≡ command_of (row.Space space) (fields_in rest.now)) (λ e. e ≡ read_err.Memory) }
+fn of_space(alloc: Global, kind: SpaceAlone, rest: &[u8]) -> Result<Command, ReadErr>
+    ensures { IsMade (form.SpaceAlone kind) rest.now result }
 {
     let (first, second, third) = three_words(rest);
-    Ok(Command::Space {
-        space,
-        out: text(alloc, first)?,
-        top: is_word(second, b"nnc"),
-        n: number(third),
+    let out = text(alloc, first)?;
+    let top = is_word(second, b"nnc");
+    let n = number(third);
+    Ok(match kind {
+        SpaceAlone::Universe => Command::Space {
+            space: Space::Universe,
+            out,
+            top,
+            n,
+        },
+        SpaceAlone::Empty => Command::Space {
+            space: Space::Empty,
+            out,
+            top,
+            n,
+        },
     })
 }
 
 /// A command with a name, a topology, a number and a part.
 fn of_space_part(alloc: Global, kind: SpaceAndPart, rest: &[u8]) -> Result<Command, ReadErr>
-    ensures { MatchResult result (λ c. c ≡ command_of (row.SpaceAndPart kind) (fields_in rest.now)) (λ e. e ≡ read_err.Memory) }
+    ensures { IsMade (form.SpaceAndPart kind) rest.now result }
 {
     let (out, part) = text_and_part(alloc, rest)?;
     let (_, second, third) = three_words(rest);
@@ -276,37 +332,60 @@ fn of_space_part(alloc: Global, kind: SpaceAndPart, rest: &[u8]) -> Result<Comma
 
 /// A command with two names and a number.
 fn of_two_names_number(alloc: Global, kind: TwoNamesNumber, rest: &[u8]) -> Result<Command, ReadErr>
-    ensures { MatchResult result (λ c. c ≡ command_of (row.TwoNamesNumber kind) (fields_in rest.now)) (λ e. e ≡ read_err.Memory) }
+    ensures { IsMade (form.TwoNamesNumber kind) rest.now result }
 {
     let (out, p) = two_texts(alloc, rest)?;
     let (_, _, third) = three_words(rest);
     let n = number(third);
     Ok(match kind {
-        TwoNamesNumber::Extend(by) => Command::Extend { by, out, p, n },
+        TwoNamesNumber::Embed => Command::Extend {
+            by: Extension::Embed,
+            out,
+            p,
+            n,
+        },
+        TwoNamesNumber::Project => Command::Extend {
+            by: Extension::Project,
+            out,
+            p,
+            n,
+        },
         TwoNamesNumber::Member => Command::Member { out, s: p, i: n },
     })
 }
 
 /// A command with two names, a variable, a relation and a part.
-fn of_map(alloc: Global, by: Mapping, rest: &[u8]) -> Result<Command, ReadErr>
-    ensures { MatchResult result (λ c. c ≡ command_of (row.Map by) (fields_in rest.now)) (λ e. e ≡ read_err.Memory) }
+fn of_map(alloc: Global, kind: TwoNamesMap, rest: &[u8]) -> Result<Command, ReadErr>
+    ensures { IsMade (form.TwoNamesMap kind) rest.now result }
 {
     let frac = part(alloc, rest)?;
     let (out, p) = two_texts(alloc, rest)?;
     let (_, _, third) = three_words(rest);
-    Ok(Command::Map {
-        by,
-        out,
-        p,
-        v: variable(third),
-        rel: relation(sign_of(rest)),
-        frac,
+    let v = variable(third);
+    let rel = relation(sign_of(rest));
+    Ok(match kind {
+        TwoNamesMap::Image => Command::Map {
+            by: Mapping::Image,
+            out,
+            p,
+            v,
+            rel,
+            frac,
+        },
+        TwoNamesMap::Preimage => Command::Map {
+            by: Mapping::Preimage,
+            out,
+            p,
+            v,
+            rel,
+            frac,
+        },
     })
 }
 
 /// A command with a name and the kind of a file.
 fn of_name_format(alloc: Global, kind: NameFormat, rest: &[u8]) -> Result<Command, ReadErr>
-    ensures { MatchResult result (λ c. c ≡ command_of (row.NameFormat kind) (fields_in rest.now)) (λ e. e ≡ read_err.Memory) }
+    ensures { IsMade (form.NameFormat kind) rest.now result }
 {
     let (first, second) = two_words(rest);
     let name = text(alloc, first)?;
@@ -319,14 +398,25 @@ fn of_name_format(alloc: Global, kind: NameFormat, rest: &[u8]) -> Result<Comman
 
 /// A command with a name, a number and a name.
 fn of_name_number_name(alloc: Global, kind: NameNumberName, rest: &[u8]) -> Result<Command, ReadErr>
-    ensures { MatchResult result (λ c. c ≡ command_of (row.NameNumberName kind) (fields_in rest.now)) (λ e. e ≡ read_err.Memory) }
+    ensures { IsMade (form.NameNumberName kind) rest.now result }
 {
     let (first, second, third) = three_words(rest);
     let (s, p) = copies(alloc, first, third)?;
     let loc = number(second);
     Ok(match kind {
         NameNumberName::Init => Command::Init { s, loc, p },
-        NameNumberName::SetPart(part) => Command::SetPart { part, h: s, loc, p },
+        NameNumberName::Invariant => Command::SetPart {
+            part: LocationPart::Invariant,
+            h: s,
+            loc,
+            p,
+        },
+        NameNumberName::Flow => Command::SetPart {
+            part: LocationPart::Flow,
+            h: s,
+            loc,
+            p,
+        },
     })
 }
 
@@ -336,7 +426,7 @@ fn of_name_number_prefix(
     kind: NameNumberPrefix,
     rest: &[u8],
 ) -> Result<Command, ReadErr>
-    ensures { MatchResult result (λ c. c ≡ command_of (row.NameNumberPrefix kind) (fields_in rest.now)) (λ e. e ≡ read_err.Memory) }
+    ensures { IsMade (form.NameNumberPrefix kind) rest.now result }
 {
     let (first, second, third) = three_words(rest);
     let (s, prefix) = copies(alloc, first, third)?;
@@ -353,7 +443,7 @@ fn of_name_number_prefix(
 
 /// `print`, with a side and a name.
 fn print_command(alloc: Global, rest: &[u8]) -> Result<Command, ReadErr>
-    ensures { MatchResult result (λ c. c ≡ command_of row.Print (fields_in rest.now)) (λ e. e ≡ read_err.Memory) }
+    ensures { IsMade form.Print rest.now result }
 {
     let (first, second) = two_words(rest);
     Ok(Command::Print {
@@ -364,7 +454,7 @@ fn print_command(alloc: Global, rest: &[u8]) -> Result<Command, ReadErr>
 
 /// `remove`, with two names and the variables of its part.
 fn remove_command(alloc: Global, rest: &[u8]) -> Result<Command, ReadErr>
-    ensures { MatchResult result (λ c. c ≡ command_of row.Remove (fields_in rest.now)) (λ e. e ≡ read_err.Memory) }
+    ensures { IsMade form.Remove rest.now result }
 {
     let vars = variables(alloc, part_of(rest))?;
     let (out, p) = two_texts(alloc, rest)?;
@@ -373,7 +463,7 @@ fn remove_command(alloc: Global, rest: &[u8]) -> Result<Command, ReadErr>
 
 /// `system`, with a name and two numbers.
 fn system_command(alloc: Global, rest: &[u8]) -> Result<Command, ReadErr>
-    ensures { MatchResult result (λ c. c ≡ command_of row.System (fields_in rest.now)) (λ e. e ≡ read_err.Memory) }
+    ensures { IsMade form.System rest.now result }
 {
     let (first, second, third) = three_words(rest);
     Ok(Command::System {
@@ -385,7 +475,7 @@ fn system_command(alloc: Global, rest: &[u8]) -> Result<Command, ReadErr>
 
 /// `bounds`, with a name, a number and a part.
 fn bounds_command(alloc: Global, rest: &[u8]) -> Result<Command, ReadErr>
-    ensures { MatchResult result (λ c. c ≡ command_of row.Bounds (fields_in rest.now)) (λ e. e ≡ read_err.Memory) }
+    ensures { IsMade form.Bounds rest.now result }
 {
     let (out, cons) = text_and_part(alloc, rest)?;
     let (_, second) = two_words(rest);
@@ -398,7 +488,7 @@ fn bounds_command(alloc: Global, rest: &[u8]) -> Result<Command, ReadErr>
 
 /// `trans`, with a name, two numbers and a name.
 fn trans_command(alloc: Global, rest: &[u8]) -> Result<Command, ReadErr>
-    ensures { MatchResult result (λ c. c ≡ command_of row.Trans (fields_in rest.now)) (λ e. e ≡ read_err.Memory) }
+    ensures { IsMade form.Trans rest.now result }
 {
     let (first, behind) = split_word(rest);
     let (second, third, fourth) = three_words(behind);
@@ -411,28 +501,28 @@ fn trans_command(alloc: Global, rest: &[u8]) -> Result<Command, ReadErr>
     })
 }
 
-/// The command of a line of the row, from what stands behind its word.
-pub fn command_of(alloc: Global, row: Row, rest: &[u8]) -> Result<Command, ReadErr>
-    ensures { MatchResult result (λ c. c ≡ command_of row (fields_in rest.now)) (λ e. e ≡ read_err.Memory) }
+/// The command of a line of the form, from what stands behind its word.
+pub fn command_of(alloc: Global, form: LineForm, rest: &[u8]) -> Result<Command, ReadErr>
+    ensures { IsMade form rest.now result }
 {
-    match row {
-        Row::Nothing => Ok(Command::Nothing),
-        Row::Names => Ok(Command::Names),
-        Row::OneName(kind) => of_one_name(alloc, kind, rest),
-        Row::NameAndPart(kind) => of_name_part(alloc, kind, rest),
-        Row::TwoNames(kind) => of_two_names(alloc, kind, rest),
-        Row::ThreeNames(kind) => of_three_names(alloc, kind, rest),
-        Row::Space(space) => of_space(alloc, space, rest),
-        Row::SpaceAndPart(kind) => of_space_part(alloc, kind, rest),
-        Row::TwoNamesNumber(kind) => of_two_names_number(alloc, kind, rest),
-        Row::Map(by) => of_map(alloc, by, rest),
-        Row::NameFormat(kind) => of_name_format(alloc, kind, rest),
-        Row::NameNumberName(kind) => of_name_number_name(alloc, kind, rest),
-        Row::NameNumberPrefix(kind) => of_name_number_prefix(alloc, kind, rest),
-        Row::Print => print_command(alloc, rest),
-        Row::Remove => remove_command(alloc, rest),
-        Row::System => system_command(alloc, rest),
-        Row::Trans => trans_command(alloc, rest),
-        Row::Bounds => bounds_command(alloc, rest),
+    match form {
+        LineForm::Nothing => Ok(Command::Nothing),
+        LineForm::Names => Ok(Command::Names),
+        LineForm::OneName(kind) => of_one_name(alloc, kind, rest),
+        LineForm::NameAndPart(kind) => of_name_part(alloc, kind, rest),
+        LineForm::TwoNames(kind) => of_two_names(alloc, kind, rest),
+        LineForm::ThreeNames(kind) => of_three_names(alloc, kind, rest),
+        LineForm::SpaceAlone(kind) => of_space(alloc, kind, rest),
+        LineForm::SpaceAndPart(kind) => of_space_part(alloc, kind, rest),
+        LineForm::TwoNamesNumber(kind) => of_two_names_number(alloc, kind, rest),
+        LineForm::TwoNamesMap(kind) => of_map(alloc, kind, rest),
+        LineForm::NameFormat(kind) => of_name_format(alloc, kind, rest),
+        LineForm::NameNumberName(kind) => of_name_number_name(alloc, kind, rest),
+        LineForm::NameNumberPrefix(kind) => of_name_number_prefix(alloc, kind, rest),
+        LineForm::Print => print_command(alloc, rest),
+        LineForm::Remove => remove_command(alloc, rest),
+        LineForm::System => system_command(alloc, rest),
+        LineForm::Trans => trans_command(alloc, rest),
+        LineForm::Bounds => bounds_command(alloc, rest),
     }
 }

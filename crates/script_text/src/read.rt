@@ -2,10 +2,9 @@
 ghost use Rattle.std.specs.Prelude.{IfOk, MatchResult};
 ghost use Rattle.script_text.specs.Line.{Spells, IsUnread, PartsMatch, PartsTold};
 
-use crate::choice::row_of;
 use crate::command::Command;
 use crate::making::command_of;
-use crate::words::split_word;
+use line_forms::{form_of, split_word};
 use reply_text::{Fault, ReadErr};
 use std::alloc::Global;
 
@@ -15,9 +14,9 @@ const MAX_LINE: usize = 65_535;
 /// The command that a line spells.
 ///
 /// # Errors
-/// `LineTooLong` exactly where the line has more than 65,535 bytes. Else `Syntax` exactly where it is no
-/// line of any command, with the least column such that the bytes up to it begin no line of any command,
-/// or the length plus 1 where the whole line begins one.
+/// `LineTooLong` exactly where the line has more than 65,535 bytes. Else `Syntax` exactly where it
+/// is no line of any command, with the least column such that the bytes up to it begin no line of
+/// any command, or the length plus 1 where the whole line begins one.
 pub fn read_command(alloc: Global, line: &[u8]) -> Result<Command, ReadErr>
     ensures command { MatchResult result (Spells line.now) (IsUnread line.now) }
     ensures parts { IfOk result PartsMatch }
@@ -27,8 +26,8 @@ pub fn read_command(alloc: Global, line: &[u8]) -> Result<Command, ReadErr>
         return Err(ReadErr::Input(Fault::LineTooLong));
     }
     let (word, rest) = split_word(line);
-    match row_of(line, word, rest) {
-        Ok(row) => command_of(alloc, row, rest),
+    match form_of(line, word, rest) {
+        Ok(form) => command_of(alloc, form, rest),
         Err(column) => Err(ReadErr::Input(Fault::Syntax(column as u64))),
     }
 }

@@ -1,5 +1,6 @@
 //! Lists of variables.
-ghost use Rattle.std.specs.Prelude.{◌≡◌, ℕ, ◌<◌, List, [], ◌∷◌, ◌++◌, length, get_or, ◌==◌, MatchResult};
+ghost use Rattle.std.specs.Prelude.{◌≡◌, ℕ, ◌<◌, List, [], ◌∷◌, ◌++◌, length, get_or, ◌==◌};
+ghost use Rattle.std.specs.Prelude.{MatchResult};
 
 use row_core::Memory;
 use std::alloc::Global;

@@ -12,8 +12,8 @@ returns-in-TwoNames c = rw c.in-TwoNames.is c.of_two_names.ensures
 pub returns-in-ThreeNames : goal.returns-in-ThreeNames
 returns-in-ThreeNames c = rw c.in-ThreeNames.is c.of_three_names.ensures
 
-pub returns-in-Space : goal.returns-in-Space
-returns-in-Space c = rw c.in-Space.is c.of_space.ensures
+pub returns-in-SpaceAlone : goal.returns-in-SpaceAlone
+returns-in-SpaceAlone c = rw c.in-SpaceAlone.is c.of_space.ensures
 
 pub returns-in-SpaceAndPart : goal.returns-in-SpaceAndPart
 returns-in-SpaceAndPart c = rw c.in-SpaceAndPart.is c.of_space_part.ensures
@@ -21,8 +21,8 @@ returns-in-SpaceAndPart c = rw c.in-SpaceAndPart.is c.of_space_part.ensures
 pub returns-in-TwoNamesNumber : goal.returns-in-TwoNamesNumber
 returns-in-TwoNamesNumber c = rw c.in-TwoNamesNumber.is c.of_two_names_number.ensures
 
-pub returns-in-Map : goal.returns-in-Map
-returns-in-Map c = rw c.in-Map.is c.of_map.ensures
+pub returns-in-TwoNamesMap : goal.returns-in-TwoNamesMap
+returns-in-TwoNamesMap c = rw c.in-TwoNamesMap.is c.of_map.ensures
 
 pub returns-in-NameFormat : goal.returns-in-NameFormat
 returns-in-NameFormat c = rw c.in-NameFormat.is c.of_name_format.ensures
