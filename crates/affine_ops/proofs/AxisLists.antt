@@ -4,8 +4,8 @@ use Rattle.std.specs.List.{range_with_len}
 use Rattle.std.proofs.lemmas.List.FromFn.{map-range_with_len_more}
 use Rattle.gens_sys.specs.declared.kind.GenKind.TheVariants.{Line}
 use Rattle.gens_sys.specs.Generators.{IsGenerator}
-use Rattle.poly_pair.specs.Axes.{axis}
-use Rattle.poly_pair.proofs.UniverseLemmas.{length-axis, axis_in_range, axis_primitive, axis_fits}
+use Rattle.stored_systems.specs.Axes.{axis}
+use Rattle.stored_systems.proofs.UniverseLemmas.{length-axis, axis_in_range, axis_primitive, axis_fits}
 
 pub one_axis_more : {K : Type 0} (a : ℕ → List ℤ) (kind : K) (n i : ℕ) (cur new : List (List ℤ × K)) (row : List ℤ) → cur ≡ map (λ j. (a j, kind)) (range_with_len n i) → row ≡ a (n + i) → new ≡ cur ++ (row, kind) ∷ [] → new ≡ map (λ j. (a j, kind)) (range_with_len n (i + 1))
 one_axis_more {K} a kind n i cur new row c r e =

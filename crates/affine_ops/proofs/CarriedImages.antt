@@ -19,12 +19,13 @@ use Rattle.gens_sys.specs.declared.kind.GenKind.TheVariants.{Line, Ray, Point, C
 use Rattle.gens_sys.specs.Generators.{Generator, Generators, FitDimension}
 use Rattle.sat_matrix.specs.Tables.{Table}
 use Rattle.poly_pair.specs.declared.topology.Topology.TheVariants.{Closed}
-use Rattle.pair_laws.specs.WorkLists.{divisor_row, constraint_row, generator_row, constraint_list, generator_list}
+use Rattle.stored_systems.specs.WorkLists.{divisor_row, constraint_row, generator_row, constraint_list, generator_list}
 use Rattle.poly_pair.specs.FirstLists.{HasPointKind}
 use Rattle.poly_pair.specs.Polyhedra.{Polyhedron, IsKept}
 use Rattle.poly_pair.specs.Starts.{CanStart}
-use Rattle.poly_pair.specs.Zeros.{ArePairZeros, KeepsZeros}
-use Rattle.poly_pair.proofs.OtherSystems.{some_point}
+use Rattle.stored_systems.specs.Zeros.{ArePairZeros}
+use Rattle.poly_pair.specs.Zeros.{KeepsZeros}
+use Rattle.poly_pair.proofs.PointKinds.{some_point}
 use Rattle.poly_pair.proofs.StoredLemmas.{no_element}
 use Rattle.affine_ops.specs.Maps.{substituted, pulled_back}
 use Rattle.affine_ops.specs.MappedLists.{IsMappedSystem, IsPulledSystem}

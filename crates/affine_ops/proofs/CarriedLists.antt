@@ -16,8 +16,8 @@ use Rattle.gens_sys.specs.Kinds.{IsZeroDirection}
 use Rattle.gens_sys.specs.declared.kind.GenKind.{GenKind}
 use Rattle.gens_sys.specs.declared.kind.GenKind.TheVariants.{Line, Ray, Point, ClosurePoint}
 use Rattle.gens_sys.specs.Generators.{Generator}
-use Rattle.pair_laws.specs.WorkLists.{divisor_row, constraint_row, generator_row}
-use Rattle.pair_laws.proofs.DivisorRow.{dot_divisor}
+use Rattle.stored_systems.specs.WorkLists.{divisor_row, constraint_row, generator_row}
+use Rattle.stored_systems.proofs.DivisorRow.{dot_divisor}
 use Rattle.sat_matrix.specs.Tables.{Table}
 use Rattle.sat_matrix.specs.ZeroTables.{TellsZeros, IsZeroTable}
 use Rattle.affine_ops.specs.MappedLists.{AreMapped, nothing, left_out, kept, ArePulled, none_pulled, one_pulled}

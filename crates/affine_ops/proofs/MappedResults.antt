@@ -15,8 +15,8 @@ use Rattle.gens_sys.specs.declared.kind.GenKind.{GenKind}
 use Rattle.gens_sys.specs.declared.kind.GenKind.TheVariants.{Line, Ray, Point, ClosurePoint}
 use Rattle.gens_sys.specs.Generators.{Generator, Generators, FitDimension, IsGenerator}
 use Rattle.gens_sys.specs.Spans.{Span}
-use Rattle.pair_laws.specs.PointSets.{IsClosedGenKind}
-use Rattle.pair_laws.specs.WorkLists.{LeavesOn}
+use Rattle.stored_systems.specs.PointSets.{IsClosedGenKind}
+use Rattle.stored_systems.specs.WorkLists.{LeavesOn}
 use Rattle.poly_pair.specs.declared.topology.Topology.{Topology}
 use Rattle.poly_pair.specs.declared.topology.Topology.TheVariants.{Closed, Nnc}
 use Rattle.poly_pair.specs.TopologyLists.{AreGeneratorsFor, list_width, generators_of}

@@ -22,18 +22,18 @@ use Rattle.gens_sys.specs.declared.kind.GenKind.TheVariants.{Line}
 use Rattle.gens_sys.specs.Generators.{Generator, Generators, FitDimension}
 use Rattle.sat_matrix.specs.Tables.{Table}
 use Rattle.sat_matrix.specs.ZeroTables.{IsZeroTable}
-use Rattle.pair_laws.specs.PointSets.{IsClosedKind, IsClosedGenKind, AreClosed, AreClosedKinds}
-use Rattle.pair_laws.specs.WorkLists.{divisor_row, constraint_row, generator_row, constraint_list, generator_list}
-use Rattle.pair_laws.proofs.DivisorRow.{dot_divisor}
-use Rattle.pair_laws.proofs.ListLemmas.{All-unmap}
+use Rattle.stored_systems.specs.PointSets.{IsClosedKind, IsClosedGenKind, AreClosed, AreClosedKinds}
+use Rattle.stored_systems.specs.WorkLists.{divisor_row, constraint_row, generator_row, constraint_list, generator_list}
+use Rattle.stored_systems.proofs.DivisorRow.{dot_divisor}
+use Rattle.stored_systems.proofs.ListLemmas.{All-unmap}
 use Rattle.poly_pair.specs.declared.topology.Topology.TheVariants.{Closed}
-use Rattle.poly_pair.specs.Axes.{axis}
+use Rattle.stored_systems.specs.Axes.{axis}
 use Rattle.poly_pair.specs.FirstLists.{HasPointKind}
 use Rattle.poly_pair.specs.Polyhedra.{Polyhedron, IsKept}
 use Rattle.poly_pair.specs.Starts.{CanStart}
 use Rattle.poly_pair.specs.Zeros.{KeepsZeros}
-use Rattle.poly_pair.proofs.OtherSystems.{some_point}
-use Rattle.poly_pair.proofs.UniverseLemmas.{length-axis}
+use Rattle.poly_pair.proofs.PointKinds.{some_point}
+use Rattle.stored_systems.proofs.UniverseLemmas.{length-axis}
 use Rattle.poly_pair.proofs.StoredLemmas.{no_element, kept_dim}
 use Rattle.affine_ops.specs.Maps.{with_zeros, without}
 use Rattle.affine_ops.specs.MappedLists.{AreMapped, ArePulled, IsMappedSystem, IsPulledSystem}

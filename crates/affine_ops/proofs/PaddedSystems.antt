@@ -14,8 +14,8 @@ use Rattle.cone_laws.proofs.Columns.{cell-scale, length-scale, dot_comm, dot-mul
 use Rattle.cone_laws.proofs.Factors.{single, cell-single_same, cell-single_other}
 use Rattle.cone_laws.proofs.Sums.{V, Nothing, Sums, none, line, spans_sums}
 use Rattle.cone_laws.proofs.Bridge.{columns, In, in_at}
-use Rattle.poly_pair.specs.Axes.{axis}
-use Rattle.poly_pair.proofs.UniverseLemmas.{axis_one, axis_other, length-axis, axis_primitive}
+use Rattle.stored_systems.specs.Axes.{axis}
+use Rattle.stored_systems.proofs.UniverseLemmas.{axis_one, axis_other, length-axis, axis_primitive}
 use Rattle.affine_ops.specs.Maps.{with_zeros, without}
 use Rattle.affine_ops.specs.CarriedSystems.{AreCarried}
 use Rattle.affine_ops.specs.AddedVariables.{new_axes}

@@ -9,8 +9,8 @@ use Rattle.row_core.specs.declared.errors.ConvErr.{ConvErr}
 use Rattle.row_core.specs.declared.errors.ConvErr.TheVariants as conversion
 use Rattle.cons_sys.specs.Constraints.{Constraint, Constraints, In, Satisfies}
 use Rattle.gens_sys.specs.Generators.{Generators}
-use Rattle.pair_laws.specs.PointSets.{IsWithin, AreClosed, IsClosedKind}
-use Rattle.pair_laws.proofs.ListLemmas.{All-left, All-right}
+use Rattle.stored_systems.specs.PointSets.{IsWithin, AreClosed, IsClosedKind}
+use Rattle.stored_systems.proofs.ListLemmas.{All-left, All-right}
 use Rattle.poly_pair.specs.declared.topology.Topology.TheVariants.{Closed}
 use Rattle.poly_pair.specs.TopologyLists.{AreConstraintsFor}
 use Rattle.poly_pair.specs.Polyhedra.{Polyhedron, IsKept}

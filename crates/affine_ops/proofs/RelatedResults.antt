@@ -6,7 +6,7 @@ use Rattle.row_core.specs.Points.{IsPoint}
 use Rattle.row_core.specs.declared.errors.ConvErr.{ConvErr}
 use Rattle.row_core.specs.declared.errors.ConvErr.TheVariants as conversion
 use Rattle.cons_sys.specs.Constraints.{Constraint, Constraints, FitDimension, Gains}
-use Rattle.pair_laws.specs.PointSets.{AreWide, IsClosedKind}
+use Rattle.stored_systems.specs.PointSets.{AreWide, IsClosedKind}
 use Rattle.poly_pair.specs.declared.topology.Topology.{Topology}
 use Rattle.poly_pair.specs.declared.topology.Topology.TheVariants.{Closed, Nnc}
 use Rattle.poly_pair.specs.TopologyLists.{AreConstraintsFor}

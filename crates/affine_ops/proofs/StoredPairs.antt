@@ -10,9 +10,9 @@ use Rattle.cone_laws.proofs.SystemLists.{lines_of-system_rows, rays_of-system_ro
 use Rattle.cons_sys.specs.Constraints.{Constraint}
 use Rattle.gens_sys.specs.declared.kind.GenKind.TheVariants.{Line}
 use Rattle.gens_sys.specs.Generators.{Generator, FitDimension}
-use Rattle.pair_laws.specs.StoredForms.{stored_constraints, IsPairForm, IsStored}
-use Rattle.pair_laws.specs.WorkLists.{generator_row, constraint_list, generator_list}
-use Rattle.pair_laws.proofs.StoredPair.{gen_list_stored, cone_listed, listed_cone}
+use Rattle.stored_systems.specs.StoredForms.{stored_constraints, IsPairForm, IsStored}
+use Rattle.stored_systems.specs.WorkLists.{generator_row, constraint_list, generator_list}
+use Rattle.stored_systems.proofs.StoredPair.{gen_list_stored, cone_listed, listed_cone}
 use Rattle.poly_pair.specs.declared.topology.Topology.{Topology}
 use Rattle.poly_pair.specs.Polyhedra.{Polyhedron, IsKept, IsStoredAs}
 use Rattle.poly_pair.specs.Starts.{CanStart}

@@ -5,7 +5,7 @@ use Rattle.cons_sys.specs.Constraints.{Constraint, Constraints}
 use Rattle.gens_sys.specs.declared.kind.GenKind.TheVariants.{Line}
 use Rattle.gens_sys.specs.Generators.{Generator, Generators}
 use Rattle.sat_matrix.specs.Tables.{Table}
-use Rattle.poly_pair.specs.Axes.{axis}
+use Rattle.stored_systems.specs.Axes.{axis}
 use Rattle.affine_ops.specs.Maps.{with_zeros}
 use Rattle.affine_ops.specs.MappedLists.{AreMapped, ArePulled}
 

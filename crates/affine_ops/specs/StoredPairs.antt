@@ -5,10 +5,10 @@ use Rattle.cone_laws.specs.Members.{ConeOf}
 use Rattle.cons_sys.specs.Constraints.{Constraints}
 use Rattle.gens_sys.specs.Generators.{Generators}
 use Rattle.sat_matrix.specs.Tables.{Table}
-use Rattle.pair_laws.specs.PointSets.{AreClosed, AreClosedKinds}
-use Rattle.pair_laws.specs.WorkLists.{constraint_list, generator_list}
+use Rattle.stored_systems.specs.PointSets.{AreClosed, AreClosedKinds}
+use Rattle.stored_systems.specs.WorkLists.{constraint_list, generator_list}
 use Rattle.poly_pair.specs.FirstLists.{HasPointKind}
-use Rattle.poly_pair.specs.Zeros.{ArePairZeros}
+use Rattle.stored_systems.specs.Zeros.{ArePairZeros}
 
 -- generators with a point that are the system of a constraint list, and the table of the zeros of the one on the other
 pub record IsPair (cs : Constraints) (gs : Generators) (table : Table) : Type 0 where

@@ -14,11 +14,12 @@ use crate::pulled::padded_constraints;
 use crate::stored_pairs::paired;
 use cons_sys::{ConKind, ConsSys};
 use gens_sys::{GenKind, GensSys};
-use poly_pair::{MAX_DIM, Poly, axis};
+use poly_pair::{MAX_DIM, Poly};
 use row_core::{Memory, Steps};
 use sat_matrix::SatMatrix;
 use std::alloc::Global;
 use std::sync::ledger::Ledger;
+use stored_systems::axis;
 
 /// The equalities that say of the variables behind the first `dim`, `count` in number, that they are 0.
 fn zero_equalities(alloc: Global, dim: usize, count: usize) -> Result<ConsSys, Memory>

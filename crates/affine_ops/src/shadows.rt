@@ -1,7 +1,7 @@
 //! The points of constraints with some of their columns alone.
 ghost use Rattle.std.specs.Prelude.{◌≡◌, ℕ, ◌+◌, ◌<◌, ◌≤◌, length, All, IfOk, IfErr};
 ghost use Rattle.chernikova.specs.Conversion.{IsRealOverflow};
-ghost use Rattle.pair_laws.specs.WorkLists.{constraint_list};
+ghost use Rattle.stored_systems.specs.WorkLists.{constraint_list};
 ghost use Rattle.poly_pair.specs.TopologyLists.{AreConstraintsFor};
 ghost use Rattle.poly_pair.specs.declared.topology.TheConstants.{MAX_DIM};
 ghost use Rattle.poly_pair.specs.declared.topology.Topology.TheVariants.{Closed};

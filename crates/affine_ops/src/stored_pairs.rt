@@ -1,6 +1,6 @@
 //! Closed polyhedra of constraints and generators of one set, without a conversion.
 ghost use Rattle.std.specs.Prelude.{⊤, ◌≤◌, IfOk, MatchOption};
-ghost use Rattle.pair_laws.specs.WorkLists.{constraint_list};
+ghost use Rattle.stored_systems.specs.WorkLists.{constraint_list};
 ghost use Rattle.poly_pair.specs.Parts.{AreStoredOfRows, AreStoredOfGenerators};
 ghost use Rattle.poly_pair.specs.Polyhedra.{IsOfConstraints, IsOfGenerators};
 ghost use Rattle.poly_pair.specs.declared.topology.Topology.TheVariants.{Closed};

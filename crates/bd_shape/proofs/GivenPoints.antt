@@ -13,7 +13,7 @@ use Rattle.cons_sys.specs.Constraints.{Constraint, Constraints, constraint_at, r
 use Rattle.cons_sys.specs.declared.kind.ConKind.{ConKind}
 use Rattle.cons_sys.specs.declared.kind.ConKind.TheVariants.{Eq, Ge, Gt}
 use Rattle.cons_sys.proofs.Signs.{same_sign, Allows-same_sign}
-use Rattle.pair_laws.specs.PointSets.{IsClosedKind, AreClosed}
+use Rattle.stored_systems.specs.PointSets.{IsClosedKind, AreClosed}
 use Rattle.difference_bounds.specs.declared.fraction.Fraction.{Fraction}
 use Rattle.difference_bounds.specs.Fractions.{IsFraction}
 use Rattle.difference_bounds.specs.Walks.{Bound, nothing}

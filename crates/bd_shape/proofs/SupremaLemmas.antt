@@ -12,9 +12,9 @@ use Rattle.row_core.specs.Content.{IsPrimitive}
 use Rattle.gens_sys.specs.Generators.{row_at, kind_at, generator_at, IsGenerator, FitDimension}
 use Rattle.gens_sys.specs.declared.kind.GenKind.{GenKind}
 use Rattle.gens_sys.specs.declared.kind.GenKind.TheVariants.{Line, Ray, Point, ClosurePoint}
-use Rattle.pair_laws.specs.PointSets.{IsWithin, IsClosedGenKind}
-use Rattle.pair_laws.specs.StoredForms.{IsStored}
-use Rattle.pair_laws.proofs.Stored.{stored_is_closed, pair_point}
+use Rattle.stored_systems.specs.PointSets.{IsWithin, IsClosedGenKind}
+use Rattle.stored_systems.specs.StoredForms.{IsStored}
+use Rattle.stored_systems.proofs.Stored.{stored_is_closed, pair_point}
 use Rattle.poly_pair.specs.Polyhedra.{Polyhedron, IsKept, IsStoredAs}
 use Rattle.poly_pair.specs.declared.topology.Topology.{Topology}
 use Rattle.poly_pair.specs.declared.topology.Topology.TheVariants.{Closed}

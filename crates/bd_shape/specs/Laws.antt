@@ -2,7 +2,7 @@
 use Rattle.std.specs.Prelude.{◌≡◌, ◌↔◌, ℕ, ◌+◌, ◌<◌, List, ℤ, ◌-ℤ◌, ◌≤ℤ◌, Some, None}
 use Rattle.std.proofs.Math.IntN.{◌*ℤ◌}
 use Rattle.row_core.specs.Vectors.{cell}
-use Rattle.pair_laws.specs.PointSets.{IsWithin as IsWithinAll}
+use Rattle.stored_systems.specs.PointSets.{IsWithin as IsWithinAll}
 use Rattle.poly_pair.specs.Polyhedra.{Polyhedron}
 use Rattle.difference_bounds.specs.declared.fraction.Fraction.{Fraction}
 use Rattle.difference_bounds.specs.Walks.{Bound}

@@ -3,7 +3,7 @@ use Rattle.std.specs.Prelude.{◌≡◌, ◌≢◌, ℕ, ◌+◌, ◌<◌, List,
 use Rattle.row_core.specs.declared.PairOver.{PairOver}
 use Rattle.row_core.specs.declared.errors.Overflow.{Overflow}
 use Rattle.gens_sys.specs.Generators.{Generators}
-use Rattle.pair_laws.specs.PointSets.{IsWithin}
+use Rattle.stored_systems.specs.PointSets.{IsWithin}
 use Rattle.poly_pair.specs.Polyhedra.{Polyhedron}
 use Rattle.optimum.specs.Search.{SeekLeaves}
 use Rattle.optimum.specs.Showing.{shown_values}

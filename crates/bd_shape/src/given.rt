@@ -4,7 +4,7 @@ ghost use Rattle.row_core.specs.Points.{IsPoint};
 ghost use Rattle.row_core.specs.Range.{InRange};
 ghost use Rattle.row_core.specs.Refusals.{IsOverflowIn};
 ghost use Rattle.cons_sys.specs.Constraints.{In, constraint_at, row_at};
-ghost use Rattle.pair_laws.specs.PointSets.{AreClosed};
+ghost use Rattle.stored_systems.specs.PointSets.{AreClosed};
 ghost use Rattle.difference_bounds.specs.Tables.{bounds_of};
 ghost use Rattle.bd_shape.specs.Shapes.{IsIn};
 ghost use Rattle.bd_shape.specs.Forms.{IsDifference};

@@ -32,7 +32,7 @@ use Rattle.nnc_enc.proofs.EncodedRows.{constraints_are_coded, constraints_encode
 use Rattle.nnc_enc.proofs.CodedLemmas.{coded_by, scale_one}
 use Rattle.nnc_enc.proofs.LineLemmas.{no_height_no_point}
 use Rattle.nnc_enc.proofs.MarkLemmas.{length-vectors, vector_at-vectors}
-use Rattle.poly_pair.specs.Conversions.{HaveNoPoint}
+use Rattle.stored_systems.specs.WorkLists.{HaveNoPoint}
 use Rattle.row_core.specs.Refusals.{IsOverflowIn}
 use Rattle.cover_search.specs.Regions.{LeavesOnList, with_one, HoldNowhere, IsPointIn, HasCone, HasListAndCone}
 use Rattle.cover_search.proofs.LongerLists.{leaves_longer}

@@ -4,7 +4,7 @@ ghost use Rattle.row_core.specs.Vectors.{cell, dot};
 ghost use Rattle.row_core.specs.Range.{InRange, AllInRange};
 ghost use Rattle.row_core.specs.Content.{IsPrimitiveOf};
 ghost use Rattle.row_core.specs.Lists.{row_at, vectors};
-ghost use Rattle.poly_pair.specs.Conversions.{HaveNoPoint};
+ghost use Rattle.stored_systems.specs.WorkLists.{HaveNoPoint};
 ghost use Rattle.nnc_enc.specs.Encoding.{encoded_constraint, lowered};
 ghost use Rattle.row_core.specs.Refusals.{IsOverflowIn};
 ghost use Rattle.cons_sys.specs.Constraints.{constraint_at};

@@ -9,11 +9,11 @@ use Rattle.cons_sys.specs.Kinds.{Allows}
 use Rattle.cons_sys.specs.declared.kind.ConKind.{ConKind}
 use Rattle.cons_sys.specs.declared.kind.ConKind.TheVariants.{Eq, Ge, Gt}
 use Rattle.cons_sys.specs.Constraints.{Constraint, Constraints, Satisfies}
-use Rattle.pair_laws.specs.PointSets.{IsWithin}
-use Rattle.pair_laws.specs.StoredForms.{false_row}
+use Rattle.stored_systems.specs.PointSets.{IsWithin}
+use Rattle.stored_systems.specs.StoredForms.{false_row}
 use Rattle.poly_pair.specs.declared.topology.Topology.{Topology}
 use Rattle.poly_pair.specs.declared.topology.Topology.TheVariants.{Closed, Nnc}
-use Rattle.pair_laws.proofs.Stored.{stored_is_empty}
+use Rattle.stored_systems.proofs.Stored.{stored_is_empty}
 use Rattle.poly_pair.specs.TopologyConstraints.{IsKindFor, IsConstraintFor}
 use Rattle.elapse.specs.Directions.{levelled}
 use Rattle.elapse.specs.ElapsedPoints.{IsElapsed, IsTrueElapsed}

@@ -12,11 +12,11 @@ use Rattle.gens_sys.specs.declared.kind.GenKind.{GenKind}
 use Rattle.gens_sys.specs.declared.kind.GenKind.TheVariants.{Line, Ray, Point, ClosurePoint}
 use Rattle.gens_sys.specs.Generators.{Generator, Generators, FitDimension as FitGenerators, kind_at}
 use Rattle.gens_sys.specs.Spans.{Span}
-use Rattle.pair_laws.specs.PointSets.{IsWithin, IsClosedGenKind}
-use Rattle.pair_laws.specs.StoredForms.{false_row}
-use Rattle.pair_laws.specs.WorkLists.{LeavesOn}
-use Rattle.pair_laws.proofs.StoredPair.{inner_point}
-use Rattle.pair_laws.proofs.Stored.{stored_is_closed, pair_point}
+use Rattle.stored_systems.specs.PointSets.{IsWithin, IsClosedGenKind}
+use Rattle.stored_systems.specs.StoredForms.{false_row}
+use Rattle.stored_systems.specs.WorkLists.{LeavesOn}
+use Rattle.stored_systems.proofs.StoredPair.{inner_point}
+use Rattle.stored_systems.proofs.Stored.{stored_is_closed, pair_point}
 use Rattle.poly_pair.specs.declared.topology.Topology.{Topology}
 use Rattle.poly_pair.specs.declared.topology.Topology.TheVariants.{Closed, Nnc}
 use Rattle.poly_pair.specs.TopologyLists.{AreConstraintsFor, AreGeneratorsFor, list_width, generators_of}

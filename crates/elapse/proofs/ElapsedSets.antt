@@ -2,13 +2,13 @@
 use Rattle.std.proofs.Common.{◌≡◌, ℕ, ◌<◌, List, ◌++◌, length, slice_index_or, ℤ, sym, ◌∙◌, subst, All}
 use Rattle.std.specs.Prelude.{◌↔◌}
 use Rattle.std.proofs.lemmas.List.Elements.{All-append}
-use Rattle.pair_laws.proofs.ListLemmas.{All-left, All-right}
+use Rattle.stored_systems.proofs.ListLemmas.{All-left, All-right}
 use Rattle.row_core.specs.Points.{IsPoint}
 use Rattle.cons_sys.specs.Kinds.{Allows}
 use Rattle.cons_sys.specs.Constraints.{Constraint, Constraints, FitDimension, In, Satisfies}
 use Rattle.gens_sys.specs.Generators.{Generator, Generators, FitDimension as FitGenerators}
 use Rattle.gens_sys.specs.Spans.{Span}
-use Rattle.pair_laws.specs.PointSets.{IsWithin}
+use Rattle.stored_systems.specs.PointSets.{IsWithin}
 use Rattle.poly_pair.specs.declared.topology.Topology.{Topology}
 use Rattle.poly_pair.specs.declared.topology.Topology.TheVariants.{Closed, Nnc}
 use Rattle.poly_pair.specs.TopologyLists.{AreConstraintsFor}

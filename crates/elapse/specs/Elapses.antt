@@ -6,7 +6,7 @@ use Rattle.row_core.specs.declared.errors.ConvErr.{ConvErr}
 use Rattle.row_core.specs.declared.errors.ConvErr.TheVariants as conversion
 use Rattle.cons_sys.specs.Constraints.{In}
 use Rattle.gens_sys.specs.Generators.{Generator, Generators}
-use Rattle.pair_laws.specs.WorkLists.{LeavesOn}
+use Rattle.stored_systems.specs.WorkLists.{LeavesOn}
 use Rattle.poly_pair.specs.TopologyLists.{generators_of, list_width}
 use Rattle.poly_pair.specs.Polyhedra.{Polyhedron, IsOver}
 use Rattle.poly_pair.specs.Parts.{AreStoredOfVectors}

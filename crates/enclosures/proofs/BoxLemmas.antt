@@ -14,7 +14,7 @@ use Rattle.cons_sys.specs.Kinds.{Allows}
 use Rattle.cons_sys.specs.Constraints.{Constraint, Constraints, Satisfies, In}
 use Rattle.gens_sys.specs.Generators.{row_at, generator_at, IsGenerator, FitDimension}
 use Rattle.gens_sys.specs.declared.kind.GenKind.TheVariants.{Line}
-use Rattle.pair_laws.specs.PointSets.{IsWithin}
+use Rattle.stored_systems.specs.PointSets.{IsWithin}
 use Rattle.poly_pair.specs.Polyhedra.{Polyhedron, IsKept}
 use Rattle.poly_pair.proofs.StoredLemmas.{kept_dim}
 use Rattle.optimum.specs.Search.{IsAtMost}

@@ -11,8 +11,8 @@ use Rattle.row_core.specs.declared.errors.ConvErr.{ConvErr}
 use Rattle.row_core.specs.declared.errors.ConvErr.TheVariants as conversion
 use Rattle.cons_sys.specs.declared.kind.ConKind.TheVariants.{Ge}
 use Rattle.cons_sys.specs.Constraints.{Constraint, Constraints, constraint_at, Satisfies}
-use Rattle.pair_laws.specs.StoredForms.{false_row}
-use Rattle.pair_laws.proofs.ListLemmas.{All-left, All-right}
+use Rattle.stored_systems.specs.StoredForms.{false_row}
+use Rattle.stored_systems.proofs.ListLemmas.{All-left, All-right}
 use Rattle.poly_pair.specs.declared.topology.Topology.{Topology}
 use Rattle.poly_pair.specs.declared.topology.Topology.TheVariants.{Nnc}
 use Rattle.poly_pair.specs.TopologyLists.{list_width, constraints_of, generators_of}
@@ -20,7 +20,7 @@ use Rattle.poly_pair.specs.TopologyConstraints.{IsConstraintFor}
 use Rattle.poly_pair.specs.Polyhedra.{Polyhedron, IsKept, IsOver, IsOfConstraints, IsEmpty}
 use Rattle.poly_pair.specs.Additions.{with_constraints}
 use Rattle.poly_pair.specs.Refusals.{IsOverflowOn}
-use Rattle.pair_laws.specs.WorkLists.{LeavesOn}
+use Rattle.stored_systems.specs.WorkLists.{LeavesOn}
 use Rattle.lattice_ops.specs.Sets.{IsHull, IsValidOn, both_generators}
 use Rattle.enclosures.specs.Ways.{ways}
 use Rattle.enclosures.specs.Differences.{IsDifference, IsPart, IsValidTo, IsJoinTo, LeavesOnPart, LeavesAt}

@@ -3,7 +3,7 @@ ghost use Rattle.std.specs.Prelude.{◌≡◌, ◌+◌, ◌^◌, ◌<◌, ◌≤
 ghost use Rattle.row_core.specs.Range.{InRange, AllInRange};
 ghost use Rattle.row_core.specs.Refusals.{IsOverflowIn};
 ghost use Rattle.cons_sys.specs.Constraints.{In};
-ghost use Rattle.pair_laws.specs.PointSets.{IsWithin};
+ghost use Rattle.stored_systems.specs.PointSets.{IsWithin};
 ghost use Rattle.poly_pair.specs.declared.topology.TheConstants.{MAX_DIM};
 ghost use Rattle.optimum.specs.Search.{SeekLeaves};
 ghost use Rattle.optimum.specs.Suprema.{IsTrueSup};

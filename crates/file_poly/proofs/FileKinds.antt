@@ -17,7 +17,7 @@ use Rattle.cdd_reading.specs.Refusals.{tests, NoneOf}
 use Rattle.cdd_text.specs.Written.{HasNoStrict, HasNoClosurePoint}
 use Rattle.cdd_reading.specs.declared.format.Format.TheVariants.{Ine, Ext}
 use Rattle.cdd_text.proofs.ReadKinds.{ine_without_strict, ext_without_closure_points}
-use Rattle.pair_laws.specs.PointSets.{IsClosedKind, AreClosed, IsClosedGenKind, IsClosedGen, AreClosedGens}
+use Rattle.stored_systems.specs.PointSets.{IsClosedKind, AreClosed, IsClosedGenKind, IsClosedGen, AreClosedGens}
 use Rattle.poly_pair.specs.FirstLists.{HasNoPointKind, LacksPoint}
 use Rattle.file_poly.specs.Files.{IsFit}
 use Rattle.file_poly.specs.declared.listed.Listed.TheVariants.{Cons, Gens}

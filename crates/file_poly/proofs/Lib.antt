@@ -1,3 +1,4 @@
 mod FileKinds
 mod WrittenPolyhedra
 mod OtherFiles
+mod OtherSystems

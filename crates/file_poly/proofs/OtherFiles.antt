@@ -10,10 +10,10 @@ use Rattle.cdd_reading.specs.declared.format.Format.TheVariants.{Ine, Ext}
 use Rattle.row_core.specs.declared.errors.ConvErr.{ConvErr}
 use Rattle.row_core.specs.declared.errors.ConvErr.TheVariants as conversion
 use Rattle.chernikova.specs.Conversion.{IsRealOverflow}
-use Rattle.pair_laws.specs.WorkLists.{constraint_list, generator_list}
-use Rattle.pair_laws.specs.StoredLaws.{StoredIsClosed}
+use Rattle.stored_systems.specs.WorkLists.{constraint_list, generator_list}
+use Rattle.stored_systems.specs.StoredLaws.{StoredIsClosed}
 use Rattle.poly_pair.specs.KeptLaws.{KeptIsPair, KeptIsEmpty}
-use Rattle.poly_pair.specs.OtherSystems.{AreStoredGenerators, AreStoredConstraints}
+use Rattle.file_poly.specs.OtherSystems.{AreStoredGenerators, AreStoredConstraints}
 use Rattle.file_poly.specs.Files.{IsOfFile, IsOtherFileOf, IsOverflowOnFirst}
 use Rattle.file_poly.specs.declared.listed.Listed.TheVariants.{Cons, Gens}
 use Rattle.file_poly.proofs.FileKinds.{written_constraints, written_generators}

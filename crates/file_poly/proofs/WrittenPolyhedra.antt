@@ -13,8 +13,8 @@ use Rattle.cdd_reading.specs.Files.{is_point}
 use Rattle.cdd_text.specs.ReadBack.{ConstraintsAreReadBack, GeneratorsAreReadBack}
 use Rattle.cdd_text.specs.Written.{ine_text, ext_text}
 use Rattle.cdd_reading.specs.declared.format.Format.TheVariants.{Ine, Ext}
-use Rattle.pair_laws.specs.PointSets.{IsWithin}
-use Rattle.pair_laws.specs.StoredLaws.{StoredIsClosed, AreClosedForms}
+use Rattle.stored_systems.specs.PointSets.{IsWithin}
+use Rattle.stored_systems.specs.StoredLaws.{StoredIsClosed, AreClosedForms}
 use Rattle.poly_pair.specs.FirstLists.{HasNoPointKind}
 use Rattle.poly_pair.specs.KeptLaws.{KeptIsPair, KeptIsEmpty}
 use Rattle.poly_pair.specs.Polyhedra.{Polyhedron, IsKept, IsStoredAs}

@@ -1,26 +1,27 @@
 //! The conversion of a list into a file of the other kind.
 ghost use Rattle.std.specs.Prelude.{◌-◌, ◌≤◌, IfOk, IfErr};
-ghost use Rattle.pair_laws.specs.PointSets.{AreClosed, AreClosedKinds};
+ghost use Rattle.stored_systems.specs.PointSets.{AreClosed, AreClosedKinds};
 ghost use Rattle.poly_pair.specs.FirstLists.{LacksPoint};
 ghost use Rattle.poly_pair.specs.declared.topology.TheConstants.{MAX_DIM};
 ghost use Rattle.file_poly.specs.Files.{IsFit, IsOtherFileOf, IsOverflowOnFirst, IsCountedOnFirst, IsCountedBeforeFirst};
 ghost use Rattle.file_poly.specs.declared.listed.Listed.TheVariants;
 
 use crate::listed::Listed;
+use crate::other_system::{constraints_alone, generators_alone};
 use cdd_text::{constraints_are_read_back, generators_are_read_back, write_ext, write_ine};
 use cons_sys::ConsSys;
 use gens_sys::GensSys;
-use pair_laws::stored_systems::stored_is_closed;
 use poly_pair::laws::{kept_is_empty, kept_is_pair};
-use poly_pair::{constraints_alone, generators_alone};
 use reply_text::Text;
 use row_core::{ConvErr, Steps};
 use std::alloc::Global;
 use std::sync::ledger::Ledger;
+use stored_systems::stored_laws::stored_is_closed;
 
 impl Listed {
-    /// The file of the other system of the list's closed polyhedron: of the generators where the list has
-    /// constraints, and of the constraints where it has generators. Only that system is made.
+    /// The file of the other system of the list's closed polyhedron: of the generators where the
+    /// list has constraints, and of the constraints where it has generators. Only that system is
+    /// made.
     ///
     /// # Errors
     ///
@@ -35,7 +36,8 @@ impl Listed {
         ensures overflow { IfErr result (IsOverflowOnFirst self.now) }
         ensures no_fewer { steps.old ≤ steps.new }
         ensures counted { IsCountedOnFirst self.now (steps.new - steps.old) }
-        ensures counted_before { IfErr result (IsCountedBeforeFirst self.now (steps.new - steps.old)) }
+        ensures counted_before { IfErr result
+            (IsCountedBeforeFirst self.now (steps.new - steps.old)) }
     {
         match self {
             Listed::Cons(cons) => generators_file(alloc, cons, steps),
@@ -56,7 +58,8 @@ fn generators_file<L: Ledger>(
     ensures overflow { IfErr result (IsOverflowOnFirst (TheVariants.Cons cons.now)) }
     ensures no_fewer { steps.old ≤ steps.new }
     ensures counted { IsCountedOnFirst (TheVariants.Cons cons.now) (steps.new - steps.old) }
-    ensures counted_before { IfErr result (IsCountedBeforeFirst (TheVariants.Cons cons.now) (steps.new - steps.old)) }
+    ensures counted_before { IfErr result
+        (IsCountedBeforeFirst (TheVariants.Cons cons.now) (steps.new - steps.old)) }
 {
     stored_is_closed();
     kept_is_pair();
@@ -84,7 +87,8 @@ fn constraints_file<L: Ledger>(
     ensures overflow { IfErr result (IsOverflowOnFirst (TheVariants.Gens gens.now)) }
     ensures no_fewer { steps.old ≤ steps.new }
     ensures counted { IsCountedOnFirst (TheVariants.Gens gens.now) (steps.new - steps.old) }
-    ensures counted_before { IfErr result (IsCountedBeforeFirst (TheVariants.Gens gens.now) (steps.new - steps.old)) }
+    ensures counted_before { IfErr result
+        (IsCountedBeforeFirst (TheVariants.Gens gens.now) (steps.new - steps.old)) }
 {
     stored_is_closed();
     constraints_are_read_back();

@@ -1,6 +1,6 @@
 //! The list of a file, and its polyhedron.
 ghost use Rattle.std.specs.Prelude.{◌≡◌, ◌-◌, ◌≤◌, IfOk, IfErr};
-ghost use Rattle.pair_laws.specs.PointSets.{AreClosedKinds};
+ghost use Rattle.stored_systems.specs.PointSets.{AreClosedKinds};
 ghost use Rattle.poly_pair.specs.FirstLists.{LacksPoint};
 ghost use Rattle.poly_pair.specs.Polyhedra.{IsOfGenerators};
 ghost use Rattle.poly_pair.specs.declared.topology.TheConstants.{MAX_DIM};

@@ -2,7 +2,7 @@ use Rattle.std.specs.Prelude.{◌≡◌, ◌⊎◌, ◌↔◌, ℕ, List, length
 use Rattle.row_core.specs.Points.{IsPoint}
 use Rattle.row_core.specs.declared.errors.Overflow.{Overflow}
 use Rattle.cons_sys.specs.Constraints.{Constraint, In, Satisfies}
-use Rattle.pair_laws.specs.WorkLists.{generator_list, LeavesOnClosed}
+use Rattle.stored_systems.specs.WorkLists.{generator_list, LeavesOnClosed}
 use Rattle.poly_pair.specs.TopologyConstraints.{IsConstraintFor}
 use Rattle.poly_pair.specs.Polyhedra.{Polyhedron, IsKept, IsOver}
 use Rattle.trans_sys.specs.declared.transition.Transition.{Transition}

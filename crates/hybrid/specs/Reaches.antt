@@ -2,7 +2,7 @@ use Rattle.std.specs.Prelude.{◌≡◌, ◌⊎◌, ℕ, List, length, slice_get
 use Rattle.row_core.specs.Points.{IsPoint}
 use Rattle.row_core.specs.declared.errors.Overflow.{Overflow}
 use Rattle.cons_sys.specs.Constraints.{In}
-use Rattle.pair_laws.specs.PointSets.{IsWithin}
+use Rattle.stored_systems.specs.PointSets.{IsWithin}
 use Rattle.poly_pair.specs.Polyhedra.{Polyhedron}
 use Rattle.trans_sys.specs.declared.transition.Transition.{Transition}
 use Rattle.elapse.specs.ElapsedPoints.{IsMoved}

@@ -1,7 +1,7 @@
 use Rattle.std.specs.Prelude.{◌≡◌, ◌⊎◌, ℕ, ◌+◌, List, length}
 use Rattle.std.specs.List.{range_with_len}
 use Rattle.row_core.specs.declared.errors.Overflow.{Overflow}
-use Rattle.pair_laws.specs.WorkLists.{LeavesOn}
+use Rattle.stored_systems.specs.WorkLists.{LeavesOn}
 use Rattle.poly_pair.specs.TopologyLists.{list_width, generators_of}
 use Rattle.poly_pair.specs.Polyhedra.{Polyhedron, IsKept, HasNoPoint}
 use Rattle.lattice_ops.specs.Sets.{IsMeet, meet_list, both_generators}

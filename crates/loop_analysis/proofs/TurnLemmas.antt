@@ -4,7 +4,7 @@ use Rattle.row_core.specs.Refusals.{IsOverflowIn}
 use Rattle.row_core.specs.declared.errors.ConvErr.{ConvErr}
 use Rattle.row_core.specs.declared.errors.ConvErr.TheVariants as conversion
 use Rattle.cons_sys.specs.Constraints.{In}
-use Rattle.pair_laws.specs.WorkLists.{LeavesOn}
+use Rattle.stored_systems.specs.WorkLists.{LeavesOn}
 use Rattle.poly_pair.specs.declared.topology.Topology.{Topology}
 use Rattle.poly_pair.specs.declared.topology.Topology.TheVariants.{Closed}
 use Rattle.poly_pair.specs.TopologyLists.{list_width, generators_of}

@@ -1,7 +1,7 @@
 -- What the analysis of a loop finds.
 use Rattle.std.specs.Prelude.{◌≡◌, ◌⊎◌, ℕ, List, [], ◌∷◌, slice_get, Some}
 use Rattle.row_core.specs.declared.errors.Overflow.{Overflow}
-use Rattle.pair_laws.specs.WorkLists.{LeavesOn, LeavesOnClosed, constraint_list}
+use Rattle.stored_systems.specs.WorkLists.{LeavesOn, LeavesOnClosed, constraint_list}
 use Rattle.poly_pair.specs.declared.topology.Topology.TheVariants.{Closed, Nnc}
 use Rattle.poly_pair.specs.TopologyLists.{list_width, constraints_of}
 use Rattle.poly_pair.specs.Polyhedra.{Polyhedron, IsKept, IsOfConstraints}

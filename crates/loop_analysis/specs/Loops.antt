@@ -2,7 +2,7 @@
 use Rattle.std.specs.Prelude.{◌≡◌, ℕ, ◌+◌, ◌<◌, ◌≤◌, List, [], ◌∷◌, ◌++◌, length, pos, ◌<ℤ◌, All}
 use Rattle.row_core.specs.Range.{InRange, AllInRange}
 use Rattle.cons_sys.specs.Constraints.{Constraints}
-use Rattle.pair_laws.specs.PointSets.{AreClosed}
+use Rattle.stored_systems.specs.PointSets.{AreClosed}
 use Rattle.poly_pair.specs.declared.topology.TheConstants.{MAX_DIM}
 use Rattle.loop_analysis.specs.declared.loops.Assignment.{Assignment}
 

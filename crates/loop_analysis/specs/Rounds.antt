@@ -1,7 +1,7 @@
 -- Rounds of a loop, on sets of states.
 use Rattle.std.specs.Prelude.{◌≡◌, ◌⊎◌, ℕ, ◌<◌, List, [], ◌∷◌, length, take, slice_get, Some}
 use Rattle.row_core.specs.declared.errors.Overflow.{Overflow}
-use Rattle.pair_laws.specs.WorkLists.{LeavesOnClosed, constraint_list, generator_list}
+use Rattle.stored_systems.specs.WorkLists.{LeavesOnClosed, constraint_list, generator_list}
 use Rattle.poly_pair.specs.declared.topology.Topology.TheVariants.{Closed}
 use Rattle.poly_pair.specs.Polyhedra.{Polyhedron, IsKept, IsOfConstraints}
 use Rattle.poly_pair.specs.Additions.{with_constraints}

@@ -1,6 +1,6 @@
 //! Loops.
 ghost use Rattle.std.specs.Prelude.{◌≡◌, ◌<◌, ◌≤◌, [], ◌++◌, ◌∷◌, length, slice_get, Some, OnOk};
-ghost use Rattle.pair_laws.specs.PointSets.{AreClosed};
+ghost use Rattle.stored_systems.specs.PointSets.{AreClosed};
 ghost use Rattle.poly_pair.specs.declared.topology.TheConstants.{MAX_DIM};
 ghost use Rattle.loop_analysis.specs.Loops.{IsLoop, IsAssignment, with_assignment};
 

@@ -8,7 +8,7 @@ use Rattle.grammar.specs.Cases.{expr_cases, frac_cases, cons_cases}
 use Rattle.row_core.specs.Vectors.{cell}
 use Rattle.row_core.specs.Range.{InRange, AllInRange}
 use Rattle.cons_sys.specs.Constraints.{Constraints}
-use Rattle.pair_laws.specs.PointSets.{AreClosed}
+use Rattle.stored_systems.specs.PointSets.{AreClosed}
 use Rattle.poly_pair.specs.declared.topology.TheConstants.{MAX_DIM}
 use Rattle.reply_text.specs.declared.faults.Fault.{Fault}
 use Rattle.reply_text.specs.declared.faults.Fault.TheVariants.{Syntax, TooManyDims, StrictInClosed, Truncated}

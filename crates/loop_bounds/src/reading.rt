@@ -1,6 +1,6 @@
 //! Loops from their texts.
 ghost use Rattle.std.specs.Prelude.{◌≡◌, ◌≤◌, ◌<◌, ◌++◌, length, codes, Ok, Err, IfOk, IsTrue, ◌↔◌, MatchOption, MatchResult};
-ghost use Rattle.pair_laws.specs.PointSets.{AreClosed};
+ghost use Rattle.stored_systems.specs.PointSets.{AreClosed};
 ghost use Rattle.poly_pair.specs.declared.topology.TheConstants.{MAX_DIM};
 ghost use Rattle.reply_text.specs.declared.faults.Fault.TheVariants.{Syntax};
 ghost use Rattle.reply_text.specs.declared.faults.ReadErr.TheVariants.{Input};

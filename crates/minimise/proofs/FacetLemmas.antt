@@ -12,7 +12,8 @@ use Rattle.flat_rows.specs.Flat.{marked}
 use Rattle.row_core.specs.Lists.{Row, row_at, vector_at}
 use Rattle.sat_matrix.specs.Tables.{Table, bits_of, transposed, Covers, HasThird}
 use Rattle.sat_matrix.specs.ZeroTables.{IsZeroTable}
-use Rattle.cone_laws.specs.Canon.{IsSystem}
+use Rattle.sat_matrix.proofs.TurnedTables.{TellsRows}
+use Rattle.cone_laws.specs.Canon.{vector_at, IsSystem}
 use Rattle.cone_laws.specs.Members.{ConeOf}
 use Rattle.minimise.specs.FlatRows.{IsZeroOnAll, TellsFlat}
 use Rattle.minimise.specs.Facets.{KeepsZeros, AreFacets, IsFull, TellsFull, IsWithin, IsOneOf, AreGreatest, IsLedBy, AreMarkedAt, AreLed}
@@ -66,26 +67,6 @@ length-both (true ∷ marks) (x ∷ xs) (y ∷ ys) e f = omega (arith, length-bo
 length-both (false ∷ marks) (x ∷ xs) (y ∷ ys) e f = omega (arith, length-both marks xs ys (omega (arith, e)) (omega (arith, f)))
 
 -- ---- the turned table
--- each row of the table tells the rays on which a row of the list is 0
-pub record TellsRows (rows : List Row) (rays : List (List ℤ)) (table : List (List Bool)) : Type 0 where
-  pub as_many : length table ≡ length rows
-  pub wide : (i : ℕ) → i < length rows → length (bits_of table i) ≡ length rays
-  pub tells : (i j : ℕ) → i < length rows → j < length rays → IsTrue (slice_index_or (bits_of table i) j false) ↔ (dot (row_at rows i) (vector_at rays j) ≡ pos 0)
-
-turned_row : (sat : Table) (i : ℕ) → i < sat.columns → bits_of (transposed sat.columns sat.rows) i ≡ map (λ (row : List Bool). slice_index_or row i false) sat.rows
-turned_row sat i h =
-    get_or-map-range_with_len (λ (j : ℕ). map (λ (row : List Bool). slice_index_or row j false) sat.rows) 0 sat.columns i i [] h (omega arith)
-
-pub turned_tells : (rows : List Row) (rays : List (List ℤ)) (sat : Table) → IsZeroTable rows (length rows) rays sat → TellsRows rows rays (transposed sat.columns sat.rows)
-turned_tells rows rays sat z = record {
-  as_many = length-map (range_with_len 0 sat.columns) (λ (j : ℕ). map (λ (row : List Bool). slice_index_or row j false) sat.rows) ∙ length-range_with_len 0 sat.columns ∙ z.columns;
-  wide = λ i h. ap (λ (bits : List Bool). length bits) (turned_row sat i (omega (arith, h, z.columns))) ∙ length-map sat.rows (λ (row : List Bool). slice_index_or row i false) ∙ z.each.as_many;
-  tells = λ i j h k.
-      let same : slice_index_or (bits_of (transposed sat.columns sat.rows) i) j false ≡ slice_index_or (bits_of sat.rows j) i false =
-      ap (λ (bits : List Bool). slice_index_or bits j false) (turned_row sat i (omega (arith, h, z.columns))) ∙ get_or-map (λ (row : List Bool). slice_index_or row i false) sat.rows j [] false (omega (arith, k, z.each.as_many)) in
-      subst (λ (b : Bool). IsTrue b ↔ (dot (row_at rows i) (vector_at rays j) ≡ pos 0)) (sym same) ((z.each.each j [] [] k).zeros i h);
-}
-
 module _ (rows : List Row) (rays : List (List ℤ)) (table : List (List Bool)) (t : TellsRows rows rays table) where
   -- ---- zeros by bits
   pub zero_from_full : (i : ℕ) → i < length rows → IsFull (bits_of table i) → IsZeroOnAll rays (row_at rows i)

@@ -26,7 +26,8 @@ use Rattle.minimise.specs.declared.parts.Parts.{Parts}
 use Rattle.minimise.specs.Simplified.{IsSystemOf, IsDone}
 use Rattle.minimise.specs.declared.second_system.Simplified.{Simplified}
 use Rattle.minimise.specs.declared.second_system.Simplified.TheVariants.{Done, Left}
-use Rattle.minimise.proofs.FacetLemmas.{TellsRows, turned_tells, ComesFrom, comes_from, GoesTo, goes_to, zero_from_full, full_from_zero, IsKept, is_kept, are_facets}
+use Rattle.sat_matrix.proofs.TurnedTables.{TellsRows, turned_tells}
+use Rattle.minimise.proofs.FacetLemmas.{ComesFrom, comes_from, GoesTo, goes_to, zero_from_full, full_from_zero, IsKept, is_kept, are_facets}
 use Rattle.minimise.proofs.Widths.{vectors_wide}
 use Rattle.minimise.proofs.SecondTables.{length-behind_lines, behind_before, behind_after}
 use Rattle.minimise.proofs.SecondSystems.{simplified_is_system, made_zero, row_zero}

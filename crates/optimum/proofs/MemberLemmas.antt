@@ -2,8 +2,8 @@
 use Rattle.std.specs.Prelude.{ℕ, List, ℤ, ◌↔◌}
 use Rattle.std.proofs.Common.{sym, subst, inl, inr}
 use Rattle.row_core.specs.Points.{IsPoint}
-use Rattle.pair_laws.specs.PointSets.{IsWithin}
-use Rattle.pair_laws.proofs.Stored.{pair_point}
+use Rattle.stored_systems.specs.PointSets.{IsWithin}
+use Rattle.stored_systems.proofs.Stored.{pair_point}
 use Rattle.poly_pair.specs.declared.topology.Topology.{Topology}
 use Rattle.poly_pair.specs.declared.topology.Topology.TheVariants.{Closed, Nnc}
 use Rattle.poly_pair.specs.Polyhedra.{Polyhedron, IsKept, IsStoredAs}

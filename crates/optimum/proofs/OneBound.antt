@@ -8,7 +8,7 @@ use Rattle.row_core.specs.Vectors.{cell, dot, scale}
 use Rattle.row_core.specs.Content.{IsPrimitive}
 use Rattle.row_core.proofs.OnePrimitive.{IsPrimitiveOf-once}
 use Rattle.cone_laws.proofs.Ring.{ring, by_sign, mul-at_least_zero, mul-positive, mul-zero, positive_of_mul}
-use Rattle.pair_laws.specs.PointSets.{IsWithin}
+use Rattle.stored_systems.specs.PointSets.{IsWithin}
 use Rattle.poly_pair.specs.Polyhedra.{Polyhedron}
 use Rattle.optimum.specs.Search.{IsShort, IsAtMost}
 use Rattle.optimum.specs.Suprema.{HasBeyond, IsSupremum, IsUnbounded, IsTrueSup}

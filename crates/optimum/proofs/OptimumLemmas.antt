@@ -8,7 +8,7 @@ use Rattle.row_core.specs.declared.PairOver.{PairOver}
 use Rattle.gens_sys.specs.Generators.{Generators, row_at, kind_at, FitDimension}
 use Rattle.gens_sys.specs.declared.kind.GenKind.{GenKind}
 use Rattle.gens_sys.specs.declared.kind.GenKind.TheVariants.{Line, Ray, Point, ClosurePoint}
-use Rattle.pair_laws.specs.PointSets.{IsWithin}
+use Rattle.stored_systems.specs.PointSets.{IsWithin}
 use Rattle.poly_pair.specs.Polyhedra.{Polyhedron, HasNoPoint, IsKept}
 use Rattle.poly_pair.proofs.StoredLemmas.{none_kept, kept_dim}
 use Rattle.set_laws.specs.Asking.{IsMember}

@@ -15,7 +15,7 @@ use Rattle.cons_sys.specs.Constraints.{Constraint, Constraints}
 use Rattle.gens_sys.specs.declared.kind.GenKind.{GenKind}
 use Rattle.gens_sys.specs.declared.kind.GenKind.TheVariants.{Line}
 use Rattle.gens_sys.specs.Generators.{Generator, Generators, generator_at, row_at, kind_at, FitDimension}
-use Rattle.pair_laws.specs.PointSets.{IsWithin}
+use Rattle.stored_systems.specs.PointSets.{IsWithin}
 use Rattle.poly_pair.specs.Polyhedra.{Polyhedron, IsKept}
 use Rattle.set_laws.specs.Asking.{Asks, MeetsOn, IsProper, IsMember, IsTrueOn, IsFalseOn, HasExample, HasCounter}
 use Rattle.optimum.specs.Values.{RowLeaves}

@@ -12,7 +12,7 @@ use Rattle.cons_sys.specs.declared.kind.ConKind.TheVariants.{Eq, Ge, Gt}
 use Rattle.gens_sys.specs.Generators.{row_at, kind_at, FitDimension}
 use Rattle.gens_sys.specs.declared.kind.GenKind.{GenKind}
 use Rattle.gens_sys.specs.declared.kind.GenKind.TheVariants.{Line, Ray, Point, ClosurePoint}
-use Rattle.pair_laws.specs.PointSets.{IsClosedKind, IsWithin}
+use Rattle.stored_systems.specs.PointSets.{IsClosedKind, IsWithin}
 use Rattle.poly_pair.specs.Polyhedra.{Polyhedron, IsKept}
 use Rattle.poly_pair.proofs.StoredLemmas.{kept_dim}
 use Rattle.set_laws.specs.Asking.{Asks, MeetsOn}

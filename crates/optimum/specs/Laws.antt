@@ -7,7 +7,7 @@ use Rattle.row_core.specs.declared.PairOver.{PairOver}
 use Rattle.cons_sys.specs.Constraints.{Constraint, Satisfies}
 use Rattle.cons_sys.specs.declared.kind.ConKind.{ConKind}
 use Rattle.gens_sys.specs.Generators.{Generators, FitDimension, row_at}
-use Rattle.pair_laws.specs.PointSets.{IsClosedKind, IsWithin}
+use Rattle.stored_systems.specs.PointSets.{IsClosedKind, IsWithin}
 use Rattle.poly_pair.specs.Polyhedra.{Polyhedron, IsKept}
 use Rattle.optimum.specs.Relations.{HoldsThroughout, RelationAnswer}
 use Rattle.optimum.specs.Search.{IsAtMost}

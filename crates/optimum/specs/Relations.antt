@@ -7,7 +7,7 @@ use Rattle.cons_sys.specs.declared.kind.ConKind.{ConKind}
 use Rattle.cons_sys.specs.declared.kind.ConKind.TheVariants.{Eq, Ge, Gt}
 use Rattle.gens_sys.specs.Generators.{Generator, generator_at}
 use Rattle.gens_sys.specs.declared.kind.GenKind.{GenKind}
-use Rattle.pair_laws.specs.PointSets.{IsWithin}
+use Rattle.stored_systems.specs.PointSets.{IsWithin}
 use Rattle.poly_pair.specs.Polyhedra.{Polyhedron}
 use Rattle.set_laws.specs.Asking.{Asks, MeetsOn}
 use Rattle.optimum.specs.Values.{RowReaches, RowLeaves}

@@ -6,7 +6,7 @@ use Rattle.row_core.specs.Content.{IsPrimitive, IsPrimitiveOf}
 use Rattle.row_core.specs.declared.PairOver.{PairOver}
 use Rattle.gens_sys.specs.Generators.{Generators, row_at, kind_at}
 use Rattle.gens_sys.specs.declared.kind.GenKind.TheVariants.{Point}
-use Rattle.pair_laws.specs.PointSets.{IsWithin}
+use Rattle.stored_systems.specs.PointSets.{IsWithin}
 use Rattle.poly_pair.specs.Polyhedra.{Polyhedron, HasNoPoint}
 use Rattle.optimum.specs.Search.{IsShort, IsAtMost, SeeksTo, IsBest, IsEndless, SeekLeaves}
 use Rattle.optimum.specs.declared.outcome.Sup.{Sup}

@@ -9,9 +9,9 @@ use Rattle.term_text.specs.Systems.{IsCons}
 use Rattle.expr_text.specs.GeneratorSystems.{IsGens}
 use Rattle.expr_text.specs.Printed.{constraints_text, generators_text}
 use Rattle.expr_text.specs.ReadBack.{ConstraintsAreReadBack, GeneratorsAreReadBack}
-use Rattle.pair_laws.specs.PointSets.{HoldSame}
-use Rattle.pair_laws.specs.StoredForms.{IsStored}
-use Rattle.pair_laws.specs.StoredLaws.{StoredIsUnique, StoredIsClosed, AreSameSystems}
+use Rattle.stored_systems.specs.PointSets.{HoldSame}
+use Rattle.stored_systems.specs.StoredForms.{IsStored}
+use Rattle.stored_systems.specs.StoredLaws.{StoredIsUnique, StoredIsClosed, AreSameSystems}
 use Rattle.poly_pair.specs.KeptLaws.{KeptIsPair}
 use Rattle.poly_pair.specs.Polyhedra.{Polyhedron, IsStoredAs}
 use Rattle.poly_pair.specs.declared.topology.Topology.{Topology}

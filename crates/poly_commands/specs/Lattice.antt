@@ -6,7 +6,7 @@ use Rattle.cons_sys.specs.Constraints.{Constraints, row_at}
 use Rattle.gens_sys.specs.Generators.{Generators}
 use Rattle.gens_sys.specs.Generators.{row_at as vector_at}
 use Rattle.cone_laws.specs.Leaves.{Leaves}
-use Rattle.pair_laws.specs.WorkLists.{LeavesOn}
+use Rattle.stored_systems.specs.WorkLists.{LeavesOn}
 use Rattle.poly_pair.specs.Polyhedra.{Polyhedron, HasNoPoint}
 use Rattle.poly_pair.specs.TopologyLists.{list_width}
 use Rattle.lattice_ops.specs.Sets.{IsIncluded, HaveSamePoints, AreDisjoint, meet_list, closure_list}

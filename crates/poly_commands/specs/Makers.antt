@@ -6,7 +6,7 @@ use Rattle.gens_sys.specs.Generators.{Generators}
 use Rattle.term_text.specs.Systems.{IsCons}
 use Rattle.expr_text.specs.GeneratorSystems.{IsGens}
 use Rattle.reply_text.specs.declared.faults.Fault.TheVariants as fault
-use Rattle.pair_laws.specs.WorkLists.{LeavesOn}
+use Rattle.stored_systems.specs.WorkLists.{LeavesOn}
 use Rattle.poly_pair.specs.Polyhedra.{Polyhedron, IsUniverse, IsEmpty}
 use Rattle.poly_pair.specs.FirstLists.{LacksPoint}
 use Rattle.poly_pair.specs.TopologyLists.{list_width, constraints_of, generators_of}

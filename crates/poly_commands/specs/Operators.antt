@@ -2,7 +2,7 @@
 use Rattle.std.specs.Prelude.{◌≡◌, ◌≢◌, ℕ, ◌+◌, ◌≤◌, Bool}
 use Rattle.row_core.specs.declared.errors.Overflow.{Overflow}
 use Rattle.reply_text.specs.declared.faults.Fault.TheVariants as fault
-use Rattle.pair_laws.specs.WorkLists.{LeavesOn}
+use Rattle.stored_systems.specs.WorkLists.{LeavesOn}
 use Rattle.poly_pair.specs.Polyhedra.{Polyhedron}
 use Rattle.poly_pair.specs.Parts.{AreStoredOfRows, AreStoredOfGenerators}
 use Rattle.poly_pair.specs.TopologyLists.{list_width, generators_of}

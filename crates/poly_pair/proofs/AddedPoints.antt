@@ -9,7 +9,7 @@ use Rattle.poly_pair.specs.Polyhedra.{Polyhedron, IsKept, HasNoPoint}
 use Rattle.poly_pair.specs.FirstLists.{HasPointKind, LacksPoint}
 use Rattle.poly_pair.specs.Additions.{with_generators, AddsNoPoint}
 use Rattle.poly_pair.proofs.StoredLemmas.{kept_is_pair, none_kept}
-use Rattle.poly_pair.proofs.OtherSystems.{some_point}
+use Rattle.poly_pair.proofs.PointKinds.{some_point}
 
 point_first : (xs ys : List Generator) → HasPointKind xs → HasPointKind (xs ++ ys)
 point_first xs ys h = record {

@@ -8,7 +8,8 @@ use Rattle.sat_matrix.specs.ZeroTables.{IsZeroTable}
 use Rattle.chernikova.specs.declared.cone.Cone.{Cone}
 use Rattle.row_core.specs.MarkedLists.{AreLists}
 use Rattle.poly_pair.specs.Starts.{IsStartOf}
-use Rattle.poly_pair.specs.Zeros.{ArePairZeros, KeepsZeros}
+use Rattle.stored_systems.specs.Zeros.{ArePairZeros}
+use Rattle.poly_pair.specs.Zeros.{KeepsZeros}
 use Rattle.cone_laws.specs.Canon.{IsSystem}
 use Rattle.cone_laws.specs.Duality.{lines_of, rays_of}
 use Rattle.cone_laws.specs.DualSystems.{AreSystemsOf, system_rows}
@@ -19,21 +20,22 @@ use Rattle.std.proofs.lemmas.List.{length-map}
 use Rattle.cons_sys.specs.Constraints.{Constraints, FitDimension, In}
 use Rattle.gens_sys.specs.Generators.{Generators, FitDimension as FitGenerators}
 use Rattle.gens_sys.specs.Spans.{Span}
-use Rattle.pair_laws.specs.PointSets.{AreClosed, AreClosedKinds, HoldSame, IsWithin}
-use Rattle.pair_laws.specs.StoredForms.{stored_constraints, stored_generators, AreClosedSystems, IsPairForm, IsStored}
-use Rattle.pair_laws.specs.StoredLaws.{AreSameSystems}
-use Rattle.pair_laws.specs.WorkLists.{constraint_list, generator_row, generator_list}
-use Rattle.pair_laws.proofs.GeneratorLists.{pair_of_generators}
-use Rattle.pair_laws.proofs.Stored.{pair_point, stored_is_pair, stored_is_unique}
+use Rattle.stored_systems.specs.PointSets.{AreClosed, AreClosedKinds, HoldSame, IsWithin}
+use Rattle.stored_systems.specs.StoredForms.{stored_constraints, stored_generators, AreClosedSystems, IsPairForm, IsStored}
+use Rattle.stored_systems.specs.StoredLaws.{AreSameSystems}
+use Rattle.stored_systems.specs.WorkLists.{constraint_list, generator_row, generator_list}
+use Rattle.stored_systems.proofs.GeneratorLists.{pair_of_generators}
+use Rattle.stored_systems.proofs.Stored.{pair_point, stored_is_pair, stored_is_unique}
 use Rattle.poly_pair.specs.declared.topology.Topology.{Topology}
 use Rattle.poly_pair.specs.declared.topology.Topology.TheVariants.{Closed}
 use Rattle.poly_pair.specs.FirstLists.{HasPointKind}
 use Rattle.poly_pair.specs.Parts.{AreStoredOfGenerators}
 use Rattle.poly_pair.specs.Polyhedra.{Polyhedron, IsStoredAs, IsKept, IsOfConstraints, IsOfGenerators}
-use Rattle.poly_pair.proofs.CanonicalSystems.{HasCanon, has_canon}
+use Rattle.stored_systems.proofs.CanonicalSystems.{HasCanon, has_canon}
 use Rattle.poly_pair.proofs.ListLemmas.{closed_gens, wide_gens, list_admits, list_spans}
 use Rattle.poly_pair.proofs.StoredLemmas.{none_kept, kept_dim}
-use Rattle.poly_pair.proofs.Starts.{pair_form, listed_canon, generator_rows}
+use Rattle.poly_pair.proofs.Starts.{pair_form}
+use Rattle.stored_systems.proofs.StoredLists.{listed_canon, generator_rows}
 
 both_ways : {A B C : Type 0} → A ↔ B → B ↔ C → A ↔ C
 both_ways f g = ((λ a. g.0 (f.0 a)), (λ c. f.1 (g.1 c)))

@@ -2,11 +2,11 @@
 use Rattle.std.proofs.Common.{◌≡◌, ◌⊎◌, inl, inr, ℕ, List, [], ℤ, sym, subst, ◌∙◌}
 use Rattle.cons_sys.specs.Constraints.{Constraints}
 use Rattle.gens_sys.specs.Generators.{Generators}
-use Rattle.pair_laws.specs.PointSets.{IsWithin}
-use Rattle.pair_laws.specs.StoredForms.{IsStored}
-use Rattle.pair_laws.specs.PairedSystems.{ArePaired}
-use Rattle.pair_laws.proofs.PairedSystems.{stored_lists_tell}
-use Rattle.pair_laws.proofs.Stored.{pair_point}
+use Rattle.stored_systems.specs.PointSets.{IsWithin}
+use Rattle.stored_systems.specs.StoredForms.{IsStored}
+use Rattle.stored_systems.specs.PairedSystems.{ArePaired}
+use Rattle.stored_systems.proofs.PairedSystems.{stored_lists_tell}
+use Rattle.stored_systems.proofs.Stored.{pair_point}
 use Rattle.poly_pair.specs.declared.topology.Topology.{Topology}
 use Rattle.poly_pair.specs.declared.topology.Topology.TheVariants.{Closed, Nnc}
 use Rattle.poly_pair.specs.Polyhedra.{Polyhedron, IsKept, IsStoredAs}

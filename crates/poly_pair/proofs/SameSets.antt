@@ -7,14 +7,15 @@ use Rattle.cone_laws.specs.Members.{ConeOf}
 use Rattle.cone_laws.specs.UniqueLaws.{AdmitSame}
 use Rattle.cone_laws.specs.DualSystems.{AreSystemsOf}
 use Rattle.cone_laws.proofs.MemberLemmas.{first_alone, canon_same}
-use Rattle.pair_laws.specs.WorkLists.{constraint_list, generator_list}
-use Rattle.pair_laws.specs.StoredForms.{IsPairForm}
+use Rattle.stored_systems.specs.WorkLists.{constraint_list, generator_list}
+use Rattle.stored_systems.specs.StoredForms.{IsPairForm}
 use Rattle.poly_pair.specs.declared.topology.Topology.TheVariants.{Closed}
 use Rattle.poly_pair.specs.Polyhedra.{Polyhedron, IsKept}
 use Rattle.poly_pair.specs.FirstLists.{IsConstraintList, IsGeneratorList, IsOfRows, IsOfVectors}
 use Rattle.poly_pair.specs.Parts.{AreStoredOfRows, AreStoredOfVectors}
 use Rattle.poly_pair.proofs.ListLemmas.{rows_of_pair, vectors_of_pair}
-use Rattle.poly_pair.proofs.Starts.{pair_form, listed_canon, generator_rows}
+use Rattle.poly_pair.proofs.Starts.{pair_form}
+use Rattle.stored_systems.proofs.StoredLists.{listed_canon, generator_rows}
 
 -- the canonical system of the first rows is that of the list
 canon_moved : (width from : ℕ) (taken further list : List Row) (lines rays : List (List ℤ)) → list ≡ taken ++ further → from ≡ length taken → AdmitSame width list from list (length list) → Canon (ConeOf width taken) lines rays → Canon (ConeOf width list) lines rays

@@ -1,5 +1,5 @@
 use Rattle.std.specs.Prelude.{ℕ}
-use Rattle.pair_laws.specs.PairedSystems.{AreToldByLists}
+use Rattle.stored_systems.specs.PairedSystems.{AreToldByLists}
 use Rattle.poly_pair.specs.declared.topology.Topology.TheVariants.{Closed}
 use Rattle.poly_pair.specs.Polyhedra.{Polyhedron, IsKept, IsOver}
 

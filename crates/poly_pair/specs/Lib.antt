@@ -8,11 +8,8 @@ pub mod FirstLists
 pub mod Conversions
 pub mod Parts
 pub mod Refusals
-pub mod Entries
-pub mod Axes
 pub mod Starts
 pub mod Zeros
 pub mod Additions
 pub mod Spanning
-pub mod OtherSystems
 pub mod Work

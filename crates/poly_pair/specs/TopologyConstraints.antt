@@ -1,7 +1,7 @@
 use Rattle.std.specs.Prelude.{◌≡◌, ◌+◌, ℕ, length, ⊤}
 use Rattle.cons_sys.specs.declared.kind.ConKind.{ConKind}
 use Rattle.cons_sys.specs.Constraints.{Constraint}
-use Rattle.pair_laws.specs.PointSets.{IsClosedKind}
+use Rattle.stored_systems.specs.PointSets.{IsClosedKind}
 use Rattle.poly_pair.specs.declared.topology.Topology.{Topology}
 use Rattle.poly_pair.specs.declared.topology.Topology.TheVariants.{Closed, Nnc}
 

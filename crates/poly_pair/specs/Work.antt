@@ -7,7 +7,7 @@ use Rattle.cone_laws.specs.Leaves.{Leaves}
 use Rattle.chernikova.specs.Conversion.{IsCountedBetween}
 use Rattle.cons_sys.specs.Constraints.{Constraints}
 use Rattle.gens_sys.specs.Generators.{Generator, Generators}
-use Rattle.pair_laws.specs.WorkLists.{LeavesOn}
+use Rattle.stored_systems.specs.WorkLists.{LeavesOn}
 use Rattle.poly_pair.specs.declared.topology.Topology.{Topology}
 use Rattle.poly_pair.specs.declared.topology.Topology.TheVariants.{Closed, Nnc}
 use Rattle.poly_pair.specs.declared.errors.GenErr.{GenErr}

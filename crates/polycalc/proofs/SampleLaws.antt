@@ -6,7 +6,7 @@ use Rattle.row_core.specs.declared.errors.PairOver.{PairOver}
 use Rattle.cons_sys.specs.Constraints as cons
 use Rattle.cons_sys.specs.Constraints.{Constraints}
 use Rattle.gens_sys.specs.Generators as gens
-use Rattle.pair_laws.specs.PointSets.{IsClosedKind}
+use Rattle.stored_systems.specs.PointSets.{IsClosedKind}
 use Rattle.poly_pair.specs.KeptLaws.{KeptIsPair}
 use Rattle.poly_pair.specs.Polyhedra.{Polyhedron, IsKept, IsOfConstraints}
 use Rattle.poly_pair.specs.TopologyLists.{AreConstraintsFor}

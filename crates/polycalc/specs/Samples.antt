@@ -5,7 +5,7 @@ use Rattle.row_core.specs.declared.errors.Overflow.{Overflow}
 use Rattle.row_core.specs.declared.errors.ConvErr.{ConvErr}
 use Rattle.row_core.specs.declared.errors.ConvErr.TheVariants as conversion
 use Rattle.cons_sys.specs.Constraints.{Constraints}
-use Rattle.pair_laws.specs.StoredLaws.{IsPair}
+use Rattle.stored_systems.specs.StoredLaws.{IsPair}
 use Rattle.poly_pair.specs.Polyhedra.{Polyhedron, IsOfConstraints}
 use Rattle.poly_pair.specs.declared.topology.Topology.TheVariants.{Closed}
 use Rattle.optimum.specs.Suprema.{SupAnswer, IsTrueSup}

@@ -7,8 +7,8 @@ use Rattle.row_core.specs.declared.errors.ConvErr.TheVariants as conversion
 use Rattle.cons_sys.specs.declared.kind.ConKind.TheVariants.{Ge}
 use Rattle.cons_sys.specs.Constraints.{Constraint, Constraints, In, Satisfies}
 use Rattle.gens_sys.specs.Generators.{Generator, Generators, FitDimension}
-use Rattle.pair_laws.specs.PointSets.{AreClosed}
-use Rattle.pair_laws.specs.WorkLists.{constraint_list, LeavesOnClosed}
+use Rattle.stored_systems.specs.PointSets.{AreClosed}
+use Rattle.stored_systems.specs.WorkLists.{constraint_list, LeavesOnClosed}
 use Rattle.set_laws.specs.Asking.{IsTrueOn}
 use Rattle.poly_pair.specs.declared.topology.Topology.TheVariants.{Closed}
 use Rattle.poly_pair.specs.Polyhedra.{Polyhedron, IsKept, IsOfConstraints}

@@ -4,7 +4,7 @@ use Rattle.row_core.specs.Vectors.{cell}
 use Rattle.row_core.specs.Points.{IsPoint, IsSamePoint}
 use Rattle.cone_laws.specs.Canon.{vector_at}
 use Rattle.cons_sys.specs.Constraints.{Constraints}
-use Rattle.pair_laws.specs.PointSets.{IsWithin}
+use Rattle.stored_systems.specs.PointSets.{IsWithin}
 use Rattle.ranking.specs.Functions.{state_of, successor_of, value_at, IsRanking}
 
 -- the relation leads from the one state to the other: they are the state and the successor of some pair of it

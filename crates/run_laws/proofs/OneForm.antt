@@ -11,8 +11,8 @@ use Rattle.widening.specs.WideningLaws.{OneWidening}
 use Rattle.fixpoint.specs.RunLaws.{HasOneLimit}
 use Rattle.hybrid.specs.Reaches.{HasOneReach}
 use Rattle.cdd_reading.specs.OneAnswer.{HasOneIne, HasOneExt}
-use Rattle.pair_laws.specs.PointSets.{HoldSame}
-use Rattle.pair_laws.specs.StoredLaws.{StoredIsUnique, AreSameSystems}
+use Rattle.stored_systems.specs.PointSets.{HoldSame}
+use Rattle.stored_systems.specs.StoredLaws.{StoredIsUnique, AreSameSystems}
 use Rattle.nnc_enc.specs.EncodedGenerators.{HasPoint}
 use Rattle.set_laws.specs.JoinedSets.{AreOfSet, JoinedSetsAreSame}
 use Rattle.poly_pair.specs.KeptLaws.{KeptIsPair, KeptIsEmpty}

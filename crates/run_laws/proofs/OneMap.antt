@@ -9,7 +9,7 @@ use Rattle.row_core.proofs.Ring.{mul-positive}
 use Rattle.row_core.specs.Points.{IsPoint}
 use Rattle.cons_sys.specs.Constraints.{In}
 use Rattle.term_text.specs.Texts.{IsFrac}
-use Rattle.pair_laws.specs.PointSets.{IsWithin}
+use Rattle.stored_systems.specs.PointSets.{IsWithin}
 use Rattle.poly_pair.specs.Polyhedra.{Polyhedron}
 use Rattle.poly_pair.specs.declared.topology.Topology.{Topology}
 use Rattle.poly_pair.specs.TopologyConstraints.{IsConstraintFor}

@@ -6,7 +6,7 @@ use Rattle.cons_sys.specs.Constraints.{Constraint, In, Satisfies}
 use Rattle.poly_pair.specs.Polyhedra.{Polyhedron, HasNoPoint, IsOver}
 use Rattle.poly_pair.specs.declared.topology.Topology.{Topology}
 use Rattle.poly_pair.specs.declared.topology.Topology.TheVariants.{Closed}
-use Rattle.pair_laws.specs.PointSets.{IsWithin}
+use Rattle.stored_systems.specs.PointSets.{IsWithin}
 use Rattle.optimum.specs.Relations.{HoldsThroughout, HoldsNowhere, HoldsSomewhere, FailsSomewhere}
 use Rattle.widening.specs.Widenings.{IsWidening}
 use Rattle.poly_pair.specs.TopologyConstraints.{IsConstraintFor}

@@ -5,7 +5,7 @@ use Rattle.std.proofs.lemmas.List.Elements.{All-weaker}
 use Rattle.row_core.specs.Points.{IsPoint}
 use Rattle.row_core.specs.Lists.{Pointwise}
 use Rattle.row_core.proofs.PointwiseLemmas.{pointwise_nil, pointwise_tail, pointwise_cons, pointwise_one, pointwise_append}
-use Rattle.pair_laws.specs.PointSets.{HoldSame}
+use Rattle.stored_systems.specs.PointSets.{HoldSame}
 use Rattle.poly_pair.specs.Polyhedra.{Polyhedron, IsKept}
 use Rattle.powerset.specs.Powersets.{Union, IsMember, IsKeptUnion, IsSingle, IsUnionOf}
 use Rattle.powerset.specs.UnionLaws.{AreOfDimension}

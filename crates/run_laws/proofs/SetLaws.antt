@@ -5,7 +5,7 @@ use Rattle.std.specs.Str.{bytes_eq}
 use Rattle.std.specs.Map.{keys_of}
 use Rattle.std.proofs.lemmas.List.Elements.{All-append}
 use Rattle.cons_sys.specs.Constraints.{Constraints, Satisfies}
-use Rattle.pair_laws.proofs.ListLemmas.{All-left, All-right}
+use Rattle.stored_systems.proofs.ListLemmas.{All-left, All-right}
 use Rattle.poly_pair.specs.declared.topology.Topology.TheVariants.{Closed}
 use Rattle.poly_pair.specs.Polyhedra.{Polyhedron, IsOfConstraints}
 use Rattle.trans_sys.specs.Systems.{with_initial, with_transition}

@@ -1,7 +1,7 @@
 -- Laws of runs.
 use Rattle.std.specs.Prelude.{◌≡◌, ◌⊎◌, ℕ, ℤ, List, [], ◌∷◌, None, Some}
 use Rattle.std.specs.Map.{keys_of}
-use Rattle.pair_laws.specs.StoredLaws.{IsPair}
+use Rattle.stored_systems.specs.StoredLaws.{IsPair}
 use Rattle.poly_pair.specs.Polyhedra.{Polyhedron}
 use Rattle.poly_pair.specs.declared.topology.Topology.TheVariants.{Nnc}
 use Rattle.powerset.specs.declared.covering.Cover.TheVariants.{No}

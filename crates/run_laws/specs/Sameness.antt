@@ -1,7 +1,7 @@
 -- When two entries are the same, and two tables have the same entries.
 use Rattle.std.specs.Prelude.{◌≡◌, [], ◌∷◌}
 use Rattle.row_core.specs.Lists.{Pointwise}
-use Rattle.pair_laws.specs.PointSets.{HoldSame}
+use Rattle.stored_systems.specs.PointSets.{HoldSame}
 use Rattle.poly_pair.specs.Polyhedra.{Polyhedron}
 use Rattle.poly_pair.specs.declared.topology.Topology.TheVariants.{Closed}
 use Rattle.powerset.specs.Powersets.{Union}

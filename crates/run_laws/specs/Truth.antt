@@ -9,7 +9,7 @@ use Rattle.term_text.specs.Texts.{IsPoint, IsExpr}
 use Rattle.term_text.specs.Systems.{IsCon, IsCons}
 use Rattle.expr_text.specs.GeneratorSystems.{IsGens}
 use Rattle.expr_text.specs.Printed.{constraints_text, generators_text}
-use Rattle.pair_laws.specs.PointSets.{HoldSame}
+use Rattle.stored_systems.specs.PointSets.{HoldSame}
 use Rattle.poly_pair.specs.Polyhedra.{Polyhedron, HasNoPoint}
 use Rattle.poly_pair.specs.declared.topology.Topology.TheVariants.{Closed}
 use Rattle.lattice_ops.specs.Sets.{IsIncluded, HaveSamePoints, AreDisjoint}

@@ -12,11 +12,11 @@ use expr_text::{constraints_are_read_back, generators_are_read_back, one_answer}
 use fixpoint::laws::one_limit;
 use hybrid::laws::one_reach;
 use optimum::laws::{generator_is_witness, one_sup};
-use pair_laws::stored_systems::stored_is_unique;
 use poly_pair::laws::{kept_is_empty, kept_is_pair};
 use ranking::laws::printed_function_ranks;
 use script_text::one_command;
 use set_laws::joined::joined_sets_are_same;
+use stored_systems::stored_laws::stored_is_unique;
 use widening::laws::one_widening;
 
 /// After each run the table has under each name a polyhedron, a transition system, a powerset, a shape or

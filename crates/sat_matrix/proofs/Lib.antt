@@ -7,6 +7,7 @@ pub mod SingleWords
 pub mod CopiedRows
 pub mod NextSharing
 pub mod MarkedRows
+pub mod TurnedTables
 pub mod SharedCounts
 pub mod TableLemmas
 pub mod Sides

@@ -17,8 +17,8 @@ use Rattle.gens_sys.specs.Spans.{Span}
 use Rattle.gens_sys.specs.Kinds.{HasBadDivisor, is_line}
 use Rattle.gens_sys.specs.declared.kind.GenKind.{GenKind}
 use Rattle.gens_sys.specs.declared.kind.GenKind.TheVariants.{Line, Ray, Point, ClosurePoint}
-use Rattle.pair_laws.specs.WorkLists.{generator_row, generator_list}
-use Rattle.pair_laws.proofs.ClosedGenerators.{zero_divisor, spans_generated}
+use Rattle.stored_systems.specs.WorkLists.{generator_row, generator_list}
+use Rattle.stored_systems.proofs.ClosedGenerators.{zero_divisor, spans_generated}
 use Rattle.nnc_enc.specs.EncodedGenerators.{HasPoint}
 use Rattle.nnc_enc.proofs.MarkedSums.{Marks}
 use Rattle.nnc_enc.proofs.SpanMarks.{LineOf, OtherOf, PointOf, marks_span}

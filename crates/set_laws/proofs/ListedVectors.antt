@@ -9,7 +9,7 @@ use Rattle.cone_laws.proofs.Bridge.{In}
 use Rattle.gens_sys.specs.Kinds.{is_line}
 use Rattle.gens_sys.specs.Generators.{Generator, generator_at, row_at, kind_at}
 use Rattle.gens_sys.specs.declared.kind.GenKind.TheVariants.{Line, Ray, Point, ClosurePoint}
-use Rattle.pair_laws.specs.WorkLists.{generator_row}
+use Rattle.stored_systems.specs.WorkLists.{generator_row}
 use Rattle.nnc_enc.proofs.SpanMarks.{LineOf, OtherOf, PointOf}
 
 -- ---- the generator list

@@ -4,8 +4,8 @@ use Rattle.std.proofs.Common.{sym, subst, inl, inr}
 use Rattle.row_core.specs.Points.{IsPoint}
 use Rattle.cons_sys.specs.Constraints.{Constraints}
 use Rattle.gens_sys.specs.Generators.{Generators}
-use Rattle.pair_laws.specs.PointSets.{IsWithin}
-use Rattle.pair_laws.specs.PairedSystems.{ArePaired}
+use Rattle.stored_systems.specs.PointSets.{IsWithin}
+use Rattle.stored_systems.specs.PairedSystems.{ArePaired}
 use Rattle.set_laws.specs.Asking.{IsProper, IsMember}
 use Rattle.set_laws.proofs.GeneratorLaws.{spans_law}
 

@@ -2,9 +2,9 @@
 use Rattle.std.proofs.Common.{◌≡◌, ◌⊎◌, inl, inr, ℕ, zero, suc, ◌+◌, ◌<◌, ◌≤◌, List, Option, Some, None, slice_get, refl, sym, ap, ◌∙◌, subst, arith}
 use Rattle.cons_sys.specs.Constraints.{Constraints}
 use Rattle.gens_sys.specs.Generators.{Generators}
-use Rattle.pair_laws.specs.PointSets.{HoldSame}
-use Rattle.pair_laws.specs.StoredForms.{IsStored}
-use Rattle.pair_laws.proofs.Stored.{stored_is_unique}
+use Rattle.stored_systems.specs.PointSets.{HoldSame}
+use Rattle.stored_systems.specs.StoredForms.{IsStored}
+use Rattle.stored_systems.proofs.Stored.{stored_is_unique}
 use Rattle.poly_pair.specs.declared.topology.Topology.{Topology}
 use Rattle.poly_pair.specs.declared.topology.Topology.TheVariants.{Closed}
 use Rattle.poly_pair.specs.Polyhedra.{Polyhedron, IsKept, IsStoredAs}

@@ -8,7 +8,7 @@ use Rattle.row_core.specs.Points.{IsPoint}
 use Rattle.row_core.specs.declared.errors.ConvErr.{ConvErr}
 use Rattle.row_core.specs.declared.errors.ConvErr.TheVariants as conversion
 use Rattle.cons_sys.specs.Constraints.{In}
-use Rattle.pair_laws.specs.PointSets.{HoldSame}
+use Rattle.stored_systems.specs.PointSets.{HoldSame}
 use Rattle.poly_pair.specs.Polyhedra.{Polyhedron, IsKept}
 use Rattle.widening.specs.declared.updates.Updated.{Updated}
 use Rattle.widening.specs.Widenings.{IsPartOf}

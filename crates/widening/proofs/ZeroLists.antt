@@ -17,8 +17,8 @@ use Rattle.cons_sys.specs.Constraints as cons
 use Rattle.cons_sys.specs.Constraints.{Constraint, Constraints}
 use Rattle.gens_sys.specs.declared.kind.GenKind.TheVariants.{Line}
 use Rattle.gens_sys.specs.Generators.{Generators, row_at}
-use Rattle.pair_laws.specs.WorkLists.{constraint_row, constraint_list, generator_row, generator_list}
-use Rattle.poly_pair.specs.Zeros.{ArePairZeros}
+use Rattle.stored_systems.specs.WorkLists.{constraint_row, constraint_list, generator_row, generator_list}
+use Rattle.stored_systems.specs.Zeros.{ArePairZeros}
 use Rattle.widening.specs.Values.{AreZeroOnSame, HasZerosAmong, TellsGenerators, HasBits, StandsAmong}
 
 -- ---- negatives

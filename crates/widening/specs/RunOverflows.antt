@@ -1,6 +1,6 @@
 use Rattle.std.specs.Prelude.{◌≡◌, ◌⊎◌, ℕ, ◌<◌, List, slice_get, Some}
 use Rattle.row_core.specs.declared.errors.Overflow.{Overflow}
-use Rattle.pair_laws.specs.PointSets.{HoldSame}
+use Rattle.stored_systems.specs.PointSets.{HoldSame}
 use Rattle.poly_pair.specs.Polyhedra.{Polyhedron}
 use Rattle.widening.specs.Overflows.{LeavesOnWidening}
 use Rattle.widening.specs.Runs.{RunTable, TurnList, IsRound, AreRounds, start}

@@ -1,6 +1,6 @@
 //! Conversions between a cone and its rows.
 ghost use Rattle.std.specs.Prelude.{◌≡◌, ◌<◌, ◌↔◌, IfOk, IsTrue};
-ghost use Rattle.pair_laws.specs.PointSets.{AreClosed};
+ghost use Rattle.stored_systems.specs.PointSets.{AreClosed};
 
 use chernikova::{Cone, add_rows, convert};
 use cons_sys::{ConKind, ConsSys};

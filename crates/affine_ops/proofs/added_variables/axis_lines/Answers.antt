@@ -1,6 +1,6 @@
 use Rattle.std.proofs.Common.{◌+◌, ◌∙◌, arith}
 use Rattle.gens_sys.specs.declared.kind.GenKind.TheVariants.{Line}
-use Rattle.poly_pair.specs.Axes.{axis}
+use Rattle.stored_systems.specs.Axes.{axis}
 use Rattle.affine_ops.proofs.AxisLists.{one_axis_more, axis_generator}
 use Rattle.affine_ops.proofs.added_variables.axis_lines.Goals as goal
 

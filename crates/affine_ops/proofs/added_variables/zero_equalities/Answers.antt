@@ -1,8 +1,8 @@
 use Rattle.std.proofs.Common.{◌+◌, ◌∙◌, sym, subst, arith}
 use Rattle.row_core.specs.Content.{IsPrimitive}
 use Rattle.cons_sys.specs.declared.kind.ConKind.TheVariants.{Eq}
-use Rattle.poly_pair.specs.Axes.{axis}
-use Rattle.poly_pair.proofs.UniverseLemmas.{axis_primitive}
+use Rattle.stored_systems.specs.Axes.{axis}
+use Rattle.stored_systems.proofs.UniverseLemmas.{axis_primitive}
 use Rattle.affine_ops.proofs.AxisLists.{one_axis_more}
 use Rattle.affine_ops.proofs.added_variables.zero_equalities.Goals as goal
 

@@ -1,7 +1,7 @@
 use Rattle.std.proofs.Common.{◌≡◌, ◌+◌, map}
 use Rattle.std.specs.List.{range_with_len}
 use Rattle.cons_sys.specs.declared.kind.ConKind.TheVariants.{Eq}
-use Rattle.poly_pair.specs.Axes.{axis}
+use Rattle.stored_systems.specs.Axes.{axis}
 use Rattle.affine_ops.proofs.added_variables.zero_equalities.Given as goal
 
 abbrev pub invariant-loop-place : goal.invariant-loop-place

@@ -1,7 +1,7 @@
 use Rattle.std.proofs.Common.{◌≡◌, ℕ, ◌+◌, ◌<◌, ◌≤◌, List, length, sym, ◌∙◌, subst, ap, All, IfOk}
 use Rattle.std.proofs.lemmas.Result.{IfOk-weaker, IfErr-weaker}
 use Rattle.chernikova.specs.Conversion.{IsRealOverflow}
-use Rattle.pair_laws.specs.WorkLists.{constraint_list}
+use Rattle.stored_systems.specs.WorkLists.{constraint_list}
 use Rattle.poly_pair.specs.declared.topology.Topology.TheVariants.{Closed}
 use Rattle.poly_pair.specs.declared.topology.TheConstants.{MAX_DIM}
 use Rattle.affine_ops.specs.Maps.{picked}

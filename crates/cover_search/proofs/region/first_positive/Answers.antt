@@ -1,5 +1,5 @@
 use Rattle.std.proofs.Common.{arith}
-use Rattle.poly_pair.proofs.RowLemmas.{all_level}
+use Rattle.stored_systems.proofs.RowLemmas.{all_level}
 use Rattle.cover_search.proofs.region.first_positive.Goals as goal
 
 pub returns : goal.returns

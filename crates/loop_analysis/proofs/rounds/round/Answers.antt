@@ -1,7 +1,7 @@
 use Rattle.std.proofs.Common.{◌≡◌, ◌<◌, ℕ, length, rules, refl, sym, ap, ◌∙◌, subst, arith}
 use Rattle.row_core.specs.Refusals.{IsOverflowIn}
 use Rattle.cons_sys.specs.Constraints.{Constraints}
-use Rattle.pair_laws.specs.PointSets.{AreClosed}
+use Rattle.stored_systems.specs.PointSets.{AreClosed}
 use Rattle.poly_pair.specs.declared.topology.Topology.{Topology}
 use Rattle.poly_pair.specs.TopologyLists.{AreConstraintsFor, list_width, constraints_of}
 use Rattle.poly_pair.specs.Polyhedra.{IsOfConstraints}

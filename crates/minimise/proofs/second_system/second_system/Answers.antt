@@ -6,7 +6,8 @@ use Rattle.sat_matrix.specs.Tables.{Table}
 use Rattle.row_core.proofs.RowListLemmas.{length-vectors}
 use Rattle.minimise.specs.Facets.{TellsFull}
 use Rattle.minimise.specs.Parts.{IsArranged}
-use Rattle.minimise.proofs.FacetLemmas.{TellsRows, turned_tells, flat_told}
+use Rattle.sat_matrix.proofs.TurnedTables.{TellsRows, turned_tells}
+use Rattle.minimise.proofs.FacetLemmas.{flat_told}
 use Rattle.minimise.proofs.FaultCases.{left_fault}
 use Rattle.minimise.proofs.Simplifications.{done_from_arranged}
 use Rattle.minimise.proofs.second_system.second_system.Goals as goal

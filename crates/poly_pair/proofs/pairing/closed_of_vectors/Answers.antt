@@ -2,7 +2,7 @@ use Rattle.std.proofs.Common.{◌∙◌, sym}
 use Rattle.row_core.specs.Lists.{vectors}
 use Rattle.row_core.proofs.RowListLemmas.{length-vectors}
 use Rattle.poly_pair.specs.Conversions.{cone_rows}
-use Rattle.poly_pair.proofs.ZeroTables.{spanning_zero, told_turned}
+use Rattle.poly_pair.proofs.ConeZeros.{spanning_zero, told_turned}
 use Rattle.poly_pair.proofs.pairing.closed_of_vectors.Goals as goal
 
 pub closed_pair-requires-clause-zeros : goal.closed_pair-requires-clause-zeros

@@ -8,7 +8,7 @@ use Rattle.row_core.specs.MarkedLists.{AreLists}
 use Rattle.chernikova.specs.Conversion.{IsRealOverflow, IsRealOverflowFrom, IsCountedBetween, IsCountedBeforeFrom}
 use Rattle.chernikova.proofs.Counts.{counted_start_from}
 use Rattle.cons_sys.specs.Constraints.{Constraints}
-use Rattle.pair_laws.specs.WorkLists.{constraint_list}
+use Rattle.stored_systems.specs.WorkLists.{constraint_list}
 use Rattle.poly_pair.specs.declared.topology.Topology.TheVariants.{Closed}
 use Rattle.poly_pair.proofs.Additions.{moved, real_from}
 use Rattle.poly_pair.proofs.SpanningSystems.{begun_fewer, begun_start, canon_at, wide_at}
@@ -42,7 +42,7 @@ pub returns-clause-wide : goal.returns-clause-wide
 returns-clause-wide g c =
     let cs = c.args.cons.now in
     IfOk-weaker c.add_rows_from.result (λ a. AreLists c.in_ok-rows.rows.width a.cone.lines a.cone.rays) (λ a. (j : ℕ) → j < length (constraint_list cs) → length (row_at (constraint_list cs) j) ≡ cs.dim + 1)
-    (λ a h. wide_at Closed cs c.in_ok-rows.rows c.width-width.ensures.rows c.in_ok-rows.ensures.width c.in_ok-rows.ensures.rows) c.add_rows_from.ensures.lists
+    (λ a h. wide_at Closed cs c.in_ok-rows.rows c.width.ensures.rows c.in_ok-rows.ensures.width c.in_ok-rows.ensures.rows) c.add_rows_from.ensures.lists
 
 pub returns-clause-overflow : goal.returns-clause-overflow
 returns-clause-overflow g c =

@@ -1,7 +1,6 @@
 use Rattle.std.proofs.Common.{subst}
 use Rattle.row_core.specs.Lists.{vectors}
-use Rattle.pair_laws.specs.WorkLists.{HasPoint}
-use Rattle.poly_pair.specs.Conversions.{HaveNoPoint}
+use Rattle.stored_systems.specs.WorkLists.{HasPoint, HaveNoPoint}
 use Rattle.poly_pair.proofs.SpanningSystems.{hold_nowhere, system_spanning}
 use Rattle.poly_pair.proofs.spanning.generators_if_any.Goals as goal
 

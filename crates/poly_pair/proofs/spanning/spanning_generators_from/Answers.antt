@@ -2,7 +2,7 @@ use Rattle.std.proofs.Common.{◌+◌, ◌-◌, ◌≤◌, length, refl}
 use Rattle.std.proofs.lemmas.Result.{IfErr-weaker}
 use Rattle.chernikova.specs.Conversion.{IsCountedBefore, IsCountedBeforeFrom}
 use Rattle.chernikova.proofs.Counts.{counted_upto}
-use Rattle.pair_laws.specs.WorkLists.{constraint_list}
+use Rattle.stored_systems.specs.WorkLists.{constraint_list}
 use Rattle.poly_pair.proofs.CountLemmas.{before_upto}
 use Rattle.poly_pair.proofs.SpanningSystems.{begun_fewer}
 use Rattle.poly_pair.proofs.spanning.spanning_generators_from.Goals as goal

@@ -6,10 +6,10 @@ use Rattle.flat_rows.specs.Flat.{marked}
 use Rattle.row_core.specs.Lists.{Row, vectors}
 use Rattle.sat_matrix.specs.ZeroTables.{IsZeroTable}
 use Rattle.sat_matrix.specs.Tables.{Table}
-use Rattle.pair_laws.specs.WorkLists.{generator_row, generator_list}
-use Rattle.poly_pair.specs.Starts.{has_mark}
-use Rattle.poly_pair.proofs.Starts.{marked_true, marked_false}
-use Rattle.poly_pair.proofs.ZeroTables.{zeros_marked, zeros_turned}
+use Rattle.stored_systems.specs.WorkLists.{generator_row, generator_list}
+use Rattle.stored_systems.specs.Marks.{has_mark}
+use Rattle.stored_systems.proofs.StoredLists.{marked_true, marked_false}
+use Rattle.stored_systems.proofs.ZeroTables.{zeros_marked, zeros_turned}
 use Rattle.poly_pair.proofs.starting.cone_of_generators.Goals as goal
 
 pub keep_rows-requires : goal.keep_rows-requires

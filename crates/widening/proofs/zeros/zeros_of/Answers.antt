@@ -6,7 +6,7 @@ use mir.Val.{SFits}
 use Rattle.row_core.specs.Vectors.{dot}
 use Rattle.row_core.specs.Lists.{row_at}
 use Rattle.sat_matrix.specs.ZeroTables.{TellsZeros}
-use Rattle.pair_laws.specs.WorkLists.{generator_list}
+use Rattle.stored_systems.specs.WorkLists.{generator_list}
 use Rattle.widening.proofs.ZeroLists.{tells_more, at_generator, length-generators}
 use Rattle.widening.proofs.zeros.zeros_of.Goals as goal
 

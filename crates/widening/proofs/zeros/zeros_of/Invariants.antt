@@ -1,5 +1,5 @@
 use Rattle.sat_matrix.specs.ZeroTables.{TellsZeros}
-use Rattle.pair_laws.specs.WorkLists.{generator_list}
+use Rattle.stored_systems.specs.WorkLists.{generator_list}
 use Rattle.widening.proofs.zeros.zeros_of.Given as goal
 
 abbrev pub invariant-loop-index : goal.invariant-loop-index

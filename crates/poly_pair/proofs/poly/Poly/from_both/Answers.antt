@@ -1,7 +1,7 @@
 use Rattle.std.proofs.Common.{ℕ, ◌+◌, List, subst, arith}
 use Rattle.std.proofs.lemmas.Result.{err_from_is_err_and}
 use Rattle.row_core.specs.Lists.{Row}
-use Rattle.pair_laws.specs.WorkLists.{constraint_list}
+use Rattle.stored_systems.specs.WorkLists.{constraint_list}
 use Rattle.poly_pair.specs.Parts.{AreStoredOfRows}
 use Rattle.poly_pair.specs.Refusals.{IsOverflowOn}
 use Rattle.poly_pair.specs.declared.topology.Topology.TheVariants.{Closed}
@@ -16,10 +16,10 @@ pub returns-clause-constraints : goal.returns-clause-constraints
 returns-clause-constraints g c = constraints_of_rows Closed c.dim-dim.result c.args.cons.now c.in_ok-list.list.rows c.in_ok-made.made c.dim-dim.ensures.value c.requires.closed c.in_ok-list.ensures.fit c.in_ok-list.ensures.rows c.in_ok-made.ensures.points
 
 pub returns-clause-generators : goal.returns-clause-generators
-returns-clause-generators g c = generators_of_both c.args.cons.now c.args.gens.now c.requires.same_dim c.requires.closed c.requires.kinds c.in_ok-list.ensures.fit c.dim-vectors.ensures.rows c.requires.system c.in_ok-made.made (returns-clause-constraints g c)
+returns-clause-generators g c = generators_of_both c.args.cons.now c.args.gens.now c.requires.same_dim c.requires.closed c.requires.kinds c.in_ok-list.ensures.fit c.dim.ensures.rows c.requires.system c.in_ok-made.made (returns-clause-constraints g c)
 
 pub returns-clause-stored_of_generators : goal.returns-clause-stored_of_generators
-returns-clause-stored_of_generators g c = generators_stored c.args.gens.now c.in_ok-made.made c.dim-kept.ensures.kept (returns-clause-generators g c) c.requires.kinds c.dim-vectors.ensures.rows c.requires.point
+returns-clause-stored_of_generators g c = generators_stored c.args.gens.now c.in_ok-made.made c.dim-2.ensures.kept (returns-clause-generators g c) c.requires.kinds c.dim.ensures.rows c.requires.point
 
 pub returns-clause-stored_of_constraints : goal.returns-clause-stored_of_constraints
 returns-clause-stored_of_constraints g c =

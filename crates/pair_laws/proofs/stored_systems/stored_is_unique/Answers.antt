@@ -1,5 +1,0 @@
-use Rattle.pair_laws.proofs.Stored.{stored_is_unique}
-use Rattle.pair_laws.proofs.stored_systems.stored_is_unique.Goals as goal
-
-pub returns : goal.returns
-returns c = stored_is_unique

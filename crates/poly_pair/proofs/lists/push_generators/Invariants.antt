@@ -1,9 +1,0 @@
-use Rattle.std.proofs.Common.{◌≡◌, ◌++◌, take, map}
-use Rattle.pair_laws.specs.WorkLists.{generator_row}
-use Rattle.poly_pair.proofs.lists.push_generators.Given as goal
-
-abbrev pub invariant-loop-index : goal.invariant-loop-index
-invariant-loop-index l = record {
-  width : l.list.width ≡ l.initial.list.width;
-  rows : l.list.rows ≡ l.initial.list.rows ++ map generator_row (take l.index l.gens.list);
-}

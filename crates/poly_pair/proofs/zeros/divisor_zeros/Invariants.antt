@@ -1,5 +1,0 @@
-use Rattle.poly_pair.proofs.ZeroTables.{IsDivisorUpto}
-use Rattle.poly_pair.proofs.zeros.divisor_zeros.Given as goal
-
-abbrev pub invariant-loop-index : goal.invariant-loop-index
-invariant-loop-index l = IsDivisorUpto l.index l.gens l.table

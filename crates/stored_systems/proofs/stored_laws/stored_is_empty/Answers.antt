@@ -1,0 +1,5 @@
+use Rattle.stored_systems.proofs.Stored.{stored_is_empty}
+use Rattle.stored_systems.proofs.stored_laws.stored_is_empty.Goals as goal
+
+pub returns : goal.returns
+returns c = stored_is_empty

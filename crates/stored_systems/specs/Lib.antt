@@ -1,0 +1,11 @@
+pub mod WorkLists
+pub mod PointSets
+pub mod StoredForms
+pub mod StoredLaws
+pub mod FirstLists
+pub mod PairedSystems
+pub mod Entries
+pub mod Axes
+pub mod Zeros
+pub mod Marks
+pub mod Trimmed
