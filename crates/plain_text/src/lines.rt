@@ -29,7 +29,8 @@ pub fn split_line(bytes: &[u8]) -> (&[u8], &[u8])
     ensures first { lines bytes.now ≡ result.0.now ∷ lines result.1.now }
     ensures shorter { length result.1.now < length bytes.now }
     ensures both { length result.0.now + length result.1.now ≤ length bytes.now }
-    ensures chunk { (front : List ℕ) × (((bytes.now ≡ front) × (result.1.now ≡ [])) ⊎ (bytes.now ≡ front ++ 10 ∷ result.1.now)) }
+    ensures chunk { (front : List ℕ)
+        × (((bytes.now ≡ front) × (result.1.now ≡ [])) ⊎ (bytes.now ≡ front ++ 10 ∷ result.1.now)) }
 {
     match first_line_feed(bytes) {
         None => (bytes, &[]),
