@@ -1,5 +1,5 @@
 -- The marked elements of lists that are related element by element.
-use Rattle.std.proofs.Common.{◌≡◌, ℕ, Bool, true, false, List, [], ◌∷◌, refl, arith}
+use Rattle.std.proofs.Common.{Bool, true, false, List, [], ◌∷◌, refl, arith}
 use Rattle.flat_rows.specs.Flat.{marked}
 use Rattle.row_core.specs.Lists.{Pointwise}
 use Rattle.row_core.proofs.PointwiseLemmas.{pointwise_tail, pointwise_cons}

@@ -1,4 +1,4 @@
-use Rattle.std.specs.Prelude.{◌≡◌, ◌≢◌, ℕ, ◌+◌, ◌<◌, ◌⊎◌, Bool, true, List, length, ℤ, pos, int_lt, slice_index_or, Contains}
+use Rattle.std.specs.Prelude.{◌≡◌, ◌≢◌, ℕ, ◌<◌, ◌⊎◌, Bool, true, List, length, ℤ, pos, int_lt, slice_index_or, Contains}
 use Rattle.row_core.specs.Pairs.{value_at, pair_at, IsPairAt}
 use Rattle.sat_matrix.specs.Tables.{Table, HasThird}
 use Rattle.sat_matrix.specs.declared.adjacency.Side.{Side}
