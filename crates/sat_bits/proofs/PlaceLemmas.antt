@@ -1,10 +1,11 @@
 -- Places of a row by its words.
-use Rattle.std.proofs.Common.{◌≡◌, ℕ, ◌+◌, ◌*◌, ◌/◌, ◌%◌, ◌^◌, ◌<◌, ◌≤◌, ◌&&◌, ◌⊎◌, inl, inr, ◌-◌, bit_and, Bool, false, IsTrue, List, length, take, drop, slice_index_or, refl, sym, ap, ◌∙◌, arith, subst}
-use Rattle.std.proofs.lemmas.Bool.{cases_lt}
-use Rattle.std.proofs.lemmas.List.{get_or_past}
+use Rattle.std.proofs.Common.{◌≡◌, ℕ, ◌+◌, ◌*◌, ◌/◌, ◌%◌, ◌^◌, ◌<◌, ◌≤◌, ◌&&◌, ◌||◌, ◌⊎◌, ◌≢◌, inl, inr, ◌-◌, bit_and, bit_or, set, Bool, false, IsTrue, List, length, take, drop, slice_index_or, refl, sym, ap, ◌∙◌, arith, subst}
+use Rattle.std.specs.Int.Bits.{or_zero_r}
+use Rattle.std.proofs.lemmas.Bool.{cases_lt, cases_eq}
+use Rattle.std.proofs.lemmas.List.{get_or_past, length-set, get_or-set_same, get_or-set_other}
 use Rattle.sat_bits.specs.Places.{bit_in, place, IsCovered, AreCovered, IsNoneMissing, AreNoneMissing, IsSubsetOfAnd}
 use Rattle.sat_bits.proofs.BlockLemmas.{in_block, none_missing_from, none_missing_in}
-use Rattle.sat_bits.proofs.WordLemmas.{bit_and_is, covered_bits, covered_from_bits, covered_from_none, none_from_covered}
+use Rattle.sat_bits.proofs.WordLemmas.{bit_and_is, bit_or_is, covered_bits, covered_from_bits, covered_from_none, none_from_covered}
 
 -- the first n words of a list are the conjunctions of those of two others
 abbrev pub AreAnds : List ℕ → List ℕ → List ℕ → ℕ → Type 0
@@ -30,6 +31,37 @@ word_and a b c la lb f k = by_order (cases_lt k (length c))
 pub places_and : (a b c : List ℕ) → length a ≡ length c → length b ≡ length c → AreAnds a b c (length c) → (i : ℕ) → place c i ≡ (place a i && place b i)
 places_and a b c la lb f i =
     ap (λ (w : ℕ). bit_in w (i % 64)) (word_and a b c la lb f (i / 64)) ∙ bit_and_is (slice_index_or a (i / 64) 0) (slice_index_or b (i / 64) 0) (i % 64)
+
+-- ---- disjunctions
+-- the first n words of a list are the disjunctions of those of two others, and the rest are those of the first
+pub record AreOrs (a b c : List ℕ) (n : ℕ) : Type 0 where
+  pub width : length c ≡ length a
+  pub done : (k : ℕ) → k < n → slice_index_or c k 0 ≡ bit_or (slice_index_or a k 0) (slice_index_or b k 0)
+  pub left : (k : ℕ) → n ≤ k → slice_index_or c k 0 ≡ slice_index_or a k 0
+
+pub ors_none : (a b : List ℕ) → AreOrs a b a 0
+ors_none a b = record { width = refl; done = λ k h. absurd (omega (arith, h)); left = λ k h. refl }
+
+-- one word more
+pub ors_more : (a b c : List ℕ) (n word : ℕ) → n < length a → AreOrs a b c n → word ≡ bit_or (slice_index_or c n 0) (slice_index_or b n 0) → AreOrs a b (set c n word) (n + 1)
+ors_more a b c n word inside h is = record {
+  width = length-set c n word ∙ h.width;
+  done = λ k less. elim (cases_eq k n) as (λ _. slice_index_or (set c n word) k 0 ≡ bit_or (slice_index_or a k 0) (slice_index_or b k 0)) [
+    | inl same ↦ rw same (get_or-set_same c n word 0 (omega (arith, h.width)) ∙ is ∙ ap (λ (w : ℕ). bit_or w (slice_index_or b n 0)) (h.left n (omega arith)))
+    | inr other ↦ get_or-set_other c n k word 0 other ∙ h.done k (omega (arith, less, other))
+  ];
+  left = λ k more. get_or-set_other c n k word 0 (let ne : k ≢ n = omega arith in ne) ∙ h.left k (omega arith);
+}
+
+-- disjunctions word by word are disjunctions place by place
+pub places_or : (a b c : List ℕ) (n : ℕ) → length b ≡ length a → length a ≤ n → AreOrs a b c n → (i : ℕ) → place c i ≡ (place a i || place b i)
+places_or a b c n lb all h i = ap (λ (w : ℕ). bit_in w (i % 64)) (by_order (cases_lt (i / 64) n)) ∙ bit_or_is (slice_index_or a (i / 64) 0) (slice_index_or b (i / 64) 0) (i % 64)
+  where
+    by_order : (i / 64 < n) ⊎ (n ≤ i / 64) → slice_index_or c (i / 64) 0 ≡ bit_or (slice_index_or a (i / 64) 0) (slice_index_or b (i / 64) 0)
+    by_order (inl l) = h.done (i / 64) l
+    by_order (inr m) =
+        h.left (i / 64) m ∙ sym (or_zero_r (slice_index_or a (i / 64) 0))
+        ∙ ap (λ (w : ℕ). bit_or (slice_index_or a (i / 64) 0) w) (sym (get_or_past b (i / 64) 0 (omega (arith, lb, all, m))))
 
 word_covered : (a b c : List ℕ) → length b ≡ length a → length c ≡ length a → AreCovered a b c (length a) → (k : ℕ) → IsCovered (slice_index_or a k 0) (slice_index_or b k 0) (slice_index_or c k 0)
 word_covered a b c lb lc f k = by_order (cases_lt k (length a))

@@ -1,8 +1,8 @@
 -- The bits of one word.
-use Rattle.std.proofs.Common.{◌≡◌, ℕ, ◌+◌, ◌-◌, ◌^◌, ◌<◌, ◌≤◌, ◌&&◌, min, bit_and, IsTrue, nat_eq, sym, ap, ◌∙◌, arith}
+use Rattle.std.proofs.Common.{◌≡◌, ℕ, ◌+◌, ◌-◌, ◌^◌, ◌<◌, ◌≤◌, ◌&&◌, ◌||◌, min, max, bit_and, bit_or, IsTrue, nat_eq, sym, ap, ◌∙◌, arith}
 use Rattle.std.specs.Int.{bit_at}
 use Rattle.std.proofs.lemmas.Nat.{and_le_l, and_comm, and-not}
-use Rattle.std.proofs.lemmas.Nat.Bits.{bit_at_and, bit_at-lt, same_from_bits_below}
+use Rattle.std.proofs.lemmas.Nat.Bits.{bit_at_and, bit_at_or, bit_at-lt, same_from_bits_below}
 use Rattle.sat_bits.specs.Places.{bit_in, IsCovered, IsNoneMissing}
 
 -- no bit of both is missing in the third
@@ -24,6 +24,13 @@ bit_from m n k hm hn e = grind (arith, hm, hn, e)
 
 pub bit_and_is : (a b j : ℕ) → bit_in (bit_and a b) j ≡ (bit_in a j && bit_in b j)
 bit_and_is a b j = bit_from (bit_at a j) (bit_at b j) (bit_at (bit_and a b) j) (bit_at-lt a j) (bit_at-lt b j) (bit_at_and a b j)
+
+-- a bit of the disjunction
+bit_of_either : (m n k : ℕ) → m < 2 → n < 2 → k ≡ max m n → nat_eq k 1 ≡ (nat_eq m 1 || nat_eq n 1)
+bit_of_either m n k hm hn e = grind (arith, hm, hn, e)
+
+pub bit_or_is : (a b j : ℕ) → bit_in (bit_or a b) j ≡ (bit_in a j || bit_in b j)
+bit_or_is a b j = bit_of_either (bit_at a j) (bit_at b j) (bit_at (bit_or a b) j) (bit_at-lt a j) (bit_at-lt b j) (bit_at_or a b j)
 
 third_bit : (m n k : ℕ) → m ≡ 1 → n ≡ 1 → k < 2 → min (min m n) k ≡ min m n → k ≡ 1
 third_bit m n k hm hn hk e = omega (arith, hm, hn, hk, e)

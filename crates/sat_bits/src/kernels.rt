@@ -1,5 +1,5 @@
 //! The kernels.
-ghost use Rattle.std.specs.Prelude.{◌≡◌, ◌↔◌, ℕ, ◌+◌, ◌*◌, ◌<◌, ◌≤◌, ◌&&◌, IsTrue, length, slice_index_or, bit_and};
+ghost use Rattle.std.specs.Prelude.{◌≡◌, ◌↔◌, ℕ, ◌+◌, ◌*◌, ◌<◌, ◌≤◌, ◌&&◌, ◌||◌, IsTrue, length, slice_index_or, bit_and};
 ghost use Rattle.sat_bits.specs.Places.{place, IsSubsetOfAnd, IsNoneMissing, AreNoneMissing};
 
 use std::simd::u64x8;
@@ -18,6 +18,17 @@ pub fn and_into(dst: &mut [u64], a: &[u64], b: &[u64])
     }
     for word in a_blocks.len() * 8..a.len() {
         dst[word] = a[word] & b[word];
+    }
+}
+
+/// Writes over `dst` where it or the other row is true.
+pub fn or_into(dst: &mut [u64], row: &[u64])
+    requires { length row.now ≡ length dst.old }
+    ensures width { length dst.new ≡ length dst.old }
+    ensures places { (i : ℕ) → place dst.new i ≡ (place dst.old i || place row.now i) }
+{
+    for word in 0..row.len() {
+        dst[word] |= row[word];
     }
 }
 

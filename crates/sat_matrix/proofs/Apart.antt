@@ -22,7 +22,7 @@ module _ (least : ℕ) (table : Table) (decide : CountsDecide least table) (oute
       (subst (λ (n : ℕ). n < least) (both_turned (bits_of table.rows (index_at outer p)) (bits_of table.rows (index_at inner q))) (too_few few))
 
 -- so many positions are passed over at which the two aren't adjacent
-found_gap : (side : Side) (table : Table) (outer inner : List ℕ) (bound from gap : ℕ) (pairs : List (ℕ × ℕ)) → ((q : ℕ) → from ≤ q → q < from + gap → ¬ (IsAdjacent table (pair_of side outer inner bound q)))
+pub found_gap : (side : Side) (table : Table) (outer inner : List ℕ) (bound from gap : ℕ) (pairs : List (ℕ × ℕ)) → ((q : ℕ) → from ≤ q → q < from + gap → ¬ (IsAdjacent table (pair_of side outer inner bound q)))
     → AreFound side table outer inner bound from pairs → AreFound side table outer inner bound (from + gap) pairs
 found_gap side table outer inner bound from zero pairs none h = subst (λ (n : ℕ). AreFound side table outer inner bound n pairs) (let e : from ≡ from + zero = omega arith in e) h
 found_gap side table outer inner bound from (suc gap) pairs none h =

@@ -13,3 +13,7 @@ pub mod TableLemmas
 pub mod Sides
 pub mod FoundPairs
 pub mod Apart
+pub mod KeptPositions
+pub mod Unions
+pub mod NearLists
+pub mod NearPairs

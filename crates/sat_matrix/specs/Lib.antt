@@ -6,4 +6,5 @@ pub mod Words
 pub mod Searches
 pub mod Pairs
 pub mod CountTests
+pub mod Near
 pub mod TableSteps

@@ -1,7 +1,8 @@
-use Rattle.std.specs.Prelude.{◌≡◌, ◌≢◌, ℕ, ◌*◌, ◌<◌, ◌≤◌, Bool, false, List, [], ◌∷◌, All, map, length, slice_index_or, bit_and}
+use Rattle.std.specs.Prelude.{◌≡◌, ◌≢◌, ℕ, ◌*◌, ◌^◌, ◌<◌, ◌≤◌, Bool, false, List, [], ◌∷◌, All, map, length, slice_index_or, bit_and}
 use Rattle.std.specs.List.{range_with_len}
 use Rattle.sat_bits.specs.Places.{place, IsNoneMissing, IsSubsetOfAnd}
-use Rattle.flat_rows.specs.Flat.{Flat, entries_at}
+use Rattle.sat_matrix.specs.Tables.{Table}
+use Rattle.flat_rows.specs.Flat.{Flat, HasOneWidth, entries_at}
 
 -- the conjunctions of two rows, word by word
 abbrev pub and_words : List ℕ → List ℕ → List ℕ
@@ -27,6 +28,13 @@ IsPadded columns words = (c : ℕ) → columns ≤ c → place words c ≡ false
 pub record IsTable (columns : ℕ) (words : Flat ℕ) : Type 0 where
   pub within : columns ≤ words.width * 64
   pub padded : All (IsPadded columns) words.rows
+
+-- the table is what is seen in the rows of words
+pub record AreWordsOf (table : Table) (words : Flat ℕ) : Type 0 where
+  pub fits : table.columns < 2 ^ 64
+  pub laid : IsTable table.columns words
+  pub wide : HasOneWidth words
+  pub seen : record { columns = table.columns; rows = map (bits_in table.columns) words.rows; spare = words.spare } ≡ table
 
 -- word k is at another place than i and j, and has each bit that both of these have
 pub record IsThirdWord (words : List ℕ) (i j k : ℕ) : Type 0 where

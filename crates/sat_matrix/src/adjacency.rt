@@ -1,13 +1,51 @@
 //! The search of the pairs of adjacent rays on two sides of a row.
-ghost use Rattle.std.specs.Prelude.{◌≡◌, ℕ, ◌+◌, ◌-◌, ◌<◌, length, All, ◌↔◌, IsTrue, IfOk, OnOk};
+ghost use Rattle.std.specs.Prelude.{◌≡◌, ℕ, ◌+◌, ◌-◌, ◌<◌, [], length, All, ◌↔◌, IsTrue, IfOk, OnOk};
 ghost use Rattle.row_core.specs.Range.{InRange};
 ghost use Rattle.sat_matrix.specs.Tables.{HasThird};
 ghost use Rattle.sat_matrix.specs.Pairs.{AreAllCrosses, AreRising, AreOn, AreFound, AreAllFound, is_on, pair_on};
 ghost use Rattle.sat_matrix.specs.CountTests.{CountsDecide, OneMoreDecides};
+ghost use Rattle.sat_matrix.specs.Near.{IsSearch};
 
 use crate::matrix::SatMatrix;
+use crate::narrowing::{Near, push_narrowed};
 use row_core::emptied;
 use std::alloc::{AllocError, Global};
+
+/// Where the pairs of rays times the words of a row are fewer, the pairs are looked at one by one.
+const MANY_WORDS: usize = 4096;
+
+/// Lists that one search leaves to the next, which needs no new memory for as many elements.
+pub struct PairLists {
+    above: Vec<usize>,
+    below: Vec<usize>,
+    near: Near,
+    /// The pairs of the last search, where its caller gives them back.
+    pub pairs: Vec<(usize, usize)>,
+}
+
+// Written by hand, so that a function that drops the lists of a step calls this one, and doesn't free each part itself.
+impl Drop for PairLists {
+    fn drop(self) {
+        let Self {
+            above: _,
+            below: _,
+            near: _,
+            pairs: _,
+        } = self;
+    }
+}
+
+impl PairLists {
+    /// Returns empty lists.
+    pub fn new(alloc: Global) -> PairLists {
+        PairLists {
+            above: Vec::new(alloc),
+            below: Vec::new(alloc),
+            near: Near::new(alloc),
+            pairs: Vec::new(alloc),
+        }
+    }
+}
 
 /// A side of the row.
 #[derive(Clone, Copy)]
@@ -38,42 +76,33 @@ impl Side {
     }
 }
 
-/// Lists that one search leaves to the next, which needs no new memory for as many elements.
-pub struct PairLists {
-    above: Vec<usize>,
-    below: Vec<usize>,
-    /// The pairs of the last search, where its caller gives them back.
-    pub pairs: Vec<(usize, usize)>,
-}
-
-// Written by hand, so that a function that drops the lists of a step calls this one, and doesn't free each part itself.
-impl Drop for PairLists {
-    fn drop(self) {
-        let Self {
-            above: _,
-            below: _,
-            pairs: _,
-        } = self;
-    }
-}
-
-impl PairLists {
-    /// Returns empty lists.
-    pub fn new(alloc: Global) -> PairLists {
-        PairLists {
-            above: Vec::new(alloc),
-            below: Vec::new(alloc),
-            pairs: Vec::new(alloc),
-        }
-    }
-}
-
 /// The least number of rows of the system that two adjacent rays are both 0 on: with fewer, the vectors
 /// that are 0 on them have more dimensions than the lines and two rays span (H. Le Verge, 1992).
 pub fn least_shared(width: usize, lines: usize) -> usize
     ensures { result ≡ width - (lines + 2) }
 {
     width.saturating_sub(lines).saturating_sub(2)
+}
+
+/// The pairs of adjacent rays of which the first is above and the second below 0 on the row.
+pub fn crossings(
+    alloc: Global,
+    lists: &mut PairLists,
+    values: &[i128],
+    zeros: &SatMatrix,
+    least: usize,
+) -> Result<Vec<(usize, usize)>, AllocError>
+    requires decide { CountsDecide least zeros.now }
+    requires as_many { length values.now ≡ length zeros.now.rows }
+    requires in_range { All InRange values.now }
+    ensures { IfOk result (λ v. AreAllCrosses values.now zeros.now v.items) }
+{
+    let above = indices_on(alloc, &mut lists.above, Side::Above, values)?;
+    let below = indices_on(alloc, &mut lists.below, Side::Below, values)?;
+    let pairs = pairs_of(alloc, lists, &above, &below, zeros, least)?;
+    lists.above = above;
+    lists.below = below;
+    Ok(pairs)
 }
 
 /// Whether a ray has one zero more than it shares with another.
@@ -117,76 +146,103 @@ fn adjacent(zeros: &SatMatrix, first: usize, second: usize) -> bool
     !zeros.third_between(first, second)
 }
 
-/// Appends the pair at a position of the outer side and one of the inner side if its rays are adjacent.
-fn push_pair(
-    pairs: &mut Vec<(usize, usize)>,
-    side: Side,
-    outer: &[usize],
-    position: usize,
-    inner: &[usize],
-    next: usize,
-    zeros: &SatMatrix,
-) -> Result<(), AllocError>
-    requires decide { OneMoreDecides zeros.now }
-    requires outer { AreRising (length zeros.now.rows) outer.now }
-    requires inner { AreRising (length zeros.now.rows) inner.now }
-    requires position { position < length outer.now }
-    requires next { next < length inner.now }
-    requires before { AreFound side zeros.now outer.now inner.now position next pairs.old.items }
-    ensures { OnOk result (AreFound side zeros.now outer.now inner.now position (next + 1) pairs.new.items) }
-{
-    let pair = side.pair(outer[position], inner[next]);
-    if adjacent(zeros, pair.0, pair.1) {
-        pairs.push(pair)?;
-    }
-    Ok(())
+/// A search of adjacent pairs: one side and the rays on it, in the outer loop, and those on the other side, in the
+/// inner; the zeros of all rays, and the least number that adjacent rays share.
+#[derive(Drop)]
+pub(crate) struct Search<'a> {
+    pub(crate) side: Side,
+    pub(crate) zeros: &'a SatMatrix,
+    pub(crate) outer: &'a [usize],
+    pub(crate) inner: &'a [usize],
+    pub(crate) least: usize,
 }
 
-/// Appends the pairs of the ray at a position of the outer side with each adjacent ray of the inner side:
-/// of the rays that share the least number of zeros with it, since there is a third ray between others.
-fn push_pairs(
-    pairs: &mut Vec<(usize, usize)>,
-    side: Side,
-    outer: &[usize],
-    position: usize,
-    inner: &[usize],
-    zeros: &SatMatrix,
-    least: usize,
-) -> Result<(), AllocError>
-    requires decide { CountsDecide least zeros.now }
-    requires outer { AreRising (length zeros.now.rows) outer.now }
-    requires inner { AreRising (length zeros.now.rows) inner.now }
-    requires position { position < length outer.now }
-    requires before { AreFound side zeros.now outer.now inner.now position 0 pairs.old.items }
-    ensures { OnOk result (AreFound side zeros.now outer.now inner.now (position + 1) 0 pairs.new.items) }
-{
-    let ray = outer[position];
-    let mut next = zeros.next_sharing(ray, inner, 0, least);
-    while next < inner.len() {
-        push_pair(pairs, side, outer, position, inner, next, zeros)?;
-        next = zeros.next_sharing(ray, inner, next + 1, least);
+impl Search<'_> {
+    /// Whether there are so many pairs that it pays to narrow lists.
+    fn has_many(&self) -> bool
+        ensures { IsTrue result → 0 < length self.now.outer.now }
+    {
+        let words = self.zeros.columns() / 64 + 1;
+        let pairs = self.outer.len().saturating_mul(self.inner.len());
+        self.outer.len() > 1 && pairs.saturating_mul(words) >= MANY_WORDS
     }
-    Ok(())
+
+    /// Appends the pair at a position of the outer side and one of the inner side if its rays are adjacent.
+    pub(crate) fn push_pair(
+        &self,
+        pairs: &mut Vec<(usize, usize)>,
+        position: usize,
+        next: usize,
+    ) -> Result<(), AllocError>
+        requires search { let s = self.now in IsSearch s.zeros.now s.outer.now s.inner.now s.least }
+        requires position { position < length self.now.outer.now }
+        requires next { next < length self.now.inner.now }
+        requires before { let s = self.now in
+            AreFound s.side s.zeros.now s.outer.now s.inner.now position next pairs.old.items }
+        ensures { let s = self.now in
+            OnOk result (AreFound s.side s.zeros.now s.outer.now s.inner.now position (next + 1) pairs.new.items) }
+    {
+        let pair = self.side.pair(self.outer[position], self.inner[next]);
+        if adjacent(self.zeros, pair.0, pair.1) {
+            pairs.push(pair)?;
+        }
+        Ok(())
+    }
+
+    /// Appends the pairs of the ray at a position of the outer side with each adjacent ray of the inner side:
+    /// of the rays that share the least number of zeros with it, since there is a third ray between others.
+    fn push_pairs(
+        &self,
+        pairs: &mut Vec<(usize, usize)>,
+        position: usize,
+    ) -> Result<(), AllocError>
+        requires search { let s = self.now in IsSearch s.zeros.now s.outer.now s.inner.now s.least }
+        requires position { position < length self.now.outer.now }
+        requires before { let s = self.now in
+            AreFound s.side s.zeros.now s.outer.now s.inner.now position 0 pairs.old.items }
+        ensures { let s = self.now in
+            OnOk result (AreFound s.side s.zeros.now s.outer.now s.inner.now (position + 1) 0 pairs.new.items) }
+    {
+        let ray = self.outer[position];
+        let mut next = self.zeros.next_sharing(ray, self.inner, 0, self.least);
+        while next < self.inner.len() {
+            self.push_pair(pairs, position, next)?;
+            next = self.zeros.next_sharing(ray, self.inner, next + 1, self.least);
+        }
+        Ok(())
+    }
+
+    /// Appends the pairs of adjacent rays, one outer ray after another.
+    fn push_one_by_one(&self, pairs: &mut Vec<(usize, usize)>) -> Result<(), AllocError>
+        requires search { let s = self.now in IsSearch s.zeros.now s.outer.now s.inner.now s.least }
+        requires none { pairs.old.items ≡ [] }
+        ensures { let s = self.now in
+            let rays = length s.outer.now in
+            OnOk result (AreFound s.side s.zeros.now s.outer.now s.inner.now rays 0 pairs.new.items) }
+    {
+        for position in 0..self.outer.len() {
+            self.push_pairs(pairs, position)?;
+        }
+        Ok(())
+    }
 }
 
-/// The pairs of adjacent rays, with that side in the outer loop.
+/// The pairs of adjacent rays of a search.
 fn pairs_from(
     alloc: Global,
-    place: &mut Vec<(usize, usize)>,
-    side: Side,
-    outer: &[usize],
-    inner: &[usize],
-    zeros: &SatMatrix,
-    least: usize,
+    lists: &mut PairLists,
+    search: &Search,
 ) -> Result<Vec<(usize, usize)>, AllocError>
-    requires decide { CountsDecide least zeros.now }
-    requires outer { AreRising (length zeros.now.rows) outer.now }
-    requires inner { AreRising (length zeros.now.rows) inner.now }
-    ensures { IfOk result (λ v. AreFound side zeros.now outer.now inner.now (length outer.now) 0 v.items) }
+    requires { let s = search.now in IsSearch s.zeros.now s.outer.now s.inner.now s.least }
+    ensures { let s = search.now in
+        let rays = length s.outer.now in
+        IfOk result (λ v. AreFound s.side s.zeros.now s.outer.now s.inner.now rays 0 v.items) }
 {
-    let mut pairs = emptied(alloc, place, 0)?;
-    for position in 0..outer.len() {
-        push_pairs(&mut pairs, side, outer, position, inner, zeros, least)?;
+    let mut pairs = emptied(alloc, &mut lists.pairs, 0)?;
+    if search.has_many() {
+        push_narrowed(search, &mut lists.near, &mut pairs)?;
+    } else {
+        search.push_one_by_one(&mut pairs)?;
     }
     Ok(pairs)
 }
@@ -194,7 +250,7 @@ fn pairs_from(
 /// The pairs of adjacent rays of the two sides, with the smaller side in the outer loop.
 fn pairs_of(
     alloc: Global,
-    place: &mut Vec<(usize, usize)>,
+    lists: &mut PairLists,
     above: &[usize],
     below: &[usize],
     zeros: &SatMatrix,
@@ -206,29 +262,21 @@ fn pairs_of(
     ensures { IfOk result (λ v. AreAllFound zeros.now above.now below.now v.items) }
 {
     if above.len() <= below.len() {
-        return pairs_from(alloc, place, Side::Above, above, below, zeros, least);
+        let search = Search {
+            side: Side::Above,
+            zeros,
+            outer: above,
+            inner: below,
+            least,
+        };
+        return pairs_from(alloc, lists, &search);
     }
-    pairs_from(alloc, place, Side::Below, below, above, zeros, least)
-}
-
-/// The pairs of adjacent rays of which the first is above and the second below 0 on the row.
-pub fn crossings(
-    alloc: Global,
-    lists: &mut PairLists,
-    values: &[i128],
-    zeros: &SatMatrix,
-    least: usize,
-) -> Result<Vec<(usize, usize)>, AllocError>
-    requires decide { CountsDecide least zeros.now }
-    requires as_many { length values.now ≡ length zeros.now.rows }
-    requires in_range { All InRange values.now }
-    ensures { IfOk result (λ v. AreAllCrosses values.now zeros.now v.items) }
-{
-    let above = indices_on(alloc, &mut lists.above, Side::Above, values)?;
-    let below = indices_on(alloc, &mut lists.below, Side::Below, values)?;
-    let place = &mut lists.pairs;
-    let pairs = pairs_of(alloc, place, &above, &below, zeros, least)?;
-    lists.above = above;
-    lists.below = below;
-    Ok(pairs)
+    let search = Search {
+        side: Side::Below,
+        zeros,
+        outer: below,
+        inner: above,
+        least,
+    };
+    pairs_from(alloc, lists, &search)
 }

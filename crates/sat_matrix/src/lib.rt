@@ -9,6 +9,7 @@
 mod adjacency;
 mod looks;
 mod matrix;
+mod narrowing;
 mod searches;
 mod words;
 mod zeros;

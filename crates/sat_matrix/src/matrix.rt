@@ -5,7 +5,7 @@ ghost use Rattle.sat_bits.specs.Places.{place};
 ghost use Rattle.sat_matrix.specs.Columns.{IsBitOf, IsColumnMarked};
 ghost use Rattle.sat_matrix.specs.Tables.{Table, bits_of, bit_at, conjunction, transposed, Covers, HasThird, IsRectangular};
 ghost use Rattle.sat_matrix.specs.Counts.{ones};
-ghost use Rattle.sat_matrix.specs.Words.{bits_in, IsTable};
+ghost use Rattle.sat_matrix.specs.Words.{bits_in, AreWordsOf, IsTable};
 ghost use Rattle.sat_matrix.specs.Searches.{IsFirstFrom, Shares};
 
 use crate::searches::{has_third_row, next_sharing};
@@ -227,6 +227,15 @@ impl SatMatrix {
             self.set(index * 64 + bit as usize, column, true);
             rest &= !(1 << bit);
         }
+    }
+
+    /// Lends the words of the rows.
+    #[inline]
+    pub(crate) fn words(&self) -> &FlatRows<u64>
+        ensures { AreWordsOf self.now result.now }
+    {
+        prove!(self.columns() / 64 <= self.words.width());
+        &self.words
     }
 
     /// How many places of a row are true.

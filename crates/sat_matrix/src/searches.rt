@@ -1,13 +1,16 @@
 //! Searches among rows of words. The width of the rows is tested once for each search, and the loops are compiled
 //! for each of the small ones.
-ghost use Rattle.std.specs.Prelude.{◌≡◌, ◌↔◌, ℕ, ◌^◌, ◌<◌, ◌≤◌, IsTrue, length, slice_index_or};
+ghost use Rattle.std.specs.Prelude.{◌≡◌, ◌↔◌, ℕ, ◌^◌, ◌<◌, ◌≤◌, IsTrue, OnOk, length, slice_index_or};
 ghost use Rattle.flat_rows.specs.Flat.{entries_at};
 ghost use Rattle.sat_matrix.specs.Words.{HasThirdRow};
 ghost use Rattle.sat_matrix.specs.Searches.{IsFirstFrom, SharesPlaces, shared_places};
+ghost use Rattle.sat_matrix.specs.Pairs.{index_at};
+ghost use Rattle.sat_matrix.specs.Near.{AreRisingFrom, HasKept, IsUnionOf, SharesWords};
 
 use crate::words::has_third_word;
 use flat_rows::FlatRows;
-use sat_bits::{count_and, is_subset_of_and};
+use sat_bits::{count_and, is_subset_of_and, or_into};
+use std::alloc::AllocError;
 
 /// The first position from `from` on at which the list names a row that shares at least `least` places with
 /// row `i`, or the list's length where there is none.
@@ -92,4 +95,94 @@ fn has_third_as_wide(rows: &FlatRows<u64>, width: usize, i: usize, j: usize) -> 
         }
     }
     false
+}
+
+/// Makes the list the words of a row that is true wherever a row is that `outer` names from one position up to
+/// another.
+pub(crate) fn unite(
+    rows: &FlatRows<u64>,
+    outer: &[usize],
+    from: usize,
+    to: usize,
+    union: &mut Vec<u64>,
+) -> Result<(), AllocError>
+    requires outer { (p : ℕ) → p < length outer.now → index_at outer.now p < length rows.now.rows }
+    requires to { (from ≤ to) × (to ≤ length outer.now) }
+    ensures wide { OnOk result (length union.new.items ≡ rows.now.width) }
+    ensures union { OnOk result (IsUnionOf rows.now.rows outer.now from to union.new.items) }
+{
+    union.clear();
+    union.resize(rows.width(), 0)?;
+    for position in from..to {
+        or_into(union, rows.row(outer[position]));
+    }
+    Ok(())
+}
+
+/// What positions of a list of rows are kept: those of rows that share at least so many places with the row of words.
+#[derive(Drop)]
+pub(crate) struct Filter<'a> {
+    pub(crate) union: &'a [u64],
+    pub(crate) among: &'a [usize],
+    pub(crate) least: usize,
+}
+
+/// Appends those of a list's positions from `start` on that the filter keeps.
+pub(crate) fn push_sharing(
+    rows: &FlatRows<u64>,
+    filter: &Filter,
+    list: &mut Vec<usize>,
+    start: usize,
+) -> Result<(), AllocError>
+    requires union { length filter.now.union.now ≡ rows.now.width }
+    requires among { let among = filter.now.among.now in
+        (q : ℕ) → q < length among → index_at among q < length rows.now.rows }
+    requires few { let f = filter.now in
+        (q : ℕ) → q < length f.among.now → shared_places (entries_at rows.now.rows (index_at f.among.now q)) f.union.now < 2 ^ 64 }
+    requires start { start ≤ length list.old.items }
+    requires rising { AreRisingFrom start (length filter.now.among.now) list.old.items }
+    ensures { let f = filter.now in
+        let shares = SharesWords rows.now.rows f.union.now f.among.now f.least in
+        OnOk result (HasKept shares start (length f.among.now) list.old.items list.new.items) }
+{
+    match rows.width() {
+        1 => push_sharing_as_wide(rows, 1, filter, list, start),
+        2 => push_sharing_as_wide(rows, 2, filter, list, start),
+        3 => push_sharing_as_wide(rows, 3, filter, list, start),
+        4 => push_sharing_as_wide(rows, 4, filter, list, start),
+        width => push_sharing_as_wide(rows, width, filter, list, start),
+    }
+}
+
+/// The same, with the width handed over.
+#[inline(always)]
+fn push_sharing_as_wide(
+    rows: &FlatRows<u64>,
+    width: usize,
+    filter: &Filter,
+    list: &mut Vec<usize>,
+    start: usize,
+) -> Result<(), AllocError>
+    requires width { width ≡ rows.now.width }
+    requires union { length filter.now.union.now ≡ rows.now.width }
+    requires among { let among = filter.now.among.now in
+        (q : ℕ) → q < length among → index_at among q < length rows.now.rows }
+    requires few { let f = filter.now in
+        (q : ℕ) → q < length f.among.now → shared_places (entries_at rows.now.rows (index_at f.among.now q)) f.union.now < 2 ^ 64 }
+    requires start { start ≤ length list.old.items }
+    requires rising { AreRisingFrom start (length filter.now.among.now) list.old.items }
+    ensures { let f = filter.now in
+        let shares = SharesWords rows.now.rows f.union.now f.among.now f.least in
+        OnOk result (HasKept shares start (length f.among.now) list.old.items list.new.items) }
+{
+    let end = list.len();
+    list.reserve(end - start)?;
+    for index in start..end {
+        let position = list[index];
+        let row = rows.row_as_wide(width, filter.among[position]);
+        if count_and(row, filter.union) >= filter.least {
+            list.push(position)?;
+        }
+    }
+    Ok(())
 }

@@ -1,0 +1,89 @@
+-- The numbers of a list that are appended to it.
+use Rattle.std.specs.Prelude.{◌≡◌, ℕ, ◌+◌, ◌<◌, ◌≤◌, List, [], ◌∷◌, ◌++◌, length, take}
+use Rattle.std.proofs.Common.{refl, sym, ap, ◌∙◌, subst, arith, inl, inr, get_or}
+use Rattle.std.proofs.lemmas.List.{get_or_append_left, get_or_push, length_push, take-append-le, take_all, get_or-take, get_or_default}
+use Rattle.std.proofs.lemmas.Bool.{cases_lt}
+use Rattle.sat_matrix.specs.Pairs.{index_at}
+use Rattle.sat_matrix.specs.Near.{AreRisingFrom, IsFrom, HasKept}
+
+-- the list after the indices below one were tried
+pub record IsKeptUpto (holds : ℕ → Type 0) (start bound upto : ℕ) (old new : List ℕ) : Type 0 where
+  pub before : take (length old) new ≡ old
+  pub longer : length old ≤ length new
+  pub rising : AreRisingFrom (length old) bound new
+  pub behind : (j : ℕ) → length old ≤ j → j < length new → (i : ℕ) × (start ≤ i) × (i < upto) × (index_at old i ≡ index_at new j)
+  pub all : (i : ℕ) → start ≤ i → i < upto → holds (index_at old i) → IsFrom new (length old) (index_at old i)
+
+-- a number that is read, and was there before
+pub read_before : (old new : List ℕ) (i number : ℕ) → i < length old → length old ≤ length new → take (length old) new ≡ old → number ≡ get_or new i number → number ≡ index_at old i
+read_before old new i number inside longer e is =
+    is ∙ get_or_default new i number 0 (omega (arith, inside, longer)) ∙ sym (get_or-take (length old) new i 0 inside) ∙ ap (λ (list : List ℕ). index_at list i) e
+
+pub kept_none : (holds : ℕ → Type 0) (start bound : ℕ) (old : List ℕ) → IsKeptUpto holds start bound start old old
+kept_none holds start bound old = record {
+  before = take_all (length old) old (omega arith);
+  longer = omega arith;
+  rising = record { within = λ i low inside. absurd (omega arith); increasing = λ i j low less inside. absurd (omega arith) };
+  behind = λ j low inside. absurd (omega arith);
+  all = λ i low less h. absurd (omega arith);
+}
+
+module _ (holds : ℕ → Type 0) (start bound upto : ℕ) (old new : List ℕ) (from : start ≤ upto) (inside : upto < length old) (h : IsKeptUpto holds start bound upto old new) where
+  -- the number at the next index is appended
+  pub kept_push : AreRisingFrom start bound old → IsKeptUpto holds start bound (upto + 1) old (new ++ index_at old upto ∷ [])
+  kept_push rising = record {
+    before = take-append-le (length old) new (index_at old upto ∷ []) h.longer ∙ h.before;
+    longer = omega (arith, h.longer, length_push new (index_at old upto));
+    rising = record {
+      within = λ j low below. elim (cases_lt j (length new)) [
+        | inl less ↦ omega (arith, earlier j less, h.rising.within j low less)
+        | inr more ↦ omega (arith, last j (at j below more), rising.within upto from inside)
+      ];
+      increasing = λ j k low less below. elim (cases_lt k (length new)) [
+        | inl inner ↦ omega (arith, earlier j (omega arith), earlier k inner, h.rising.increasing j k low less inner)
+        | inr more ↦
+            let first : j < length new = omega (arith, at k below more) in
+            let f = h.behind j low first in
+            omega (arith, earlier j first, last k (at k below more), rising.increasing f.0 upto f.1 f.2 inside, f.3)
+      ];
+    };
+    behind = λ j low below. elim (cases_lt j (length new)) [
+      | inl less ↦ let f = h.behind j low less in (f.0, f.1, omega (arith, f.2), f.3 ∙ sym (earlier j less))
+      | inr more ↦ (upto, from, omega arith, sym (last j (at j below more)))
+    ];
+    all = λ i low below is. elim (cases_lt i upto) [
+      | inl less ↦ let f = h.all i low less is in (f.0, f.1, omega (arith, f.2, length_push new (index_at old upto)), earlier f.0 f.2 ∙ f.3)
+      | inr more ↦ (length new, h.longer, omega (arith, length_push new (index_at old upto)), last (length new) refl ∙ ap (index_at old) (let e : upto ≡ i = omega arith in e))
+    ];
+  }
+    where
+      earlier : (j : ℕ) → j < length new → index_at (new ++ index_at old upto ∷ []) j ≡ index_at new j
+      earlier j less = get_or_append_left new (index_at old upto ∷ []) 0 j less
+
+      last : (j : ℕ) → length new ≡ j → index_at (new ++ index_at old upto ∷ []) j ≡ index_at old upto
+      last j e = get_or_push new (index_at old upto) 0 j e
+
+      at : (j : ℕ) → j < length (new ++ index_at old upto ∷ []) → length new ≤ j → length new ≡ j
+      at j below more = omega (arith, length_push new (index_at old upto))
+
+  -- nothing holds for the number at the next index
+  pub kept_pass : ¬ (holds (index_at old upto)) → IsKeptUpto holds start bound (upto + 1) old new
+  kept_pass none = record {
+    before = h.before;
+    longer = h.longer;
+    rising = h.rising;
+    behind = λ j low below. let f = h.behind j low below in (f.0, f.1, omega (arith, f.2), f.3);
+    all = λ i low below is. elim (cases_lt i upto) [
+      | inl less ↦ h.all i low less is
+      | inr more ↦ absurd (none (subst holds (ap (index_at old) (let e : i ≡ upto = omega arith in e)) is))
+    ];
+  }
+
+pub kept_all : (holds : ℕ → Type 0) (start bound upto : ℕ) (old new : List ℕ) → length old ≤ upto → IsKeptUpto holds start bound upto old new → HasKept holds start bound old new
+kept_all holds start bound upto old new end h = record {
+  before = h.before;
+  rising = h.rising;
+  all = λ number f is.
+      let g = h.all f.0 f.1 (omega (arith, f.2)) (subst holds (sym f.3) is) in
+      (g.0, g.1, g.2, g.3 ∙ f.3);
+}

@@ -1,0 +1,48 @@
+-- Lists of the positions of near rays.
+use Rattle.std.specs.Prelude.{◌≡◌, ℕ, ◌+◌, ◌<◌, ◌≤◌, List, [], ◌∷◌, ◌++◌, length}
+use Rattle.std.specs.List.{range_with_len}
+use Rattle.std.proofs.Common.{sym, ap, ◌∙◌, arith}
+use Rattle.std.proofs.lemmas.List.FromFn.{get_or-range_with_len, length-range_with_len, map-range_with_len_more}
+use Rattle.std.proofs.lemmas.List.{map-id}
+use Rattle.flat_rows.specs.Flat.{Flat}
+use Rattle.sat_matrix.specs.Tables.{Table}
+use Rattle.sat_matrix.specs.Words.{AreWordsOf}
+use Rattle.sat_matrix.specs.Pairs.{index_at, AreRising}
+use Rattle.sat_matrix.specs.Near.{IsUnionOf, SharesWords, HasKept, IsNear}
+use Rattle.sat_matrix.proofs.Unions.{union_shares}
+
+pub range_more : (n : ℕ) → range_with_len 0 (n + 1) ≡ range_with_len 0 n ++ n ∷ []
+range_more n = sym (map-id (range_with_len 0 (n + 1))) ∙ map-range_with_len_more (λ (i : ℕ). i) 0 n n (omega arith) ∙ ap (λ (list : List ℕ). list ++ n ∷ []) (map-id (range_with_len 0 n))
+
+-- all positions
+pub near_all : (table : Table) (outer among : List ℕ) (least from to : ℕ) → IsNear table outer among least from to 0 (range_with_len 0 (length among))
+near_all table outer among least from to = record {
+  rising = record {
+    within = λ i low inside. omega (arith, at i (omega (arith, inside, size)), inside, size);
+    increasing = λ i j low less inside. omega (arith, at i (omega (arith, less, inside, size)), at j (omega (arith, inside, size)));
+  };
+  all = λ p q low below inside shares. (q, omega arith, omega (arith, inside, size), at q inside);
+}
+  where
+    size : length (range_with_len 0 (length among)) ≡ length among
+    size = length-range_with_len 0 (length among)
+
+    at : (i : ℕ) → i < length among → index_at (range_with_len 0 (length among)) i ≡ i
+    at i inside = omega (arith, get_or-range_with_len 0 (length among) i 0 inside)
+
+module _ (table : Table) (outer among : List ℕ) (least from to start : ℕ) (list : List ℕ) (near : IsNear table outer among least from to start list) where
+  -- what is near to a group is near to each part of it
+  pub near_part : (first last : ℕ) → from ≤ first → last ≤ to → IsNear table outer among least first last start list
+  near_part first last low high = record {
+    rising = near.rising;
+    all = λ p q above below inside shares. near.all p q (omega (arith, above)) (omega (arith, below)) inside shares;
+  }
+
+  -- of these positions, those at which a ray shares enough zeros with the union of the group
+  pub near_kept : (words : Flat ℕ) (union new : List ℕ) → AreWordsOf table words → AreRising (length table.rows) outer → AreRising (length table.rows) among → to ≤ length outer → IsUnionOf words.rows outer from to union → HasKept (SharesWords words.rows union among least) start (length among) list new → IsNear table outer among least from to (length list) new
+  near_kept words union new are outer_rises among_rises inside is kept = record {
+    rising = kept.rising;
+    all = λ p q low below in_among shares.
+        kept.all q (near.all p q low below in_among shares)
+        (union_shares table words are outer among from to least p q union is low below (outer_rises.within p (omega (arith, below, inside))) (among_rises.within q in_among) shares);
+  }
