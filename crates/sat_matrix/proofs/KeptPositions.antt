@@ -1,7 +1,7 @@
 -- The numbers of a list that are appended to it.
 use Rattle.std.specs.Prelude.{◌≡◌, ℕ, ◌+◌, ◌<◌, ◌≤◌, List, [], ◌∷◌, ◌++◌, length, take}
 use Rattle.std.proofs.Common.{refl, sym, ap, ◌∙◌, subst, arith, inl, inr, get_or}
-use Rattle.std.proofs.lemmas.List.{get_or_append_left, get_or_push, length_push, take-append-le, take_all, get_or-take, get_or_default}
+use Rattle.std.proofs.lemmas.List.{get_or_append_left, get_or_push, length_push, take-append-le, take_all, get_or-take, get_or_default, length-take}
 use Rattle.std.proofs.lemmas.Bool.{cases_lt}
 use Rattle.sat_matrix.specs.Pairs.{index_at}
 use Rattle.sat_matrix.specs.Near.{AreRisingFrom, IsFrom, HasKept}
@@ -18,6 +18,13 @@ pub record IsKeptUpto (holds : ℕ → Type 0) (start bound upto : ℕ) (old new
 pub read_before : (old new : List ℕ) (i number : ℕ) → i < length old → length old ≤ length new → take (length old) new ≡ old → number ≡ get_or new i number → number ≡ index_at old i
 read_before old new i number inside longer e is =
     is ∙ get_or_default new i number 0 (omega (arith, inside, longer)) ∙ sym (get_or-take (length old) new i 0 inside) ∙ ap (λ (list : List ℕ). index_at list i) e
+
+pub read_same : (old new : List ℕ) (i number : ℕ) → i < length old → new ≡ old → number ≡ get_or new i number → number ≡ index_at old i
+read_same old new i number inside e is = is ∙ ap (λ (list : List ℕ). get_or list i number) e ∙ get_or_default old i number 0 inside
+
+-- as many as before, at least
+pub no_shorter : (old new : List ℕ) → take (length old) new ≡ old → length old ≤ length new
+no_shorter old new e = omega (arith, ap length e, length-take (length old) new)
 
 pub kept_none : (holds : ℕ → Type 0) (start bound : ℕ) (old : List ℕ) → IsKeptUpto holds start bound start old old
 kept_none holds start bound old = record {

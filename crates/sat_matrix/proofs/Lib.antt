@@ -17,3 +17,5 @@ pub mod KeptPositions
 pub mod Unions
 pub mod NearLists
 pub mod NearPairs
+pub mod Thirds
+pub mod NearRays

@@ -1,7 +1,7 @@
 -- Lists of the positions of near rays.
 use Rattle.std.specs.Prelude.{◌≡◌, ℕ, ◌+◌, ◌<◌, ◌≤◌, List, [], ◌∷◌, ◌++◌, length}
 use Rattle.std.specs.List.{range_with_len}
-use Rattle.std.proofs.Common.{sym, ap, ◌∙◌, arith}
+use Rattle.std.proofs.Common.{sym, ap, ◌∙◌, subst, arith}
 use Rattle.std.proofs.lemmas.List.FromFn.{get_or-range_with_len, length-range_with_len, map-range_with_len_more}
 use Rattle.std.proofs.lemmas.List.{map-id}
 use Rattle.flat_rows.specs.Flat.{Flat}
@@ -29,6 +29,39 @@ near_all table outer among least from to = record {
 
     at : (i : ℕ) → i < length among → index_at (range_with_len 0 (length among)) i ≡ i
     at i inside = omega (arith, get_or-range_with_len 0 (length among) i 0 inside)
+
+-- all rays
+pub near_all_rays : (table : Table) (outer : List ℕ) (least from to : ℕ) → IsNear table outer (range_with_len 0 (length table.rows)) least from to 0 (range_with_len 0 (length table.rows))
+near_all_rays table outer least from to =
+    subst (λ (n : ℕ). IsNear table outer (range_with_len 0 (length table.rows)) least from to 0 (range_with_len 0 n)) (length-range_with_len 0 (length table.rows))
+    (near_all table outer (range_with_len 0 (length table.rows)) least from to)
+
+-- the list of all rays names rays
+pub all_within : (table : Table) (all : List ℕ) → all ≡ range_with_len 0 (length table.rows) → (q : ℕ) → q < length all → index_at all q < length table.rows
+all_within table all e q inside =
+    let size : length all ≡ length table.rows = ap length e ∙ length-range_with_len 0 (length table.rows) in
+    omega (arith, ap (λ (list : List ℕ). index_at list q) e, get_or-range_with_len 0 (length table.rows) q 0 (omega (arith, inside, size)), inside, size)
+
+-- they rise
+pub range_rises : (n : ℕ) → AreRising n (range_with_len 0 n)
+range_rises n = record {
+  within = λ q inside. omega (arith, at q (omega (arith, inside, size)), inside, size);
+  increasing = λ q r less inside. omega (arith, at q (omega (arith, less, inside, size)), at r (omega (arith, inside, size)));
+}
+  where
+    size : length (range_with_len 0 n) ≡ n
+    size = length-range_with_len 0 n
+
+    at : (i : ℕ) → i < n → index_at (range_with_len 0 n) i ≡ i
+    at i inside = omega (arith, get_or-range_with_len 0 n i 0 inside)
+
+-- the same positions, by the parts of a filter
+pub kept_along : (rows : List (List ℕ)) (u union a among : List ℕ) (l least start : ℕ) (old new : List ℕ) → u ≡ union → a ≡ among → l ≡ least → HasKept (SharesWords rows u a l) start (length a) old new → HasKept (SharesWords rows union among least) start (length among) old new
+kept_along rows u union a among l least start old new is_union is_among is_least h =
+    let P : List ℕ → Type 0 = λ x. HasKept (SharesWords rows x among least) start (length among) old new in
+    let Q : List ℕ → Type 0 = λ x. HasKept (SharesWords rows u x least) start (length x) old new in
+    let R : ℕ → Type 0 = λ x. HasKept (SharesWords rows u a x) start (length a) old new in
+    subst P is_union (subst Q is_among (subst R is_least h))
 
 module _ (table : Table) (outer among : List ℕ) (least from to start : ℕ) (list : List ℕ) (near : IsNear table outer among least from to start list) where
   -- what is near to a group is near to each part of it

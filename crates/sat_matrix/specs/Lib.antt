@@ -7,4 +7,6 @@ pub mod Searches
 pub mod Pairs
 pub mod CountTests
 pub mod Near
+pub mod Levels
+pub mod Ranking
 pub mod TableSteps

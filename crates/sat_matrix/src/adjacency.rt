@@ -2,7 +2,7 @@
 ghost use Rattle.std.specs.Prelude.{◌≡◌, ℕ, ◌+◌, ◌-◌, ◌<◌, [], length, All, ◌↔◌, IsTrue, IfOk, OnOk};
 ghost use Rattle.row_core.specs.Range.{InRange};
 ghost use Rattle.sat_matrix.specs.Tables.{HasThird};
-ghost use Rattle.sat_matrix.specs.Pairs.{AreAllCrosses, AreRising, AreOn, AreFound, AreAllFound, is_on, pair_on};
+ghost use Rattle.sat_matrix.specs.Pairs.{AreAllCrosses, AreRising, AreOn, AreFound, AreAllFound, is_on, pair_on, index_at};
 ghost use Rattle.sat_matrix.specs.CountTests.{CountsDecide, OneMoreDecides};
 ghost use Rattle.sat_matrix.specs.Near.{IsSearch};
 
@@ -11,8 +11,11 @@ use crate::narrowing::{Near, push_narrowed};
 use row_core::emptied;
 use std::alloc::{AllocError, Global};
 
-/// Where the pairs of rays times the words of a row are fewer, the pairs are looked at one by one.
-const MANY_WORDS: usize = 4096;
+/// Where the pairs of rays have fewer words, they are looked at one by one.
+const MANY_PAIR_WORDS: usize = 4096;
+
+/// Where the table has fewer words, third rays are looked for among all rays.
+const MANY_RAY_WORDS: usize = 1024;
 
 /// Lists that one search leaves to the next, which needs no new memory for as many elements.
 pub struct PairLists {
@@ -106,7 +109,7 @@ pub fn crossings(
 }
 
 /// Whether a ray has one zero more than it shares with another.
-fn has_one_more(zeros: usize, shared: usize) -> bool
+pub(crate) fn has_one_more(zeros: usize, shared: usize) -> bool
     ensures { IsTrue result ↔ (zeros ≡ shared + 1) }
 {
     zeros > shared && zeros - shared == 1
@@ -158,13 +161,22 @@ pub(crate) struct Search<'a> {
 }
 
 impl Search<'_> {
+    /// How many words so many rows of the table have.
+    fn words_of(&self, rows: usize) -> usize {
+        rows.saturating_mul(self.zeros.columns() / 64 + 1)
+    }
+
     /// Whether there are so many pairs that it pays to narrow lists.
-    fn has_many(&self) -> bool
+    fn has_many_pairs(&self) -> bool
         ensures { IsTrue result → 0 < length self.now.outer.now }
     {
-        let words = self.zeros.columns() / 64 + 1;
         let pairs = self.outer.len().saturating_mul(self.inner.len());
-        self.outer.len() > 1 && pairs.saturating_mul(words) >= MANY_WORDS
+        self.outer.len() > 1 && self.words_of(pairs) >= MANY_PAIR_WORDS
+    }
+
+    /// Whether there are so many rays that it pays to look for third rays among near ones alone.
+    pub(crate) fn has_many_rays(&self) -> bool {
+        self.words_of(self.zeros.len()) >= MANY_RAY_WORDS
     }
 
     /// Appends the pair at a position of the outer side and one of the inner side if its rays are adjacent.
@@ -182,9 +194,33 @@ impl Search<'_> {
         ensures { let s = self.now in
             OnOk result (AreFound s.side s.zeros.now s.outer.now s.inner.now position (next + 1) pairs.new.items) }
     {
-        let pair = self.side.pair(self.outer[position], self.inner[next]);
-        if adjacent(self.zeros, pair.0, pair.1) {
-            pairs.push(pair)?;
+        let adjacent = adjacent(self.zeros, self.outer[position], self.inner[next]);
+        self.push_if(adjacent, pairs, position, next)
+    }
+
+    /// Appends the pair at a position of the outer side and one of the inner side if its rays are adjacent, as the
+    /// caller tells.
+    pub(crate) fn push_if(
+        &self,
+        adjacent: bool,
+        pairs: &mut Vec<(usize, usize)>,
+        position: usize,
+        next: usize,
+    ) -> Result<(), AllocError>
+        requires search { let s = self.now in IsSearch s.zeros.now s.outer.now s.inner.now s.least }
+        requires position { position < length self.now.outer.now }
+        requires next { next < length self.now.inner.now }
+        requires adjacent { let s = self.now in
+            let third = HasThird s.zeros.now (index_at s.outer.now position) (index_at s.inner.now next) in
+            IsTrue adjacent ↔ ¬ third }
+        requires before { let s = self.now in
+            AreFound s.side s.zeros.now s.outer.now s.inner.now position next pairs.old.items }
+        ensures { let s = self.now in
+            OnOk result (AreFound s.side s.zeros.now s.outer.now s.inner.now position (next + 1) pairs.new.items) }
+    {
+        prove!(self.zeros.columns() == self.zeros.columns());
+        if adjacent {
+            pairs.push(self.side.pair(self.outer[position], self.inner[next]))?;
         }
         Ok(())
     }
@@ -239,7 +275,7 @@ fn pairs_from(
         IfOk result (λ v. AreFound s.side s.zeros.now s.outer.now s.inner.now rays 0 v.items) }
 {
     let mut pairs = emptied(alloc, &mut lists.pairs, 0)?;
-    if search.has_many() {
+    if search.has_many_pairs() {
         push_narrowed(search, &mut lists.near, &mut pairs)?;
     } else {
         search.push_one_by_one(&mut pairs)?;

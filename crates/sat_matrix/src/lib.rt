@@ -10,6 +10,7 @@ mod adjacency;
 mod looks;
 mod matrix;
 mod narrowing;
+mod ranking;
 mod searches;
 mod words;
 mod zeros;

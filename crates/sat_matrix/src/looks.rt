@@ -1,5 +1,6 @@
 //! How many rays the search for adjacent pairs looks at.
-ghost use Rattle.std.specs.Prelude.{◌≡◌, length};
+ghost use Rattle.std.specs.Prelude.{◌≡◌, ℕ, ◌<◌, ◌≤◌, length};
+ghost use Rattle.sat_matrix.specs.Pairs.{index_at};
 
 use crate::matrix::SatMatrix;
 
@@ -31,6 +32,32 @@ impl RayCount {
     }
 }
 
+/// Whether a ray is 0 on more rows than rays of a simple cone: only for two of these a third ray is looked for.
+pub(crate) fn is_crowded(zeros: &SatMatrix, ray: usize, least: usize) -> bool
+    requires { ray < length zeros.now.rows }
+{
+    zeros.ones(ray) > least.saturating_add(1)
+}
+
+/// Whether some ray of the list is crowded, of those from one position up to another.
+pub(crate) fn has_crowded(
+    zeros: &SatMatrix,
+    rays: &[usize],
+    from: usize,
+    to: usize,
+    least: usize,
+) -> bool
+    requires to { to ≤ length rays.now }
+    requires rays { (q : ℕ) → q < length rays.now → index_at rays.now q < length zeros.now.rows }
+{
+    for position in from..to {
+        if is_crowded(zeros, rays[position], least) {
+            return true;
+        }
+    }
+    false
+}
+
 /// How many rays the search for adjacent pairs is expected to look at, from the values of the rays on the
 /// row: one for each pair of a ray above the row and one below it, and part of all rays for each such pair
 /// of which both are 0 on more than one row above the least number, since only for those a third ray is
@@ -44,7 +71,7 @@ pub fn expected_looks(values: &[i128], zeros: &SatMatrix, least: usize) -> u64
     let mut above = RayCount::NONE;
     let mut below = RayCount::NONE;
     for ray in 0..values.len() {
-        let crowded = zeros.ones(ray) > least.saturating_add(1);
+        let crowded = is_crowded(zeros, ray, least);
         if values[ray] > 0 {
             above.count(crowded);
         } else if values[ray] < 0 {

@@ -1,28 +1,53 @@
 //! The search of adjacent pairs among many rays, by lists of near rays that narrow from a group of outer rays to
 //! each part of it.
-ghost use Rattle.std.specs.Prelude.{◌≡◌, ℕ, ◌+◌, ◌<◌, ◌≤◌, [], length, take, OnOk};
+ghost use Rattle.std.specs.Prelude.{◌≡◌, ℕ, ◌+◌, ◌<◌, ◌≤◌, [], IsTrue, length, take, IfOk, OnOk};
 ghost use Rattle.std.specs.List.{range_with_len};
 ghost use Rattle.sat_matrix.specs.Pairs.{AreFound};
 ghost use Rattle.sat_matrix.specs.Near.{IsSearch, IsNear};
+ghost use Rattle.sat_matrix.specs.Levels.{IsNearAt, HasAll};
 
 use crate::adjacency::Search;
+use crate::looks::has_crowded;
+use crate::ranking::{NearRay, is_adjacent_near};
 use crate::searches::{Filter, push_sharing, unite};
 use std::alloc::{AllocError, Global};
 
 /// Into so many parts a group of outer rays is taken apart at most.
 const PARTS: usize = 4;
 
-/// Positions of rays that share enough zeros with a group of outer rays, behind those for the groups that it is a
-/// part of, and the words of the zeros of a group.
+/// Where the lists of one group begin, behind those of the groups that it is a part of.
+#[derive(Clone, Copy)]
+pub(crate) struct Level {
+    inner: usize,
+    rays: usize,
+    /// Whether the rays near to the group are listed too: among these third rays are looked for.
+    whole: bool,
+}
+
+/// The rays that share enough zeros with a group of outer rays together.
 pub(crate) struct Near {
-    list: Vec<usize>,
+    /// The positions on the inner side of those that are there.
+    inner: Vec<usize>,
+    /// All of them, where they are listed.
+    rays: Vec<usize>,
+    /// The rays of the table.
+    all: Vec<usize>,
+    /// The words of the zeros of a group.
     union: Vec<u64>,
+    /// Those near to one ray, in order.
+    ranked: Vec<NearRay>,
 }
 
 // Written by hand, so that a function that drops the lists of a search calls this one, and doesn't free each part itself.
 impl Drop for Near {
     fn drop(self) {
-        let Self { list: _, union: _ } = self;
+        let Self {
+            inner: _,
+            rays: _,
+            all: _,
+            union: _,
+            ranked: _,
+        } = self;
     }
 }
 
@@ -30,52 +55,128 @@ impl Near {
     /// Returns empty lists.
     pub(crate) fn new(alloc: Global) -> Near {
         Near {
-            list: Vec::new(alloc),
+            inner: Vec::new(alloc),
+            rays: Vec::new(alloc),
+            all: Vec::new(alloc),
             union: Vec::new(alloc),
+            ranked: Vec::new(alloc),
         }
     }
 
-    // Makes the list that of all positions below a number.
-    fn list_all(&mut self, count: usize) -> Result<(), AllocError>
-        ensures { OnOk result (self.new.list.items ≡ range_with_len 0 count) }
+    // Lists all rays as near to the outer rays.
+    fn begin(&mut self, search: &Search) -> Result<Level, AllocError>
+        requires { let s = search.now in IsSearch s.zeros.now s.outer.now s.inner.now s.least }
+        ensures all { IfOk result (λ level. HasAll search.now.zeros.now level self.new.all.items) }
+        ensures near { let s = search.now in
+            let rays = length s.outer.now in
+            IfOk result (λ level. IsNearAt s.zeros.now s.outer.now s.inner.now s.least 0 rays level self.new.inner.items self.new.rays.items) }
     {
-        self.list.clear();
-        self.list.reserve(count)?;
-        for position in 0..count {
-            self.list.push(position)?;
-        }
-        Ok(())
+        let (outer, inner) = (search.outer, search.inner);
+        let whole = search.has_many_rays()
+            && has_crowded(search.zeros, outer, 0, outer.len(), search.least)
+            && has_crowded(search.zeros, inner, 0, inner.len(), search.least);
+        let rays = if whole { search.zeros.len() } else { 0 };
+        list_numbers(&mut self.inner, inner.len())?;
+        list_numbers(&mut self.all, rays)?;
+        list_numbers(&mut self.rays, rays)?;
+        Ok(Level {
+            inner: 0,
+            rays: 0,
+            whole,
+        })
     }
 
-    // Appends those of the positions from `start` on at which a ray shares the least number of zeros with the outer
-    // rays from one position up to another together.
+    // Lists, behind what is listed, the rays near to a group, from those near to one of which it is a part.
     fn narrow(
         &mut self,
         search: &Search,
         from: usize,
         to: usize,
-        start: usize,
-    ) -> Result<(), AllocError>
+        level: Level,
+    ) -> Result<Level, AllocError>
         requires search { let s = search.now in IsSearch s.zeros.now s.outer.now s.inner.now s.least }
         requires to { (from ≤ to) × (to ≤ length search.now.outer.now) }
-        requires start { start ≤ length self.old.list.items }
+        requires all { HasAll search.now.zeros.now level self.old.all.items }
         requires near { let s = search.now in
-            IsNear s.zeros.now s.outer.now s.inner.now s.least from to start self.old.list.items }
-        ensures before { let old = self.old.list.items in
-            OnOk result (take (length old) self.new.list.items ≡ old) }
+            IsNearAt s.zeros.now s.outer.now s.inner.now s.least from to level self.old.inner.items self.old.rays.items }
+        ensures all { OnOk result (self.new.all.items ≡ self.old.all.items) }
+        ensures has_all { IfOk result (λ next. HasAll search.now.zeros.now next self.new.all.items) }
+        ensures inner { IfOk result (λ next. take next.inner self.new.inner.items ≡ self.old.inner.items) }
+        ensures rays { IfOk result (λ next. take next.rays self.new.rays.items ≡ self.old.rays.items) }
         ensures near { let s = search.now in
-            let end = length self.old.list.items in
-            OnOk result (IsNear s.zeros.now s.outer.now s.inner.now s.least from to end self.new.list.items) }
+            IfOk result (λ next. IsNearAt s.zeros.now s.outer.now s.inner.now s.least from to next self.new.inner.items self.new.rays.items) }
     {
-        let rows = search.zeros.words();
-        unite(rows, search.outer, from, to, &mut self.union)?;
-        let filter = Filter {
-            union: &self.union,
-            among: search.inner,
-            least: search.least,
+        let (zeros, least) = (search.zeros, search.least);
+        let next = Level {
+            inner: self.inner.len(),
+            rays: self.rays.len(),
+            whole: level.whole && has_crowded(zeros, search.outer, from, to, least),
         };
-        push_sharing(rows, &filter, &mut self.list, start)
+        let rows = zeros.words();
+        unite(rows, search.outer, from, to, &mut self.union)?;
+        let filter = Filter::new(&self.union, search.inner, least);
+        push_sharing(rows, &filter, &mut self.inner, level.inner)?;
+        if next.whole {
+            let filter = Filter::new(&self.union, &self.all, least);
+            push_sharing(rows, &filter, &mut self.rays, level.rays)?;
+        }
+        Ok(next)
     }
+
+    // Forgets what is listed for a group.
+    fn truncate(&mut self, level: Level)
+        ensures all { self.new.all.items ≡ self.old.all.items }
+        ensures inner { self.new.inner.items ≡ take level.inner self.old.inner.items }
+        ensures rays { self.new.rays.items ≡ take level.rays self.old.rays.items }
+    {
+        self.inner.truncate(level.inner);
+        self.rays.truncate(level.rays);
+    }
+
+    // Appends the pairs of the ray at a position of the outer side with each adjacent ray near to it, where all near
+    // rays are listed.
+    fn push_ranked(
+        &mut self,
+        search: &Search,
+        pairs: &mut Vec<(usize, usize)>,
+        position: usize,
+        level: Level,
+    ) -> Result<(), AllocError>
+        requires search { let s = search.now in IsSearch s.zeros.now s.outer.now s.inner.now s.least }
+        requires position { position < length search.now.outer.now }
+        requires whole { IsTrue level.whole }
+        requires near { let s = search.now in
+            let next = position + 1 in
+            IsNearAt s.zeros.now s.outer.now s.inner.now s.least position next level self.old.inner.items self.old.rays.items }
+        requires before { let s = search.now in
+            AreFound s.side s.zeros.now s.outer.now s.inner.now position 0 pairs.old.items }
+        ensures all { OnOk result (self.new.all.items ≡ self.old.all.items) }
+        ensures inner { OnOk result (self.new.inner.items ≡ self.old.inner.items) }
+        ensures rays { OnOk result (self.new.rays.items ≡ self.old.rays.items) }
+        ensures found { let s = search.now in
+            OnOk result (AreFound s.side s.zeros.now s.outer.now s.inner.now (position + 1) 0 pairs.new.items) }
+    {
+        self.ranked.clear();
+        for index in level.inner..self.inner.len() {
+            let next = self.inner[index];
+            let (rays, ranked) = (&self.rays, &mut self.ranked);
+            let adjacent = is_adjacent_near(search, position, next, rays, level.rays, ranked)?;
+            search.push_if(adjacent, pairs, position, next)?;
+        }
+        Ok(())
+    }
+}
+
+/// Makes the list that of all numbers below one.
+fn list_numbers(list: &mut Vec<usize>, count: usize) -> Result<(), AllocError>
+    ensures { OnOk result (list.new.items ≡ range_with_len 0 count) }
+{
+    list.clear();
+    list.reserve(count)?;
+    for number in 0..count {
+        list.push(number)?;
+    }
+    Ok(())
 }
 
 /// How many rays each part of a group has, but for the last: a power of the number of parts.
@@ -116,41 +217,44 @@ fn push_near(
     Ok(())
 }
 
-/// Appends the pairs of the outer rays from one position up to another with each adjacent ray of those near them,
-/// which the list has from `start` on.
+/// Appends the pairs of the outer rays from one position up to another with each adjacent ray of those near to them.
 fn push_group(
     search: &Search,
     pairs: &mut Vec<(usize, usize)>,
     near: &mut Near,
     from: usize,
     to: usize,
-    start: usize,
+    level: Level,
 ) -> Result<(), AllocError>
     requires search { let s = search.now in IsSearch s.zeros.now s.outer.now s.inner.now s.least }
     requires to { (from < to) × (to ≤ length search.now.outer.now) }
-    requires start { start ≤ length near.old.list.items }
+    requires all { HasAll search.now.zeros.now level near.old.all.items }
     requires near { let s = search.now in
-        IsNear s.zeros.now s.outer.now s.inner.now s.least from to start near.old.list.items }
+        IsNearAt s.zeros.now s.outer.now s.inner.now s.least from to level near.old.inner.items near.old.rays.items }
     requires before { let s = search.now in
         AreFound s.side s.zeros.now s.outer.now s.inner.now from 0 pairs.old.items }
-    ensures kept { OnOk result (near.new.list.items ≡ near.old.list.items) }
+    ensures all { OnOk result (near.new.all.items ≡ near.old.all.items) }
+    ensures inner { OnOk result (near.new.inner.items ≡ near.old.inner.items) }
+    ensures rays { OnOk result (near.new.rays.items ≡ near.old.rays.items) }
     ensures found { let s = search.now in
         OnOk result (AreFound s.side s.zeros.now s.outer.now s.inner.now to 0 pairs.new.items) }
 {
-    if near.list.len() == start {
+    if near.inner.len() == level.inner {
         return Ok(());
     }
     if to - from == 1 {
-        return push_near(search, pairs, from, &near.list, start);
+        if level.whole {
+            return near.push_ranked(search, pairs, from, level);
+        }
+        return push_near(search, pairs, from, &near.inner, level.inner);
     }
     let size = part_size(to - from);
     let mut first = from;
     while first < to {
         let last = first + size.min(to - first);
-        let kept = near.list.len();
-        near.narrow(search, first, last, start)?;
-        push_group(search, pairs, near, first, last, kept)?;
-        near.list.truncate(kept);
+        let next = near.narrow(search, first, last, level)?;
+        push_group(search, pairs, near, first, last, next)?;
+        near.truncate(next);
         first = last;
     }
     Ok(())
@@ -170,8 +274,7 @@ pub(crate) fn push_narrowed(
         OnOk result (AreFound s.side s.zeros.now s.outer.now s.inner.now rays 0 pairs.new.items) }
 {
     let rays = search.outer.len();
-    near.list_all(search.inner.len())?;
-    let start = near.list.len();
-    near.narrow(search, 0, rays, 0)?;
-    push_group(search, pairs, near, 0, rays, start)
+    let whole = near.begin(search)?;
+    let level = near.narrow(search, 0, rays, whole)?;
+    push_group(search, pairs, near, 0, rays, level)
 }

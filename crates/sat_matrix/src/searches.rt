@@ -127,6 +127,21 @@ pub(crate) struct Filter<'a> {
     pub(crate) least: usize,
 }
 
+impl<'a> Filter<'a> {
+    /// Returns the filter of the rows that a list names, by a row of words.
+    pub(crate) fn new(union: &'a [u64], among: &'a [usize], least: usize) -> Filter<'a>
+        ensures union { result.union.now ≡ union.now }
+        ensures among { result.among.now ≡ among.now }
+        ensures least { result.least ≡ least }
+    {
+        Filter {
+            union,
+            among,
+            least,
+        }
+    }
+}
+
 /// Appends those of a list's positions from `start` on that the filter keeps.
 pub(crate) fn push_sharing(
     rows: &FlatRows<u64>,

@@ -9,7 +9,9 @@ abbrev pub invariant-loop-first : goal.invariant-loop-first
 invariant-loop-first l = record {
   from : l.from ≤ l.first;
   to : l.first ≤ l.to;
-  kept : l.near.list.items ≡ l.initial.near.list.items;
+  all : l.near.all.items ≡ l.initial.near.all.items;
+  inner : l.near.inner.items ≡ l.initial.near.inner.items;
+  rays : l.near.rays.items ≡ l.initial.near.rays.items;
   found : AreFound l.search.side l.search.zeros.now l.search.outer.now l.search.inner.now l.first 0 l.pairs.items;
 }
 
