@@ -9,4 +9,6 @@ pub mod CountTests
 pub mod Near
 pub mod Levels
 pub mod Ranking
+pub mod SearchStates
+pub mod Filters
 pub mod TableSteps

@@ -2,10 +2,11 @@
 ghost use Rattle.std.specs.Prelude.{◌≡◌, ℕ, ◌+◌, ◌-◌, ◌<◌, [], length, All, ◌↔◌, IsTrue, IfOk, OnOk};
 ghost use Rattle.row_core.specs.Range.{InRange};
 ghost use Rattle.sat_matrix.specs.Tables.{HasThird};
-ghost use Rattle.sat_matrix.specs.Pairs.{AreAllCrosses, AreRising, AreOn, AreFound, AreAllFound, is_on, pair_on, index_at};
+ghost use Rattle.sat_matrix.specs.Pairs.{AreAllCrosses, AreRising, AreOn, AreAllFound, is_on, pair_on};
 ghost use Rattle.sat_matrix.specs.CountTests.{CountsDecide, OneMoreDecides};
-ghost use Rattle.sat_matrix.specs.Near.{IsSearch};
+ghost use Rattle.sat_matrix.specs.SearchStates.{IsReady, HasFound, HasThirdAt};
 
+use crate::looks::has_crowded;
 use crate::matrix::SatMatrix;
 use crate::narrowing::{Near, push_narrowed};
 use row_core::emptied;
@@ -174,9 +175,14 @@ impl Search<'_> {
         self.outer.len() > 1 && self.words_of(pairs) >= MANY_PAIR_WORDS
     }
 
-    /// Whether there are so many rays that it pays to look for third rays among near ones alone.
-    pub(crate) fn has_many_rays(&self) -> bool {
+    /// Whether it pays to look for third rays among near ones alone: where there are many rays, crowded
+    /// ones on both sides.
+    pub(crate) fn needs_thirds(&self) -> bool
+        requires { IsReady self.now }
+    {
         self.words_of(self.zeros.len()) >= MANY_RAY_WORDS
+            && has_crowded(self.zeros, self.outer, 0, self.outer.len(), self.least)
+            && has_crowded(self.zeros, self.inner, 0, self.inner.len(), self.least)
     }
 
     /// Appends the pair at a position of the outer side and one of the inner side if its rays are adjacent.
@@ -186,13 +192,11 @@ impl Search<'_> {
         position: usize,
         next: usize,
     ) -> Result<(), AllocError>
-        requires search { let s = self.now in IsSearch s.zeros.now s.outer.now s.inner.now s.least }
+        requires search { IsReady self.now }
         requires position { position < length self.now.outer.now }
         requires next { next < length self.now.inner.now }
-        requires before { let s = self.now in
-            AreFound s.side s.zeros.now s.outer.now s.inner.now position next pairs.old.items }
-        ensures { let s = self.now in
-            OnOk result (AreFound s.side s.zeros.now s.outer.now s.inner.now position (next + 1) pairs.new.items) }
+        requires before { HasFound self.now position next pairs.old.items }
+        ensures { OnOk result (HasFound self.now position (next + 1) pairs.new.items) }
     {
         let adjacent = adjacent(self.zeros, self.outer[position], self.inner[next]);
         self.push_if(adjacent, pairs, position, next)
@@ -207,16 +211,12 @@ impl Search<'_> {
         position: usize,
         next: usize,
     ) -> Result<(), AllocError>
-        requires search { let s = self.now in IsSearch s.zeros.now s.outer.now s.inner.now s.least }
+        requires search { IsReady self.now }
         requires position { position < length self.now.outer.now }
         requires next { next < length self.now.inner.now }
-        requires adjacent { let s = self.now in
-            let third = HasThird s.zeros.now (index_at s.outer.now position) (index_at s.inner.now next) in
-            IsTrue adjacent ↔ ¬ third }
-        requires before { let s = self.now in
-            AreFound s.side s.zeros.now s.outer.now s.inner.now position next pairs.old.items }
-        ensures { let s = self.now in
-            OnOk result (AreFound s.side s.zeros.now s.outer.now s.inner.now position (next + 1) pairs.new.items) }
+        requires adjacent { IsTrue adjacent ↔ ¬ (HasThirdAt self.now position next) }
+        requires before { HasFound self.now position next pairs.old.items }
+        ensures { OnOk result (HasFound self.now position (next + 1) pairs.new.items) }
     {
         prove!(self.zeros.columns() == self.zeros.columns());
         if adjacent {
@@ -227,34 +227,29 @@ impl Search<'_> {
 
     /// Appends the pairs of the ray at a position of the outer side with each adjacent ray of the inner side:
     /// of the rays that share the least number of zeros with it, since there is a third ray between others.
-    fn push_pairs(
-        &self,
-        pairs: &mut Vec<(usize, usize)>,
-        position: usize,
-    ) -> Result<(), AllocError>
-        requires search { let s = self.now in IsSearch s.zeros.now s.outer.now s.inner.now s.least }
+    fn push_pairs(&self, pairs: &mut Vec<(usize, usize)>, position: usize) -> Result<(), AllocError>
+        requires search { IsReady self.now }
         requires position { position < length self.now.outer.now }
-        requires before { let s = self.now in
-            AreFound s.side s.zeros.now s.outer.now s.inner.now position 0 pairs.old.items }
-        ensures { let s = self.now in
-            OnOk result (AreFound s.side s.zeros.now s.outer.now s.inner.now (position + 1) 0 pairs.new.items) }
+        requires before { HasFound self.now position 0 pairs.old.items }
+        ensures { OnOk result (HasFound self.now (position + 1) 0 pairs.new.items) }
     {
         let ray = self.outer[position];
         let mut next = self.zeros.next_sharing(ray, self.inner, 0, self.least);
         while next < self.inner.len() {
             self.push_pair(pairs, position, next)?;
-            next = self.zeros.next_sharing(ray, self.inner, next + 1, self.least);
+            next = self
+                .zeros
+                .next_sharing(ray, self.inner, next + 1, self.least);
         }
         Ok(())
     }
 
     /// Appends the pairs of adjacent rays, one outer ray after another.
     fn push_one_by_one(&self, pairs: &mut Vec<(usize, usize)>) -> Result<(), AllocError>
-        requires search { let s = self.now in IsSearch s.zeros.now s.outer.now s.inner.now s.least }
+        requires search { IsReady self.now }
         requires none { pairs.old.items ≡ [] }
-        ensures { let s = self.now in
-            let rays = length s.outer.now in
-            OnOk result (AreFound s.side s.zeros.now s.outer.now s.inner.now rays 0 pairs.new.items) }
+        ensures { let rays = length self.now.outer.now in
+            OnOk result (HasFound self.now rays 0 pairs.new.items) }
     {
         for position in 0..self.outer.len() {
             self.push_pairs(pairs, position)?;
@@ -269,10 +264,9 @@ fn pairs_from(
     lists: &mut PairLists,
     search: &Search,
 ) -> Result<Vec<(usize, usize)>, AllocError>
-    requires { let s = search.now in IsSearch s.zeros.now s.outer.now s.inner.now s.least }
-    ensures { let s = search.now in
-        let rays = length s.outer.now in
-        IfOk result (λ v. AreFound s.side s.zeros.now s.outer.now s.inner.now rays 0 v.items) }
+    requires { IsReady search.now }
+    ensures { let rays = length search.now.outer.now in
+        IfOk result (λ v. HasFound search.now rays 0 v.items) }
 {
     let mut pairs = emptied(alloc, &mut lists.pairs, 0)?;
     if search.has_many_pairs() {

@@ -2,9 +2,9 @@
 //! each part of it.
 ghost use Rattle.std.specs.Prelude.{◌≡◌, ℕ, ◌+◌, ◌<◌, ◌≤◌, [], IsTrue, length, take, IfOk, OnOk};
 ghost use Rattle.std.specs.List.{range_with_len};
-ghost use Rattle.sat_matrix.specs.Pairs.{AreFound};
-ghost use Rattle.sat_matrix.specs.Near.{IsSearch, IsNear};
-ghost use Rattle.sat_matrix.specs.Levels.{IsNearAt, HasAll};
+ghost use Rattle.sat_matrix.specs.Near.{IsNear};
+ghost use Rattle.sat_matrix.specs.Levels.{HasAll};
+ghost use Rattle.sat_matrix.specs.SearchStates.{IsReady, HasFound, AreNear};
 
 use crate::adjacency::Search;
 use crate::looks::has_crowded;
@@ -25,6 +25,7 @@ pub(crate) struct Level {
 }
 
 /// The rays that share enough zeros with a group of outer rays together.
+#[derive(Drop)]
 pub(crate) struct Near {
     /// The positions on the inner side of those that are there.
     inner: Vec<usize>,
@@ -36,19 +37,6 @@ pub(crate) struct Near {
     union: Vec<u64>,
     /// Those near to one ray, in order.
     ranked: Vec<NearRay>,
-}
-
-// Written by hand, so that a function that drops the lists of a search calls this one, and doesn't free each part itself.
-impl Drop for Near {
-    fn drop(self) {
-        let Self {
-            inner: _,
-            rays: _,
-            all: _,
-            union: _,
-            ranked: _,
-        } = self;
-    }
 }
 
 impl Near {
@@ -65,18 +53,14 @@ impl Near {
 
     // Lists all rays as near to the outer rays.
     fn begin(&mut self, search: &Search) -> Result<Level, AllocError>
-        requires { let s = search.now in IsSearch s.zeros.now s.outer.now s.inner.now s.least }
+        requires { IsReady search.now }
         ensures all { IfOk result (λ level. HasAll search.now.zeros.now level self.new.all.items) }
-        ensures near { let s = search.now in
-            let rays = length s.outer.now in
-            IfOk result (λ level. IsNearAt s.zeros.now s.outer.now s.inner.now s.least 0 rays level self.new.inner.items self.new.rays.items) }
+        ensures near { let rays = length search.now.outer.now in
+            IfOk result (λ level. AreNear search.now 0 rays level self.new.inner.items self.new.rays.items) }
     {
-        let (outer, inner) = (search.outer, search.inner);
-        let whole = search.has_many_rays()
-            && has_crowded(search.zeros, outer, 0, outer.len(), search.least)
-            && has_crowded(search.zeros, inner, 0, inner.len(), search.least);
+        let whole = search.needs_thirds();
         let rays = if whole { search.zeros.len() } else { 0 };
-        list_numbers(&mut self.inner, inner.len())?;
+        list_numbers(&mut self.inner, search.inner.len())?;
         list_numbers(&mut self.all, rays)?;
         list_numbers(&mut self.rays, rays)?;
         Ok(Level {
@@ -94,17 +78,15 @@ impl Near {
         to: usize,
         level: Level,
     ) -> Result<Level, AllocError>
-        requires search { let s = search.now in IsSearch s.zeros.now s.outer.now s.inner.now s.least }
+        requires search { IsReady search.now }
         requires to { (from ≤ to) × (to ≤ length search.now.outer.now) }
         requires all { HasAll search.now.zeros.now level self.old.all.items }
-        requires near { let s = search.now in
-            IsNearAt s.zeros.now s.outer.now s.inner.now s.least from to level self.old.inner.items self.old.rays.items }
+        requires near { AreNear search.now from to level self.old.inner.items self.old.rays.items }
         ensures all { OnOk result (self.new.all.items ≡ self.old.all.items) }
         ensures has_all { IfOk result (λ next. HasAll search.now.zeros.now next self.new.all.items) }
         ensures inner { IfOk result (λ next. take next.inner self.new.inner.items ≡ self.old.inner.items) }
         ensures rays { IfOk result (λ next. take next.rays self.new.rays.items ≡ self.old.rays.items) }
-        ensures near { let s = search.now in
-            IfOk result (λ next. IsNearAt s.zeros.now s.outer.now s.inner.now s.least from to next self.new.inner.items self.new.rays.items) }
+        ensures near { IfOk result (λ next. AreNear search.now from to next self.new.inner.items self.new.rays.items) }
     {
         let (zeros, least) = (search.zeros, search.least);
         let next = Level {
@@ -123,16 +105,6 @@ impl Near {
         Ok(next)
     }
 
-    // Forgets what is listed for a group.
-    fn truncate(&mut self, level: Level)
-        ensures all { self.new.all.items ≡ self.old.all.items }
-        ensures inner { self.new.inner.items ≡ take level.inner self.old.inner.items }
-        ensures rays { self.new.rays.items ≡ take level.rays self.old.rays.items }
-    {
-        self.inner.truncate(level.inner);
-        self.rays.truncate(level.rays);
-    }
-
     // Appends the pairs of the ray at a position of the outer side with each adjacent ray near to it, where all near
     // rays are listed.
     fn push_ranked(
@@ -142,19 +114,16 @@ impl Near {
         position: usize,
         level: Level,
     ) -> Result<(), AllocError>
-        requires search { let s = search.now in IsSearch s.zeros.now s.outer.now s.inner.now s.least }
+        requires search { IsReady search.now }
         requires position { position < length search.now.outer.now }
         requires whole { IsTrue level.whole }
-        requires near { let s = search.now in
-            let next = position + 1 in
-            IsNearAt s.zeros.now s.outer.now s.inner.now s.least position next level self.old.inner.items self.old.rays.items }
-        requires before { let s = search.now in
-            AreFound s.side s.zeros.now s.outer.now s.inner.now position 0 pairs.old.items }
+        requires near { let next = position + 1 in
+            AreNear search.now position next level self.old.inner.items self.old.rays.items }
+        requires before { HasFound search.now position 0 pairs.old.items }
         ensures all { OnOk result (self.new.all.items ≡ self.old.all.items) }
         ensures inner { OnOk result (self.new.inner.items ≡ self.old.inner.items) }
         ensures rays { OnOk result (self.new.rays.items ≡ self.old.rays.items) }
-        ensures found { let s = search.now in
-            OnOk result (AreFound s.side s.zeros.now s.outer.now s.inner.now (position + 1) 0 pairs.new.items) }
+        ensures found { OnOk result (HasFound search.now (position + 1) 0 pairs.new.items) }
     {
         self.ranked.clear();
         for index in level.inner..self.inner.len() {
@@ -200,16 +169,14 @@ fn push_near(
     list: &[usize],
     start: usize,
 ) -> Result<(), AllocError>
-    requires search { let s = search.now in IsSearch s.zeros.now s.outer.now s.inner.now s.least }
+    requires search { IsReady search.now }
     requires position { position < length search.now.outer.now }
     requires start { start ≤ length list.now }
     requires near { let s = search.now in
         let next = position + 1 in
         IsNear s.zeros.now s.outer.now s.inner.now s.least position next start list.now }
-    requires before { let s = search.now in
-        AreFound s.side s.zeros.now s.outer.now s.inner.now position 0 pairs.old.items }
-    ensures { let s = search.now in
-        OnOk result (AreFound s.side s.zeros.now s.outer.now s.inner.now (position + 1) 0 pairs.new.items) }
+    requires before { HasFound search.now position 0 pairs.old.items }
+    ensures { OnOk result (HasFound search.now (position + 1) 0 pairs.new.items) }
 {
     for index in start..list.len() {
         search.push_pair(pairs, position, list[index])?;
@@ -226,18 +193,15 @@ fn push_group(
     to: usize,
     level: Level,
 ) -> Result<(), AllocError>
-    requires search { let s = search.now in IsSearch s.zeros.now s.outer.now s.inner.now s.least }
+    requires search { IsReady search.now }
     requires to { (from < to) × (to ≤ length search.now.outer.now) }
     requires all { HasAll search.now.zeros.now level near.old.all.items }
-    requires near { let s = search.now in
-        IsNearAt s.zeros.now s.outer.now s.inner.now s.least from to level near.old.inner.items near.old.rays.items }
-    requires before { let s = search.now in
-        AreFound s.side s.zeros.now s.outer.now s.inner.now from 0 pairs.old.items }
+    requires near { AreNear search.now from to level near.old.inner.items near.old.rays.items }
+    requires before { HasFound search.now from 0 pairs.old.items }
     ensures all { OnOk result (near.new.all.items ≡ near.old.all.items) }
     ensures inner { OnOk result (near.new.inner.items ≡ near.old.inner.items) }
     ensures rays { OnOk result (near.new.rays.items ≡ near.old.rays.items) }
-    ensures found { let s = search.now in
-        OnOk result (AreFound s.side s.zeros.now s.outer.now s.inner.now to 0 pairs.new.items) }
+    ensures found { OnOk result (HasFound search.now to 0 pairs.new.items) }
 {
     if near.inner.len() == level.inner {
         return Ok(());
@@ -254,7 +218,8 @@ fn push_group(
         let last = first + size.min(to - first);
         let next = near.narrow(search, first, last, level)?;
         push_group(search, pairs, near, first, last, next)?;
-        near.truncate(next);
+        near.inner.truncate(next.inner);
+        near.rays.truncate(next.rays);
         first = last;
     }
     Ok(())
@@ -266,12 +231,11 @@ pub(crate) fn push_narrowed(
     near: &mut Near,
     pairs: &mut Vec<(usize, usize)>,
 ) -> Result<(), AllocError>
-    requires search { let s = search.now in IsSearch s.zeros.now s.outer.now s.inner.now s.least }
+    requires search { IsReady search.now }
     requires outer { 0 < length search.now.outer.now }
     requires none { pairs.old.items ≡ [] }
-    ensures { let s = search.now in
-        let rays = length s.outer.now in
-        OnOk result (AreFound s.side s.zeros.now s.outer.now s.inner.now rays 0 pairs.new.items) }
+    ensures { let rays = length search.now.outer.now in
+        OnOk result (HasFound search.now rays 0 pairs.new.items) }
 {
     let rays = search.outer.len();
     let whole = near.begin(search)?;

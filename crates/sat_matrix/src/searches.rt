@@ -5,7 +5,8 @@ ghost use Rattle.flat_rows.specs.Flat.{entries_at};
 ghost use Rattle.sat_matrix.specs.Words.{HasThirdRow};
 ghost use Rattle.sat_matrix.specs.Searches.{IsFirstFrom, SharesPlaces, shared_places};
 ghost use Rattle.sat_matrix.specs.Pairs.{index_at};
-ghost use Rattle.sat_matrix.specs.Near.{AreRisingFrom, HasKept, IsUnionOf, SharesWords};
+ghost use Rattle.sat_matrix.specs.Near.{AreRisingFrom, IsUnionOf};
+ghost use Rattle.sat_matrix.specs.Filters.{FitsRows, HasFiltered};
 
 use crate::words::has_third_word;
 use flat_rows::FlatRows;
@@ -149,16 +150,10 @@ pub(crate) fn push_sharing(
     list: &mut Vec<usize>,
     start: usize,
 ) -> Result<(), AllocError>
-    requires union { length filter.now.union.now ≡ rows.now.width }
-    requires among { let among = filter.now.among.now in
-        (q : ℕ) → q < length among → index_at among q < length rows.now.rows }
-    requires few { let f = filter.now in
-        (q : ℕ) → q < length f.among.now → shared_places (entries_at rows.now.rows (index_at f.among.now q)) f.union.now < 2 ^ 64 }
+    requires filter { FitsRows rows.now filter.now }
     requires start { start ≤ length list.old.items }
     requires rising { AreRisingFrom start (length filter.now.among.now) list.old.items }
-    ensures { let f = filter.now in
-        let shares = SharesWords rows.now.rows f.union.now f.among.now f.least in
-        OnOk result (HasKept shares start (length f.among.now) list.old.items list.new.items) }
+    ensures { OnOk result (HasFiltered rows.now filter.now start list.old.items list.new.items) }
 {
     match rows.width() {
         1 => push_sharing_as_wide(rows, 1, filter, list, start),
@@ -179,16 +174,10 @@ fn push_sharing_as_wide(
     start: usize,
 ) -> Result<(), AllocError>
     requires width { width ≡ rows.now.width }
-    requires union { length filter.now.union.now ≡ rows.now.width }
-    requires among { let among = filter.now.among.now in
-        (q : ℕ) → q < length among → index_at among q < length rows.now.rows }
-    requires few { let f = filter.now in
-        (q : ℕ) → q < length f.among.now → shared_places (entries_at rows.now.rows (index_at f.among.now q)) f.union.now < 2 ^ 64 }
+    requires filter { FitsRows rows.now filter.now }
     requires start { start ≤ length list.old.items }
     requires rising { AreRisingFrom start (length filter.now.among.now) list.old.items }
-    ensures { let f = filter.now in
-        let shares = SharesWords rows.now.rows f.union.now f.among.now f.least in
-        OnOk result (HasKept shares start (length f.among.now) list.old.items list.new.items) }
+    ensures { OnOk result (HasFiltered rows.now filter.now start list.old.items list.new.items) }
 {
     let end = list.len();
     list.reserve(end - start)?;

@@ -18,7 +18,7 @@ count_and-requires-clause-few c =
     let here = read_before c.args.list.now.items c.loop-index.list.items c.loop-index.index c.index-position.result.now inside c.loop-index.invariant.longer c.loop-index.invariant.before c.index-position.ensures in
     subst P (sym (places_along _ _ _ _ c.row_as_wide-row.ensures.value refl))
     (subst Q (sym here)
-    (c.requires.few (index_at c.args.list.now.items c.loop-index.index) (c.requires.rising.within c.loop-index.index c.loop-index.auto.index inside)))
+    (c.requires.filter.few (index_at c.args.list.now.items c.loop-index.index) (c.requires.rising.within c.loop-index.index c.loop-index.auto.index inside)))
 
 pub loop-index-preserved : goal.loop-index-preserved
 loop-index-preserved c =
@@ -38,9 +38,9 @@ loop-index-preserved c =
           subst P (sym (ap (λ v. v.items) w.list-is))
           (kept_pass holds c.args.start bound index old c.loop-index.list.items c.loop-index.auto.index inside c.loop-index.invariant
           (λ shares.
-              let same = ap (λ (row : List ℕ). shared_places row c.args.filter.now.union.now) c.row_as_wide-row.ensures.value in
-              let R : ℕ → Type 0 = λ n. c.args.filter.now.least ≤ shared_places (entries_at c.args.rows.now.rows (index_at c.args.filter.now.among.now n)) c.args.filter.now.union.now in
-              omega (arith, subst R (sym here) shares, same, c.count_and.ensures, w.if-count_and-filter.false)))
+          let same = ap (λ (row : List ℕ). shared_places row c.args.filter.now.union.now) c.row_as_wide-row.ensures.value in
+          let R : ℕ → Type 0 = λ n. c.args.filter.now.least ≤ shared_places (entries_at c.args.rows.now.rows (index_at c.args.filter.now.among.now n)) c.args.filter.now.union.now in
+          omega (arith, subst R (sym here) shares, same, c.count_and.ensures, w.if-count_and-filter.false)))
     ]
 
 pub returns : goal.returns

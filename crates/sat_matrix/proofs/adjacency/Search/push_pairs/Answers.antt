@@ -22,7 +22,5 @@ returns c = found_row c.args.self.now.side c.args.self.now.zeros.now c.args.self
 pub next_sharing-next-requires-in-loop-next-clause-among : goal.next_sharing-next-requires-in-loop-next-clause-among
 next_sharing-next-requires-in-loop-next-clause-among c = c.requires.search.inner_rises.within
 
-
-
 pub next_sharing-next-requires-in-loop-next-clause-row : goal.next_sharing-next-requires-in-loop-next-clause-row
 next_sharing-next-requires-in-loop-next-clause-row c = c.requires.search.outer_rises.within c.args.position c.requires.position

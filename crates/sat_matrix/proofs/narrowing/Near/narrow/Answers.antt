@@ -1,6 +1,6 @@
 use Rattle.std.specs.Prelude.{◌≡◌, ℕ, ◌<◌, List, true, length}
 use Rattle.std.specs.List.{range_with_len}
-use Rattle.std.proofs.Common.{sym, ◌∙◌, subst, arith}
+use Rattle.std.proofs.Common.{sym, ap, ◌∙◌, subst, arith}
 use Rattle.std.proofs.lemmas.Bool.{false≢true}
 use Rattle.sat_matrix.specs.Pairs.{index_at}
 use Rattle.sat_matrix.specs.Near.{IsNear}
@@ -10,22 +10,25 @@ use Rattle.sat_matrix.proofs.NearLists.{near_kept, kept_along, all_within, range
 use Rattle.sat_matrix.proofs.narrowing.Near.narrow.Goals as goal
 use Rattle.sat_matrix.proofs.narrowing.Near.narrow.Goals.{then-level, else-level}
 
-pub push_sharing-requires-clause-few : goal.push_sharing-requires-clause-few
-push_sharing-requires-clause-few c q h =
+pub push_sharing-requires-clause-filter : goal.push_sharing-requires-clause-filter
+push_sharing-requires-clause-filter c =
     let P : List ℕ → Type 0 = λ among. (q : ℕ) → q < length among → index_at among q < length c.args.search.now.zeros.now.rows in
-    shared_fits c.args.search.now.zeros.now c.words-rows.result.now c.words-rows.ensures _ _ (subst P (sym c.new-filter.ensures.among) c.requires.search.inner_rises.within q h)
+    let named = subst P (sym c.new-filter.ensures.among) c.requires.search.inner_rises.within in
+    record {
+      union = ap (λ (row : List ℕ). length row) (c.new-filter.ensures.union ∙ c.deref.ensures.value) ∙ c.in_ok-unite.ensures.wide;
+      among = λ q h. in_words c.args.search.now.zeros.now c.words-rows.result.now c.words-rows.ensures _ (named q h);
+      few = λ q h. shared_fits c.args.search.now.zeros.now c.words-rows.result.now c.words-rows.ensures _ _ (named q h);
+    }
 
-pub push_sharing-requires-then-next-clause-among : goal.push_sharing-requires-then-next-clause-among
-push_sharing-requires-then-next-clause-among c q h =
+pub push_sharing-requires-then-next-clause-filter : goal.push_sharing-requires-then-next-clause-filter
+push_sharing-requires-then-next-clause-filter c =
     let whole : c.args.level.whole ≡ true = elim c.if-level.branch [ then-level w ↦ w.if-level.true | else-level w ↦ sym w.next-is ∙ c.if-next.true ] in
-    in_words c.args.search.now.zeros.now c.words-rows.result.now c.words-rows.ensures _
-    (all_within c.args.search.now.zeros.now c.new-filter-then-next.result.among.now (c.new-filter-then-next.ensures.among ∙ c.deref-then-next-2.ensures.value ∙ c.requires.all whole) q h)
-
-pub push_sharing-requires-then-next-clause-few : goal.push_sharing-requires-then-next-clause-few
-push_sharing-requires-then-next-clause-few c q h =
-    let whole : c.args.level.whole ≡ true = elim c.if-level.branch [ then-level w ↦ w.if-level.true | else-level w ↦ sym w.next-is ∙ c.if-next.true ] in
-    shared_fits c.args.search.now.zeros.now c.words-rows.result.now c.words-rows.ensures _ _
-    (all_within c.args.search.now.zeros.now c.new-filter-then-next.result.among.now (c.new-filter-then-next.ensures.among ∙ c.deref-then-next-2.ensures.value ∙ c.requires.all whole) q h)
+    let named = all_within c.args.search.now.zeros.now c.new-filter-then-next.result.among.now (c.new-filter-then-next.ensures.among ∙ c.deref-then-next-2.ensures.value ∙ c.requires.all whole) in
+    record {
+      union = ap (λ (row : List ℕ). length row) (c.new-filter-then-next.ensures.union ∙ c.deref-then-next.ensures.value) ∙ c.in_ok-unite.ensures.wide;
+      among = λ q h. in_words c.args.search.now.zeros.now c.words-rows.result.now c.words-rows.ensures _ (named q h);
+      few = λ q h. shared_fits c.args.search.now.zeros.now c.words-rows.result.now c.words-rows.ensures _ _ (named q h);
+    }
 
 pub returns-in_ok-push_sharing-2-clause-near : goal.returns-in_ok-push_sharing-2-clause-near
 returns-in_ok-push_sharing-2-clause-near c =
