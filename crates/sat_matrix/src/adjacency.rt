@@ -27,7 +27,7 @@ pub struct PairLists {
     pub pairs: Vec<(usize, usize)>,
 }
 
-// Written by hand, so that a function that drops the lists of a step calls this one, and doesn't free each part itself.
+// Written by hand, so that a function that drops the lists of a step calls this one.
 impl Drop for PairLists {
     fn drop(self) {
         let Self {
@@ -150,8 +150,8 @@ fn adjacent(zeros: &SatMatrix, first: usize, second: usize) -> bool
     !zeros.third_between(first, second)
 }
 
-/// A search of adjacent pairs: one side and the rays on it, in the outer loop, and those on the other side, in the
-/// inner; the zeros of all rays, and the least number that adjacent rays share.
+/// A search of adjacent pairs: a side, whose rays the outer loop goes through, and those of the other in
+/// the inner; the zeros of all rays, and the least number that adjacent rays share.
 #[derive(Drop)]
 pub(crate) struct Search<'a> {
     pub(crate) side: Side,
@@ -175,8 +175,7 @@ impl Search<'_> {
         self.outer.len() > 1 && self.words_of(pairs) >= MANY_PAIR_WORDS
     }
 
-    /// Whether it pays to look for third rays among near ones alone: where there are many rays, crowded
-    /// ones on both sides.
+    /// Whether to look for third rays among near ones: there are many, with crowded ones on both sides.
     pub(crate) fn needs_thirds(&self) -> bool
         requires { IsReady self.now }
     {
@@ -185,7 +184,7 @@ impl Search<'_> {
             && has_crowded(self.zeros, self.inner, 0, self.inner.len(), self.least)
     }
 
-    /// Appends the pair at a position of the outer side and one of the inner side if its rays are adjacent.
+    /// Appends the pair at a position of the outer side and one of the inner if it is adjacent.
     pub(crate) fn push_pair(
         &self,
         pairs: &mut Vec<(usize, usize)>,
@@ -202,8 +201,7 @@ impl Search<'_> {
         self.push_if(adjacent, pairs, position, next)
     }
 
-    /// Appends the pair at a position of the outer side and one of the inner side if its rays are adjacent, as the
-    /// caller tells.
+    /// The same, where the caller knows whether it is.
     pub(crate) fn push_if(
         &self,
         adjacent: bool,
@@ -225,8 +223,8 @@ impl Search<'_> {
         Ok(())
     }
 
-    /// Appends the pairs of the ray at a position of the outer side with each adjacent ray of the inner side:
-    /// of the rays that share the least number of zeros with it, since there is a third ray between others.
+    /// Appends the pairs of the ray at a position of the outer side with each adjacent ray of the inner:
+    /// of those that share the least number of zeros with it, since there is a third ray between others.
     fn push_pairs(&self, pairs: &mut Vec<(usize, usize)>, position: usize) -> Result<(), AllocError>
         requires search { IsReady self.now }
         requires position { position < length self.now.outer.now }

@@ -32,7 +32,8 @@ impl RayCount {
     }
 }
 
-/// Whether a ray is 0 on more rows than rays of a simple cone: only for two of these a third ray is looked for.
+/// Whether a ray is 0 on more rows than rays of a simple cone: only between two of these a third ray is
+/// looked for.
 pub(crate) fn is_crowded(zeros: &SatMatrix, ray: usize, least: usize) -> bool
     requires { ray < length zeros.now.rows }
 {

@@ -1,5 +1,5 @@
-//! The search of adjacent pairs among many rays, by lists of near rays that narrow from a group of outer rays to
-//! each part of it.
+//! The search of adjacent pairs among many rays, by lists of near rays that narrow from a group of
+//! outer rays to each part of it.
 ghost use Rattle.std.specs.Prelude.{◌≡◌, ℕ, ◌+◌, ◌<◌, ◌≤◌, [], IsTrue, length, take, IfOk, OnOk};
 ghost use Rattle.std.specs.List.{range_with_len};
 ghost use Rattle.sat_matrix.specs.Near.{IsNear};
@@ -56,7 +56,8 @@ impl Near {
         requires { IsReady search.now }
         ensures all { IfOk result (λ level. HasAll search.now.zeros.now level self.new.all.items) }
         ensures near { let rays = length search.now.outer.now in
-            IfOk result (λ level. AreNear search.now 0 rays level self.new.inner.items self.new.rays.items) }
+            IfOk result (λ level.
+            AreNear search.now 0 rays level self.new.inner.items self.new.rays.items) }
     {
         let whole = search.needs_thirds();
         let rays = if whole { search.zeros.len() } else { 0 };
@@ -70,7 +71,7 @@ impl Near {
         })
     }
 
-    // Lists, behind what is listed, the rays near to a group, from those near to one of which it is a part.
+    // Lists the rays near to a group behind those near to one that it is a part of.
     fn narrow(
         &mut self,
         search: &Search,
@@ -83,10 +84,13 @@ impl Near {
         requires all { HasAll search.now.zeros.now level self.old.all.items }
         requires near { AreNear search.now from to level self.old.inner.items self.old.rays.items }
         ensures all { OnOk result (self.new.all.items ≡ self.old.all.items) }
-        ensures has_all { IfOk result (λ next. HasAll search.now.zeros.now next self.new.all.items) }
-        ensures inner { IfOk result (λ next. take next.inner self.new.inner.items ≡ self.old.inner.items) }
-        ensures rays { IfOk result (λ next. take next.rays self.new.rays.items ≡ self.old.rays.items) }
-        ensures near { IfOk result (λ next. AreNear search.now from to next self.new.inner.items self.new.rays.items) }
+        ensures listed { IfOk result (λ next. HasAll search.now.zeros.now next self.new.all.items) }
+        ensures inner { IfOk result (λ next.
+            take next.inner self.new.inner.items ≡ self.old.inner.items) }
+        ensures rays { IfOk result (λ next.
+            take next.rays self.new.rays.items ≡ self.old.rays.items) }
+        ensures near { IfOk result (λ next.
+            AreNear search.now from to next self.new.inner.items self.new.rays.items) }
     {
         let (zeros, least) = (search.zeros, search.least);
         let next = Level {
@@ -105,8 +109,8 @@ impl Near {
         Ok(next)
     }
 
-    // Appends the pairs of the ray at a position of the outer side with each adjacent ray near to it, where all near
-    // rays are listed.
+    // Appends the pairs of the outer ray at a position with each adjacent ray near to it, where all
+    // near rays are listed.
     fn push_ranked(
         &mut self,
         search: &Search,
@@ -160,7 +164,7 @@ fn part_size(rays: usize) -> usize
     size
 }
 
-/// Appends the pairs of the ray at a position of the outer side with each adjacent ray of those that the list has
+/// Appends the pairs of the outer ray at a position with each adjacent ray of those that the list has
 /// from `start` on.
 fn push_near(
     search: &Search,
@@ -184,7 +188,7 @@ fn push_near(
     Ok(())
 }
 
-/// Appends the pairs of the outer rays from one position up to another with each adjacent ray of those near to them.
+/// Appends the pairs of a group of outer rays with each adjacent ray of those near to the group.
 fn push_group(
     search: &Search,
     pairs: &mut Vec<(usize, usize)>,

@@ -98,8 +98,8 @@ fn has_third_as_wide(rows: &FlatRows<u64>, width: usize, i: usize, j: usize) -> 
     false
 }
 
-/// Makes the list the words of a row that is true wherever a row is that `outer` names from one position up to
-/// another.
+/// Makes the list a row of words that is true wherever a row is that `outer` names from one position up
+/// to another.
 pub(crate) fn unite(
     rows: &FlatRows<u64>,
     outer: &[usize],
@@ -120,7 +120,7 @@ pub(crate) fn unite(
     Ok(())
 }
 
-/// What positions of a list of rows are kept: those of rows that share at least so many places with the row of words.
+/// Which positions of a list of rows are kept: those of rows that share enough places with a row.
 #[derive(Drop)]
 pub(crate) struct Filter<'a> {
     pub(crate) union: &'a [u64],
