@@ -27,6 +27,8 @@ mod rows;
 #[cfg(test)]
 mod samples;
 #[cfg(test)]
+mod script_lines;
+#[cfg(test)]
 mod stored_rows;
 #[cfg(test)]
 mod streams;
