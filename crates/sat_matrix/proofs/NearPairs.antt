@@ -1,11 +1,11 @@
 -- The pairs of a ray with those of a list of near rays.
 use Rattle.std.specs.Prelude.{◌≡◌, ℕ, zero, suc, ◌+◌, ◌-◌, ◌<◌, ◌≤◌, List, length}
-use Rattle.std.proofs.Common.{refl, sym, ap, ◌∙◌, subst, arith, inl, inr}
+use Rattle.std.proofs.Common.{refl, ap, subst, arith, inl, inr}
 use Rattle.std.proofs.lemmas.Bool.{cases_lt, cases_eq}
 use Rattle.sat_matrix.specs.Tables.{Table}
 use Rattle.sat_matrix.specs.Searches.{Shares}
 use Rattle.sat_matrix.specs.Pairs.{index_at, AreFound}
-use Rattle.sat_matrix.specs.Near.{IsSearch, IsNear, IsFrom}
+use Rattle.sat_matrix.specs.Near.{IsSearch, IsNear}
 use Rattle.sat_matrix.specs.declared.adjacency.Side.{Side}
 use Rattle.sat_matrix.proofs.Apart.{apart, found_gap}
 use Rattle.sat_matrix.proofs.FoundPairs.{found_row}

@@ -1,6 +1,6 @@
 -- Third rays, and how many zeros they share.
 use Rattle.std.specs.Prelude.{◌≡◌, ℕ, ◌<◌, ◌≤◌, ◌↔◌, List, length}
-use Rattle.std.proofs.Common.{zero, suc, ◌+◌, Bool, true, false, [], ◌∷◌, IsTrue, get_or, refl, sym, ap, ◌∙◌, arith}
+use Rattle.std.proofs.Common.{zero, suc, Bool, true, false, [], ◌∷◌, refl, sym, ◌∙◌, arith}
 use Rattle.std.proofs.lemmas.Bool.{false≢true}
 use Rattle.sat_matrix.specs.Tables.{Table, bits_of, conjunction, Covers, IsThird, HasThird, IsRectangular}
 use Rattle.sat_matrix.specs.Counts.{ones}

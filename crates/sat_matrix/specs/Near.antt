@@ -1,4 +1,4 @@
-use Rattle.std.specs.Prelude.{◌≡◌, ℕ, ◌+◌, ◌<◌, ◌≤◌, List, length, take, IsTrue}
+use Rattle.std.specs.Prelude.{◌≡◌, ℕ, ◌<◌, ◌≤◌, List, length, take, IsTrue}
 use Rattle.sat_bits.specs.Places.{place}
 use Rattle.flat_rows.specs.Flat.{entries_at}
 use Rattle.sat_matrix.specs.Tables.{Table}

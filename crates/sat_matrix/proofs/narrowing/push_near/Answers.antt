@@ -1,4 +1,3 @@
-use Rattle.std.proofs.Common.{arith}
 use Rattle.sat_matrix.proofs.NearPairs.{upto_next, upto_all}
 use Rattle.sat_matrix.proofs.narrowing.push_near.Goals as goal
 

@@ -1,4 +1,4 @@
-use Rattle.std.proofs.Common.{◌≡◌, length}
+use Rattle.std.proofs.Common.{length}
 use Rattle.sat_matrix.specs.Near.{SharesWords}
 use Rattle.sat_matrix.proofs.KeptPositions.{IsKeptUpto}
 use Rattle.sat_matrix.proofs.searches.push_sharing_as_wide.Given as goal

@@ -1,4 +1,4 @@
-use Rattle.std.specs.Prelude.{ℕ, List, length, ◌≡◌}
+use Rattle.std.specs.Prelude.{ℕ, List, length}
 use Rattle.std.specs.List.{range_with_len}
 use Rattle.std.proofs.Common.{sym, ap, ◌∙◌, subst, arith}
 use Rattle.std.proofs.lemmas.Bool.{false≢true}
