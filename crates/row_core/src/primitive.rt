@@ -1,5 +1,5 @@
 //! Greatest common divisors, and rows divided by that of their entries.
-ghost use Rattle.std.specs.Prelude.{◌≡◌, ℕ, ◌^◌, ◌<◌, length, pos, unsigned_abs, ◌<ℤ◌, ◌*ℤ◌, IsTrue};
+ghost use Rattle.std.specs.Prelude.{◌≡◌, ℕ, ◌^◌, ◌<◌, length, pos, unsigned_abs, ◌<ℤ◌, ◌*ℤ◌};
 ghost use Rattle.std.specs.Int.{IsGcd};
 ghost use Prim.Native.Nat.{◌∣◌};
 ghost use Rattle.row_core.specs.Vectors.{scale};
@@ -43,9 +43,6 @@ fn content(row: &[i128]) -> u128
     ensures greatest { (d : ℕ) → DividesAll d row.now → d ∣ result }
     ensures below { result < 2 ^ 127 }
 {
-    if has_unit(row) {
-        return 1;
-    }
     let mut divisor = 0;
     for j in 0..row.len() {
         divisor = divisor_with(divisor, row[j].unsigned_abs());
@@ -54,26 +51,6 @@ fn content(row: &[i128]) -> u128
         }
     }
     divisor
-}
-
-/// Whether some entry is 1 or -1, so that nothing but 1 divides each entry.
-fn has_unit(row: &[i128]) -> bool
-    ensures { IsTrue result → (d : ℕ) → DividesAll d row.now → d ∣ 1 }
-{
-    for j in 0..row.len() {
-        if is_unit(row[j]) {
-            return true;
-        }
-    }
-    false
-}
-
-/// Whether the number is 1 or -1.
-#[inline]
-fn is_unit(x: i128) -> bool
-    ensures { IsTrue result → unsigned_abs x ≡ 1 }
-{
-    x == 1 || x == -1
 }
 
 /// The greatest common divisor of that of the entries before and one entry more.

@@ -16,7 +16,7 @@ use std::alloc::{AllocError, Global};
 const MANY_PAIR_WORDS: usize = 4096;
 
 /// Where the table has fewer words, third rays are looked for among all rays.
-const MANY_RAY_WORDS: usize = 1024;
+const MANY_RAY_WORDS: usize = 2048;
 
 /// Lists that one search leaves to the next, which needs no new memory for as many elements.
 pub struct PairLists {

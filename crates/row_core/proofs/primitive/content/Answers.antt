@@ -11,9 +11,6 @@ use Rattle.row_core.specs.Content.{DividesAll}
 use Rattle.row_core.proofs.ContentLemmas.{Divides, DividesAll-more, DividesAll-one, greatest_more, gcd_below}
 use Rattle.row_core.proofs.primitive.content.Goals as goal
 
-pub returns-then-has_unit-clause-divides : goal.returns-then-has_unit-clause-divides
-returns-then-has_unit-clause-divides c = DividesAll-one c.args.row.now
-
 pub returns-then-divisor-eq1-clause-divides : goal.returns-then-divisor-eq1-clause-divides
 returns-then-divisor-eq1-clause-divides c = DividesAll-one c.args.row.now
 
