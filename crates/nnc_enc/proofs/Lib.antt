@@ -26,6 +26,7 @@ pub mod Searches
 pub mod RedundantRows
 pub mod RedundantPoints
 pub mod PassLemmas
+pub mod MarkRows
 pub mod EncodeLemmas
 pub mod MarkLemmas
 pub mod StrongLemmas

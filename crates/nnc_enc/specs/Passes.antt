@@ -1,6 +1,13 @@
-use Rattle.std.specs.Prelude.{◌≡◌, ◌≢◌, ◌⊎◌, ℕ, ◌<◌, Bool, false, List, length, slice_set, IsTrue}
+use Rattle.std.specs.Prelude.{◌≡◌, ◌≢◌, ◌⊎◌, ℕ, ◌+◌, ◌<◌, Bool, false, List, length, slice_set, IsTrue}
 use Rattle.sat_matrix.specs.Tables.{bits_of, Covers}
 use Rattle.nnc_enc.specs.Marks.{flag}
+
+-- the table has the rows and then one that is true at the marked columns alone
+pub record HasMarksRow (marks : List Bool) (rows new : List (List Bool)) : Type 0 where
+  pub as_many : length new ≡ length rows + 1
+  pub same : (i : ℕ) → i < length rows → bits_of new i ≡ bits_of rows i
+  pub wide : length (bits_of new (length rows)) ≡ length marks
+  pub marked : (c : ℕ) → flag (bits_of new (length rows)) c ≡ flag marks c
 
 -- the list is true at none of the marked columns below k
 abbrev pub IsClear : List Bool → List Bool → ℕ → Type 0

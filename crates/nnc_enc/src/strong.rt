@@ -115,7 +115,7 @@ fn strict_pass(
     let level = marks(alloc, dim, gens, Mark::Level)?;
     let places = marks(alloc, dim, gens, Mark::Place)?;
     let mut keep = first_rows(alloc, dim, rays, &strict, &places, sat)?;
-    drop_covered(&level, &strict, sat, &mut keep);
+    drop_covered(&level, &strict, sat, &mut keep)?;
     Ok(keep)
 }
 
@@ -137,7 +137,7 @@ fn point_pass(
     let level = marks(alloc, dim, cons, Mark::Level)?;
     let strict = marks(alloc, dim, cons, Mark::Strict)?;
     let mut keep = first_vectors(alloc, &places, &strict, sat)?;
-    drop_covered(&level, &points, sat, &mut keep);
+    drop_covered(&level, &points, sat, &mut keep)?;
     Ok(keep)
 }
 

@@ -17,10 +17,10 @@ returns c =
     let passed : IsPassed c.in_ok-level.level.items c.in_ok-strict.strict.items c.args.sat.now.rows c.in_ok-keep.keep.items c.drop_covered.new.keep (length c.args.sat.now.rows) =
     subst (λ (l : List Bool). IsPassed l c.in_ok-strict.strict.items c.args.sat.now.rows c.in_ok-keep.keep.items c.drop_covered.new.keep (length c.args.sat.now.rows)) c.deref-3.ensures.value
     (subst (λ (s : List Bool). IsPassed c.deref-3.result.now s c.args.sat.now.rows c.in_ok-keep.keep.items c.drop_covered.new.keep (length c.args.sat.now.rows)) c.deref-4.ensures.value
-    (subst (λ (k : List Bool). IsPassed c.deref-3.result.now c.deref-4.result.now c.args.sat.now.rows k c.drop_covered.new.keep (length c.args.sat.now.rows)) c.deref_mut.ensures.value c.drop_covered.ensures.passed)) in
-    let same : length c.drop_covered.new.keep ≡ length c.in_ok-keep.keep.items = c.drop_covered.ensures.length ∙ ap length c.deref_mut.ensures.value in
+    (subst (λ (k : List Bool). IsPassed c.deref-3.result.now c.deref-4.result.now c.args.sat.now.rows k c.drop_covered.new.keep (length c.args.sat.now.rows)) c.deref_mut.ensures.value c.in_ok-drop_covered.ensures.passed)) in
+    let same : length c.drop_covered.new.keep ≡ length c.in_ok-keep.keep.items = c.in_ok-drop_covered.ensures.length ∙ ap length c.deref_mut.ensures.value in
     let is : IsStrictPass c.args.dim c.args.gens.now.rows (vectors c.args.rays.now.rows) c.drop_covered.new.keep = strict_pass_is c.args.dim c.args.gens.now.rows c.args.rays.now.rows c.args.sat.now c.requires.table c.in_ok-level.level.items c.in_ok-level.ensures c.in_ok-places.places.items c.in_ok-strict.strict.items c.in_ok-keep.keep.items c.drop_covered.new.keep c.in_ok-places.ensures c.in_ok-strict.ensures firsts same passed in
-    subst (IsStrictPass c.args.dim c.args.gens.now.rows (vectors c.args.rays.now.rows)) (sym (take_at c.drop_covered.new.keep (drop (length c.drop_covered.new.keep) c.in_ok-keep.keep.items) c.in_ok-keep.keep.len (omega (arith, same, c.deref_mut.ensures.len, c.drop_covered.ensures.length)))) is
+    subst (IsStrictPass c.args.dim c.args.gens.now.rows (vectors c.args.rays.now.rows)) (sym (take_at c.drop_covered.new.keep (drop (length c.drop_covered.new.keep) c.in_ok-keep.keep.items) c.in_ok-keep.keep.len (omega (arith, same, c.deref_mut.ensures.len, c.in_ok-drop_covered.ensures.length)))) is
 
 pub returns-in_err-keep : goal.returns-in_err-keep
 returns-in_err-keep c = let p = err_from_is_err_and c.from_residual-in_err-keep.result c.from_residual-in_err-keep.ensures.1 in rw p.1 tt
@@ -47,3 +47,6 @@ first_rows-requires-clause-marks c =
 
 pub drop_covered-requires-clause-wide : goal.drop_covered-requires-clause-wide
 drop_covered-requires-clause-wide c = ap (λ (marks : List Bool). length marks) c.deref-3.ensures.value ∙ c.in_ok-level.ensures.as_many ∙ sym c.requires.table.columns
+
+pub returns-in_err-drop_covered : goal.returns-in_err-drop_covered
+returns-in_err-drop_covered c = let p = err_from_is_err_and c.from_residual-in_err-drop_covered.result c.from_residual-in_err-drop_covered.ensures.1 in rw p.1 tt
