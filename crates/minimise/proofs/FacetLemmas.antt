@@ -1,23 +1,25 @@
 -- The rows with the greatest sets of zeros.
 use Rattle.std.proofs.Common.{◌≡◌, ◌≢◌, ◌⊎◌, inl, inr, ℕ, zero, suc, ◌+◌, ◌-◌, ◌<◌, ◌≤◌, Bool, true, false, not, List, [], ◌∷◌, ◌++◌, length, map, slice_index_or, ℤ, pos, refl, sym, ap, ◌∙◌, subst, arith}
-use Rattle.std.specs.Prelude.{All, remove, IsTrue, ◌↔◌}
-use Rattle.std.specs.List.{range_with_len}
+use Rattle.std.specs.Prelude.{All, Contains, IsPermutation, IsTrue, ◌↔◌, reverse}
+use Rattle.std.specs.List.{range_with_len, swap}
+use Rattle.std.specs.List.Sorted.{IsNonDecreasingBy}
 use Rattle.std.proofs.lemmas.Bool.{cases_lt, cases_order, false≢true}
-use Rattle.std.proofs.lemmas.List.{length-append, length-map, get_or-map, get_or_append_left, get_or_push}
-use Rattle.std.proofs.lemmas.List.FromFn.{length-range_with_len, get_or-range_with_len, get_or-map-range_with_len}
-use Rattle.std.proofs.lemmas.List.Elements.{All-from_get_or}
-use Rattle.std.proofs.lemmas.List.Edits.{length-remove, get_or-remove_below, get_or-remove_above}
+use Rattle.std.proofs.lemmas.List.{length-append, length-map, length-reverse, get_or-map, get_or_append_left, get_or_push, get_or-reverse, get_or_default}
+use Rattle.std.proofs.lemmas.List.FromFn.{length-range_with_len, get_or-range_with_len}
+use Rattle.std.proofs.lemmas.List.Elements.{All-from_get_or, All-map, All-contains, Contains-get_or}
+use Rattle.std.proofs.lemmas.List.Edits.{Swapped, swapped_from_swap, length-swap}
+use Rattle.std.proofs.lemmas.List.Sorted.{IsPermutation-keeps, All-permutation, Contains-permutation}
 use Rattle.row_core.specs.Vectors.{dot}
 use Rattle.flat_rows.specs.Flat.{marked}
-use Rattle.row_core.specs.Lists.{Row, row_at, vector_at}
-use Rattle.sat_matrix.specs.Tables.{Table, bits_of, transposed, Covers, HasThird}
-use Rattle.sat_matrix.specs.ZeroTables.{IsZeroTable}
+use Rattle.row_core.specs.Lists.{Row, row_at}
+use Rattle.sat_matrix.specs.Tables.{bits_of}
+use Rattle.sat_matrix.specs.Counts.{ones}
 use Rattle.sat_matrix.proofs.TurnedTables.{TellsRows}
-use Rattle.cone_laws.specs.Canon.{vector_at, IsSystem}
+use Rattle.cone_laws.specs.Canon.{IsSystem}
 use Rattle.cone_laws.specs.Members.{ConeOf}
 use Rattle.minimise.specs.FlatRows.{IsZeroOnAll, TellsFlat}
-use Rattle.minimise.specs.Facets.{KeepsZeros, AreFacets, IsFull, TellsFull, IsWithin, IsOneOf, AreGreatest, IsLedBy, AreMarkedAt, AreLed}
-use Rattle.minimise.proofs.MarkedRows.{marked_sizes}
+use Rattle.minimise.specs.Facets.{KeepsZeros, AreFacets, IsFull, TellsFull, IsWithin, IsLedBy, IsUneven, AreApart, AreGreatest, counted_row, IsCounted, AreFalling}
+use Rattle.minimise.specs.declared.facets.CountedRow.{CountedRow}
 use Rattle.minimise.proofs.FlatRows.{flat_is_zero_on_rays}
 
 zero_more : (n : ℕ) → 0 + n ≡ n
@@ -93,251 +95,187 @@ module _ (rows : List Row) (rays : List (List ℤ)) (table : List (List Bool)) (
         ((λ b. flat.1 (zero_from_full i h (full.0 b))), (λ z. full.1 (full_from_zero i h (flat.0 z))));
   }
 
-  -- ---- the kept rows
-  module _ (marks : List Bool) (f : TellsFull table marks) (indices : List ℕ) (kept : List (List Bool)) (g : AreGreatest (marked (map not marks) (range_with_len 0 (length marks))) (marked (map not marks) table) indices kept) where
-    size : length marks ≡ length rows
-    size = f.as_many ∙ t.as_many
+  -- ---- the facets
+  pub are_facets : (places : List ℕ) → AreGreatest table places → AreFacets rows rays places
+  are_facets places g = record {
+    within = All-from_get_or (λ i. i < length rows) places 0 within;
+    uneven = All-from_get_or (λ i. ¬ (IsZeroOnAll rays (row_at rows i))) places 0 (λ k h z. (g.uneven k 0 h).1 (full_from_zero (slice_index_or places k 0) (within k h) z));
+    apart = λ k m hk hm ne z. g.apart k m hk hm ne (within_from_keeps (slice_index_or places k 0) (slice_index_or places m 0) (within k hk) (within m hm) z);
+    each = λ i h n.
+        let q = g.each i (omega (arith, h, t.as_many), (λ f. n (zero_from_full i h f))) in
+        (q.0, q.1, keeps_from_within i (slice_index_or places q.0 0) h (within q.0 q.1) q.2);
+  }
+    where
+      within : (k : ℕ) → k < length places → slice_index_or places k 0 < length rows
+      within k h = omega (arith, (g.uneven k 0 h).0, t.as_many)
 
-    -- an index of the kept ones is that of a row that isn't full
-    pub record IsKept (k : ℕ) : Type 0 where
-      pub below : slice_index_or indices k 0 < length rows
-      pub mark : slice_index_or (map not marks) (slice_index_or indices k 0) false ≡ true
-      pub bits : bits_of kept k ≡ bits_of table (slice_index_or indices k 0)
+-- ---- rows that aren't true everywhere
+module _ (rows : List (List Bool)) (marks : List Bool) (f : TellsFull rows marks) where
+  is_unmarked : (i : ℕ) → i < length rows → ¬ (IsFull (bits_of rows i)) → slice_index_or (map not marks) i false ≡ true
+  is_unmarked i h n = get_or-map not marks i false false (omega (arith, h, f.as_many)) ∙ by_mark (slice_index_or marks i false) (λ b. n ((f.tells i h).0 b))
+    where
+      by_mark : (b : Bool) → ¬ (IsTrue b) → not b ≡ true
+      by_mark true unmarked = absurd (unmarked refl)
+      by_mark false unmarked = refl
 
-    range_size : length (range_with_len 0 (length marks)) ≡ length marks
-    range_size = length-range_with_len 0 (length marks)
+  uneven_from_unmarked : (i : ℕ) → i < length marks → slice_index_or (map not marks) i false ≡ true → IsUneven rows i
+  uneven_from_unmarked i h e = (below, (λ full. turned (slice_index_or marks i false) (sym (get_or-map not marks i false false h) ∙ e) ((f.tells i below).1 full)))
+    where
+      below : i < length rows
+      below = omega (arith, h, f.as_many)
 
-    pub is_kept : (k : ℕ) → k < length indices → IsKept k
-    is_kept k h =
-        let o = g.each_old k h in
-        let c : ComesFrom (map not marks) (range_with_len 0 (length marks)) table 0 [] o.place = comes_from (map not marks) (range_with_len 0 (length marks)) table 0 [] o.place (t.as_many ∙ sym size ∙ sym range_size) o.below in
-        let at : c.index < length marks = omega (arith, c.below, range_size) in
-        let same : slice_index_or indices k 0 ≡ c.index = sym o.index_is ∙ c.first ∙ get_or-range_with_len 0 (length marks) c.index 0 at ∙ zero_more c.index in
-        record {
-          below = omega (arith, same, at, size);
-          mark = subst (λ (n : ℕ). slice_index_or (map not marks) n false ≡ true) (sym same) c.mark;
-          bits = sym o.bits_are ∙ c.second ∙ ap (λ (n : ℕ). bits_of table n) (sym same);
-        }
+      turned : (b : Bool) → not b ≡ true → IsTrue b → ⊥
+      turned true n t = false≢true n
+      turned false n t = false≢true t
 
-    turned_mark : (b : Bool) → not b ≡ true → IsTrue b → ⊥
-    turned_mark true e h = false≢true e
-    turned_mark false e h = false≢true h
+  pub unmarked_uneven : All (IsUneven rows) (marked (map not marks) (range_with_len 0 (length marks)))
+  unmarked_uneven =
+      All-from_get_or (IsUneven rows) (marked (map not marks) (range_with_len 0 (length marks))) 0
+      (λ k h.
+      let range : List ℕ = range_with_len 0 (length marks) in
+      let c : ComesFrom (map not marks) range range 0 0 k = comes_from (map not marks) range range 0 0 k refl h in
+      let at : c.index < length marks = omega (arith, c.below, length-range_with_len 0 (length marks)) in
+      subst (IsUneven rows) (sym (c.first ∙ get_or-range_with_len 0 (length marks) c.index 0 at ∙ zero_more c.index)) (uneven_from_unmarked c.index at c.mark))
 
-    not_full : (k : ℕ) → (h : k < length indices) → ¬ (IsZeroOnAll rays (row_at rows (slice_index_or indices k 0)))
-    not_full k h z =
-        let c = is_kept k h in
-        let i : ℕ = slice_index_or indices k 0 in
-        let b : i < length marks = omega (arith, c.below, size) in
-        turned_mark (slice_index_or marks i false) (sym (get_or-map not marks i false false b) ∙ c.mark) ((f.tells i (omega (arith, c.below, t.as_many))).1 (full_from_zero i c.below z))
+  pub uneven_among : (i : ℕ) → IsUneven rows i → Contains (marked (map not marks) (range_with_len 0 (length marks))) i
+  uneven_among i u =
+      let range : List ℕ = range_with_len 0 (length marks) in
+      let at : i < length marks = omega (arith, u.0, f.as_many) in
+      let g : GoesTo (map not marks) range i i = goes_to (map not marks) range i i (omega (arith, at, length-range_with_len 0 (length marks))) (is_unmarked i u.0 u.1) in
+      (g.place, g.below, g.same ∙ get_or-range_with_len 0 (length marks) i i at ∙ zero_more i)
 
-    mark_of : (i : ℕ) → i < length rows → ¬ (IsZeroOnAll rays (row_at rows i)) → slice_index_or (map not marks) i false ≡ true
-    mark_of i h n = get_or-map not marks i false false (omega (arith, h, size)) ∙ by_mark (slice_index_or marks i false) (λ b. n (zero_from_full i h ((f.tells i (omega (arith, h, t.as_many))).0 b)))
-      where
-        by_mark : (b : Bool) → ¬ (IsTrue b) → not b ≡ true
-        by_mark true unmarked = absurd (unmarked refl)
-        by_mark false unmarked = refl
-
-    pub are_facets : AreFacets rows rays indices
-    are_facets = record {
-      within = All-from_get_or (λ i. i < length rows) indices 0 (λ k h. (is_kept k h).below);
-      uneven = All-from_get_or (λ i. ¬ (IsZeroOnAll rays (row_at rows i))) indices 0 not_full;
-      apart = λ k m hk hm ne z.
-          let c = is_kept k hk in
-          let d = is_kept m hm in
-          g.apart k m (omega (arith, hk, g.as_many)) (omega (arith, hm, g.as_many)) ne
-          (subst (λ (bits : List Bool). IsWithin bits (bits_of kept m)) (sym c.bits) (subst (λ (bits : List Bool). IsWithin (bits_of table (slice_index_or indices k 0)) bits) (sym d.bits)
-          (within_from_keeps (slice_index_or indices k 0) (slice_index_or indices m 0) c.below d.below z)));
-      each = λ i h n.
-          let p : GoesTo (map not marks) table [] i = goes_to (map not marks) table [] i (omega (arith, h, t.as_many)) (mark_of i h n) in
-          let q = g.each p.place p.below in
-          let k : q.0 < length indices = omega (arith, q.1, g.as_many) in
-          let c = is_kept q.0 k in (
-            q.0,
-            k,
-            keeps_from_within i (slice_index_or indices q.0 0) h c.below
-                (subst (λ (bits : List Bool). IsWithin bits (bits_of table (slice_index_or indices q.0 0))) p.same (subst (λ (bits : List Bool). IsWithin (bits_of (marked (map not marks) table) p.place) bits) c.bits q.2)),
-          );
-    }
-
--- ---- one row after another is tested
--- of the rows so far none before the bound is true only where another one is
-pub record AreGreatestBefore (old_indices : List ℕ) (old : List (List Bool)) (indices : List ℕ) (rows : List (List Bool)) (bound : ℕ) : Type 0 where
-  pub as_many : length indices ≡ length rows
-  pub fewer : length indices ≤ length old_indices
-  pub within : bound ≤ length rows
-  pub each_old : (k : ℕ) → k < length indices → IsOneOf old_indices old (slice_index_or indices k 0) (bits_of rows k)
-  pub apart : (k m : ℕ) → k < bound → m < length rows → k ≢ m → ¬ (IsWithin (bits_of rows k) (bits_of rows m))
-  pub each : (m : ℕ) → m < length old → (k : ℕ) × (k < length rows) × IsWithin (bits_of old m) (bits_of rows k)
-
+-- ---- of two sets the greater one isn't within the lesser
 pub within_self : (bits : List Bool) → IsWithin bits bits
 within_self bits c h first second = first
 
-place_below : (bits : List Bool) (c : ℕ) → IsTrue (slice_index_or bits c false) → c < length bits
-place_below [] c t = absurd (false≢true t)
-place_below (b ∷ bits) zero t = omega arith
-place_below (b ∷ bits) (suc c) t = omega (arith, place_below bits c t)
+within_tail : (x y : Bool) (a b : List Bool) → IsWithin (x ∷ a) (y ∷ b) → IsWithin a b
+within_tail x y a b w c h first second = w (suc c) (omega (arith, h)) first second
 
-within_through : (a b d : List Bool) → IsWithin a b → IsWithin b d → IsWithin a d
-within_through a b d w v c h first second = let there = w c h first second in v c (place_below b c there) there there
+ones_within : (a b : List Bool) → length a ≡ length b → IsWithin a b → ones a ≤ ones b
+ones_within [] b e w = omega arith
+ones_within (x ∷ a) [] e w = absurd (omega (arith, e))
+ones_within (true ∷ a) (true ∷ b) e w = omega (arith, ones_within a b (omega (arith, e)) (within_tail true true a b w))
+ones_within (true ∷ a) (false ∷ b) e w = absurd (false≢true (w 0 (omega arith) refl refl))
+ones_within (false ∷ a) (true ∷ b) e w = omega (arith, ones_within a b (omega (arith, e)) (within_tail false true a b w))
+ones_within (false ∷ a) (false ∷ b) e w = omega (arith, ones_within a b (omega (arith, e)) (within_tail false false a b w))
 
-pub greatest_start : (indices : List ℕ) (rows : List (List Bool)) → length indices ≡ length rows → AreGreatestBefore indices rows indices rows 0
-greatest_start indices rows e = record {
-  as_many = e;
-  fewer = omega arith;
-  within = omega arith;
-  each_old = λ k h. record { place = k; below = h; index_is = refl; bits_are = refl };
-  apart = λ k m h. absurd (omega (arith, h));
-  each = λ m h. (m, h, within_self (bits_of rows m));
-}
+within_cons : (x y : Bool) (a b : List Bool) → (IsTrue x → IsTrue y) → IsWithin a b → IsWithin (x ∷ a) (y ∷ b)
+within_cons x y a b head tail zero h first second = head first
+within_cons x y a b head tail (suc c) h first second = tail c (omega (arith, h)) first second
 
-module _ (old_indices : List ℕ) (old : List (List Bool)) (indices : List ℕ) (rows : List (List Bool)) (bound : ℕ) (g : AreGreatestBefore old_indices old indices rows bound) (table : Table) (is : table.rows ≡ rows) (below : bound < length rows) where
-  -- the row stays
-  pub greatest_pass : ¬ (HasThird table bound bound) → AreGreatestBefore old_indices old indices rows (bound + 1)
-  greatest_pass none = record {
-    as_many = g.as_many;
-    fewer = g.fewer;
-    within = omega (arith, below);
-    each_old = g.each_old;
-    apart = λ k m hk hm ne w. by_order k m hm ne w (cases_lt k bound) hk;
-    each = g.each;
-  }
+pub within_back : (a b : List Bool) → length a ≡ length b → IsWithin a b → ones b ≤ ones a → IsWithin b a
+within_back [] [] e w l = within_self []
+within_back (x ∷ a) [] e w l = absurd (omega (arith, e))
+within_back [] (y ∷ b) e w l = absurd (omega (arith, e))
+within_back (true ∷ a) (true ∷ b) e w l = within_cons true true b a (λ t. t) (within_back a b (omega (arith, e)) (within_tail true true a b w) (omega (arith, l)))
+within_back (true ∷ a) (false ∷ b) e w l = absurd (false≢true (w 0 (omega arith) refl refl))
+within_back (false ∷ a) (true ∷ b) e w l = absurd (omega (arith, l, ones_within a b (omega (arith, e)) (within_tail false true a b w)))
+within_back (false ∷ a) (false ∷ b) e w l = within_cons false false b a (λ t. t) (within_back a b (omega (arith, e)) (within_tail false false a b w) (omega (arith, l)))
+
+-- ---- a place more
+module _ (rows : List (List Bool)) (places new : List ℕ) (p : ℕ) (is : new ≡ places ++ p ∷ []) where
+  size_more : length new ≡ length places + 1
+  size_more = omega (arith, ap length is, length-append places (p ∷ []))
+
+  at_old : (k : ℕ) → k < length places → slice_index_or new k 0 ≡ slice_index_or places k 0
+  at_old k h = ap (λ (ns : List ℕ). slice_index_or ns k 0) is ∙ get_or_append_left places (p ∷ []) 0 k h
+
+  at_new : (k : ℕ) → k ≡ length places → slice_index_or new k 0 ≡ p
+  at_new k e = ap (λ (ns : List ℕ). slice_index_or ns k 0) is ∙ get_or_push places p 0 k (sym e)
+
+  pub led_more : (m : ℕ) → IsLedBy rows places m → IsLedBy rows new m
+  led_more m l = (l.0, omega (arith, l.1, size_more), subst (λ (n : ℕ). IsWithin (bits_of rows m) (bits_of rows n)) (sym (at_old l.0 l.1)) l.2)
+
+  pub led_by_itself : IsLedBy rows new p
+  led_by_itself = (length places, omega (arith, size_more), subst (λ (n : ℕ). IsWithin (bits_of rows p) (bits_of rows n)) (sym (at_new (length places) refl)) (within_self (bits_of rows p)))
+
+  -- the new row has at most as many true places as the others, and isn't within one of them
+  pub apart_more : AreApart rows places → ¬ (IsLedBy rows places p) → ((q : ℕ) → q < length places → length (bits_of rows (slice_index_or places q 0)) ≡ length (bits_of rows p)) → ((q : ℕ) → q < length places → ones (bits_of rows p) ≤ ones (bits_of rows (slice_index_or places q 0))) → AreApart rows new
+  apart_more apart unled wide longer k m hk hm ne w = by_place (cases_lt k (length places)) (cases_lt m (length places))
     where
-      by_order : (k m : ℕ) → m < length rows → k ≢ m → IsWithin (bits_of rows k) (bits_of rows m) → (k < bound) ⊎ (bound ≤ k) → k < bound + 1 → ⊥
-      by_order k m hm ne w (inl l) hk = g.apart k m l hm ne w
-      by_order k m hm ne w (inr l) hk =
-          let e : k ≡ bound = omega (arith, l, hk) in
-          none (
-            m,
-            record {
-              row = subst (λ (rs : List (List Bool)). m < length rs) (sym is) hm;
-              not_first = λ s. ne (e ∙ sym s);
-              not_second = λ s. ne (e ∙ sym s);
-              covers = subst (λ (rs : List (List Bool)). Covers (bits_of rs bound) (bits_of rs bound) (bits_of rs m)) (sym is) (subst (λ (n : ℕ). IsWithin (bits_of rows n) (bits_of rows m)) e w);
-            },
-          )
+      by_place : (k < length places) ⊎ (length places ≤ k) → (m < length places) ⊎ (length places ≤ m) → ⊥
+      by_place (inl a) (inl b) = apart k m a b ne (subst (λ (n : ℕ). IsWithin (bits_of rows (slice_index_or places k 0)) (bits_of rows n)) (at_old m b) (subst (λ (n : ℕ). IsWithin (bits_of rows n) (bits_of rows (slice_index_or new m 0))) (at_old k a) w))
+      by_place (inl a) (inr b) =
+          let last : slice_index_or new m 0 ≡ p = at_new m (omega (arith, b, hm, size_more)) in
+          let old : IsWithin (bits_of rows (slice_index_or places k 0)) (bits_of rows p) = subst (λ (n : ℕ). IsWithin (bits_of rows (slice_index_or places k 0)) (bits_of rows n)) last (subst (λ (n : ℕ). IsWithin (bits_of rows n) (bits_of rows (slice_index_or new m 0))) (at_old k a) w) in
+          unled (k, a, within_back (bits_of rows (slice_index_or places k 0)) (bits_of rows p) (wide k a) old (longer k a))
+      by_place (inr a) (inl b) =
+          let last : slice_index_or new k 0 ≡ p = at_new k (omega (arith, a, hk, size_more)) in
+          unled (m, b, subst (λ (n : ℕ). IsWithin (bits_of rows p) (bits_of rows n)) (at_old m b) (subst (λ (n : ℕ). IsWithin (bits_of rows n) (bits_of rows (slice_index_or new m 0))) last w))
+      by_place (inr a) (inr b) = ne (omega (arith, a, b, hk, hm, size_more))
 
-  -- the row is taken out for another one
-  pub greatest_remove : HasThird table bound bound → AreGreatestBefore old_indices old (remove indices bound) (remove rows bound) bound
-  greatest_remove (other, third) = record {
-    as_many = omega (arith, g.as_many, index_sizes, row_sizes);
-    fewer = omega (arith, g.fewer, index_sizes);
-    within = omega (arith, below, row_sizes);
-    each_old = λ k h. by_old k h (cases_lt k bound);
-    apart = λ k m hk hm ne w. by_apart k m hk hm ne w (cases_lt m bound);
-    each = λ m h. let q = g.each m h in by_witness m q.0 q.1 q.2 (cases_order q.0 bound);
-  }
-    where
-      row_sizes : length (remove rows bound) + 1 ≡ length rows
-      row_sizes = omega (arith, length-remove rows bound below)
+-- ---- the places in another order
+-- where an element stood before two others changed places
+record StoodAt (old new : List ℕ) (i j k : ℕ) : Type 0 where
+  place : ℕ
+  below : place < length old
+  same : slice_index_or new k 0 ≡ slice_index_or old place 0
+  which : ((k ≡ i) × (place ≡ j)) ⊎ (((k ≡ j) × (place ≡ i)) ⊎ ((k ≢ i) × (k ≢ j) × (place ≡ k)))
 
-      in_indices : bound < length indices
-      in_indices = omega (arith, below, g.as_many)
+module _ (old : List ℕ) (i j : ℕ) (first : i < length old) (second : j < length old) where
+  swapped : Swapped (λ k. slice_index_or old k 0) (λ k. slice_index_or (swap old i j) k 0) i j
+  swapped = swapped_from_swap old (swap old i j) i j 0 first second refl
 
-      index_sizes : length (remove indices bound) + 1 ≡ length indices
-      index_sizes = omega (arith, length-remove indices bound in_indices)
+  third_place : (k : ℕ) → k < length old → (k ≢ i) → (k ≢ j) → StoodAt old (swap old i j) i j k
+  third_place k h a b = record { place = k; below = h; same = swapped.2 k a b; which = inr (inr (a, b, refl)) }
 
-      other_below : other < length rows
-      other_below = subst (λ (rs : List (List Bool)). other < length rs) is third.row
+  not_first : (k : ℕ) → k < length old → (k ≢ i) → (k ≡ j) ⊎ ((k < j) ⊎ (j < k)) → StoodAt old (swap old i j) i j k
+  not_first k h a (inl e) = record { place = i; below = first; same = ap (λ n. slice_index_or (swap old i j) n 0) e ∙ swapped.1; which = inr (inl (e, refl)) }
+  not_first k h a (inr (inl l)) = third_place k h a (λ e. omega (arith, e, l))
+  not_first k h a (inr (inr l)) = third_place k h a (λ e. omega (arith, e, l))
 
-      other_covers : IsWithin (bits_of rows bound) (bits_of rows other)
-      other_covers = subst (λ (rs : List (List Bool)). IsWithin (bits_of rs bound) (bits_of rs other)) is third.covers
+  stood : (k : ℕ) → k < length old → (k ≡ i) ⊎ ((k < i) ⊎ (i < k)) → StoodAt old (swap old i j) i j k
+  stood k h (inl e) = record { place = j; below = second; same = ap (λ n. slice_index_or (swap old i j) n 0) e ∙ swapped.0; which = inl (e, refl) }
+  stood k h (inr (inl l)) = not_first k h (λ e. omega (arith, e, l)) (cases_order k j)
+  stood k h (inr (inr l)) = not_first k h (λ e. omega (arith, e, l)) (cases_order k j)
 
-      by_old : (k : ℕ) → k < length (remove indices bound) → (k < bound) ⊎ (bound ≤ k) → IsOneOf old_indices old (slice_index_or (remove indices bound) k 0) (bits_of (remove rows bound) k)
-      by_old k h (inl l) =
-          subst (λ (n : ℕ). IsOneOf old_indices old n (bits_of (remove rows bound) k)) (sym (get_or-remove_below indices bound 0 k l in_indices))
-          (subst (λ (bits : List Bool). IsOneOf old_indices old (slice_index_or indices k 0) bits) (sym (get_or-remove_below rows bound [] k l below)) (g.each_old k (omega (arith, h, index_sizes))))
-      by_old k h (inr l) =
-          subst (λ (n : ℕ). IsOneOf old_indices old n (bits_of (remove rows bound) k)) (sym (get_or-remove_above indices bound 0 k l in_indices))
-          (subst (λ (bits : List Bool). IsOneOf old_indices old (slice_index_or indices (k + 1) 0) bits) (sym (get_or-remove_above rows bound [] k l below)) (g.each_old (k + 1) (omega (arith, h, index_sizes))))
+  stood_apart : (k m p q : ℕ) → k ≢ m → p ≡ q → ((k ≡ i) × (p ≡ j)) ⊎ (((k ≡ j) × (p ≡ i)) ⊎ ((k ≢ i) × (k ≢ j) × (p ≡ k))) → ((m ≡ i) × (q ≡ j)) ⊎ (((m ≡ j) × (q ≡ i)) ⊎ ((m ≢ i) × (m ≢ j) × (q ≡ m))) → ⊥
+  stood_apart k m p q ne e (inl a) (inl b) = ne (omega (arith, a.0, b.0))
+  stood_apart k m p q ne e (inl a) (inr (inl b)) = ne (omega (arith, a.0, a.1, b.0, b.1, e))
+  stood_apart k m p q ne e (inl a) (inr (inr b)) = b.1 (omega (arith, a.1, b.2, e))
+  stood_apart k m p q ne e (inr (inl a)) (inl b) = ne (omega (arith, a.0, a.1, b.0, b.1, e))
+  stood_apart k m p q ne e (inr (inl a)) (inr (inl b)) = ne (omega (arith, a.0, b.0))
+  stood_apart k m p q ne e (inr (inl a)) (inr (inr b)) = b.0 (omega (arith, a.1, b.2, e))
+  stood_apart k m p q ne e (inr (inr a)) (inl b) = a.1 (omega (arith, b.1, a.2, e))
+  stood_apart k m p q ne e (inr (inr a)) (inr (inl b)) = a.0 (omega (arith, b.1, a.2, e))
+  stood_apart k m p q ne e (inr (inr a)) (inr (inr b)) = ne (omega (arith, a.2, b.2, e))
 
-      by_apart : (k m : ℕ) → k < bound → m < length (remove rows bound) → k ≢ m → IsWithin (bits_of (remove rows bound) k) (bits_of (remove rows bound) m) → (m < bound) ⊎ (bound ≤ m) → ⊥
-      by_apart k m hk hm ne w (inl l) =
-          g.apart k m hk (omega (arith, hm, row_sizes)) ne
-          (subst (λ (bits : List Bool). IsWithin bits (bits_of rows m)) (get_or-remove_below rows bound [] k hk below) (subst (λ (bits : List Bool). IsWithin (bits_of (remove rows bound) k) bits) (get_or-remove_below rows bound [] m l below) w))
-      by_apart k m hk hm ne w (inr l) =
-          g.apart k (m + 1) hk (omega (arith, hm, row_sizes)) (λ e. omega (arith, e, hk, l))
-          (subst (λ (bits : List Bool). IsWithin bits (bits_of rows (m + 1))) (get_or-remove_below rows bound [] k hk below) (subst (λ (bits : List Bool). IsWithin (bits_of (remove rows bound) k) bits) (get_or-remove_above rows bound [] m l below) w))
+  apart_swapped : (rows : List (List Bool)) → AreApart rows old → AreApart rows (swap old i j)
+  apart_swapped rows apart k m hk hm ne w =
+      let size : length (swap old i j) ≡ length old = length-swap old i j in
+      let a : StoodAt old (swap old i j) i j k = stood k (omega (arith, hk, size)) (cases_order k i) in
+      let b : StoodAt old (swap old i j) i j m = stood m (omega (arith, hm, size)) (cases_order m i) in
+      apart a.place b.place a.below b.below (λ e. stood_apart k m a.place b.place ne e a.which b.which)
+      (subst (λ (n : ℕ). IsWithin (bits_of rows n) (bits_of rows (slice_index_or old b.place 0))) a.same (subst (λ (n : ℕ). IsWithin (bits_of rows (slice_index_or (swap old i j) k 0)) (bits_of rows n)) b.same w))
 
-      -- a row other than that which is taken out stands there afterwards
-      placed : (m k : ℕ) → k < length rows → k ≢ bound → IsWithin (bits_of old m) (bits_of rows k) → (k < bound) ⊎ (bound ≤ k) → (p : ℕ) × (p < length (remove rows bound)) × IsWithin (bits_of old m) (bits_of (remove rows bound) p)
-      placed m k h ne w (inl l) = (k, omega (arith, l, below, row_sizes), subst (λ (bits : List Bool). IsWithin (bits_of old m) bits) (sym (get_or-remove_below rows bound [] k l below)) w)
-      placed m k h ne w (inr l) =
-          let up : k - 1 + 1 ≡ k = omega (arith, ne, l) in
-          (k - 1, omega (arith, h, ne, l, row_sizes), subst (λ (bits : List Bool). IsWithin (bits_of old m) bits) (sym (get_or-remove_above rows bound [] (k - 1) (omega (arith, ne, l)) below ∙ ap (λ (n : ℕ). bits_of rows n) up)) w)
+led_moved : (rows : List (List Bool)) (places new : List ℕ) (m : ℕ) → IsPermutation places new → IsLedBy rows places m → IsLedBy rows new m
+led_moved rows places new m moved l =
+    let p : ℕ = slice_index_or places l.0 0 in
+    let c : Contains new p = Contains-permutation places new p moved (Contains-get_or places l.0 0 l.1) in
+    (c.0, c.1, subst (λ (n : ℕ). IsWithin (bits_of rows m) (bits_of rows n)) (sym (get_or_default new c.0 0 p c.1 ∙ c.2)) l.2)
 
-      by_witness : (m k : ℕ) → k < length rows → IsWithin (bits_of old m) (bits_of rows k) → (k ≡ bound) ⊎ ((k < bound) ⊎ (bound < k)) → (p : ℕ) × (p < length (remove rows bound)) × IsWithin (bits_of old m) (bits_of (remove rows bound) p)
-      by_witness m k h w (inl e) = placed m other other_below third.not_first (within_through (bits_of old m) (bits_of rows bound) (bits_of rows other) (subst (λ (n : ℕ). IsWithin (bits_of old m) (bits_of rows n)) e w) other_covers) (cases_lt other bound)
-      by_witness m k h w (inr (inl l)) = placed m k h (λ e. omega (arith, e, l)) w (inl l)
-      by_witness m k h w (inr (inr l)) = placed m k h (λ e. omega (arith, e, l)) w (inr (omega (arith, l)))
+-- rows by rising number of true places, the other way round
+pub falling_reversed : (rising new : List CountedRow) → new ≡ reverse rising → IsNonDecreasingBy (λ (row : CountedRow). row.ones) rising → AreFalling new
+falling_reversed rising new is rises i j d h b =
+    let size : length new ≡ length rising = ap (λ (list : List CountedRow). length list) is ∙ length-reverse rising in
+    let first = ap (λ (list : List CountedRow). (slice_index_or list i d).ones) is ∙ ap (λ (row : CountedRow). row.ones) (get_or-reverse rising i d (omega (arith, h, b, size))) in
+    let second = ap (λ (list : List CountedRow). (slice_index_or list j d).ones) is ∙ ap (λ (row : CountedRow). row.ones) (get_or-reverse rising j d (omega (arith, b, size))) in
+    omega (arith, first, second, rises (length rising - 1 - j) (length rising - 1 - i) d (omega (arith, h)) (omega (arith, h, b, size)))
 
-pub greatest_end : (old_indices : List ℕ) (old : List (List Bool)) (indices : List ℕ) (rows : List (List Bool)) (bound : ℕ) → length rows ≤ bound → AreGreatestBefore old_indices old indices rows bound → AreGreatest old_indices old indices rows
-greatest_end old_indices old indices rows bound h g = record {
-  as_many = g.as_many;
-  fewer = g.fewer;
-  each_old = g.each_old;
-  apart = λ k m hk hm ne. g.apart k m (omega (arith, hk, h)) hm ne;
-  each = g.each;
-}
+-- ---- the whole
+-- rows that are counted, in any order
+pub counted_moved : (rows : List (List Bool)) (places : List ℕ) (ranked : List CountedRow) → All (IsUneven rows) places → IsPermutation (map (counted_row rows) places) ranked → All (IsCounted rows) ranked
+counted_moved rows places ranked u moved = All-permutation (IsCounted rows) (map (counted_row rows) places) ranked moved (All-map (IsCounted rows) (counted_row rows) places (λ i d h. (u i d h, refl)))
 
--- the indices that are left are of the range
-pub greatest_within : (keep : List Bool) (n : ℕ) (old : List (List Bool)) (indices : List ℕ) (rows : List (List Bool)) → AreGreatest (marked keep (range_with_len 0 n)) old indices rows → All (λ i. i < n) indices
-greatest_within keep n old indices rows g =
-    All-from_get_or (λ i. i < n) indices 0
-    (λ k h.
-    let o = g.each_old k h in
-    let c : ComesFrom keep (range_with_len 0 n) (range_with_len 0 n) 0 0 o.place = comes_from keep (range_with_len 0 n) (range_with_len 0 n) 0 0 o.place refl o.below in
-    let at : c.index < n = omega (arith, c.below, length-range_with_len 0 n) in
-    let same : slice_index_or indices k 0 ≡ c.index = sym o.index_is ∙ c.first ∙ get_or-range_with_len 0 n c.index 0 at ∙ zero_more c.index in
-    omega (arith, same, at))
+counted_among : (rows : List (List Bool)) (places : List ℕ) (i : ℕ) → Contains places i → Contains (map (counted_row rows) places) (counted_row rows i)
+counted_among rows places i c = (c.0, omega (arith, c.1, length-map places (counted_row rows)), get_or-map (counted_row rows) places c.0 i (counted_row rows i) c.1 ∙ ap (counted_row rows) c.2)
 
--- ---- many rows
--- a place more
-pub led_more : (rows : List (List Bool)) (places new : List ℕ) (p m : ℕ) → new ≡ places ++ p ∷ [] → IsLedBy rows places m → IsLedBy rows new m
-led_more rows places new p m is l = (
-  l.0,
-  omega (arith, l.1, ap length is, length-append places (p ∷ [])),
-  subst (λ (n : ℕ). IsWithin (bits_of rows m) (bits_of rows n)) (sym (ap (λ (ns : List ℕ). slice_index_or ns l.0 0) is ∙ get_or_append_left places (p ∷ []) 0 l.0 l.1)) l.2,
-)
-
--- the place of the row itself
-pub led_by_itself : (rows : List (List Bool)) (places new : List ℕ) (m : ℕ) → new ≡ places ++ m ∷ [] → IsLedBy rows new m
-led_by_itself rows places new m is = (
-  length places,
-  omega (arith, ap length is, length-append places (m ∷ [])),
-  subst (λ (n : ℕ). IsWithin (bits_of rows m) (bits_of rows n)) (sym (ap (λ (ns : List ℕ). slice_index_or ns (length places) 0) is ∙ get_or_push places m 0 (length places) refl)) (within_self (bits_of rows m)),
-)
-
-marked_fewer : {X : Type 0} (marks : List Bool) (xs : List X) → length (marked marks xs) ≤ length xs
-marked_fewer [] xs = omega arith
-marked_fewer (m ∷ marks) [] = omega arith
-marked_fewer (true ∷ marks) (x ∷ xs) = omega (arith, marked_fewer marks xs)
-marked_fewer (false ∷ marks) (x ∷ xs) = omega (arith, marked_fewer marks xs)
-
-pub led_marked : (indices : List ℕ) (rows : List (List Bool)) (places : List ℕ) (marks : List Bool) → length indices ≡ length rows → All (λ p. p < length rows) places → AreMarkedAt (length rows) places marks → ((m : ℕ) → m < length rows → IsLedBy rows places m) → AreLed indices rows (marked marks indices) (marked marks rows)
-led_marked indices rows places marks sizes within at leads = record {
-  as_many = marked_sizes marks indices rows sizes;
-  fewer = marked_fewer marks indices;
-  each_old = λ k h.
-      let c : ComesFrom marks indices rows 0 [] k = comes_from marks indices rows 0 [] k (sym sizes) h in
-      record { place = c.index; below = c.below; index_is = sym c.first; bits_are = sym c.second };
-  each = λ m h.
-      let l = leads m h in
-      let p : ℕ = slice_index_or places l.0 0 in
-      let g : GoesTo marks rows [] p = goes_to marks rows [] p (within l.0 0 l.1) (at.at l.0 l.1) in
-      (g.place, g.below, subst (λ (bits : List Bool). IsWithin (bits_of rows m) bits) (sym g.same) l.2);
-}
-
-pub greatest_led : (old_indices : List ℕ) (old : List (List Bool)) (some_indices : List ℕ) (some : List (List Bool)) (indices : List ℕ) (rows : List (List Bool)) → AreLed old_indices old some_indices some → AreGreatest some_indices some indices rows → AreGreatest old_indices old indices rows
-greatest_led old_indices old some_indices some indices rows l g = record {
-  as_many = g.as_many;
-  fewer = omega (arith, g.fewer, l.fewer);
-  each_old = λ k h.
-      let o = g.each_old k h in
-      let n = l.each_old o.place o.below in
-      record { place = n.place; below = n.below; index_is = n.index_is ∙ o.index_is; bits_are = n.bits_are ∙ o.bits_are };
-  apart = g.apart;
-  each = λ m h.
-      let p = l.each m h in
-      let q = g.each p.0 p.1 in
-      (q.0, q.1, within_through (bits_of old m) (bits_of some p.0) (bits_of rows q.0) p.2 q.2);
+pub greatest_moved : (rows : List (List Bool)) (marks : List Bool) (f : TellsFull rows marks) (ranked : List CountedRow) (found new : List ℕ) → IsPermutation (map (counted_row rows) (marked (map not marks) (range_with_len 0 (length marks)))) ranked → All (IsUneven rows) found → AreApart rows found → All (λ (row : CountedRow). IsLedBy rows found row.place) ranked → IsPermutation found new → AreGreatest rows new
+greatest_moved rows marks f ranked found new ranking uneven apart led moved = record {
+  uneven = All-permutation (IsUneven rows) found new moved uneven;
+  apart = IsPermutation-keeps found (AreApart rows) apart (λ l i j hi hj a. apart_swapped l i j hi hj rows a) new moved;
+  each = λ i u.
+      led_moved rows found new i moved
+      (All-contains (λ (row : CountedRow). IsLedBy rows found row.place) ranked (counted_row rows i) led
+      (Contains-permutation (map (counted_row rows) (marked (map not marks) (range_with_len 0 (length marks)))) ranked (counted_row rows i) ranking (counted_among rows (marked (map not marks) (range_with_len 0 (length marks))) i (uneven_among rows marks f i u))));
 }

@@ -27,7 +27,7 @@ use Rattle.minimise.specs.Simplified.{IsSystemOf, IsDone}
 use Rattle.minimise.specs.declared.second_system.Simplified.{Simplified}
 use Rattle.minimise.specs.declared.second_system.Simplified.TheVariants.{Done, Left}
 use Rattle.sat_matrix.proofs.TurnedTables.{TellsRows, turned_tells}
-use Rattle.minimise.proofs.FacetLemmas.{ComesFrom, comes_from, GoesTo, goes_to, zero_from_full, full_from_zero, IsKept, is_kept, are_facets}
+use Rattle.minimise.proofs.FacetLemmas.{ComesFrom, comes_from, GoesTo, goes_to, zero_from_full, full_from_zero, are_facets}
 use Rattle.minimise.proofs.Widths.{vectors_wide}
 use Rattle.minimise.proofs.SecondTables.{length-behind_lines, behind_before, behind_after}
 use Rattle.minimise.proofs.SecondSystems.{simplified_is_system, made_zero, row_zero}
@@ -43,9 +43,9 @@ pub system_as : (lines rays : List Row) → AreMarked true lines → AreMarked f
 system_as lines rays f g = ap (λ (ls : List Row). ls ++ map (λ (r : List ℤ). (r, false)) (vectors rays)) (marked_as true lines f) ∙ ap (λ (rs : List Row). lines ++ rs) (marked_as false rays g)
 
 -- ---- the system
-module _ (width : ℕ) (rows : List Row) (lines rays : List (List ℤ)) (table : List (List Bool)) (marks : List Bool) (equalities reduced : List (List ℤ)) (indices : List ℕ) (kept : List (List Bool))
+module _ (width : ℕ) (rows : List Row) (lines rays : List (List ℤ)) (table : List (List Bool)) (marks : List Bool) (equalities reduced : List (List ℤ)) (indices : List ℕ)
     (wide : All (λ (row : Row). length row.0 ≡ width) rows) (sys : IsSystem (ConeOf width rows) lines rays) (tells : TellsRows rows rays table) (full : TellsFull table marks) (lines_wide : All (λ (l : List ℤ). length l ≡ width) equalities)
-    (basis : IsBasis (marked marks (vectors rows)) equalities) (greatest : AreGreatest (marked (map not marks) (range_with_len 0 (length marks))) (marked (map not marks) table) indices kept)
+    (basis : IsBasis (marked marks (vectors rows)) equalities) (greatest : AreGreatest table indices)
     (made : Pointwise (λ i r. IsReduced equalities (row_at rows i) r) indices reduced) where
   is_true : (b : Bool) → IsTrue b → b ≡ true
   is_true true t = refl
@@ -64,26 +64,22 @@ module _ (width : ℕ) (rows : List Row) (lines rays : List (List ℤ)) (table :
       (c.index, below, sym (vector_at-vectors rows c.index) ∙ sym c.first, zero_from_full rows rays table tells c.index below ((full.tells c.index (omega (arith, below, tells.as_many))).0 c.mark))
 
   facets : AreFacets rows rays indices
-  facets = are_facets rows rays table tells marks full indices kept greatest
+  facets = are_facets rows rays table tells indices greatest
 
   pub second_is_system : IsSystem (ConeOf width (system_rows lines rays)) equalities reduced
   second_is_system = simplified_is_system width rows lines rays (marked marks (vectors rows)) equalities reduced indices wide sys flat_in flat_of lines_wide basis facets made
 
   -- the zeros of a reduced row are those of its row
-  pub second_zero : (p j : ℕ) → p < length indices → j < length rays → IsTrue (slice_index_or (bits_of kept p) j false) ↔ (dot (vector_at rays j) (vector_at reduced p) ≡ pos 0)
+  pub second_zero : (p j : ℕ) → p < length indices → j < length rays → IsTrue (slice_index_or (bits_of table (slice_index_or indices p 0)) j false) ↔ (dot (vector_at rays j) (vector_at reduced p) ≡ pos 0)
   second_zero p j h b =
-      let c : IsKept rows rays table tells marks full indices kept greatest p = is_kept rows rays table tells marks full indices kept greatest p h in
-      let told = tells.tells (slice_index_or indices p 0) j c.below b in
-      let bit : slice_index_or (bits_of kept p) j false ≡ slice_index_or (bits_of table (slice_index_or indices p 0)) j false = ap (λ (bits : List Bool). slice_index_or bits j false) c.bits in (
+      let told = tells.tells (slice_index_or indices p 0) j (facets.within p 0 h) b in (
         (λ t. made_zero width rows lines rays (marked marks (vectors rows)) equalities reduced indices wide sys flat_in flat_of lines_wide basis facets made p h j b
-            (dot_comm (vector_at rays j) (row_at rows (slice_index_or indices p 0)) ∙ told.0 (subst IsTrue bit t))),
-        (λ z. subst IsTrue (sym bit) (told.1 (dot_comm (row_at rows (slice_index_or indices p 0)) (vector_at rays j) ∙ row_zero width rows lines rays (marked marks (vectors rows)) equalities reduced indices wide sys flat_in flat_of lines_wide basis facets made p h j b z))),
+            (dot_comm (vector_at rays j) (row_at rows (slice_index_or indices p 0)) ∙ told.0 t)),
+        (λ z. told.1 (dot_comm (row_at rows (slice_index_or indices p 0)) (vector_at rays j) ∙ row_zero width rows lines rays (marked marks (vectors rows)) equalities reduced indices wide sys flat_in flat_of lines_wide basis facets made p h j b z)),
       )
 
-  pub second_bits_wide : (p : ℕ) → p < length indices → length (bits_of kept p) ≡ length rays
-  second_bits_wide p h =
-      let c : IsKept rows rays table tells marks full indices kept greatest p = is_kept rows rays table tells marks full indices kept greatest p h in
-      ap (λ (bits : List Bool). length bits) c.bits ∙ tells.wide (slice_index_or indices p 0) c.below
+  pub second_bits_wide : (p : ℕ) → p < length indices → length (bits_of table (slice_index_or indices p 0)) ≡ length rays
+  second_bits_wide p h = tells.wide (slice_index_or indices p 0) (facets.within p 0 h)
 
 -- ---- the table
 -- a ray of the second system and its bits
@@ -138,15 +134,15 @@ module _ (rows lines rays : Rows) (sat table : Table) (flat : List Bool) (parts 
   equalities_wide = vectors_wide rows.width parts.equalities p.equalities_fit p.equalities_width
 
   unsorted : IsSystem (ConeOf rows.width (system_rows (vectors lines.rows) (vectors rays.rows))) (vectors parts.equalities.rows) (vectors parts.reduced.rows)
-  unsorted = second_is_system rows.width rows.rows (vectors lines.rows) (vectors rays.rows) table.rows flat (vectors parts.equalities.rows) (vectors parts.reduced.rows) parts.facets.indices.items parts.facets.zeros.rows rows_wide sys tells full equalities_wide p.basis p.greatest p.made
+  unsorted = second_is_system rows.width rows.rows (vectors lines.rows) (vectors rays.rows) table.rows flat (vectors parts.equalities.rows) (vectors parts.reduced.rows) parts.facets.items rows_wide sys tells full equalities_wide p.basis p.greatest p.made
 
   same_list : system_rows (vectors lines.rows) (vectors rays.rows) ≡ lines.rows ++ rays.rows
   same_list = system_as lines.rows rays.rows lists.lines_marked lists.rays_marked
 
-  reduced_size : length parts.reduced.rows ≡ length parts.facets.indices.items
+  reduced_size : length parts.reduced.rows ≡ length parts.facets.items
   reduced_size = sym (length-vectors parts.reduced.rows) ∙ p.made.as_many
 
-  module _ (new_lines new_rays : Rows) (second : Table) (a : AreArranged (length lines.rows) parts new_lines new_rays second) where
+  module _ (new_lines new_rays : Rows) (second : Table) (a : AreArranged (length lines.rows) table parts new_lines new_rays second) where
     canon : Canon (ConeOf rows.width (lines.rows ++ rays.rows)) (vectors parts.equalities.rows) (vectors new_rays.rows)
     canon =
         subst (λ (vs : List (List ℤ)). Canon (ConeOf rows.width (lines.rows ++ rays.rows)) (vectors parts.equalities.rows) vs) (sym a.picked)
@@ -157,16 +153,16 @@ module _ (rows lines rays : Rows) (sat table : Table) (flat : List Bool) (parts 
     table_row m h =
         let n : ℕ = slice_index_or a.order m 0 in
         let in_reduced : n < length parts.reduced.rows = a.is_order.within m 0 h in
-        let in_indices : n < length parts.facets.indices.items = omega (arith, in_reduced, reduced_size) in
+        let in_indices : n < length parts.facets.items = omega (arith, in_reduced, reduced_size) in
         let member : ConeOf rows.width (system_rows (vectors lines.rows) (vectors rays.rows)) (vector_at (vectors parts.reduced.rows) n) = unsorted.generates.rays_within n [] (omega (arith, in_reduced, length-vectors parts.reduced.rows)) in
-        let told : TellsZeros (lines.rows ++ rays.rows) (length (lines.rows ++ rays.rows)) (vector_at (vectors parts.reduced.rows) n) (behind_lines (length (vectors lines.rows)) (bits_of parts.facets.zeros.rows n)) =
-        behind_tells rows.width (vectors lines.rows) (vectors rays.rows) (lines.rows ++ rays.rows) (vector_at (vectors parts.reduced.rows) n) (bits_of parts.facets.zeros.rows n) (sym same_list) member
-        (second_bits_wide rows.width rows.rows (vectors lines.rows) (vectors rays.rows) table.rows flat (vectors parts.equalities.rows) (vectors parts.reduced.rows) parts.facets.indices.items parts.facets.zeros.rows rows_wide sys tells full equalities_wide p.basis p.greatest p.made n in_indices)
-        (λ j b. second_zero rows.width rows.rows (vectors lines.rows) (vectors rays.rows) table.rows flat (vectors parts.equalities.rows) (vectors parts.reduced.rows) parts.facets.indices.items parts.facets.zeros.rows rows_wide sys tells full equalities_wide p.basis p.greatest p.made n j in_indices b) in
+        let told : TellsZeros (lines.rows ++ rays.rows) (length (lines.rows ++ rays.rows)) (vector_at (vectors parts.reduced.rows) n) (behind_lines (length (vectors lines.rows)) (bits_of table.rows (slice_index_or parts.facets.items n 0))) =
+        behind_tells rows.width (vectors lines.rows) (vectors rays.rows) (lines.rows ++ rays.rows) (vector_at (vectors parts.reduced.rows) n) (bits_of table.rows (slice_index_or parts.facets.items n 0)) (sym same_list) member
+        (second_bits_wide rows.width rows.rows (vectors lines.rows) (vectors rays.rows) table.rows flat (vectors parts.equalities.rows) (vectors parts.reduced.rows) parts.facets.items rows_wide sys tells full equalities_wide p.basis p.greatest p.made n in_indices)
+        (λ j b. second_zero rows.width rows.rows (vectors lines.rows) (vectors rays.rows) table.rows flat (vectors parts.equalities.rows) (vectors parts.reduced.rows) parts.facets.items rows_wide sys tells full equalities_wide p.basis p.greatest p.made n j in_indices b) in
         let vector : vector_at (vectors new_rays.rows) m ≡ vector_at (vectors parts.reduced.rows) n = ap (λ (vs : List (List ℤ)). vector_at vs m) a.picked ∙ get_or-map (row_at parts.reduced.rows) a.order m 0 [] h ∙ sym (vector_at-vectors parts.reduced.rows n) in
-        let bits : bits_of second.rows m ≡ behind_lines (length (vectors lines.rows)) (bits_of parts.facets.zeros.rows n) =
-        ap (λ (bs : List (List Bool)). bits_of bs m) a.rows ∙ get_or-map (λ (i : ℕ). behind_lines (length lines.rows) (bits_of parts.facets.zeros.rows i)) a.order m 0 [] h
-        ∙ ap (λ (k : ℕ). behind_lines k (bits_of parts.facets.zeros.rows n)) (sym (length-vectors lines.rows)) in
+        let bits : bits_of second.rows m ≡ behind_lines (length (vectors lines.rows)) (bits_of table.rows (slice_index_or parts.facets.items n 0)) =
+        ap (λ (bs : List (List Bool)). bits_of bs m) a.rows ∙ get_or-map (λ (i : ℕ). behind_lines (length lines.rows) (bits_of table.rows (slice_index_or parts.facets.items i 0))) a.order m 0 [] h
+        ∙ ap (λ (k : ℕ). behind_lines k (bits_of table.rows (slice_index_or parts.facets.items n 0))) (sym (length-vectors lines.rows)) in
         subst (λ (v : List ℤ). TellsZeros (lines.rows ++ rays.rows) (length (lines.rows ++ rays.rows)) v (bits_of second.rows m)) (sym vector)
         (subst (λ (bs : List Bool). TellsZeros (lines.rows ++ rays.rows) (length (lines.rows ++ rays.rows)) (vector_at (vectors parts.reduced.rows) n) bs) (sym bits) told)
 
@@ -174,11 +170,11 @@ module _ (rows lines rays : Rows) (sat table : Table) (flat : List Bool) (parts 
     rays_size = ap (λ (vs : List (List ℤ)). length vs) a.picked ∙ length-map a.order (row_at parts.reduced.rows)
 
     table_size : length second.rows ≡ length a.order
-    table_size = ap (λ (bs : List (List Bool)). length bs) a.rows ∙ length-map a.order (λ (i : ℕ). behind_lines (length lines.rows) (bits_of parts.facets.zeros.rows i))
+    table_size = ap (λ (bs : List (List Bool)). length bs) a.rows ∙ length-map a.order (λ (i : ℕ). behind_lines (length lines.rows) (bits_of table.rows (slice_index_or parts.facets.items i 0)))
 
     zero_table : IsZeroTable (lines.rows ++ rays.rows) (length (lines.rows ++ rays.rows)) (vectors new_rays.rows) second
     zero_table = record {
-      columns = a.columns ∙ ap (λ (k : ℕ). length lines.rows + k) (p.columns ∙ ap (λ (t : Table). t.columns) turned ∙ zeros.each.as_many ∙ length-vectors rays.rows) ∙ sym (length-append lines.rows rays.rows);
+      columns = a.columns ∙ ap (λ (k : ℕ). length lines.rows + k) (ap (λ (t : Table). t.columns) turned ∙ zeros.each.as_many ∙ length-vectors rays.rows) ∙ sym (length-append lines.rows rays.rows);
       each = record {
         as_many = table_size ∙ sym rays_size;
         each = λ m d e h.
@@ -196,6 +192,6 @@ module _ (rows lines rays : Rows) (sat table : Table) (flat : List Bool) (parts 
     })
 
   -- the answer of the arrangement
-  pub done_from_arranged : (simplified : Simplified) → IsArranged (length lines.rows) parts simplified → IsDone rows.width (lines.rows ++ rays.rows) simplified
+  pub done_from_arranged : (simplified : Simplified) → IsArranged (length lines.rows) table parts simplified → IsDone rows.width (lines.rows ++ rays.rows) simplified
   done_from_arranged (Done new_lines new_rays second) a = whole new_lines new_rays second a
   done_from_arranged (Left left right column) a = absurd a

@@ -2,7 +2,9 @@ use Rattle.std.specs.Prelude.{◌≡◌, ◌≢◌, ℕ, ◌<◌, ◌≤◌, ◌
 use Rattle.row_core.specs.Vectors.{dot}
 use Rattle.row_core.specs.Lists.{Row, row_at}
 use Rattle.sat_matrix.specs.Tables.{bits_of, Covers}
+use Rattle.sat_matrix.specs.Counts.{ones}
 use Rattle.minimise.specs.FlatRows.{IsZeroOnAll}
+use Rattle.minimise.specs.declared.facets.CountedRow.{CountedRow}
 
 -- the second row is 0 on each ray on which the first is
 abbrev pub KeepsZeros : List (List ℤ) → List ℤ → List ℤ → Type 0
@@ -28,33 +30,36 @@ pub record TellsFull (rows : List (List Bool)) (marks : List Bool) : Type 0 wher
 abbrev pub IsWithin : List Bool → List Bool → Type 0
 IsWithin first second = Covers first first second
 
--- an index and a row of the table are one of these, at one place
-pub record IsOneOf (indices : List ℕ) (rows : List (List Bool)) (index : ℕ) (bits : List Bool) : Type 0 where
-  pub place : ℕ
-  pub below : place < length indices
-  pub index_is : slice_index_or indices place 0 ≡ index
-  pub bits_are : bits_of rows place ≡ bits
-
--- of rows of a table and their indices those are kept that aren't true only where another one is, and of equal rows one
-pub record AreGreatest (old_indices : List ℕ) (old : List (List Bool)) (indices : List ℕ) (rows : List (List Bool)) : Type 0 where
-  pub as_many : length indices ≡ length rows
-  pub fewer : length indices ≤ length old_indices
-  pub each_old : (k : ℕ) → k < length indices → IsOneOf old_indices old (slice_index_or indices k 0) (bits_of rows k)
-  pub apart : (k m : ℕ) → k < length rows → m < length rows → k ≢ m → ¬ (IsWithin (bits_of rows k) (bits_of rows m))
-  pub each : (m : ℕ) → m < length old → (k : ℕ) × (k < length rows) × IsWithin (bits_of old m) (bits_of rows k)
-
 -- the row is true only where one at the places is
 abbrev pub IsLedBy : List (List Bool) → List ℕ → ℕ → Type 0
 IsLedBy rows places m = (q : ℕ) × (q < length places) × IsWithin (bits_of rows m) (bits_of rows (slice_index_or places q 0))
 
--- a mark for each of so many rows, true at the places
-pub record AreMarkedAt (count : ℕ) (places : List ℕ) (marks : List Bool) : Type 0 where
-  pub as_many : length marks ≡ count
-  pub at : (q : ℕ) → q < length places → slice_index_or marks (slice_index_or places q 0) false ≡ true
+-- the place is that of a row of the table that isn't true everywhere
+abbrev pub IsUneven : List (List Bool) → ℕ → Type 0
+IsUneven rows p = (p < length rows) × ¬ (IsFull (bits_of rows p))
 
--- some of the rows of a table with their indices, so that each row is true only where one of them is
-pub record AreLed (old_indices : List ℕ) (old : List (List Bool)) (indices : List ℕ) (rows : List (List Bool)) : Type 0 where
-  pub as_many : length indices ≡ length rows
-  pub fewer : length indices ≤ length old_indices
-  pub each_old : (k : ℕ) → k < length indices → IsOneOf old_indices old (slice_index_or indices k 0) (bits_of rows k)
-  pub each : (m : ℕ) → m < length old → (k : ℕ) × (k < length rows) × IsWithin (bits_of old m) (bits_of rows k)
+-- no row at one of the places is true only where one at another is
+abbrev pub AreApart : List (List Bool) → List ℕ → Type 0
+AreApart rows places = (k m : ℕ) → k < length places → m < length places → k ≢ m → ¬ (IsWithin (bits_of rows (slice_index_or places k 0)) (bits_of rows (slice_index_or places m 0)))
+
+-- the places name rows that aren't true everywhere, one for each greatest set of true places
+pub record AreGreatest (rows : List (List Bool)) (places : List ℕ) : Type 0 where
+  pub uneven : All (IsUneven rows) places
+  pub apart : AreApart rows places
+  pub each : (i : ℕ) → IsUneven rows i → IsLedBy rows places i
+
+-- a row of the table with the number of its true places
+abbrev pub counted_row : List (List Bool) → ℕ → CountedRow
+counted_row rows p = record { ones = ones (bits_of rows p); place = p }
+
+-- the row isn't true everywhere, and has so many true places
+abbrev pub IsCounted : List (List Bool) → CountedRow → Type 0
+IsCounted rows row = IsUneven rows row.place × (row.ones ≡ ones (bits_of rows row.place))
+
+-- no row has more true places than one before it
+abbrev pub AreFalling : List CountedRow → Type 0
+AreFalling list = (i j : ℕ) (d : CountedRow) → i ≤ j → j < length list → (slice_index_or list j d).ones ≤ (slice_index_or list i d).ones
+
+-- the row has at most as many true places as each at the places
+abbrev pub IsNoLonger : List (List Bool) → List ℕ → ℕ → Type 0
+IsNoLonger rows places row = All (λ p. ones (bits_of rows row) ≤ ones (bits_of rows p)) places

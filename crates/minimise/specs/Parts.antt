@@ -1,5 +1,4 @@
-use Rattle.std.specs.Prelude.{◌≡◌, ℕ, ◌+◌, Bool, true, false, not, List, length, map}
-use Rattle.std.specs.List.{range_with_len}
+use Rattle.std.specs.Prelude.{◌≡◌, ℕ, ◌+◌, Bool, true, false, List, map, slice_index_or}
 use Rattle.flat_rows.specs.Flat.{marked}
 use Rattle.row_core.specs.Lists.{Rows, row_at, vectors, AreMarked, Pointwise, FitWidth}
 use Rattle.sat_matrix.specs.Tables.{Table, bits_of}
@@ -18,23 +17,22 @@ pub record AreParts (rows : Rows) (table : Table) (flat : List Bool) (parts : Pa
   pub equalities_fit : FitWidth parts.equalities
   pub equalities_width : parts.equalities.width ≡ rows.width
   pub equalities_marked : AreMarked true parts.equalities.rows
-  pub columns : parts.facets.zeros.columns ≡ table.columns
-  pub greatest : AreGreatest (marked (map not flat) (range_with_len 0 (length flat))) (marked (map not flat) table.rows) parts.facets.indices.items parts.facets.zeros.rows
-  pub made : Pointwise (λ i r. IsReduced (vectors parts.equalities.rows) (row_at rows.rows i) r) parts.facets.indices.items (vectors parts.reduced.rows)
+  pub greatest : AreGreatest table.rows parts.facets.items
+  pub made : Pointwise (λ i r. IsReduced (vectors parts.equalities.rows) (row_at rows.rows i) r) parts.facets.items (vectors parts.reduced.rows)
   pub reduced_width : parts.reduced.width ≡ rows.width
 
--- the parts with the rays in order, and the table of their zeros behind one true place for each line
-pub record AreArranged (count : ℕ) (parts : Parts) (lines rays : Rows) (sat : Table) : Type 0 where
+-- the parts with the rays in order, and the table of their zeros, the rows of a table at the facets, behind one true place for each line
+pub record AreArranged (count : ℕ) (table : Table) (parts : Parts) (lines rays : Rows) (sat : Table) : Type 0 where
   pub lines_are : lines ≡ parts.equalities
   pub order : List ℕ
   pub is_order : IsOrderOf parts.reduced.rows order
   pub picked : vectors rays.rows ≡ map (row_at parts.reduced.rows) order
   pub width : rays.width ≡ parts.reduced.width
   pub marks : AreMarked false rays.rows
-  pub columns : sat.columns ≡ count + parts.facets.zeros.columns
-  pub rows : sat.rows ≡ map (λ i. behind_lines count (bits_of parts.facets.zeros.rows i)) order
+  pub columns : sat.columns ≡ count + table.columns
+  pub rows : sat.rows ≡ map (λ i. behind_lines count (bits_of table.rows (slice_index_or parts.facets.items i 0))) order
 
 -- the answer is the parts in order
-abbrev pub IsArranged : ℕ → Parts → Simplified → Type 0
-IsArranged count parts (Done lines rays sat) = AreArranged count parts lines rays sat
-IsArranged count parts (Left left right column) = ⊥
+abbrev pub IsArranged : ℕ → Table → Parts → Simplified → Type 0
+IsArranged count table parts (Done lines rays sat) = AreArranged count table parts lines rays sat
+IsArranged count table parts (Left left right column) = ⊥

@@ -5,10 +5,11 @@ ghost use Rattle.row_core.specs.Lists.{row_at, vectors, AreMarked, Pointwise};
 ghost use Rattle.cone_laws.specs.Canon.{IsEchelon};
 ghost use Rattle.minimise.specs.Bases.{IsReduced};
 ghost use Rattle.minimise.specs.Faults.{IsRowFault, IsListFault};
+ghost use Rattle.minimise.specs.Facets.{TellsFull};
 ghost use Rattle.minimise.specs.Parts.{AreParts};
 
 use crate::bases::basis;
-use crate::facets::{Facets, facets_of};
+use crate::facets::facets_of;
 use crate::fault::Fault;
 use crate::reduction::{reduce, zeros};
 use row_core::{Memory, RowList, Steps, make_primitive};
@@ -16,11 +17,12 @@ use sat_matrix::SatMatrix;
 use std::alloc::Global;
 use std::sync::ledger::Ledger;
 
-/// The basis of the rows that are 0 on the whole cone, and a reduced row for each of the facets.
+/// The basis of the rows that are 0 on the whole cone, the places of the facets in the list of rows, and
+/// a reduced row for each of the facets.
 #[derive(Drop)]
 pub(crate) struct Parts {
     pub(crate) equalities: RowList,
-    pub(crate) facets: Facets,
+    pub(crate) facets: Vec<usize>,
     pub(crate) reduced: RowList,
 }
 
@@ -66,35 +68,25 @@ fn reduced_rows<L: Ledger>(
     Ok(new)
 }
 
-/// The least number of rays on which an inequality of the second system is 0, for so many columns, equalities
-/// and lines of the first system: with fewer, more equations than one are left free.
-fn least_zeros(width: usize, equalities: usize, lines: usize) -> usize {
-    width
-        .saturating_sub(equalities)
-        .saturating_sub(lines)
-        .saturating_sub(1)
-}
-
-/// The parts of the second system of the rows, for so many lines of the first. The table has a row for each of them, true at the rays
+/// The parts of the second system of the rows. The table has a row for each of them, true at the rays
 /// on which it is 0, and the marked ones are 0 on the whole cone.
 pub(crate) fn parts_of<L: Ledger>(
     alloc: Global,
     rows: &RowList,
-    table: SatMatrix,
+    table: &SatMatrix,
     flat: &[bool],
-    lines: usize,
     steps: &mut Steps<L>,
 ) -> Result<Parts, Fault>
-    requires as_many { (length flat.now ≡ length rows.now.rows) × (length table.rows ≡ length rows.now.rows) }
+    requires as_many { length table.now.rows ≡ length rows.now.rows }
+    requires full { TellsFull table.now.rows flat.now }
     ensures counted { (steps.old ≤ steps.new) × (steps.new ≤ steps.old + 2 * (length rows.now.rows * rows.now.width)) }
-    ensures parts { MatchResult result (AreParts rows.now table flat.now) (IsListFault rows.now.rows (marked flat.now (vectors rows.now.rows))) }
+    ensures parts { MatchResult result (AreParts rows.now table.now flat.now) (IsListFault rows.now.rows (marked flat.now (vectors rows.now.rows))) }
 {
     let _width = rows.width();
     let equalities = basis(alloc, rows, flat, steps)?;
     let _basis_width = equalities.width();
-    let least = least_zeros(rows.width(), equalities.len(), lines);
-    let facets = facets_of(alloc, table, flat, least)?;
-    let reduced = reduced_rows(alloc, rows, &facets.indices, &equalities, steps)?;
+    let facets = facets_of(alloc, table, flat)?;
+    let reduced = reduced_rows(alloc, rows, &facets, &equalities, steps)?;
     Ok(Parts {
         equalities,
         facets,

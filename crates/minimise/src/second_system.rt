@@ -1,5 +1,5 @@
 //! The second system of a list from its canonical system.
-ghost use Rattle.std.specs.Prelude.{◌≡◌, ◌+◌, ◌*◌, ◌≤◌, ◌++◌, length, IfOk, MatchResult};
+ghost use Rattle.std.specs.Prelude.{◌≡◌, ◌+◌, ◌*◌, ◌<◌, ◌≤◌, ◌++◌, length, All, IfOk, MatchResult};
 ghost use Rattle.row_core.specs.Lists.{vectors};
 ghost use Rattle.cone_laws.specs.Canon.{IsSystem};
 ghost use Rattle.cone_laws.specs.Members.{ConeOf};
@@ -40,23 +40,35 @@ pub enum Simplified {
 }
 
 /// The rays of the parts in descending order, and the table of the second system.
-fn arranged_rays(alloc: Global, lines: usize, parts: &Parts) -> Result<(RowList, SatMatrix), Memory>
-    requires { length parts.now.facets.zeros.rows ≡ length parts.now.reduced.rows }
-    ensures { IfOk result (λ s. AreArranged lines parts.now parts.now.equalities s.0 s.1) }
+fn arranged_rays(
+    alloc: Global,
+    lines: usize,
+    table: &SatMatrix,
+    parts: &Parts,
+) -> Result<(RowList, SatMatrix), Memory>
+    requires as_many { length parts.now.facets.items ≡ length parts.now.reduced.rows }
+    requires within { All (λ p. p < length table.now.rows) parts.now.facets.items }
+    ensures { IfOk result (λ s. AreArranged lines table.now parts.now parts.now.equalities s.0 s.1) }
 {
     let order = descending_order(alloc, &parts.reduced)?;
     let rays = rays_at(alloc, &parts.reduced, &order)?;
-    let sat = second_table(alloc, lines, &parts.facets.zeros, &order)?;
+    let sat = second_table(alloc, lines, table, &parts.facets, &order)?;
     Ok((rays, sat))
 }
 
 /// The parts with the rays in descending order, and their table against as many lines and the rays of
 /// the first system.
-fn arranged(alloc: Global, lines: usize, parts: Parts) -> Result<Simplified, Memory>
-    requires { length parts.facets.zeros.rows ≡ length parts.reduced.rows }
-    ensures { IfOk result (IsArranged lines parts) }
+fn arranged(
+    alloc: Global,
+    lines: usize,
+    table: &SatMatrix,
+    parts: Parts,
+) -> Result<Simplified, Memory>
+    requires as_many { length parts.facets.items ≡ length parts.reduced.rows }
+    requires within { All (λ p. p < length table.now.rows) parts.facets.items }
+    ensures { IfOk result (IsArranged lines table.now parts) }
 {
-    let (rays, sat) = arranged_rays(alloc, lines, &parts)?;
+    let (rays, sat) = arranged_rays(alloc, lines, table, &parts)?;
     Ok(Simplified::Done {
         lines: parts.equalities,
         rays,
@@ -82,8 +94,8 @@ fn second_system<L: Ledger>(
 {
     let table = sat.transpose()?;
     let flat = full_rows(alloc, &table)?;
-    let parts = parts_of(alloc, rows, table, &flat, lines.len(), steps)?;
-    Ok(arranged(alloc, lines.len(), parts)?)
+    let parts = parts_of(alloc, rows, &table, &flat, steps)?;
+    Ok(arranged(alloc, lines.len(), &table, parts)?)
 }
 
 /// The canonical system of all rows that are valid on the cone of `rows`, from the canonical system of

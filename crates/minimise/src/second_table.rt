@@ -48,16 +48,20 @@ fn push_behind(table: &mut SatMatrix, lines: usize, zeros: &SatMatrix, row: usiz
     write_behind(table, last, lines, zeros, row);
 }
 
-/// The rows at the indices, in that order, each behind one true place for each line.
+/// The rows at the places that the indices name, in that order, each behind one true place for each
+/// line.
 pub(crate) fn second_table(
     alloc: Global,
     lines: usize,
     zeros: &SatMatrix,
+    places: &[usize],
     order: &[usize],
 ) -> Result<SatMatrix, Memory>
-    requires { All (λ i. i < length zeros.now.rows) order.now }
+    requires places { All (λ p. p < length zeros.now.rows) places.now }
+    requires order { All (λ i. i < length places.now) order.now }
     ensures columns { IfOk result (λ table. table.columns ≡ lines + zeros.now.columns) }
-    ensures rows { IfOk result (λ table. table.rows ≡ map (λ i. behind_lines lines (bits_of zeros.now.rows i)) order.now) }
+    ensures rows { let row = λ (i : ℕ). bits_of zeros.now.rows (slice_index_or places.now i 0) in
+        IfOk result (λ table. table.rows ≡ map (λ i. behind_lines lines (row i)) order.now) }
 {
     let Some(columns) = lines.checked_add(zeros.columns()) else {
         return Err(Memory);
@@ -65,7 +69,7 @@ pub(crate) fn second_table(
     let mut table = SatMatrix::new(alloc, columns);
     table.reserve(order.len())?;
     for index in 0..order.len() {
-        push_behind(&mut table, lines, zeros, order[index]);
+        push_behind(&mut table, lines, zeros, places[order[index]]);
     }
     Ok(table)
 }

@@ -1,11 +1,28 @@
-use Rattle.std.proofs.Common.{inl, inr}
-use Rattle.std.proofs.lemmas.Bool.{cases_lt}
+use Rattle.std.proofs.Common.{ℕ, ◌<◌, slice_index_or, arith, ap, subst, sym, below_more}
+use Rattle.std.proofs.lemmas.List.{get_or_default}
 use Rattle.sat_matrix.specs.Tables.{bits_of}
 use Rattle.sat_matrix.specs.Counts.{ones}
+use Rattle.minimise.specs.declared.facets.CountedRow.{CountedRow}
+use Rattle.minimise.specs.Facets.{IsLedBy}
 use Rattle.minimise.proofs.facets.leaders.Goals as goal
 
-pub returns-clause-led : goal.returns-clause-led
-returns-clause-led c = λ m inside. elim (cases_lt (ones (bits_of c.args.zeros.now.rows m)) c.args.least) [
-  | inl fewer ↦ c.in_ok-push_all_short.ensures.led m inside fewer
-  | inr many ↦ c.in_ok-push_all_short.ensures.others m (c.in_ok-push_all_long.ensures.led m inside many)
-]
+pub loop-index-preserved : goal.loop-index-preserved
+loop-index-preserved c =
+    let inv = c.loop-index.invariant in
+    let rows = c.args.table.now.rows in
+    let ranked = c.args.ranked.now in
+    let index = c.loop-index.index in
+    let first : CountedRow = record { ones = 0; place = 0 } in
+    record {
+      uneven = c.in_ok-push_leader.ensures.uneven;
+      apart = c.in_ok-push_leader.ensures.apart;
+      longer = λ q e h j d a b.
+          let at = (c.requires.counted index d c.loop-index-test.true).1 in
+          let same = ap (λ (row : CountedRow). ones (bits_of c.args.table.now.rows row.place)) (get_or_default ranked index d first c.loop-index-test.true) in
+          omega (arith, c.in_ok-push_leader.ensures.no_longer q e h, at, same, c.requires.falling index j d (omega (arith, a)) b);
+      led = λ j d h.
+          below_more (λ (m : ℕ). (x : CountedRow) → IsLedBy c.args.table.now.rows c.push_leader.new.places.items (slice_index_or c.args.ranked.now m x).place) index
+          (λ m l x. c.in_ok-push_leader.ensures.others (slice_index_or ranked m x).place (inv.led m x l))
+          (λ x. subst (λ (row : CountedRow). IsLedBy c.args.table.now.rows c.push_leader.new.places.items row.place) (get_or_default ranked index first x c.loop-index-test.true) c.in_ok-push_leader.ensures.led) j h d;
+      fewer = omega (arith, inv.fewer, c.in_ok-push_leader.ensures.at_most_one);
+    }

@@ -1,4 +1,4 @@
-use Rattle.std.specs.Prelude.{◌*◌, ◌<◌, ℕ, List, length, map, not, All}
+use Rattle.std.specs.Prelude.{◌*◌, ◌<◌, ℕ, List, length, All}
 use Rattle.std.specs.List.{range_with_len}
 use Rattle.std.proofs.Common.{arith, sym, ap, subst}
 use Rattle.std.proofs.lemmas.Result.{err_from_is_err_and}
@@ -7,18 +7,15 @@ use Rattle.flat_rows.specs.Flat.{marked}
 use Rattle.row_core.specs.Lists.{row_at, vectors, Pointwise}
 use Rattle.row_core.proofs.RowListLemmas.{length-vectors}
 use Rattle.minimise.specs.Bases.{IsReduced}
-use Rattle.minimise.proofs.FacetLemmas.{length-both, greatest_within}
+use Rattle.minimise.proofs.FacetLemmas.{length-both}
 use Rattle.minimise.proofs.FaultCases.{list_fault_of_row}
 use Rattle.minimise.proofs.Totals.{total_bound}
 use Rattle.minimise.proofs.parts.parts_of.Goals as goal
 
 pub reduced_rows-requires-clause-within : goal.reduced_rows-requires-clause-within
 reduced_rows-requires-clause-within g c =
-    let flat = c.args.flat.now in
-    let facets = c.in_ok-facets.facets in
     subst (λ (is : List ℕ). All (λ i. i < length c.args.rows.now.rows) is) (sym c.deref.ensures.value)
-    (subst (λ (n : ℕ). All (λ i. i < n) c.in_ok-facets.facets.indices.items) c.requires.as_many.0
-    (greatest_within (map not flat) (length flat) (marked (map not flat) c.args.table.rows) facets.indices.items facets.zeros.rows c.in_ok-facets.ensures.greatest))
+    (λ k d h. omega (arith, (c.in_ok-facets.ensures.greatest.uneven k d h).0, c.requires.as_many))
 
 pub reduced_rows-requires-clause-echelon : goal.reduced_rows-requires-clause-echelon
 reduced_rows-requires-clause-echelon g c = c.in_ok-equalities.ensures.basis.echelon
@@ -29,7 +26,7 @@ returns-in_err-equalities-clause-counted g c =
     let rows = c.args.rows.now.rows in
     let width = c.args.rows.now.width in
     let range = range_with_len 0 (length flat) in
-    let both = length-both flat (vectors rows) range (omega (arith, c.requires.as_many.0, length-vectors rows)) (sym (length-range_with_len 0 (length flat))) in
+    let both = length-both flat (vectors rows) range (omega (arith, c.requires.full.as_many, c.requires.as_many, length-vectors rows)) (sym (length-range_with_len 0 (length flat))) in
     let most = total_bound (length (marked flat (vectors rows))) 0 width width (length rows) (omega arith) (omega (arith, both, length-vectors rows)) in
     (omega (arith, c.basis.ensures.counted), omega (arith, c.basis.ensures.counted, most))
 
@@ -44,7 +41,7 @@ returns-in_err-facets-clause-counted g c =
     let rows = c.args.rows.now.rows in
     let width = c.args.rows.now.width in
     let range = range_with_len 0 (length flat) in
-    let both = length-both flat (vectors rows) range (omega (arith, c.requires.as_many.0, length-vectors rows)) (sym (length-range_with_len 0 (length flat))) in
+    let both = length-both flat (vectors rows) range (omega (arith, c.requires.full.as_many, c.requires.as_many, length-vectors rows)) (sym (length-range_with_len 0 (length flat))) in
     let most = total_bound (length (marked flat (vectors rows))) 0 width width (length rows) (omega arith) (omega (arith, both, length-vectors rows)) in
     (omega (arith, c.basis.ensures.counted), omega (arith, c.basis.ensures.counted, most))
 
@@ -54,9 +51,9 @@ returns-in_err-reduced-clause-counted g c =
     let rows = c.args.rows.now.rows in
     let width = c.args.rows.now.width in
     let range = range_with_len 0 (length flat) in
-    let kept = c.in_ok-facets.facets.indices.items in
-    let both = length-both flat (vectors rows) range (omega (arith, c.requires.as_many.0, length-vectors rows)) (sym (length-range_with_len 0 (length flat))) in
-    let most = total_bound (length (marked flat (vectors rows))) (length kept) width width (length rows) (omega arith) (omega (arith, both, length-vectors rows, c.in_ok-facets.ensures.greatest.fewer)) in
+    let kept = c.in_ok-facets.facets.items in
+    let both = length-both flat (vectors rows) range (omega (arith, c.requires.full.as_many, c.requires.as_many, length-vectors rows)) (sym (length-range_with_len 0 (length flat))) in
+    let most = total_bound (length (marked flat (vectors rows))) (length kept) width width (length rows) (omega arith) (omega (arith, both, length-vectors rows, c.in_ok-facets.ensures.fewer)) in
     let size = ap (λ (is : List ℕ). length is * c.args.rows.now.width) c.deref.ensures.value in
     (omega (arith, c.basis.ensures.counted, c.reduced_rows.ensures.counted), omega (arith, c.basis.ensures.counted, c.reduced_rows.ensures.counted, size, most))
 
@@ -71,9 +68,9 @@ returns-clause-counted g c =
     let rows = c.args.rows.now.rows in
     let width = c.args.rows.now.width in
     let range = range_with_len 0 (length flat) in
-    let kept = c.in_ok-facets.facets.indices.items in
-    let both = length-both flat (vectors rows) range (omega (arith, c.requires.as_many.0, length-vectors rows)) (sym (length-range_with_len 0 (length flat))) in
-    let most = total_bound (length (marked flat (vectors rows))) (length kept) width width (length rows) (omega arith) (omega (arith, both, length-vectors rows, c.in_ok-facets.ensures.greatest.fewer)) in
+    let kept = c.in_ok-facets.facets.items in
+    let both = length-both flat (vectors rows) range (omega (arith, c.requires.full.as_many, c.requires.as_many, length-vectors rows)) (sym (length-range_with_len 0 (length flat))) in
+    let most = total_bound (length (marked flat (vectors rows))) (length kept) width width (length rows) (omega arith) (omega (arith, both, length-vectors rows, c.in_ok-facets.ensures.fewer)) in
     let size = ap (λ (is : List ℕ). length is * c.args.rows.now.width) c.deref.ensures.value in
     (omega (arith, c.basis.ensures.counted, c.reduced_rows.ensures.counted), omega (arith, c.basis.ensures.counted, c.reduced_rows.ensures.counted, size, most))
 
@@ -84,7 +81,6 @@ returns-clause-parts g c = record {
   equalities_fit = c.width-basis_width.ensures.rows;
   equalities_width = c.in_ok-equalities.ensures.list.0;
   equalities_marked = c.in_ok-equalities.ensures.list.1;
-  columns = c.in_ok-facets.ensures.columns;
   greatest = c.in_ok-facets.ensures.greatest;
   made = subst (λ (is : List ℕ). Pointwise (λ i r. IsReduced (vectors c.in_ok-equalities.equalities.rows) (row_at c.args.rows.now.rows i) r) is (vectors c.in_ok-reduced.reduced.rows)) c.deref.ensures.value c.in_ok-reduced.ensures.reduced;
   reduced_width = c.in_ok-reduced.ensures.list.0;

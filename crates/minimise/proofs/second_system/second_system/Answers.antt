@@ -12,10 +12,11 @@ use Rattle.minimise.proofs.FaultCases.{left_fault}
 use Rattle.minimise.proofs.Simplifications.{done_from_arranged}
 use Rattle.minimise.proofs.second_system.second_system.Goals as goal
 
-pub parts_of-requires : goal.parts_of-requires
-parts_of-requires g c =
-    let size : length c.in_ok-table.table.rows ≡ length c.args.rows.now.rows = ap (λ (t : Table). length t.rows) c.in_ok-table.ensures ∙ (turned_tells c.args.rows.now.rows (vectors c.args.rays.now.rows) c.args.sat.now c.requires.sat).as_many in
-    record { as_many = (ap (λ (bs : List Bool). length bs) c.deref.ensures.value ∙ c.in_ok-flat.ensures.as_many ∙ size, size) }
+pub parts_of-requires-clause-as_many : goal.parts_of-requires-clause-as_many
+parts_of-requires-clause-as_many g c = ap (λ (t : Table). length t.rows) c.in_ok-table.ensures ∙ (turned_tells c.args.rows.now.rows (vectors c.args.rays.now.rows) c.args.sat.now c.requires.sat).as_many
+
+pub parts_of-requires-clause-full : goal.parts_of-requires-clause-full
+parts_of-requires-clause-full g c = subst (λ (bs : List Bool). TellsFull c.in_ok-table.table.rows bs) (sym c.deref.ensures.value) c.in_ok-flat.ensures
 
 pub returns-in_err-parts-clause-simplified : goal.returns-in_err-parts-clause-simplified
 returns-in_err-parts-clause-simplified g c =
@@ -29,13 +30,16 @@ returns-in_err-parts-clause-simplified g c =
     let p = err_from_is_err_and c.from_residual-in_err-parts.result c.from_residual-in_err-parts.ensures.1 in
     rw (p.1, p.2) (left_fault c.args.rows.now.width rows c.deref.result.now _ told c.in_err-parts.ensures.parts)
 
-pub arranged-requires : goal.arranged-requires
-arranged-requires g c =
+pub arranged-requires-clause-as_many : goal.arranged-requires-clause-as_many
+arranged-requires-clause-as_many g c =
     let p = c.in_ok-parts.ensures.parts in
-    omega (arith, p.greatest.as_many, p.made.as_many, length-vectors c.in_ok-parts.parts.reduced.rows)
+    omega (arith, p.made.as_many, length-vectors c.in_ok-parts.parts.reduced.rows)
+
+pub arranged-requires-clause-within : goal.arranged-requires-clause-within
+arranged-requires-clause-within g c = λ k d h. (c.in_ok-parts.ensures.parts.greatest.uneven k d h).0
 
 pub returns-clause-simplified : goal.returns-clause-simplified
 returns-clause-simplified g c =
     let full : TellsFull c.in_ok-table.table.rows c.deref.result.now = subst (λ (bs : List Bool). TellsFull c.in_ok-table.table.rows bs) (sym c.deref.ensures.value) c.in_ok-flat.ensures in
     done_from_arranged c.args.rows.now c.args.lines.now c.args.rays.now c.args.sat.now c.in_ok-table.table c.deref.result.now c.in_ok-parts.parts c.in_ok-parts.ensures.parts c.requires.system c.requires.lists c.requires.sat c.in_ok-table.ensures full c.in_ok-arranged.field-0
-    (subst (λ (n : ℕ). IsArranged n c.in_ok-parts.parts c.in_ok-arranged.field-0) c.len-2.ensures c.in_ok-arranged.ensures)
+    (subst (λ (n : ℕ). IsArranged n c.in_ok-table.table c.in_ok-parts.parts c.in_ok-arranged.field-0) c.len.ensures c.in_ok-arranged.ensures)

@@ -12,10 +12,10 @@ loop-index-preserved c =
     record {
       columns = c.push_behind.ensures.columns ∙ inv.columns;
       spare = omega (arith, inv.spare, c.push_behind.ensures.spare);
-      rows = c.push_behind.ensures.rows ∙ ap (λ rs. rs ++ behind_lines c.args.lines (bits_of c.args.zeros.now.rows (get_or c.args.order.now c.loop-index.index 0)) ∷ []) inv.rows
-          ∙ sym (map_more (λ i. behind_lines c.args.lines (bits_of c.args.zeros.now.rows i)) order c.loop-index.index 0 c.loop-index-test.true);
+      rows = c.push_behind.ensures.rows ∙ ap (λ rs. rs ++ behind_lines c.args.lines (bits_of c.args.zeros.now.rows (get_or c.args.places.now (get_or c.args.order.now c.loop-index.index 0) 0)) ∷ []) inv.rows
+          ∙ sym (map_more (λ i. behind_lines c.args.lines (bits_of c.args.zeros.now.rows (get_or c.args.places.now i 0))) order c.loop-index.index 0 c.loop-index-test.true);
     }
 
 pub returns-clause-rows : goal.returns-clause-rows
 returns-clause-rows c =
-    c.loop-index.invariant.rows ∙ ap (λ (is : List ℕ). map (λ i. behind_lines c.args.lines (bits_of c.args.zeros.now.rows i)) is) (take_all c.loop-index.index c.args.order.now c.loop-index-test.false)
+    c.loop-index.invariant.rows ∙ ap (λ (is : List ℕ). map (λ i. behind_lines c.args.lines (bits_of c.args.zeros.now.rows (get_or c.args.places.now i 0))) is) (take_all c.loop-index.index c.args.order.now c.loop-index-test.false)
