@@ -7,10 +7,13 @@ use crate::matrix::SatMatrix;
 /// Among so few rays a search isn't counted.
 const FEW_RAYS: usize = 32;
 
+/// Of fewer rays each one is seen to be crowded or not.
+const SAMPLE: usize = 256;
+
 /// Of how many rays a search for a third one is expected to see one.
 const SEEN: u64 = 32;
 
-/// The rays on one side of a row, and those of them that are 0 on more rows than rays of a simple cone.
+/// The rays on one side of a row, and about how many of them are 0 on more rows than rays of a simple cone.
 #[derive(Clone, Copy)]
 struct RayCount {
     rays: u64,
@@ -23,12 +26,10 @@ impl RayCount {
         crowded: 0,
     };
 
-    // Counts a ray.
-    fn count(&mut self, crowded: bool) {
+    // Counts a ray, and so many that are taken to be crowded.
+    fn count(&mut self, crowded: u64) {
         self.rays = self.rays.saturating_add(1);
-        if crowded {
-            self.crowded = self.crowded.saturating_add(1);
-        }
+        self.crowded = self.crowded.saturating_add(crowded);
     }
 }
 
@@ -59,6 +60,17 @@ pub(crate) fn has_crowded(
     false
 }
 
+/// Of how many rays one is looked at, a power of two: it counts for all of them.
+fn stride_of(rays: usize) -> usize
+    ensures { 0 < result }
+{
+    let mut stride = 1;
+    while stride <= rays / SAMPLE {
+        stride *= 2;
+    }
+    stride
+}
+
 /// How many rays the search for adjacent pairs is expected to look at, from the values of the rays on the
 /// row: one for each pair of a ray above the row and one below it, and part of all rays for each such pair
 /// of which both are 0 on more than one row above the least number, since only for those a third ray is
@@ -71,8 +83,14 @@ pub fn expected_looks(values: &[i128], zeros: &SatMatrix, least: usize) -> u64
     }
     let mut above = RayCount::NONE;
     let mut below = RayCount::NONE;
+    let stride = stride_of(values.len());
     for ray in 0..values.len() {
-        let crowded = is_crowded(zeros, ray, least);
+        let is_seen = ray & (stride - 1) == 0;
+        let crowded = if is_seen && is_crowded(zeros, ray, least) {
+            stride as u64
+        } else {
+            0
+        };
         if values[ray] > 0 {
             above.count(crowded);
         } else if values[ray] < 0 {

@@ -242,7 +242,6 @@ pub(crate) fn push_narrowed(
         OnOk result (HasFound search.now rays 0 pairs.new.items) }
 {
     let rays = search.outer.len();
-    let whole = near.begin(search)?;
-    let level = near.narrow(search, 0, rays, whole)?;
+    let level = near.begin(search)?;
     push_group(search, pairs, near, 0, rays, level)
 }
