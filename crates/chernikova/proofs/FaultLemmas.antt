@@ -1,20 +1,13 @@
-use Rattle.std.specs.Prelude.{◌≡◌, ℕ, ◌+◌, ◌<◌, List, [], ◌∷◌, length, ℤ, pos, slice_index_or, Contains}
-use Rattle.std.proofs.Common.{sym, ap, ◌∙◌, subst, arith, inl, inr}
-use Rattle.std.proofs.lemmas.List.Elements.{Contains-push_cases}
+use Rattle.std.specs.Prelude.{◌≡◌, ℕ, ◌<◌, List, length, ℤ}
+use Rattle.std.proofs.Common.{sym, subst}
 use Rattle.row_core.specs.Range.{DotStays, IsFirstToLeave}
-use Rattle.row_core.specs.Lists.{Row, row_at, vectors, vector_at}
-use Rattle.row_core.specs.Combinations.{CombinationLeaves}
+use Rattle.row_core.specs.Lists.{Row, row_at, vector_at}
 use Rattle.row_store.specs.declared.fault.ValueFault.{ValueFault}
 use Rattle.row_store.specs.declared.fault.ValueFault.TheVariants.{Memory, Dot}
-use Rattle.row_store.specs.declared.fault.CombineFault.{CombineFault}
 use Rattle.row_store.specs.declared.fault.Part.{Part}
-use Rattle.row_store.specs.declared.fault.Part.TheVariants.{Lines, Rays}
-use Rattle.row_store.specs.declared.fault.Place.{Place}
-use Rattle.row_store.specs.Changes.{IsGrown}
+use Rattle.row_store.specs.declared.fault.Part.TheVariants.{Rays}
 use Rattle.chernikova.specs.Faults.{IsDotFault, IsPositionFault}
-use Rattle.row_store.specs.Faults.{IsLowerFault, IsOtherFault, IsLineFault, IsPairFault, IsValuesFault, part_of, part_values}
-use Rattle.row_core.proofs.RowListLemmas.{vector_at-vectors}
-use Rattle.row_store.proofs.ChangeLemmas.{row_at-grown}
+use Rattle.row_store.specs.Faults.{IsValuesFault, part_of}
 
 -- ---- a fault at the value of a ray is one of the row's position
 pub values_fault_at : (rows : List Row) (k : ℕ) (a : List ℤ) (lines rays : List (List ℤ)) (fault : ValueFault) → a ≡ row_at rows k → IsValuesFault a Rays rays fault → IsPositionFault (row_at rows k) lines rays fault

@@ -12,7 +12,7 @@ use Rattle.chernikova.specs.declared.beside.Beside.{Beside}
 use Rattle.chernikova.specs.declared.cone.Cone.{Cone}
 use Rattle.row_core.specs.MarkedLists.{AreLists}
 use Rattle.chernikova.specs.Conversion.{IsState}
-use Rattle.chernikova.specs.RowOrders.{IsPlaced}
+use Rattle.chernikova.specs.Orders.{IsPlaced}
 use Rattle.chernikova.specs.Beside.{IsBeside, IsDone}
 use Rattle.chernikova.proofs.Rankings.{rearranged_canon, rearranged_zeros, rearranged_lists}
 use Rattle.chernikova.proofs.Reordered.{reordered_admit, reordered_zeros}

@@ -2,7 +2,7 @@ use Rattle.std.specs.Prelude.{◌≡◌, ℕ, ◌≤◌, List, length, true, IfS
 use Rattle.row_core.specs.Lists.{Row}
 use Rattle.chernikova.specs.Conversion.{IsState}
 use Rattle.chernikova.specs.Plans.{IsPlan}
-use Rattle.chernikova.specs.RowOrders.{AreReordered}
+use Rattle.ray_order.specs.RowOrders.{AreReordered}
 use Rattle.chernikova.specs.declared.system.System.{System}
 use Rattle.chernikova.specs.declared.taking.Search.{Search}
 use Rattle.chernikova.specs.declared.taking.Search.TheVariants as search

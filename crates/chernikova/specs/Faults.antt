@@ -1,14 +1,12 @@
-use Rattle.std.specs.Prelude.{◌≡◌, ◌≢◌, ℕ, ◌<◌, ◌≤◌, Bool, true, false, Contains, ◌⊎◌, ⊤, List, length, ℤ, pos, slice_index_or}
+use Rattle.std.specs.Prelude.{ℕ, ◌⊎◌, ⊤, List, length, ℤ}
 use Rattle.row_core.specs.Vectors.{dot}
 use Rattle.row_core.specs.Range.{DotStays, IsFirstToLeave}
-use Rattle.row_core.specs.Lists.{Row, row_at, vector_at}
+use Rattle.row_core.specs.Lists.{Row, row_at}
 use Rattle.cone_laws.specs.Leaves.{IsLineCase, IsRayCase}
 use Rattle.row_core.specs.Combinations.{CombinationLeaves}
 use Rattle.row_store.specs.declared.fault.ValueFault.{ValueFault}
 use Rattle.row_store.specs.declared.fault.ValueFault.TheVariants.{Memory, Dot}
 use Rattle.row_store.specs.declared.fault.CombineFault.{CombineFault}
-use Rattle.row_store.specs.declared.fault.Part.{Part}
-use Rattle.row_store.specs.declared.fault.Part.TheVariants.{Lines, Rays}
 use Rattle.row_store.specs.declared.fault.Place.{Place}
 use Rattle.row_store.specs.Faults.{IsPlace, vector_of}
 

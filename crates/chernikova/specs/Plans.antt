@@ -5,7 +5,6 @@ use Rattle.row_core.specs.Lists.{Row, row_at, is_eq_at, vectors, vector_at}
 use Rattle.cone_laws.specs.Steps.{IsLastCrossing}
 use Rattle.row_core.specs.Signs.{stays}
 use Rattle.row_store.specs.Values.{values_on, AllStay, SomeGoes}
-use Rattle.row_core.specs.Pairs.{value_at}
 use Rattle.sat_matrix.specs.Pairs.{AreAllCrosses}
 use Rattle.chernikova.specs.declared.system.System.{System}
 use Rattle.chernikova.specs.declared.plan.Position.{Position}

@@ -1,7 +1,7 @@
-use Rattle.std.specs.Prelude.{◌≡◌, ℕ, ◌+◌, ◌≤◌, ⊤, List, [], length}
+use Rattle.std.specs.Prelude.{ℕ, ◌≤◌, ⊤, List, length}
 use Rattle.sat_matrix.specs.Tables.{Table}
 use Rattle.row_core.specs.Lists.{Row}
-use Rattle.row_store.specs.Vectors.{HasSame}
+use Rattle.row_store.specs.Vectors.{HasSame, HasRoomForStep}
 use Rattle.sat_matrix.specs.TableSteps.{HasFalseColumn}
 use Rattle.chernikova.specs.Conversion.{IsState}
 use Rattle.chernikova.specs.Plans.{IsPlan}
@@ -17,12 +17,7 @@ pub record HasSameVectors (old new : System) : Type 0 where
 
 -- the lists of a line step are empty, and have room for all lines and rays of the next system, and its table for one more row
 pub record HasLineRoom (scratch : Scratch) (cone : System) : Type 0 where
-  pub lines_width : scratch.lines.width ≡ cone.lines.width
-  pub rays_width : scratch.rays.width ≡ cone.lines.width
-  pub no_lines : scratch.lines.rows ≡ []
-  pub no_rays : scratch.rays.rows ≡ []
-  pub lines : length cone.lines.rows ≤ scratch.lines.spare
-  pub rays : length cone.rays.rows + 1 ≤ scratch.rays.spare
+  pub vectors : HasRoomForStep cone.lines cone.rays scratch.lines scratch.rays
   pub zeros : 1 ≤ cone.sat.spare
 
 -- there is room for the ray of each of so many pairs, and for its row of the table

@@ -7,10 +7,10 @@ ghost use Rattle.chernikova.specs.Beside.{IsBeside, IsPlanned, IsRunning, IsDone
 
 use crate::conversion::start;
 use crate::plan::{Plan, Position};
-use crate::row_order::{is_as_listed, places, reordered, sorted_order};
 use crate::scratch::Scratch;
 use crate::system::System;
 use crate::taking::{Search, plan_row_within, take_planned};
+use ray_order::{is_as_listed, places_of, rows_at, sorted_order};
 use row_core::{Memory, RowList, Steps};
 use row_store::VectorList;
 use sat_matrix::SatMatrix;
@@ -108,15 +108,15 @@ impl Beside {
     }
 
     // The conversion of a list before its first row, which runs unless the list is sorted.
-    fn started(alloc: Global, list: &RowList) -> Result<Beside, Memory>
+    fn of_list(alloc: Global, list: &RowList) -> Result<Beside, Memory>
         ensures { IfOk result (IsBeside list.now.width list.now.rows) }
     {
         let order = sorted_order(alloc, list)?;
         if is_as_listed(&order) {
             return Ok(Beside::idle(alloc, true));
         }
-        let places = places(alloc, &order)?;
-        let rows = reordered(alloc, list, &order)?;
+        let places = places_of(alloc, &order)?;
+        let rows = rows_at(alloc, list, &order)?;
         let system = start(alloc, list.width(), &rows)?;
         Ok(Beside {
             begun: true,
@@ -142,7 +142,7 @@ impl Beside {
         if self.begun || !pays(looks, list.len(), taken) {
             return;
         }
-        match Beside::started(alloc, list) {
+        match Beside::of_list(alloc, list) {
             Ok(beside) => *self = beside,
             Err(_) => self.begun = true,
         }
@@ -215,7 +215,7 @@ impl Beside {
         }
         *slack -= combinations;
         let row = self.taken;
-        let _count = self.rows.len();
+        prove!(row < self.rows.len());
         let scratch = &mut self.scratch;
         let system = &mut self.system;
         let Ok(()) = take_planned(alloc, scratch, system, plan, &self.rows, row, steps) else {

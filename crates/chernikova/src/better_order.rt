@@ -1,4 +1,24 @@
 //! The conversion in the better of two orders.
+//!
+//! A bad order of the rows makes many vectors halfway, and no order is good for every list. So two conversions
+//! race: one takes the rows as they are listed, and beside it one takes them in sorted order (the first row,
+//! then the equalities, and then by the columns from the last, which is the constant), unless the list is
+//! sorted. The one that has taken in all rows first gives the answer.
+//!
+//! - *When the second begins.* What the search for pairs will cost at a row is estimated from the rays' values
+//!   before a pair is tested: one look for each pair of a ray above the row and one below it, and part of all
+//!   rays for each of those pairs that may need the search for a third ray. Once 10,000 looks are estimated in
+//!   the list's order, including those of the row that is next, the second has turns before that row: for one
+//!   twenty-fourth as many looks, or seven tenths while it is ahead in rows, its own next row included. Near the
+//!   end of the list it begins only if the looks so far, times the rows that are left, are many. So a row that
+//!   costs many times what all rows before it did waits until the other order has had its part of that cost.
+//! - *How the bound on combinations holds for both.* The bound of the list's order has slack: the vectors of its
+//!   systems less the combinations that were counted. No later row of that order takes from it. At the next row,
+//!   what remains is slack before a pair is sought: if the row is 0 on all lines, these and the rays that meet
+//!   it are in the next system whatever pairs cross. The second conversion makes a row's combinations only if
+//!   all of them fit the slack, so the bound holds for both together; the pairs that it found wait until they do.
+//! - *Overflows.* An overflow of the second conversion ends it and is never shown. If the list's order overflows
+//!   first, the second goes on as far as the slack allows, and may still answer.
 ghost use Rattle.std.specs.Prelude.{◌≡◌, ℕ, ◌+◌, ◌-◌, ◌^◌, ◌<◌, ◌≤◌, true, false, length, map, All, IfOk, IfErr, MatchBool};
 ghost use Rattle.row_core.specs.Lists.{vectors, AreMarked};
 ghost use Rattle.cone_laws.specs.Cones.{Upto};
@@ -7,13 +27,13 @@ ghost use Rattle.cone_laws.specs.SystemLaws.{HasSystemOf};
 ghost use Rattle.sat_matrix.specs.ZeroTables.{IsZeroTable};
 ghost use Rattle.row_core.specs.MarkedLists.{AreLists};
 ghost use Rattle.chernikova.specs.Conversion.{IsState, IsAtStep, IsCountedUpto, IsCountedBefore, IsRealOverflow};
-ghost use Rattle.chernikova.specs.RowOrders.{bits_at, IsPlaced};
+ghost use Rattle.chernikova.specs.Orders.{bits_at, IsPlaced};
 ghost use Rattle.chernikova.specs.Beside.{IsBeside, IsDone};
 
 use crate::beside::Beside;
 use crate::cone::Cone;
 use crate::conversion::start;
-use crate::order::{rearranged, sorted};
+use crate::order::{sorted_cone, table_rows_at};
 use crate::scratch::Scratch;
 use crate::system::System;
 use crate::taking::{row_position, take_row_sparing};
@@ -24,113 +44,6 @@ use std::sync::ledger::Ledger;
 
 /// As how many looks at rays it counts that there is one more.
 const LOOKS_OF_A_RAY: u64 = 24;
-
-/// The table with its columns in the order of the places.
-fn in_list_order(alloc: Global, sat: &SatMatrix, places: &[usize]) -> Result<SatMatrix, Memory>
-    requires { All (λ i. i < sat.now.columns) places.now }
-    ensures columns { IfOk result (λ new. new.columns ≡ length places.now) }
-    ensures rows { IfOk result (λ new. new.rows ≡ map (bits_at places.now) sat.now.rows) }
-{
-    let turned = sat.transpose()?;
-    let placed = rearranged(alloc, &turned, places)?;
-    placed.transpose()
-}
-
-/// What a conversion in another order gives, with the columns of its table in the list's order.
-fn answered(alloc: Global, beside: &Beside) -> Result<Cone, Memory>
-    requires as_many { length beside.now.system.sat.rows ≡ length beside.now.system.rays.rows }
-    requires lines { AreMarked true beside.now.system.lines.rows }
-    requires rays { AreMarked false beside.now.system.rays.rows }
-    requires places { All (λ i. i < beside.now.system.sat.columns) beside.now.places.items }
-    ensures { IfOk result (IsPlaced beside.now.system beside.now.places.items) }
-{
-    let Cone { lines, rays, sat } = sorted(alloc, &beside.system)?;
-    let listed = in_list_order(alloc, &sat, &beside.places)?;
-    Ok(Cone {
-        lines,
-        rays,
-        sat: listed,
-    })
-}
-
-/// Takes row `k` into the system unless the other conversion, which has its turns before the pairs of the
-/// row are sought, then has all rows, and tells whether it has.
-fn take_row_beside<L: Ledger>(
-    alloc: Global,
-    scratch: &mut Scratch,
-    cone: &mut System,
-    beside: &mut Beside,
-    rows: &RowList,
-    k: usize,
-    looks: &mut u64,
-    slack: &mut u128,
-    steps: &mut Steps<L>,
-) -> Result<bool, ConvErr>
-    requires row { k < length rows.now.rows }
-    requires state { IsState rows.now.width rows.now.rows k cone.old }
-    requires beside { IsBeside rows.now.width rows.now.rows beside.old }
-    ensures beside { IsBeside rows.now.width rows.now.rows beside.new }
-    ensures done { IfOk result (λ other. MatchBool other (IsDone rows.now.width rows.now.rows beside.new) (IsState rows.now.width rows.now.rows (k + 1) cone.new)) }
-    ensures overflow { IfErr result (IsRealOverflow rows.now.width rows.now.rows) }
-    ensures step { IfErr result (IsAtStep k) }
-    ensures no_fewer { steps.old ≤ steps.new }
-    ensures counted { HasSystemOf rows.now.width rows.now.rows (k + 1) (steps.new + slack.new - (steps.old + slack.old)) }
-{
-    let position = row_position(alloc, scratch, cone, rows, k)?;
-    let least = least_shared(rows.width(), cone.lines.len());
-    *looks = looks.saturating_add(position.looks(&cone.sat, least));
-    beside.begin(alloc, rows, *looks, k);
-    let kept = beside.slack_before(&position, rows.is_eq(k), cone);
-    *slack = slack.saturating_add(kept);
-    beside.follow(alloc, rows, *looks, k, slack, steps);
-    if beside.is_done(rows) {
-        return Ok(true);
-    }
-    let count = cone.rays.len();
-    let spared = take_row_sparing(alloc, scratch, cone, position, rows, k, steps)?;
-    *slack = slack.saturating_add(spared.saturating_sub(kept));
-    let gained = cone.rays.len().saturating_sub(count) as u64;
-    *looks = looks.saturating_add(gained.saturating_mul(LOOKS_OF_A_RAY));
-    Ok(false)
-}
-
-/// Takes in rows in both orders until one of the conversions has all, and tells whether the other has.
-fn race<L: Ledger>(
-    alloc: Global,
-    cone: &mut System,
-    beside: &mut Beside,
-    rows: &RowList,
-    steps: &mut Steps<L>,
-) -> Result<bool, ConvErr>
-    requires state { IsState rows.now.width rows.now.rows 0 cone.old }
-    requires beside { IsBeside rows.now.width rows.now.rows beside.old }
-    ensures done { IfOk result (λ other. MatchBool other (IsDone rows.now.width rows.now.rows beside.new) (IsState rows.now.width rows.now.rows (length rows.now.rows) cone.new)) }
-    ensures overflow { IfErr result (IsRealOverflow rows.now.width rows.now.rows) }
-    ensures no_fewer { steps.old ≤ steps.new }
-    ensures counted { IsCountedUpto rows.now.width rows.now.rows (length rows.now.rows) (steps.new - steps.old) }
-    ensures counted_before { IfErr result (IsCountedBefore rows.now.width rows.now.rows (steps.new - steps.old)) }
-{
-    let mut scratch = Scratch::new(alloc);
-    let mut looks = 0u64;
-    let mut slack = 0u128;
-    for k in 0..rows.len() {
-        let scratch = &mut scratch;
-        match take_row_beside(
-            alloc, scratch, cone, beside, rows, k, &mut looks, &mut slack, steps,
-        ) {
-            Ok(false) => {}
-            Ok(true) => return Ok(true),
-            Err(error) => {
-                beside.go_on(alloc, rows, &mut slack, steps);
-                if beside.is_done(rows) {
-                    return Ok(true);
-                }
-                return Err(error);
-            }
-        }
-    }
-    Ok(false)
-}
 
 /// What [`convert`] gives, by the better of two orders: the rows are taken in as they are listed and, once
 /// the search for pairs of rays looks at many, beside that in sorted order, until one conversion has all
@@ -158,11 +71,144 @@ pub fn convert_in_better_order<L: Ledger>(
     ensures counted { IsCountedUpto width rows.now.rows (length rows.now.rows) (steps.new - steps.old) }
     ensures counted_before { IfErr result (IsCountedBefore width rows.now.rows (steps.new - steps.old)) }
 {
-    let mut cone = start(alloc, width, rows)?;
-    let mut beside = Beside::waiting(alloc);
-    let other = race(alloc, &mut cone, &mut beside, rows, steps)?;
+    let system = start(alloc, width, rows)?;
+    let mut race = Race {
+        system,
+        scratch: Scratch::new(alloc),
+        beside: Beside::waiting(alloc),
+        looks: 0,
+        slack: 0,
+    };
+    let other = race.run(alloc, rows, steps)?;
     if other {
-        return Ok(answered(alloc, &beside)?);
+        return Ok(cone_of_other_order(alloc, &race.beside)?);
     }
-    Ok(sorted(alloc, &cone)?)
+    Ok(sorted_cone(alloc, &race.system)?)
+}
+
+/// A race of two conversions of a list: the system of the rows in the list's order, the conversion beside it,
+/// how many looks at rays the first is expected to have taken so far, and how many of the combinations that its
+/// bound allows are left to the second.
+#[derive(Drop)]
+struct Race {
+    system: System,
+    scratch: Scratch,
+    beside: Beside,
+    looks: u64,
+    slack: u128,
+}
+
+impl Race {
+    // Takes row `k` into the system unless the other conversion, which has its turns before the pairs of the
+    // row are sought, then has all rows, and tells whether it has.
+    fn take_row<L: Ledger>(
+        &mut self,
+        alloc: Global,
+        rows: &RowList,
+        k: usize,
+        steps: &mut Steps<L>,
+    ) -> Result<bool, ConvErr>
+        requires row { k < length rows.now.rows }
+        requires state { IsState rows.now.width rows.now.rows k self.old.system }
+        requires beside { IsBeside rows.now.width rows.now.rows self.old.beside }
+        ensures beside { IsBeside rows.now.width rows.now.rows self.new.beside }
+        ensures done { let list = rows.now in
+            IfOk result (λ other. MatchBool other (IsDone list.width list.rows self.new.beside)
+            (IsState list.width list.rows (k + 1) self.new.system)) }
+        ensures overflow { IfErr result (IsRealOverflow rows.now.width rows.now.rows) }
+        ensures step { IfErr result (IsAtStep k) }
+        ensures no_fewer { steps.old ≤ steps.new }
+        ensures counted { let gain = steps.new + self.new.slack - (steps.old + self.old.slack) in
+            HasSystemOf rows.now.width rows.now.rows (k + 1) gain }
+    {
+        let position = row_position(alloc, &mut self.scratch, &self.system, rows, k)?;
+        let least = least_shared(rows.width(), self.system.lines.len());
+        self.looks = self
+            .looks
+            .saturating_add(position.looks(&self.system.sat, least));
+        self.beside.begin(alloc, rows, self.looks, k);
+        let kept = self
+            .beside
+            .slack_before(&position, rows.is_eq(k), &self.system);
+        self.slack = self.slack.saturating_add(kept);
+        self.beside
+            .follow(alloc, rows, self.looks, k, &mut self.slack, steps);
+        if self.beside.is_done(rows) {
+            return Ok(true);
+        }
+        let count = self.system.rays.len();
+        let scratch = &mut self.scratch;
+        let system = &mut self.system;
+        let spared = take_row_sparing(alloc, scratch, system, position, rows, k, steps)?;
+        self.slack = self.slack.saturating_add(spared.saturating_sub(kept));
+        let gained = self.system.rays.len().saturating_sub(count) as u64;
+        self.looks = self
+            .looks
+            .saturating_add(gained.saturating_mul(LOOKS_OF_A_RAY));
+        Ok(false)
+    }
+
+    // Takes in rows in both orders until one of the conversions has all, and tells whether the other has.
+    fn run<L: Ledger>(
+        &mut self,
+        alloc: Global,
+        rows: &RowList,
+        steps: &mut Steps<L>,
+    ) -> Result<bool, ConvErr>
+        requires state { IsState rows.now.width rows.now.rows 0 self.old.system }
+        requires beside { IsBeside rows.now.width rows.now.rows self.old.beside }
+        requires slack { self.old.slack ≡ 0 }
+        ensures done { let list = rows.now in
+            IfOk result (λ other. MatchBool other (IsDone list.width list.rows self.new.beside)
+            (IsState list.width list.rows (length list.rows) self.new.system)) }
+        ensures overflow { IfErr result (IsRealOverflow rows.now.width rows.now.rows) }
+        ensures no_fewer { steps.old ≤ steps.new }
+        ensures counted { let list = rows.now in
+            IsCountedUpto list.width list.rows (length list.rows) (steps.new - steps.old) }
+        ensures counted_before { let list = rows.now in
+            IfErr result (IsCountedBefore list.width list.rows (steps.new - steps.old)) }
+    {
+        for k in 0..rows.len() {
+            match self.take_row(alloc, rows, k, steps) {
+                Ok(false) => {}
+                Ok(true) => return Ok(true),
+                Err(error) => {
+                    self.beside.go_on(alloc, rows, &mut self.slack, steps);
+                    if self.beside.is_done(rows) {
+                        return Ok(true);
+                    }
+                    return Err(error);
+                }
+            }
+        }
+        Ok(false)
+    }
+}
+
+/// The table with its columns in the order of the places.
+fn in_list_order(alloc: Global, sat: &SatMatrix, places: &[usize]) -> Result<SatMatrix, Memory>
+    requires { All (λ i. i < sat.now.columns) places.now }
+    ensures columns { IfOk result (λ new. new.columns ≡ length places.now) }
+    ensures rows { IfOk result (λ new. new.rows ≡ map (bits_at places.now) sat.now.rows) }
+{
+    let turned = sat.transpose()?;
+    let placed = table_rows_at(alloc, &turned, places)?;
+    placed.transpose()
+}
+
+/// What a conversion in another order gives, with the columns of its table in the list's order.
+fn cone_of_other_order(alloc: Global, beside: &Beside) -> Result<Cone, Memory>
+    requires as_many { length beside.now.system.sat.rows ≡ length beside.now.system.rays.rows }
+    requires lines { AreMarked true beside.now.system.lines.rows }
+    requires rays { AreMarked false beside.now.system.rays.rows }
+    requires places { All (λ i. i < beside.now.system.sat.columns) beside.now.places.items }
+    ensures { IfOk result (IsPlaced beside.now.system beside.now.places.items) }
+{
+    let Cone { lines, rays, sat } = sorted_cone(alloc, &beside.system)?;
+    let listed = in_list_order(alloc, &sat, &beside.places)?;
+    Ok(Cone {
+        lines,
+        rays,
+        sat: listed,
+    })
 }

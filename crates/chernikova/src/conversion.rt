@@ -11,8 +11,8 @@ ghost use Rattle.row_core.specs.MarkedLists.{AreLists};
 ghost use Rattle.chernikova.specs.Conversion.{IsState, IsAtStep, IsCountedUpto, IsCountedBetween, IsCountedBefore, IsCountedBeforeFrom, IsConverted, IsRealOverflow, IsRealOverflowFrom, TellsChange};
 
 use crate::cone::{Added, Cone};
-use crate::lists::{copied, joined, reopened};
-use crate::order::sorted;
+use crate::lists::{rows_of_both, system_of_cone, system_of_copy};
+use crate::order::sorted_cone;
 use crate::scratch::Scratch;
 use crate::system::System;
 use crate::taking::{plan_row, take_planned};
@@ -21,6 +21,104 @@ use row_store::VectorList;
 use sat_matrix::SatMatrix;
 use std::alloc::Global;
 use std::sync::ledger::Ledger;
+
+/// The canonical system of the cone of the rows: all vectors on which each equality is 0 and each
+/// inequality is at least 0. The rows are taken in their order, from all unit vectors as lines.
+///
+/// # Errors
+///
+/// An overflow shows a vector of the system of the rows before one of them, and that row or another
+/// vector of the system, whose dot product or needed combination leaves the range. What was counted up
+/// to it is bounded by the systems of the rows up to that row.
+pub fn convert<L: Ledger>(
+    alloc: Global,
+    width: usize,
+    rows: &RowList,
+    steps: &mut Steps<L>,
+) -> Result<Cone, ConvErr>
+    requires width { rows.now.width ≡ width }
+    requires narrow { width < 2 ^ 32 }
+    ensures canon { IfOk result (λ cone. Canon (Upto width rows.now.rows (length rows.now.rows)) (vectors cone.lines.rows) (vectors cone.rays.rows)) }
+    ensures lists { IfOk result (λ cone. AreLists width cone.lines cone.rays) }
+    ensures sat { IfOk result (λ cone. IsZeroTable rows.now.rows (length rows.now.rows) (vectors cone.rays.rows) cone.sat) }
+    ensures overflow { IfErr result (IsRealOverflow width rows.now.rows) }
+    ensures no_fewer { steps.old ≤ steps.new }
+    ensures counted { IsCountedUpto width rows.now.rows (length rows.now.rows) (steps.new - steps.old) }
+    ensures counted_before { IfErr result (IsCountedBefore width rows.now.rows (steps.new - steps.old)) }
+{
+    let mut cone = start(alloc, width, rows)?;
+    take_rows(alloc, &mut cone, rows, 0, steps)?;
+    Ok(sorted_cone(alloc, &cone)?)
+}
+
+/// What [`convert`] gives on the rows that were taken, followed by more rows, from the canonical system
+/// of those that were taken with its table.
+///
+/// # Errors
+///
+/// Those of [`convert`] on that list, at one of the further rows.
+pub fn add_rows<L: Ledger>(
+    alloc: Global,
+    cone: &Cone,
+    taken: &RowList,
+    more: &RowList,
+    steps: &mut Steps<L>,
+) -> Result<Cone, ConvErr>
+    requires width { more.now.width ≡ taken.now.width }
+    requires cone { IsConverted taken.now.width taken.now.rows cone.now }
+    ensures cone { let rows = taken.now.rows ++ more.now.rows in
+        IfOk result (IsConverted taken.now.width rows) }
+    ensures overflow { let rows = taken.now.rows ++ more.now.rows in
+        IfErr result (IsRealOverflowFrom taken.now.width rows (length taken.now.rows)) }
+    ensures no_fewer { steps.old ≤ steps.new }
+    ensures counted { let rows = taken.now.rows ++ more.now.rows in
+        let from = length taken.now.rows in
+        IsCountedBetween taken.now.width rows from (length rows) (steps.new - steps.old) }
+    ensures counted_before { let rows = taken.now.rows ++ more.now.rows in
+        let from = length taken.now.rows in
+        IfErr result (IsCountedBeforeFrom taken.now.width rows from (steps.new - steps.old)) }
+{
+    let rows = rows_of_both(taken, more)?;
+    prove!(rows.width() < 0x1_0000_0000);
+    let mut system = system_of_copy(alloc, cone)?;
+    let from = taken.len();
+    take_rows(alloc, &mut system, &rows, from, steps)?;
+    Ok(sorted_cone(alloc, &system)?)
+}
+
+/// What [`convert`] gives on a list, from the system of its first `from` rows with its table, and whether
+/// the further rows changed it: they didn't where each line and ray of it meets them all. The rays may
+/// stand in any order. The list isn't copied, and the system is used up.
+///
+/// # Errors
+///
+/// Those of [`convert`], at one of the further rows.
+pub fn add_rows_from<L: Ledger>(
+    alloc: Global,
+    cone: Cone,
+    rows: &RowList,
+    from: usize,
+    steps: &mut Steps<L>,
+) -> Result<Added, ConvErr>
+    requires from { from ≤ length rows.now.rows }
+    requires system { IsSystem (Upto rows.now.width rows.now.rows from) (vectors cone.lines.rows) (vectors cone.rays.rows) }
+    requires lists { AreLists rows.now.width cone.lines cone.rays }
+    requires sat { IsZeroTable rows.now.rows from (vectors cone.rays.rows) cone.sat }
+    ensures canon { IfOk result (λ added. Canon (Upto rows.now.width rows.now.rows (length rows.now.rows)) (vectors added.cone.lines.rows) (vectors added.cone.rays.rows)) }
+    ensures lists { IfOk result (λ added. AreLists rows.now.width added.cone.lines added.cone.rays) }
+    ensures sat { IfOk result (λ added. IsZeroTable rows.now.rows (length rows.now.rows) (vectors added.cone.rays.rows) added.cone.sat) }
+    ensures changed { IfOk result (λ added. TellsChange rows.now.width rows.now.rows from (length rows.now.rows) added.changed) }
+    ensures overflow { IfErr result (IsRealOverflowFrom rows.now.width rows.now.rows from) }
+    ensures no_fewer { steps.old ≤ steps.new }
+    ensures counted { IsCountedBetween rows.now.width rows.now.rows from (length rows.now.rows) (steps.new - steps.old) }
+    ensures counted_before { IfErr result (IsCountedBeforeFrom rows.now.width rows.now.rows from (steps.new - steps.old)) }
+{
+    prove!(rows.width() < 0x1_0000_0000);
+    let mut system = system_of_cone(alloc, cone)?;
+    let changed = take_rows(alloc, &mut system, rows, from, steps)?;
+    let cone = sorted_cone(alloc, &system)?;
+    Ok(Added { cone, changed })
+}
 
 /// All unit vectors, as lines.
 fn units(alloc: Global, width: usize) -> Result<VectorList, Memory>
@@ -96,102 +194,4 @@ fn take_rows<L: Ledger>(
         changed |= row_changes;
     }
     Ok(changed)
-}
-
-/// The canonical system of the cone of the rows: all vectors on which each equality is 0 and each
-/// inequality is at least 0. The rows are taken in their order, from all unit vectors as lines.
-///
-/// # Errors
-///
-/// An overflow shows a vector of the system of the rows before one of them, and that row or another
-/// vector of the system, whose dot product or needed combination leaves the range. What was counted up
-/// to it is bounded by the systems of the rows up to that row.
-pub fn convert<L: Ledger>(
-    alloc: Global,
-    width: usize,
-    rows: &RowList,
-    steps: &mut Steps<L>,
-) -> Result<Cone, ConvErr>
-    requires width { rows.now.width ≡ width }
-    requires narrow { width < 2 ^ 32 }
-    ensures canon { IfOk result (λ cone. Canon (Upto width rows.now.rows (length rows.now.rows)) (vectors cone.lines.rows) (vectors cone.rays.rows)) }
-    ensures lists { IfOk result (λ cone. AreLists width cone.lines cone.rays) }
-    ensures sat { IfOk result (λ cone. IsZeroTable rows.now.rows (length rows.now.rows) (vectors cone.rays.rows) cone.sat) }
-    ensures overflow { IfErr result (IsRealOverflow width rows.now.rows) }
-    ensures no_fewer { steps.old ≤ steps.new }
-    ensures counted { IsCountedUpto width rows.now.rows (length rows.now.rows) (steps.new - steps.old) }
-    ensures counted_before { IfErr result (IsCountedBefore width rows.now.rows (steps.new - steps.old)) }
-{
-    let mut cone = start(alloc, width, rows)?;
-    take_rows(alloc, &mut cone, rows, 0, steps)?;
-    Ok(sorted(alloc, &cone)?)
-}
-
-/// What [`convert`] gives on the rows that were taken, followed by more rows, from the canonical system
-/// of those that were taken with its table.
-///
-/// # Errors
-///
-/// Those of [`convert`] on that list, at one of the further rows.
-pub fn add_rows<L: Ledger>(
-    alloc: Global,
-    cone: &Cone,
-    taken: &RowList,
-    more: &RowList,
-    steps: &mut Steps<L>,
-) -> Result<Cone, ConvErr>
-    requires width { more.now.width ≡ taken.now.width }
-    requires cone { IsConverted taken.now.width taken.now.rows cone.now }
-    ensures cone { let rows = taken.now.rows ++ more.now.rows in
-        IfOk result (IsConverted taken.now.width rows) }
-    ensures overflow { let rows = taken.now.rows ++ more.now.rows in
-        IfErr result (IsRealOverflowFrom taken.now.width rows (length taken.now.rows)) }
-    ensures no_fewer { steps.old ≤ steps.new }
-    ensures counted { let rows = taken.now.rows ++ more.now.rows in
-        let from = length taken.now.rows in
-        IsCountedBetween taken.now.width rows from (length rows) (steps.new - steps.old) }
-    ensures counted_before { let rows = taken.now.rows ++ more.now.rows in
-        let from = length taken.now.rows in
-        IfErr result (IsCountedBeforeFrom taken.now.width rows from (steps.new - steps.old)) }
-{
-    let rows = joined(alloc, taken, more)?;
-    let _narrow = rows.width();
-    let mut system = copied(alloc, cone)?;
-    let from = taken.len();
-    take_rows(alloc, &mut system, &rows, from, steps)?;
-    Ok(sorted(alloc, &system)?)
-}
-
-/// What [`convert`] gives on a list, from the system of its first `from` rows with its table, and whether
-/// the further rows changed it: they didn't where each line and ray of it meets them all. The rays may
-/// stand in any order. The list isn't copied, and the system is used up.
-///
-/// # Errors
-///
-/// Those of [`convert`], at one of the further rows.
-pub fn add_rows_from<L: Ledger>(
-    alloc: Global,
-    cone: Cone,
-    rows: &RowList,
-    from: usize,
-    steps: &mut Steps<L>,
-) -> Result<Added, ConvErr>
-    requires from { from ≤ length rows.now.rows }
-    requires system { IsSystem (Upto rows.now.width rows.now.rows from) (vectors cone.lines.rows) (vectors cone.rays.rows) }
-    requires lists { AreLists rows.now.width cone.lines cone.rays }
-    requires sat { IsZeroTable rows.now.rows from (vectors cone.rays.rows) cone.sat }
-    ensures canon { IfOk result (λ added. Canon (Upto rows.now.width rows.now.rows (length rows.now.rows)) (vectors added.cone.lines.rows) (vectors added.cone.rays.rows)) }
-    ensures lists { IfOk result (λ added. AreLists rows.now.width added.cone.lines added.cone.rays) }
-    ensures sat { IfOk result (λ added. IsZeroTable rows.now.rows (length rows.now.rows) (vectors added.cone.rays.rows) added.cone.sat) }
-    ensures changed { IfOk result (λ added. TellsChange rows.now.width rows.now.rows from (length rows.now.rows) added.changed) }
-    ensures overflow { IfErr result (IsRealOverflowFrom rows.now.width rows.now.rows from) }
-    ensures no_fewer { steps.old ≤ steps.new }
-    ensures counted { IsCountedBetween rows.now.width rows.now.rows from (length rows.now.rows) (steps.new - steps.old) }
-    ensures counted_before { IfErr result (IsCountedBeforeFrom rows.now.width rows.now.rows from (steps.new - steps.old)) }
-{
-    let _narrow = rows.width();
-    let mut system = reopened(alloc, cone)?;
-    let changed = take_rows(alloc, &mut system, rows, from, steps)?;
-    let cone = sorted(alloc, &system)?;
-    Ok(Added { cone, changed })
 }

@@ -3,32 +3,15 @@ ghost use Rattle.std.specs.Prelude.{◌≡◌, ◌^◌, ◌<◌, length, IfOk};
 ghost use Rattle.row_core.specs.Range.{AllInRange};
 ghost use Rattle.row_core.specs.Lists.{row_at, vectors};
 ghost use Rattle.cone_laws.specs.Leaves.{Shows};
-ghost use Rattle.row_store.specs.Faults.{IsPlace, vector_of};
 ghost use Rattle.chernikova.specs.Faults.{IsPositionFault, IsCombineFault};
 
 use crate::system::System;
-use row_core::{Memory, OverKind, Overflow, RowBuf, RowList};
-use row_store::{CombineFault, Part, Place, ValueFault};
+use row_core::{Memory, OverKind, Overflow, RowList};
+use row_store::{CombineFault, ValueFault};
 use std::alloc::Global;
 
-impl System {
-    // Lends a vector.
-    fn vector(&self, place: Place) -> &[i128]
-        requires place { IsPlace (vectors self.now.lines.rows) (vectors self.now.rays.rows) place }
-        requires width { self.now.lines.width ≡ self.now.rays.width }
-        ensures value { result.now ≡ vector_of (vectors self.now.lines.rows) (vectors self.now.rays.rows) place }
-        ensures in_range { AllInRange result.now }
-        ensures wide { length result.now ≡ self.now.lines.width }
-    {
-        match place.part {
-            Part::Lines => self.lines.row(place.index),
-            Part::Rays => self.rays.row(place.index),
-        }
-    }
-}
-
 /// Copies the vector that a fault names at row `k`, and the row.
-pub(crate) fn shown_dot(
+pub(crate) fn overflow_of_dot(
     alloc: Global,
     cone: &System,
     rows: &RowList,
@@ -49,18 +32,15 @@ pub(crate) fn shown_dot(
 {
     match fault {
         ValueFault::Memory => Err(Memory),
-        ValueFault::Dot { vector, column } => Ok(Overflow {
-            kind: OverKind::Dot,
-            step: k as u64,
-            left: RowBuf::new(alloc, cone.vector(vector))?,
-            right: RowBuf::new(alloc, rows.row(k))?,
-            column,
-        }),
+        ValueFault::Dot { vector, column } => {
+            let left = vector.vector(&cone.lines, &cone.rays);
+            overflow_at(alloc, OverKind::Dot, k, left, rows.row(k), column)
+        }
     }
 }
 
 /// Copies the two vectors that a fault names at the step with row `k`.
-pub(crate) fn shown_combination(
+pub(crate) fn overflow_of_combination(
     alloc: Global,
     cone: &System,
     rows: &RowList,
@@ -79,11 +59,26 @@ pub(crate) fn shown_combination(
         IfOk result (λ over. (over.step ≡ k) ×
         Shows over.kind rows.now.rows k lines rays over.left over.right over.column) }
 {
-    Ok(Overflow {
-        kind: OverKind::Combine,
-        step: k as u64,
-        left: RowBuf::new(alloc, cone.vector(fault.left))?,
-        right: RowBuf::new(alloc, cone.vector(fault.right))?,
-        column: fault.column,
-    })
+    let left = fault.left.vector(&cone.lines, &cone.rays);
+    let right = fault.right.vector(&cone.lines, &cone.rays);
+    overflow_at(alloc, OverKind::Combine, k, left, right, fault.column)
+}
+
+/// The overflow of the step with row `k` that shows copies of two vectors.
+fn overflow_at(
+    alloc: Global,
+    kind: OverKind,
+    k: usize,
+    left: &[i128],
+    right: &[i128],
+    column: u32,
+) -> Result<Overflow, Memory>
+    requires left { AllInRange left.now × (length left.now < 2 ^ 32) }
+    requires right { AllInRange right.now × (length right.now < 2 ^ 32) }
+    ensures { IfOk result (λ over. over ≡ record
+        { kind = kind; step = k; left = left.now; right = right.now; column = column }) }
+{
+    let mut over = Overflow::of_rows(alloc, kind, left, right, column)?;
+    over.step = k as u64;
+    Ok(over)
 }

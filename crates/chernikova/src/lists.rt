@@ -1,5 +1,5 @@
 //! Copies of lists and of systems, from one form into the other.
-ghost use Rattle.std.specs.Prelude.{◌≡◌, ◌++◌, true, false, IfOk, OnOk};
+ghost use Rattle.std.specs.Prelude.{◌≡◌, ◌++◌, true, false, IfOk};
 ghost use Rattle.row_core.specs.Lists.{AreMarked};
 ghost use Rattle.chernikova.specs.Conversion.{IsReopened};
 ghost use Rattle.row_store.specs.Vectors.{as_rows};
@@ -11,7 +11,7 @@ use row_store::VectorList;
 use std::alloc::Global;
 
 /// The vectors as a list of rows, all with the mark.
-pub(crate) fn listed(alloc: Global, vectors: &VectorList, eq: bool) -> Result<RowList, Memory>
+pub(crate) fn row_list_of(alloc: Global, vectors: &VectorList, eq: bool) -> Result<RowList, Memory>
     requires { AreMarked eq vectors.now.rows }
     ensures { IfOk result (λ list. list ≡ as_rows vectors.now) }
 {
@@ -22,26 +22,14 @@ pub(crate) fn listed(alloc: Global, vectors: &VectorList, eq: bool) -> Result<Ro
     Ok(list)
 }
 
-/// The rows as vectors in one buffer.
-fn stored(alloc: Global, list: &RowList, eq: bool) -> Result<VectorList, Memory>
-    requires { AreMarked eq list.now.rows }
-    ensures { IfOk result (λ vectors. as_rows vectors ≡ list.now) }
-{
-    let mut vectors = VectorList::with_room(alloc, list.width(), list.len())?;
-    for index in 0..list.len() {
-        vectors.push(list.row(index), eq)?;
-    }
-    Ok(vectors)
-}
-
 /// The system that a conversion gave, to take in further rows.
-pub(crate) fn reopened(alloc: Global, cone: Cone) -> Result<System, Memory>
+pub(crate) fn system_of_cone(alloc: Global, cone: Cone) -> Result<System, Memory>
     requires lines { AreMarked true cone.lines.rows }
     requires rays { AreMarked false cone.rays.rows }
     ensures { IfOk result (IsReopened cone) }
 {
-    let lines = stored(alloc, &cone.lines, true)?;
-    let rays = stored(alloc, &cone.rays, false)?;
+    let lines = vector_list_of(alloc, &cone.lines, true)?;
+    let rays = vector_list_of(alloc, &cone.rays, false)?;
     Ok(System {
         lines,
         rays,
@@ -50,38 +38,38 @@ pub(crate) fn reopened(alloc: Global, cone: Cone) -> Result<System, Memory>
 }
 
 /// A copy of the system that a conversion gave, to take in further rows.
-pub(crate) fn copied(alloc: Global, cone: &Cone) -> Result<System, Memory>
+pub(crate) fn system_of_copy(alloc: Global, cone: &Cone) -> Result<System, Memory>
     requires lines { AreMarked true cone.now.lines.rows }
     requires rays { AreMarked false cone.now.rays.rows }
     ensures { IfOk result (IsReopened cone.now) }
 {
-    let lines = stored(alloc, &cone.lines, true)?;
-    let rays = stored(alloc, &cone.rays, false)?;
+    let lines = vector_list_of(alloc, &cone.lines, true)?;
+    let rays = vector_list_of(alloc, &cone.rays, false)?;
     let sat = cone.sat.clone()?;
     Ok(System { lines, rays, sat })
 }
 
-/// Appends the rows of another list.
-fn push_all(list: &mut RowList, rows: &RowList) -> Result<(), Memory>
-    requires { rows.now.width ≡ list.old.width }
-    ensures width { list.new.width ≡ list.old.width }
-    ensures rows { OnOk result (list.new.rows ≡ list.old.rows ++ rows.now.rows) }
-{
-    for index in 0..rows.len() {
-        list.push(rows.row(index), rows.is_eq(index))?;
-    }
-    Ok(())
-}
-
 /// The rows of a list, and then those of another.
-pub(crate) fn joined(alloc: Global, first: &RowList, second: &RowList) -> Result<RowList, Memory>
+pub(crate) fn rows_of_both(first: &RowList, second: &RowList) -> Result<RowList, Memory>
     requires { second.now.width ≡ first.now.width }
     ensures width { IfOk result (λ both. both.width ≡ first.now.width) }
     ensures rows { IfOk result (λ both. both.rows ≡ first.now.rows ++ second.now.rows) }
 {
-    let count = first.len().saturating_add(second.len());
-    let mut both = RowList::with_room(alloc, first.width(), count)?;
-    push_all(&mut both, first)?;
-    push_all(&mut both, second)?;
+    let mut both = first.clone()?;
+    for index in 0..second.len() {
+        both.push(second.row(index), second.is_eq(index))?;
+    }
     Ok(both)
+}
+
+/// The rows as vectors in one buffer.
+fn vector_list_of(alloc: Global, list: &RowList, eq: bool) -> Result<VectorList, Memory>
+    requires { AreMarked eq list.now.rows }
+    ensures { IfOk result (λ vectors. as_rows vectors ≡ list.now) }
+{
+    let mut vectors = VectorList::with_room(alloc, list.width(), list.len())?;
+    for index in 0..list.len() {
+        vectors.push(list.row(index), eq)?;
+    }
+    Ok(vectors)
 }

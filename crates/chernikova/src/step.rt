@@ -7,14 +7,13 @@ ghost use Rattle.chernikova.specs.Plans.{IsPosition, IsPlan, combinations_of};
 ghost use Rattle.sat_matrix.specs.TableSteps.{HasFalseColumn};
 ghost use Rattle.chernikova.specs.Rooms.{HasSameVectors, HasRoom, IsReady};
 
-use crate::line_step::line_step;
 use crate::plan::{Plan, Position};
 use crate::scratch::Scratch;
 use crate::system::System;
 use row_core::{Memory, RowList, Steps, all_narrow};
 use row_store::{
-    CombineFault, Part, ValueFault, all_meet, last_crossing, make_empty, mark_pairs, marks,
-    ray_step, values,
+    CombineFault, Part, SystemOnRow, ValueFault, all_meet, last_crossing, line_step, make_empty,
+    mark_pairs, marks, ray_step, values,
 };
 use sat_matrix::{after_line_step, after_ray_step, crossings, least_shared, mark_zeros};
 use std::alloc::Global;
@@ -57,7 +56,7 @@ pub(crate) fn position(
 }
 
 /// What the step with row `k` is to do with the system of the rows before it, from how the row lies to it.
-pub(crate) fn planned(
+pub(crate) fn plan_of_position(
     alloc: Global,
     scratch: &mut Scratch,
     cone: &System,
@@ -156,7 +155,14 @@ pub(crate) fn carry_out<L: Ledger>(
             ray_values,
         } => {
             let eq = rows.is_eq(k);
-            line_step(scratch, cone, &line_values, &ray_values, index, eq, steps)?;
+            let system = SystemOnRow {
+                lines: &cone.lines,
+                rays: &cone.rays,
+                line_values: &line_values,
+                ray_values: &ray_values,
+            };
+            let (lines, rays) = (&mut scratch.lines, &mut scratch.rays);
+            line_step(lines, rays, system, index, eq, steps)?;
             after_line_step(&mut cone.sat, eq);
             mem::swap(&mut cone.lines, &mut scratch.lines);
             mem::swap(&mut cone.rays, &mut scratch.rays);

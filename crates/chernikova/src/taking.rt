@@ -6,10 +6,10 @@ ghost use Rattle.chernikova.specs.Conversion.{IsState, IsAtStep, IsRealOverflow}
 ghost use Rattle.chernikova.specs.Plans.{IsPosition, IsPlan, kept_of, combinations_of};
 ghost use Rattle.chernikova.specs.Beside.{IsSearchOfRow};
 
-use crate::fault::{shown_combination, shown_dot};
+use crate::fault::{overflow_of_combination, overflow_of_dot};
 use crate::plan::{Plan, Position};
 use crate::scratch::Scratch;
-use crate::step::{carry_out, make_room, planned, position};
+use crate::step::{carry_out, make_room, plan_of_position, position};
 use crate::system::System;
 use row_core::{ConvErr, RowList, Steps};
 use sat_matrix::least_shared;
@@ -40,7 +40,7 @@ pub(crate) fn row_position(
 {
     match position(alloc, scratch, cone, rows, k) {
         Ok(position) => Ok(position),
-        Err(fault) => Err(ConvErr::Overflow(shown_dot(alloc, cone, rows, k, fault)?)),
+        Err(fault) => Err(ConvErr::Overflow(overflow_of_dot(alloc, cone, rows, k, fault)?)),
     }
 }
 
@@ -58,7 +58,7 @@ pub(crate) fn plan_row(
     ensures step { IfErr result (IsAtStep k) }
 {
     let position = row_position(alloc, scratch, cone, rows, k)?;
-    Ok(planned(alloc, scratch, cone, position, rows, k)?)
+    Ok(plan_of_position(alloc, scratch, cone, position, rows, k)?)
 }
 
 /// Takes row `k` into the system as planned. All memory is taken before a line or a ray is changed.
@@ -81,7 +81,7 @@ pub(crate) fn take_planned<L: Ledger>(
 {
     make_room(alloc, scratch, cone, &plan)?;
     if let Err(fault) = carry_out(scratch, cone, plan, rows, k, steps) {
-        let over = shown_combination(alloc, cone, rows, k, fault)?;
+        let over = overflow_of_combination(alloc, cone, rows, k, fault)?;
         return Err(ConvErr::Overflow(over));
     }
     Ok(())
@@ -107,7 +107,7 @@ pub(crate) fn take_row_sparing<L: Ledger>(
     ensures counted { HasSystemOf rows.now.width rows.now.rows (k + 1) (kept_of (is_eq_at rows.now.rows k) cone.old position + (steps.new - steps.old)) }
     ensures spared { IfOk result (λ spared. HasSystemOf rows.now.width rows.now.rows (k + 1) (steps.new - steps.old + spared)) }
 {
-    let plan = planned(alloc, scratch, cone, position, rows, k)?;
+    let plan = plan_of_position(alloc, scratch, cone, position, rows, k)?;
     let made = plan.combinations(cone);
     take_planned(alloc, scratch, cone, plan, rows, k, steps)?;
     let vectors = cone.lines.len() as u128 + cone.rays.len() as u128;
@@ -133,6 +133,6 @@ pub(crate) fn plan_row_within(
     if looks >= looks_below {
         return Ok(Search::Dear { looks });
     }
-    let plan = planned(alloc, scratch, cone, position, rows, k)?;
+    let plan = plan_of_position(alloc, scratch, cone, position, rows, k)?;
     Ok(Search::Found { looks, plan })
 }

@@ -1,3 +1,4 @@
 pub mod TurnedOrder
 mod KeyLemmas
 pub mod Rankings
+pub mod Places

@@ -1,5 +1,5 @@
 -- What a step makes of the lists.
-use Rattle.std.specs.Prelude.{◌≡◌, ◌≢◌, ℕ, ◌+◌, ◌-◌, ◌<◌, ◌≤◌, Bool, true, false, List, [], ◌∷◌, ◌++◌, length, ℤ, pos, ◌*ℤ◌, ◌-ℤ◌, ◌<ℤ◌, unsigned_abs}
+use Rattle.std.specs.Prelude.{◌≡◌, ◌≢◌, ℕ, ◌+◌, ◌-◌, ◌<◌, ◌≤◌, Bool, true, false, List, [], ◌∷◌, ◌++◌, length, ℤ, pos, ◌*ℤ◌, ◌-ℤ◌, unsigned_abs}
 use Rattle.std.proofs.Common.{refl, sym, ap, ◌∙◌, subst, arith, inl, inr, take, replicate}
 use Rattle.std.proofs.lemmas.List.{get_or_append_left, length_push, length-take, get_or-take, append_assoc, append-nil, map-append}
 use Rattle.std.proofs.lemmas.List.Elements.{All-same}

@@ -1,4 +1,4 @@
-use Rattle.std.specs.Prelude.{◌≡◌, ℕ, ◌+◌, Bool, List, [], ◌∷◌, ◌++◌, map, ℤ}
+use Rattle.std.specs.Prelude.{◌≡◌, ℕ, ◌+◌, ◌≤◌, Bool, List, [], ◌∷◌, ◌++◌, length, map, ℤ}
 use Rattle.flat_rows.specs.Flat.{Flat}
 use Rattle.row_core.specs.Lists.{Row, Rows}
 
@@ -28,6 +28,15 @@ pub record IsAppended (eq : Bool) (Is : List ℤ → Type 0) (old new : Vectors)
 pub record HasSame (old new : Vectors) : Type 0 where
   pub width : new.width ≡ old.width
   pub rows : new.rows ≡ old.rows
+
+-- two lists are empty, and have room for all lines and rays that follow on a row that isn't 0 on some line
+pub record HasRoomForStep (lines rays new_lines new_rays : Vectors) : Type 0 where
+  pub lines_width : new_lines.width ≡ lines.width
+  pub rays_width : new_rays.width ≡ lines.width
+  pub no_lines : new_lines.rows ≡ []
+  pub no_rays : new_rays.rows ≡ []
+  pub line_room : length lines.rows ≤ new_lines.spare
+  pub ray_room : length rays.rows + 1 ≤ new_rays.spare
 
 -- a row that is as said was appended, where room was made
 pub record IsRowAppended (Is : List ℤ → Type 0) (old new : Flat ℤ) : Type 0 where

@@ -39,8 +39,8 @@ pub(crate) fn append_combination<L: Ledger>(
         (λ column. HasSameRows store.old store.new × Leaves column) }
 {
     let (second, first) = factors(u, v);
-    let _width = store.width();
     let last = store.len();
+    prove!(store.width() < 0x1_0000_0000);
     store.push_copy(right);
     if let Err(column) = store.combine_rows(last, second, left, first, steps) {
         store.truncate(last);

@@ -1,8 +1,11 @@
 //! Vectors of a system by their places, and why a row isn't taken in.
-ghost use Rattle.std.specs.Prelude.{◌≡◌};
-ghost use Rattle.row_store.specs.Faults.{is_lines};
+ghost use Rattle.std.specs.Prelude.{◌≡◌, length};
+ghost use Rattle.row_core.specs.Range.{AllInRange};
+ghost use Rattle.row_core.specs.Lists.{vectors};
+ghost use Rattle.row_store.specs.Faults.{IsPlace, is_lines, vector_of};
 ghost use Rattle.row_store.specs.declared.fault.ValueFault.TheVariants as fault;
 
+use crate::vectors::VectorList;
 use row_core::Memory;
 use std::alloc::{AllocError, AllocFailed};
 
@@ -30,6 +33,22 @@ impl Part {
 pub struct Place {
     pub part: Part,
     pub index: usize,
+}
+
+impl Place {
+    /// Lends the vector at the place, from the lines and the rays of the system.
+    pub fn vector<'a>(self, lines: &'a VectorList, rays: &'a VectorList) -> &'a [i128]
+        requires place { IsPlace (vectors lines.now.rows) (vectors rays.now.rows) self }
+        requires width { lines.now.width ≡ rays.now.width }
+        ensures value { result.now ≡ vector_of (vectors lines.now.rows) (vectors rays.now.rows) self }
+        ensures in_range { AllInRange result.now }
+        ensures wide { length result.now ≡ lines.now.width }
+    {
+        match self.part {
+            Part::Lines => lines.row(self.index),
+            Part::Rays => rays.row(self.index),
+        }
+    }
 }
 
 /// Why the values of the vectors on a row aren't found.

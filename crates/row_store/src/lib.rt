@@ -5,8 +5,8 @@
 //! - [`VectorList`] keeps the lines or the rays of a system, with one mark. [`values`] gives their values
 //!   on a row; [`last_crossing`], [`all_meet`], [`count_meeting`] and [`marks`] tell from these how they
 //!   lie to it.
-//! - [`lower_lines`], [`lower_rays`] and [`push_upward`] are the parts of a step with a line on which the row
-//!   isn't 0, and [`ray_step`] is the step with a row that is 0 on all lines.
+//! - [`line_step`] is the step with a row that isn't 0 on some line of a system, and [`ray_step`] that with a
+//!   row that is 0 on all lines.
 //! - [`combine`] gives the combination of two vectors that is 0 on a row, and [`write_upward`] the line with
 //!   the sign with which a row is above 0 on it.
 //! - [`ValueFault`] and [`CombineFault`] name the vectors whose value or combination leaves the range.
@@ -24,7 +24,7 @@ mod windows;
 
 pub use combination::{combine, write_upward};
 pub use fault::{CombineFault, Part, Place, ValueFault};
-pub use line_steps::{lower_lines, lower_rays, push_upward};
+pub use line_steps::{SystemOnRow, line_step};
 pub use ray_steps::ray_step;
 pub use row_values::{all_meet, count_meeting, last_crossing, mark_pairs, marks, values};
 pub use store::RowStore;

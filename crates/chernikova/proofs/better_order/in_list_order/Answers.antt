@@ -6,8 +6,8 @@ use Rattle.sat_matrix.specs.Tables.{Table, bits_of, transposed}
 use Rattle.chernikova.proofs.Reordered.{transposed_length, turned_back}
 use Rattle.chernikova.proofs.better_order.in_list_order.Goals as goal
 
-pub rearranged-requires : goal.rearranged-requires
-rearranged-requires c =
+pub table_rows_at-requires : goal.table_rows_at-requires
+table_rows_at-requires c =
     let P : ℕ → Type 0 = λ n. All (λ i. i < n) c.args.places.now in
     subst P (sym (ap (λ (t : Table). length t.rows) c.in_ok-turned.ensures ∙ transposed_length c.args.sat.now.columns c.args.sat.now.rows)) c.requires
 

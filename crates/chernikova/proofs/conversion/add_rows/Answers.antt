@@ -26,12 +26,12 @@ pub take_rows-requires-clause-state : goal.take_rows-requires-clause-state
 take_rows-requires-clause-state g c =
     let taken = c.args.taken.now in
     let rows = c.in_ok-rows.rows in
-    let narrow : taken.width < 2 ^ 32 = subst (λ (n : ℕ). n < 2 ^ 32) c.in_ok-rows.ensures.width c.width-narrow.ensures.narrow in
+    let narrow : taken.width < 2 ^ 32 = subst (λ (n : ℕ). n < 2 ^ 32) c.in_ok-rows.ensures.width c.width.ensures.narrow in
     state_moved taken.width rows.width (taken.rows ++ c.args.more.now.rows) rows.rows (length taken.rows) c.len-from.result c.in_ok-system.system c.in_ok-system.system (sym c.in_ok-rows.ensures.width) (sym c.in_ok-rows.ensures.rows) (sym c.len-from.ensures) refl
     (front_state taken.width taken.rows c.args.more.now.rows c.args.cone.now c.in_ok-system.system narrow c.requires.cone c.in_ok-system.ensures)
 
-pub sorted-requires-clause-as_many : goal.sorted-requires-clause-as_many
-sorted-requires-clause-as_many g c = c.in_ok-take_rows.ensures.state.zeros.each.as_many ∙ length-vectors c.take_rows.new.cone.rays.rows
+pub sorted_cone-requires-clause-as_many : goal.sorted_cone-requires-clause-as_many
+sorted_cone-requires-clause-as_many g c = c.in_ok-take_rows.ensures.state.zeros.each.as_many ∙ length-vectors c.take_rows.new.cone.rays.rows
 
 pub returns-in_err-rows-clause-counted : goal.returns-in_err-rows-clause-counted
 returns-in_err-rows-clause-counted g c = counted_start_from c.args.taken.now.width (c.args.taken.now.rows ++ c.args.more.now.rows) (length c.args.taken.now.rows) _ (front_fewer c.args.taken.now.rows c.args.more.now.rows) (omega arith)
@@ -60,14 +60,14 @@ returns-in_err-take_rows-clause-counted_before g c =
 pub returns-clause-cone : goal.returns-clause-cone
 returns-clause-cone g c =
     let rows = c.in_ok-rows.rows in
-    let cone = c.in_ok-sorted.field-0 in
+    let cone = c.in_ok-sorted_cone.field-0 in
     let system = c.take_rows.new.cone in
     let state : IsState rows.width rows.rows (length rows.rows) system = c.in_ok-take_rows.ensures.state in
     moved (λ n xs k. IsConverted n xs cone) _ _ _ _ _ _ c.in_ok-rows.ensures.width c.in_ok-rows.ensures.rows c.len-from.ensures
     (record {
-      canon = rearranged_canon rows.width rows.rows (length rows.rows) system cone state c.in_ok-sorted.ensures;
-      lists = rearranged_lists rows.width rows.rows (length rows.rows) system cone state c.in_ok-sorted.ensures;
-      sat = rearranged_zeros rows.width rows.rows (length rows.rows) system cone state c.in_ok-sorted.ensures;
+      canon = rearranged_canon rows.width rows.rows (length rows.rows) system cone state c.in_ok-sorted_cone.ensures;
+      lists = rearranged_lists rows.width rows.rows (length rows.rows) system cone state c.in_ok-sorted_cone.ensures;
+      sat = rearranged_zeros rows.width rows.rows (length rows.rows) system cone state c.in_ok-sorted_cone.ensures;
     })
 
 pub returns-clause-counted : goal.returns-clause-counted

@@ -10,10 +10,10 @@ returns-in_err-system-clause-counted g c = counted_start_from c.args.rows.now.wi
 
 pub take_rows-requires-clause-state : goal.take_rows-requires-clause-state
 take_rows-requires-clause-state g c =
-    reopened_state c.args.rows.now.width c.args.rows.now.rows c.args.from c.args.cone c.in_ok-system.system c.width-narrow.ensures.narrow c.requires.lists c.requires.system c.requires.sat c.in_ok-system.ensures
+    reopened_state c.args.rows.now.width c.args.rows.now.rows c.args.from c.args.cone c.in_ok-system.system c.width.ensures.narrow c.requires.lists c.requires.system c.requires.sat c.in_ok-system.ensures
 
-pub sorted-requires-clause-as_many : goal.sorted-requires-clause-as_many
-sorted-requires-clause-as_many g c = c.in_ok-changed.ensures.state.zeros.each.as_many ∙ length-vectors c.take_rows.new.cone.rays.rows
+pub sorted_cone-requires-clause-as_many : goal.sorted_cone-requires-clause-as_many
+sorted_cone-requires-clause-as_many g c = c.in_ok-changed.ensures.state.zeros.each.as_many ∙ length-vectors c.take_rows.new.cone.rays.rows
 
 pub returns-clause-canon : goal.returns-clause-canon
 returns-clause-canon g c = rearranged_canon _ _ _ c.take_rows.new.cone c.in_ok-cone.cone c.in_ok-changed.ensures.state c.in_ok-cone.ensures

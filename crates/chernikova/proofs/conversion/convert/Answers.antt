@@ -8,8 +8,8 @@ use Rattle.chernikova.proofs.Rankings.{rearranged_canon, rearranged_zeros, rearr
 use Rattle.std.proofs.lemmas.Result.{err_from_is_err_and}
 use Rattle.chernikova.proofs.conversion.convert.Goals as goal
 
-pub sorted-requires-clause-as_many : goal.sorted-requires-clause-as_many
-sorted-requires-clause-as_many g c = c.in_ok-take_rows.ensures.state.zeros.each.as_many ∙ length-vectors c.take_rows.new.cone.rays.rows
+pub sorted_cone-requires-clause-as_many : goal.sorted_cone-requires-clause-as_many
+sorted_cone-requires-clause-as_many g c = c.in_ok-take_rows.ensures.state.zeros.each.as_many ∙ length-vectors c.take_rows.new.cone.rays.rows
 
 pub returns-in_err-cone-clause-counted : goal.returns-in_err-cone-clause-counted
 returns-in_err-cone-clause-counted g c = counted_start c.args.width c.args.rows.now.rows _ (omega arith)
@@ -35,18 +35,18 @@ pub returns-clause-canon : goal.returns-clause-canon
 returns-clause-canon g c =
     let rows = c.args.rows.now.rows in
     let state : IsState c.args.width rows (length rows) c.take_rows.new.cone = state_moved c.args.rows.now.width c.args.width rows rows (length rows) (length rows) c.take_rows.new.cone c.take_rows.new.cone c.requires.width refl refl refl c.in_ok-take_rows.ensures.state in
-    rearranged_canon c.args.width rows (length rows) c.take_rows.new.cone c.in_ok-sorted.field-0 state c.in_ok-sorted.ensures
+    rearranged_canon c.args.width rows (length rows) c.take_rows.new.cone c.in_ok-sorted_cone.field-0 state c.in_ok-sorted_cone.ensures
 
 pub returns-clause-lists : goal.returns-clause-lists
 returns-clause-lists g c =
     let rows = c.args.rows.now.rows in
     let state : IsState c.args.width rows (length rows) c.take_rows.new.cone = state_moved c.args.rows.now.width c.args.width rows rows (length rows) (length rows) c.take_rows.new.cone c.take_rows.new.cone c.requires.width refl refl refl c.in_ok-take_rows.ensures.state in
-    rearranged_lists c.args.width rows (length rows) c.take_rows.new.cone c.in_ok-sorted.field-0 state c.in_ok-sorted.ensures
+    rearranged_lists c.args.width rows (length rows) c.take_rows.new.cone c.in_ok-sorted_cone.field-0 state c.in_ok-sorted_cone.ensures
 
 pub returns-clause-sat : goal.returns-clause-sat
 returns-clause-sat g c =
     let rows = c.args.rows.now.rows in
-    rearranged_zeros c.args.rows.now.width rows (length rows) c.take_rows.new.cone c.in_ok-sorted.field-0 c.in_ok-take_rows.ensures.state c.in_ok-sorted.ensures
+    rearranged_zeros c.args.rows.now.width rows (length rows) c.take_rows.new.cone c.in_ok-sorted_cone.field-0 c.in_ok-take_rows.ensures.state c.in_ok-sorted_cone.ensures
 
 pub returns-clause-counted : goal.returns-clause-counted
 returns-clause-counted g c =

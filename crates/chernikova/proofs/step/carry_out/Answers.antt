@@ -55,15 +55,15 @@ returns-in_ok-line_step-in-Line-clause-state g c =
     let P : Plan → Type 0 = λ p. IsPlan c.args.rows.now.rows c.args.k (record c.args.cone.now { sat = c.requires.ready.before }) p in
     let plan : IsLinePlan (row_at c.args.rows.now.rows c.args.k, is_eq_at c.args.rows.now.rows c.args.k) (record c.args.cone.now { sat = c.requires.ready.before }) c.in-Line.index c.in-Line.line_values.items c.in-Line.ray_values.items = subst P c.in-Line.is ready.planned in
     let cone = c.args.cone.now in
-    let new_lines = c.line_step.new.scratch.lines in
-    let new_rays = c.line_step.new.scratch.rays in
-    let A : List ℤ → Type 0 = λ vs. IsLineChange c.in-Line.index vs c.deref-in-Line.result.now c.is_eq-eq.result c.args.cone.now.lines.rows c.args.cone.now.rays.rows c.line_step.new.scratch.lines.rows c.line_step.new.scratch.rays.rows in
-    let B : List ℤ → Type 0 = λ vs. IsLineChange c.in-Line.index (values_on (row_at c.args.rows.now.rows c.args.k) (vectors c.args.cone.now.lines.rows)) vs c.is_eq-eq.result c.args.cone.now.lines.rows c.args.cone.now.rays.rows c.line_step.new.scratch.lines.rows c.line_step.new.scratch.rays.rows in
-    let W : ℕ → Type 0 = λ width. AreLists width (as_rows c.line_step.new.scratch.lines) (as_rows c.line_step.new.scratch.rays) in
-    let E : Bool → Type 0 = λ eq. IsLineStep (row_at c.args.rows.now.rows c.args.k, eq) (vectors c.args.cone.now.lines.rows) (vectors c.args.cone.now.rays.rows) (vectors c.line_step.new.scratch.lines.rows) (vectors c.line_step.new.scratch.rays.rows) in
+    let new_lines = c.line_step.new.new_lines in
+    let new_rays = c.line_step.new.new_rays in
+    let A : List ℤ → Type 0 = λ vs. IsLineChange c.in-Line.index vs c.deref-in-Line.result.now c.is_eq-eq.result c.args.cone.now.lines.rows c.args.cone.now.rays.rows c.line_step.new.new_lines.rows c.line_step.new.new_rays.rows in
+    let B : List ℤ → Type 0 = λ vs. IsLineChange c.in-Line.index (values_on (row_at c.args.rows.now.rows c.args.k) (vectors c.args.cone.now.lines.rows)) vs c.is_eq-eq.result c.args.cone.now.lines.rows c.args.cone.now.rays.rows c.line_step.new.new_lines.rows c.line_step.new.new_rays.rows in
+    let W : ℕ → Type 0 = λ width. AreLists width (as_rows c.line_step.new.new_lines) (as_rows c.line_step.new.new_rays) in
+    let E : Bool → Type 0 = λ eq. IsLineStep (row_at c.args.rows.now.rows c.args.k, eq) (vectors c.args.cone.now.lines.rows) (vectors c.args.cone.now.rays.rows) (vectors c.line_step.new.new_lines.rows) (vectors c.line_step.new.new_rays.rows) in
     let Z : Bool → Type 0 = λ eq. HasLineStep eq c.requires.ready.before c.after_line_step.new.zeros in
     let L : Vectors → Type 0 = λ lines. IsState c.args.rows.now.width c.args.rows.now.rows (c.args.k + 1) (record { lines = lines; rays = c.swap-in-Line.new.x; sat = c.after_line_step.new.zeros }) in
-    let R : Vectors → Type 0 = λ rays. IsState c.args.rows.now.width c.args.rows.now.rows (c.args.k + 1) (record { lines = c.line_step.new.scratch.lines; rays = rays; sat = c.after_line_step.new.zeros }) in
+    let R : Vectors → Type 0 = λ rays. IsState c.args.rows.now.width c.args.rows.now.rows (c.args.k + 1) (record { lines = c.line_step.new.new_lines; rays = rays; sat = c.after_line_step.new.zeros }) in
     subst L (sym c.swap.ensures.x_after) (subst R (sym c.swap-in-Line.ensures.x_after)
     (line_state c.args.rows.now.width rows c.args.k (record cone { sat = ready.before }) new_lines new_rays c.after_line_step.new.zeros c.requires.row ready.state
     (record {

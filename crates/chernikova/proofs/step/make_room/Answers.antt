@@ -11,11 +11,13 @@ returns-in_ok-reserve-in-Line-clause-room c =
     let P : Plan → Type 0 = λ p. HasRoom p (record c.args.scratch.now { lines = c.make_empty.new.list; rays = c.make_empty-in-Line.new.list }) (record c.args.cone.now { sat = c.reserve.new.self }) in
     let one_more : c.in_ok-rays-in-Line.rays ≡ length c.args.cone.now.rays.rows + 1 = grind (arith, common_steps) in
     subst P (sym c.in-Line.is) (record {
-      lines_width = c.in_ok-make_empty-in-Line.ensures.width ∙ c.width-width.ensures.value;
-      rays_width = c.in_ok-make_empty-in-Line-2.ensures.width ∙ c.width-width.ensures.value;
-      no_lines = c.in_ok-make_empty-in-Line.ensures.empty;
-      no_rays = c.in_ok-make_empty-in-Line-2.ensures.empty;
-      lines = omega (arith, c.in_ok-make_empty-in-Line.ensures.room, c.len-in-Line.ensures);
-      rays = omega (arith, c.in_ok-make_empty-in-Line-2.ensures.room, one_more);
+      vectors = record {
+        lines_width = c.in_ok-make_empty-in-Line.ensures.width ∙ c.width-width.ensures.value;
+        rays_width = c.in_ok-make_empty-in-Line-2.ensures.width ∙ c.width-width.ensures.value;
+        no_lines = c.in_ok-make_empty-in-Line.ensures.empty;
+        no_rays = c.in_ok-make_empty-in-Line-2.ensures.empty;
+        line_room = omega (arith, c.in_ok-make_empty-in-Line.ensures.room, c.len-in-Line.ensures);
+        ray_room = omega (arith, c.in_ok-make_empty-in-Line-2.ensures.room, one_more);
+      };
       zeros = omega (arith, ap (λ (t : Table). t.spare) c.in_ok-reserve-in-Line.ensures.ok);
     })

@@ -18,30 +18,30 @@ use Rattle.row_store.proofs.line_steps.lower_range.Goals as goal
 
 pub push_lowered-lowered-requires-clause-vector : goal.push_lowered-lowered-requires-clause-vector
 push_lowered-lowered-requires-clause-vector g c =
-    let here : c.loop-index.index < length c.args.list.now.rows = omega (arith, c.requires.bounds.1) in (
+    let here : c.loop-index.index < length c.args.lowering.list.now.rows = omega (arith, c.requires.bounds.1) in (
       subst AllInRange (sym c.row-vector.ensures.value) c.row-vector.ensures.in_range,
-      subst IsPrimitive (vector_at-vectors c.args.list.now.rows c.loop-index.index ∙ sym c.row-vector.ensures.value)
-          (c.requires.primitive c.loop-index.index [] (omega (arith, length-vectors c.args.list.now.rows))),
+      subst IsPrimitive (vector_at-vectors c.args.lowering.list.now.rows c.loop-index.index ∙ sym c.row-vector.ensures.value)
+          (c.requires.primitive c.loop-index.index [] (omega (arith, length-vectors c.args.lowering.list.now.rows))),
     )
 
 pub returns-in-Err-clause-lowered : goal.returns-in-Err-clause-lowered
 returns-in-Err-clause-lowered g c =
-    let value_fits : SFits w128 (get_or c.args.values.now c.loop-index.index (pos 0)) = fits (get_or c.args.values.now c.loop-index.index (pos 0)) (All-get_or InRange c.args.values.now c.loop-index.index (pos 0) (omega (arith, c.requires.bounds.1, c.requires.as_many)) c.requires.in_range.0) in
-    let line_fits : SFits w128 c.args.crossing.value = fits c.args.crossing.value c.requires.in_range.1 in
-    let P : List ℤ → Type 0 = λ w. CombinationLeaves c.args.crossing.value (value_at c.args.values.now c.loop-index.index) c.args.crossing.line.now w c.in-Err.column in (
+    let value_fits : SFits w128 (get_or c.args.lowering.values.now c.loop-index.index (pos 0)) = fits (get_or c.args.lowering.values.now c.loop-index.index (pos 0)) (All-get_or InRange c.args.lowering.values.now c.loop-index.index (pos 0) (omega (arith, c.requires.bounds.1, c.requires.as_many)) c.requires.in_range.0) in
+    let line_fits : SFits w128 c.args.lowering.crossing.value = fits c.args.lowering.crossing.value c.requires.in_range.1 in
+    let P : List ℤ → Type 0 = λ w. CombinationLeaves c.args.lowering.crossing.value (value_at c.args.lowering.values.now c.loop-index.index) c.args.lowering.crossing.line.now w c.in-Err.column in (
       refl,
       refl,
       c.loop-index.invariant.above,
       c.loop-index-test.true,
-      subst P (c.row-vector.ensures.value ∙ sym (vector_at-vectors c.args.list.now.rows c.loop-index.index)) (simp to_z-of_z at c.in-Err.ensures.combined).1,
+      subst P (c.row-vector.ensures.value ∙ sym (vector_at-vectors c.args.lowering.list.now.rows c.loop-index.index)) (simp to_z-of_z at c.in-Err.ensures.combined).1,
     )
 
 pub loop-index-preserved : goal.loop-index-preserved
 loop-index-preserved g c =
-    let value_fits : SFits w128 (get_or c.args.values.now c.loop-index.index (pos 0)) = fits (get_or c.args.values.now c.loop-index.index (pos 0)) (All-get_or InRange c.args.values.now c.loop-index.index (pos 0) (omega (arith, c.requires.bounds.1, c.requires.as_many)) c.requires.in_range.0) in
-    let line_fits : SFits w128 c.args.crossing.value = fits c.args.crossing.value c.requires.in_range.1 in
+    let value_fits : SFits w128 (get_or c.args.lowering.values.now c.loop-index.index (pos 0)) = fits (get_or c.args.lowering.values.now c.loop-index.index (pos 0)) (All-get_or InRange c.args.lowering.values.now c.loop-index.index (pos 0) (omega (arith, c.requires.bounds.1, c.requires.as_many)) c.requires.in_range.0) in
+    let line_fits : SFits w128 c.args.lowering.crossing.value = fits c.args.lowering.crossing.value c.requires.in_range.1 in
     let gained = simp to_z-of_z at c.in_default.ensures.combined in
-    let P : List ℤ → Type 0 = λ w. IsCombined c.args.crossing.value (value_at c.args.values.now c.loop-index.index) c.args.crossing.line.now w gained.vector in
+    let P : List ℤ → Type 0 = λ w. IsCombined c.args.lowering.crossing.value (value_at c.args.lowering.values.now c.loop-index.index) c.args.lowering.crossing.line.now w gained.vector in
     let one = subst P c.row-vector.ensures.value gained.is in
     let inv = c.loop-index.invariant in
     let marked = marked_push c.is_equality-eq.result c.loop-index.into.rows gained.vector (subst (λ (eq : Bool). AreMarked eq c.loop-index.into.rows) (sym c.is_equality-eq.ensures) inv.marked) in
@@ -51,7 +51,7 @@ loop-index-preserved g c =
       spare = omega (arith, inv.spare, gained.spare);
       no_fewer = omega (arith, inv.no_fewer, c.push_lowered-lowered.ensures.counted);
       no_more = omega (arith, inv.no_more, c.push_lowered-lowered.ensures.counted);
-      lowered = rw gained.rows (lowered_more c.args.crossing.value c.args.crossing.line.now c.args.values.now c.args.list.now.rows c.args.from c.loop-index.index c.args.into.now.rows c.loop-index.into.rows gained.vector c.is_equality-eq.result inv.above inv.lowered one);
+      lowered = rw gained.rows (lowered_more c.args.lowering.crossing.value c.args.lowering.crossing.line.now c.args.lowering.values.now c.args.lowering.list.now.rows c.args.from c.loop-index.index c.args.into.now.rows c.loop-index.into.rows gained.vector c.is_equality-eq.result inv.above inv.lowered one);
       marked = subst (λ (eq : Bool). AreMarked eq c.push_lowered-lowered.new.self.rows) c.is_equality-eq.ensures (All-same (λ (row : Row). row.1 ≡ c.is_equality-eq.result) c.push_lowered-lowered.new.self.rows _ gained.rows marked);
     }
 
@@ -63,7 +63,7 @@ push_lowered-lowered-requires-clause-spare g c = omega (arith, c.loop-index.inva
 
 pub returns-clause-lowered : goal.returns-clause-lowered
 returns-clause-lowered g c =
-    subst (λ (n : ℕ). AreLowered c.args.crossing.value c.args.crossing.line.now c.args.values.now c.args.list.now.rows c.args.from n c.args.into.now.rows c.loop-index.into.rows) (le_antisymm (c.loop-index.auto.index-end c.requires.bounds.0) c.loop-index-test.false) c.loop-index.invariant.lowered
+    subst (λ (n : ℕ). AreLowered c.args.lowering.crossing.value c.args.lowering.crossing.line.now c.args.lowering.values.now c.args.lowering.list.now.rows c.args.from n c.args.into.now.rows c.loop-index.into.rows) (le_antisymm (c.loop-index.auto.index-end c.requires.bounds.0) c.loop-index-test.false) c.loop-index.invariant.lowered
 
 pub loop-index-init : goal.loop-index-init
 loop-index-init g c = record {
@@ -72,15 +72,15 @@ loop-index-init g c = record {
   spare = refl;
   no_fewer = le_refl _;
   no_more = le_refl _;
-  lowered = lowered_none c.args.crossing.value c.args.crossing.line.now c.args.values.now c.args.list.now.rows c.args.from c.args.into.now.rows;
+  lowered = lowered_none c.args.lowering.crossing.value c.args.lowering.crossing.line.now c.args.lowering.values.now c.args.lowering.list.now.rows c.args.from c.args.into.now.rows;
   marked = c.requires.marked;
 }
 
 pub push_lowered-lowered-requires-clause-in_range : goal.push_lowered-lowered-requires-clause-in_range
 push_lowered-lowered-requires-clause-in_range g c =
-    let here = All-get_or InRange c.args.values.now c.loop-index.index (pos 0) (omega (arith, c.requires.bounds.1, c.requires.as_many)) c.requires.in_range.0 in (
+    let here = All-get_or InRange c.args.lowering.values.now c.loop-index.index (pos 0) (omega (arith, c.requires.bounds.1, c.requires.as_many)) c.requires.in_range.0 in (
       c.requires.in_range.1,
-      subst InRange (sym (to_z-of_z w128 _ (fits (get_or c.args.values.now c.loop-index.index (pos 0)) here))) here,
+      subst InRange (sym (to_z-of_z w128 _ (fits (get_or c.args.lowering.values.now c.loop-index.index (pos 0)) here))) here,
     )
 
 pub push_lowered-lowered-requires-clause-line : goal.push_lowered-lowered-requires-clause-line

@@ -11,6 +11,6 @@ invariant-loop-index g l = record {
   spare : l.into.spare + l.index ≡ l.initial.into.spare + l.from;
   no_fewer : l.initial.steps ≤ l.steps;
   no_more : l.steps + l.from ≤ l.initial.steps + l.index;
-  lowered : AreLowered l.crossing.value l.crossing.line.now l.values l.list.rows l.from l.index l.initial.into.rows l.into.rows;
-  marked : AreMarked (is_lines l.part) l.into.rows;
+  lowered : AreLowered l.lowering.crossing.value l.lowering.crossing.line.now l.lowering.values.now l.lowering.list.now.rows l.from l.index l.initial.into.rows l.into.rows;
+  marked : AreMarked (is_lines l.lowering.part) l.into.rows;
 }
