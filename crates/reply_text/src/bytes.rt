@@ -42,7 +42,9 @@ impl Text {
 
     /// Appends the bytes. After want of memory the text is as before.
     pub fn push(&mut self, bytes: &[u8]) -> Result<(), Memory>
-        ensures { MatchResult result (λ _. self.new ≡ self.old ++ bytes.now) (λ _. self.new ≡ self.old) }
+        ensures { MatchResult result
+            (λ _. self.new ≡ self.old ++ bytes.now)
+            (λ _. self.new ≡ self.old) }
     {
         self.bytes.extend_from_slice(bytes)?;
         Ok(())
@@ -51,7 +53,9 @@ impl Text {
     /// Appends a byte. After want of memory the text is as before.
     #[inline]
     pub fn push_byte(&mut self, byte: u8) -> Result<(), Memory>
-        ensures { MatchResult result (λ _. self.new ≡ self.old ++ byte ∷ []) (λ _. self.new ≡ self.old) }
+        ensures { MatchResult result
+            (λ _. self.new ≡ self.old ++ byte ∷ [])
+            (λ _. self.new ≡ self.old) }
     {
         self.bytes.push(byte)?;
         Ok(())
@@ -59,7 +63,9 @@ impl Text {
 
     /// Appends a number in decimal digits. After want of memory the text is as before.
     pub fn push_unsigned(&mut self, number: u64) -> Result<(), Memory>
-        ensures { MatchResult result (λ _. self.new ≡ self.old ++ decimal number) (λ _. self.new ≡ self.old) }
+        ensures { MatchResult result
+            (λ _. self.new ≡ self.old ++ decimal number)
+            (λ _. self.new ≡ self.old) }
     {
         self.push(Buffer::new().format(number).as_bytes())
     }
@@ -67,7 +73,9 @@ impl Text {
     /// Appends a number in decimal digits, with `-` before a negative one. After want of memory the
     /// text is as before.
     pub fn push_signed(&mut self, number: i128) -> Result<(), Memory>
-        ensures { MatchResult result (λ _. self.new ≡ self.old ++ signed_decimal number) (λ _. self.new ≡ self.old) }
+        ensures { MatchResult result
+            (λ _. self.new ≡ self.old ++ signed_decimal number)
+            (λ _. self.new ≡ self.old) }
     {
         let size = number.unsigned_abs();
         if size >= 10 {

@@ -74,7 +74,9 @@ fn facing(mut cells: Vec<i128>, relation: Relation) -> Vec<i128>
 
 fn con_row(alloc: Global, dim: usize, text: &[u8]) -> Result<OneCon, ValueErr>
     requires { dim < 2 ^ 32 - 2 }
-    ensures { MatchResult result (λ c. IsConOf dim (con_read text.now) c.row c.kind) (IsRowOfFault dim (con_read text.now).terms) }
+    ensures { MatchResult result
+        (λ c. IsConOf dim (con_read text.now) c.row c.kind)
+        (IsRowOfFault dim (con_read text.now).terms) }
 {
     let mut sum = RowSum::new(alloc, dim)?;
     let state = scan(text, &mut sum)?;
@@ -106,7 +108,10 @@ pub fn con_of(alloc: Global, dim: usize, text: &[u8]) -> Result<OneCon, ValueErr
 fn add_sum(system: &mut ConsSys, sum: RowSum, relation: Relation) -> Result<bool, ValueErr>
     requires { sum.dim ≡ system.old.dim }
     ensures dim { system.new.dim ≡ system.old.dim }
-    ensures value { MatchResult result (λ added. (ts : List Term) → HasSummed ts sum → Adds system.old.dim system.old.list system.new.list (record { terms = ts; relation = relation }) added) (λ e. e ≡ ValueErr.Memory) }
+    ensures value { MatchResult result
+        (λ added. (ts : List Term) → HasSummed ts sum → Adds system.old.dim system.old.list
+        system.new.list (record { terms = ts; relation = relation }) added)
+        (λ e. e ≡ ValueErr.Memory) }
 {
     match sum.into_cells() {
         Some(cells) => {
@@ -120,7 +125,9 @@ fn add_sum(system: &mut ConsSys, sum: RowSum, relation: Relation) -> Result<bool
 
 fn add_con(alloc: Global, system: &mut ConsSys, text: &[u8]) -> Result<bool, ValueErr>
     ensures dim { system.new.dim ≡ system.old.dim }
-    ensures value { MatchResult result (Adds system.old.dim system.old.list system.new.list (con_read text.now)) (StopsAt system.old.dim (con_read text.now)) }
+    ensures value { MatchResult result
+        (Adds system.old.dim system.old.list system.new.list (con_read text.now))
+        (StopsAt system.old.dim (con_read text.now)) }
 {
     let mut sum = RowSum::new(alloc, system.dim())?;
     let state = scan(text, &mut sum)?;
@@ -130,7 +137,9 @@ fn add_con(alloc: Global, system: &mut ConsSys, text: &[u8]) -> Result<bool, Val
 /// Stores the constraint -1 >= 0.
 fn add_never(alloc: Global, system: &mut ConsSys) -> Result<bool, ValueErr>
     ensures dim { system.new.dim ≡ system.old.dim }
-    ensures value { MatchResult result (Adds system.old.dim system.old.list system.new.list never) (StopsAt system.old.dim never) }
+    ensures value { MatchResult result
+        (Adds system.old.dim system.old.list system.new.list never)
+        (StopsAt system.old.dim never) }
 {
     let mut sum = RowSum::new(alloc, system.dim())?;
     sum.add(Term {
@@ -145,7 +154,10 @@ fn add_never(alloc: Global, system: &mut ConsSys) -> Result<bool, ValueErr>
 fn add_list(alloc: Global, system: &mut ConsSys, text: &[u8]) -> Result<bool, ValueErr>
     requires { system.old.list ≡ [] }
     ensures dim { system.new.dim ≡ system.old.dim }
-    ensures value { MatchResult result (HaveRead system.old.dim (map con_read (slice_split (λ b. b == 44) text.now)) system.new.list) (StopAt system.old.dim (map con_read (slice_split (λ b. b == 44) text.now))) }
+    ensures value { MatchResult result
+        (HaveRead system.old.dim (map con_read (slice_split (λ b. b == 44) text.now))
+        system.new.list)
+        (StopAt system.old.dim (map con_read (slice_split (λ b. b == 44) text.now))) }
 {
     let mut fits = true;
     for part in text.split(|byte| *byte == b',') {
@@ -177,7 +189,9 @@ fn first_mark(text: &[u8]) -> u8
 fn add_cons(alloc: Global, system: &mut ConsSys, text: &[u8]) -> Result<bool, ValueErr>
     requires { system.old.list ≡ [] }
     ensures dim { system.new.dim ≡ system.old.dim }
-    ensures value { MatchResult result (HaveRead system.old.dim (cons_read text.now) system.new.list) (StopAt system.old.dim (cons_read text.now)) }
+    ensures value { MatchResult result
+        (HaveRead system.old.dim (cons_read text.now) system.new.list)
+        (StopAt system.old.dim (cons_read text.now)) }
 {
     let first = first_mark(text);
     if first == b't' {
@@ -191,7 +205,9 @@ fn add_cons(alloc: Global, system: &mut ConsSys, text: &[u8]) -> Result<bool, Va
 
 fn cons_system(alloc: Global, dim: usize, text: &[u8]) -> Result<ConsSys, ValueErr>
     requires { dim < 2 ^ 32 - 2 }
-    ensures { MatchResult result (IsConsOf dim (cons_read text.now)) (IsConsOfFault dim (cons_read text.now)) }
+    ensures { MatchResult result
+        (IsConsOf dim (cons_read text.now))
+        (IsConsOfFault dim (cons_read text.now)) }
 {
     let mut system = ConsSys::new(alloc, dim);
     if add_cons(alloc, &mut system, text)? {

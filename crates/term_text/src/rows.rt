@@ -21,7 +21,9 @@ impl Term {
 
     /// The number with its sign, where it is of the range.
     fn value(self) -> Option<i128>
-        ensures { MatchOption result (self.size < 2 ^ 127 → ⊥) (λ v. (self.size < 2 ^ 127) × (v ≡ value_of self) × InRange v) }
+        ensures { MatchOption result
+            (self.size < 2 ^ 127 → ⊥)
+            (λ v. (self.size < 2 ^ 127) × (v ≡ value_of self) × InRange v) }
     {
         let size = i128::try_from(self.size).ok()?;
         Some(if self.negative { -size } else { size })
@@ -42,7 +44,9 @@ impl Term {
     /// The sum of a number and the term, where both are of the range.
     fn added_to(self, sum: i128) -> Option<i128>
         requires { InRange sum }
-        ensures { MatchOption result (FitsBehind self sum → ⊥) (λ v. FitsBehind self sum × (v ≡ sum +ℤ value_of self) × InRange v) }
+        ensures { MatchOption result
+            (FitsBehind self sum → ⊥)
+            (λ v. FitsBehind self sum × (v ≡ sum +ℤ value_of self) × InRange v) }
     {
         let new = sum.checked_add(self.value()?)?;
         if new == i128::MIN { None } else { Some(new) }
@@ -55,7 +59,10 @@ fn add(cells: &mut [i128], dim: usize, term: Term) -> Option<()>
     requires within { IsWithin dim term }
     requires in_range { AllInRange cells.old }
     ensures in_range { AllInRange cells.new }
-    ensures value { MatchOption result (FitsBehind term (cell cells.old (column_of dim term)) → ⊥) (λ _. FitsBehind term (cell cells.old (column_of dim term)) × ((j : ℕ) → j ≤ dim → cell cells.new j ≡ cell cells.old j +ℤ part dim term j)) }
+    ensures value { MatchOption result
+        (FitsBehind term (cell cells.old (column_of dim term)) → ⊥)
+        (λ _. FitsBehind term (cell cells.old (column_of dim term))
+        × ((j : ℕ) → j ≤ dim → cell cells.new j ≡ cell cells.old j +ℤ part dim term j)) }
 {
     let column = term.column(dim);
     cells[column] = term.added_to(cells[column])?;
@@ -75,7 +82,9 @@ impl Model for RowSum {
 
     ghost view = { λ s. record { dim = s.dim; row = s.cells.items; fits = s.fits } };
 
-    ghost invariant = { λ s. (length s.cells.items ≡ s.dim + 1) × AllInRange s.cells.items × (s.dim < 2 ^ 32 - 2) };
+    ghost invariant = { λ s. (length s.cells.items ≡ s.dim + 1)
+        × AllInRange s.cells.items
+        × (s.dim < 2 ^ 32 - 2) };
 }
 
 /// Zeros, with room for as many again: a list that takes them over as its first row has room for a second.
@@ -95,7 +104,9 @@ impl RowSum {
     /// `Memory` alone.
     pub fn new(alloc: Global, dim: usize) -> Result<RowSum, ValueErr>
         requires { dim < 2 ^ 32 - 2 }
-        ensures { MatchResult result (λ sum. (sum.dim ≡ dim) × HasSummed [] sum) (λ e. e ≡ ValueErr.Memory) }
+        ensures { MatchResult result
+            (λ sum. (sum.dim ≡ dim) × HasSummed [] sum)
+            (λ e. e ≡ ValueErr.Memory) }
     {
         let cells = zeros(alloc, dim + 1)?;
         Ok(RowSum {
@@ -110,7 +121,9 @@ impl RowSum {
     /// # Errors
     /// `OutOfRange` exactly where the variable isn't below the dimension.
     pub fn add(&mut self, term: Term) -> Result<(), ValueErr>
-        ensures { MatchResult result (λ _. Gains (term ∷ []) self.old self.new) (λ e. (e ≡ ValueErr.OutOfRange) × ¬ (IsWithin self.old.dim term)) }
+        ensures { MatchResult result
+            (λ _. Gains (term ∷ []) self.old self.new)
+            (λ e. (e ≡ ValueErr.OutOfRange) × ¬ (IsWithin self.old.dim term)) }
     {
         if !term.is_within(self.dim) {
             return Err(ValueErr::OutOfRange);
@@ -129,7 +142,9 @@ impl RowSum {
 
     /// The row, where each number and each sum of the first terms of a column was of the range.
     pub fn into_cells(self) -> Option<Vec<i128>>
-        ensures { MatchOption result (self.fits ≡ false) (λ row. (self.fits ≡ true) × (row.items ≡ self.row) × AllInRange row.items) }
+        ensures { MatchOption result
+            (self.fits ≡ false)
+            (λ row. (self.fits ≡ true) × (row.items ≡ self.row) × AllInRange row.items) }
     {
         if self.fits { Some(self.cells) } else { None }
     }

@@ -1,7 +1,6 @@
 //! One pass over the bytes of a text.
 ghost use Rattle.std.specs.Prelude.{◌≡◌, ◌+◌, ◌*◌, ◌^◌, [], min, option_to_list, MatchResult, OnOk};
-ghost use Rattle.term_text.specs.Terms.{AreWithin};
-ghost use Rattle.term_text.specs.Sums.{HasSummed, Gains};
+ghost use Rattle.term_text.specs.Sums.{HasSummed, AreOutOfRange, Gains};
 ghost use Rattle.term_text.specs.Reading.{next_number, with_digit, with_letter, with_equals, ended, after, part_term, term_of, begun, start, terms_read, final, relation_at, divisor_at};
 
 use crate::rows::RowSum;
@@ -176,7 +175,9 @@ impl State {
     }
 
     fn end_term(&self, sum: &mut RowSum) -> Result<(), ValueErr>
-        ensures { MatchResult result (λ _. Gains (option_to_list (term_of self.now)) sum.old sum.new) (λ e. (e ≡ ValueErr.OutOfRange) × ¬ (AreWithin sum.old.dim (option_to_list (term_of self.now)))) }
+        ensures { MatchResult result
+            (λ _. Gains (option_to_list (term_of self.now)) sum.old sum.new)
+            (AreOutOfRange sum.old.dim (option_to_list (term_of self.now))) }
     {
         match self.term() {
             Some(term) => sum.add(term),
@@ -187,7 +188,9 @@ impl State {
     /// Ends the term that is read, and begins the next one.
     fn turn(&mut self, sum: &mut RowSum, place: Place, negative: bool) -> Result<(), ValueErr>
         ensures state { OnOk result (self.new ≡ begun place negative) }
-        ensures sum { MatchResult result (λ _. Gains (option_to_list (term_of self.old)) sum.old sum.new) (λ e. (e ≡ ValueErr.OutOfRange) × ¬ (AreWithin sum.old.dim (option_to_list (term_of self.old)))) }
+        ensures sum { MatchResult result
+            (λ _. Gains (option_to_list (term_of self.old)) sum.old sum.new)
+            (AreOutOfRange sum.old.dim (option_to_list (term_of self.old))) }
     {
         self.end_term(sum)?;
         self.begin(place, negative);
@@ -196,7 +199,9 @@ impl State {
 
     fn push(&mut self, byte: u8, sum: &mut RowSum) -> Result<(), ValueErr>
         ensures state { OnOk result (self.new ≡ after self.old byte) }
-        ensures sum { MatchResult result (λ _. Gains (ended self.old byte) sum.old sum.new) (λ e. (e ≡ ValueErr.OutOfRange) × ¬ (AreWithin sum.old.dim (ended self.old byte))) }
+        ensures sum { MatchResult result
+            (λ _. Gains (ended self.old byte) sum.old sum.new)
+            (AreOutOfRange sum.old.dim (ended self.old byte)) }
     {
         match byte {
             b'0'..=b'9' => self.part.push_digit(byte - b'0'),
@@ -216,7 +221,11 @@ impl State {
 /// Adds the terms of a text, and returns what stands behind its last byte.
 pub fn scan(text: &[u8], sum: &mut RowSum) -> Result<State, ValueErr>
     requires { HasSummed [] sum.old }
-    ensures { MatchResult result (λ state. HasSummed (terms_read start text.now) sum.new × (sum.new.dim ≡ sum.old.dim) × (state ≡ final start text.now)) (λ e. (e ≡ ValueErr.OutOfRange) × ¬ (AreWithin sum.old.dim (terms_read start text.now))) }
+    ensures { MatchResult result
+        (λ state. HasSummed (terms_read start text.now) sum.new
+        × (sum.new.dim ≡ sum.old.dim)
+        × (state ≡ final start text.now))
+        (AreOutOfRange sum.old.dim (terms_read start text.now)) }
 {
     let mut state = State::begun(Place::Left, false);
     for byte in text {

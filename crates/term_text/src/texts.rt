@@ -24,7 +24,9 @@ pub struct Frac {
 
 fn expr_row(alloc: Global, dim: usize, text: &[u8]) -> Result<RowBuf, ValueErr>
     requires { dim < 2 ^ 32 - 2 }
-    ensures { MatchResult result (IsRowOf dim (terms_read start text.now)) (IsRowOfFault dim (terms_read start text.now)) }
+    ensures { MatchResult result
+        (IsRowOf dim (terms_read start text.now))
+        (IsRowOfFault dim (terms_read start text.now)) }
 {
     let mut sum = RowSum::new(alloc, dim)?;
     scan(text, &mut sum)?;
@@ -69,7 +71,11 @@ fn divisor_of(number: u128) -> Result<i128, ValueErr>
 /// a number, or a sum of the first terms of a column, leaves the range.
 pub fn ratio_of(alloc: Global, dim: usize, text: &[u8]) -> Result<(Vec<i128>, u128), ValueErr>
     requires { dim < 2 ^ 32 - 2 }
-    ensures { MatchResult result (λ r. IsRowOf dim (ratio_read text.now).terms r.0.items × AllInRange r.0.items × (r.1 ≡ (ratio_read text.now).divisor)) (IsRowOfFault dim (ratio_read text.now).terms) }
+    ensures { MatchResult result
+        (λ r. IsRowOf dim (ratio_read text.now).terms r.0.items
+        × AllInRange r.0.items
+        × (r.1 ≡ (ratio_read text.now).divisor))
+        (IsRowOfFault dim (ratio_read text.now).terms) }
 {
     let mut sum = RowSum::new(alloc, dim)?;
     let state = scan(text, &mut sum)?;
@@ -81,7 +87,9 @@ pub fn ratio_of(alloc: Global, dim: usize, text: &[u8]) -> Result<(Vec<i128>, u1
 
 fn ratio_row(alloc: Global, dim: usize, text: &[u8]) -> Result<(Vec<i128>, i128), ValueErr>
     requires { dim < 2 ^ 32 - 2 }
-    ensures { MatchResult result (λ r. IsFracOf dim (ratio_read text.now) r.0.items r.1 × AllInRange r.0.items) (IsRatioFault dim (ratio_read text.now)) }
+    ensures { MatchResult result
+        (λ r. IsFracOf dim (ratio_read text.now) r.0.items r.1 × AllInRange r.0.items)
+        (IsRatioFault dim (ratio_read text.now)) }
 {
     let (cells, number) = ratio_of(alloc, dim, text)?;
     let divisor = divisor_of(number)?;
@@ -90,7 +98,9 @@ fn ratio_row(alloc: Global, dim: usize, text: &[u8]) -> Result<(Vec<i128>, i128)
 
 fn frac_row(alloc: Global, dim: usize, text: &[u8]) -> Result<Frac, ValueErr>
     requires { dim < 2 ^ 32 - 2 }
-    ensures { MatchResult result (λ f. IsFracOf dim (ratio_read text.now) f.expr f.den) (IsRatioFault dim (ratio_read text.now)) }
+    ensures { MatchResult result
+        (λ f. IsFracOf dim (ratio_read text.now) f.expr f.den)
+        (IsRatioFault dim (ratio_read text.now)) }
 {
     let (cells, den) = ratio_row(alloc, dim, text)?;
     Ok(Frac {
@@ -101,7 +111,9 @@ fn frac_row(alloc: Global, dim: usize, text: &[u8]) -> Result<Frac, ValueErr>
 
 fn point_row(alloc: Global, dim: usize, text: &[u8]) -> Result<RowBuf, ValueErr>
     requires { dim < 2 ^ 32 - 2 }
-    ensures { MatchResult result (IsPointOf dim (ratio_read text.now)) (IsRatioFault dim (ratio_read text.now)) }
+    ensures { MatchResult result
+        (IsPointOf dim (ratio_read text.now))
+        (IsRatioFault dim (ratio_read text.now)) }
 {
     let (mut cells, divisor) = ratio_row(alloc, dim, text)?;
     cells[dim] = divisor;
@@ -118,7 +130,9 @@ fn point_row(alloc: Global, dim: usize, text: &[u8]) -> Result<RowBuf, ValueErr>
 pub fn frac_of(alloc: Global, dim: usize, text: &[u8]) -> Result<Frac, ValueErr>
     requires narrow { dim < 2 ^ 32 - 2 }
     requires form { Matches (alone frac_cases) text.now }
-    ensures { MatchResult result (λ f. IsFrac dim text.now f.expr f.den) (IsFracFault dim text.now) }
+    ensures { MatchResult result
+        (λ f. IsFrac dim text.now f.expr f.den)
+        (IsFracFault dim text.now) }
 {
     frac_row(alloc, dim, text)
 }
