@@ -1,4 +1,3 @@
-mod NumberLemmas
 mod PartLemmas
 mod SpellLemmas
 mod UnreadLemmas

@@ -1,6 +1,6 @@
 //! The command of a form and its fields.
-ghost use Rattle.std.specs.Prelude.{◌≡◌, ℕ, List, ◌∷◌, length, take_while, IfOk};
-ghost use Rattle.term_text.specs.Reading.{is_digit, is_upper};
+ghost use Rattle.std.specs.Prelude.{◌≡◌, ℕ, List, ◌∷◌, IfOk};
+ghost use Rattle.term_text.specs.Reading.{is_upper};
 ghost use Rattle.script_text.specs.Commands.{number_of, is_strict, begins_strict, part_from};
 ghost use Rattle.script_text.specs.Commands.{relation_of, IsMade};
 ghost use Rattle.line_forms.specs.Words.{nth_word, part_of};
@@ -18,9 +18,36 @@ use line_forms::{
     SpaceAndPart, ThreeNames, TwoNames, TwoNamesMap, TwoNamesNumber, is_word, part_of, sign_of,
     split_word, three_words, two_words,
 };
+use plain_text::{digits_len, number_up_to};
 use reply_text::{ReadErr, Text};
 use row_core::Memory;
 use std::alloc::Global;
+
+/// The command of a line of the form, from what stands behind its word.
+pub fn command_of(alloc: Global, form: LineForm, rest: &[u8]) -> Result<Command, ReadErr>
+    ensures { IsMade form rest.now result }
+{
+    match form {
+        LineForm::Nothing => Ok(Command::Nothing),
+        LineForm::Names => Ok(Command::Names),
+        LineForm::OneName(kind) => of_one_name(alloc, kind, rest),
+        LineForm::NameAndPart(kind) => of_name_part(alloc, kind, rest),
+        LineForm::TwoNames(kind) => of_two_names(alloc, kind, rest),
+        LineForm::ThreeNames(kind) => of_three_names(alloc, kind, rest),
+        LineForm::SpaceAlone(kind) => of_space(alloc, kind, rest),
+        LineForm::SpaceAndPart(kind) => of_space_part(alloc, kind, rest),
+        LineForm::TwoNamesNumber(kind) => of_two_names_number(alloc, kind, rest),
+        LineForm::TwoNamesMap(kind) => of_map(alloc, kind, rest),
+        LineForm::NameFormat(kind) => of_name_format(alloc, kind, rest),
+        LineForm::NameNumberName(kind) => of_name_number_name(alloc, kind, rest),
+        LineForm::NameNumberPrefix(kind) => of_name_number_prefix(alloc, kind, rest),
+        LineForm::Print => print_command(alloc, rest),
+        LineForm::Remove => remove_command(alloc, rest),
+        LineForm::System => system_command(alloc, rest),
+        LineForm::Trans => trans_command(alloc, rest),
+        LineForm::Bounds => bounds_command(alloc, rest),
+    }
+}
 
 /// A copy of the text.
 fn text(alloc: Global, bytes: &[u8]) -> Result<Text, Memory>
@@ -107,12 +134,7 @@ fn text_and_part(alloc: Global, rest: &[u8]) -> Result<(Text, Part), Memory>
 fn number(digits: &[u8]) -> u64
     ensures { result ≡ number_of digits.now }
 {
-    let mut n: u64 = 0;
-    for byte in digits {
-        let digit = u64::from(byte.saturating_sub(b'0'));
-        n = n.saturating_mul(10).saturating_add(digit);
-    }
-    n
+    number_up_to(digits, u64::MAX as u128) as u64
 }
 
 /// Whether the byte is an upper-case letter.
@@ -120,13 +142,6 @@ fn is_upper(byte: u8) -> bool
     ensures { result ≡ is_upper byte }
 {
     byte.is_ascii_uppercase()
-}
-
-/// How many digits stand in front.
-fn digits_len(text: &[u8]) -> usize
-    ensures { result ≡ length (take_while is_digit text.now) }
-{
-    text.iter().take_while(|b| b.is_ascii_digit()).count()
 }
 
 /// The number of the variable in front, from its letter and the digits behind it; `u64::MAX` stands
@@ -499,30 +514,4 @@ fn trans_command(alloc: Global, rest: &[u8]) -> Result<Command, ReadErr>
         loc2: number(third),
         r,
     })
-}
-
-/// The command of a line of the form, from what stands behind its word.
-pub fn command_of(alloc: Global, form: LineForm, rest: &[u8]) -> Result<Command, ReadErr>
-    ensures { IsMade form rest.now result }
-{
-    match form {
-        LineForm::Nothing => Ok(Command::Nothing),
-        LineForm::Names => Ok(Command::Names),
-        LineForm::OneName(kind) => of_one_name(alloc, kind, rest),
-        LineForm::NameAndPart(kind) => of_name_part(alloc, kind, rest),
-        LineForm::TwoNames(kind) => of_two_names(alloc, kind, rest),
-        LineForm::ThreeNames(kind) => of_three_names(alloc, kind, rest),
-        LineForm::SpaceAlone(kind) => of_space(alloc, kind, rest),
-        LineForm::SpaceAndPart(kind) => of_space_part(alloc, kind, rest),
-        LineForm::TwoNamesNumber(kind) => of_two_names_number(alloc, kind, rest),
-        LineForm::TwoNamesMap(kind) => of_map(alloc, kind, rest),
-        LineForm::NameFormat(kind) => of_name_format(alloc, kind, rest),
-        LineForm::NameNumberName(kind) => of_name_number_name(alloc, kind, rest),
-        LineForm::NameNumberPrefix(kind) => of_name_number_prefix(alloc, kind, rest),
-        LineForm::Print => print_command(alloc, rest),
-        LineForm::Remove => remove_command(alloc, rest),
-        LineForm::System => system_command(alloc, rest),
-        LineForm::Trans => trans_command(alloc, rest),
-        LineForm::Bounds => bounds_command(alloc, rest),
-    }
 }

@@ -30,7 +30,9 @@ impl VarList {
 
     /// Appends a number. After want of memory the list is as before.
     pub fn push(&mut self, number: u64) -> Result<(), Memory>
-        ensures { MatchResult result (λ _. self.new ≡ self.old ++ number ∷ []) (λ _. self.new ≡ self.old) }
+        ensures { MatchResult result
+            (λ _. self.new ≡ self.old ++ number ∷ [])
+            (λ _. self.new ≡ self.old) }
     {
         self.numbers.push(number)?;
         Ok(())

@@ -70,7 +70,7 @@ fn add(cells: &mut [i128], dim: usize, term: Term) -> Option<()>
 }
 
 /// The row of terms that are added one after another.
-#[derive(Debug, Drop)]
+#[derive(Drop)]
 pub struct RowSum {
     dim: usize,
     cells: Vec<i128>,

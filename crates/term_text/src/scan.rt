@@ -13,7 +13,7 @@ const MOST_SIZE: u128 = 1 << 127;
 const MOST_INDEX: u64 = 1 << 32;
 
 /// What has been read of a term.
-#[derive(Clone, Copy, Debug, PartialEq, Eq)]
+#[derive(Clone, Copy)]
 pub enum Part {
     Nothing,
     /// A number.
@@ -95,7 +95,7 @@ fn index_of(place: u64, number: u64) -> u64
 }
 
 /// Which part of the text is read.
-#[derive(Clone, Copy, Debug, PartialEq, Eq)]
+#[derive(Clone, Copy)]
 pub enum Place {
     /// What stands before a relation or a division.
     Left,
@@ -118,7 +118,7 @@ impl Place {
 }
 
 /// What is known after some bytes of a text, besides the terms that have ended.
-#[derive(Clone, Copy, Debug, PartialEq, Eq)]
+#[derive(Clone, Copy)]
 pub struct State {
     pub negative: bool,
     pub part: Part,

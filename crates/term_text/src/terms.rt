@@ -7,7 +7,7 @@ use std::alloc::{AllocError, AllocFailed};
 use thiserror::Error;
 
 /// A number, or a variable with its factor.
-#[derive(Clone, Copy, Debug, Default, PartialEq, Eq)]
+#[derive(Clone, Copy)]
 pub struct Term {
     /// Whether it is subtracted.
     pub negative: bool,
@@ -18,7 +18,7 @@ pub struct Term {
 }
 
 /// How the two sides of a constraint are related.
-#[derive(Clone, Copy, Debug, PartialEq, Eq)]
+#[derive(Clone, Copy)]
 pub enum Relation {
     /// `=`
     Equal,
