@@ -11,10 +11,10 @@ use Rattle.row_core.specs.Range.{InRange, AllInRange}
 use Rattle.cdd_reading.specs.Tokens.{has_some, is_integer, is_negative, unsigned, integer, texts, Token}
 use Rattle.cdd_reading.specs.Bodies.{is_number}
 use Rattle.cdd_reading.specs.Fractions.{is_slash, gcd, lcm, numerator, denominator, lowest, signed, times, common, integers, all_integers, AllDivide, IsSmall, FitRange}
-use Rattle.cdd_reading.specs.Tables.{IsTooLarge, IsValueErr}
+use Rattle.cdd_reading.specs.Tables.{IsTooLarge, IsIntegerErr}
 use Rattle.cdd_reading.specs.declared.format.NumberType.TheVariants.{Integer}
-use Rattle.cdd_reading.specs.declared.values.ValueErr.{ValueErr}
-use Rattle.cdd_reading.specs.declared.values.ValueErr.TheVariants as value
+use Rattle.cdd_reading.specs.declared.values.IntegerErr.{IntegerErr}
+use Rattle.cdd_reading.specs.declared.values.IntegerErr.TheVariants as value
 use Rattle.cdd_reading.proofs.BodyLaws.{and-left, and-right}
 use Rattle.cdd_reading.proofs.Divisors.{gcd_same, one_is_gcd, once}
 use Rattle.cdd_reading.proofs.ListLaws.{All-inside}
@@ -149,7 +149,7 @@ integers_read w ts v forms rows e range =
       record { each = all_small ts h r; common = chunks_low w (length ts / w) ts h; integers = subst (λ (l : List ℤ). AllInRange l) (sym same) r },
     )
 
-pub integers_refused : (w : ℕ) (ts : List (List ℕ)) (cause : ValueErr) → list_all (is_number Integer) ts ≡ true → length ts ≡ length ts / w * w → IsTooLarge (AllInRange (map integer ts)) cause → IsValueErr w ts cause
+pub integers_refused : (w : ℕ) (ts : List (List ℕ)) (cause : IntegerErr) → list_all (is_number Integer) ts ≡ true → length ts ≡ length ts / w * w → IsTooLarge (AllInRange (map integer ts)) cause → IsIntegerErr w ts cause
 integers_refused w ts value.ZeroDivisor forms rows h = absurd h
 integers_refused w ts value.TooLarge forms rows h =
     let whole = all_whole ts forms in

@@ -1,7 +1,7 @@
 -- The numbers of a file that were read, and its rows.
 use Prim.Native.Nat.{◌∣◌}
-use Rattle.std.specs.Prelude.{◌≡◌, ℕ, ◌+◌, ◌*◌, ◌/◌, ◌<◌, ◌≤◌, ◌^◌, List, [], ◌∷◌, length, take, drop, Bool, true, ℤ, pos, ◌<ℤ◌, Option, Some, min}
-use Rattle.row_core.specs.Range.{AllInRange}
+use Rattle.std.specs.Prelude.{◌≡◌, ℕ, ◌+◌, ◌*◌, ◌/◌, ◌<◌, ◌≤◌, ◌^◌, List, [], ◌∷◌, length, take, drop, Bool, true, ℤ, pos, ◌<ℤ◌, Option, Some, min, MatchOption, ◌++◌}
+use Rattle.row_core.specs.Range.{InRange, AllInRange}
 use Rattle.row_core.specs.Lists.{Row}
 use Rattle.reply_text.specs.declared.faults.Fault.{Fault}
 use Rattle.reply_text.specs.declared.faults.Fault.TheVariants as fault
@@ -10,52 +10,66 @@ use Rattle.reply_text.specs.declared.faults.ReadErr.TheVariants.{Input, Memory}
 use Rattle.gens_sys.specs.Generators.{Generator}
 use Rattle.std.specs.List.{AllZip}
 use Rattle.cdd_reading.specs.Files.{IsFile, Contents, IsContents, IsVectorOf, with_origin, values, indices, marks}
-use Rattle.cdd_reading.specs.Fractions.{gcd, lcm, lowest, numerator, denominator, signed, AllDivide, IsSmall, FitRange}
+use Rattle.cdd_reading.specs.Fractions.{gcd, lcm, lowest, numerator, denominator, signed, all_integers, AllDivide, IsSmall, FitRange}
 use Rattle.cdd_reading.specs.Headings.{indices_of}
 use Rattle.cdd_reading.specs.Tokens.{Token, texts, is_negative}
-use Rattle.cdd_reading.specs.Refusals.{Test, AllName, AreShort, other, HaveNoFault, form_tests, table_tests, NoneOf}
+use Rattle.cdd_reading.specs.Refusals.{Test, AllName, AreShort, other, IsVectorFault, HaveNoFault, form_tests, table_tests, NoneOf}
 use Rattle.cdd_reading.specs.declared.format.Format.{Format}
 use Rattle.cdd_reading.specs.declared.body.BodyErr.{BodyErr}
 use Rattle.cdd_reading.specs.declared.body.BodyErr.TheVariants.{Wrong, OtherType}
-use Rattle.cdd_reading.specs.declared.values.Fraction.{Fraction}
-use Rattle.cdd_reading.specs.declared.values.ValueErr.{ValueErr}
-use Rattle.cdd_reading.specs.declared.values.ValueErr.TheVariants as value
+use Rattle.cdd_reading.specs.declared.values.WrittenNumber.{WrittenNumber}
+use Rattle.cdd_reading.specs.declared.values.IntegerErr.{IntegerErr}
+use Rattle.cdd_reading.specs.declared.values.IntegerErr.TheVariants as value
 use Rattle.cdd_reading.specs.declared.marks.MarkErr.{MarkErr}
 use Rattle.cdd_reading.specs.declared.marks.MarkErr.TheVariants as mark
+use Rattle.cdd_reading.specs.declared.table.Table.{Table}
 use Rattle.cdd_reading.specs.declared.table.TheConstants.{MAX_WIDTH}
 
--- why numbers, as rows of one width, have no values
-abbrev pub IsValueErr : ℕ → List (List ℕ) → ValueErr → Type 0
-IsValueErr width numbers value.ZeroDivisor = ¬ (AllDivide numbers)
-IsValueErr width numbers value.TooLarge = AllDivide numbers × ¬ (FitRange width numbers)
-IsValueErr width numbers value.Memory = Unit {0}
+-- the number, where it is below 2^127
+abbrev pub IsWithinLimit : ℕ → Option ℕ → Type 0
+IsWithinLimit n result = MatchOption result (2 ^ 127 ≤ n) (λ l. (l ≡ n) × (l < 2 ^ 127))
+
+-- the integer, where it is in the range
+abbrev pub IsWithinRange : ℤ → Option ℤ → Type 0
+IsWithinRange z result = MatchOption result (¬ (InRange z)) (λ v. (v ≡ z) × InRange v)
+
+-- the integers of numbers in rows of one width, where no denominator is 0 and all are in the range
+abbrev pub AreIntegers : ℕ → List (List ℕ) → List ℤ → Type 0
+AreIntegers width numbers list =
+    (list ≡ all_integers width numbers) × AllDivide numbers × FitRange width numbers
+
+-- why numbers, as rows of one width, have no integers
+abbrev pub IsIntegerErr : ℕ → List (List ℕ) → IntegerErr → Type 0
+IsIntegerErr width numbers value.ZeroDivisor = ¬ (AllDivide numbers)
+IsIntegerErr width numbers value.TooLarge = AllDivide numbers × ¬ (FitRange width numbers)
+IsIntegerErr width numbers value.Memory = Unit {0}
 
 -- nothing is made of numbers that don't fit
-abbrev pub IsTooLarge : Type 0 → ValueErr → Type 0
+abbrev pub IsTooLarge : Type 0 → IntegerErr → Type 0
 IsTooLarge Fit value.ZeroDivisor = ⊥
 IsTooLarge Fit value.TooLarge = ¬ Fit
 IsTooLarge Fit value.Memory = Unit {0}
 
 -- nothing is made of numbers that can't be divided or don't fit
-abbrev pub IsRefused : Type 0 → Type 0 → ValueErr → Type 0
-IsRefused Divide Fit value.ZeroDivisor = ¬ Divide
-IsRefused Divide Fit value.TooLarge = ¬ (Divide × Fit)
-IsRefused Divide Fit value.Memory = Unit {0}
+abbrev pub IsRowErr : Type 0 → Type 0 → IntegerErr → Type 0
+IsRowErr Divide Fit value.ZeroDivisor = ¬ Divide
+IsRowErr Divide Fit value.TooLarge = ¬ (Divide × Fit)
+IsRowErr Divide Fit value.Memory = Unit {0}
 
 -- the number of a token, as it is written
-abbrev pub fraction_of : List ℕ → Fraction
+abbrev pub fraction_of : List ℕ → WrittenNumber
 fraction_of t = record { negative = is_negative t; numerator = numerator t; denominator = denominator t }
 
 -- its denominator in lowest terms
-abbrev pub lowest_of : Fraction → ℕ
+abbrev pub lowest_of : WrittenNumber → ℕ
 lowest_of f = f.denominator / gcd f.numerator f.denominator
 
 -- n times the number
-abbrev pub times_of : ℕ → Fraction → ℤ
+abbrev pub times_of : ℕ → WrittenNumber → ℤ
 times_of n f = signed f.negative (n * f.numerator / f.denominator)
 
 -- n times the number is an integer
-pub record IsIntegral (n : ℕ) (f : Fraction) : Type 0 where
+pub record IsIntegral (n : ℕ) (f : WrittenNumber) : Type 0 where
   pub positive : 0 < f.denominator
   pub multiple : lowest_of f ∣ n
 
@@ -123,6 +137,15 @@ abbrev pub IsFirstFault : Bool → ℤ → Fault → Type 0
 IsFirstFault marked t fault.NegativeFirst = t <ℤ pos 0
 IsFirstFault marked t fault.LinearityOnVertex = (pos 0 <ℤ t) × (marked ≡ true)
 IsFirstFault marked t f = ⊥
+
+-- the rows of a table
+abbrev pub rows_in : Table → List Row
+rows_in table = rows_of table.width table.marks.items table.values.items
+
+-- the row has no fault, and is stored as a generator
+abbrev pub IsAdded : Row → List Generator → List Generator → Type 0
+IsAdded row old new =
+    (g : Generator) × IsVectorOf row g × (new ≡ old ++ g ∷ []) × ((f : Fault) → ¬ (IsVectorFault row.1 row.0 f))
 
 -- the rows have no fault, and are these generators
 pub record AreStored (rows : List Row) (list : List Generator) : Type 0 where

@@ -8,12 +8,12 @@ ghost use Rattle.cdd_reading.specs.Bodies.{type_word, Sizes, is_number, AreRead,
 ghost use Rattle.cdd_reading.specs.declared.format.NumberType.{NumberType};
 
 use crate::format::NumberType;
-use crate::numbers::{MOST, capped, is_fraction, is_integer, is_word};
+use crate::numbers::{MOST, capped_number, is_fraction, is_integer, is_word};
 use crate::tokens::Tokens;
 use plain_text::is_nat;
 
 /// Why the tokens behind `begin` are no body of integers or fractions.
-#[derive(Clone, Copy, PartialEq, Eq)]
+#[derive(Clone, Copy)]
 pub enum BodyErr {
     /// The number of the line of the first token that can't stand where it is.
     Wrong(usize),
@@ -31,7 +31,7 @@ pub struct Body<'a> {
     pub numbers: Tokens<'a>,
 }
 
-// The sizes that stand first; 2^127 stands for each greater number.
+/// The sizes that stand first; 2^127 stands for each greater number.
 #[derive(Clone, Copy)]
 struct SizesRead {
     rows: u128,
@@ -39,8 +39,38 @@ struct SizesRead {
     number_type: NumberType,
 }
 
+/// Reads the tokens behind `begin`. `end` is the number of the line that ends the file.
+pub fn read_body(tokens: Tokens<'_>, end: usize) -> Result<Body<'_>, BodyErr>
+    requires { length tokens < 2 ^ 64 }
+    ensures read { MatchResult result
+        (λ body. IsBodyRead tokens.entry body.columns body.numbers)
+        (IsBodyFault tokens.entry end) }
+    ensures forms { IfOk result
+        (λ body. list_all (is_number body.number_type) (texts body.numbers) ≡ true) }
+{
+    let mut tokens = tokens;
+    let sizes = match read_sizes(&mut tokens, end) {
+        Ok(sizes) => sizes,
+        Err(line) => return Err(BodyErr::Wrong(line)),
+    };
+    if sizes.number_type == NumberType::Real {
+        return Err(BodyErr::OtherType);
+    }
+    let most = product(sizes.rows, sizes.columns);
+    match check_numbers(tokens.again(), sizes.number_type, end, most) {
+        Ok(()) => Ok(Body {
+            columns: sizes.columns,
+            number_type: sizes.number_type,
+            numbers: tokens,
+        }),
+        Err(line) => Err(BodyErr::Wrong(line)),
+    }
+}
+
 fn number_type(token: &[u8]) -> Option<NumberType>
-    ensures { MatchOption result ((t : NumberType) → ¬ (token.now ≡ type_word t)) (λ t. token.now ≡ type_word t) }
+    ensures { MatchOption result
+        ((t : NumberType) → ¬ (token.now ≡ type_word t))
+        (λ t. token.now ≡ type_word t) }
 {
     if is_word(token, b"integer") {
         Some(NumberType::Integer)
@@ -53,21 +83,23 @@ fn number_type(token: &[u8]) -> Option<NumberType>
     }
 }
 
-// The product; 2^127 stands for all greater ones.
+/// The product; 2^127 stands for all greater ones.
 fn product(m: u128, d: u128) -> u128
     ensures { result ≡ min (m * d) (2 ^ 127) }
 {
     m.saturating_mul(d).min(MOST)
 }
 
-// Whether the token is a number of columns.
+/// Whether the token is a number of columns.
 fn is_width(token: &[u8]) -> bool
-    ensures { MatchBool result ((is_nat token.now ≡ true) × (0 < number token.now)) ((is_nat token.now ≡ false) ⊎ (number token.now ≡ 0)) }
+    ensures { MatchBool result
+        ((is_nat token.now ≡ true) × (0 < number token.now))
+        ((is_nat token.now ≡ false) ⊎ (number token.now ≡ 0)) }
 {
-    is_nat(token) && capped(token) > 0
+    is_nat(token) && capped_number(token) > 0
 }
 
-// Whether the token is a number of this type.
+/// Whether the token is a number of this type.
 fn is_number(token: &[u8], number_type: NumberType) -> bool
     ensures { result ≡ is_number number_type token.now }
 {
@@ -78,8 +110,8 @@ fn is_number(token: &[u8], number_type: NumberType) -> bool
     }
 }
 
-// Whether so many tokens are left and all of them are numbers of this type; else the number of the line
-// of the first that can't stand where it is, or `end` where one is missing.
+/// Whether so many tokens are left and all of them are numbers of this type; else the number of the line
+/// of the first that can't stand where it is, or `end` where one is missing.
 fn check_numbers(
     tokens: Tokens<'_>,
     number_type: NumberType,
@@ -87,7 +119,9 @@ fn check_numbers(
     most: u128,
 ) -> Result<(), usize>
     requires { length tokens < 2 ^ 64 }
-    ensures { MatchResult result (λ _. AreNumbers number_type tokens.entry most) (ArentNumbers number_type tokens.entry most end) }
+    ensures { MatchResult result
+        (λ _. AreNumbers number_type tokens.entry most)
+        (ArentNumbers number_type tokens.entry most end) }
 {
     let mut count: u128 = 0;
     for (line, token) in tokens {
@@ -99,10 +133,12 @@ fn check_numbers(
     if count < most { Err(end) } else { Ok(()) }
 }
 
-// Takes the sizes off the tokens; else the number of the line of the first token that can't stand where
-// it is, or `end` where one is missing.
+/// Takes the sizes off the tokens; else the number of the line of the first token that can't stand where
+/// it is, or `end` where one is missing.
 fn read_sizes(tokens: &mut Tokens<'_>, end: usize) -> Result<SizesRead, usize>
-    ensures { MatchResult result (λ r. (s : Sizes) × AreRead tokens.old r.rows r.columns r.number_type tokens.new s) (HasNoSizes tokens.old end) }
+    ensures { MatchResult result
+        (λ r. (s : Sizes) × AreRead tokens.old r.rows r.columns r.number_type tokens.new s)
+        (HasNoSizes tokens.old end) }
 {
     let Some((line1, m)) = tokens.next() else {
         return Err(end);
@@ -123,33 +159,8 @@ fn read_sizes(tokens: &mut Tokens<'_>, end: usize) -> Result<SizesRead, usize>
         return Err(line3);
     };
     Ok(SizesRead {
-        rows: capped(m),
-        columns: capped(d),
+        rows: capped_number(m),
+        columns: capped_number(d),
         number_type,
     })
-}
-
-/// Reads the tokens behind `begin`. `end` is the number of the line that ends the file.
-pub fn read_body(tokens: Tokens<'_>, end: usize) -> Result<Body<'_>, BodyErr>
-    requires { length tokens < 2 ^ 64 }
-    ensures read { MatchResult result (λ body. IsBodyRead tokens.entry body.columns body.numbers) (IsBodyFault tokens.entry end) }
-    ensures forms { IfOk result (λ body. list_all (is_number body.number_type) (texts body.numbers) ≡ true) }
-{
-    let mut tokens = tokens;
-    let sizes = match read_sizes(&mut tokens, end) {
-        Ok(sizes) => sizes,
-        Err(line) => return Err(BodyErr::Wrong(line)),
-    };
-    if sizes.number_type == NumberType::Real {
-        return Err(BodyErr::OtherType);
-    }
-    let most = product(sizes.rows, sizes.columns);
-    match check_numbers(tokens.again(), sizes.number_type, end, most) {
-        Ok(()) => Ok(Body {
-            columns: sizes.columns,
-            number_type: sizes.number_type,
-            numbers: tokens,
-        }),
-        Err(line) => Err(BodyErr::Wrong(line)),
-    }
 }

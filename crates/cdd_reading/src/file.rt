@@ -41,7 +41,10 @@ pub fn is_end(line: &[u8]) -> bool
 
 /// Cuts bytes at the first line that ends a file.
 pub fn cut_file(bytes: &[u8]) -> Option<Cut<'_>>
-    ensures { MatchOption result (All (λ line. ¬ (IsEnd line)) (lines bytes.now)) (λ cut. IsFile bytes.now (lines cut.file.now) (lines cut.behind.now) × (cut.end ≡ length (lines cut.file.now) + 1)) }
+    ensures { MatchOption result
+        (All (λ line. ¬ (IsEnd line)) (lines bytes.now))
+        (λ cut. IsFile bytes.now (lines cut.file.now) (lines cut.behind.now)
+        × (cut.end ≡ length (lines cut.file.now) + 1)) }
 {
     let mut rest = bytes;
     let mut number = 1;
@@ -75,18 +78,6 @@ pub fn are_short(file: &[u8]) -> bool
     true
 }
 
-// Whether `linearity` stands as a token in the lines.
-fn has_linearity(behind: &[u8]) -> bool
-    ensures { result ≡ list_any (λ t. bytes_eq t (codes "linearity")) (texts (numbered 1 (lines behind.now))) }
-{
-    for (_, token) in Tokens::behind_line(0, behind) {
-        if is_word(token, b"linearity") {
-            return true;
-        }
-    }
-    false
-}
-
 /// Whether a line of the bytes ends a file, and `linearity` stands as a token behind it. It takes no
 /// memory.
 pub fn linearity_after_end(bytes: &[u8]) -> bool
@@ -96,4 +87,17 @@ pub fn linearity_after_end(bytes: &[u8]) -> bool
         return false;
     };
     has_linearity(cut.behind)
+}
+
+/// Whether `linearity` stands as a token in the lines.
+fn has_linearity(behind: &[u8]) -> bool
+    ensures { result ≡
+        list_any (λ t. bytes_eq t (codes "linearity")) (texts (numbered 1 (lines behind.now))) }
+{
+    for (_, token) in Tokens::behind_line(0, behind) {
+        if is_word(token, b"linearity") {
+            return true;
+        }
+    }
+    false
 }

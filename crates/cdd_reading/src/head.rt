@@ -9,7 +9,7 @@ ghost use Rattle.cdd_reading.specs.declared.head.Role.TheVariants;
 
 use crate::cuts::split_token;
 use crate::format::Format;
-use crate::numbers::{capped, is_word};
+use crate::numbers::{capped_number, is_word};
 use plain_text::{is_nat, split_line};
 
 /// What a line before `begin` does.
@@ -42,9 +42,49 @@ pub struct Head<'a> {
     pub begin: usize,
 }
 
-// How many tokens there are, where all are numbers.
+/// Reads the lines before `begin`.
+///
+/// # Errors
+/// The number of the first line that can't stand where it is; that is the line behind all where `begin`
+/// is missing.
+pub fn read_head(file: &[u8]) -> Result<Head<'_>, usize>
+    ensures head { MatchResult result
+        (λ h. IsHeadRead (lines file.now) h.said.kind h.said.linearity.now (lines h.behind.now)
+        h.begin)
+        (HasNoHead (lines file.now)) }
+    ensures short { IfOk result (λ h. h.begin + length h.behind.now ≤ length file.now + 1) }
+{
+    let mut said = Said {
+        kind: None,
+        linearity: &[],
+    };
+    let mut rest = file;
+    let mut number = 1;
+    while !rest.is_empty() {
+        let (line, behind) = split_line(rest);
+        let role = role_of(line);
+        if role == Role::Begin {
+            return Ok(Head {
+                said,
+                behind,
+                begin: number,
+            });
+        }
+        let Some(now) = said.with_line(line, role) else {
+            return Err(number);
+        };
+        said = now;
+        rest = behind;
+        number += 1;
+    }
+    Err(number)
+}
+
+/// How many tokens there are, where all are numbers.
 fn count_nats(text: &[u8]) -> Option<usize>
-    ensures { MatchOption result (list_all is_nat (tokens text.now) ≡ false) (λ n. (list_all is_nat (tokens text.now) ≡ true) × (n ≡ length (tokens text.now))) }
+    ensures { MatchOption result
+        (list_all is_nat (tokens text.now) ≡ false)
+        (λ n. (list_all is_nat (tokens text.now) ≡ true) × (n ≡ length (tokens text.now))) }
 {
     let mut rest = text;
     let mut count = 0;
@@ -58,7 +98,7 @@ fn count_nats(text: &[u8]) -> Option<usize>
     Some(count)
 }
 
-// Whether the text is k and k indices.
+/// Whether the text is k and k indices.
 fn are_indices(text: &[u8]) -> bool
     ensures { result ≡ are_indices (tokens text.now) }
 {
@@ -68,10 +108,10 @@ fn are_indices(text: &[u8]) -> bool
     let Some(count) = count_nats(rest) else {
         return false;
     };
-    is_nat(first) && capped(first) == count as u128
+    is_nat(first) && capped_number(first) == count as u128
 }
 
-// What a line of one token does.
+/// What a line of one token does.
 fn role_of_word(token: &[u8]) -> Role
     ensures { IsRole (token.now ∷ []) result }
 {
@@ -88,7 +128,7 @@ fn role_of_word(token: &[u8]) -> Role
     }
 }
 
-// What a line of several tokens does.
+/// What a line of several tokens does.
 fn role_of_list(token: &[u8], behind: &[u8]) -> Role
     requires { 0 < length (tokens behind.now) }
     ensures { IsRole (token.now ∷ tokens behind.now) result }
@@ -118,7 +158,11 @@ impl<'a> Said<'a> {
     // What is said with one more line that isn't `begin`, where it can stand.
     fn with_line(self, line: &'a [u8], role: Role) -> Option<Said<'a>>
         requires { IsRole (tokens line.now) role }
-        ensures { (before : List (List ℕ)) → Holds before self.entry.kind self.entry.linearity.now → role ≢ TheVariants.Begin → MatchOption result (¬ (CanHead (before ++ line.now ∷ []))) (λ s. Holds (before ++ line.now ∷ []) s.kind s.linearity.now) }
+        ensures { (before : List (List ℕ)) → Holds before self.entry.kind self.entry.linearity.now
+            → role ≢ TheVariants.Begin
+            → MatchOption result
+            (¬ (CanHead (before ++ line.now ∷ [])))
+            (λ s. Holds (before ++ line.now ∷ []) s.kind s.linearity.now) }
     {
         match role {
             Role::Passed => Some(self),
@@ -133,39 +177,4 @@ impl<'a> Said<'a> {
             _ => None,
         }
     }
-}
-
-/// Reads the lines before `begin`.
-///
-/// # Errors
-/// The number of the first line that can't stand where it is; that is the line behind all where `begin`
-/// is missing.
-pub fn read_head(file: &[u8]) -> Result<Head<'_>, usize>
-    ensures head { MatchResult result (λ h. IsHeadRead (lines file.now) h.said.kind h.said.linearity.now (lines h.behind.now) h.begin) (HasNoHead (lines file.now)) }
-    ensures short { IfOk result (λ h. h.begin + length h.behind.now ≤ length file.now + 1) }
-{
-    let mut said = Said {
-        kind: None,
-        linearity: &[],
-    };
-    let mut rest = file;
-    let mut number = 1;
-    while !rest.is_empty() {
-        let (line, behind) = split_line(rest);
-        let role = role_of(line);
-        if role == Role::Begin {
-            return Ok(Head {
-                said,
-                behind,
-                begin: number,
-            });
-        }
-        let Some(now) = said.with_line(line, role) else {
-            return Err(number);
-        };
-        said = now;
-        rest = behind;
-        number += 1;
-    }
-    Err(number)
 }

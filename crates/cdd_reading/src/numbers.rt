@@ -11,7 +11,7 @@ use plain_text::{is_nat, number_up_to};
 pub const MOST: u128 = 1 << 127;
 
 /// The number that digits spell; 2^127 stands for all greater ones.
-pub fn capped(token: &[u8]) -> u128
+pub fn capped_number(token: &[u8]) -> u128
     ensures { result ≡ min (number token.now) (2 ^ 127) }
 {
     number_up_to(token, MOST)
@@ -34,13 +34,6 @@ pub fn is_integer(token: &[u8]) -> bool
     }
 }
 
-// Where the first `/` stands.
-fn slash(token: &[u8]) -> Option<usize>
-    ensures { result ≡ position is_slash token.now }
-{
-    token.iter().position(|b| *b == b'/')
-}
-
 /// What stands before the first `/` of a number, and what stands behind it; all of it and 1 where there
 /// is none.
 pub fn split_slash(token: &[u8]) -> (&[u8], &[u8])
@@ -59,4 +52,11 @@ pub fn is_fraction(token: &[u8]) -> bool
 {
     let (dividend, divisor) = split_slash(token);
     is_integer(dividend) && is_nat(divisor)
+}
+
+/// Where the first `/` stands.
+fn slash(token: &[u8]) -> Option<usize>
+    ensures { result ≡ position is_slash token.now }
+{
+    token.iter().position(|b| *b == b'/')
 }

@@ -6,7 +6,7 @@ ghost use Rattle.cdd_reading.specs.Fractions.{gcd, signed};
 
 use row_core::gcd;
 
-// The greatest number of one word.
+/// The greatest number of one word.
 const WORD: u128 = 0xffff_ffff_ffff_ffff;
 
 /// The greatest common divisor of a number and a positive one.
@@ -43,7 +43,7 @@ pub fn signed(negative: bool, size: u128) -> i128
     ensures in_range { InRange result }
 {
     let value = to_signed(size);
-    if negative { negated(value) } else { value }
+    if negative { negation(value) } else { value }
 }
 
 /// The number as a signed one.
@@ -54,7 +54,7 @@ pub(crate) fn to_signed(size: u128) -> i128
     size as i128
 }
 
-pub(crate) fn negated(x: i128) -> i128
+pub(crate) fn negation(x: i128) -> i128
     requires { InRange x }
     ensures { result ≡ neg_ℤ x }
 {

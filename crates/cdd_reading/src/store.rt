@@ -4,13 +4,12 @@ ghost use Rattle.std.specs.List.{AllZip, list_any};
 ghost use Rattle.row_core.specs.Range.{AllInRange};
 ghost use Rattle.cons_sys.specs.Constraints.{Constraint};
 ghost use Rattle.cons_sys.specs.declared.kind.ConKind.TheVariants.{Eq, Ge};
-ghost use Rattle.gens_sys.specs.Generators.{Generator};
 ghost use Rattle.gens_sys.specs.declared.kind.GenKind.TheVariants.{Point};
 ghost use Rattle.reply_text.specs.declared.faults.Fault.{Fault};
 ghost use Rattle.cdd_reading.specs.declared.table.TheConstants.{MAX_WIDTH};
-ghost use Rattle.cdd_reading.specs.Files.{turned, IsRowOf, IsKind, IsVectorOf, is_point, origin};
+ghost use Rattle.cdd_reading.specs.Files.{turned, IsRowOf, IsKind, is_point, origin};
 ghost use Rattle.cdd_reading.specs.Refusals.{IsVectorFault, IsRowsFault};
-ghost use Rattle.cdd_reading.specs.Tables.{FitTable, rows_of, IsFirstFault, IsRefusedBy, AreVectors, AreStored};
+ghost use Rattle.cdd_reading.specs.Tables.{FitTable, rows_in, IsAdded, IsFirstFault, IsRefusedBy, AreVectors, AreStored};
 
 use crate::table::Table;
 use cons_sys::{ConKind, ConsSys};
@@ -19,8 +18,45 @@ use reply_text::{Fault, ReadErr};
 use row_core::{Memory, RowBuf};
 use std::alloc::Global;
 
-// A copy of the row, its first number at the end.
-fn turned(alloc: Global, row: &[i128]) -> Result<RowBuf, Memory>
+/// The constraints of the rows, the marked ones as equalities.
+pub fn store_constraints(alloc: Global, table: &Table) -> Result<ConsSys, Memory>
+    requires { FitTable table.now.width table.now.marks.items table.now.values.items }
+    ensures { IfOk result
+        (λ cs. (table.now.width ≡ cs.dim + 1) × AllZip IsRowOf (rows_in table.now) cs.list) }
+{
+    let mut system = ConsSys::new(alloc, table.width - 1);
+    let mut rest = table.values.as_slice();
+    for marked in table.marks.as_slice() {
+        let (row, behind) = rest.split_at(table.width);
+        push_constraint(alloc, &mut system, row, *marked)?;
+        rest = behind;
+    }
+    Ok(system)
+}
+
+/// The generators of the rows, the marked ones as lines; the origin is added at the end where there are
+/// rows and none is a point.
+///
+/// # Errors
+/// The first fault of the first row that has one.
+pub fn store_generators(alloc: Global, table: &Table) -> Result<GensSys, ReadErr>
+    requires { FitTable table.now.width table.now.marks.items table.now.values.items }
+    ensures { MatchResult result
+        (λ gs. (table.now.width ≡ gs.dim + 1) × AreVectors (rows_in table.now) gs.dim gs.list)
+        (IsRefusedBy (IsRowsFault (rows_in table.now))) }
+{
+    let mut system = store_vectors(alloc, table)?;
+    if system.is_empty() || has_point(&system) {
+        return Ok(system);
+    }
+    match push_origin(alloc, &mut system) {
+        Ok(()) => Ok(system),
+        Err(Memory) => Err(ReadErr::Memory),
+    }
+}
+
+/// A copy of the row, its first number at the end.
+fn with_first_at_end(alloc: Global, row: &[i128]) -> Result<RowBuf, Memory>
     requires some { 0 < length row.now }
     requires in_range { AllInRange row.now }
     requires narrow { length row.now ≤ MAX_WIDTH }
@@ -39,7 +75,7 @@ fn con_kind(marked: bool) -> ConKind
     if marked { ConKind::Eq } else { ConKind::Ge }
 }
 
-// Appends the constraint of a row.
+/// Appends the constraint of a row.
 fn push_constraint(
     alloc: Global,
     system: &mut ConsSys,
@@ -50,29 +86,16 @@ fn push_constraint(
     requires in_range { AllInRange row.now }
     requires narrow { length row.now ≤ MAX_WIDTH }
     ensures dim { system.new.dim ≡ system.old.dim }
-    ensures list { OnOk result ((c : Constraint) × IsRowOf (row.now, marked) c × (system.new.list ≡ system.old.list ++ c ∷ [])) }
+    ensures list { OnOk result
+        ((c : Constraint) × IsRowOf (row.now, marked) c
+        × (system.new.list ≡ system.old.list ++ c ∷ [])) }
 {
-    let row = turned(alloc, row)?;
+    let row = with_first_at_end(alloc, row)?;
     system.push_row(row, con_kind(marked))?;
     Ok(())
 }
 
-/// The constraints of the rows, the marked ones as equalities.
-pub fn store_constraints(alloc: Global, table: &Table) -> Result<ConsSys, Memory>
-    requires { FitTable table.now.width table.now.marks.items table.now.values.items }
-    ensures { IfOk result (λ cs. (table.now.width ≡ cs.dim + 1) × AllZip IsRowOf (rows_of table.now.width table.now.marks.items table.now.values.items) cs.list) }
-{
-    let mut system = ConsSys::new(alloc, table.width - 1);
-    let mut rest = table.values.as_slice();
-    for marked in table.marks.as_slice() {
-        let (row, behind) = rest.split_at(table.width);
-        push_constraint(alloc, &mut system, row, *marked)?;
-        rest = behind;
-    }
-    Ok(system)
-}
-
-// The kind of a vector by its first number.
+/// The kind of a vector by its first number.
 fn gen_kind(first: i128, marked: bool) -> Result<GenKind, Fault>
     ensures { MatchResult result (IsKind marked first) (IsFirstFault marked first) }
 {
@@ -87,7 +110,7 @@ fn gen_kind(first: i128, marked: bool) -> Result<GenKind, Fault>
     }
 }
 
-// Appends the generator of a row.
+/// Appends the generator of a row.
 fn push_vector(
     alloc: Global,
     system: &mut GensSys,
@@ -99,13 +122,15 @@ fn push_vector(
     requires in_range { AllInRange row.now }
     requires narrow { length row.now ≤ MAX_WIDTH }
     ensures dim { system.new.dim ≡ system.old.dim }
-    ensures list { MatchResult result (λ _. (g : Generator) × IsVectorOf (row.now, marked) g × (system.new.list ≡ system.old.list ++ g ∷ []) × ((f : Fault) → ¬ (IsVectorFault marked row.now f))) (IsRefusedBy (IsVectorFault marked row.now)) }
+    ensures list { MatchResult result
+        (λ _. IsAdded (row.now, marked) system.old.list system.new.list)
+        (IsRefusedBy (IsVectorFault marked row.now)) }
 {
     let kind = match gen_kind(row[0], marked) {
         Ok(kind) => kind,
         Err(fault) => return Err(ReadErr::Input(fault)),
     };
-    let vector = match turned(alloc, row) {
+    let vector = match with_first_at_end(alloc, row) {
         Ok(vector) => vector,
         Err(Memory) => return Err(ReadErr::Memory),
     };
@@ -118,10 +143,12 @@ fn push_vector(
     }
 }
 
-// The generators of the rows, without the origin that may be wanted.
+/// The generators of the rows, without the origin that may be wanted.
 fn store_vectors(alloc: Global, table: &Table) -> Result<GensSys, ReadErr>
     requires { FitTable table.now.width table.now.marks.items table.now.values.items }
-    ensures { MatchResult result (λ gs. (table.now.width ≡ gs.dim + 1) × AreStored (rows_of table.now.width table.now.marks.items table.now.values.items) gs.list) (IsRefusedBy (IsRowsFault (rows_of table.now.width table.now.marks.items table.now.values.items))) }
+    ensures { MatchResult result
+        (λ gs. (table.now.width ≡ gs.dim + 1) × AreStored (rows_in table.now) gs.list)
+        (IsRefusedBy (IsRowsFault (rows_in table.now))) }
 {
     let mut system = GensSys::new(alloc, table.width - 1);
     let mut rest = table.values.as_slice();
@@ -144,34 +171,16 @@ fn has_point(system: &GensSys) -> bool
     false
 }
 
-// Appends the origin.
+/// Appends the origin.
 fn push_origin(alloc: Global, system: &mut GensSys) -> Result<(), Memory>
     ensures dim { system.new.dim ≡ system.old.dim }
-    ensures list { OnOk result (system.new.list ≡ system.old.list ++ (origin system.old.dim, Point) ∷ []) }
+    ensures list { OnOk result
+        (system.new.list ≡ system.old.list ++ (origin system.old.dim, Point) ∷ []) }
 {
     let mut cells = vec![in alloc; 0; system.dim()]?;
     cells.push(1)?;
     match system.push_row(RowBuf::from_vec(cells), GenKind::Point) {
         Ok(()) => Ok(()),
         Err(_) => Err(Memory),
-    }
-}
-
-/// The generators of the rows, the marked ones as lines; the origin is added at the end where there are
-/// rows and none is a point.
-///
-/// # Errors
-/// The first fault of the first row that has one.
-pub fn store_generators(alloc: Global, table: &Table) -> Result<GensSys, ReadErr>
-    requires { FitTable table.now.width table.now.marks.items table.now.values.items }
-    ensures { MatchResult result (λ gs. (table.now.width ≡ gs.dim + 1) × AreVectors (rows_of table.now.width table.now.marks.items table.now.values.items) gs.dim gs.list) (IsRefusedBy (IsRowsFault (rows_of table.now.width table.now.marks.items table.now.values.items))) }
-{
-    let mut system = store_vectors(alloc, table)?;
-    if system.is_empty() || has_point(&system) {
-        return Ok(system);
-    }
-    match push_origin(alloc, &mut system) {
-        Ok(()) => Ok(system),
-        Err(Memory) => Err(ReadErr::Memory),
     }
 }

@@ -15,7 +15,7 @@ use crate::format::{Format, NumberType};
 use crate::head::read_head;
 use crate::marks::{MarkErr, read_marks};
 use crate::tokens::Tokens;
-use crate::values::{ValueErr, read_values};
+use crate::values::{IntegerErr, read_values};
 use reply_text::{Fault, ReadErr};
 use std::alloc::Global;
 
@@ -33,7 +33,7 @@ pub struct Table {
     pub values: Vec<i128>,
 }
 
-// A file of which the form alone is known to be right.
+/// A file of which the form alone is known to be right.
 #[derive(Drop)]
 struct Form<'a> {
     kind: Option<Format>,
@@ -45,7 +45,41 @@ struct Form<'a> {
     numbers: Tokens<'a>,
 }
 
-// The fault that stands for why tokens are no body of integers or fractions.
+/// Reads the rows of a file that is taken for one of this kind.
+///
+/// # Errors
+/// The first fault of the file, but for those of its rows.
+pub fn read_table(alloc: Global, bytes: &[u8], want: Format) -> Result<Table, ReadErr>
+    ensures { MatchResult result
+        (λ table. IsTable want bytes.now table.width table.marks.items table.values.items)
+        (IsRefusal (table_tests want bytes.now)) }
+{
+    let form = match read_form(bytes) {
+        Ok(form) => form,
+        Err(fault) => return Err(ReadErr::Input(fault)),
+    };
+    let width = match check_limits(want, form.kind, form.columns) {
+        Ok(width) => width,
+        Err(fault) => return Err(ReadErr::Input(fault)),
+    };
+    let values = match read_values(alloc, form.numbers, width, form.number_type) {
+        Ok(values) => values,
+        Err(IntegerErr::ZeroDivisor) => return Err(ReadErr::Input(Fault::ZeroDivisor)),
+        Err(IntegerErr::TooLarge) => return Err(ReadErr::Input(Fault::NumberTooLarge)),
+        Err(IntegerErr::Memory) => return Err(ReadErr::Memory),
+    };
+    match read_marks(alloc, form.linearity, values.len() / width) {
+        Ok(marks) => Ok(Table {
+            width,
+            marks,
+            values,
+        }),
+        Err(MarkErr::OutOfBounds) => Err(ReadErr::Input(Fault::LinearityIndex)),
+        Err(MarkErr::Memory) => Err(ReadErr::Memory),
+    }
+}
+
+/// The fault that stands for why tokens are no body of integers or fractions.
 fn fault_of(error: BodyErr) -> Fault
     ensures { result ≡ fault_of error }
 {
@@ -55,9 +89,11 @@ fn fault_of(error: BodyErr) -> Fault
     }
 }
 
-// Cuts bytes where a file ends, and tests the length of its lines.
+/// Cuts bytes where a file ends, and tests the length of its lines.
 fn open_file(bytes: &[u8]) -> Result<Cut<'_>, Fault>
-    ensures { MatchResult result (λ cut. IsOpened bytes.now (lines cut.file.now) (lines cut.behind.now) cut.end) (IsFirstOf (form_tests bytes.now)) }
+    ensures { MatchResult result
+        (λ cut. IsOpened bytes.now (lines cut.file.now) (lines cut.behind.now) cut.end)
+        (IsFirstOf (form_tests bytes.now)) }
 {
     let Some(cut) = cut_file(bytes) else {
         return Err(Fault::Truncated);
@@ -68,10 +104,13 @@ fn open_file(bytes: &[u8]) -> Result<Cut<'_>, Fault>
     Ok(cut)
 }
 
-// Reads the heading and tests the tokens behind it.
+/// Reads the heading and tests the tokens behind it.
 fn read_form(bytes: &[u8]) -> Result<Form<'_>, Fault>
-    ensures read { MatchResult result (λ form. IsFormRead bytes.now form.kind form.linearity.now form.columns form.numbers) (IsFirstOf (form_tests bytes.now)) }
-    ensures forms { IfOk result (λ form. list_all (is_number form.number_type) (texts form.numbers) ≡ true) }
+    ensures read { MatchResult result
+        (λ form. IsFormRead bytes.now form.kind form.linearity.now form.columns form.numbers)
+        (IsFirstOf (form_tests bytes.now)) }
+    ensures forms { IfOk result
+        (λ form. list_all (is_number form.number_type) (texts form.numbers) ≡ true) }
 {
     let cut = open_file(bytes)?;
     let head = match read_head(cut.file) {
@@ -90,7 +129,7 @@ fn read_form(bytes: &[u8]) -> Result<Form<'_>, Fault>
     }
 }
 
-// Whether the file names the other kind.
+/// Whether the file names the other kind.
 fn names_other(kind: Option<Format>, want: Format) -> bool
     ensures { MatchBool result (kind ≡ Some (other want)) (¬ (kind ≡ Some (other want))) }
 {
@@ -100,9 +139,11 @@ fn names_other(kind: Option<Format>, want: Format) -> bool
     }
 }
 
-// The number of columns, where it is within the limit and the file doesn't name the other kind.
+/// The number of columns, where it is within the limit and the file doesn't name the other kind.
 fn check_limits(want: Format, kind: Option<Format>, columns: u128) -> Result<usize, Fault>
-    ensures { MatchResult result (λ width. (width ≡ columns) × (columns ≤ MAX_WIDTH) × ¬ (kind ≡ Some (other want))) (IsLimitFault want kind columns) }
+    ensures { MatchResult result
+        (λ width. (width ≡ columns) × (columns ≤ MAX_WIDTH) × ¬ (kind ≡ Some (other want)))
+        (IsLimitFault want kind columns) }
 {
     if names_other(kind, want) {
         return Err(Fault::WrongKind);
@@ -111,36 +152,4 @@ fn check_limits(want: Format, kind: Option<Format>, columns: u128) -> Result<usi
         return Err(Fault::TooManyDims);
     }
     Ok(columns as usize)
-}
-
-/// Reads the rows of a file that is taken for one of this kind.
-///
-/// # Errors
-/// The first fault of the file, but for those of its rows.
-pub fn read_table(alloc: Global, bytes: &[u8], want: Format) -> Result<Table, ReadErr>
-    ensures { MatchResult result (λ table. IsTable want bytes.now table.width table.marks.items table.values.items) (IsRefusal (table_tests want bytes.now)) }
-{
-    let form = match read_form(bytes) {
-        Ok(form) => form,
-        Err(fault) => return Err(ReadErr::Input(fault)),
-    };
-    let width = match check_limits(want, form.kind, form.columns) {
-        Ok(width) => width,
-        Err(fault) => return Err(ReadErr::Input(fault)),
-    };
-    let values = match read_values(alloc, form.numbers, width, form.number_type) {
-        Ok(values) => values,
-        Err(ValueErr::ZeroDivisor) => return Err(ReadErr::Input(Fault::ZeroDivisor)),
-        Err(ValueErr::TooLarge) => return Err(ReadErr::Input(Fault::NumberTooLarge)),
-        Err(ValueErr::Memory) => return Err(ReadErr::Memory),
-    };
-    match read_marks(alloc, form.linearity, values.len() / width) {
-        Ok(marks) => Ok(Table {
-            width,
-            marks,
-            values,
-        }),
-        Err(MarkErr::OutOfBounds) => Err(ReadErr::Input(Fault::LinearityIndex)),
-        Err(MarkErr::Memory) => Err(ReadErr::Memory),
-    }
 }

@@ -54,15 +54,18 @@ impl<'a> Tokens<'a> {
     }
 }
 
-// The first token of what is left of a line and of the lines behind it; what is left of the token's
-// line, the lines behind that, and its number.
+/// The first token of what is left of a line and of the lines behind it; what is left of the token's
+/// line, the lines behind that, and its number.
 fn first_token<'a>(
     line: &'a [u8],
     after: &'a [u8],
     number: usize,
 ) -> Option<(&'a [u8], &'a [u8], &'a [u8], usize)>
     requires { number + length after.now < 2 ^ 64 }
-    ensures { MatchOption result (left line.now after.now number ≡ []) (λ r. (left line.now after.now number ≡ (r.3, r.0.now) ∷ left r.1.now r.2.now r.3) × (r.3 + length r.2.now ≤ number + length after.now)) }
+    ensures { MatchOption result
+        (left line.now after.now number ≡ [])
+        (λ r. (left line.now after.now number ≡ (r.3, r.0.now) ∷ left r.1.now r.2.now r.3)
+        × (r.3 + length r.2.now ≤ number + length after.now)) }
 {
     let mut line = line;
     let mut after = after;
@@ -85,7 +88,8 @@ fn first_token<'a>(
 impl<'a> Iterator for Tokens<'a> {
     type Item = (usize, &'a [u8]);
 
-    ghost next_gives = { YieldsFirstBy (λ (x : ℕ × Bor (List ℕ)). (x.0, x.1.now)) (λ (rest : List Token). rest) };
+    ghost next_gives = { YieldsFirstBy (λ (x : ℕ × Bor (List ℕ)). (x.0, x.1.now))
+        (λ (rest : List Token). rest) };
 
     ghost remaining = { item_count (λ (rest : List Token). rest) };
 

@@ -1,38 +1,69 @@
 //! The numbers of a file as integers.
-ghost use Rattle.std.specs.Prelude.{◌≡◌, ◌*◌, ◌/◌, ◌-◌, ◌++◌, ◌∷◌, [], ◌^◌, ◌<◌, ◌≤◌, pos, map, min, length, true, All, MatchBool, MatchOption, MatchResult};
+ghost use Rattle.std.specs.Prelude.{◌≡◌, ◌*◌, ◌/◌, ◌-◌, ◌++◌, ◌∷◌, [], ◌^◌, ◌<◌, pos, map, min, length, true, All, MatchBool, MatchResult};
 ghost use Rattle.std.proofs.Math.IntN.{neg_ℤ};
 ghost use Rattle.row_core.specs.Range.{InRange, AllInRange};
 ghost use Rattle.std.specs.List.{list_all};
 ghost use Rattle.cdd_reading.specs.Bodies.{is_number};
+ghost use Rattle.cdd_reading.specs.declared.values.IntegerErr.TheVariants;
 ghost use Rattle.cdd_reading.specs.Tokens.{integer, is_negative, unsigned, texts};
-ghost use Rattle.cdd_reading.specs.Fractions.{gcd, lcm, lowest, denominator, signed, all_integers, AllDivide, IsSmall, FitRange};
-ghost use Rattle.cdd_reading.specs.Tables.{IsValueErr, IsTooLarge, IsRefused, fraction_of, lowest_of, times_of, IsIntegral, CanFollow};
+ghost use Rattle.cdd_reading.specs.Fractions.{gcd, lcm, lowest, denominator, signed, AllDivide, IsSmall, FitRange};
+ghost use Rattle.cdd_reading.specs.Tables.{IsWithinLimit, IsWithinRange, AreIntegers, IsIntegerErr, IsTooLarge, IsRowErr, fraction_of, lowest_of, times_of, IsIntegral, CanFollow};
 
 use crate::format::NumberType;
-use crate::numbers::{MOST, capped, split_slash};
-use crate::quotients::{common_divisor, negated, quotient, signed, to_signed};
+use crate::numbers::{MOST, capped_number, split_slash};
+use crate::quotients::{common_divisor, negation, quotient, signed, to_signed};
 use crate::tokens::Tokens;
-use std::alloc::Global;
+use std::alloc::{AllocFailed, Global};
 
 /// Why numbers have no integers.
-#[derive(Clone, Copy, PartialEq, Eq)]
-pub enum ValueErr {
+#[derive(Clone, Copy)]
+pub enum IntegerErr {
     /// A denominator is 0.
     ZeroDivisor,
     /// A number, the least common multiple of a row or a number times it is out of the range.
     TooLarge,
+    /// Want of memory.
     Memory,
+}
+
+impl<T: Drop> From<AllocFailed<T>> for IntegerErr {
+    ghost from_gives = { λ _ r. r ≡ TheVariants.Memory };
+
+    fn from(_failed: AllocFailed<T>) -> IntegerErr {
+        IntegerErr::Memory
+    }
 }
 
 /// A number as it is written.
 #[derive(Clone, Copy)]
-pub struct Fraction {
+pub struct WrittenNumber {
     pub negative: bool,
     pub numerator: u128,
     pub denominator: u128,
 }
 
-fn unsigned(token: &[u8]) -> &[u8]
+/// The integers of rows of this width, one row behind the other: the numbers of the tokens, those of each
+/// row times the least common multiple of their denominators.
+pub fn read_values(
+    alloc: Global,
+    tokens: Tokens<'_>,
+    width: usize,
+    number_type: NumberType,
+) -> Result<Vec<i128>, IntegerErr>
+    requires some { 0 < width }
+    requires forms { list_all (is_number number_type) (texts tokens) ≡ true }
+    requires rows { length (texts tokens) ≡ length (texts tokens) / width * width }
+    ensures { MatchResult result
+        (λ v. AreIntegers width (texts tokens.entry) v.items)
+        (IsIntegerErr width (texts tokens.entry)) }
+{
+    match number_type {
+        NumberType::Integer => read_integers(alloc, tokens),
+        NumberType::Rational | NumberType::Real => read_fractions(alloc, tokens, width),
+    }
+}
+
+fn without_sign(token: &[u8]) -> &[u8]
     ensures { result.now ≡ unsigned token.now }
 {
     match token {
@@ -50,12 +81,12 @@ fn is_negative(token: &[u8]) -> bool
     }
 }
 
-// The multiple times what the denominator has beyond its greatest common divisor with the product, where
-// that is in the range.
-fn extended(multiple: u128, product: u128, denominator: u128) -> Option<u128>
+/// The multiple times what the denominator has beyond its greatest common divisor with the product, where
+/// that is in the range.
+fn extended_multiple(multiple: u128, product: u128, denominator: u128) -> Option<u128>
     requires positive { 0 < denominator }
     requires small { multiple < 2 ^ 127 }
-    ensures { MatchOption result (2 ^ 127 ≤ multiple * (denominator / gcd product denominator)) (λ l. (l ≡ multiple * (denominator / gcd product denominator)) × (l < 2 ^ 127)) }
+    ensures { IsWithinLimit (multiple * (denominator / gcd product denominator)) result }
 {
     let divisor = common_divisor(product, denominator);
     if divisor == denominator {
@@ -69,27 +100,28 @@ fn extended(multiple: u128, product: u128, denominator: u128) -> Option<u128>
     }
 }
 
-// The least common multiple of this one and the number's denominator in lowest terms, where that is in
-// the range. It is found by the product with the numerator, so that the number need not be brought to
-// lowest terms unless the product leaves the range.
-fn with_number(multiple: u128, number: &Fraction) -> Option<u128>
+/// The least common multiple of this one and the number's denominator in lowest terms, where that is in
+/// the range. It is found by the product with the numerator, so that the number need not be brought to
+/// lowest terms unless the product leaves the range.
+fn with_number(multiple: u128, number: &WrittenNumber) -> Option<u128>
     requires positive { 0 < multiple }
     requires small { multiple < 2 ^ 127 }
     requires divides { 0 < number.now.denominator }
-    ensures { MatchOption result (2 ^ 127 ≤ lcm (lowest_of number.now) multiple) (λ l. (l ≡ lcm (lowest_of number.now) multiple) × (l < 2 ^ 127)) }
+    ensures { IsWithinLimit (lcm (lowest_of number.now) multiple) result }
 {
     let product = multiple.saturating_mul(number.numerator);
     if product < MOST {
-        return extended(multiple, product, number.denominator);
+        return extended_multiple(multiple, product, number.denominator);
     }
     let divisor = common_divisor(number.numerator, number.denominator);
-    extended(multiple, multiple, number.denominator / divisor)
+    extended_multiple(multiple, multiple, number.denominator / divisor)
 }
 
-// The size of a multiple of a number that is an integer; 2^128 - 1 stands for all greater ones.
-fn size_by(multiple: u128, number: &Fraction) -> u128
+/// The size of a multiple of a number that is an integer; 2^128 - 1 stands for all greater ones.
+fn size_by(multiple: u128, number: &WrittenNumber) -> u128
     requires { IsIntegral multiple number.now }
-    ensures { result ≡ min (multiple * number.now.numerator / number.now.denominator) (2 ^ 128 - 1) }
+    ensures { result ≡
+        min (multiple * number.now.numerator / number.now.denominator) (2 ^ 128 - 1) }
 {
     let product = multiple.saturating_mul(number.numerator);
     if product < MOST {
@@ -99,10 +131,10 @@ fn size_by(multiple: u128, number: &Fraction) -> u128
     (number.numerator / divisor).saturating_mul(multiple / (number.denominator / divisor))
 }
 
-// The multiple of a number, where it is in the range.
-fn scaled_by(multiple: u128, number: &Fraction) -> Option<i128>
+/// The multiple of a number, where it is in the range.
+fn scaled_by(multiple: u128, number: &WrittenNumber) -> Option<i128>
     requires { IsIntegral multiple number.now }
-    ensures { MatchOption result (¬ (InRange (times_of multiple number.now))) (λ z. (z ≡ times_of multiple number.now) × InRange z) }
+    ensures { IsWithinRange (times_of multiple number.now) result }
 {
     let size = size_by(multiple, number);
     if size < MOST {
@@ -112,64 +144,79 @@ fn scaled_by(multiple: u128, number: &Fraction) -> Option<i128>
     }
 }
 
-// The number of a token.
-fn number_of(token: &[u8]) -> Result<Fraction, ValueErr>
-    ensures { MatchResult result (λ f. (f ≡ fraction_of token.now) × (0 < denominator token.now) × IsSmall token.now) (IsRefused (0 < denominator token.now) (IsSmall token.now)) }
+/// The number of a token.
+fn number_of(token: &[u8]) -> Result<WrittenNumber, IntegerErr>
+    ensures { MatchResult result
+        (λ f. (f ≡ fraction_of token.now) × (0 < denominator token.now) × IsSmall token.now)
+        (IsRowErr (0 < denominator token.now) (IsSmall token.now)) }
 {
     let (dividend, divisor) = split_slash(token);
-    let denominator = capped(divisor);
+    let denominator = capped_number(divisor);
     if denominator == 0 {
-        return Err(ValueErr::ZeroDivisor);
+        return Err(IntegerErr::ZeroDivisor);
     }
-    let numerator = capped(unsigned(dividend));
+    let numerator = capped_number(without_sign(dividend));
     if numerator >= MOST || denominator >= MOST {
-        return Err(ValueErr::TooLarge);
+        return Err(IntegerErr::TooLarge);
     }
-    Ok(Fraction {
+    Ok(WrittenNumber {
         negative: is_negative(token),
         numerator,
         denominator,
     })
 }
 
-// Appends the number of a token to a row, and gives the least common multiple with it.
-fn push_number(row: &mut Vec<Fraction>, multiple: u128, token: &[u8]) -> Result<u128, ValueErr>
+/// Appends the number of a token to a row, and gives the least common multiple with it.
+fn push_number(
+    row: &mut Vec<WrittenNumber>,
+    multiple: u128,
+    token: &[u8],
+) -> Result<u128, IntegerErr>
     requires positive { 0 < multiple }
     requires small { multiple < 2 ^ 127 }
-    ensures { MatchResult result (λ l. (row.new.items ≡ row.old.items ++ fraction_of token.now ∷ []) × (l ≡ lcm (lowest token.now) multiple) × CanFollow multiple token.now) (IsRefused (0 < denominator token.now) (CanFollow multiple token.now)) }
+    ensures { MatchResult result
+        (λ l. (row.new.items ≡ row.old.items ++ fraction_of token.now ∷ [])
+        × (l ≡ lcm (lowest token.now) multiple)
+        × CanFollow multiple token.now)
+        (IsRowErr (0 < denominator token.now) (CanFollow multiple token.now)) }
 {
     let number = number_of(token)?;
     let Some(multiple) = with_number(multiple, &number) else {
-        return Err(ValueErr::TooLarge);
+        return Err(IntegerErr::TooLarge);
     };
-    if row.push(number).is_err() {
-        return Err(ValueErr::Memory);
-    }
+    row.push(number)?;
     Ok(multiple)
 }
 
-// Appends the multiples of a row's numbers.
-fn push_scaled(values: &mut Vec<i128>, row: &[Fraction], multiple: u128) -> Result<(), ValueErr>
+/// Appends the multiples of a row's numbers.
+fn push_scaled(
+    values: &mut Vec<i128>,
+    row: &[WrittenNumber],
+    multiple: u128,
+) -> Result<(), IntegerErr>
     requires { All (IsIntegral multiple) row.now }
-    ensures { MatchResult result (λ _. (values.new.items ≡ values.old.items ++ map (times_of multiple) row.now) × AllInRange (map (times_of multiple) row.now)) (IsTooLarge (AllInRange (map (times_of multiple) row.now))) }
+    ensures { MatchResult result
+        (λ _. (values.new.items ≡ values.old.items ++ map (times_of multiple) row.now)
+        × AllInRange (map (times_of multiple) row.now))
+        (IsTooLarge (AllInRange (map (times_of multiple) row.now))) }
 {
     for number in row {
         let Some(value) = scaled_by(multiple, number) else {
-            return Err(ValueErr::TooLarge);
+            return Err(IntegerErr::TooLarge);
         };
-        if values.push(value).is_err() {
-            return Err(ValueErr::Memory);
-        }
+        values.push(value)?;
     }
     Ok(())
 }
 
-// The integers of the rows of fractions: the numbers of each row times the least common multiple of their
-// denominators, which is found while they are read.
-fn read_rows(alloc: Global, tokens: Tokens<'_>, width: usize) -> Result<Vec<i128>, ValueErr>
+/// The integers of the rows of fractions: the numbers of each row times the least common multiple of their
+/// denominators, which is found while they are read.
+fn read_rows(alloc: Global, tokens: Tokens<'_>, width: usize) -> Result<Vec<i128>, IntegerErr>
     requires some { 0 < width }
     requires rows { length (texts tokens) ≡ length (texts tokens) / width * width }
-    ensures { MatchResult result (λ v. (v.items ≡ all_integers width (texts tokens.entry)) × AllDivide (texts tokens.entry) × FitRange width (texts tokens.entry)) (IsRefused (AllDivide (texts tokens.entry)) (FitRange width (texts tokens.entry))) }
+    ensures { MatchResult result
+        (λ v. AreIntegers width (texts tokens.entry) v.items)
+        (IsRowErr (AllDivide (texts tokens.entry)) (FitRange width (texts tokens.entry))) }
 {
     let mut values = Vec::new(alloc);
     let mut row = Vec::new(alloc);
@@ -185,17 +232,19 @@ fn read_rows(alloc: Global, tokens: Tokens<'_>, width: usize) -> Result<Vec<i128
     Ok(values)
 }
 
-// Whether the denominator of a number isn't 0.
+/// Whether the denominator of a number isn't 0.
 fn divides(token: &[u8]) -> bool
     ensures { MatchBool result (0 < denominator token.now) (denominator token.now ≡ 0) }
 {
     let (_, divisor) = split_slash(token);
-    capped(divisor) > 0
+    capped_number(divisor) > 0
 }
 
-// Whether no denominator is 0.
+/// Whether no denominator is 0.
 fn all_divide(tokens: Tokens<'_>) -> bool
-    ensures { MatchBool result (AllDivide (texts tokens.entry)) (¬ (AllDivide (texts tokens.entry))) }
+    ensures { MatchBool result
+        (AllDivide (texts tokens.entry))
+        (¬ (AllDivide (texts tokens.entry))) }
 {
     for (_, token) in tokens {
         if !divides(token) {
@@ -205,65 +254,48 @@ fn all_divide(tokens: Tokens<'_>) -> bool
     true
 }
 
-// The integers of the rows of fractions. A denominator of 0 is told wherever it stands.
-fn read_fractions(alloc: Global, tokens: Tokens<'_>, width: usize) -> Result<Vec<i128>, ValueErr>
+/// The integers of the rows of fractions. A denominator of 0 is told wherever it stands.
+fn read_fractions(alloc: Global, tokens: Tokens<'_>, width: usize) -> Result<Vec<i128>, IntegerErr>
     requires some { 0 < width }
     requires rows { length (texts tokens) ≡ length (texts tokens) / width * width }
-    ensures { MatchResult result (λ v. (v.items ≡ all_integers width (texts tokens.entry)) × AllDivide (texts tokens.entry) × FitRange width (texts tokens.entry)) (IsValueErr width (texts tokens.entry)) }
+    ensures { MatchResult result
+        (λ v. AreIntegers width (texts tokens.entry) v.items)
+        (IsIntegerErr width (texts tokens.entry)) }
 {
     match read_rows(alloc, tokens.again(), width) {
-        Err(ValueErr::TooLarge) if !all_divide(tokens.again()) => Err(ValueErr::ZeroDivisor),
+        Err(IntegerErr::TooLarge) if !all_divide(tokens.again()) => Err(IntegerErr::ZeroDivisor),
         read => read,
     }
 }
 
-// The integer of a token, where it is in the range.
+/// The integer of a token, where it is in the range.
 fn integer_of(token: &[u8]) -> Option<i128>
-    ensures { MatchOption result (¬ (InRange (integer token.now))) (λ z. (z ≡ integer token.now) × InRange z) }
+    ensures { IsWithinRange (integer token.now) result }
 {
-    let size = capped(unsigned(token));
+    let size = capped_number(without_sign(token));
     if size >= MOST {
         return None;
     }
     let value = to_signed(size);
     if is_negative(token) {
-        Some(negated(value))
+        Some(negation(value))
     } else {
         Some(value)
     }
 }
 
-// The integers of the tokens.
-fn read_integers(alloc: Global, tokens: Tokens<'_>) -> Result<Vec<i128>, ValueErr>
-    ensures { MatchResult result (λ v. (v.items ≡ map integer (texts tokens.entry)) × AllInRange v.items) (IsTooLarge (AllInRange (map integer (texts tokens.entry)))) }
+/// The integers of the tokens.
+fn read_integers(alloc: Global, tokens: Tokens<'_>) -> Result<Vec<i128>, IntegerErr>
+    ensures { MatchResult result
+        (λ v. (v.items ≡ map integer (texts tokens.entry)) × AllInRange v.items)
+        (IsTooLarge (AllInRange (map integer (texts tokens.entry)))) }
 {
     let mut values = Vec::new(alloc);
     for (_, token) in tokens {
         let Some(value) = integer_of(token) else {
-            return Err(ValueErr::TooLarge);
+            return Err(IntegerErr::TooLarge);
         };
-        if values.push(value).is_err() {
-            return Err(ValueErr::Memory);
-        }
+        values.push(value)?;
     }
     Ok(values)
-}
-
-/// The integers of rows of this width, one row behind the other: the numbers of the tokens, those of each
-/// row times the least common multiple of their denominators.
-pub fn read_values(
-    alloc: Global,
-    tokens: Tokens<'_>,
-    width: usize,
-    number_type: NumberType,
-) -> Result<Vec<i128>, ValueErr>
-    requires some { 0 < width }
-    requires forms { list_all (is_number number_type) (texts tokens) ≡ true }
-    requires rows { length (texts tokens) ≡ length (texts tokens) / width * width }
-    ensures { MatchResult result (λ v. (v.items ≡ all_integers width (texts tokens.entry)) × AllDivide (texts tokens.entry) × FitRange width (texts tokens.entry)) (IsValueErr width (texts tokens.entry)) }
-{
-    match number_type {
-        NumberType::Integer => read_integers(alloc, tokens),
-        NumberType::Rational | NumberType::Real => read_fractions(alloc, tokens, width),
-    }
 }

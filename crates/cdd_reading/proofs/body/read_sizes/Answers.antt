@@ -53,4 +53,4 @@ returns c =
     let e : c.args.tokens.now ≡ (a.line1, a.m.now) ∷ c.next.new.self = search rules in
     let f : c.next.new.self ≡ (b.line2, b.d.now) ∷ c.next-2.new.self = search rules in
     let g : c.next-2.new.self ≡ (d.line3, d.t.now) ∷ c.next-3.new.self = search rules in
-    all_three c.args.tokens.now c.next-3.new.self (a.line1, a.m.now) (b.line2, b.d.now) (d.line3, d.t.now) c.capped.result c.capped-2.result c.in-Some-number_type.number_type (e ∙ ap (λ (l : List Token). (a.line1, a.m.now) ∷ l) f ∙ ap (λ (l : List Token). (a.line1, a.m.now) ∷ (b.line2, b.d.now) ∷ l) g) (search rules) (search rules) (search rules) (search rules) c.capped.ensures c.capped-2.ensures
+    all_three c.args.tokens.now c.next-3.new.self (a.line1, a.m.now) (b.line2, b.d.now) (d.line3, d.t.now) c.capped_number.result c.capped_number-2.result c.in-Some-number_type.number_type (e ∙ ap (λ (l : List Token). (a.line1, a.m.now) ∷ l) f ∙ ap (λ (l : List Token). (a.line1, a.m.now) ∷ (b.line2, b.d.now) ∷ l) g) (search rules) (search rules) (search rules) (search rules) c.capped_number.ensures c.capped_number-2.ensures

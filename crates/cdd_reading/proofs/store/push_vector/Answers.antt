@@ -17,7 +17,7 @@ pub returns-in-Ok-push_row-clause-list : goal.returns-in-Ok-push_row-clause-list
 returns-in-Ok-push_row-clause-list c =
     let row = c.args.row.now in
     let kind = c.in-Ok.kind in
-    let same = c.in-Ok-turned.ensures.row in
+    let same = c.in-Ok-with_first_at_end.ensures.row in
     let kept = c.in-Ok-push_row.ensures in
     let is_kind : IsKind c.args.marked (cell c.args.row.now 0) c.in-Ok.kind = subst (λ (z : ℤ). IsKind c.args.marked z c.in-Ok.kind) (passed_on (cell c.args.row.now 0) (All-get_or InRange c.args.row.now 0 (pos 0) c.requires.some c.requires.in_range)) c.in-Ok.ensures in (
       (kept.list.stored, kind),
@@ -29,7 +29,7 @@ returns-in-Ok-push_row-clause-list c =
 pub returns-in-Err-ZeroVector : goal.returns-in-Err-ZeroVector
 returns-in-Err-ZeroVector c = record {
   dim = c.push_row.ensures.dim;
-  list = zero_row c.in-Ok.kind c.args.row.now (subst (λ (v : List ℤ). IsZeroDirection c.in-Ok.kind v) c.in-Ok-turned.ensures.row (c.in-Err-ZeroVector.ensures.zero_vector.0 (ap Err c.in-Err-ZeroVector.field-0-is)));
+  list = zero_row c.in-Ok.kind c.args.row.now (subst (λ (v : List ℤ). IsZeroDirection c.in-Ok.kind v) c.in-Ok-with_first_at_end.ensures.row (c.in-Err-ZeroVector.ensures.zero_vector.0 (ap Err c.in-Err-ZeroVector.field-0-is)));
 }
 
 pub returns-in-Err-BadDivisor : goal.returns-in-Err-BadDivisor
@@ -37,4 +37,4 @@ returns-in-Err-BadDivisor c =
     let dim = c.args.system.now.dim in
     let is_kind : IsKind c.args.marked (cell c.args.row.now 0) c.in-Ok.kind = subst (λ (z : ℤ). IsKind c.args.marked z c.in-Ok.kind) (passed_on (cell c.args.row.now 0) (All-get_or InRange c.args.row.now 0 (pos 0) c.requires.some c.requires.in_range)) c.in-Ok.ensures in
     let bad = c.in-Err-BadDivisor.ensures.bad_divisor.0 (ap Err c.in-Err-BadDivisor.field-0-is) in
-    absurd (no_bad_divisor c.args.marked c.args.row.now dim c.in-Ok.kind c.requires.wide is_kind (subst (λ (v : List ℤ). HasBadDivisor c.in-Ok.kind (cell v dim)) c.in-Ok-turned.ensures.row bad))
+    absurd (no_bad_divisor c.args.marked c.args.row.now dim c.in-Ok.kind c.requires.wide is_kind (subst (λ (v : List ℤ). HasBadDivisor c.in-Ok.kind (cell v dim)) c.in-Ok-with_first_at_end.ensures.row bad))

@@ -5,7 +5,7 @@ use Rattle.row_core.specs.Range.{InRange}
 use Rattle.cdd_reading.specs.Files.{turned}
 use Rattle.cdd_reading.proofs.StoreLaws.{in_range-turned}
 use Rattle.std.proofs.lemmas.Result.{err_from_is_err_and}
-use Rattle.cdd_reading.proofs.store.turned.Goals as goal
+use Rattle.cdd_reading.proofs.store.with_first_at_end.Goals as goal
 
 pub from_vec-requires-clause-in_range : goal.from_vec-requires-clause-in_range
 from_vec-requires-clause-in_range c =
