@@ -14,7 +14,7 @@ use Rattle.row_core.specs.Range.{InRange, AllInRange}
 use Rattle.cdd_reading.specs.Tokens.{texts, Token}
 use Rattle.cdd_reading.specs.Fractions.{lcm, lcm_of, denominator, lowest, times, common, integers, cut_rows, all_integers, AllDivide, IsSmall, FitRange}
 use Rattle.cdd_reading.specs.Tables.{IsTooLarge, IsRowErr, fraction_of, times_of, IsIntegral, CanFollow}
-use Rattle.cdd_reading.specs.declared.values.WrittenNumber.{WrittenNumber}
+use Rattle.cdd_reading.specs.declared.values.Numeral.{Numeral}
 use Rattle.cdd_reading.specs.declared.values.IntegerErr.{IntegerErr}
 use Rattle.cdd_reading.specs.declared.values.IntegerErr.TheVariants as value
 use Rattle.cdd_reading.proofs.ListLaws.{All-inside, one_further}
@@ -112,7 +112,7 @@ pub record AreDone (w : ℕ) (all left : List (List ℕ)) (values : List ℤ) : 
   pub fits : FitRange w left → FitRange w all
 
 -- the row that is read: its numbers so far, and their least common multiple
-pub record IsReading (w : ℕ) (all rest : List (List ℕ)) (values : List ℤ) (numbers : List WrittenNumber) (multiple : ℕ) : Type 0 where
+pub record IsReading (w : ℕ) (all rest : List (List ℕ)) (values : List ℤ) (numbers : List Numeral) (multiple : ℕ) : Type 0 where
   pub left : List (List ℕ)
   pub done : AreDone w all left values
   pub begun : List (List ℕ)
@@ -136,7 +136,7 @@ at_first w ts rows = record {
   low = omega arith;
 }
 
-pub multiple_positive : (w : ℕ) (all rest : List (List ℕ)) (values : List ℤ) (row : List WrittenNumber) (m : ℕ) → IsReading w all rest values row m → 0 < m
+pub multiple_positive : (w : ℕ) (all rest : List (List ℕ)) (values : List ℤ) (row : List Numeral) (m : ℕ) → IsReading w all rest values row m → 0 < m
 multiple_positive w all rest values row m is = subst (λ (n : ℕ). 0 < n) (sym is.common) (lcm_of_is (map lowest is.begun) (all_positive is.begun is.divide)).positive
 
 -- ---- one number more
@@ -170,7 +170,7 @@ follows w m left begun more t some rows cut short same divide fit =
     below : (n a b : ℕ) → n ≡ a → a ≤ b → b < 2 ^ 127 → n < 2 ^ 127
     below n a b e f h = omega arith
 
-pub number_refused : (w : ℕ) (all : List (List ℕ)) (now rest : List Token) (x : Token) (values : List ℤ) (row : List WrittenNumber) (m : ℕ) (e : IntegerErr) → 0 < w → IsReading w all (texts now) values row m → length row < w → now ≡ x ∷ rest → IsRowErr (Divide x.1) (CanFollow m x.1) e → IsRowErr (AllDivide all) (FitRange w all) e
+pub number_refused : (w : ℕ) (all : List (List ℕ)) (now rest : List Token) (x : Token) (values : List ℤ) (row : List Numeral) (m : ℕ) (e : IntegerErr) → 0 < w → IsReading w all (texts now) values row m → length row < w → now ≡ x ∷ rest → IsRowErr (Divide x.1) (CanFollow m x.1) e → IsRowErr (AllDivide all) (FitRange w all) e
 number_refused w all now rest x values row m e some is short next =
     let cut : is.left ≡ is.begun ++ x.1 ∷ texts rest = is.cut ∙ ap (λ (l : List Token). is.begun ++ texts l) next in
     let few : length is.begun < w = subst (λ (n : ℕ). n < w) (ap length is.row ∙ length-map is.begun fraction_of) short in
@@ -178,14 +178,14 @@ number_refused w all now rest x values row m e some is short next =
     (λ h. All-inside Divide is.begun x.1 (texts rest) (subst (λ (l : List (List ℕ)). AllDivide l) cut (is.done.divide h)))
     (λ h fit. follows w m is.left is.begun (texts rest) x.1 some is.done.rows cut few is.common (is.done.divide h) (is.done.fit fit))
 
-pub number_taken : (w : ℕ) (all : List (List ℕ)) (now rest : List Token) (x : Token) (values : List ℤ) (row new : List WrittenNumber) (m l : ℕ) → IsReading w all (texts now) values row m → now ≡ x ∷ rest → new ≡ row ++ fraction_of x.1 ∷ [] → l ≡ lcm (lowest x.1) m → CanFollow m x.1 → IsReading w all (texts rest) values new l
+pub number_taken : (w : ℕ) (all : List (List ℕ)) (now rest : List Token) (x : Token) (values : List ℤ) (row new : List Numeral) (m l : ℕ) → IsReading w all (texts now) values row m → now ≡ x ∷ rest → new ≡ row ++ fraction_of x.1 ∷ [] → l ≡ lcm (lowest x.1) m → CanFollow m x.1 → IsReading w all (texts rest) values new l
 number_taken w all now rest x values row new m l is next pushed same can =
     let common_is : l ≡ common (is.begun ++ x.1 ∷ []) = same ∙ ap (λ (n : ℕ). lcm (lowest x.1) n) is.common ∙ sym (common_push is.begun x.1 is.divide can.divides) in record {
       left = is.left;
       done = is.done;
       begun = is.begun ++ x.1 ∷ [];
       cut = one_further is.begun x.1 (texts now) (texts rest) is.left is.cut (ap texts next);
-      row = pushed ∙ ap (λ (f : List WrittenNumber). f ++ fraction_of x.1 ∷ []) is.row ∙ sym (map-append fraction_of is.begun (x.1 ∷ []));
+      row = pushed ∙ ap (λ (f : List Numeral). f ++ fraction_of x.1 ∷ []) is.row ∙ sym (map-append fraction_of is.begun (x.1 ∷ []));
       divide = All-append Divide is.begun (x.1 ∷ []) is.divide (All-cons Divide x.1 [] can.divides (All-nil Divide));
       small = All-append IsSmall is.begun (x.1 ∷ []) is.small (All-cons IsSmall x.1 [] can.small (All-nil IsSmall));
       common = common_is;
@@ -200,29 +200,29 @@ integral_all m (t ∷ ts) h k =
     (record { positive = All-head Divide t ts h; multiple = All-head (λ d. d ∣ m) (lowest t) (map lowest ts) k })
     (integral_all m ts (All-tail Divide t ts h) (All-tail (λ d. d ∣ m) (lowest t) (map lowest ts) k))
 
-pub row_integral : (w : ℕ) (all rest : List (List ℕ)) (values : List ℤ) (row : List WrittenNumber) (m : ℕ) → IsReading w all rest values row m → All (IsIntegral m) row
+pub row_integral : (w : ℕ) (all rest : List (List ℕ)) (values : List ℤ) (row : List Numeral) (m : ℕ) → IsReading w all rest values row m → All (IsIntegral m) row
 row_integral w all rest values row m is =
-    subst (λ (f : List WrittenNumber). All (IsIntegral m) f) (sym is.row)
+    subst (λ (f : List Numeral). All (IsIntegral m) f) (sym is.row)
     (integral_all m is.begun is.divide (subst (λ (n : ℕ). All (λ d. d ∣ n) (map lowest is.begun)) (sym is.common) (lcm_of_is (map lowest is.begun) (all_positive is.begun is.divide)).multiple))
 
 times_all : (m : ℕ) (ts : List (List ℕ)) → map (times_of m) (map fraction_of ts) ≡ map (times m) ts
 times_all m [] = refl
 times_all m (t ∷ ts) = ap (λ (l : List ℤ). times m t ∷ l) (times_all m ts)
 
-row_integers : (m : ℕ) (row : List WrittenNumber) (ts : List (List ℕ)) → row ≡ map fraction_of ts → m ≡ common ts → map (times_of m) row ≡ integers ts
-row_integers m row ts e f = ap (λ (l : List WrittenNumber). map (times_of m) l) e ∙ times_all m ts ∙ ap (λ (n : ℕ). map (times n) ts) f
+row_integers : (m : ℕ) (row : List Numeral) (ts : List (List ℕ)) → row ≡ map fraction_of ts → m ≡ common ts → map (times_of m) row ≡ integers ts
+row_integers m row ts e f = ap (λ (l : List Numeral). map (times_of m) l) e ∙ times_all m ts ∙ ap (λ (n : ℕ). map (times n) ts) f
 
-row_length : (row : List WrittenNumber) (ts : List (List ℕ)) (w : ℕ) → row ≡ map fraction_of ts → length row ≡ w → length ts ≡ w
+row_length : (row : List Numeral) (ts : List (List ℕ)) (w : ℕ) → row ≡ map fraction_of ts → length row ≡ w → length ts ≡ w
 row_length row ts w e f = sym (length-map ts fraction_of) ∙ ap length (sym e) ∙ f
 
-pub row_refused : (w : ℕ) (all rest : List (List ℕ)) (values : List ℤ) (row : List WrittenNumber) (m : ℕ) (e : IntegerErr) → 0 < w → IsReading w all rest values row m → length row ≡ w → IsTooLarge (AllInRange (map (times_of m) row)) e → IsRowErr (AllDivide all) (FitRange w all) e
+pub row_refused : (w : ℕ) (all rest : List (List ℕ)) (values : List ℤ) (row : List Numeral) (m : ℕ) (e : IntegerErr) → 0 < w → IsReading w all rest values row m → length row ≡ w → IsTooLarge (AllInRange (map (times_of m) row)) e → IsRowErr (AllDivide all) (FitRange w all) e
 row_refused w all rest values row m value.ZeroDivisor some is full h = absurd h
 row_refused w all rest values row m value.TooLarge some is full h = λ both.
     h (subst (λ (l : List ℤ). AllInRange l) (sym (row_integers m row is.begun is.row is.common))
     (fit_off w is.begun rest some (row_length row is.begun w is.row full) (subst (λ (l : List (List ℕ)). FitRange w l) is.cut (is.done.fit both.1))).0.integers)
 row_refused w all rest values row m value.Memory some is full h = tt
 
-pub row_taken : (w : ℕ) (all rest : List (List ℕ)) (values new : List ℤ) (row : List WrittenNumber) (m : ℕ) → 0 < w → IsReading w all rest values row m → length row ≡ w → new ≡ values ++ map (times_of m) row → AllInRange (map (times_of m) row) → IsReading w all rest new [] 1
+pub row_taken : (w : ℕ) (all rest : List (List ℕ)) (values new : List ℤ) (row : List Numeral) (m : ℕ) → 0 < w → IsReading w all rest values row m → length row ≡ w → new ≡ values ++ map (times_of m) row → AllInRange (map (times_of m) row) → IsReading w all rest new [] 1
 row_taken w all rest values new row m some is full pushed range =
     let same : map (times_of m) row ≡ integers is.begun = row_integers m row is.begun is.row is.common in
     let wide : length is.begun ≡ w = row_length row is.begun w is.row full in
@@ -251,7 +251,7 @@ row_taken w all rest values new row m some is full pushed range =
     }
 
 -- ---- the end
-pub at_end : (w : ℕ) (all : List (List ℕ)) (now : List Token) (values : List ℤ) (row : List WrittenNumber) (m : ℕ) → 0 < w → IsReading w all (texts now) values row m → now ≡ [] → length row < w → (values ≡ all_integers w all) × AllDivide all × FitRange w all
+pub at_end : (w : ℕ) (all : List (List ℕ)) (now : List Token) (values : List ℤ) (row : List Numeral) (m : ℕ) → 0 < w → IsReading w all (texts now) values row m → now ≡ [] → length row < w → (values ≡ all_integers w all) × AllDivide all × FitRange w all
 at_end w all now values row m some is e short =
     let whole : is.left ≡ is.begun = is.cut ∙ ap (λ (l : List Token). is.begun ++ texts l) e ∙ append-nil is.begun in
     let few : length is.begun < w = subst (λ (n : ℕ). n < w) (ap length is.row ∙ length-map is.begun fraction_of) short in

@@ -16,7 +16,7 @@ use Rattle.row_core.proofs.Ring.{neg-mul, mul-neg}
 use Rattle.cdd_reading.specs.Tokens.{is_negative, texts, Token}
 use Rattle.cdd_reading.specs.Fractions.{gcd, lcm, lcm_of, numerator, denominator, lowest, signed, times, common, integers, all_integers, AllDivide}
 use Rattle.cdd_reading.specs.Tables.{times_of}
-use Rattle.cdd_reading.specs.declared.values.WrittenNumber.{WrittenNumber}
+use Rattle.cdd_reading.specs.declared.values.Numeral.{Numeral}
 use Rattle.cdd_reading.proofs.ListLaws.{All-inside}
 use Rattle.cdd_reading.proofs.Divisors.{coprime_divides, lowest_terms, lcm_of_is, lcm_is, Positive, least_once}
 
@@ -155,31 +155,31 @@ push_least ds d h some =
 
 -- ---- the loops over a row
 -- what is read past the end
-abbrev pub blank : WrittenNumber
+abbrev pub blank : Numeral
 blank = record { negative = false; numerator = 0; denominator = 0 }
 
-pub own_default : (row : List WrittenNumber) (i : ℕ) → i < length row → get_or row i blank ≡ get_or row i (get_or row i blank)
+pub own_default : (row : List Numeral) (i : ℕ) → i < length row → get_or row i blank ≡ get_or row i (get_or row i blank)
 own_default row i less = get_or_default row i blank (get_or row i blank) less
 
-times_at : (m : ℕ) (row : List WrittenNumber) (i : ℕ) (f : WrittenNumber) → i < length row → f ≡ get_or row i f → get_or (map (times_of m) row) i (times_of m f) ≡ times_of m f
+times_at : (m : ℕ) (row : List Numeral) (i : ℕ) (f : Numeral) → i < length row → f ≡ get_or row i f → get_or (map (times_of m) row) i (times_of m f) ≡ times_of m f
 times_at m row i f less e = get_or-map (times_of m) row i f (times_of m f) less ∙ ap (times_of m) (sym e)
 
-pub times_out : (m : ℕ) (row : List WrittenNumber) (i : ℕ) (f : WrittenNumber) → i < length row → f ≡ get_or row i f → ¬ (InRange (times_of m f)) → ¬ (AllInRange (map (times_of m) row))
+pub times_out : (m : ℕ) (row : List Numeral) (i : ℕ) (f : Numeral) → i < length row → f ≡ get_or row i f → ¬ (InRange (times_of m f)) → ¬ (AllInRange (map (times_of m) row))
 times_out m row i f less e out all =
     out (subst (λ (z : ℤ). InRange z) (times_at m row i f less e) (All-get_or InRange (map (times_of m) row) i (times_of m f) (omega (arith, less, length-map row (times_of m))) all))
 
-times_push : (m : ℕ) (row : List WrittenNumber) (i : ℕ) (f : WrittenNumber) (z : ℤ) → i < length row → f ≡ get_or row i f → z ≡ times_of m f → map (times_of m) (take (i + 1) row) ≡ map (times_of m) (take i row) ++ z ∷ []
+times_push : (m : ℕ) (row : List Numeral) (i : ℕ) (f : Numeral) (z : ℤ) → i < length row → f ≡ get_or row i f → z ≡ times_of m f → map (times_of m) (take (i + 1) row) ≡ map (times_of m) (take i row) ++ z ∷ []
 times_push m row i f z less e same =
-    ap (map (times_of m)) (take_more row i f less ∙ ap (λ (g : WrittenNumber). take i row ++ g ∷ []) (sym e))
+    ap (map (times_of m)) (take_more row i f less ∙ ap (λ (g : Numeral). take i row ++ g ∷ []) (sym e))
     ∙ map-append (times_of m) (take i row) (f ∷ [])
     ∙ ap (λ (x : ℤ). map (times_of m) (take i row) ++ x ∷ []) (sym same)
 
-pub times_next : (old now new : List ℤ) (m : ℕ) (row : List WrittenNumber) (i : ℕ) (f : WrittenNumber) (z : ℤ) → i < length row → f ≡ get_or row i f → z ≡ times_of m f → new ≡ now ++ z ∷ [] → now ≡ old ++ map (times_of m) (take i row) → new ≡ old ++ map (times_of m) (take (i + 1) row)
+pub times_next : (old now new : List ℤ) (m : ℕ) (row : List Numeral) (i : ℕ) (f : Numeral) (z : ℤ) → i < length row → f ≡ get_or row i f → z ≡ times_of m f → new ≡ now ++ z ∷ [] → now ≡ old ++ map (times_of m) (take i row) → new ≡ old ++ map (times_of m) (take (i + 1) row)
 times_next old now new m row i f z less e same g k =
     g ∙ ap (λ (l : List ℤ). l ++ z ∷ []) k ∙ append_assoc old (map (times_of m) (take i row)) (z ∷ [])
     ∙ ap (λ (l : List ℤ). old ++ l) (sym (times_push m row i f z less e same))
 
-pub times_in : (m : ℕ) (row : List WrittenNumber) (i : ℕ) (f : WrittenNumber) (z : ℤ) → i < length row → f ≡ get_or row i f → z ≡ times_of m f → InRange z → AllInRange (map (times_of m) (take i row)) → AllInRange (map (times_of m) (take (i + 1) row))
+pub times_in : (m : ℕ) (row : List Numeral) (i : ℕ) (f : Numeral) (z : ℤ) → i < length row → f ≡ get_or row i f → z ≡ times_of m f → InRange z → AllInRange (map (times_of m) (take i row)) → AllInRange (map (times_of m) (take (i + 1) row))
 times_in m row i f z less e same here before =
     subst (λ (l : List ℤ). AllInRange l) (sym (times_push m row i f z less e same))
     (All-append InRange (map (times_of m) (take i row)) (z ∷ []) before (All-cons InRange z [] here (All-nil InRange)))

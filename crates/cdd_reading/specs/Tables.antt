@@ -17,7 +17,7 @@ use Rattle.cdd_reading.specs.Refusals.{Test, AllName, AreShort, other, IsVectorF
 use Rattle.cdd_reading.specs.declared.format.Format.{Format}
 use Rattle.cdd_reading.specs.declared.body.BodyErr.{BodyErr}
 use Rattle.cdd_reading.specs.declared.body.BodyErr.TheVariants.{Wrong, OtherType}
-use Rattle.cdd_reading.specs.declared.values.WrittenNumber.{WrittenNumber}
+use Rattle.cdd_reading.specs.declared.values.Numeral.{Numeral}
 use Rattle.cdd_reading.specs.declared.values.IntegerErr.{IntegerErr}
 use Rattle.cdd_reading.specs.declared.values.IntegerErr.TheVariants as value
 use Rattle.cdd_reading.specs.declared.marks.MarkErr.{MarkErr}
@@ -57,19 +57,19 @@ IsRowErr Divide Fit value.TooLarge = ¬ (Divide × Fit)
 IsRowErr Divide Fit value.Memory = Unit {0}
 
 -- the number of a token, as it is written
-abbrev pub fraction_of : List ℕ → WrittenNumber
+abbrev pub fraction_of : List ℕ → Numeral
 fraction_of t = record { negative = is_negative t; numerator = numerator t; denominator = denominator t }
 
 -- its denominator in lowest terms
-abbrev pub lowest_of : WrittenNumber → ℕ
+abbrev pub lowest_of : Numeral → ℕ
 lowest_of f = f.denominator / gcd f.numerator f.denominator
 
 -- n times the number
-abbrev pub times_of : ℕ → WrittenNumber → ℤ
+abbrev pub times_of : ℕ → Numeral → ℤ
 times_of n f = signed f.negative (n * f.numerator / f.denominator)
 
 -- n times the number is an integer
-pub record IsIntegral (n : ℕ) (f : WrittenNumber) : Type 0 where
+pub record IsIntegral (n : ℕ) (f : Numeral) : Type 0 where
   pub positive : 0 < f.denominator
   pub multiple : lowest_of f ∣ n
 

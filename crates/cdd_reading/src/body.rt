@@ -1,6 +1,5 @@
 //! What stands behind `begin`.
-ghost use Rattle.std.specs.Prelude.{◌≡◌, ◌+◌, ◌*◌, ◌^◌, ◌<◌, ◌⊎◌, length, min, true, false, MatchOption, MatchResult, MatchBool};
-ghost use Rattle.std.specs.Prelude.{IfOk};
+ghost use Rattle.std.specs.Prelude.{◌≡◌, ◌+◌, ◌*◌, ◌^◌, ◌<◌, ◌⊎◌, length, min, true, false, MatchOption, MatchResult, MatchBool, IfOk};
 ghost use Rattle.std.specs.List.{list_all};
 ghost use Rattle.cdd_reading.specs.Tokens.{texts};
 ghost use Rattle.plain_text.specs.Digits.{is_nat, number};
@@ -42,8 +41,7 @@ struct SizesRead {
 /// Reads the tokens behind `begin`. `end` is the number of the line that ends the file.
 pub fn read_body(tokens: Tokens<'_>, end: usize) -> Result<Body<'_>, BodyErr>
     requires { length tokens < 2 ^ 64 }
-    ensures read { MatchResult result
-        (λ body. IsBodyRead tokens.entry body.columns body.numbers)
+    ensures read { MatchResult result (λ body. IsBodyRead tokens.entry body.columns body.numbers)
         (IsBodyFault tokens.entry end) }
     ensures forms { IfOk result
         (λ body. list_all (is_number body.number_type) (texts body.numbers) ≡ true) }
@@ -68,8 +66,7 @@ pub fn read_body(tokens: Tokens<'_>, end: usize) -> Result<Body<'_>, BodyErr>
 }
 
 fn number_type(token: &[u8]) -> Option<NumberType>
-    ensures { MatchOption result
-        ((t : NumberType) → ¬ (token.now ≡ type_word t))
+    ensures { MatchOption result ((t : NumberType) → ¬ (token.now ≡ type_word t))
         (λ t. token.now ≡ type_word t) }
 {
     if is_word(token, b"integer") {
@@ -92,8 +89,7 @@ fn product(m: u128, d: u128) -> u128
 
 /// Whether the token is a number of columns.
 fn is_width(token: &[u8]) -> bool
-    ensures { MatchBool result
-        ((is_nat token.now ≡ true) × (0 < number token.now))
+    ensures { MatchBool result ((is_nat token.now ≡ true) × (0 < number token.now))
         ((is_nat token.now ≡ false) ⊎ (number token.now ≡ 0)) }
 {
     is_nat(token) && capped_number(token) > 0
@@ -119,8 +115,7 @@ fn check_numbers(
     most: u128,
 ) -> Result<(), usize>
     requires { length tokens < 2 ^ 64 }
-    ensures { MatchResult result
-        (λ _. AreNumbers number_type tokens.entry most)
+    ensures { MatchResult result (λ _. AreNumbers number_type tokens.entry most)
         (ArentNumbers number_type tokens.entry most end) }
 {
     let mut count: u128 = 0;

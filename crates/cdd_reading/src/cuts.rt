@@ -4,8 +4,7 @@ ghost use Rattle.cdd_reading.specs.Tokens.{has_some, is_gap, tokens};
 
 /// The first token of a line, and what stands behind it.
 pub fn split_token(line: &[u8]) -> Option<(&[u8], &[u8])>
-    ensures { MatchOption result
-        (tokens line.now ≡ [])
+    ensures { MatchOption result (tokens line.now ≡ [])
         (λ r. (tokens line.now ≡ r.0.now ∷ tokens r.1.now) × (length r.1.now < length line.now)) }
 {
     let mut rest = line;
@@ -32,8 +31,7 @@ fn gap(bytes: &[u8]) -> Option<usize>
 fn split_part(line: &[u8]) -> (&[u8], &[u8])
     requires { 0 < length line.now }
     ensures parts { tokens line.now ≡ if has_some result.0.now
-        then result.0.now ∷ tokens result.1.now
-        else tokens result.1.now }
+        then result.0.now ∷ tokens result.1.now else tokens result.1.now }
     ensures shorter { length result.1.now < length line.now }
 {
     match gap(line) {

@@ -41,8 +41,7 @@ pub fn is_end(line: &[u8]) -> bool
 
 /// Cuts bytes at the first line that ends a file.
 pub fn cut_file(bytes: &[u8]) -> Option<Cut<'_>>
-    ensures { MatchOption result
-        (All (λ line. ¬ (IsEnd line)) (lines bytes.now))
+    ensures { MatchOption result (All (λ line. ¬ (IsEnd line)) (lines bytes.now))
         (λ cut. IsFile bytes.now (lines cut.file.now) (lines cut.behind.now)
         × (cut.end ≡ length (lines cut.file.now) + 1)) }
 {

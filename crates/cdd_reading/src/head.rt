@@ -50,8 +50,7 @@ pub struct Head<'a> {
 pub fn read_head(file: &[u8]) -> Result<Head<'_>, usize>
     ensures head { MatchResult result
         (λ h. IsHeadRead (lines file.now) h.said.kind h.said.linearity.now (lines h.behind.now)
-        h.begin)
-        (HasNoHead (lines file.now)) }
+        h.begin) (HasNoHead (lines file.now)) }
     ensures short { IfOk result (λ h. h.begin + length h.behind.now ≤ length file.now + 1) }
 {
     let mut said = Said {
@@ -82,8 +81,7 @@ pub fn read_head(file: &[u8]) -> Result<Head<'_>, usize>
 
 /// How many tokens there are, where all are numbers.
 fn count_nats(text: &[u8]) -> Option<usize>
-    ensures { MatchOption result
-        (list_all is_nat (tokens text.now) ≡ false)
+    ensures { MatchOption result (list_all is_nat (tokens text.now) ≡ false)
         (λ n. (list_all is_nat (tokens text.now) ≡ true) × (n ≡ length (tokens text.now))) }
 {
     let mut rest = text;
@@ -159,9 +157,7 @@ impl<'a> Said<'a> {
     fn with_line(self, line: &'a [u8], role: Role) -> Option<Said<'a>>
         requires { IsRole (tokens line.now) role }
         ensures { (before : List (List ℕ)) → Holds before self.entry.kind self.entry.linearity.now
-            → role ≢ TheVariants.Begin
-            → MatchOption result
-            (¬ (CanHead (before ++ line.now ∷ [])))
+            → role ≢ TheVariants.Begin → MatchOption result (¬ (CanHead (before ++ line.now ∷ [])))
             (λ s. Holds (before ++ line.now ∷ []) s.kind s.linearity.now) }
     {
         match role {

@@ -6,37 +6,27 @@ ghost use Rattle.cdd_reading.specs.Headings.{indices_of};
 ghost use Rattle.cdd_reading.specs.Files.{marks};
 ghost use Rattle.cdd_reading.specs.Refusals.{AllName};
 ghost use Rattle.cdd_reading.specs.Tables.{IsMarkErr};
-ghost use Rattle.cdd_reading.specs.declared.marks.MarkErr.TheVariants;
 
 use crate::cuts::split_token;
 use crate::numbers::capped_number;
-use std::alloc::{AllocError, Global};
+use std::alloc::Global;
 
 /// Why indices mark no rows.
 #[derive(Clone, Copy)]
 pub enum MarkErr {
     /// An index is 0, or greater than the number of rows.
     OutOfBounds,
-    /// Want of memory.
     Memory,
-}
-
-impl From<AllocError> for MarkErr {
-    ghost from_gives = { λ _ r. r ≡ TheVariants.Memory };
-
-    fn from(_error: AllocError) -> MarkErr {
-        MarkErr::Memory
-    }
 }
 
 /// For each of so many rows, whether the linearity line names it.
 pub fn read_marks(alloc: Global, linearity: &[u8], rows: usize) -> Result<Vec<bool>, MarkErr>
-    ensures { MatchResult result
-        (λ v. (v.items ≡ marks (indices_of linearity.now) rows)
-        × AllName rows (indices_of linearity.now))
-        (IsMarkErr rows (indices_of linearity.now)) }
+    ensures { MatchResult result (λ v. (v.items ≡ marks (indices_of linearity.now) rows)
+        × AllName rows (indices_of linearity.now)) (IsMarkErr rows (indices_of linearity.now)) }
 {
-    let mut marks = vec![in alloc; false; rows]?;
+    let Ok(mut marks) = vec![in alloc; false; rows] else {
+        return Err(MarkErr::Memory);
+    };
     let mut rest = skip_count(linearity);
     while let Some((index, behind)) = split_token(rest) {
         let Some(place) = place_of(index, rows) else {
@@ -63,8 +53,7 @@ fn skip_count(linearity: &[u8]) -> &[u8]
 
 /// The place of the row with this number, counted from 0.
 fn place_of(index: &[u8], rows: usize) -> Option<usize>
-    ensures { MatchOption result
-        (¬ ((0 < number index.now) × (number index.now ≤ rows)))
+    ensures { MatchOption result (¬ ((0 < number index.now) × (number index.now ≤ rows)))
         (λ place. (place + 1 ≡ number index.now) × (place < rows)) }
 {
     let number = capped_number(index);

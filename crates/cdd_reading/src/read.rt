@@ -25,8 +25,7 @@ use std::alloc::Global;
 /// behind a `/`, the least common multiple of a row or a number times it is out of the range;
 /// `LinearityIndex` where an index is 0 or above the number of rows.
 pub fn read_ine(alloc: Global, bytes: &[u8]) -> Result<ConsSys, ReadErr>
-    ensures { MatchResult result
-        (λ cs. IsIneFile bytes.now cs × NoneOf (tests Ine bytes.now))
+    ensures { MatchResult result (λ cs. IsIneFile bytes.now cs × NoneOf (tests Ine bytes.now))
         (IsRefusal (tests Ine bytes.now)) }
 {
     let table = read_table(alloc, bytes, Format::Ine)?;
@@ -42,8 +41,7 @@ pub fn read_ine(alloc: Global, bytes: &[u8]) -> Result<ConsSys, ReadErr>
 /// where t is negative; `LinearityOnVertex` where t is positive and the linearity line names the row;
 /// `ZeroVector` where all its numbers are 0.
 pub fn read_ext(alloc: Global, bytes: &[u8]) -> Result<GensSys, ReadErr>
-    ensures { MatchResult result
-        (λ gs. IsExtFile bytes.now gs × NoneOf (tests Ext bytes.now))
+    ensures { MatchResult result (λ gs. IsExtFile bytes.now gs × NoneOf (tests Ext bytes.now))
         (IsRefusal (tests Ext bytes.now)) }
 {
     let table = read_table(alloc, bytes, Format::Ext)?;

@@ -86,8 +86,7 @@ fn push_constraint(
     requires in_range { AllInRange row.now }
     requires narrow { length row.now ≤ MAX_WIDTH }
     ensures dim { system.new.dim ≡ system.old.dim }
-    ensures list { OnOk result
-        ((c : Constraint) × IsRowOf (row.now, marked) c
+    ensures list { OnOk result ((c : Constraint) × IsRowOf (row.now, marked) c
         × (system.new.list ≡ system.old.list ++ c ∷ [])) }
 {
     let row = with_first_at_end(alloc, row)?;

@@ -62,8 +62,7 @@ fn first_token<'a>(
     number: usize,
 ) -> Option<(&'a [u8], &'a [u8], &'a [u8], usize)>
     requires { number + length after.now < 2 ^ 64 }
-    ensures { MatchOption result
-        (left line.now after.now number ≡ [])
+    ensures { MatchOption result (left line.now after.now number ≡ [])
         (λ r. (left line.now after.now number ≡ (r.3, r.0.now) ∷ left r.1.now r.2.now r.3)
         × (r.3 + length r.2.now ≤ number + length after.now)) }
 {
@@ -79,10 +78,8 @@ fn first_token<'a>(
         after = behind;
         number += 1;
     }
-    match split_token(line) {
-        None => None,
-        Some((token, rest)) => Some((token, rest, after, number)),
-    }
+    let (token, rest) = split_token(line)?;
+    Some((token, rest, after, number))
 }
 
 impl<'a> Iterator for Tokens<'a> {

@@ -1,6 +1,5 @@
 //! The numbers of a file as integers.
 ghost use Rattle.std.specs.Prelude.{◌≡◌, ◌*◌, ◌/◌, ◌-◌, ◌++◌, ◌∷◌, [], ◌^◌, ◌<◌, pos, map, min, length, true, All, MatchBool, MatchResult};
-ghost use Rattle.std.proofs.Math.IntN.{neg_ℤ};
 ghost use Rattle.row_core.specs.Range.{InRange, AllInRange};
 ghost use Rattle.std.specs.List.{list_all};
 ghost use Rattle.cdd_reading.specs.Bodies.{is_number};
@@ -22,7 +21,6 @@ pub enum IntegerErr {
     ZeroDivisor,
     /// A number, the least common multiple of a row or a number times it is out of the range.
     TooLarge,
-    /// Want of memory.
     Memory,
 }
 
@@ -36,7 +34,7 @@ impl<T: Drop> From<AllocFailed<T>> for IntegerErr {
 
 /// A number as it is written.
 #[derive(Clone, Copy)]
-pub struct WrittenNumber {
+pub struct Numeral {
     pub negative: bool,
     pub numerator: u128,
     pub denominator: u128,
@@ -53,8 +51,7 @@ pub fn read_values(
     requires some { 0 < width }
     requires forms { list_all (is_number number_type) (texts tokens) ≡ true }
     requires rows { length (texts tokens) ≡ length (texts tokens) / width * width }
-    ensures { MatchResult result
-        (λ v. AreIntegers width (texts tokens.entry) v.items)
+    ensures { MatchResult result (λ v. AreIntegers width (texts tokens.entry) v.items)
         (IsIntegerErr width (texts tokens.entry)) }
 {
     match number_type {
@@ -75,10 +72,7 @@ fn without_sign(token: &[u8]) -> &[u8]
 fn is_negative(token: &[u8]) -> bool
     ensures { result ≡ is_negative token.now }
 {
-    match token {
-        [b'-', ..] => true,
-        _ => false,
-    }
+    matches!(token, [b'-', ..])
 }
 
 /// The multiple times what the denominator has beyond its greatest common divisor with the product, where
@@ -93,17 +87,13 @@ fn extended_multiple(multiple: u128, product: u128, denominator: u128) -> Option
         return Some(multiple);
     }
     let extended = multiple.saturating_mul(quotient(denominator, divisor));
-    if extended < MOST {
-        Some(extended)
-    } else {
-        None
-    }
+    (extended < MOST).then_some(extended)
 }
 
 /// The least common multiple of this one and the number's denominator in lowest terms, where that is in
 /// the range. It is found by the product with the numerator, so that the number need not be brought to
 /// lowest terms unless the product leaves the range.
-fn with_number(multiple: u128, number: &WrittenNumber) -> Option<u128>
+fn with_number(multiple: u128, number: &Numeral) -> Option<u128>
     requires positive { 0 < multiple }
     requires small { multiple < 2 ^ 127 }
     requires divides { 0 < number.now.denominator }
@@ -118,7 +108,7 @@ fn with_number(multiple: u128, number: &WrittenNumber) -> Option<u128>
 }
 
 /// The size of a multiple of a number that is an integer; 2^128 - 1 stands for all greater ones.
-fn size_by(multiple: u128, number: &WrittenNumber) -> u128
+fn size_by(multiple: u128, number: &Numeral) -> u128
     requires { IsIntegral multiple number.now }
     ensures { result ≡
         min (multiple * number.now.numerator / number.now.denominator) (2 ^ 128 - 1) }
@@ -132,7 +122,7 @@ fn size_by(multiple: u128, number: &WrittenNumber) -> u128
 }
 
 /// The multiple of a number, where it is in the range.
-fn scaled_by(multiple: u128, number: &WrittenNumber) -> Option<i128>
+fn scaled_by(multiple: u128, number: &Numeral) -> Option<i128>
     requires { IsIntegral multiple number.now }
     ensures { IsWithinRange (times_of multiple number.now) result }
 {
@@ -145,7 +135,7 @@ fn scaled_by(multiple: u128, number: &WrittenNumber) -> Option<i128>
 }
 
 /// The number of a token.
-fn number_of(token: &[u8]) -> Result<WrittenNumber, IntegerErr>
+fn number_of(token: &[u8]) -> Result<Numeral, IntegerErr>
     ensures { MatchResult result
         (λ f. (f ≡ fraction_of token.now) × (0 < denominator token.now) × IsSmall token.now)
         (IsRowErr (0 < denominator token.now) (IsSmall token.now)) }
@@ -159,7 +149,7 @@ fn number_of(token: &[u8]) -> Result<WrittenNumber, IntegerErr>
     if numerator >= MOST || denominator >= MOST {
         return Err(IntegerErr::TooLarge);
     }
-    Ok(WrittenNumber {
+    Ok(Numeral {
         negative: is_negative(token),
         numerator,
         denominator,
@@ -167,17 +157,11 @@ fn number_of(token: &[u8]) -> Result<WrittenNumber, IntegerErr>
 }
 
 /// Appends the number of a token to a row, and gives the least common multiple with it.
-fn push_number(
-    row: &mut Vec<WrittenNumber>,
-    multiple: u128,
-    token: &[u8],
-) -> Result<u128, IntegerErr>
+fn push_number(row: &mut Vec<Numeral>, multiple: u128, token: &[u8]) -> Result<u128, IntegerErr>
     requires positive { 0 < multiple }
     requires small { multiple < 2 ^ 127 }
-    ensures { MatchResult result
-        (λ l. (row.new.items ≡ row.old.items ++ fraction_of token.now ∷ [])
-        × (l ≡ lcm (lowest token.now) multiple)
-        × CanFollow multiple token.now)
+    ensures { MatchResult result (λ l. (row.new.items ≡ row.old.items ++ fraction_of token.now ∷ [])
+        × (l ≡ lcm (lowest token.now) multiple) × CanFollow multiple token.now)
         (IsRowErr (0 < denominator token.now) (CanFollow multiple token.now)) }
 {
     let number = number_of(token)?;
@@ -189,11 +173,7 @@ fn push_number(
 }
 
 /// Appends the multiples of a row's numbers.
-fn push_scaled(
-    values: &mut Vec<i128>,
-    row: &[WrittenNumber],
-    multiple: u128,
-) -> Result<(), IntegerErr>
+fn push_scaled(values: &mut Vec<i128>, row: &[Numeral], multiple: u128) -> Result<(), IntegerErr>
     requires { All (IsIntegral multiple) row.now }
     ensures { MatchResult result
         (λ _. (values.new.items ≡ values.old.items ++ map (times_of multiple) row.now)
@@ -214,8 +194,7 @@ fn push_scaled(
 fn read_rows(alloc: Global, tokens: Tokens<'_>, width: usize) -> Result<Vec<i128>, IntegerErr>
     requires some { 0 < width }
     requires rows { length (texts tokens) ≡ length (texts tokens) / width * width }
-    ensures { MatchResult result
-        (λ v. AreIntegers width (texts tokens.entry) v.items)
+    ensures { MatchResult result (λ v. AreIntegers width (texts tokens.entry) v.items)
         (IsRowErr (AllDivide (texts tokens.entry)) (FitRange width (texts tokens.entry))) }
 {
     let mut values = Vec::new(alloc);
@@ -242,8 +221,7 @@ fn divides(token: &[u8]) -> bool
 
 /// Whether no denominator is 0.
 fn all_divide(tokens: Tokens<'_>) -> bool
-    ensures { MatchBool result
-        (AllDivide (texts tokens.entry))
+    ensures { MatchBool result (AllDivide (texts tokens.entry))
         (¬ (AllDivide (texts tokens.entry))) }
 {
     for (_, token) in tokens {
@@ -258,8 +236,7 @@ fn all_divide(tokens: Tokens<'_>) -> bool
 fn read_fractions(alloc: Global, tokens: Tokens<'_>, width: usize) -> Result<Vec<i128>, IntegerErr>
     requires some { 0 < width }
     requires rows { length (texts tokens) ≡ length (texts tokens) / width * width }
-    ensures { MatchResult result
-        (λ v. AreIntegers width (texts tokens.entry) v.items)
+    ensures { MatchResult result (λ v. AreIntegers width (texts tokens.entry) v.items)
         (IsIntegerErr width (texts tokens.entry)) }
 {
     match read_rows(alloc, tokens.again(), width) {

@@ -3,7 +3,7 @@ use Rattle.std.specs.Prelude.{All}
 use Rattle.std.proofs.lemmas.Result.{err_from_is_err_and}
 use Rattle.cdd_reading.specs.Tokens.{texts}
 use Rattle.cdd_reading.specs.Tables.{IsIntegral}
-use Rattle.cdd_reading.specs.declared.values.WrittenNumber.{WrittenNumber}
+use Rattle.cdd_reading.specs.declared.values.Numeral.{Numeral}
 use Rattle.cdd_reading.proofs.RowReading.{IsReading, multiple_positive, number_refused, number_taken, row_integral, row_refused, row_taken, at_end}
 use Rattle.cdd_reading.proofs.values.read_rows.Goals as goal
 
@@ -22,7 +22,7 @@ pub push_scaled-requires : goal.push_scaled-requires
 push_scaled-requires c =
     let s = c.in-Some in
     let reading : IsReading c.args.width (texts c.args.tokens) (texts c.next.new.self) c.loop-token.values.items c.push_number.new.row.items c.in_ok-multiple.multiple = number_taken c.args.width (texts c.args.tokens) c.loop-token.token-iterator c.next.new.self (s.field-0-0, s.token.now) c.loop-token.values.items c.loop-token.row.items c.push_number.new.row.items c.loop-token.multiple c.in_ok-multiple.multiple c.loop-token.invariant.reading (search rules) c.in_ok-multiple.ensures.0 c.in_ok-multiple.ensures.1 c.in_ok-multiple.ensures.2 in
-    subst (λ (f : List WrittenNumber). All (IsIntegral c.in_ok-multiple.multiple) f) (sym c.as_slice.ensures.value)
+    subst (λ (f : List Numeral). All (IsIntegral c.in_ok-multiple.multiple) f) (sym c.as_slice.ensures.value)
     (row_integral c.args.width (texts c.args.tokens) (texts c.next.new.self) c.loop-token.values.items c.push_number.new.row.items c.in_ok-multiple.multiple reading)
 
 pub returns-in_err-push_scaled : goal.returns-in_err-push_scaled
@@ -44,7 +44,7 @@ loop-token-preserved-then-len-width c =
     record {
       can_next = search rules;
       is_finite = search rules;
-      reading = subst (λ (f : List WrittenNumber). IsReading c.args.width (texts c.args.tokens) (texts c.next.new.self) c.push_scaled.new.values.items f 1) (sym c.clear.ensures.items)
+      reading = subst (λ (f : List Numeral). IsReading c.args.width (texts c.args.tokens) (texts c.next.new.self) c.push_scaled.new.values.items f 1) (sym c.clear.ensures.items)
           (row_taken c.args.width (texts c.args.tokens) (texts c.next.new.self) c.loop-token.values.items c.push_scaled.new.values.items c.push_number.new.row.items c.in_ok-multiple.multiple c.requires.some reading full
           (rw c.as_slice.ensures.value at scaled.0) (rw c.as_slice.ensures.value at scaled.1));
       short = search rules;
