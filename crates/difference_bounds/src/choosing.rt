@@ -1,9 +1,9 @@
 //! The lesser and the greater of two bounds.
-ghost use Rattle.std.specs.Prelude.{◌≡◌, ◌≢◌, ◌↔◌, ◌⊎◌, Some, true, IsTrue, IfSome, IfOk, IfErr};
+ghost use Rattle.std.specs.Prelude.{◌≡◌, ◌≢◌, ◌↔◌, Some, true, IsTrue, IfSome, IfOk, IfErr};
 ghost use Rattle.row_core.specs.Refusals.{IsOverflowIn};
 ghost use Rattle.difference_bounds.specs.Fractions.{IsFraction};
 ghost use Rattle.difference_bounds.specs.Laws.{IsLesser, IsRelaxed, IsGreater, IsCovered};
-ghost use Rattle.difference_bounds.specs.Combining.{IsChosen, IsPick};
+ghost use Rattle.difference_bounds.specs.Combining.{IsChosen, IsPick, LeavesInChoice};
 ghost use Rattle.difference_bounds.specs.Words.{IsWithinWords, other};
 ghost use Rattle.difference_bounds.specs.Overflows.{LeavesInLesser, LeavesInBoth, LeavesInRelaxing};
 
@@ -94,7 +94,7 @@ pub(crate) fn chosen(
     requires right { IfSome right IsFraction }
     ensures chosen { IfOk result (IsChosen choice left right) }
     ensures fraction { IfOk result (λ r. IfSome r IsFraction) }
-    ensures overflow { IfErr result (IsOverflowIn (λ over. LeavesInBoth left right over ⊎ LeavesInBoth right left over)) }
+    ensures overflow { IfErr result (IsOverflowIn (LeavesInChoice choice left right)) }
 {
     match choice {
         Choice::Greater => greater(alloc, left, right),

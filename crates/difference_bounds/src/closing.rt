@@ -2,7 +2,7 @@
 ghost use Rattle.std.specs.Prelude.{◌≡◌, ℕ, ◌+◌, ◌<◌, true, false, MatchBool, IfOk, IfErr, OnOk};
 ghost use Rattle.row_core.specs.Refusals.{IsOverflowIn};
 ghost use Rattle.difference_bounds.specs.Values.{IsTight, MeetSame, HasNone};
-ghost use Rattle.difference_bounds.specs.Tables.{Table, IsTable, bounds_of, Differs, HasZeros};
+ghost use Rattle.difference_bounds.specs.Tables.{Table, IsTable, bounds_of, AreKept, HasZeros};
 ghost use Rattle.difference_bounds.specs.Laws.{IsRelaxed};
 ghost use Rattle.difference_bounds.specs.Overflows.{LeavesInRelaxing, LeavesInClosing};
 ghost use Rattle.difference_bounds.specs.Passes.{IsPassing, HasNegative, HasNoNegative, IsClosed};
@@ -26,9 +26,15 @@ impl BoundTable {
         requires row { i < self.old.places }
         requires column { j < self.old.places }
         ensures places { self.new.places ≡ self.old.places }
-        ensures here { OnOk result (IsRelaxed (bounds_of self.old i j) (bounds_of self.old i k) (bounds_of self.old k j) (bounds_of self.new i j)) }
-        ensures elsewhere { OnOk result ((p q : ℕ) → p < self.old.places → q < self.old.places → Differs i j p q → bounds_of self.new p q ≡ bounds_of self.old p q) }
-        ensures overflow { IfErr result (IsOverflowIn (LeavesInRelaxing (bounds_of self.old i j) (bounds_of self.old i k) (bounds_of self.old k j))) }
+        ensures here { OnOk result
+            (IsRelaxed (bounds_of self.old i j) (bounds_of self.old i k) (bounds_of self.old k j)
+            (bounds_of self.new i j)) }
+        ensures elsewhere { OnOk result
+            (AreKept self.old.places i j (bounds_of self.old) (bounds_of self.new)) }
+        ensures overflow { IfErr result
+            (IsOverflowIn
+            (LeavesInRelaxing (bounds_of self.old i j) (bounds_of self.old i k)
+            (bounds_of self.old k j))) }
     {
         let bound = relaxed(alloc, self.get(i, j), self.get(i, k), self.get(k, j))?;
         Ok(self.set(alloc, i, j, bound)?)
@@ -41,9 +47,15 @@ impl BoundTable {
         requires row { i < self.old.places }
         requires column { j < self.old.places }
         ensures places { self.new.places ≡ self.old.places }
-        ensures here { OnOk result (IsRelaxed (bounds_of self.old i j) (bounds_of self.old i k) (bounds_of self.old k j) (bounds_of self.new i j)) }
-        ensures elsewhere { OnOk result ((p q : ℕ) → p < self.old.places → q < self.old.places → Differs i j p q → bounds_of self.new p q ≡ bounds_of self.old p q) }
-        ensures overflow { IfErr result (IsOverflowIn (LeavesInRelaxing (bounds_of self.old i j) (bounds_of self.old i k) (bounds_of self.old k j))) }
+        ensures here { OnOk result
+            (IsRelaxed (bounds_of self.old i j) (bounds_of self.old i k) (bounds_of self.old k j)
+            (bounds_of self.new i j)) }
+        ensures elsewhere { OnOk result
+            (AreKept self.old.places i j (bounds_of self.old) (bounds_of self.new)) }
+        ensures overflow { IfErr result
+            (IsOverflowIn
+            (LeavesInRelaxing (bounds_of self.old i j) (bounds_of self.old i k)
+            (bounds_of self.old k j))) }
     {
         match step(self.word(i, j), self.word(i, k), self.word(k, j)) {
             Outcome::Stays => Ok(()),
@@ -60,8 +72,13 @@ impl BoundTable {
         requires way { k < self.old.places }
         requires row { i < self.old.places }
         ensures places { self.new.places ≡ self.old.places }
-        ensures passed { OnOk result ((given : Table) → IsPassing given self.old.places k self.old i 0 → IsPassing given self.old.places k self.new (i + 1) 0) }
-        ensures overflow { IfErr result (IsOverflowIn (λ over. (given : Table) → IsPassing given self.old.places k self.old i 0 → LeavesInClosing (bounds_of given) self.old.places over)) }
+        ensures passed { OnOk result
+            ((given : Table) → IsPassing given self.old.places k self.old i 0
+            → IsPassing given self.old.places k self.new (i + 1) 0) }
+        ensures overflow { IfErr result
+            (IsOverflowIn
+            (λ over. (given : Table) → IsPassing given self.old.places k self.old i 0
+            → LeavesInClosing (bounds_of given) self.old.places over)) }
     {
         if self.word(i, k) == ABSENT {
             return Ok(());
@@ -76,8 +93,13 @@ impl BoundTable {
     fn relax_all(&mut self, alloc: Global, k: usize) -> Result<(), ConvErr>
         requires { k < self.old.places }
         ensures places { self.new.places ≡ self.old.places }
-        ensures passed { OnOk result ((given : Table) → IsPassing given self.old.places k self.old 0 0 → IsPassing given self.old.places k self.new self.old.places 0) }
-        ensures overflow { IfErr result (IsOverflowIn (λ over. (given : Table) → IsPassing given self.old.places k self.old 0 0 → LeavesInClosing (bounds_of given) self.old.places over)) }
+        ensures passed { OnOk result
+            ((given : Table) → IsPassing given self.old.places k self.old 0 0
+            → IsPassing given self.old.places k self.new self.old.places 0) }
+        ensures overflow { IfErr result
+            (IsOverflowIn
+            (λ over. (given : Table) → IsPassing given self.old.places k self.old 0 0
+            → LeavesInClosing (bounds_of given) self.old.places over)) }
     {
         for i in 0..self.places() {
             self.relax_row(alloc, k, i)?;
@@ -87,7 +109,8 @@ impl BoundTable {
 
     /// Whether the bound of some place less itself is negative.
     fn has_negative(&self) -> bool
-        ensures negative { MatchBool result (HasNegative self.now self.now.places) (HasNoNegative self.now self.now.places) }
+        ensures negative { MatchBool result (HasNegative self.now self.now.places)
+            (HasNoNegative self.now self.now.places) }
         ensures table { IsTable self.now }
     {
         for q in 0..self.places() {
@@ -110,7 +133,8 @@ impl BoundTable {
         requires { HasZeros (bounds_of self.old) self.old.places }
         ensures places { self.new.places ≡ self.old.places }
         ensures closed { IfOk result (IsClosed self.old self.new self.old.places) }
-        ensures overflow { IfErr result (IsOverflowIn (LeavesInClosing (bounds_of self.old) self.old.places)) }
+        ensures overflow { IfErr result
+            (IsOverflowIn (LeavesInClosing (bounds_of self.old) self.old.places)) }
     {
         for k in 0..self.places() {
             if self.has_negative() {

@@ -4,10 +4,10 @@ ghost use Rattle.row_core.specs.Refusals.{IsOverflowIn};
 ghost use Rattle.difference_bounds.specs.Fractions.{IsFraction};
 ghost use Rattle.difference_bounds.specs.Walks.{Bounds};
 ghost use Rattle.difference_bounds.specs.Values.{MeetBoth};
-ghost use Rattle.difference_bounds.specs.Tables.{bounds_of, Differs, HasZeros};
+ghost use Rattle.difference_bounds.specs.Tables.{bounds_of, AreKept, HasZeros};
 ghost use Rattle.difference_bounds.specs.Laws.{IsLesser, IsCovered};
 ghost use Rattle.difference_bounds.specs.Overflows.{LeavesInLesser, LeavesInBoth};
-ghost use Rattle.difference_bounds.specs.Combining.{IsChosen, IsChoosing, AreChosen, AreLesser, AreGreater, AreCovered, LeavesInGiven};
+ghost use Rattle.difference_bounds.specs.Combining.{IsChosen, IsChoosing, AreChosen, AreLesser, AreGreater, AreCovered, LeavesInChoice, LeavesInChoosing, LeavesInLowering, LeavesInRaising, LeavesInRow, LeavesInCovering};
 
 use crate::choosing::{Choice, chosen, covers, lesser, picked};
 use crate::fraction::Fraction;
@@ -29,9 +29,12 @@ impl BoundTable {
         requires column { j < self.old.places }
         requires fraction { IsFraction fraction }
         ensures places { self.new.places ≡ self.old.places }
-        ensures here { OnOk result (IsLesser (bounds_of self.old i j) fraction (bounds_of self.new i j)) }
-        ensures elsewhere { OnOk result ((p q : ℕ) → p < self.old.places → q < self.old.places → Differs i j p q → bounds_of self.new p q ≡ bounds_of self.old p q) }
-        ensures overflow { IfErr result (IsOverflowIn (LeavesInLesser (bounds_of self.old i j) fraction)) }
+        ensures here { OnOk result
+            (IsLesser (bounds_of self.old i j) fraction (bounds_of self.new i j)) }
+        ensures elsewhere { OnOk result
+            (AreKept self.old.places i j (bounds_of self.old) (bounds_of self.new)) }
+        ensures overflow { IfErr result
+            (IsOverflowIn (LeavesInLesser (bounds_of self.old i j) fraction)) }
     {
         let bound = lesser(alloc, self.get(i, j), fraction)?;
         Ok(self.set(alloc, i, j, bound)?)
@@ -50,9 +53,13 @@ impl BoundTable {
         requires row { i < self.old.places }
         requires column { j < self.old.places }
         ensures places { self.new.places ≡ self.old.places }
-        ensures here { OnOk result (IsChosen choice (bounds_of self.old i j) (bounds_of other.now i j) (bounds_of self.new i j)) }
-        ensures elsewhere { OnOk result ((p q : ℕ) → p < self.old.places → q < self.old.places → Differs i j p q → bounds_of self.new p q ≡ bounds_of self.old p q) }
-        ensures overflow { IfErr result (IsOverflowIn (λ over. LeavesInBoth (bounds_of self.old i j) (bounds_of other.now i j) over ⊎ LeavesInBoth (bounds_of other.now i j) (bounds_of self.old i j) over)) }
+        ensures here { OnOk result
+            (IsChosen choice (bounds_of self.old i j) (bounds_of other.now i j)
+            (bounds_of self.new i j)) }
+        ensures elsewhere { OnOk result
+            (AreKept self.old.places i j (bounds_of self.old) (bounds_of self.new)) }
+        ensures overflow { IfErr result (IsOverflowIn
+            (LeavesInChoice choice (bounds_of self.old i j) (bounds_of other.now i j))) }
     {
         let bound = chosen(alloc, choice, self.get(i, j), other.get(i, j))?;
         Ok(self.set(alloc, i, j, bound)?)
@@ -72,9 +79,13 @@ impl BoundTable {
         requires row { i < self.old.places }
         requires column { j < self.old.places }
         ensures places { self.new.places ≡ self.old.places }
-        ensures here { OnOk result (IsChosen choice (bounds_of self.old i j) (bounds_of other.now i j) (bounds_of self.new i j)) }
-        ensures elsewhere { OnOk result ((p q : ℕ) → p < self.old.places → q < self.old.places → Differs i j p q → bounds_of self.new p q ≡ bounds_of self.old p q) }
-        ensures overflow { IfErr result (IsOverflowIn (λ over. LeavesInBoth (bounds_of self.old i j) (bounds_of other.now i j) over ⊎ LeavesInBoth (bounds_of other.now i j) (bounds_of self.old i j) over)) }
+        ensures here { OnOk result
+            (IsChosen choice (bounds_of self.old i j) (bounds_of other.now i j)
+            (bounds_of self.new i j)) }
+        ensures elsewhere { OnOk result
+            (AreKept self.old.places i j (bounds_of self.old) (bounds_of self.new)) }
+        ensures overflow { IfErr result (IsOverflowIn
+            (LeavesInChoice choice (bounds_of self.old i j) (bounds_of other.now i j))) }
     {
         let (left, right) = self.word_pair(other, i, j);
         match picked(choice, left, right) {
@@ -98,8 +109,14 @@ impl BoundTable {
         requires same { other.now.places ≡ self.old.places }
         requires row { i < self.old.places }
         ensures places { self.new.places ≡ self.old.places }
-        ensures chosen { OnOk result ((old : Bounds) → IsChoosing choice old (bounds_of other.now) (bounds_of self.old) self.old.places i 0 → IsChoosing choice old (bounds_of other.now) (bounds_of self.new) self.old.places (i + 1) 0) }
-        ensures overflow { IfErr result (IsOverflowIn (λ over. (old : Bounds) → IsChoosing choice old (bounds_of other.now) (bounds_of self.old) self.old.places i 0 → LeavesInGiven old (bounds_of other.now) self.old.places over)) }
+        ensures chosen { OnOk result
+            ((old : Bounds)
+            → IsChoosing choice old (bounds_of other.now) (bounds_of self.old) self.old.places i 0
+            → IsChoosing choice old (bounds_of other.now) (bounds_of self.new) self.old.places
+            (i + 1) 0) }
+        ensures overflow { IfErr result (IsOverflowIn (λ over. (old : Bounds)
+            → IsChoosing choice old (bounds_of other.now) (bounds_of self.old) self.old.places i 0
+            → LeavesInChoosing choice old (bounds_of other.now) self.old.places over)) }
     {
         for j in 0..self.places() {
             self.combine_at(alloc, choice, other, i, j)?;
@@ -111,8 +128,11 @@ impl BoundTable {
     fn combine(&mut self, alloc: Global, choice: Choice, other: &BoundTable) -> Result<(), ConvErr>
         requires { other.now.places ≡ self.old.places }
         ensures places { self.new.places ≡ self.old.places }
-        ensures chosen { OnOk result (AreChosen choice (bounds_of self.old) (bounds_of other.now) self.old.places (bounds_of self.new)) }
-        ensures overflow { IfErr result (IsOverflowIn (LeavesInGiven (bounds_of self.old) (bounds_of other.now) self.old.places)) }
+        ensures chosen { OnOk result
+            (AreChosen choice (bounds_of self.old) (bounds_of other.now) self.old.places
+            (bounds_of self.new)) }
+        ensures overflow { IfErr result (IsOverflowIn
+            (LeavesInChoosing choice (bounds_of self.old) (bounds_of other.now) self.old.places)) }
     {
         for i in 0..self.places() {
             self.combine_row(alloc, choice, other, i)?;
@@ -124,10 +144,18 @@ impl BoundTable {
     pub fn lower_all(&mut self, alloc: Global, other: &BoundTable) -> Result<(), ConvErr>
         requires { other.now.places ≡ self.old.places }
         ensures places { self.new.places ≡ self.old.places }
-        ensures zeros { OnOk result (HasZeros (bounds_of self.old) self.old.places → HasZeros (bounds_of other.now) self.old.places → HasZeros (bounds_of self.new) self.old.places) }
-        ensures lesser { OnOk result (AreLesser (bounds_of self.old) (bounds_of other.now) self.old.places (bounds_of self.new)) }
-        ensures meets { OnOk result (MeetBoth (bounds_of self.old) (bounds_of other.now) (bounds_of self.new) self.old.places) }
-        ensures overflow { IfErr result (IsOverflowIn (LeavesInGiven (bounds_of self.old) (bounds_of other.now) self.old.places)) }
+        ensures zeros { OnOk result
+            (HasZeros (bounds_of self.old) self.old.places
+            → HasZeros (bounds_of other.now) self.old.places
+            → HasZeros (bounds_of self.new) self.old.places) }
+        ensures lesser { OnOk result
+            (AreLesser (bounds_of self.old) (bounds_of other.now) self.old.places
+            (bounds_of self.new)) }
+        ensures meets { OnOk result
+            (MeetBoth (bounds_of self.old) (bounds_of other.now)
+            (bounds_of self.new) self.old.places) }
+        ensures overflow { IfErr result (IsOverflowIn
+            (LeavesInLowering (bounds_of self.old) (bounds_of other.now) self.old.places)) }
     {
         let _kept = self.places();
         let _others = other.places();
@@ -138,8 +166,11 @@ impl BoundTable {
     pub fn raise_all(&mut self, alloc: Global, other: &BoundTable) -> Result<(), ConvErr>
         requires { other.now.places ≡ self.old.places }
         ensures places { self.new.places ≡ self.old.places }
-        ensures greater { OnOk result (AreGreater (bounds_of self.old) (bounds_of other.now) self.old.places (bounds_of self.new)) }
-        ensures overflow { IfErr result (IsOverflowIn (LeavesInGiven (bounds_of self.old) (bounds_of other.now) self.old.places)) }
+        ensures greater { OnOk result
+            (AreGreater (bounds_of self.old) (bounds_of other.now) self.old.places
+            (bounds_of self.new)) }
+        ensures overflow { IfErr result (IsOverflowIn
+            (LeavesInRaising (bounds_of self.old) (bounds_of other.now) self.old.places)) }
     {
         self.combine(alloc, Choice::Greater, other)
     }
@@ -156,8 +187,10 @@ impl BoundTable {
         requires same { other.now.places ≡ self.now.places }
         requires row { i < self.now.places }
         requires column { j < self.now.places }
-        ensures covers { IfOk result (λ r. IsTrue r ↔ IsCovered (bounds_of self.now i j) (bounds_of other.now i j)) }
-        ensures overflow { IfErr result (IsOverflowIn (LeavesInBoth (bounds_of self.now i j) (bounds_of other.now i j))) }
+        ensures covers { IfOk result
+            (λ r. IsTrue r ↔ IsCovered (bounds_of self.now i j) (bounds_of other.now i j)) }
+        ensures overflow { IfErr result
+            (IsOverflowIn (LeavesInBoth (bounds_of self.now i j) (bounds_of other.now i j))) }
     {
         match compared(self.word(i, j), other.word(i, j)) {
             Some(below) => Ok(!below),
@@ -169,8 +202,12 @@ impl BoundTable {
     fn covers_row(&self, alloc: Global, other: &BoundTable, i: usize) -> Result<bool, ConvErr>
         requires same { other.now.places ≡ self.now.places }
         requires row { i < self.now.places }
-        ensures covers { IfOk result (λ r. IsTrue r ↔ ((j : ℕ) → j < self.now.places → IsCovered (bounds_of self.now i j) (bounds_of other.now i j))) }
-        ensures overflow { IfErr result (IsOverflowIn (LeavesInGiven (bounds_of self.now) (bounds_of other.now) self.now.places)) }
+        ensures covers { IfOk result
+            (λ r. IsTrue r
+            ↔ ((j : ℕ) → j < self.now.places
+            → IsCovered (bounds_of self.now i j) (bounds_of other.now i j))) }
+        ensures overflow { IfErr result (IsOverflowIn
+            (LeavesInRow (bounds_of self.now) (bounds_of other.now) self.now.places i)) }
     {
         for j in 0..self.places() {
             if !self.covers_at(alloc, other, i, j)? {
@@ -183,8 +220,11 @@ impl BoundTable {
     /// Whether each bound of another table is at most that of this one.
     pub fn covers(&self, alloc: Global, other: &BoundTable) -> Result<bool, ConvErr>
         requires { other.now.places ≡ self.now.places }
-        ensures covers { IfOk result (λ r. IsTrue r ↔ AreCovered (bounds_of self.now) (bounds_of other.now) self.now.places) }
-        ensures overflow { IfErr result (IsOverflowIn (LeavesInGiven (bounds_of self.now) (bounds_of other.now) self.now.places)) }
+        ensures covers { IfOk result
+            (λ r. IsTrue r
+            ↔ AreCovered (bounds_of self.now) (bounds_of other.now) self.now.places) }
+        ensures overflow { IfErr result (IsOverflowIn
+            (LeavesInCovering (bounds_of self.now) (bounds_of other.now) self.now.places)) }
     {
         if self.covers_words(other) {
             return Ok(true);

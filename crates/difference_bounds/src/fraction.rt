@@ -61,7 +61,8 @@ impl Fraction {
     /// Column 0 where this numerator times the other denominator leaves the range; else column 1 where
     /// the other numerator times this denominator does.
     pub fn is_below(self, other: Fraction) -> Result<bool, u32>
-        ensures { MatchResult result (λ below. IsTrue below ↔ IsBelow self other) (IsFirstToLeave (CompareStays self other) 2) }
+        ensures { MatchResult result (λ below. IsTrue below ↔ IsBelow self other)
+            (IsFirstToLeave (CompareStays self other) 2) }
     {
         let Some(left) = product(self.num, other.den) else {
             return Err(0);

@@ -4,7 +4,7 @@ use Rattle.row_core.specs.Refusals.{IsOverflowIn}
 use Rattle.row_core.proofs.RefusalLemmas.{overflow_weaker}
 use Rattle.difference_bounds.specs.Walks.{Bounds}
 use Rattle.difference_bounds.specs.Tables.{bounds_of}
-use Rattle.difference_bounds.specs.Combining.{IsChoosing, LeavesInGiven}
+use Rattle.difference_bounds.specs.Combining.{IsChoosing, LeavesInChoosing}
 use Rattle.difference_bounds.proofs.ChoiceLemmas.{choosing_begins, choosing_ends}
 use Rattle.difference_bounds.proofs.table.BoundTable.combine.Goals as goal
 
@@ -13,10 +13,10 @@ loop-i-init c = record { places = refl; choosing = choosing_begins c.args.choice
 
 pub returns-in_err-combine_row-clause-overflow : goal.returns-in_err-combine_row-clause-overflow
 returns-in_err-combine_row-clause-overflow c =
-    let known : IsOverflowIn (LeavesInGiven (bounds_of c.args.self.now) (bounds_of c.args.other.now) c.args.self.now.places) c.in_err-combine_row.field-0.0 =
-    overflow_weaker (λ over. (old : Bounds) → IsChoosing c.args.choice old (bounds_of c.args.other.now) (bounds_of c.loop-i.self) c.loop-i.self.places c.loop-i.i 0 → LeavesInGiven old (bounds_of c.args.other.now) c.loop-i.self.places over)
-    (LeavesInGiven (bounds_of c.args.self.now) (bounds_of c.args.other.now) c.args.self.now.places)
-    (λ over h. subst (λ (m : ℕ). IsChoosing c.args.choice (bounds_of c.args.self.now) (bounds_of c.args.other.now) (bounds_of c.loop-i.self) m c.loop-i.i 0 → LeavesInGiven (bounds_of c.args.self.now) (bounds_of c.args.other.now) m over) c.loop-i.invariant.places (h (bounds_of c.args.self.now)) c.loop-i.invariant.choosing)
+    let known : IsOverflowIn (LeavesInChoosing c.args.choice (bounds_of c.args.self.now) (bounds_of c.args.other.now) c.args.self.now.places) c.in_err-combine_row.field-0.0 =
+    overflow_weaker (λ over. (old : Bounds) → IsChoosing c.args.choice old (bounds_of c.args.other.now) (bounds_of c.loop-i.self) c.loop-i.self.places c.loop-i.i 0 → LeavesInChoosing c.args.choice old (bounds_of c.args.other.now) c.loop-i.self.places over)
+    (LeavesInChoosing c.args.choice (bounds_of c.args.self.now) (bounds_of c.args.other.now) c.args.self.now.places)
+    (λ over h. subst (λ (m : ℕ). IsChoosing c.args.choice (bounds_of c.args.self.now) (bounds_of c.args.other.now) (bounds_of c.loop-i.self) m c.loop-i.i 0 → LeavesInChoosing c.args.choice (bounds_of c.args.self.now) (bounds_of c.args.other.now) m over) c.loop-i.invariant.places (h (bounds_of c.args.self.now)) c.loop-i.invariant.choosing)
     c.in_err-combine_row.field-0.0 c.in_err-combine_row.ensures.overflow in
     search (rules, known, c.from_residual.ensures)
 
