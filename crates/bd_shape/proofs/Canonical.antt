@@ -14,14 +14,14 @@ use Rattle.difference_bounds.specs.Tables.{Table, IsTable, bounds_of}
 use Rattle.difference_bounds.specs.Laws.{IsCovered}
 use Rattle.difference_bounds.proofs.PassLemmas.{bound_fraction}
 use Rattle.difference_bounds.proofs.ChoiceLemmas.{not_below_most}
-use Rattle.bd_shape.specs.Shapes.{Region, IsIn, IsInBounds, IsShape, IsTightTable, Includes, place_value}
+use Rattle.bd_shape.specs.Shapes.{DifferenceShape, IsIn, IsInBounds, IsShape, IsTightTable, Includes, place_value}
 use Rattle.bd_shape.specs.Laws.{IsGreatestAt, BoundsAreGreatest, EmptyWithoutPoints, HasOneShape, ReturnsShape, IncludesPolyhedron}
 use Rattle.bd_shape.proofs.PointValues.{point_of, point_is, point_meets, difference_is, divisor_is}
 use Rattle.bd_shape.proofs.ShapePoints.{table_of, within_of, is_in_of, includes_covers, zero_inside, empty_contains}
 use Rattle.bd_shape.proofs.GivenTables.{same_fraction}
 
 -- ---- greatest differences
-module _ (s : Region) (t : Table) (h : IsShape s) (e : s.bounds ≡ Some t) (i j : ℕ) (li : i < s.dim + 1) (lj : j < s.dim + 1) where
+module _ (s : DifferenceShape) (t : Table) (h : IsShape s) (e : s.bounds ≡ Some t) (i j : ℕ) (li : i < s.dim + 1) (lj : j < s.dim + 1) where
   inside : (v : Values) → Meets (bounds_of t) (s.dim + 1) v → IsIn s (point_of s.dim v)
   inside v k = is_in_of s t (point_of s.dim v) e (point_is s.dim v k.positive) (point_meets (bounds_of t) s.dim v k)
 
@@ -79,7 +79,7 @@ same_table a b m above ea eb la lb h = joined (ea ∙ sym eb) (ext_get_or None a
         ∙ h (k / m) (k % m) ((div-lt_iff_lt-mul above).1 less) (mod-lt k above)
         ∙ ap (λ (z : ℕ). slice_index_or b.cells z None) (place k b.places eb)
 
-module _ (s r : Region) (hs : IsShape s) (hr : IsShape r) (e : r.dim ≡ s.dim) (same : (p : List ℤ) → IsIn r p ↔ IsIn s p) where
+module _ (s r : DifferenceShape) (hs : IsShape s) (hr : IsShape r) (e : r.dim ≡ s.dim) (same : (p : List ℤ) → IsIn r p ↔ IsIn s p) where
   to : Includes s r
   to p k = (same p).0 k
 
@@ -111,7 +111,7 @@ pub one_shape : HasOneShape
 one_shape s r hs hr e same = same_shape s r hs hr e same
 
 -- ---- there and back
-if_table : (s : Region) → IsShape s → IfSome s.bounds IsTable
+if_table : (s : DifferenceShape) → IsShape s → IfSome s.bounds IsTable
 if_table s h = by s.bounds h.tight
   where
     by : (o : Option Table) → IfSome o (IsTightTable s.dim) → IfSome o IsTable

@@ -22,7 +22,7 @@ use Rattle.difference_bounds.specs.Values.{IsWithin, Meets}
 use Rattle.difference_bounds.specs.Tables.{Table, AreFractions, bounds_of}
 use Rattle.difference_bounds.proofs.PassLemmas.{bound_fraction}
 use Rattle.difference_bounds.proofs.ChoiceLemmas.{within_greater, not_below_most}
-use Rattle.bd_shape.specs.Shapes.{Region, IsIn, IsInBounds, place_value, values_at}
+use Rattle.bd_shape.specs.Shapes.{DifferenceShape, IsIn, IsInBounds, place_value, values_at}
 use Rattle.bd_shape.specs.Rows.{constant_row}
 use Rattle.bd_shape.specs.Forms.{scaled_row}
 use Rattle.bd_shape.specs.Given.{IsUpper, IsLower, GivesBound, IsGiven, IsRead, HoldsNowhere, IsReading}
@@ -113,7 +113,7 @@ module _ (cs : Constraints) (t : Table) (r : IsReading cs (length cs.list) t) (f
   pub reading_points : Meets (bounds_of t) (cs.dim + 1) (values_at cs.dim p) ↔ In cs p
   reading_points = (all_hold, all_meet)
 
-pub shape_points : (cs : Constraints) (t : Table) → IsReading cs (length cs.list) t → AreFractions t.cells → AreClosed cs → (s : Region) → ((p : List ℤ) → IsIn s p ↔ (IsPoint cs.dim p × IsInBounds (Some t) cs.dim p)) → (p : List ℤ) → IsIn s p ↔ (IsPoint cs.dim p × In cs p)
+pub shape_points : (cs : Constraints) (t : Table) → IsReading cs (length cs.list) t → AreFractions t.cells → AreClosed cs → (s : DifferenceShape) → ((p : List ℤ) → IsIn s p ↔ (IsPoint cs.dim p × IsInBounds (Some t) cs.dim p)) → (p : List ℤ) → IsIn s p ↔ (IsPoint cs.dim p × In cs p)
 shape_points cs t r f c s h p = (
   λ k. let q = (h p).0 k in (q.0, (reading_points cs t r f c p q.0).0 q.1),
   λ k. (h p).1 (k.0, (reading_points cs t r f c p k.0).1 k.1),

@@ -32,7 +32,8 @@ use Rattle.difference_bounds.specs.Laws.{IsCovered}
 use Rattle.difference_bounds.specs.Combining.{AreCovered}
 use Rattle.difference_bounds.proofs.FractionLemmas.{IsTimes, lowest_times}
 use Rattle.difference_bounds.proofs.PassLemmas.{bound_fraction, here_or, before_less}
-use Rattle.bd_shape.specs.Shapes.{Region, IsIn, IsInBounds, IsShape, Includes, place_value, values_at}
+use Rattle.poly_pair.specs.declared.topology.TheConstants.{MAX_DIM}
+use Rattle.bd_shape.specs.Shapes.{DifferenceShape, IsIn, IsInBounds, IsShape, Includes, place_value, values_at}
 use Rattle.bd_shape.specs.Differences.{difference}
 use Rattle.bd_shape.specs.Suprema.{IsSupremumOf, AreSuprema, IsSmallest, IsFoundAt, IsFinding, answered}
 use Rattle.bd_shape.proofs.DifferenceRows.{length_difference, difference_value}
@@ -194,7 +195,7 @@ module _ (p : Polyhedron) (t : Table) (table : IsTable t) (zeros : HasZeros (bou
     least = λ u eu hu h. least u eu u.bounds refl hu h;
   }
     where
-      least : (u : Region) → u.dim ≡ p.cons.dim → (o : Option Table) → u.bounds ≡ o → IfSome o IsTable → ((q : List ℤ) → IsWithin p.cons q → IsIn u q) → Includes u (record { dim = p.cons.dim; bounds = Some t })
+      least : (u : DifferenceShape) → u.dim ≡ p.cons.dim → (o : Option Table) → u.bounds ≡ o → IfSome o IsTable → ((q : List ℤ) → IsWithin p.cons q → IsIn u q) → Includes u (record { dim = p.cons.dim; bounds = Some t })
       least u eu None eo hu h q k = absurd (subst (λ (o : Option Table). IsInBounds o u.dim q0) eo (h q0 w0).within)
       least u eu (Some a) eo hu h q k =
           let fa = λ (x : ℕ) (y : ℕ). bound_fraction a x y hu.fractions in
@@ -210,7 +211,7 @@ some_point p k e n = by (subst (λ (t : Topology). IsStoredAs t p.cons p.gens) e
     by (inl f) = absurd (n f.gens)
     by (inr f) = (_, pair_point p.cons p.gens f)
 
-pub suprema_shape : (p : Polyhedron) (t : Table) → IsKept p → p.topology ≡ Closed → p.gens.list ≢ [] → p.cons.dim ≤ 63 → IsTable t → t.places ≡ p.cons.dim + 1 → IsFinding p t (p.cons.dim + 1) 0 → IsShape (record { dim = p.cons.dim; bounds = Some t })
+pub suprema_shape : (p : Polyhedron) (t : Table) → IsKept p → p.topology ≡ Closed → p.gens.list ≢ [] → p.cons.dim ≤ MAX_DIM → IsTable t → t.places ≡ p.cons.dim + 1 → IsFinding p t (p.cons.dim + 1) 0 → IsShape (record { dim = p.cons.dim; bounds = Some t })
 suprema_shape p t k e n l h s q =
     let w = some_point p k e n in
     record { narrow = l; tight = record { table = h; places = s; zeros = q.zeros; tight = suprema_tight p t h q.zeros (λ i j li lj d. q.suprema i j li lj d (inl li)) w.0 w.1 } }

@@ -13,7 +13,7 @@ use Rattle.optimum.specs.declared.outcome.Sup.TheVariants as sup
 use Rattle.difference_bounds.specs.Walks.{Bound, Bounds}
 use Rattle.difference_bounds.specs.Tables.{Table, IsTable, HasZeros, bounds_of}
 use Rattle.difference_bounds.specs.Passes.{IsBefore}
-use Rattle.bd_shape.specs.Shapes.{Region, IsIn, Includes}
+use Rattle.bd_shape.specs.Shapes.{DifferenceShape, IsIn, Includes}
 use Rattle.bd_shape.specs.Differences.{difference}
 
 -- the bound is the greatest difference of two places on the polyhedron, or none where the difference has no bound
@@ -26,9 +26,9 @@ abbrev pub AreSuprema : Polyhedron → Bounds → Type 0
 AreSuprema p b = (i j : ℕ) → i < p.cons.dim + 1 → j < p.cons.dim + 1 → i ≢ j → IsSupremumOf p i j (b i j)
 
 -- the smallest shape that includes the polyhedron
-pub record IsSmallest (p : Polyhedron) (s : Region) : Type 0 where
+pub record IsSmallest (p : Polyhedron) (s : DifferenceShape) : Type 0 where
   pub includes : (q : List ℤ) → IsWithin p.cons q → IsIn s q
-  pub least : (u : Region) → u.dim ≡ p.cons.dim → IfSome u.bounds IsTable → ((q : List ℤ) → IsWithin p.cons q → IsIn u q) → Includes u s
+  pub least : (u : DifferenceShape) → u.dim ≡ p.cons.dim → IfSome u.bounds IsTable → ((q : List ℤ) → IsWithin p.cons q → IsIn u q) → Includes u s
 
 -- ---- answers in order
 -- the bound that an answer gives

@@ -5,6 +5,7 @@ ghost use Rattle.row_core.specs.Range.{InRange};
 ghost use Rattle.row_core.specs.Refusals.{IsOverflowIn};
 ghost use Rattle.cons_sys.specs.Constraints.{In, constraint_at, row_at};
 ghost use Rattle.stored_systems.specs.PointSets.{AreClosed};
+ghost use Rattle.poly_pair.specs.declared.topology.TheConstants.{MAX_DIM};
 ghost use Rattle.difference_bounds.specs.Tables.{bounds_of};
 ghost use Rattle.bd_shape.specs.Shapes.{IsIn};
 ghost use Rattle.bd_shape.specs.Forms.{IsDifference};
@@ -34,8 +35,11 @@ fn take(
     requires den { InRange den }
     requires positive { pos 0 <ℤ den }
     ensures places { bounds.new.places ≡ bounds.old.places }
-    ensures lowered { OnOk result (IsLowered bounds.old bounds.new i j (record { num = num; den = den })) }
-    ensures overflow { IfErr result (IsOverflowIn (LeavesInTaking (bounds_of bounds.old) i j (record { num = num; den = den }))) }
+    ensures lowered { OnOk result
+        (IsLowered bounds.old bounds.new i j (record { num = num; den = den })) }
+    ensures overflow { IfErr result
+        (IsOverflowIn
+        (LeavesInTaking (bounds_of bounds.old) i j (record { num = num; den = den }))) }
 {
     let bound = lowest(num, den);
     bounds.lower(alloc, i, j, bound)
@@ -56,8 +60,11 @@ fn take_negated(
     requires den { InRange den }
     requires positive { pos 0 <ℤ den }
     ensures places { bounds.new.places ≡ bounds.old.places }
-    ensures lowered { OnOk result (IsLowered bounds.old bounds.new i j (record { num = neg_ℤ num; den = den })) }
-    ensures overflow { IfErr result (IsOverflowIn (LeavesInTaking (bounds_of bounds.old) i j (record { num = neg_ℤ num; den = den }))) }
+    ensures lowered { OnOk result
+        (IsLowered bounds.old bounds.new i j (record { num = neg_ℤ num; den = den })) }
+    ensures overflow { IfErr result
+        (IsOverflowIn
+        (LeavesInTaking (bounds_of bounds.old) i j (record { num = neg_ℤ num; den = den }))) }
 {
     take(alloc, bounds, i, j, -num, den)
 }
@@ -100,7 +107,9 @@ fn take_constraint(
     requires index { k < length cons.now.list }
     requires differences { AreDifferences cons.now }
     requires reading { IsReading cons.now k bounds.old }
-    ensures read { IfOk result (λ r. MatchBool r (IsReading cons.now (k + 1) bounds.new) (HoldsNowhere cons.now.dim (constraint_at cons.now.list k))) }
+    ensures read { IfOk result
+        (λ r. MatchBool r (IsReading cons.now (k + 1) bounds.new)
+        (HoldsNowhere cons.now.dim (constraint_at cons.now.list k))) }
     ensures overflow { IfErr result (IsOverflowIn (LeavesInTwoGiven cons.now)) }
 {
     let dim = cons.dim();
@@ -122,10 +131,11 @@ fn take_constraint(
 /// The shape of constraints of which each bounds a difference or has no variable.
 fn shape_of_differences(alloc: Global, cons: &ConsSys) -> Result<Shape, ConvErr>
     requires closed { AreClosed cons.now }
-    requires narrow { cons.now.dim ≤ 63 }
+    requires narrow { cons.now.dim ≤ MAX_DIM }
     requires differences { AreDifferences cons.now }
     ensures dim { IfOk result (λ s. s.dim ≡ cons.now.dim) }
-    ensures points { IfOk result (λ s. (p : List ℤ) → IsIn s p ↔ (IsPoint cons.now.dim p × In cons.now p)) }
+    ensures points { IfOk result
+        (λ s. (p : List ℤ) → IsIn s p ↔ (IsPoint cons.now.dim p × In cons.now p)) }
     ensures overflow { IfErr result (IsOverflowIn (LeavesInConstraints cons.now)) }
 {
     let dim = cons.dim();
@@ -160,9 +170,10 @@ fn are_differences(cons: &ConsSys) -> bool
 /// range, or two least totals whose sum or comparison does.
 pub fn shape_from(alloc: Global, cons: &ConsSys) -> Result<Shape, ShapeErr>
     requires closed { AreClosed cons.now }
-    requires narrow { cons.now.dim ≤ 63 }
+    requires narrow { cons.now.dim ≤ MAX_DIM }
     ensures dim { IfOk result (λ s. s.dim ≡ cons.now.dim) }
-    ensures points { IfOk result (λ s. (p : List ℤ) → IsIn s p ↔ (IsPoint cons.now.dim p × In cons.now p)) }
+    ensures points { IfOk result
+        (λ s. (p : List ℤ) → IsIn s p ↔ (IsPoint cons.now.dim p × In cons.now p)) }
     ensures not_difference { (result ≡ Err ShapeErr.NotDifference) ↔ HasOther cons.now }
     ensures refusal { IfErr result (IsRefusalOf cons.now) }
 {

@@ -2,7 +2,7 @@
 ghost use Rattle.std.specs.Prelude.{◌≡◌, ◌↔◌, IsTrue, IfOk, IfErr};
 ghost use Rattle.row_core.specs.Refusals.{IsOverflowIn};
 ghost use Rattle.bd_shape.specs.Shapes.{Includes, IsMeet, IsHull};
-ghost use Rattle.bd_shape.specs.Overflows.{LeavesInBounds, LeavesInMeet};
+ghost use Rattle.bd_shape.specs.Overflows.{LeavesInHull, LeavesInInclusion, LeavesInMeet};
 
 use crate::shape::{Shape, closed};
 use row_core::ConvErr;
@@ -12,7 +12,8 @@ use std::alloc::Global;
 ///
 /// # Errors
 ///
-/// Two bounds of the same places whose comparison leaves the range, or two least totals whose sum or comparison does.
+/// A bound of the second shape and then that of the first of the same places, whose comparison leaves the range, or
+/// two least totals whose sum or comparison does.
 pub fn shape_meet(alloc: Global, s: &Shape, t: &Shape) -> Result<Shape, ConvErr>
     requires { t.now.dim ≡ s.now.dim }
     ensures dim { IfOk result (λ r. r.dim ≡ s.now.dim) }
@@ -35,12 +36,12 @@ pub fn shape_meet(alloc: Global, s: &Shape, t: &Shape) -> Result<Shape, ConvErr>
 ///
 /// # Errors
 ///
-/// Two bounds of the same places whose comparison leaves the range.
+/// A bound of the first shape and then that of the second of the same places, whose comparison leaves the range.
 pub fn shape_hull(alloc: Global, s: &Shape, t: &Shape) -> Result<Shape, ConvErr>
     requires { t.now.dim ≡ s.now.dim }
     ensures dim { IfOk result (λ r. r.dim ≡ s.now.dim) }
     ensures points { IfOk result (IsHull s.now t.now) }
-    ensures overflow { IfErr result (IsOverflowIn (LeavesInBounds s.now t.now)) }
+    ensures overflow { IfErr result (IsOverflowIn (LeavesInHull s.now t.now)) }
 {
     let Some(left) = &s.bounds else {
         return Ok(t.try_copy(alloc)?);
@@ -61,11 +62,12 @@ pub fn shape_hull(alloc: Global, s: &Shape, t: &Shape) -> Result<Shape, ConvErr>
 ///
 /// # Errors
 ///
-/// Two bounds of the same places whose comparison leaves the range.
+/// A bound of the first shape and then that of the second of the same places, whose comparison leaves the range, where
+/// the bounds of all earlier places answer yes.
 pub fn shape_contains(alloc: Global, s: &Shape, t: &Shape) -> Result<bool, ConvErr>
     requires { t.now.dim ≡ s.now.dim }
     ensures contains { IfOk result (λ r. IsTrue r ↔ Includes s.now t.now) }
-    ensures overflow { IfErr result (IsOverflowIn (LeavesInBounds s.now t.now)) }
+    ensures overflow { IfErr result (IsOverflowIn (LeavesInInclusion s.now t.now)) }
 {
     let Some(inner) = &t.bounds else {
         return Ok(true);

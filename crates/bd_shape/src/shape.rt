@@ -1,6 +1,7 @@
 //! A shape.
 ghost use Rattle.std.specs.Prelude.{◌≡◌, ◌↔◌, ◌+◌, ◌≤◌, List, ℤ, None, Some, IfOk, IfErr};
 ghost use Rattle.row_core.specs.Points.{IsPoint};
+ghost use Rattle.poly_pair.specs.declared.topology.TheConstants.{MAX_DIM};
 ghost use Rattle.difference_bounds.specs.Tables.{HasZeros, bounds_of};
 ghost use Rattle.row_core.specs.Refusals.{IsOverflowIn};
 ghost use Rattle.difference_bounds.specs.Overflows.{LeavesInClosing};
@@ -20,9 +21,9 @@ pub struct Shape {
 }
 
 impl Model for Shape {
-    ghost use Rattle.bd_shape.specs.Shapes.{Region, IsShape};
+    ghost use Rattle.bd_shape.specs.Shapes.{DifferenceShape, IsShape};
 
-    ghost Value = { Region };
+    ghost Value = { DifferenceShape };
 
     ghost view = { λ s. record { dim = s.dim; bounds = s.bounds } };
 
@@ -33,7 +34,7 @@ impl Shape {
     /// The number of variables.
     pub fn dim(&self) -> usize
         ensures value { result ≡ self.now.dim }
-        ensures narrow { self.now.dim ≤ 63 }
+        ensures narrow { self.now.dim ≤ MAX_DIM }
         ensures kept { IsShape self.now }
     {
         self.dim
@@ -56,11 +57,12 @@ impl Shape {
 
 /// The shape of the points that meet the bounds.
 pub(crate) fn closed(alloc: Global, dim: usize, mut bounds: BoundTable) -> Result<Shape, ConvErr>
-    requires narrow { dim ≤ 63 }
+    requires narrow { dim ≤ MAX_DIM }
     requires places { bounds.places ≡ dim + 1 }
     requires zeros { HasZeros (bounds_of bounds) (dim + 1) }
     ensures dim { IfOk result (λ s. s.dim ≡ dim) }
-    ensures points { IfOk result (λ s. (p : List ℤ) → IsIn s p ↔ (IsPoint dim p × IsInBounds (Some bounds) dim p)) }
+    ensures points { IfOk result
+        (λ s. (p : List ℤ) → IsIn s p ↔ (IsPoint dim p × IsInBounds (Some bounds) dim p)) }
     ensures overflow { IfErr result (IsOverflowIn (LeavesInClosing (bounds_of bounds) (dim + 1))) }
 {
     if bounds.close(alloc)? {

@@ -42,7 +42,8 @@ fn supremum(alloc: Global, p: &Poly, i: usize, j: usize) -> Result<Option<Fracti
     ensures supremum { IfOk result (IsSupremumOf p.now i j) }
     ensures fraction { IfOk result (λ bound. IfSome bound IsFraction) }
     ensures found { OnOk result (IsFoundAt p.now i j) }
-    ensures overflow { IfErr result (IsOverflowIn (LeavesInSupremum (difference p.now.cons.dim i j) p.now.gens)) }
+    ensures overflow { IfErr result
+        (IsOverflowIn (LeavesInSupremum (difference p.now.cons.dim i j) p.now.gens)) }
 {
     let row = difference(alloc, p.dim(), i, j)?;
     let gens = p.gens();
@@ -61,8 +62,10 @@ fn find(alloc: Global, p: &Poly, bounds: &mut BoundTable, i: usize, j: usize) ->
     requires first { i < p.now.cons.dim + 1 }
     requires second { j < p.now.cons.dim + 1 }
     ensures places { bounds.new.places ≡ bounds.old.places }
-    ensures found { OnOk result (IsFinding p.now bounds.old i j → IsFinding p.now bounds.new i (j + 1)) }
-    ensures overflow { IfErr result (IsOverflowIn (λ over. IsFinding p.now bounds.old i j → LeavesInSuprema p.now over)) }
+    ensures found { OnOk result
+        (IsFinding p.now bounds.old i j → IsFinding p.now bounds.new i (j + 1)) }
+    ensures overflow { IfErr result
+        (IsOverflowIn (λ over. IsFinding p.now bounds.old i j → LeavesInSuprema p.now over)) }
 {
     if i == j {
         return Ok(());
@@ -78,8 +81,10 @@ fn find_row(alloc: Global, p: &Poly, bounds: &mut BoundTable, i: usize) -> Resul
     requires places { bounds.old.places ≡ p.now.cons.dim + 1 }
     requires row { i < p.now.cons.dim + 1 }
     ensures places { bounds.new.places ≡ bounds.old.places }
-    ensures found { OnOk result (IsFinding p.now bounds.old i 0 → IsFinding p.now bounds.new (i + 1) 0) }
-    ensures overflow { IfErr result (IsOverflowIn (λ over. IsFinding p.now bounds.old i 0 → LeavesInSuprema p.now over)) }
+    ensures found { OnOk result
+        (IsFinding p.now bounds.old i 0 → IsFinding p.now bounds.new (i + 1) 0) }
+    ensures overflow { IfErr result
+        (IsOverflowIn (λ over. IsFinding p.now bounds.old i 0 → LeavesInSuprema p.now over)) }
 {
     for j in 0..bounds.places() {
         find(alloc, p, bounds, i, j)?;

@@ -7,7 +7,8 @@ use Rattle.difference_bounds.specs.Overflows.{LeavesInClosing}
 use Rattle.row_core.specs.Refusals.{IsOverflowIn}
 use Rattle.row_core.specs.Points.{IsPoint}
 use Rattle.cons_sys.specs.Constraints.{In}
-use Rattle.bd_shape.specs.Shapes.{Region, IsIn, IsInBounds}
+use Rattle.poly_pair.specs.declared.topology.TheConstants.{MAX_DIM}
+use Rattle.bd_shape.specs.Shapes.{DifferenceShape, IsIn, IsInBounds}
 use Rattle.bd_shape.specs.Given.{IsReading}
 use Rattle.bd_shape.proofs.GivenPoints.{shape_points}
 use Rattle.std.proofs.lemmas.Result.{err_from_is_err_and}
@@ -19,7 +20,7 @@ pub returns-clause-points : goal.returns-clause-points
 returns-clause-points c =
     let cs = c.args.cons.now in
     let end : c.loop-k.k ≡ length cs.list = omega (arith, c.len-k-end.ensures) in
-    IfOk-weaker c.closed.result (λ (s : Region). (p : List ℤ) → IsIn s p ↔ (IsPoint c.dim-dim.result p × IsInBounds (Some c.loop-k.bounds) c.dim-dim.result p)) (λ (s : Region). (p : List ℤ) → IsIn s p ↔ (IsPoint cs.dim p × In cs p))
+    IfOk-weaker c.closed.result (λ (s : DifferenceShape). (p : List ℤ) → IsIn s p ↔ (IsPoint c.dim-dim.result p × IsInBounds (Some c.loop-k.bounds) c.dim-dim.result p)) (λ (s : DifferenceShape). (p : List ℤ) → IsIn s p ↔ (IsPoint cs.dim p × In cs p))
     (λ s h. shape_points cs c.loop-k.bounds (subst (λ (k : ℕ). IsReading cs k c.loop-k.bounds) end c.loop-k.invariant) c.places-kept.ensures.table.fractions c.requires.closed s
     (subst (λ (n : ℕ). (p : List ℤ) → IsIn s p ↔ (IsPoint n p × IsInBounds (Some c.loop-k.bounds) n p)) c.dim-dim.ensures.value h))
     c.closed.ensures.points
@@ -46,7 +47,7 @@ loop-k-preserved c = rw c.if-not-branch.false at c.in_ok-take_constraint.ensures
 
 pub closed-requires : goal.closed-requires
 closed-requires c = record {
-  narrow = subst (λ (n : ℕ). n ≤ 63) (sym c.dim-dim.ensures.value) c.requires.narrow;
+  narrow = subst (λ (n : ℕ). n ≤ MAX_DIM) (sym c.dim-dim.ensures.value) c.requires.narrow;
   places = c.loop-k.invariant.places ∙ ap (λ (n : ℕ). n + 1) (sym c.dim-dim.ensures.value);
   zeros = subst (λ (n : ℕ). HasZeros (bounds_of c.loop-k.bounds) (n + 1)) (sym c.dim-dim.ensures.value) c.loop-k.invariant.zeros;
 }
@@ -66,7 +67,7 @@ returns-clause-overflow c =
     c.closed.ensures.overflow
 
 pub returns-clause-dim : goal.returns-clause-dim
-returns-clause-dim c = subst (λ (n : ℕ). IfOk c.closed.result (λ (s : Region). s.dim ≡ n)) c.dim-dim.ensures.value c.closed.ensures.dim
+returns-clause-dim c = subst (λ (n : ℕ). IfOk c.closed.result (λ (s : DifferenceShape). s.dim ≡ n)) c.dim-dim.ensures.value c.closed.ensures.dim
 
 pub returns-then-not-branch : goal.returns-then-not-branch
 returns-then-not-branch c =
