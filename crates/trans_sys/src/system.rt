@@ -7,6 +7,7 @@ ghost use Rattle.trans_sys.specs.declared.system.TheConstants.{MAX_LOCATIONS};
 ghost use Rattle.poly_pair.specs.ClosedPolyhedra.{IsClosedOver};
 ghost use Rattle.trans_sys.specs.Systems.{IsKeptSystem, with_initial, with_transition};
 
+use crate::sets::empty_sets;
 use crate::transition::Transition;
 use poly_pair::{MAX_DIM, Poly, Topology};
 use row_core::Memory;
@@ -34,22 +35,6 @@ impl Model for System {
     ghost view = { λ s. record { dim = s.dim; initial = s.initial.items; transitions = s.transitions.items } };
 
     ghost invariant = { λ s. IsKeptSystem (record { dim = s.dim; initial = s.initial.items; transitions = s.transitions.items }) };
-}
-
-/// Empty closed polyhedra of a dimension.
-fn empty_sets(alloc: Global, dim: usize, count: usize) -> Result<Vec<Poly>, Memory>
-    requires { dim ≤ MAX_DIM }
-    ensures count { IfOk result (λ sets. length sets.items ≡ count) }
-    ensures empty { IfOk result (λ sets. All (IsEmpty Closed dim) sets.items) }
-    ensures closed { IfOk result (λ sets. All (IsClosedOver dim) sets.items) }
-{
-    let mut sets = Vec::new(alloc);
-    for _ in 0..count {
-        let set = Poly::empty(alloc, Topology::Closed, dim)?;
-        let _kept = set.dim();
-        sets.push(set)?;
-    }
-    Ok(sets)
 }
 
 /// Copies of polyhedra.
@@ -133,7 +118,9 @@ impl System {
         requires target { to < length self.old.initial }
         requires closed { relation.topology ≡ Closed }
         requires dim { relation.cons.dim ≡ 2 * self.old.dim }
-        ensures pushed { OnOk result (self.new ≡ with_transition self.old (record { source = from; target = to; relation = relation })) }
+        ensures pushed { OnOk result
+            (self.new ≡ with_transition self.old
+            (record { source = from; target = to; relation = relation })) }
         ensures refused { OnErr result (self.new ≡ self.old) }
     {
         let _kept = relation.dim();
@@ -183,14 +170,13 @@ impl System {
         self.transitions.len()
     }
 
-    /// The source and the target of a transition, and its relation.
+    /// Lends a transition.
     #[inline]
-    pub fn trans(&self, i: usize) -> (usize, usize, &Poly)
-        requires { i < length self.now.transitions }
-        ensures value { slice_get self.now.transitions i ≡ Some (record { source = result.0; target = result.1; relation = result.2.now }) }
+    pub fn trans(&self, index: usize) -> &Transition
+        requires { index < length self.now.transitions }
+        ensures value { slice_get self.now.transitions index ≡ Some result.now }
         ensures kept { IsKeptSystem self.now }
     {
-        let transition = &self.transitions[i];
-        (transition.source, transition.target, &transition.relation)
+        &self.transitions[index]
     }
 }
