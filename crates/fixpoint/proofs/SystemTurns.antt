@@ -16,6 +16,7 @@ use Rattle.trans_sys.specs.Systems.{TransitionSystem, IsTransition, IsKeptSystem
 use Rattle.stored_systems.specs.WorkLists.{LeavesOn}
 use Rattle.poly_pair.specs.TopologyLists.{list_width, generators_of}
 use Rattle.poly_pair.specs.Refusals.{IsOverflowOn}
+use Rattle.poly_pair.specs.Work.{added_gens}
 use Rattle.lattice_ops.specs.Sets.{IsValidOn, IsHull, both_generators}
 use Rattle.lattice_ops.specs.Growing.{IsGrown, IsHullWith, IsGrownBy}
 use Rattle.lattice_ops.proofs.KeptSets.{constraint_for}
@@ -27,8 +28,7 @@ use Rattle.widening.proofs.Places.{same_at, has_at, all_at}
 use Rattle.widening.proofs.TurnLemmas.{enlarged}
 use Rattle.widening.proofs.OneRun.{one_set}
 use Rattle.affine_ops.specs.Posts.{IsPost, IsStepTo, SpanPost}
-use Rattle.fixpoint.specs.PostLists.{LeavesOnPost}
-use Rattle.fixpoint.specs.Runs.{IsValidOnPost, IsJoined, IsJoinedBy, LeavesOnHull, target_of, JoinsBy, LeavesBy, turns_of}
+use Rattle.fixpoint.specs.Runs.{IsValidOnPost, IsHullWithSuccessors, IsJoinedBy, LeavesOnHullWithPost, LeavesOnGrowth, LeavesByGenerators, LeavesByPost, LeavesBothWays, target_of, JoinsBy, LeavesBy, turns_of}
 use Rattle.fixpoint.specs.RunLaws.{AreClosedUnder}
 
 pub initial_sets : (s : TransitionSystem) → IsKeptSystem s → run.AreSetsOf s.dim (length s.initial) s.initial
@@ -39,16 +39,16 @@ over_closed : (topology : Topology) (dim d : ℕ) (p : Polyhedron) → topology 
 over_closed topology dim d p e f k o = record { kept = k; over = record { same_topology = o.same_topology ∙ e; same_dim = o.same_dim ∙ f } }
 
 module _ (d : ℕ) (source relation old : Polyhedron) (s : IsClosedOver d source) (o : IsClosedOver d old) where
-  joined_closed : (joined : Polyhedron) → IsJoined source relation old joined → IsClosedOver d joined
+  joined_closed : (joined : Polyhedron) → IsHullWithSuccessors source relation old joined → IsClosedOver d joined
   joined_closed joined j = over_closed old.topology old.cons.dim d joined o.over.same_topology o.over.same_dim j.kept j.over
 
-  pub joined_above : (joined : Polyhedron) → IsJoined source relation old joined → IsAbove d old joined
+  pub joined_above : (joined : Polyhedron) → IsHullWithSuccessors source relation old joined → IsAbove d old joined
   joined_above joined j = record { closed = joined_closed joined j; includes = λ v pt h. (j.points v pt).1 (λ c is on_old on_post. on_old v pt h) }
 
-  pub joined_takes : (joined : Polyhedron) → IsJoined source relation old joined → (y : List ℤ) → IsPoint d y → IsStepTo source.cons relation.cons y → In joined.cons y
+  pub joined_takes : (joined : Polyhedron) → IsHullWithSuccessors source relation old joined → (y : List ℤ) → IsPoint d y → IsStepTo source.cons relation.cons y → In joined.cons y
   joined_takes joined j y pt h = (j.points y (subst (λ (n : ℕ). IsPoint n y) (sym o.over.same_dim) pt)).1 (λ c is on_old on_post. on_post y (subst (λ (n : ℕ). IsPoint n y) (sym s.over.same_dim) pt) h)
 
-  pub one_joined : (one other : Polyhedron) → IsJoined source relation old one → IsJoined source relation old other → one ≡ other
+  pub one_joined : (one other : Polyhedron) → IsHullWithSuccessors source relation old one → IsHullWithSuccessors source relation old other → one ≡ other
   one_joined one other j k =
       one_set d one other (joined_closed one j) (joined_closed other k)
       (λ v pt. let at = subst (λ (n : ℕ). IsPoint n v) j.over.same_dim pt in ((λ h. (k.points v at).1 ((j.points v at).0 h)), (λ h. (j.points v at).1 ((k.points v at).0 h))))
@@ -82,7 +82,7 @@ module _ (s : TransitionSystem) where
       let source : b.source ≡ a.source = same_at sets t.0.source b.source a.source b.has_source a.has_source in
       let old : b.old ≡ a.old = same_at sets t.0.target b.old a.old b.has_old a.has_old in
       one_joined s.dim a.source t.0.relation a.old (all_at (IsClosedOver s.dim) sets t.0.source a.source are.each a.has_source) (all_at (IsClosedOver s.dim) sets t.0.target a.old are.each a.has_old) one other a.is_joined
-      (subst (λ (p : Polyhedron). IsJoined a.source t.0.relation p other) old (subst (λ (p : Polyhedron). IsJoined p t.0.relation b.old other) source b.is_joined))
+      (subst (λ (p : Polyhedron). IsHullWithSuccessors a.source t.0.relation p other) old (subst (λ (p : Polyhedron). IsHullWithSuccessors p t.0.relation b.old other) source b.is_joined))
 
   -- where what each turn joins is in the set of its place, the sets are closed under the transitions
   pub closed_under : (sets : List Polyhedron) → run.AreSetsOf s.dim (length s.initial) sets → AreTaken (turns_of s) sets → AreClosedUnder s.transitions sets
@@ -111,7 +111,7 @@ module _ (source relation old post : Polyhedron) (s : IsClosedOver old.cons.dim 
   valid_on_set : (c : Constraint) → IsValidOnPost source relation c → IsValidOn post c
   valid_on_set c valid y pt h = valid y (at_source y pt) ((p.points y (at_source y pt)).0 h)
 
-  joined_of_hull : (hull : Polyhedron) → IsHull old post hull → IsKept hull → IsJoined source relation old hull
+  joined_of_hull : (hull : Polyhedron) → IsHull old post hull → IsKept hull → IsHullWithSuccessors source relation old hull
   joined_of_hull hull h k = record {
     over = h.over;
     points = λ v pt. (
@@ -121,15 +121,15 @@ module _ (source relation old post : Polyhedron) (s : IsClosedOver old.cons.dim 
     kept = k;
   }
 
-  pub found_of : (found : Option Polyhedron) → IsGrown old post found → IsFound (IsJoined source relation old) old found
+  pub found_of : (found : Option Polyhedron) → IsGrown old post found → IsFound (IsHullWithSuccessors source relation old) old found
   found_of None h = record { joined = h.hull; is_joined = joined_of_hull h.hull h.is_hull h.kept; same = h.same }
   found_of (Some hull) h = let j = joined_of_hull hull h.is_hull h.kept in record { is_joined = j; enlarged = enlarged old.cons.dim old hull o (joined_above old.cons.dim source relation old s o hull j) h.differs }
 
 -- where the set has all successors it is what the turn joins
-pub found_same : (source relation old : Polyhedron) → IsKept old → FitConstraints old.cons → ((y : List ℤ) → IsPoint source.cons.dim y → IsStepTo source.cons relation.cons y → In old.cons y) → IsFound (IsJoined source relation old) old None
+pub found_same : (source relation old : Polyhedron) → IsKept old → FitConstraints old.cons → ((y : List ℤ) → IsPoint source.cons.dim y → IsStepTo source.cons relation.cons y → In old.cons y) → IsFound (IsHullWithSuccessors source relation old) old None
 found_same source relation old k fit within = record { joined = old; is_joined = joined; same = λ v pt. ((λ h. h), (λ h. h)) }
   where
-    joined : IsJoined source relation old old
+    joined : IsHullWithSuccessors source relation old old
     joined = record {
       over = record { same_topology = refl; same_dim = refl };
       points = λ v pt. (
@@ -141,7 +141,7 @@ found_same source relation old k fit within = record { joined = old; is_joined =
 
 -- by generators of the post
 module _ (source relation old : Polyhedron) (s : IsClosedOver old.cons.dim source) (o : IsClosedOver old.cons.dim old) (fit : FitConstraints old.cons) where
-  pub found_without : ((y : List ℤ) → ¬ (IsStepTo source.cons relation.cons y)) → IsFound (IsJoined source relation old) old None
+  pub found_without : ((y : List ℤ) → ¬ (IsStepTo source.cons relation.cons y)) → IsFound (IsHullWithSuccessors source relation old) old None
   found_without none = found_same source relation old o.kept fit (λ y pt h. absurd (none y h))
 
   module _ (gs : Generators) (span : SpanPost source relation gs) where
@@ -151,7 +151,7 @@ module _ (source relation old : Polyhedron) (s : IsClosedOver old.cons.dim sourc
     member : (y : List ℤ) → IsPoint source.cons.dim y → IsStepTo source.cons relation.cons y → IsMember gs y
     member y pt h = record { point = subst (λ (n : ℕ). IsPoint n y) (sym span.same_dim) pt; spanned = (span.points y pt).1 h }
 
-    joined_of_spanned : (hull : Polyhedron) → IsHullWith old gs hull → IsKept hull → IsJoined source relation old hull
+    joined_of_spanned : (hull : Polyhedron) → IsHullWith old gs hull → IsKept hull → IsHullWithSuccessors source relation old hull
     joined_of_spanned hull h k = record {
       over = h.over;
       points = λ v pt. (
@@ -161,28 +161,28 @@ module _ (source relation old : Polyhedron) (s : IsClosedOver old.cons.dim sourc
       kept = k;
     }
 
-    pub found_by_generators : (found : Option Polyhedron) → IsGrownBy old gs found → IsFound (IsJoined source relation old) old found
+    pub found_by_generators : (found : Option Polyhedron) → IsGrownBy old gs found → IsFound (IsHullWithSuccessors source relation old) old found
     found_by_generators None h = found_same source relation old o.kept fit (λ y pt step. h y (member y pt step))
     found_by_generators (Some hull) h = let j = joined_of_spanned hull h.is_hull h.kept in record { is_joined = j; enlarged = enlarged old.cons.dim old hull o (joined_above old.cons.dim source relation old s o hull j) h.differs }
 
 -- by the transition at a place
 module _ (s : TransitionSystem) (k : ℕ) (t : Transition) (sets : List Polyhedron) (source old : Polyhedron) (at : slice_get s.transitions k ≡ Some t) (has_source : slice_get sets t.source ≡ Some source) (has_old : slice_get sets t.target ≡ Some old) where
-  joined_by : (joined : Polyhedron) → IsJoined source t.relation old joined → JoinsBy (slice_get s.transitions k) sets joined
+  joined_by : (joined : Polyhedron) → IsHullWithSuccessors source t.relation old joined → JoinsBy (slice_get s.transitions k) sets joined
   joined_by joined j = subst (λ (o : Option Transition). JoinsBy o sets joined) (sym at) (record { source = source; old = old; has_source = has_source; has_old = has_old; is_joined = j })
 
-  found_old : (o : Option Polyhedron) → IsFound (IsJoined source t.relation old) old o → IsFound (JoinsBy (slice_get s.transitions k) sets) old o
+  found_old : (o : Option Polyhedron) → IsFound (IsHullWithSuccessors source t.relation old) old o → IsFound (JoinsBy (slice_get s.transitions k) sets) old o
   found_old None h = record { joined = h.joined; is_joined = joined_by h.joined h.is_joined; same = h.same }
   found_old (Some joined) h = record { is_joined = joined_by joined h.is_joined; enlarged = h.enlarged }
 
-  pub found_by : (o : Option Polyhedron) → IsFound (IsJoined source t.relation old) old o → (other : Polyhedron) → slice_get sets (target_of (slice_get s.transitions k)) ≡ Some other → IsFound (JoinsBy (slice_get s.transitions k) sets) other o
+  pub found_by : (o : Option Polyhedron) → IsFound (IsHullWithSuccessors source t.relation old) old o → (other : Polyhedron) → slice_get sets (target_of (slice_get s.transitions k)) ≡ Some other → IsFound (JoinsBy (slice_get s.transitions k) sets) other o
   found_by o h other has_other = subst (λ (p : Polyhedron). IsFound (JoinsBy (slice_get s.transitions k) sets) p o) (same_at sets t.target old other has_old (ap (λ (x : Option Transition). slice_get sets (target_of x)) (sym at) ∙ has_other)) (found_old o h)
 
-  pub leaves_by : (e : ConvErr) → IsOverflowIn (λ over. LeavesOnPost source t.relation over ⊎ LeavesOnHull source t.relation old over) e → IsOverflowIn (LeavesBy (slice_get s.transitions k) sets) e
+  pub leaves_by : (e : ConvErr) → IsOverflowIn (LeavesBothWays source t.relation old) e → IsOverflowIn (LeavesBy (slice_get s.transitions k) sets) e
   leaves_by (conversion.Overflow over) l = subst (λ (o : Option Transition). LeavesBy o sets over) (sym at) (record { source = source; old = old; has_source = has_source; has_old = has_old; leaves = l })
   leaves_by conversion.Memory l = tt
 
 -- an overflow of the hull, behind those of the post
-hull_leaves : (source relation old post : Polyhedron) (over : Overflow) → old.topology ≡ Closed → IsPost source relation post → IsKept post → LeavesOn (list_width old.topology old.cons.dim) old.cons.dim (generators_of old.topology (both_generators old post)) over → LeavesOnHull source relation old over
+hull_leaves : (source relation old post : Polyhedron) (over : Overflow) → old.topology ≡ Closed → IsPost source relation post → IsKept post → LeavesOn (list_width old.topology old.cons.dim) old.cons.dim (generators_of old.topology (both_generators old post)) over → LeavesOnHullWithPost source relation old over
 hull_leaves source relation old post over closed is kept l = record {
   post = post;
   is_post = is;
@@ -190,6 +190,16 @@ hull_leaves source relation old post over closed is kept l = record {
   leaves = subst (λ (t : Topology). LeavesOn (list_width t old.cons.dim) old.cons.dim (generators_of t (both_generators old post)) over) closed l;
 }
 
-pub leaves_of : (source relation old post : Polyhedron) → old.topology ≡ Closed → IsPost source relation post → IsKept post → (e : ConvErr) → IsOverflowOn (list_width old.topology old.cons.dim) old.cons.dim (generators_of old.topology (both_generators old post)) e → IsOverflowIn (λ over. LeavesOnPost source relation over ⊎ LeavesOnHull source relation old over) e
+pub leaves_of : (source relation old post : Polyhedron) → old.topology ≡ Closed → IsPost source relation post → IsKept post → (e : ConvErr) → IsOverflowOn (list_width old.topology old.cons.dim) old.cons.dim (generators_of old.topology (both_generators old post)) e → IsOverflowIn (LeavesByPost source relation old) e
 leaves_of source relation old post closed is kept (conversion.Overflow over) l = inr (hull_leaves source relation old post over closed is kept l)
 leaves_of source relation old post closed is kept conversion.Memory l = tt
+
+-- an overflow of growing by generators of the post, behind those of finding these
+pub growth_leaves : (source relation old : Polyhedron) (gens : Generators) → SpanPost source relation gens → (e : ConvErr) → IsOverflowOn (added_gens old gens).width (added_gens old gens).column (added_gens old gens).rows e → IsOverflowIn (LeavesByGenerators source relation old) e
+growth_leaves source relation old gens span (conversion.Overflow over) l = inr (record { gens = gens; span = span; leaves = l })
+growth_leaves source relation old gens span conversion.Memory l = tt
+
+-- an overflow by generators, and then one by the post
+pub both_leave : (source relation old : Polyhedron) (first : Overflow) → LeavesByGenerators source relation old first → (e : ConvErr) → IsOverflowIn (LeavesByPost source relation old) e → IsOverflowIn (LeavesBothWays source relation old) e
+both_leave source relation old first f (conversion.Overflow over) l = record { first = first; by_generators = f; by_post = l }
+both_leave source relation old first f conversion.Memory l = tt

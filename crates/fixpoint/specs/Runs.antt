@@ -2,16 +2,19 @@ use Rattle.std.specs.Prelude.{◌≡◌, ◌⊎◌, ◌↔◌, ℕ, List, length
 use Rattle.row_core.specs.Points.{IsPoint}
 use Rattle.row_core.specs.declared.errors.Overflow.{Overflow}
 use Rattle.cons_sys.specs.Constraints.{Constraint, In, Satisfies}
-use Rattle.stored_systems.specs.WorkLists.{generator_list, LeavesOnClosed}
+use Rattle.gens_sys.specs.Generators.{Generators}
+use Rattle.stored_systems.specs.WorkLists.{generator_list, LeavesOn, LeavesOnClosed}
 use Rattle.poly_pair.specs.TopologyConstraints.{IsConstraintFor}
 use Rattle.poly_pair.specs.Polyhedra.{Polyhedron, IsKept, IsOver}
+use Rattle.poly_pair.specs.Work.{added_gens}
 use Rattle.trans_sys.specs.declared.transition.Transition.{Transition}
 use Rattle.trans_sys.specs.Systems.{TransitionSystem}
 use Rattle.lattice_ops.specs.Sets.{IsValidOn, both_generators}
 use Rattle.widening.specs.Runs as run
 use Rattle.widening.specs.Runs.{TurnList}
-use Rattle.affine_ops.specs.Posts.{IsPost, IsStepTo}
-use Rattle.fixpoint.specs.PostLists.{LeavesOnPost}
+use Rattle.affine_ops.specs.Posts.{IsPost, IsStepTo, SpanPost}
+use Rattle.affine_ops.specs.PostLists.{LeavesOnSteps}
+use Rattle.fixpoint.specs.PostLists.{LeavesOnPairedPost}
 
 -- ---- turns
 -- the constraint holds at each successor of a state of the set
@@ -19,7 +22,7 @@ abbrev pub IsValidOnPost : Polyhedron → Polyhedron → Constraint → Type 0
 IsValidOnPost source relation c = (y : List ℤ) → IsPoint source.cons.dim y → IsStepTo source.cons relation.cons y → Satisfies y c
 
 -- the hull of the set of the target and the post of that of the source: the points at which each constraint holds that is valid on both
-pub record IsJoined (source relation old joined : Polyhedron) : Type 0 where
+pub record IsHullWithSuccessors (source relation old joined : Polyhedron) : Type 0 where
   pub over : IsOver old.topology old.cons.dim joined
   pub points : (v : List ℤ) → IsPoint old.cons.dim v → In joined.cons v ↔ ((c : Constraint) → IsConstraintFor old.topology old.cons.dim c → IsValidOn old c → IsValidOnPost source relation c → Satisfies v c)
   pub kept : IsKept joined
@@ -30,14 +33,34 @@ pub record IsJoinedBy (transition : Transition) (sets : List Polyhedron) (joined
   pub old : Polyhedron
   pub has_source : slice_get sets transition.source ≡ Some source
   pub has_old : slice_get sets transition.target ≡ Some old
-  pub is_joined : IsJoined source transition.relation old joined
+  pub is_joined : IsHullWithSuccessors source transition.relation old joined
 
 -- the conversion of the list of the generators of the set and of the post, or of its second list, leaves the range
-pub record LeavesOnHull (source relation old : Polyhedron) (over : Overflow) : Type 0 where
+pub record LeavesOnHullWithPost (source relation old : Polyhedron) (over : Overflow) : Type 0 where
   pub post : Polyhedron
   pub is_post : IsPost source relation post
   pub post_kept : IsKept post
   pub leaves : LeavesOnClosed old.cons.dim (generator_list (both_generators old post)) over
+
+-- by generators of the post: the conversion of the list of those of the set and then these, or of its second list, does
+pub record LeavesOnGrowth (source relation old : Polyhedron) (over : Overflow) : Type 0 where
+  pub gens : Generators
+  pub span : SpanPost source relation gens
+  pub leaves : LeavesOn (added_gens old gens).width (added_gens old gens).column (added_gens old gens).rows over
+
+-- or that of the list of the relation's constraints and then those of the set of the source
+abbrev pub LeavesByGenerators : Polyhedron → Polyhedron → Polyhedron → Overflow → Type 0
+LeavesByGenerators source relation old over = LeavesOnSteps source relation over ⊎ LeavesOnGrowth source relation old over
+
+-- of the post, or of the hull with it
+abbrev pub LeavesByPost : Polyhedron → Polyhedron → Polyhedron → Overflow → Type 0
+LeavesByPost source relation old over = LeavesOnPairedPost source relation over ⊎ LeavesOnHullWithPost source relation old over
+
+-- generators of the post come to an overflow, and then the post does, which is shown
+pub record LeavesBothWays (source relation old : Polyhedron) (over : Overflow) : Type 0 where
+  pub first : Overflow
+  pub by_generators : LeavesByGenerators source relation old first
+  pub by_post : LeavesByPost source relation old over
 
 -- an overflow of finding what a transition joins
 pub record LeavesInJoin (transition : Transition) (sets : List Polyhedron) (over : Overflow) : Type 0 where
@@ -45,7 +68,7 @@ pub record LeavesInJoin (transition : Transition) (sets : List Polyhedron) (over
   pub old : Polyhedron
   pub has_source : slice_get sets transition.source ≡ Some source
   pub has_old : slice_get sets transition.target ≡ Some old
-  pub leaves : LeavesOnPost source transition.relation over ⊎ LeavesOnHull source transition.relation old over
+  pub leaves : LeavesBothWays source transition.relation old over
 
 -- ---- the turns of a system
 abbrev pub target_of : Option Transition → ℕ

@@ -31,7 +31,8 @@ pub fn run<L: Ledger>(
     ensures limit { IfOk result (λ sets. HasLimit system.now delay sets.items) }
     ensures sets { IfOk result (λ sets. AreSetsOf system.now sets.items) }
     ensures includes_initial { IfOk result (λ sets. IncludeInitial system.now sets.items) }
-    ensures closed_under_transitions { IfOk result (λ sets. AreClosedUnder system.now.transitions sets.items) }
+    ensures closed_under_transitions { IfOk result
+        (λ sets. AreClosedUnder system.now.transitions sets.items) }
     ensures overflow { IfErr result (IsOverflowIn (LeavesInRun system.now delay)) }
 {
     let initial = system.init_sets()?;

@@ -1,10 +1,9 @@
 //! The transitions of a system as turns of a run.
-ghost use Rattle.std.specs.Prelude.{◌≡◌, ◌*◌, ◌<◌, ◌⊎◌, length, slice_get, Some, IfOk, IfErr};
+ghost use Rattle.std.specs.Prelude.{◌≡◌, ◌*◌, IfOk, IfErr};
 ghost use Rattle.poly_pair.specs.ClosedPolyhedra.{IsClosedOver};
 ghost use Rattle.row_core.specs.Refusals.{IsOverflowIn};
 ghost use Rattle.widening.specs.RunLaws.{IsFound};
-ghost use Rattle.fixpoint.specs.PostLists.{LeavesOnPost};
-ghost use Rattle.fixpoint.specs.Runs.{IsJoined, LeavesOnHull};
+ghost use Rattle.fixpoint.specs.Runs.{IsHullWithSuccessors, LeavesByGenerators, LeavesByPost, LeavesBothWays};
 
 use crate::successors::post;
 use affine_ops::post_generators;
@@ -13,7 +12,7 @@ use poly_pair::Poly;
 use row_core::{ConvErr, Steps};
 use std::alloc::Global;
 use std::sync::ledger::Ledger;
-use trans_sys::System;
+use trans_sys::{System, set_of};
 use widening::Turns;
 
 /// What [`joined`] gives, by generators of the post, which isn't made where the set of the target has all that they
@@ -28,7 +27,10 @@ fn joined_by_generators<L: Ledger>(
     requires source { IsClosedOver old.now.cons.dim source.now }
     requires relation { IsClosedOver (2 * old.now.cons.dim) relation.now }
     requires old { IsClosedOver old.now.cons.dim old.now }
-    ensures { IfOk result (IsFound (IsJoined source.now relation.now old.now) old.now) }
+    ensures found { IfOk result
+        (IsFound (IsHullWithSuccessors source.now relation.now old.now) old.now) }
+    ensures overflow { IfErr result
+        (IsOverflowIn (LeavesByGenerators source.now relation.now old.now)) }
 {
     let _fit = old.cons().dim();
     let found = match post_generators(alloc, source, relation, steps) {
@@ -52,8 +54,9 @@ fn joined_by_post<L: Ledger>(
     requires source { IsClosedOver old.now.cons.dim source.now }
     requires relation { IsClosedOver (2 * old.now.cons.dim) relation.now }
     requires old { IsClosedOver old.now.cons.dim old.now }
-    ensures found { IfOk result (IsFound (IsJoined source.now relation.now old.now) old.now) }
-    ensures overflow { IfErr result (IsOverflowIn (λ over. LeavesOnPost source.now relation.now over ⊎ LeavesOnHull source.now relation.now old.now over)) }
+    ensures found { IfOk result
+        (IsFound (IsHullWithSuccessors source.now relation.now old.now) old.now) }
+    ensures overflow { IfErr result (IsOverflowIn (LeavesByPost source.now relation.now old.now)) }
 {
     let successors = match post(alloc, source, relation, steps) {
         Ok(successors) => successors,
@@ -75,22 +78,16 @@ fn joined<L: Ledger>(
     requires source { IsClosedOver old.now.cons.dim source.now }
     requires relation { IsClosedOver (2 * old.now.cons.dim) relation.now }
     requires old { IsClosedOver old.now.cons.dim old.now }
-    ensures found { IfOk result (IsFound (IsJoined source.now relation.now old.now) old.now) }
-    ensures overflow { IfErr result (IsOverflowIn (λ over. LeavesOnPost source.now relation.now over ⊎ LeavesOnHull source.now relation.now old.now over)) }
+    ensures found { IfOk result
+        (IsFound (IsHullWithSuccessors source.now relation.now old.now) old.now) }
+    ensures overflow { IfErr result
+        (IsOverflowIn (LeavesBothWays source.now relation.now old.now)) }
 {
     match joined_by_generators(alloc, source, relation, old, steps) {
         Ok(found) => Ok(found),
         Err(ConvErr::Memory) => Err(ConvErr::Memory),
         Err(ConvErr::Overflow(_)) => joined_by_post(alloc, source, relation, old, steps),
     }
-}
-
-/// Lends the set of a location.
-fn lent(sets: &[Poly], location: usize) -> &Poly
-    requires { location < length sets.now }
-    ensures { slice_get sets.now location ≡ Some result.now }
-{
-    &sets[location]
 }
 
 /// The transitions of a system in order.
@@ -109,8 +106,7 @@ impl Turns for Transitions<'_> {
     }
 
     fn place(&self, index: usize) -> usize {
-        let (_, target, _) = self.system.trans(index);
-        target
+        self.system.trans(index).target
     }
 
     fn found<L: Ledger>(
@@ -120,12 +116,12 @@ impl Turns for Transitions<'_> {
         sets: &[Poly],
         steps: &mut Steps<L>,
     ) -> Result<Option<Poly>, ConvErr> {
-        let (source, target, relation) = self.system.trans(index);
+        let transition = self.system.trans(index);
         joined(
             alloc,
-            lent(sets, source),
-            relation,
-            lent(sets, target),
+            set_of(sets, transition.source),
+            &transition.relation,
+            set_of(sets, transition.target),
             steps,
         )
     }

@@ -1,21 +1,34 @@
 use Rattle.std.proofs.Common.{subst}
-use Rattle.std.proofs.lemmas.Result.{IfOk-weaker}
+use Rattle.std.proofs.lemmas.Result.{IfOk-weaker, IfErr-weaker}
 use Rattle.cons_sys.specs.Constraints.{FitDimension}
 use Rattle.lattice_ops.specs.Growing.{IsGrownBy}
 use Rattle.affine_ops.specs.Posts.{SpanPostIfAny}
 use Rattle.widening.specs.RunLaws.{IsFound}
-use Rattle.fixpoint.specs.Runs.{IsJoined}
-use Rattle.fixpoint.proofs.SystemTurns.{found_without, found_by_generators}
+use Rattle.poly_pair.specs.Refusals.{IsOverflowOn}
+use Rattle.poly_pair.specs.Work.{added_gens}
+use Rattle.poly_pair.proofs.WorkLemmas.{overflow_clause}
+use Rattle.row_core.specs.Refusals.{IsOverflowIn}
+use Rattle.fixpoint.specs.Runs.{IsHullWithSuccessors, LeavesByGenerators}
+use Rattle.fixpoint.proofs.SystemTurns.{found_without, found_by_generators, growth_leaves}
 use Rattle.fixpoint.proofs.transitions.joined_by_generators.Goals as goal
 
-pub returns-in_default : goal.returns-in_default
-returns-in_default g c =
+pub returns-in_default-clause-found : goal.returns-in_default-clause-found
+returns-in_default-clause-found g c =
     found_without c.args.source.now c.args.relation.now c.args.old.now c.requires.source c.requires.old (subst FitDimension c.cons.ensures.value c.dim-fit.ensures.rows)
     (subst (SpanPostIfAny c.args.source.now c.args.relation.now) c.in_default.is c.in-Ok.ensures.generators)
 
-pub returns : goal.returns
-returns g c =
+pub returns-clause-found : goal.returns-clause-found
+returns-clause-found g c =
     let old = c.args.old.now in
-    IfOk-weaker c.grown_by.result (IsGrownBy old c.in-Some.generators) (IsFound (IsJoined c.args.source.now c.args.relation.now old) old)
+    IfOk-weaker c.grown_by.result (IsGrownBy old c.in-Some.generators) (IsFound (IsHullWithSuccessors c.args.source.now c.args.relation.now old) old)
     (found_by_generators c.args.source.now c.args.relation.now old c.requires.source c.requires.old (subst FitDimension c.cons.ensures.value c.dim-fit.ensures.rows) c.in-Some.generators
     (subst (SpanPostIfAny c.args.source.now c.args.relation.now) c.in-Some.is c.in-Ok.ensures.generators)) c.grown_by.ensures.grown
+
+pub returns-clause-overflow : goal.returns-clause-overflow
+returns-clause-overflow g c =
+    let old = c.args.old.now in
+    let gens = c.in-Some.generators in
+    let work = added_gens old gens in
+    IfErr-weaker c.grown_by.result (IsOverflowOn work.width work.column work.rows) (IsOverflowIn (LeavesByGenerators c.args.source.now c.args.relation.now old))
+    (growth_leaves c.args.source.now c.args.relation.now old gens (subst (SpanPostIfAny c.args.source.now c.args.relation.now) c.in-Some.is c.in-Ok.ensures.generators))
+    (overflow_clause _ _ _ c.grown_by.result c.grown_by.ensures.conversion)
