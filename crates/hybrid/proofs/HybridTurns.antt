@@ -9,9 +9,9 @@ use Rattle.trans_sys.specs.Systems.{IsTransition}
 use Rattle.widening.specs.RunLaws.{AreSetsOf, AreProper, IsAbove, IsFound}
 use Rattle.row_core.specs.Refusals.{IsOverflowIn}
 use Rattle.widening.proofs.Places.{same_at, has_at, all_at}
-use Rattle.hybrid.specs.Systems.{HybridSystem, IsKeptHybrid}
+use Rattle.hybrid.specs.Systems.{HybridAutomaton, IsKeptHybrid}
 use Rattle.hybrid.specs.Steps.{IsTimePost, IsJumpPost, LeavesOnTime, LeavesOnJump}
-use Rattle.hybrid.specs.Turns.{Turn, time, jump, IsHullWith, IsOfTime, IsOfJump, Joins, LeavesAfter, LeavesInTime, LeavesInJump, Leaves, turn_at, place_of, turns_of}
+use Rattle.hybrid.specs.Turns.{Turn, time, jump, IsHullWithPost, IsOfTime, IsOfJump, Joins, LeavesAfter, LeavesInTime, LeavesInJump, Leaves, turn_at, place_of, turns_of}
 use Rattle.hybrid.proofs.Joined.{hull_above, found_as}
 
 lt_true : (k n : ℕ) → k < n → nat_lt k n ≡ true
@@ -20,7 +20,7 @@ lt_true k n h = search (arith, h)
 lt_false : (k n : ℕ) → ¬ (k < n) → nat_lt k n ≡ false
 lt_false k n h = search (arith, h)
 
-module _ (h : HybridSystem) where
+module _ (h : HybridAutomaton) where
   pub at_time : (k : ℕ) → k < length h.system.initial → turn_at h k ≡ time k
   at_time k b = ap (λ (x : Bool). cond x (time k) (jump (slice_get h.system.transitions (k - length h.system.initial)))) (lt_true k (length h.system.initial) b)
 
@@ -65,23 +65,23 @@ module _ (h : HybridSystem) where
 
   -- ---- what a turn finds
   module _ (sets : List Polyhedron) (l : ℕ) (old inv flow : Polyhedron) (has_old : slice_get sets l ≡ Some old) (has_inv : slice_get h.invariants l ≡ Some inv) (has_flow : slice_get h.flows l ≡ Some flow) where
-    pub found_time : (o : Option Polyhedron) → IsFound (IsHullWith (IsTimePost old inv flow) old) old o → (other : Polyhedron) → slice_get sets l ≡ Some other → IsFound (IsOfTime h l sets) other o
+    pub found_time : (o : Option Polyhedron) → IsFound (IsHullWithPost (IsTimePost old inv flow) old) old o → (other : Polyhedron) → slice_get sets l ≡ Some other → IsFound (IsOfTime h l sets) other o
     found_time o f other at =
         subst (λ (p : Polyhedron). IsFound (IsOfTime h l sets) p o) (same_at sets l old other has_old at)
-        (found_as (IsHullWith (IsTimePost old inv flow) old) (IsOfTime h l sets) (λ joined j. record { old = old; inv = inv; flow = flow; has_old = has_old; has_inv = has_inv; has_flow = has_flow; is_joined = j }) old o f)
+        (found_as (IsHullWithPost (IsTimePost old inv flow) old) (IsOfTime h l sets) (λ joined j. record { old = old; inv = inv; flow = flow; has_old = has_old; has_inv = has_inv; has_flow = has_flow; is_joined = j }) old o f)
 
     pub leaves_time : (e : ConvErr) → IsOverflowIn (λ over. LeavesOnTime old inv flow over ⊎ LeavesAfter (IsTimePost old inv flow) old over) e → IsOverflowIn (LeavesInTime h l sets) e
     leaves_time (conversion.Overflow over) p = record { old = old; inv = inv; flow = flow; has_old = has_old; has_inv = has_inv; has_flow = has_flow; leaves = p }
     leaves_time conversion.Memory p = tt
 
   module _ (sets : List Polyhedron) (t : Transition) (source inv old target_inv : Polyhedron) (has_source : slice_get sets t.source ≡ Some source) (has_inv : slice_get h.invariants t.source ≡ Some inv) (has_old : slice_get sets t.target ≡ Some old) (has_target_inv : slice_get h.invariants t.target ≡ Some target_inv) where
-    of_jump : (joined : Polyhedron) → IsHullWith (IsJumpPost source inv t.relation target_inv) old joined → IsOfJump h t sets joined
+    of_jump : (joined : Polyhedron) → IsHullWithPost (IsJumpPost source inv t.relation target_inv) old joined → IsOfJump h t sets joined
     of_jump joined j = record { source = source; inv = inv; old = old; target_inv = target_inv; has_source = has_source; has_inv = has_inv; has_old = has_old; has_target_inv = has_target_inv; is_joined = j }
 
-    pub found_jump : (i : ℕ) → slice_get h.system.transitions i ≡ Some t → (o : Option Polyhedron) → IsFound (IsHullWith (IsJumpPost source inv t.relation target_inv) old) old o → (u : Transition) (other : Polyhedron) → slice_get h.system.transitions i ≡ Some u → slice_get sets u.target ≡ Some other → IsFound (IsOfJump h u sets) other o
+    pub found_jump : (i : ℕ) → slice_get h.system.transitions i ≡ Some t → (o : Option Polyhedron) → IsFound (IsHullWithPost (IsJumpPost source inv t.relation target_inv) old) old o → (u : Transition) (other : Polyhedron) → slice_get h.system.transitions i ≡ Some u → slice_get sets u.target ≡ Some other → IsFound (IsOfJump h u sets) other o
     found_jump i at o f u other has at_other =
         subst (λ (x : Transition). (p : Polyhedron) → slice_get sets x.target ≡ Some p → IsFound (IsOfJump h x sets) p o) (same_at h.system.transitions i t u at has)
-        (λ p at_p. subst (λ (q : Polyhedron). IsFound (IsOfJump h t sets) q o) (same_at sets t.target old p has_old at_p) (found_as (IsHullWith (IsJumpPost source inv t.relation target_inv) old) (IsOfJump h t sets) of_jump old o f)) other at_other
+        (λ p at_p. subst (λ (q : Polyhedron). IsFound (IsOfJump h t sets) q o) (same_at sets t.target old p has_old at_p) (found_as (IsHullWithPost (IsJumpPost source inv t.relation target_inv) old) (IsOfJump h t sets) of_jump old o f)) other at_other
 
     pub leaves_jump : (i : ℕ) → slice_get h.system.transitions i ≡ Some t → (e : ConvErr) → IsOverflowIn (λ over. LeavesOnJump source inv t.relation target_inv over ⊎ LeavesAfter (IsJumpPost source inv t.relation target_inv) old over) e → IsOverflowIn (λ over. (u : Transition) → slice_get h.system.transitions i ≡ Some u → LeavesInJump h u sets over) e
     leaves_jump i at (conversion.Overflow over) p = λ u has. subst (λ (x : Transition). LeavesInJump h x sets over) (same_at h.system.transitions i t u at has) (record { source = source; inv = inv; old = old; target_inv = target_inv; has_source = has_source; has_inv = has_inv; has_old = has_old; has_target_inv = has_target_inv; leaves = p })

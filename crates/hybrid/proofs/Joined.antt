@@ -14,25 +14,25 @@ use Rattle.lattice_ops.specs.Growing.{IsGrown}
 use Rattle.row_core.specs.Refusals.{IsOverflowIn}
 use Rattle.widening.specs.RunLaws.{IsAbove, IsFound}
 use Rattle.widening.proofs.TurnLemmas.{enlarged}
-use Rattle.hybrid.specs.Turns.{IsHullWith, LeavesAfter}
+use Rattle.hybrid.specs.Turns.{IsHullWithPost, LeavesAfter}
 
 module _ (IsMade : Polyhedron → Type 0) (d : ℕ) (old : Polyhedron) (o : IsClosedOver d old) where
-  pub hull_above : (joined : Polyhedron) → IsHullWith IsMade old joined → IsAbove d old joined
+  pub hull_above : (joined : Polyhedron) → IsHullWithPost IsMade old joined → IsAbove d old joined
   hull_above joined j = record {
     closed = record { kept = j.joined_kept; over = record { same_topology = j.is_hull.over.same_topology ∙ o.over.same_topology; same_dim = j.is_hull.over.same_dim ∙ o.over.same_dim } };
     includes = λ v pt h. (j.is_hull.points v pt).1 (λ c is in_old in_post. in_old v pt h);
   }
 
   -- the post is in the hull
-  pub hull_takes : (joined : Polyhedron) → (j : IsHullWith IsMade old joined) → IsClosedOver d j.post → (v : List ℤ) → IsPoint d v → In j.post.cons v → In joined.cons v
+  pub hull_takes : (joined : Polyhedron) → (j : IsHullWithPost IsMade old joined) → IsClosedOver d j.post → (v : List ℤ) → IsPoint d v → In j.post.cons v → In joined.cons v
   hull_takes joined j c v pt h =
       (j.is_hull.points v (subst (λ (n : ℕ). IsPoint n v) (sym o.over.same_dim) pt)).1 (λ a is in_old in_post. in_post v (subst (λ (n : ℕ). IsPoint n v) (sym c.over.same_dim) pt) h)
 
-  pub found_of : (post : Polyhedron) → IsMade post → (r : Option Polyhedron) → IsGrown old post r → IsFound (IsHullWith IsMade old) old r
+  pub found_of : (post : Polyhedron) → IsMade post → (r : Option Polyhedron) → IsGrown old post r → IsFound (IsHullWithPost IsMade old) old r
   found_of post m None h = record { joined = h.hull; is_joined = record { post = post; is_post = m; is_hull = h.is_hull; joined_kept = h.kept }; same = h.same }
   found_of post m (Some hull) h = record { is_joined = j; enlarged = enlarged d old hull o (hull_above hull j) h.differs }
     where
-      j : IsHullWith IsMade old hull
+      j : IsHullWithPost IsMade old hull
       j = record { post = post; is_post = m; is_hull = h.is_hull; joined_kept = h.kept }
 
 -- an overflow of the hull, behind others

@@ -12,10 +12,10 @@ use Rattle.widening.specs.RunLaws.{AreSetsOf, JoinOne}
 use Rattle.widening.proofs.Places.{same_at, has_at, all_at}
 use Rattle.widening.proofs.RoundLemmas.{start_table, rounds_table}
 use Rattle.widening.proofs.OneRun.{one_set, one_limit}
-use Rattle.hybrid.specs.Systems.{HybridSystem, IsKeptHybrid}
+use Rattle.hybrid.specs.Systems.{HybridAutomaton, IsKeptHybrid}
 use Rattle.affine_ops.specs.Posts.{IsPost}
 use Rattle.hybrid.specs.Steps.{IsPartIn, IsFlown, IsTimePost, IsJumpPost}
-use Rattle.hybrid.specs.Turns.{Turn, time, jump, IsHullWith, Joins, turn_at, turns_of}
+use Rattle.hybrid.specs.Turns.{Turn, time, jump, IsHullWithPost, Joins, turn_at, turns_of}
 use Rattle.hybrid.specs.Reaches.{AreParts, HasOneReach}
 use Rattle.hybrid.proofs.Closed.{part_closed, post_closed}
 use Rattle.hybrid.proofs.Joined.{hull_above}
@@ -60,7 +60,7 @@ one_jump d set inv relation target_inv one other c i h k =
     one_part d target_inv h.successors one other i h.is_part (subst (λ (p : Polyhedron). IsPartIn target_inv p other) again k.is_part)
 
 -- ---- turns
-one_hull : (IsMade : Polyhedron → Type 0) → ((a b : Polyhedron) → IsMade a → IsMade b → a ≡ b) → (d : ℕ) (old one other : Polyhedron) → IsClosedOver d old → IsHullWith IsMade old one → IsHullWith IsMade old other → one ≡ other
+one_hull : (IsMade : Polyhedron → Type 0) → ((a b : Polyhedron) → IsMade a → IsMade b → a ≡ b) → (d : ℕ) (old one other : Polyhedron) → IsClosedOver d old → IsHullWithPost IsMade old one → IsHullWithPost IsMade old other → one ≡ other
 one_hull IsMade alone d old one other o j k =
     one_set d one other (hull_above IsMade d old o one j).closed (hull_above IsMade d old o other k).closed
     (λ v pt. let at = subst (λ (n : ℕ). IsPoint n v) j.is_hull.over.same_dim pt in ((λ i. (hull.points v at).1 ((j.is_hull.points v at).0 i)), (λ i. (j.is_hull.points v at).1 ((hull.points v at).0 i))))
@@ -68,7 +68,7 @@ one_hull IsMade alone d old one other o j k =
     hull : IsHull old j.post other
     hull = subst (λ (p : Polyhedron). IsHull old p other) (alone k.post j.post k.is_post j.is_post) k.is_hull
 
-module _ (h : HybridSystem) (kept : IsKeptHybrid h) where
+module _ (h : HybridAutomaton) (kept : IsKeptHybrid h) where
   inv_closed : (l : ℕ) (p : Polyhedron) → slice_get h.invariants l ≡ Some p → IsClosedOver h.system.dim p
   inv_closed l p at = all_at (IsClosedOver h.system.dim) h.invariants l p kept.invariants.each at
 
@@ -79,7 +79,7 @@ module _ (h : HybridSystem) (kept : IsKeptHybrid h) where
       let flow : k.flow ≡ j.flow = same_at h.flows l k.flow j.flow k.has_flow j.has_flow in
       let closed = set_at h sets l j.old are j.has_old in
       one_hull (IsTimePost j.old j.inv j.flow) (λ a b. one_time h.system.dim j.old j.inv j.flow a b closed (inv_closed l j.inv j.has_inv)) h.system.dim j.old one other closed j.is_joined
-      (subst (λ (p : Polyhedron). IsHullWith (IsTimePost j.old j.inv p) j.old other) flow (subst (λ (p : Polyhedron). IsHullWith (IsTimePost j.old p k.flow) j.old other) inv (subst (λ (p : Polyhedron). IsHullWith (IsTimePost p k.inv k.flow) p other) old k.is_joined)))
+      (subst (λ (p : Polyhedron). IsHullWithPost (IsTimePost j.old j.inv p) j.old other) flow (subst (λ (p : Polyhedron). IsHullWithPost (IsTimePost j.old p k.flow) j.old other) inv (subst (λ (p : Polyhedron). IsHullWithPost (IsTimePost p k.inv k.flow) p other) old k.is_joined)))
   one_of_turn (jump None) sets one other are j k = absurd j
   one_of_turn (jump (Some t)) sets one other are j k =
       let source : k.source ≡ j.source = same_at sets t.source k.source j.source k.has_source j.has_source in
@@ -87,10 +87,10 @@ module _ (h : HybridSystem) (kept : IsKeptHybrid h) where
       let old : k.old ≡ j.old = same_at sets t.target k.old j.old k.has_old j.has_old in
       let target : k.target_inv ≡ j.target_inv = same_at h.invariants t.target k.target_inv j.target_inv k.has_target_inv j.has_target_inv in
       one_hull (IsJumpPost j.source j.inv t.relation j.target_inv) (λ a b. one_jump h.system.dim j.source j.inv t.relation j.target_inv a b (set_at h sets t.source j.source are j.has_source) (inv_closed t.target j.target_inv j.has_target_inv)) h.system.dim j.old one other (set_at h sets t.target j.old are j.has_old) j.is_joined
-      (subst (λ (p : Polyhedron). IsHullWith (IsJumpPost j.source j.inv t.relation p) j.old other) target
-      (subst (λ (p : Polyhedron). IsHullWith (IsJumpPost j.source p t.relation k.target_inv) j.old other) inv
-      (subst (λ (p : Polyhedron). IsHullWith (IsJumpPost p k.inv t.relation k.target_inv) j.old other) source
-      (subst (λ (p : Polyhedron). IsHullWith (IsJumpPost k.source k.inv t.relation k.target_inv) p other) old k.is_joined))))
+      (subst (λ (p : Polyhedron). IsHullWithPost (IsJumpPost j.source j.inv t.relation p) j.old other) target
+      (subst (λ (p : Polyhedron). IsHullWithPost (IsJumpPost j.source p t.relation k.target_inv) j.old other) inv
+      (subst (λ (p : Polyhedron). IsHullWithPost (IsJumpPost p k.inv t.relation k.target_inv) j.old other) source
+      (subst (λ (p : Polyhedron). IsHullWithPost (IsJumpPost k.source k.inv t.relation k.target_inv) p other) old k.is_joined))))
 
   join_one : JoinOne (turns_of h)
   join_one k sets one other below are j l = one_of_turn (turn_at h k) sets one other are j l

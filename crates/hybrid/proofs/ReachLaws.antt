@@ -15,7 +15,7 @@ use Rattle.widening.specs.RunLaws.{AreSetsOf, IncludeEach, AreTaken}
 use Rattle.widening.specs.Widenings.{IsPartOf}
 use Rattle.widening.proofs.Places.{some_same, same_at, has_at, all_at}
 use Rattle.widening.proofs.OneRun.{one_set}
-use Rattle.hybrid.specs.Systems.{HybridSystem, IsKeptHybrid}
+use Rattle.hybrid.specs.Systems.{HybridAutomaton, IsKeptHybrid}
 use Rattle.affine_ops.specs.Posts.{IsStepTo}
 use Rattle.hybrid.specs.Steps.{IsPartIn, IsFlown, IsTimePost, IsJumpPost}
 use Rattle.hybrid.specs.Turns.{Turn, jump, IsOfTime, IsOfJump, Joins, turn_at, place_of, turns_of}
@@ -72,7 +72,7 @@ jump_takes d set inv relation target_inv post part c i p h y pt step inside =
     ((h.is_post.points y (point_at d h.start.cons.dim y (sym closed.over.same_dim) pt)).1 (subst (λ (r : Polyhedron). IsStepTo r.cons relation.cons y) (one_part d set inv part h.start c p h.is_start) step))
 
 -- ---- the three promises
-module _ (h : HybridSystem) (kept : IsKeptHybrid h) (sets parts : List Polyhedron) (are : AreSetsOf h.system.dim (length h.system.initial) sets) (of : AreParts h.invariants sets parts) where
+module _ (h : HybridAutomaton) (kept : IsKeptHybrid h) (sets parts : List Polyhedron) (are : AreSetsOf h.system.dim (length h.system.initial) sets) (of : AreParts h.invariants sets parts) where
   inv_at : (l : ℕ) (p : Polyhedron) → slice_get h.invariants l ≡ Some p → IsClosedOver h.system.dim p
   inv_at l p at = all_at (IsClosedOver h.system.dim) h.invariants l p kept.invariants.each at
 

@@ -10,6 +10,7 @@ use Rattle.affine_ops.specs.Results.{IsPreimage}
 use Rattle.affine_ops.specs.Refusals.{LeavesOnPulled, LeavesOnMapped}
 use Rattle.elapse.specs.Elapses.{IsElapse, LeavesOnElapse}
 use Rattle.affine_ops.specs.Posts.{IsPost}
+use Rattle.affine_ops.specs.PostLists.{LeavesOnSteps}
 
 -- the polyhedron of the points that are in both
 pub record IsPartIn (p q part : Polyhedron) : Type 0 where
@@ -77,7 +78,7 @@ IsEmbedded set embedded = IsPreimage (without set.cons.dim (set.cons.dim + set.c
 abbrev pub behind : ℕ → List ℕ
 behind n = range_with_len 0 n
 
-pub record LeavesOnPairs (set relation : Polyhedron) (over : Overflow) : Type 0 where
+pub record LeavesOnEmbeddedPairs (set relation : Polyhedron) (over : Overflow) : Type 0 where
   pub embedded : Polyhedron
   pub is_embedded : IsEmbedded set embedded
   pub embedded_kept : IsKept embedded
@@ -92,13 +93,19 @@ pub record LeavesOnTargets (set relation : Polyhedron) (over : Overflow) : Type 
   pub leaves : LeavesOnMapped (remaining pairs.cons.dim (behind set.cons.dim)) (length (kept_variables pairs.cons.dim (behind set.cons.dim))) pairs over
 
 -- those of the set with free variables, of the meet with the relation and of leaving the first variables out
-abbrev pub LeavesOnPost : Polyhedron → Polyhedron → Overflow → Type 0
-LeavesOnPost set relation over = LeavesOnPulled (with_zeros set.cons.dim set.cons.dim) (set.cons.dim + set.cons.dim) set over ⊎ LeavesOnPairs set relation over ⊎ LeavesOnTargets set relation over
+abbrev pub LeavesOnEmbedding : Polyhedron → Polyhedron → Overflow → Type 0
+LeavesOnEmbedding set relation over = LeavesOnPulled (with_zeros set.cons.dim set.cons.dim) (set.cons.dim + set.cons.dim) set over ⊎ LeavesOnEmbeddedPairs set relation over ⊎ LeavesOnTargets set relation over
+
+-- the conversion of the list of the relation's constraints and then the set's leaves the range, and then one of these does, which is shown
+pub record LeavesOnEmbeddedPost (set relation : Polyhedron) (over : Overflow) : Type 0 where
+  pub first : Overflow
+  pub by_steps : LeavesOnSteps set relation first
+  pub by_embedding : LeavesOnEmbedding set relation over
 
 pub record LeavesOnStep (set inv relation : Polyhedron) (over : Overflow) : Type 0 where
   pub start : Polyhedron
   pub is_start : IsPartIn set inv start
-  pub leaves : LeavesOnPost start relation over
+  pub leaves : LeavesOnEmbeddedPost start relation over
 
 pub record LeavesOnArrival (set inv relation target_inv : Polyhedron) (over : Overflow) : Type 0 where
   pub start : Polyhedron

@@ -1,4 +1,4 @@
-//! Hybrid systems.
+//! Linear hybrid automata.
 ghost use Rattle.std.specs.Prelude.{◌≡◌, ◌<◌, ◌≤◌, length, slice_get, Some, All, IfOk};
 ghost use Rattle.poly_pair.specs.declared.topology.Topology.TheVariants.{Closed};
 ghost use Rattle.poly_pair.specs.declared.topology.TheConstants.{MAX_DIM};
@@ -10,10 +10,10 @@ use poly_pair::{Poly, Topology};
 use row_core::Memory;
 use std::alloc::Global;
 use std::marker::Model;
-use trans_sys::System;
+use trans_sys::{System, empty_sets};
 
-/// A transition system, and for each location an invariant, the states in which it may stay, and a flow, the
-/// velocities with which its state moves there. All are closed polyhedra.
+/// A linear hybrid automaton: a transition system, and for each location an invariant, the states in which it may
+/// stay, and a flow, the velocities with which its state moves there. All are closed polyhedra.
 #[derive(Debug, Drop)]
 pub struct Hybrid {
     system: System,
@@ -22,9 +22,9 @@ pub struct Hybrid {
 }
 
 impl Model for Hybrid {
-    ghost use Rattle.hybrid.specs.Systems.{HybridSystem, IsKeptHybrid};
+    ghost use Rattle.hybrid.specs.Systems.{HybridAutomaton, IsKeptHybrid};
 
-    ghost Value = { HybridSystem };
+    ghost Value = { HybridAutomaton };
 
     ghost view = { λ h. record { system = h.system; invariants = h.invariants.items; flows = h.flows.items } };
 
@@ -47,29 +47,15 @@ fn universes(alloc: Global, dim: usize, count: usize) -> Result<Vec<Poly>, Memor
     Ok(sets)
 }
 
-/// So many empty closed polyhedra of a dimension.
-fn empty_sets(alloc: Global, dim: usize, count: usize) -> Result<Vec<Poly>, Memory>
-    requires { dim ≤ MAX_DIM }
-    ensures count { IfOk result (λ sets. length sets.items ≡ count) }
-    ensures empty { IfOk result (λ sets. All (IsEmpty Closed dim) sets.items) }
-    ensures closed { IfOk result (λ sets. All (IsClosedOver dim) sets.items) }
-{
-    let mut sets = Vec::new(alloc);
-    for _ in 0..count {
-        let set = Poly::empty(alloc, Topology::Closed, dim)?;
-        let _kept = set.dim();
-        sets.push(set)?;
-    }
-    Ok(sets)
-}
-
 impl Hybrid {
-    /// The system with the universe as each invariant and empty flows, so that no time passes. On want of memory
-    /// the system is dropped.
+    /// The automaton of the system with the universe as each invariant and empty flows, so that no time passes. On
+    /// want of memory the system is dropped.
     pub fn new(alloc: Global, system: System) -> Result<Hybrid, Memory>
         ensures system { IfOk result (λ h. h.system ≡ system) }
         ensures invariants { IfOk result (λ h. All (IsUniverse Closed system.dim) h.invariants) }
+        ensures invariant_count { IfOk result (λ h. length h.invariants ≡ length system.initial) }
         ensures flows { IfOk result (λ h. All (IsEmpty Closed system.dim) h.flows) }
+        ensures flow_count { IfOk result (λ h. length h.flows ≡ length system.initial) }
     {
         let invariants = universes(alloc, system.dim(), system.locs())?;
         let flows = empty_sets(alloc, system.dim(), system.locs())?;
@@ -80,7 +66,7 @@ impl Hybrid {
         })
     }
 
-    /// Lends the system.
+    /// Lends the transition system.
     #[inline]
     pub fn system(&self) -> &System
         ensures value { result.now ≡ self.now.system }

@@ -27,7 +27,8 @@ pub(crate) fn jump_post<L: Ledger>(
     requires relation { IsClosedOver (2 * target_inv.now.cons.dim) relation.now }
     requires target_inv { IsClosedOver target_inv.now.cons.dim target_inv.now }
     ensures post { IfOk result (IsJumpPost set.now inv.now relation.now target_inv.now) }
-    ensures overflow { IfErr result (IsOverflowIn (LeavesOnJump set.now inv.now relation.now target_inv.now)) }
+    ensures overflow { IfErr result
+        (IsOverflowIn (LeavesOnJump set.now inv.now relation.now target_inv.now)) }
 {
     let start = match part_in(alloc, set, inv, steps) {
         Ok(start) => start,

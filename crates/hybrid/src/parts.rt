@@ -1,5 +1,5 @@
 //! Parts of sets in invariants.
-ghost use Rattle.std.specs.Prelude.{◌≡◌, ◌<◌, length, slice_get, Some, IfOk, IfErr};
+ghost use Rattle.std.specs.Prelude.{◌≡◌, IfOk, IfErr};
 ghost use Rattle.row_core.specs.Refusals.{IsOverflowIn};
 ghost use Rattle.hybrid.specs.Steps.{IsPartIn, LeavesOnMeet};
 
@@ -28,12 +28,4 @@ pub(crate) fn part_in<L: Ledger>(
         }
         Err(cause) => Err(cause),
     }
-}
-
-/// Lends the set of a location.
-pub(crate) fn lent(sets: &[Poly], location: usize) -> &Poly
-    requires { location < length sets.now }
-    ensures { slice_get sets.now location ≡ Some result.now }
-{
-    &sets[location]
 }

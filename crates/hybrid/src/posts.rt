@@ -4,7 +4,7 @@ ghost use Rattle.poly_pair.specs.declared.topology.TheConstants.{MAX_DIM};
 ghost use Rattle.poly_pair.specs.ClosedPolyhedra.{IsClosedOver};
 ghost use Rattle.row_core.specs.Refusals.{IsOverflowIn};
 ghost use Rattle.affine_ops.specs.Posts.{IsPost};
-ghost use Rattle.hybrid.specs.Steps.{behind, LeavesOnPost};
+ghost use Rattle.hybrid.specs.Steps.{behind, LeavesOnEmbedding, LeavesOnEmbeddedPost};
 
 use crate::parts::part_in;
 use affine_ops::{embed, post_from, remove_dims};
@@ -35,7 +35,7 @@ fn post_of_embedded<L: Ledger>(
     requires set { IsClosedOver set.now.cons.dim set.now }
     requires relation { IsClosedOver (2 * set.now.cons.dim) relation.now }
     ensures post { IfOk result (IsPost set.now relation.now) }
-    ensures overflow { IfErr result (IsOverflowIn (LeavesOnPost set.now relation.now)) }
+    ensures overflow { IfErr result (IsOverflowIn (LeavesOnEmbedding set.now relation.now)) }
 {
     let dim = set.dim();
     let embedded = match embed(alloc, set, dim, steps) {
@@ -64,7 +64,7 @@ pub(crate) fn post<L: Ledger>(
     requires set { IsClosedOver set.now.cons.dim set.now }
     requires relation { IsClosedOver (2 * set.now.cons.dim) relation.now }
     ensures post { IfOk result (IsPost set.now relation.now) }
-    ensures overflow { IfErr result (IsOverflowIn (LeavesOnPost set.now relation.now)) }
+    ensures overflow { IfErr result (IsOverflowIn (LeavesOnEmbeddedPost set.now relation.now)) }
 {
     match post_from(alloc, set, relation, steps) {
         Ok(successors) => Ok(successors),

@@ -1,15 +1,16 @@
-//! The states that a hybrid system may come to.
+//! The states that an automaton may come to.
 ghost use Rattle.std.specs.Prelude.{◌≡◌, ◌<◌, ◌⊎◌, length, slice_get, Some, IfOk, IfErr};
 ghost use Rattle.row_core.specs.Refusals.{IsOverflowIn};
 ghost use Rattle.widening.specs.RunLaws.{AreSetsOf};
 ghost use Rattle.hybrid.specs.Reaches.{IsPartAt, AreParts, AreReached, LeavesInPart, LeavesInParts, LeavesInReach, IncludeInitial, AreClosedUnderFlow, AreClosedUnderJumps};
 
 use crate::hybrid::Hybrid;
-use crate::parts::{lent, part_in};
+use crate::parts::part_in;
 use poly_pair::Poly;
 use row_core::{ConvErr, Steps};
 use std::alloc::Global;
 use std::sync::ledger::Ledger;
+use trans_sys::set_of;
 
 /// The states of the set of a location that are in its invariant.
 fn part_of<L: Ledger>(
@@ -22,10 +23,11 @@ fn part_of<L: Ledger>(
     requires location { location < length sets.now }
     requires sets { AreSetsOf h.now.system.dim (length h.now.system.initial) sets.now }
     ensures part { IfOk result (IsPartAt h.now.invariants sets.now location) }
-    ensures overflow { IfErr result (IsOverflowIn (LeavesInPart h.now.invariants sets.now location)) }
+    ensures overflow { IfErr result
+        (IsOverflowIn (LeavesInPart h.now.invariants sets.now location)) }
 {
     let _kept = h.system();
-    part_in(alloc, lent(sets, location), h.inv(location), steps)
+    part_in(alloc, set_of(sets, location), h.inv(location), steps)
 }
 
 /// In each location the states of its set that are in its invariant.
@@ -50,7 +52,7 @@ fn parts_of<L: Ledger>(
     Ok(parts)
 }
 
-/// For each location a polyhedron of states that the system may come to: the part in its invariant of its set
+/// For each location a polyhedron of states that the automaton may come to: the part in its invariant of its set
 /// in the limit of the turns.
 ///
 /// The run starts with the initial sets. A round takes the time turns of the locations in order, and then the jump

@@ -1,23 +1,23 @@
-//! The turns of a hybrid system.
-ghost use Rattle.std.specs.Prelude.{◌≡◌, ◌+◌, ◌*◌, ◌≤◌, ◌<◌, ◌⊎◌, length, slice_get, Some, IfOk, IfErr};
+//! The turns of an automaton.
+ghost use Rattle.std.specs.Prelude.{◌≡◌, ◌+◌, ◌*◌, ◌≤◌, ◌<◌, length, slice_get, Some, IfOk, IfErr};
 ghost use Rattle.poly_pair.specs.declared.topology.TheConstants.{MAX_DIM};
 ghost use Rattle.poly_pair.specs.Polyhedra.{Polyhedron};
 ghost use Rattle.trans_sys.specs.declared.transition.Transition.{Transition};
 ghost use Rattle.poly_pair.specs.ClosedPolyhedra.{IsClosedOver};
 ghost use Rattle.row_core.specs.Refusals.{IsOverflowIn};
 ghost use Rattle.widening.specs.RunLaws.{AreSetsOf, IsFound};
-ghost use Rattle.hybrid.specs.Steps.{IsTimePost, IsJumpPost, LeavesOnTime, LeavesOnJump};
-ghost use Rattle.hybrid.specs.Turns.{IsHullWith, IsOfTime, IsOfJump, LeavesAfter, LeavesInTime, LeavesInJump};
+ghost use Rattle.hybrid.specs.Steps.{IsTimePost, IsJumpPost};
+ghost use Rattle.hybrid.specs.Turns.{IsHullWithPost, IsOfTime, IsOfJump, LeavesOnTimeTurn, LeavesOnJumpTurn, LeavesInTime, LeavesInJump};
 
 use crate::hybrid::Hybrid;
 use crate::jumps::jump_post;
-use crate::parts::lent;
 use crate::times::time_post;
 use lattice_ops::grown;
 use poly_pair::{MAX_DIM, Poly};
 use row_core::{ConvErr, Steps};
 use std::alloc::Global;
 use std::sync::ledger::Ledger;
+use trans_sys::set_of;
 use widening::Turns;
 
 /// What a set grows to by what time does to it, if it grows.
@@ -31,8 +31,9 @@ fn time_joined<L: Ledger>(
     requires old { IsClosedOver inv.now.cons.dim old.now }
     requires inv { IsClosedOver inv.now.cons.dim inv.now }
     requires flow { IsClosedOver inv.now.cons.dim flow.now }
-    ensures found { IfOk result (IsFound (IsHullWith (IsTimePost old.now inv.now flow.now) old.now) old.now) }
-    ensures overflow { IfErr result (IsOverflowIn (λ over. LeavesOnTime old.now inv.now flow.now over ⊎ LeavesAfter (IsTimePost old.now inv.now flow.now) old.now over)) }
+    ensures found { IfOk result
+        (IsFound (IsHullWithPost (IsTimePost old.now inv.now flow.now) old.now) old.now) }
+    ensures overflow { IfErr result (IsOverflowIn (LeavesOnTimeTurn old.now inv.now flow.now)) }
 {
     let post = match time_post(alloc, old, inv, flow, steps) {
         Ok(post) => post,
@@ -57,8 +58,10 @@ fn jump_joined<L: Ledger>(
     requires relation { IsClosedOver (2 * target_inv.now.cons.dim) relation.now }
     requires old { IsClosedOver target_inv.now.cons.dim old.now }
     requires target_inv { IsClosedOver target_inv.now.cons.dim target_inv.now }
-    ensures found { IfOk result (IsFound (IsHullWith (IsJumpPost source.now inv.now relation.now target_inv.now) old.now) old.now) }
-    ensures overflow { IfErr result (IsOverflowIn (λ over. LeavesOnJump source.now inv.now relation.now target_inv.now over ⊎ LeavesAfter (IsJumpPost source.now inv.now relation.now target_inv.now) old.now over)) }
+    ensures found { IfOk result (IsFound
+        (IsHullWithPost (IsJumpPost source.now inv.now relation.now target_inv.now) old.now) old.now) }
+    ensures overflow { IfErr result (IsOverflowIn
+        (LeavesOnJumpTurn source.now inv.now relation.now old.now target_inv.now)) }
 {
     let post = match jump_post(alloc, source, inv, relation, target_inv, steps) {
         Ok(post) => post,
@@ -77,13 +80,14 @@ fn time_turn<L: Ledger>(
 ) -> Result<Option<Poly>, ConvErr>
     requires location { location < length h.now.system.initial }
     requires sets { AreSetsOf h.now.system.dim (length h.now.system.initial) sets.now }
-    ensures found { IfOk result (λ o. (old : Polyhedron) → slice_get sets.now location ≡ Some old → IsFound (IsOfTime h.now location sets.now) old o) }
+    ensures found { IfOk result (λ o. (old : Polyhedron) → slice_get sets.now location ≡ Some old
+        → IsFound (IsOfTime h.now location sets.now) old o) }
     ensures overflow { IfErr result (IsOverflowIn (LeavesInTime h.now location sets.now)) }
 {
     let _kept = h.system();
     time_joined(
         alloc,
-        lent(sets, location),
+        set_of(sets, location),
         h.inv(location),
         h.flow(location),
         steps,
@@ -100,17 +104,20 @@ fn jump_turn<L: Ledger>(
 ) -> Result<Option<Poly>, ConvErr>
     requires index { index < length h.now.system.transitions }
     requires sets { AreSetsOf h.now.system.dim (length h.now.system.initial) sets.now }
-    ensures found { IfOk result (λ o. (t : Transition) (old : Polyhedron) → slice_get h.now.system.transitions index ≡ Some t → slice_get sets.now t.target ≡ Some old → IsFound (IsOfJump h.now t sets.now) old o) }
-    ensures overflow { IfErr result (IsOverflowIn (λ over. (t : Transition) → slice_get h.now.system.transitions index ≡ Some t → LeavesInJump h.now t sets.now over)) }
+    ensures found { IfOk result (λ o. (t : Transition) (old : Polyhedron)
+        → slice_get h.now.system.transitions index ≡ Some t → slice_get sets.now t.target ≡ Some old
+        → IsFound (IsOfJump h.now t sets.now) old o) }
+    ensures overflow { IfErr result (IsOverflowIn (λ over. (t : Transition)
+        → slice_get h.now.system.transitions index ≡ Some t → LeavesInJump h.now t sets.now over)) }
 {
-    let (from, to, relation) = h.system().trans(index);
+    let transition = h.system().trans(index);
     jump_joined(
         alloc,
-        lent(sets, from),
-        h.inv(from),
-        relation,
-        lent(sets, to),
-        h.inv(to),
+        set_of(sets, transition.source),
+        h.inv(transition.source),
+        &transition.relation,
+        set_of(sets, transition.target),
+        h.inv(transition.target),
         steps,
     )
 }
@@ -129,8 +136,7 @@ impl Turns for Hybrid {
         if index < locations {
             return index;
         }
-        let (_, to, _) = self.system().trans(index - locations);
-        to
+        self.system().trans(index - locations).target
     }
 
     fn found<L: Ledger>(

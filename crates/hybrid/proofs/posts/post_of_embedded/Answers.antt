@@ -8,7 +8,7 @@ use Rattle.row_core.specs.Refusals.{IsOverflowIn}
 use Rattle.row_core.proofs.RefusalLemmas.{overflow_weaker}
 use Rattle.affine_ops.specs.Refusals.{LeavesOnPulled, LeavesOnMapped}
 use Rattle.affine_ops.specs.Posts.{IsPost}
-use Rattle.hybrid.specs.Steps.{IsEmbedded, behind, LeavesOnMeet, LeavesOnPost}
+use Rattle.hybrid.specs.Steps.{IsEmbedded, behind, LeavesOnMeet, LeavesOnEmbedding}
 use Rattle.hybrid.proofs.PostSets.{behind_below, pairs_dim, post_of}
 use Rattle.hybrid.proofs.posts.post_of_embedded.Goals as goal
 
@@ -32,7 +32,7 @@ returns-clause-post g c = IfOk-weaker c.remove_dims.result (IsImage (remaining c
     embedded = subst (λ (k : ℕ). IsPreimage (without c.args.set.now.cons.dim (c.args.set.now.cons.dim + k)) (c.args.set.now.cons.dim + k) c.args.set.now c.in-Ok.embedded) c.dim-dim.ensures.value c.in-Ok.ensures.points
 
 pub returns-clause-overflow : goal.returns-clause-overflow
-returns-clause-overflow g c = IfErr-weaker c.remove_dims.result (IsOverflowIn (LeavesOnMapped (remaining c.in-Ok-part_in.pairs.cons.dim c.deref.result.now) (length (kept_variables c.in-Ok-part_in.pairs.cons.dim c.deref.result.now)) c.in-Ok-part_in.pairs)) (IsOverflowIn (LeavesOnPost c.args.set.now c.args.relation.now)) by c.remove_dims.ensures.overflow
+returns-clause-overflow g c = IfErr-weaker c.remove_dims.result (IsOverflowIn (LeavesOnMapped (remaining c.in-Ok-part_in.pairs.cons.dim c.deref.result.now) (length (kept_variables c.in-Ok-part_in.pairs.cons.dim c.deref.result.now)) c.in-Ok-part_in.pairs)) (IsOverflowIn (LeavesOnEmbedding c.args.set.now c.args.relation.now)) by c.remove_dims.ensures.overflow
   where
     is : c.deref.result.now ≡ behind c.args.set.now.cons.dim
     is = c.deref.ensures.value ∙ c.in_ok-vars.ensures ∙ ap behind c.dim-dim.ensures.value
@@ -40,7 +40,7 @@ returns-clause-overflow g c = IfErr-weaker c.remove_dims.result (IsOverflowIn (L
     embedded : IsEmbedded c.args.set.now c.in-Ok.embedded
     embedded = subst (λ (k : ℕ). IsPreimage (without c.args.set.now.cons.dim (c.args.set.now.cons.dim + k)) (c.args.set.now.cons.dim + k) c.args.set.now c.in-Ok.embedded) c.dim-dim.ensures.value c.in-Ok.ensures.points
 
-    by : (e : ConvErr) → IsOverflowIn (LeavesOnMapped (remaining c.in-Ok-part_in.pairs.cons.dim c.deref.result.now) (length (kept_variables c.in-Ok-part_in.pairs.cons.dim c.deref.result.now)) c.in-Ok-part_in.pairs) e → IsOverflowIn (LeavesOnPost c.args.set.now c.args.relation.now) e
+    by : (e : ConvErr) → IsOverflowIn (LeavesOnMapped (remaining c.in-Ok-part_in.pairs.cons.dim c.deref.result.now) (length (kept_variables c.in-Ok-part_in.pairs.cons.dim c.deref.result.now)) c.in-Ok-part_in.pairs) e → IsOverflowIn (LeavesOnEmbedding c.args.set.now c.args.relation.now) e
     by (conversion.Overflow over) l = inr (inr (record {
       embedded = c.in-Ok.embedded;
       is_embedded = embedded;
@@ -58,12 +58,12 @@ pub returns-in-Err-clause-overflow : goal.returns-in-Err-clause-overflow
 returns-in-Err-clause-overflow g c =
     let set = c.args.set.now in
     let n = set.cons.dim in
-    overflow_weaker (LeavesOnPulled (with_zeros n n) (n + n) set) (LeavesOnPost set c.args.relation.now) (λ over l. inl l) c.in-Err.cause
+    overflow_weaker (LeavesOnPulled (with_zeros n n) (n + n) set) (LeavesOnEmbedding set c.args.relation.now) (λ over l. inl l) c.in-Err.cause
     (subst (λ (k : ℕ). IsOverflowIn (LeavesOnPulled (with_zeros n k) (n + k) set) c.in-Err.cause) c.dim-dim.ensures.value c.in-Err.ensures.overflow)
 
 pub returns-in-Err-part_in-clause-overflow : goal.returns-in-Err-part_in-clause-overflow
 returns-in-Err-part_in-clause-overflow g c =
     let n = c.args.set.now.cons.dim in
     let embedded : IsEmbedded c.args.set.now c.in-Ok.embedded = subst (λ (k : ℕ). IsPreimage (without n (n + k)) (n + k) c.args.set.now c.in-Ok.embedded) c.dim-dim.ensures.value c.in-Ok.ensures.points in
-    overflow_weaker (LeavesOnMeet c.in-Ok.embedded c.args.relation.now) (LeavesOnPost c.args.set.now c.args.relation.now)
+    overflow_weaker (LeavesOnMeet c.in-Ok.embedded c.args.relation.now) (LeavesOnEmbedding c.args.set.now c.args.relation.now)
     (λ over l. inr (inl (record { embedded = c.in-Ok.embedded; is_embedded = embedded; embedded_kept = c.dim-kept.ensures.kept; leaves = l }))) c.in-Err-part_in.cause c.in-Err-part_in.ensures.overflow

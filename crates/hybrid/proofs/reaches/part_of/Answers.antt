@@ -8,12 +8,12 @@ use Rattle.hybrid.proofs.ReachLaws.{part_at}
 use Rattle.hybrid.proofs.reaches.part_of.Goals as goal
 
 pub returns-clause-part : goal.returns-clause-part
-returns-clause-part g c = IfOk-weaker c.part_in.result (IsPartIn c.lent.result.now c.inv.result.now) (IsPartAt c.args.h.now.invariants c.args.sets.now c.args.location)
-    (part_at c.args.h.now.invariants c.args.sets.now c.args.location c.inv.result.now c.lent.result.now c.inv.ensures.value c.lent.ensures) c.part_in.ensures.part
+returns-clause-part g c = IfOk-weaker c.part_in.result (IsPartIn c.set_of.result.now c.inv.result.now) (IsPartAt c.args.h.now.invariants c.args.sets.now c.args.location)
+    (part_at c.args.h.now.invariants c.args.sets.now c.args.location c.inv.result.now c.set_of.result.now c.inv.ensures.value c.set_of.ensures) c.part_in.ensures.part
 
 pub returns-clause-overflow : goal.returns-clause-overflow
-returns-clause-overflow g c = IfErr-weaker c.part_in.result (IsOverflowIn (LeavesOnMeet c.lent.result.now c.inv.result.now)) (IsOverflowIn (LeavesInPart c.args.h.now.invariants c.args.sets.now c.args.location)) by c.part_in.ensures.overflow
+returns-clause-overflow g c = IfErr-weaker c.part_in.result (IsOverflowIn (LeavesOnMeet c.set_of.result.now c.inv.result.now)) (IsOverflowIn (LeavesInPart c.args.h.now.invariants c.args.sets.now c.args.location)) by c.part_in.ensures.overflow
   where
-    by : (e : ConvErr) → IsOverflowIn (LeavesOnMeet c.lent.result.now c.inv.result.now) e → IsOverflowIn (LeavesInPart c.args.h.now.invariants c.args.sets.now c.args.location) e
-    by (conversion.Overflow over) l = record { set = c.lent.result.now; inv = c.inv.result.now; has_set = c.lent.ensures; has_inv = c.inv.ensures.value; leaves = l }
+    by : (e : ConvErr) → IsOverflowIn (LeavesOnMeet c.set_of.result.now c.inv.result.now) e → IsOverflowIn (LeavesInPart c.args.h.now.invariants c.args.sets.now c.args.location) e
+    by (conversion.Overflow over) l = record { set = c.set_of.result.now; inv = c.inv.result.now; has_set = c.set_of.ensures; has_inv = c.inv.ensures.value; leaves = l }
     by conversion.Memory l = tt

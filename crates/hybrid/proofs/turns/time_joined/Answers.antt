@@ -7,14 +7,14 @@ use Rattle.lattice_ops.specs.Growing.{IsGrown}
 use Rattle.row_core.specs.Refusals.{IsOverflowIn}
 use Rattle.widening.specs.RunLaws.{IsFound}
 use Rattle.hybrid.specs.Steps.{IsTimePost, LeavesOnTime}
-use Rattle.hybrid.specs.Turns.{IsHullWith, LeavesAfter}
+use Rattle.hybrid.specs.Turns.{IsHullWithPost, LeavesAfter}
 use Rattle.hybrid.proofs.Joined.{found_of, leaves_of}
 use Rattle.poly_pair.proofs.WorkLemmas.{overflow_clause}
 use Rattle.hybrid.proofs.turns.time_joined.Goals as goal
 
 pub returns-clause-found : goal.returns-clause-found
 returns-clause-found g c =
-    IfOk-weaker c.grown.result (IsGrown c.args.old.now c.in-Ok.post) (IsFound (IsHullWith (IsTimePost c.args.old.now c.args.inv.now c.args.flow.now) c.args.old.now) c.args.old.now)
+    IfOk-weaker c.grown.result (IsGrown c.args.old.now c.in-Ok.post) (IsFound (IsHullWithPost (IsTimePost c.args.old.now c.args.inv.now c.args.flow.now) c.args.old.now) c.args.old.now)
     (found_of (IsTimePost c.args.old.now c.args.inv.now c.args.flow.now) c.args.inv.now.cons.dim c.args.old.now c.requires.old c.in-Ok.post c.in-Ok.ensures.post) c.grown.ensures.grown
 
 pub returns-clause-overflow : goal.returns-clause-overflow

@@ -2,7 +2,7 @@ use Rattle.std.proofs.Common.{sym, ap, ◌∙◌}
 use Rattle.std.proofs.lemmas.List.{length-set}
 use Rattle.std.proofs.lemmas.List.Elements.{All-set}
 use Rattle.poly_pair.specs.ClosedPolyhedra.{IsClosedOver}
-use Rattle.hybrid.specs.Systems.{HybridSystem}
+use Rattle.hybrid.specs.Systems.{HybridAutomaton}
 use Rattle.hybrid.proofs.hybrid.Hybrid.set_flow.Goals as goal
 
 pub invariant_of-self : goal.invariant_of-self
@@ -12,7 +12,7 @@ invariant_of-self c =
       system = old.system;
       flows = record {
         as_many = length-set c.self.inside.flows.items c.args.location c.args.p ∙ old.flows.as_many;
-        each = All-set (IsClosedOver c.self.inside.system.dim) c.self.inside.flows.items c.args.location c.args.p (record { kept = c.dim-kept.ensures.kept; over = record { same_topology = c.requires.closed; same_dim = c.requires.dim ∙ ap (λ (h : HybridSystem). h.system.dim) (sym c.self.view_is) } }) old.flows.each;
+        each = All-set (IsClosedOver c.self.inside.system.dim) c.self.inside.flows.items c.args.location c.args.p (record { kept = c.dim-kept.ensures.kept; over = record { same_topology = c.requires.closed; same_dim = c.requires.dim ∙ ap (λ (h : HybridAutomaton). h.system.dim) (sym c.self.view_is) } }) old.flows.each;
       };
       invariants = old.invariants;
     }
