@@ -8,11 +8,12 @@ use Rattle.std.proofs.lemmas.Option.{slice_get_within, slice_get-get_or, get_or_
 use Rattle.row_core.specs.Points.{IsPoint}
 use Rattle.cons_sys.specs.declared.kind.ConKind.TheVariants.{Eq, Ge, Gt}
 use Rattle.cons_sys.specs.Constraints.{Constraint, Constraints, constraint_at, Satisfies, In}
+use Rattle.poly_pair.specs.Spanning.{HoldNowhere}
 use Rattle.cover_search.specs.declared.contacts.Cut.{Cut}
 use Rattle.cover_search.specs.declared.contacts.Plan.{Plan}
 use Rattle.cover_search.specs.declared.parts.Part.{Part}
 use Rattle.cover_search.specs.Inequalities.{IsInequality, AreInequalities, complement}
-use Rattle.cover_search.specs.Regions.{with_one, HoldNowhere, HoldsOn, IsPointIn, LiesIn}
+use Rattle.cover_search.specs.Regions.{with_one, HoldsOn, IsPointIn, LiesIn}
 use Rattle.cover_search.specs.Branches.{HoldsInSome, AreCovered, IsUncovered}
 use Rattle.cover_search.specs.Pieces.{LiesInSome}
 use Rattle.cover_search.specs.Parts.{AreApart, HoldFrom, IsOf, IsOpenIn, as_number, IsApartAt, IsCutOf, IsNext, IsPlan, IsMet, IsPushed, IsLeft, IsInSomePart, IsOutside, IsPartedBy, IsParted, IsCutBy, IsFollowed, IsPart, all_rows, to_come, all_to_come, IsSettled, IsMissed}
@@ -258,7 +259,7 @@ module _ (systems : List Constraints) (part : Part) (old : List Part) where
   }
 
   pub settled_empty : HoldNowhere part.region → IsSettled systems part old old
-  settled_empty none = settled_whole (λ v pt h. absurd (none v pt h))
+  settled_empty none = settled_whole (λ v pt h. absurd (none v (record { point = pt; holds = h })))
 
   pub settled_within : LiesInSome systems part.region → IsSettled systems part old old
   settled_within l = settled_whole (λ v pt h. inl (record { system = l.system; listed = l.listed; holds = l.lies v pt h }))

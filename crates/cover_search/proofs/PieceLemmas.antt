@@ -122,8 +122,8 @@ module _ (first : Constraints) (systems : List Constraints) (piece : Piece) (row
     -- a point of the piece is in the system or in one of the parts
     pub split_covers : (old : List Piece) {new : List Piece} → IsSplit rows piece old new → HoldsInSome systems v ⊎ IsInSome new v
     split_covers old (within e) = inl (in_system piece.row (sym e) front)
-    split_covers old (outer_alone below n) = by_sides (λ all. absurd (n v pt (in_inner below all))) (told_outer old) (next below)
-    split_covers old (inner_alone below n i) = by_sides (told_inner below old i) (λ c. absurd (n v pt (in_outer c))) (next below)
+    split_covers old (outer_alone below n) = by_sides (λ all. absurd (n v (record { point = pt; holds = in_inner below all }))) (told_outer old) (next below)
+    split_covers old (inner_alone below n i) = by_sides (told_inner below old i) (λ c. absurd (n v (record { point = pt; holds = in_outer c }))) (next below)
     split_covers old (both {middle} below i) = by_sides (λ all. pushed middle (told_inner below old i all)) (told_outer middle) (next below)
 
 -- the other pieces stay

@@ -34,7 +34,8 @@ use Rattle.nnc_enc.proofs.LineLemmas.{no_height_no_point}
 use Rattle.nnc_enc.proofs.MarkLemmas.{length-vectors, vector_at-vectors}
 use Rattle.stored_systems.specs.WorkLists.{HaveNoPoint}
 use Rattle.row_core.specs.Refusals.{IsOverflowIn}
-use Rattle.cover_search.specs.Regions.{LeavesOnList, with_one, HoldNowhere, IsPointIn, HasCone, HasListAndCone}
+use Rattle.poly_pair.specs.Spanning.{HoldNowhere}
+use Rattle.cover_search.specs.Regions.{LeavesOnList, with_one, IsPointIn, HasCone, HasListAndCone}
 use Rattle.cover_search.proofs.LongerLists.{leaves_longer}
 
 -- ---- lists
@@ -118,9 +119,9 @@ positive_factor t x y e h k = positive_of_mul t y h (subst (λ (z : ℤ). pos 0 
 module _ (cs : Constraints) (fit : FitDimension cs) (cone : Cone) (has : HasCone cs cone) where
   -- where no ray codes a point there is none
   pub holds_nowhere : HaveNoPoint cs.dim (vectors cone.rays.rows) → HoldNowhere cs
-  holds_nowhere none v pt h =
+  holds_nowhere none v within =
       no_height_no_point cs.dim (encoded_constraints cs) (vectors cone.lines.rows) (vectors cone.rays.rows) v has.canon.system (constraints_encode cs fit)
-      (λ i b. not_above (cell (vector_at (vectors cone.rays.rows) i) cs.dim) (none i [] b)) pt.wide ((constraints_are_coded cs v fit pt).0 h)
+      (λ i b. not_above (cell (vector_at (vectors cone.rays.rows) i) cs.dim) (none i [] b)) within.point.wide ((constraints_are_coded cs v fit within.point).0 within.holds)
 
   -- a ray that codes a point, without its height
   module _ (i : ℕ) (below : i < length cone.rays.rows) (above : pos 0 <ℤ cell (row_at cone.rays.rows i) cs.dim) where

@@ -4,9 +4,10 @@ use Rattle.std.proofs.lemmas.List.Elements.{All-head}
 use Rattle.row_core.specs.declared.errors.ConvErr.TheVariants as conversion
 use Rattle.cons_sys.specs.declared.kind.ConKind.TheVariants.{Eq}
 use Rattle.cons_sys.specs.Constraints.{Constraint, Constraints, constraint_at, Satisfies, In}
+use Rattle.poly_pair.specs.Spanning.{HoldNowhere}
 use Rattle.cover_search.specs.declared.pieces.Piece.{Piece}
 use Rattle.cover_search.specs.Inequalities.{AreInequalities, complement}
-use Rattle.cover_search.specs.Regions.{with_one, HoldNowhere, HoldsOn}
+use Rattle.cover_search.specs.Regions.{with_one, HoldsOn}
 use Rattle.cover_search.specs.Pieces.{inner_part, outer_part, IsInner, goes_on, IsSplit, outer_alone, both}
 use Rattle.cover_search.proofs.InequalityLemmas.{all_left, all_right, complement_excludes}
 
@@ -19,14 +20,14 @@ module _ (rows : Constraints) (piece : Piece) (proper : AreInequalities rows) (b
   rest_of v c h = all_left (Satisfies v) piece.region.list (c ∷ []) h
 
   pub no_inner : HoldsOn piece.region (complement (constraint_at rows.list piece.row)) → HoldNowhere (inner_part rows piece).region
-  no_inner holds v pt h =
+  no_inner holds v within =
       let c = constraint_at rows.list piece.row in
-      complement_excludes c v (proper piece.row ([], Eq) below) (holds v pt (rest_of v c h)) (last_of v c h)
+      complement_excludes c v (proper piece.row ([], Eq) below) (holds v within.point (rest_of v c within.holds)) (last_of v c within.holds)
 
   pub no_outer : HoldsOn piece.region (constraint_at rows.list piece.row) → HoldNowhere (outer_part rows piece).region
-  no_outer holds v pt h =
+  no_outer holds v within =
       let c = constraint_at rows.list piece.row in
-      complement_excludes c v (proper piece.row ([], Eq) below) (last_of v (complement c) h) (holds v pt (rest_of v (complement c) h))
+      complement_excludes c v (proper piece.row ([], Eq) below) (last_of v (complement c) within.holds) (holds v within.point (rest_of v (complement c) within.holds))
 
 -- ---- what was appended
 pub goes_on_with : (rows : Constraints) (piece inner : Piece) (old new : List Piece) → inner ≡ inner_part rows piece → piece.row + 1 < length rows.list → new ≡ old ++ inner ∷ [] → IsInner rows piece old new

@@ -7,10 +7,11 @@ use Rattle.row_core.specs.declared.errors.Overflow.{Overflow}
 use Rattle.row_core.specs.declared.errors.ConvErr.{ConvErr}
 use Rattle.row_core.specs.declared.errors.ConvErr.TheVariants as conversion
 use Rattle.cons_sys.specs.Constraints.{Constraint, Constraints, constraint_at, Satisfies, In}
+use Rattle.poly_pair.specs.Spanning.{HoldNowhere}
 use Rattle.cover_search.specs.declared.pieces.Piece.{Piece}
 use Rattle.cover_search.specs.Inequalities.{AreInequalities, complement}
 use Rattle.row_core.specs.Refusals.{IsOverflowIn}
-use Rattle.cover_search.specs.Regions.{LeavesOnList, with_one, HoldNowhere}
+use Rattle.cover_search.specs.Regions.{LeavesOnList, with_one}
 use Rattle.cover_search.specs.Branches.{choice, begins, chooses, LeavesOnBranch, HoldsInSome, AreCovered, IsUncovered}
 use Rattle.cover_search.specs.Pieces.{inner_part, outer_part, front_of, IsRowOf, IsPiece, IsInSome, all_still, IsWithin, IsTurn, IsFound, LeavesInSplit, LeavesInTurn, LiesInSome}
 use Rattle.cover_search.proofs.InequalityLemmas.{all_left}
@@ -77,7 +78,7 @@ module _ (first : Constraints) (systems : List Constraints) where
         here (inl t) i = inside t.0
           where
             inside : HoldNowhere piece.region ⊎ LiesInSome systems piece.region → HoldsInSome systems v ⊎ IsInSome new v
-            inside (inl n) = absurd (n v (subst (λ (n : ℕ). IsPoint n v) (sym p.same_dim) pt) i)
+            inside (inl n) = absurd (n v (record { point = subst (λ (n : ℕ). IsPoint n v) (sym p.same_dim) pt; holds = i }))
             inside (inr l) = inl (record { system = l.system; listed = l.listed; holds = l.lies v (subst (λ (n : ℕ). IsPoint n v) (sym p.same_dim) pt) i })
         here (inr t) i = split_covers first systems piece t.0 p t.1 (all_at AreInequalities systems piece.passed t.0 proper t.1) v (subst (λ (n : ℕ). IsPoint n v) (sym p.same_dim) pt) i old t.2
 

@@ -1,9 +1,10 @@
 use Rattle.std.specs.Prelude.{◌≡◌, ◌⊎◌, ℕ, ◌+◌, ◌*◌, ◌-◌, ◌<◌, ◌≤◌, List, [], ◌∷◌, ◌++◌, length, take, drop, slice_get, Option, Some, None, ℤ, Contains, All}
 use Rattle.cons_sys.specs.Constraints.{Constraint, Constraints, constraint_at, In}
+use Rattle.poly_pair.specs.Spanning.{HoldNowhere}
 use Rattle.cover_search.specs.Inequalities.{complement}
 use Rattle.row_core.specs.declared.errors.Overflow.{Overflow}
 use Rattle.cover_search.specs.Branches.{IsBranch}
-use Rattle.cover_search.specs.Regions.{LeavesOnList, with_one, HoldNowhere, IsPointIn, LiesIn}
+use Rattle.cover_search.specs.Regions.{LeavesOnList, with_one, IsPointIn, LiesIn}
 use Rattle.cover_search.specs.declared.pieces.Piece.{Piece}
 
 -- ---- parts of a piece

@@ -22,10 +22,6 @@ abbrev pub with_one : Constraints → Constraint → Constraints
 with_one cs c = record { dim = cs.dim; list = cs.list ++ c ∷ [] }
 
 -- ---- points
--- the constraints hold at no point
-abbrev pub HoldNowhere : Constraints → Type 0
-HoldNowhere cs = (v : List ℤ) → IsPoint cs.dim v → ¬ (In cs v)
-
 -- a primitive point at which the constraints hold
 pub record IsPointIn (cs : Constraints) (v : List ℤ) : Type 0 where
   pub point : IsPoint cs.dim v

@@ -23,7 +23,9 @@ fn by_branches<L: Ledger>(
 ) -> Result<Option<RowBuf>, ConvErr>
     requires dims { All (λ rows. rows.dim ≡ first.now.dim) systems.now }
     requires inequalities { All AreInequalities systems.now }
-    ensures found { IfOk result (λ found. MatchOption found (AreCovered first.now systems.now) (IsUncovered first.now systems.now)) }
+    ensures found { IfOk result
+        (λ found. MatchOption found (AreCovered first.now systems.now)
+        (IsUncovered first.now systems.now)) }
     ensures overflow { IfErr result (IsOverflowIn (LeavesOnBranch first.now systems.now)) }
 {
     let region = Region::new(alloc, first, steps)?;
@@ -57,7 +59,9 @@ pub fn uncovered<L: Ledger>(
 ) -> Result<Option<RowBuf>, ConvErr>
     requires dims { All (λ rows. rows.dim ≡ first.now.dim) systems.now }
     requires inequalities { All AreInequalities systems.now }
-    ensures found { IfOk result (λ found. MatchOption found (AreCovered first.now systems.now) (IsUncovered first.now systems.now)) }
+    ensures found { IfOk result
+        (λ found. MatchOption found (AreCovered first.now systems.now)
+        (IsUncovered first.now systems.now)) }
     ensures overflow { IfErr result (IsOverflowIn (LeavesOnBranch first.now systems.now)) }
 {
     match search(alloc, first, systems, steps) {

@@ -82,7 +82,9 @@ fn take(plan: &mut Plan, cut: Cut) -> Result<(), Memory>
 fn meet(region: &Region, walls: &Walls, system: usize, plan: &mut Plan) -> Result<bool, Memory>
     requires dim { walls.now.dim ≡ region.now.dim }
     requires inequalities { AreInequalities walls.now }
-    ensures { IfOk result (λ within. MatchBool within (LiesIn region.now walls.now) (IsMet region.now walls.now system plan.old plan.new)) }
+    ensures { IfOk result
+        (λ within. MatchBool within (LiesIn region.now walls.now)
+        (IsMet region.now walls.now system plan.old plan.new)) }
 {
     match contact_of(region, walls) {
         Contact::Within => Ok(true),
@@ -109,7 +111,9 @@ pub(crate) fn plan_of(
     requires dims { All (λ rows. rows.dim ≡ region.now.dim) systems.now }
     requires inequalities { All AreInequalities systems.now }
     requires below { All (λ i. i < length systems.now) numbers.now }
-    ensures { IfOk result (λ found. MatchOption found (LiesInSome systems.now region.now) (IsPlan systems.now region.now numbers.now (length numbers.now))) }
+    ensures { IfOk result
+        (λ found. MatchOption found (LiesInSome systems.now region.now)
+        (IsPlan systems.now region.now numbers.now (length numbers.now))) }
 {
     let mut plan = Plan {
         met: Vec::new(alloc),

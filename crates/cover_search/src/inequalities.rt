@@ -8,22 +8,6 @@ use cons_sys::{ConKind, ConsSys};
 use row_core::{Memory, RowBuf};
 use std::alloc::Global;
 
-/// Appends a primitive row, which is stored as it is.
-pub(crate) fn push_primitive(
-    system: &mut ConsSys,
-    row: &[i128],
-    kind: ConKind,
-) -> Result<(), Memory>
-    requires wide { length row.now ≡ system.old.dim + 1 }
-    requires in_range { AllInRange row.now }
-    requires primitive { IsPrimitive row.now }
-    ensures dim { system.new.dim ≡ system.old.dim }
-    ensures list { OnOk result (system.new.list ≡ system.old.list ++ (row.now, kind) ∷ []) }
-{
-    system.push(row, kind)?;
-    Ok(())
-}
-
 /// Appends the inequalities of a constraint.
 fn push_halves(
     alloc: Global,
@@ -39,13 +23,13 @@ fn push_halves(
 {
     match kind {
         ConKind::Eq => {
-            push_primitive(system, row, ConKind::Ge)?;
+            system.push_primitive(row, ConKind::Ge)?;
             let _narrow = system.dim();
             let turned = RowBuf::negated(alloc, row)?;
-            push_primitive(system, turned.cells(), ConKind::Ge)
+            system.push_primitive(turned.cells(), ConKind::Ge)
         }
-        ConKind::Ge => push_primitive(system, row, ConKind::Ge),
-        ConKind::Gt => push_primitive(system, row, ConKind::Gt),
+        ConKind::Ge => system.push_primitive(row, ConKind::Ge),
+        ConKind::Gt => system.push_primitive(row, ConKind::Gt),
     }
 }
 
@@ -90,7 +74,7 @@ pub(crate) fn complements_of(alloc: Global, rows: &ConsSys) -> Result<ConsSys, M
     let mut system = ConsSys::new(alloc, rows.dim());
     for index in 0..rows.len() {
         let turned = RowBuf::negated(alloc, rows.row(index))?;
-        push_primitive(&mut system, turned.cells(), opposite(rows.kind(index)))?;
+        system.push_primitive(turned.cells(), opposite(rows.kind(index)))?;
     }
     Ok(system)
 }

@@ -30,7 +30,8 @@ fn push_outside<L: Ledger>(
 ) -> Result<(), ConvErr>
     requires dim { walls.now.dim ≡ region.dim }
     requires index { index < length walls.now.list }
-    ensures { OnOk result (IsPushed walls.now index region numbers.now pending.old.items pending.new.items) }
+    ensures { OnOk result
+        (IsPushed walls.now index region numbers.now pending.old.items pending.new.items) }
 {
     let region = region.outside(alloc, walls, index, steps)?;
     let met = Vec::from_slice(alloc, numbers)?;
@@ -52,7 +53,8 @@ fn rest_of<L: Ledger>(
     requires dim { walls.now.dim ≡ region.dim }
     requires index { index < length walls.now.list }
     requires inequalities { AreInequalities walls.now }
-    ensures { IfOk result (IsLeft walls.now index region numbers.now pending.old.items pending.new.items) }
+    ensures { IfOk result
+        (IsLeft walls.now index region numbers.now pending.old.items pending.new.items) }
 {
     if region.is_inside(walls, index) {
         return Ok(region);
@@ -76,7 +78,8 @@ fn part_by<L: Ledger>(
     requires last { last < length walls.now.list }
     requires behind { HoldFrom region walls.now (last + 1) }
     requires inequalities { AreInequalities walls.now }
-    ensures { OnOk result (IsParted walls.now region numbers.now pending.old.items pending.new.items) }
+    ensures { OnOk result
+        (IsParted walls.now region numbers.now pending.old.items pending.new.items) }
 {
     let mut rest = region;
     for index in 0..last {
@@ -100,7 +103,8 @@ fn cut_by<L: Ledger>(
     requires inequalities { All AreInequalities systems.now }
     requires system { cut.system < length systems.now }
     requires cut { IsCutOf systems.now region cut }
-    ensures { OnOk result (IsCutBy systems.now cut region numbers.now pending.old.items pending.new.items) }
+    ensures { OnOk result
+        (IsCutBy systems.now cut region numbers.now pending.old.items pending.new.items) }
 {
     let walls = &systems[cut.system];
     part_by(alloc, walls, cut.last, region, numbers, pending, steps)?;
@@ -121,7 +125,8 @@ fn follow<L: Ledger>(
     requires dims { All (λ rows. rows.dim ≡ region.dim) systems.now }
     requires inequalities { All AreInequalities systems.now }
     requires next { IsNext systems.now region plan.met.items plan.next }
-    ensures { IfOk result (IsFollowed systems.now plan region point pending.old.items pending.new.items) }
+    ensures { IfOk result
+        (IsFollowed systems.now plan region point pending.old.items pending.new.items) }
 {
     match plan.next {
         None => Ok(Some(point)),
@@ -146,7 +151,9 @@ fn settle_at<L: Ledger>(
     requires inequalities { All AreInequalities systems.now }
     requires part { IsPart part.region systems.now part }
     requires point { IsPointIn part.region point }
-    ensures { IfOk result (λ found. MatchOption found (IsSettled systems.now part pending.old.items pending.new.items) (IsMissed systems.now part.region)) }
+    ensures { IfOk result
+        (λ found. MatchOption found (IsSettled systems.now part pending.old.items pending.new.items)
+        (IsMissed systems.now part.region)) }
 {
     let planned = plan_of(alloc, systems, &part.region, &part.met)?;
     match planned {
@@ -169,7 +176,9 @@ pub(crate) fn settle<L: Ledger>(
     requires dims { All (λ rows. rows.dim ≡ part.region.dim) systems.now }
     requires inequalities { All AreInequalities systems.now }
     requires part { IsPart part.region systems.now part }
-    ensures { IfOk result (λ found. MatchOption found (IsSettled systems.now part pending.old.items pending.new.items) (IsMissed systems.now part.region)) }
+    ensures { IfOk result
+        (λ found. MatchOption found (IsSettled systems.now part pending.old.items pending.new.items)
+        (IsMissed systems.now part.region)) }
 {
     let seen = part.region.point(alloc)?;
     match seen {

@@ -45,7 +45,8 @@ impl Piece {
         requires passed { self.passed + 1 < 2 ^ 64 }
         requires row { self.row < length walls.now.list }
         ensures part { IfOk result (λ part. part ≡ outer_part walls.now self) }
-        ensures overflow { IfErr result (IsOverflowIn (LeavesOnList (outer_part walls.now self).region)) }
+        ensures overflow { IfErr result
+            (IsOverflowIn (LeavesOnList (outer_part walls.now self).region)) }
     {
         let passed = self.passed + 1;
         let region = self.region.outside(alloc, walls, self.row, steps)?;
@@ -67,7 +68,8 @@ impl Piece {
         requires row { self.row < length walls.now.list }
         requires row_fits { self.row + 1 < 2 ^ 64 }
         ensures part { IfOk result (λ part. part ≡ inner_part walls.now self) }
-        ensures overflow { IfErr result (IsOverflowIn (LeavesOnList (inner_part walls.now self).region)) }
+        ensures overflow { IfErr result
+            (IsOverflowIn (LeavesOnList (inner_part walls.now self).region)) }
     {
         let row = self.row + 1;
         let passed = self.passed;
@@ -114,7 +116,8 @@ fn push_outer<L: Ledger>(
     requires dim { walls.now.dim ≡ piece.region.dim }
     requires passed { piece.passed + 1 < 2 ^ 64 }
     requires row { piece.row < length walls.now.list }
-    ensures part { OnOk result (pending.new.items ≡ pending.old.items ++ outer_part walls.now piece ∷ []) }
+    ensures part { OnOk result
+        (pending.new.items ≡ pending.old.items ++ outer_part walls.now piece ∷ []) }
     ensures overflow { IfErr result (IsOverflowIn (LeavesInSplit walls.now piece)) }
 {
     let outer = piece.outer(alloc, walls, steps)?;
@@ -200,7 +203,9 @@ pub(crate) fn turn<L: Ledger>(
 ) -> Result<Option<RowBuf>, ConvErr>
     requires within { IsWithin systems.now piece }
     requires inequalities { All AreInequalities systems.now }
-    ensures turn { IfOk result (λ found. MatchOption found (IsTurn systems.now piece pending.old.items pending.new.items) (IsFound systems.now piece)) }
+    ensures turn { IfOk result
+        (λ found. MatchOption found (IsTurn systems.now piece pending.old.items pending.new.items)
+        (IsFound systems.now piece)) }
     ensures overflow { IfErr result (IsOverflowIn (LeavesInTurn systems.now piece)) }
 {
     let point = match piece.region.point(alloc)? {

@@ -8,11 +8,12 @@ ghost use Rattle.stored_systems.specs.WorkLists.{HaveNoPoint};
 ghost use Rattle.nnc_enc.specs.Encoding.{encoded_constraint, lowered};
 ghost use Rattle.row_core.specs.Refusals.{IsOverflowIn};
 ghost use Rattle.cons_sys.specs.Constraints.{constraint_at};
+ghost use Rattle.poly_pair.specs.Spanning.{HoldNowhere};
 ghost use Rattle.cover_search.specs.Inequalities.{AreInequalities, complement};
-ghost use Rattle.cover_search.specs.Regions.{LeavesOnList, with_one, HoldNowhere, IsPointIn, HoldsOn, IsKept};
+ghost use Rattle.cover_search.specs.Regions.{LeavesOnList, with_one, IsPointIn, HoldsOn, IsKept};
 
 use crate::halfspaces::Halfspaces;
-use crate::inequalities::{is_strict, push_primitive};
+use crate::inequalities::is_strict;
 use crate::walls::Walls;
 use chernikova::{Cone, add_rows_from, convert};
 use cons_sys::ConsSys;
@@ -61,20 +62,24 @@ fn push_one(
     requires dim { halfspaces.now.dim ≡ cons.old.dim }
     requires width { list.old.width ≡ cons.old.dim + 2 }
     requires index { index < length halfspaces.now.list }
-    ensures cons { OnOk result (cons.new ≡ with_one cons.old (constraint_at halfspaces.now.list index)) }
+    ensures cons { OnOk result
+        (cons.new ≡ with_one cons.old (constraint_at halfspaces.now.list index)) }
     ensures width { list.new.width ≡ list.old.width }
-    ensures rows { OnOk result (list.new.rows ≡ list.old.rows ++ encoded_constraint cons.old.dim (constraint_at halfspaces.now.list index) ∷ []) }
+    ensures rows { OnOk result
+        (list.new.rows ≡ list.old.rows ++ encoded_constraint cons.old.dim
+        (constraint_at halfspaces.now.list index) ∷ []) }
 {
     let given = halfspaces.cons();
     let encoded = halfspaces.rows();
-    push_primitive(cons, given.row(index), given.kind(index))?;
+    cons.push_primitive(given.row(index), given.kind(index))?;
     list.push(encoded.row(index), encoded.is_eq(index))
 }
 
 /// The first ray that is positive at the column.
 fn first_positive(column: usize, rays: &RowList) -> Option<usize>
     requires { column < rays.now.width }
-    ensures { MatchOption result (HaveNoPoint column (vectors rays.now.rows)) (λ i. (i < length rays.now.rows) × (pos 0 <ℤ cell (row_at rays.now.rows i) column)) }
+    ensures { MatchOption result (HaveNoPoint column (vectors rays.now.rows))
+        (λ i. (i < length rays.now.rows) × (pos 0 <ℤ cell (row_at rays.now.rows i) column)) }
 {
     for index in 0..rays.len() {
         if rays.row(index)[column] > 0 {
@@ -136,7 +141,8 @@ fn is_kept_on(strict: bool, column: usize, row: &[i128], list: &RowList) -> bool
     requires wide { length row.now ≡ list.now.width }
     requires column { column < list.now.width }
     requires narrow { length row.now < 2 ^ 32 }
-    ensures { IsTrue result → All (λ v. IsKept strict (dot row.now v) (cell v column)) (vectors list.now.rows) }
+    ensures { IsTrue result
+        → All (λ v. IsKept strict (dot row.now v) (cell v column)) (vectors list.now.rows) }
 {
     for index in 0..list.len() {
         if !is_kept(strict, column, row, list.row(index)) {
@@ -180,7 +186,8 @@ impl Region {
         requires dim { walls.now.dim ≡ self.now.dim }
         requires index { index < length walls.now.list }
         requires inequalities { AreInequalities walls.now }
-        ensures { IsTrue result → HoldsOn self.now (complement (constraint_at walls.now.list index)) }
+        ensures { IsTrue result
+            → HoldsOn self.now (complement (constraint_at walls.now.list index)) }
     {
         self.keeps(walls.outer(), index)
     }
@@ -214,8 +221,11 @@ impl Region {
     ) -> Result<Region, ConvErr>
         requires dim { halfspaces.now.dim ≡ self.dim }
         requires index { index < length halfspaces.now.list }
-        ensures region { IfOk result (λ r. r ≡ with_one self (constraint_at halfspaces.now.list index)) }
-        ensures overflow { IfErr result (IsOverflowIn (LeavesOnList (with_one self (constraint_at halfspaces.now.list index)))) }
+        ensures region { IfOk result
+            (λ r. r ≡ with_one self (constraint_at halfspaces.now.list index)) }
+        ensures overflow { IfErr result
+            (IsOverflowIn
+            (LeavesOnList (with_one self (constraint_at halfspaces.now.list index)))) }
     {
         let Region {
             mut cons,
@@ -247,7 +257,8 @@ impl Region {
         requires dim { walls.now.dim ≡ self.dim }
         requires index { index < length walls.now.list }
         ensures region { IfOk result (λ r. r ≡ with_one self (constraint_at walls.now.list index)) }
-        ensures overflow { IfErr result (IsOverflowIn (LeavesOnList (with_one self (constraint_at walls.now.list index)))) }
+        ensures overflow { IfErr result
+            (IsOverflowIn (LeavesOnList (with_one self (constraint_at walls.now.list index)))) }
     {
         self.narrowed(alloc, walls.inner(), index, steps)
     }
@@ -266,8 +277,11 @@ impl Region {
     ) -> Result<Region, ConvErr>
         requires dim { walls.now.dim ≡ self.dim }
         requires index { index < length walls.now.list }
-        ensures region { IfOk result (λ r. r ≡ with_one self (complement (constraint_at walls.now.list index))) }
-        ensures overflow { IfErr result (IsOverflowIn (LeavesOnList (with_one self (complement (constraint_at walls.now.list index))))) }
+        ensures region { IfOk result
+            (λ r. r ≡ with_one self (complement (constraint_at walls.now.list index))) }
+        ensures overflow { IfErr result
+            (IsOverflowIn
+            (LeavesOnList (with_one self (complement (constraint_at walls.now.list index))))) }
     {
         self.narrowed(alloc, walls.outer(), index, steps)
     }
@@ -284,7 +298,8 @@ impl Region {
 
     /// One of the points, if there is one: that of the first ray that codes a point.
     pub(crate) fn point(&self, alloc: Global) -> Result<Option<RowBuf>, Memory>
-        ensures { IfOk result (λ found. MatchOption found (HoldNowhere self.now) (IsPointIn self.now)) }
+        ensures { IfOk result
+            (λ found. MatchOption found (HoldNowhere self.now) (IsPointIn self.now)) }
     {
         let dim = self.cons.dim();
         let Some(index) = first_positive(dim, &self.cone.rays) else {

@@ -33,7 +33,9 @@ pub(crate) fn search<L: Ledger>(
 ) -> Result<Option<RowBuf>, ConvErr>
     requires dims { All (λ rows. rows.dim ≡ first.now.dim) systems.now }
     requires inequalities { All AreInequalities systems.now }
-    ensures { IfOk result (λ found. MatchOption found (AreCovered first.now systems.now) (IsUncovered first.now systems.now)) }
+    ensures { IfOk result
+        (λ found. MatchOption found (AreCovered first.now systems.now)
+        (IsUncovered first.now systems.now)) }
 {
     let region = Region::new(alloc, first, steps)?;
     let met = numbers_below(alloc, systems.len())?;

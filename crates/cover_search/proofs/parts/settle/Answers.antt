@@ -1,6 +1,7 @@
 use Rattle.std.proofs.Common.{List, ℤ, Option, subst}
 use Rattle.std.specs.Prelude.{MatchOption}
-use Rattle.cover_search.specs.Regions.{HoldNowhere, IsPointIn}
+use Rattle.poly_pair.specs.Spanning.{HoldNowhere}
+use Rattle.cover_search.specs.Regions.{IsPointIn}
 use Rattle.cover_search.proofs.PartLemmas.{settled_empty}
 use Rattle.cover_search.proofs.parts.settle.Goals as goal
 

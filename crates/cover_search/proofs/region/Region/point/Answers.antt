@@ -5,7 +5,8 @@ use Rattle.row_core.specs.Lists.{row_at, vectors}
 use Rattle.cons_sys.specs.Constraints.{Constraints}
 use Rattle.nnc_enc.specs.Encoding.{lowered}
 use Rattle.stored_systems.specs.WorkLists.{HaveNoPoint}
-use Rattle.cover_search.specs.Regions.{HoldNowhere, IsPointIn}
+use Rattle.poly_pair.specs.Spanning.{HoldNowhere}
+use Rattle.cover_search.specs.Regions.{IsPointIn}
 use Rattle.cover_search.proofs.RegionLemmas.{holds_nowhere, point_in}
 use Rattle.cover_search.proofs.region.Region.point.Goals as goal
 
