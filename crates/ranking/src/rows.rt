@@ -45,7 +45,10 @@ fn subtract(row: &mut [i128], other: &[i128]) -> Result<(), u32>
     requires narrow { length row.old < 2 ^ 32 }
     requires wide { length other.now ≡ length row.old }
     ensures width { length row.new ≡ length row.old }
-    ensures subtracted { MatchResult result (λ _. (row.new ≡ add row.old (negated other.now)) × AllInRange row.new) (IsFirstToLeave (λ j. InRange (cell row.old j +ℤ neg_ℤ (cell other.now j))) (length row.old)) }
+    ensures subtracted { MatchResult result
+        (λ _. (row.new ≡ add row.old (negated other.now)) × AllInRange row.new)
+        (IsFirstToLeave (λ j. InRange (cell row.old j +ℤ neg_ℤ (cell other.now j)))
+        (length row.old)) }
 {
     for column in 0..row.len() {
         let Some(entry) = difference(row[column], other[column]) else {
@@ -63,13 +66,7 @@ fn shown(alloc: Global, pair: &[i128], column: u32) -> Result<Overflow, Memory>
     ensures rows { IfOk result (ShowsPair Scale pair.now pair.now) }
     ensures column { IfOk result (λ over. over.column ≡ column) }
 {
-    Ok(Overflow {
-        kind: OverKind::Scale,
-        step: 0,
-        left: RowBuf::new(alloc, pair)?,
-        right: RowBuf::new(alloc, pair)?,
-        column,
-    })
+    Overflow::of_rows(alloc, OverKind::Scale, pair, pair, column)
 }
 
 /// What the state has more than the successor, in each variable.

@@ -27,7 +27,8 @@ pub fn ranking_set<L: Ledger>(
     requires closed { relation.now.topology ≡ Closed }
     requires even { relation.now.cons.dim % 2 ≡ 0 }
     ensures points { IfOk result (IsRankingSet (relation.now.cons.dim / 2) relation.now) }
-    ensures overflow { IfErr result (IsOverflowIn (LeavesInRanking (relation.now.cons.dim / 2) relation.now.gens)) }
+    ensures overflow { IfErr result
+        (IsOverflowIn (LeavesInRanking (relation.now.cons.dim / 2) relation.now.gens)) }
     ensures no_fewer { steps.old ≤ steps.new }
 {
     let states = relation.dim() / 2;
