@@ -10,7 +10,7 @@ use Rattle.cons_sys.specs.Constraints.{Constraints, In}
 use Rattle.poly_pair.specs.Polyhedra.{Polyhedron}
 use Rattle.cover_search.specs.Inequalities.{inequalities, AreInequalities}
 use Rattle.cover_search.specs.Branches.{HoldsInSome, HoldsInNone, AreCovered}
-use Rattle.powerset.specs.Powersets.{Union, IsKeptUnion, IsMember, IsInUnion}
+use Rattle.powerset.specs.Powersets.{FinitePowerset, IsKeptPowerset, IsMember, IsInPowerset}
 use Rattle.powerset.specs.Covers.{Covers, IsCounterPoint, systems_of, HasUncovered}
 use Rattle.cover_search.proofs.InequalityLemmas.{inequalities_hold, are_inequalities}
 
@@ -23,7 +23,7 @@ pub take_all : {X : Type 0} (xs : List X) (n : ℕ) → n ≡ length xs → take
 take_all xs n e = subst (λ (k : ℕ). take k xs ≡ xs) (sym e) (take-length xs)
 
 -- ---- systems of members
-module _ (u : Union) (kept : IsKeptUnion u) where
+module _ (u : FinitePowerset) (kept : IsKeptPowerset u) where
   pub systems_dims : (n : ℕ) → u.dim ≡ n → All (λ (rows : Constraints). rows.dim ≡ n) (systems_of u.members)
   systems_dims n e = All-map (λ (rows : Constraints). rows.dim ≡ n) (λ (p : Polyhedron). inequalities p.cons) u.members
       (All-weaker (IsMember u.topology u.dim) (λ (p : Polyhedron). p.cons.dim ≡ n) (λ p m. m.over.same_dim ∙ e) u.members kept.each)
@@ -37,7 +37,7 @@ at_map [] k h = absurd (omega (arith, h))
 at_map (p ∷ members) zero h = (p, (0, omega arith, refl), λ d. refl)
 at_map (p ∷ members) (suc k) h = let r = at_map members k (omega (arith, h)) in (r.0, Contains-append_right (p ∷ []) members r.0 r.1, r.2)
 
-pub in_union : (members : List Polyhedron) (v : List ℤ) → HoldsInSome (systems_of members) v → IsInUnion members v
+pub in_union : (members : List Polyhedron) (v : List ℤ) → HoldsInSome (systems_of members) v → IsInPowerset members v
 in_union members v h =
     let r = at_map members h.listed.0 h.listed.1 in
     record { member = r.0; listed = r.1; holds = (inequalities_hold r.0.cons v).1 (subst (λ (rows : Constraints). In rows v) (sym h.listed.2 ∙ r.2 h.system) h.holds) }
@@ -46,11 +46,11 @@ in_union members v h =
 map_at : (members : List Polyhedron) (p : Polyhedron) → Contains members p → Contains (systems_of members) (inequalities p.cons)
 map_at members p c = (c.0, omega (arith, c.1, length-map members (λ (q : Polyhedron). inequalities q.cons)), get_or-map (λ (q : Polyhedron). inequalities q.cons) members c.0 p ∙ ap (λ (q : Polyhedron). inequalities q.cons) c.2)
 
-pub not_in_union : (members : List Polyhedron) (v : List ℤ) → HoldsInNone (systems_of members) v → ¬ (IsInUnion members v)
+pub not_in_union : (members : List Polyhedron) (v : List ℤ) → HoldsInNone (systems_of members) v → ¬ (IsInPowerset members v)
 not_in_union members v none i = All-contains (λ (rows : Constraints). ¬ (In rows v)) (systems_of members) (inequalities i.member.cons) none (map_at members i.member i.listed) ((inequalities_hold i.member.cons v).0 i.holds)
 
 -- ---- answers
-module _ (s t : Union) (kept_s : IsKeptUnion s) (kept_t : IsKeptUnion t) (dims : s.dim ≡ t.dim) where
+module _ (s t : FinitePowerset) (kept_s : IsKeptPowerset s) (kept_t : IsKeptPowerset t) (dims : s.dim ≡ t.dim) where
   pub dims_fit : (systems : List Constraints) → systems ≡ systems_of s.members → All (λ (p : Polyhedron). All (λ (rows : Constraints). rows.dim ≡ p.cons.dim) systems) t.members
   dims_fit systems e = subst (λ (ss : List Constraints). All (λ (p : Polyhedron). All (λ (rows : Constraints). rows.dim ≡ p.cons.dim) ss) t.members) (sym e)
       (All-weaker (IsMember t.topology t.dim) (λ (p : Polyhedron). All (λ (rows : Constraints). rows.dim ≡ p.cons.dim) (systems_of s.members)) (λ p m. systems_dims s kept_s p.cons.dim (dims ∙ sym m.over.same_dim)) t.members kept_t.each)

@@ -16,7 +16,7 @@ use Rattle.poly_pair.specs.Refusals.{IsOverflowOn}
 use Rattle.lattice_ops.specs.Sets.{meet_list}
 use Rattle.lattice_ops.specs.LatticeLaws.{AreAlike}
 use Rattle.row_core.specs.Refusals.{IsOverflowIn}
-use Rattle.powerset.specs.Powersets.{Union, IsKeptUnion, IsMember}
+use Rattle.powerset.specs.Powersets.{FinitePowerset, IsKeptPowerset, IsMember}
 use Rattle.powerset.specs.Reductions.{IsReduced, HaveOneDimension}
 use Rattle.powerset.specs.Joins.{pairs_of, IsMeetOf, AreMeets, HasMeets, LeavesOnMeet}
 use Rattle.cover_search.proofs.BranchLemmas.{all_at}
@@ -25,7 +25,7 @@ use Rattle.cover_search.proofs.BranchLemmas.{all_at}
 pub reduced_all : (P : Polyhedron → Type 0) (members part : List Polyhedron) → IsReduced members part → All P members → All P part
 reduced_all P members part r h = subst (All P) (sym r.is_part) (all_marked P r.keep members h)
 
-pub joined_all : (s t : Union) → IsKeptUnion s → IsKeptUnion t → s.topology ≡ t.topology → s.dim ≡ t.dim → All (IsMember s.topology s.dim) (s.members ++ t.members)
+pub joined_all : (s t : FinitePowerset) → IsKeptPowerset s → IsKeptPowerset t → s.topology ≡ t.topology → s.dim ≡ t.dim → All (IsMember s.topology s.dim) (s.members ++ t.members)
 joined_all s t ks kt e f = All-append (IsMember s.topology s.dim) s.members t.members ks.each
     (subst (λ (o : Topology). All (IsMember o s.dim) t.members) (sym e) (subst (λ (n : ℕ). All (IsMember t.topology n) t.members) (sym f) kt.each))
 
@@ -67,7 +67,7 @@ pub no_pairs : (first second new : List Polyhedron) → new ≡ [] → AreMeets 
 no_pairs first second new e = subst (λ (ms : List Polyhedron). AreMeets [] second ms) (sym e) (pointwise_nil IsMeetOf)
 
 -- ---- operands
-pub alike : (s t : Union) → IsKeptUnion s → IsKeptUnion t → s.topology ≡ t.topology → s.dim ≡ t.dim → All (λ (p : Polyhedron). All (AreAlike p) t.members) s.members
+pub alike : (s t : FinitePowerset) → IsKeptPowerset s → IsKeptPowerset t → s.topology ≡ t.topology → s.dim ≡ t.dim → All (λ (p : Polyhedron). All (AreAlike p) t.members) s.members
 alike s t ks kt e f k d b l o c = record {
   topology = (ks.each k d b).over.same_topology ∙ e ∙ sym (kt.each l o c).over.same_topology;
   dim = (ks.each k d b).over.same_dim ∙ f ∙ sym (kt.each l o c).over.same_dim;

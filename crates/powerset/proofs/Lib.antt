@@ -4,4 +4,4 @@ pub mod JoinLemmas
 pub mod SameReductions
 mod Climbs
 mod ReducedPoints
-mod UnionPoints
+mod PowersetPoints

@@ -9,9 +9,9 @@ use Rattle.row_core.specs.Points.{IsPoint}
 use Rattle.cons_sys.specs.Constraints.{In}
 use Rattle.poly_pair.specs.Polyhedra.{Polyhedron, HasNoPoint}
 use Rattle.lattice_ops.specs.Sets.{IsIncluded, HaveSamePoints}
-use Rattle.powerset.specs.Powersets.{IsInUnion}
+use Rattle.powerset.specs.Powersets.{IsInPowerset}
 use Rattle.powerset.specs.Reductions.{IsSuperseded, IsLeftOut, IsReduced}
-use Rattle.powerset.specs.UnionLaws.{AreOfDimension, ReductionKeepsPoints, IsIrredundant, ReductionIsIrredundant}
+use Rattle.powerset.specs.PowersetLaws.{AreOfDimension, ReductionKeepsPoints, IsIrredundant, ReductionIsIrredundant}
 use Rattle.powerset.proofs.Climbs.{climbs}
 use Rattle.cover_search.proofs.BranchLemmas.{all_at}
 use Rattle.powerset.proofs.ReductionLemmas.{same_back}
@@ -120,7 +120,7 @@ module _ (dim : ℕ) (members part : List Polyhedron) (dims : AreOfDimension dim
       step : (i : ℕ) → i < length members → Held i → Good i ⊎ ((j : ℕ) × (j < length members) × Above j i × Held j)
       step i b h = by_test i b h (test_of (get_or r.keep i false) (IsLeftOut members i (member i)) (r.marks.each i (member i) (omega (arith, b, r.as_many)) (slice_get-get_or members i p b)))
 
-      in_kept : (i : ℕ) → i < length members → Held i → IsInUnion part v
+      in_kept : (i : ℕ) → i < length members → Held i → IsInPowerset part v
       in_kept i b h =
           let t = climbs (length members) Above Held Good through strict step i b h in
           record {
@@ -129,10 +129,10 @@ module _ (dim : ℕ) (members part : List Polyhedron) (dims : AreOfDimension dim
             holds = t.2.1;
           }
 
-  points_kept : (v : List ℤ) → IsPoint dim v → IsInUnion members v → IsInUnion part v
+  points_kept : (v : List ℤ) → IsPoint dim v → IsInPowerset members v → IsInPowerset part v
   points_kept v pt i = in_kept i.member v pt i.listed.0 i.listed.1 (subst (λ (o : Polyhedron). In o.cons v) (sym i.listed.2) i.holds)
 
-  points_of : (v : List ℤ) → IsInUnion part v → IsInUnion members v
+  points_of : (v : List ℤ) → IsInPowerset part v → IsInPowerset members v
   points_of v i = record {
     member = i.member;
     listed = All-contains (Contains members) part i.member (subst (All (Contains members)) (sym r.is_part) (all_marked (Contains members) r.keep members (All-contains_itself members))) i.listed;

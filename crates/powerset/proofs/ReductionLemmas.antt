@@ -1,5 +1,5 @@
 -- Which members of a list are left out.
-use Rattle.std.proofs.Common.{◌≡◌, ◌≢◌, ◌⊎◌, inl, inr, ℕ, suc, ◌+◌, ◌-◌, ◌<◌, ◌≤◌, List, [], ◌∷◌, ◌++◌, length, take, drop, get_or, slice_get, Some, Bool, true, false, ltb, refl, sym, ◌∙◌, subst, ap, append_assoc, append-nil, arith}
+use Rattle.std.proofs.Common.{◌≡◌, ◌≢◌, ◌⊎◌, inl, inr, ℕ, suc, ◌+◌, ◌-◌, ◌<◌, ◌≤◌, List, [], ◌∷◌, ◌++◌, length, take, drop, get_or, slice_get, Some, Bool, true, false, ℤ, ltb, refl, sym, ◌∙◌, subst, ap, append_assoc, append-nil, arith}
 use Rattle.std.specs.Prelude.{◌↔◌, MatchBool, IsTrue, not}
 use Rattle.std.specs.List.{remove}
 use Rattle.std.proofs.lemmas.Bool.{cases_lt}
@@ -8,6 +8,11 @@ use Rattle.std.proofs.lemmas.Option.{slice_get_within}
 use Rattle.std.proofs.lemmas.List.{length-append, length-take-le, get_or_append_left}
 use Rattle.std.proofs.lemmas.List.Edits.{remove-append_right}
 use Rattle.std.proofs.Math.Seq.{get_or-append_seam, take-suc, take-length, drop-cons, drop-length}
+use Rattle.row_core.specs.declared.errors.Overflow.{Overflow}
+use Rattle.row_core.specs.declared.PairOver.{PairOver}
+use Rattle.cons_sys.specs.Constraints.{Constraint, row_at}
+use Rattle.gens_sys.specs.Generators as gens
+use Rattle.gens_sys.specs.Generators.{Generator}
 use Rattle.row_core.specs.declared.errors.ConvErr.{ConvErr}
 use Rattle.row_core.specs.declared.errors.ConvErr.TheVariants as conversion
 use Rattle.flat_rows.specs.Flat.{marked}
@@ -16,8 +21,16 @@ use Rattle.poly_pair.specs.declared.topology.Topology.TheVariants.{Closed}
 use Rattle.poly_pair.specs.Polyhedra.{Polyhedron, HasNoPoint}
 use Rattle.lattice_ops.specs.Sets.{IsIncluded, HaveSamePoints}
 use Rattle.row_core.specs.Refusals.{IsOverflowIn}
-use Rattle.powerset.specs.Reductions.{Supersedes, IsSuperseded, IsLeftOut, AreMarks, LeavesInEither, LeavesBetween}
+use Rattle.powerset.specs.Reductions.{Supersedes, IsSuperseded, IsLeftOut, AreMarks, shown_pair, IsDecided, AreDecided, StopsAt, IsAsked, LeavesInAsking, LeavesAt, LeavesBetween}
 use Rattle.cover_search.proofs.BranchLemmas.{same_at}
+
+-- ---- what is shown
+abbrev pub with_rows : PairOver → List ℤ → List ℤ → Overflow
+with_rows pair left right = record { kind = pair.kind; step = 0; left = left; right = right; column = pair.column }
+
+-- of the rows of a pair
+pub shown_by : (cs : List Constraint) (gs : List Generator) (pair : PairOver) (left right : List ℤ) → left ≡ row_at cs pair.left → right ≡ gens.row_at gs pair.right → with_rows pair left right ≡ shown_pair cs gs pair
+shown_by cs gs pair left right e f = ap (λ (r : List ℤ). with_rows pair r right) e ∙ ap (λ (r : List ℤ). with_rows pair (row_at cs pair.left) r) f
 
 -- ---- one member and another
 pub same_back : (p q : Polyhedron) → p.cons.dim ≡ q.cons.dim → HaveSamePoints p q → IsIncluded q p
@@ -80,10 +93,39 @@ module _ (members : List Polyhedron) (i : ℕ) where
   pub not_superseded : (n : ℕ) (p : Polyhedron) → n ≡ length members → NoneBefore n → slice_get members i ≡ Some p → ¬ (IsSuperseded members i p)
   not_superseded n p e none at s = none s.index p s.other (omega (arith, slice_get_within members s.index s.other s.at)) s.differs at s.at s.supersedes
 
-  pub either_leaves : (k : ℕ) (one other : Polyhedron) (error : ConvErr) → slice_get members i ≡ Some one → slice_get members k ≡ Some other → k ≢ i → IsOverflowIn (LeavesInEither one other) error → IsOverflowIn (LeavesBetween members) error
-  either_leaves k one other (conversion.Overflow over) at_i at_k ne (inl l) = record { first = k; second = i; one = other; other = one; at_first = at_k; at_second = at_i; differ = ne; leaves = l }
-  either_leaves k one other (conversion.Overflow over) at_i at_k ne (inr l) = record { first = i; second = k; one = one; other = other; at_first = at_i; at_second = at_k; differ = λ e. ne (sym e); leaves = l }
-  either_leaves k one other conversion.Memory at_i at_k ne l = tt
+  -- ---- tests that are answered
+  pub stops_at : (k : ℕ) (one other p : Polyhedron) → slice_get members i ≡ Some one → slice_get members k ≡ Some other → Supersedes one other (IsTrue (ltb k i)) → slice_get members i ≡ Some p → StopsAt members i p k
+  stops_at k one other p at_i at_k s at = subst (λ (r : Polyhedron). StopsAt members i r k) (same_at members i i one p refl at_i at) (record {
+    other = other;
+    at = at_k;
+    supersedes = record { includes = s.includes; first = first_of_test one other k i s.first };
+  })
+
+  pub decided_by : (k : ℕ) (one other p q : Polyhedron) → slice_get members i ≡ Some one → slice_get members k ≡ Some other → IsDecided one other (IsTrue (ltb k i)) → slice_get members i ≡ Some p → slice_get members k ≡ Some q → IsDecided p q (k < i)
+  decided_by k one other p q at_one at_other d at_p at_q =
+      subst (λ (r : Polyhedron). IsDecided r q (k < i)) (same_at members i i one p refl at_one at_p)
+      (subst (λ (r : Polyhedron). IsDecided one r (k < i)) (same_at members k k other q refl at_other at_q)
+      (record { includes = d.includes; back = λ included later. d.back included (λ t. later (of_before k i t)) }))
+
+  -- for the first n members
+  abbrev pub DecidedBefore : ℕ → Type 0
+  DecidedBefore n = (p : Polyhedron) → slice_get members i ≡ Some p → AreDecided members i p n
+
+  pub decided_more : (n : ℕ) → DecidedBefore n → (n ≢ i → (p q : Polyhedron) → slice_get members i ≡ Some p → slice_get members n ≡ Some q → IsDecided p q (n < i)) → DecidedBefore (n + 1)
+  decided_more n before here p at l q b ne at_l = by_case (cases_lt l n)
+    where
+      by_case : (l < n) ⊎ (n ≤ l) → IsDecided p q (l < i)
+      by_case (inl less) = before p at l q less ne at_l
+      by_case (inr more) = let e : n ≡ l = omega arith in
+          subst (λ (m : ℕ). IsDecided p q (m < i)) e (here (λ f. ne (sym e ∙ f)) p q at (subst (λ (m : ℕ). slice_get members m ≡ Some q) (sym e) at_l))
+
+  back_leaves : (k : ℕ) (one other : Polyhedron) (over : Overflow) → LeavesInAsking one other (IsTrue (ltb k i)) over → LeavesInAsking one other (k < i) over
+  back_leaves k one other over (inl l) = inl l
+  back_leaves k one other over (inr l) = inr (record { included = l.included; behind = λ b. l.behind (to_before k i b); leaves = l.leaves })
+
+  pub asking_leaves : (k : ℕ) (one other : Polyhedron) (error : ConvErr) → slice_get members i ≡ Some one → slice_get members k ≡ Some other → k ≢ i → DecidedBefore k → IsOverflowIn (LeavesInAsking one other (IsTrue (ltb k i))) error → IsOverflowIn (LeavesAt members i) error
+  asking_leaves k one other (conversion.Overflow over) at_i at_k ne decided l = record { one = one; at_first = at_i; second = k; other = other; at_second = at_k; differ = ne; before = decided one at_i; leaves = back_leaves k one other over l }
+  asking_leaves k one other conversion.Memory at_i at_k ne decided l = tt
 
   -- ---- left out
   pub left_out_if : (b : Bool) (p : Polyhedron) → ¬ (HasNoPoint p) → MatchBool b (IsSuperseded members i p) (¬ (IsSuperseded members i p)) → MatchBool b (IsLeftOut members i p) (¬ (IsLeftOut members i p))
@@ -112,6 +154,31 @@ marks_more members keep left_out m h = record { each = each }
             subst (λ (k : ℕ). MatchBool (get_or (keep ++ not left_out ∷ []) k false) (¬ (IsLeftOut members k p)) (IsLeftOut members k p)) e
             (subst (λ (x : Bool). MatchBool x (¬ (IsLeftOut members (length keep) p)) (IsLeftOut members (length keep) p)) (sym (get_or-append_seam keep (not left_out) [] false))
             (turned left_out (IsLeftOut members (length keep) p) (h p (subst (λ (k : ℕ). slice_get members k ≡ Some p) (sym e) at))))
+
+-- ---- members that are asked
+-- the first n members are
+abbrev pub AreAsked : List Polyhedron → ℕ → Type 0
+AreAsked members n = (l : ℕ) (q : Polyhedron) → l < n → slice_get members l ≡ Some q → IsAsked members l q
+
+-- one more
+pub asked_more : (members : List Polyhedron) (n : ℕ) → AreAsked members n → ((q : Polyhedron) → slice_get members n ≡ Some q → IsAsked members n q) → AreAsked members (n + 1)
+asked_more members n asked here l q b at = by_case (cases_lt l n)
+  where
+    by_case : (l < n) ⊎ (n ≤ l) → IsAsked members l q
+    by_case (inl less) = asked l q less at
+    by_case (inr more) = let e : n ≡ l = omega arith in
+        subst (λ (m : ℕ). IsAsked members m q) e (here q (subst (λ (m : ℕ). slice_get members m ≡ Some q) (sym e) at))
+
+-- an empty member needs no test
+pub asked_empty : (members : List Polyhedron) (i : ℕ) (p : Polyhedron) → HasNoPoint p → IsAsked members i p
+asked_empty members i p none = record { upto = 0; decided = λ l q b. absurd (below_zero l b); ends = inl none }
+  where
+    below_zero : (l : ℕ) → l < 0 → ⊥
+    below_zero l b = omega (arith, b)
+
+pub at_leaves : (members : List Polyhedron) (n : ℕ) → AreAsked members n → (error : ConvErr) → IsOverflowIn (LeavesAt members n) error → IsOverflowIn (LeavesBetween members) error
+at_leaves members n asked (conversion.Overflow over) l = record { first = n; earlier = asked; leaves = l }
+at_leaves members n asked conversion.Memory l = tt
 
 -- ---- members taken out, from the last to the first
 none_marked : {X : Type 0} (keep : List Bool) → marked {X = X} keep [] ≡ []

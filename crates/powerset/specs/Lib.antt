@@ -2,4 +2,4 @@ pub mod Powersets
 pub mod Covers
 pub mod Reductions
 pub mod Joins
-pub mod UnionLaws
+pub mod PowersetLaws

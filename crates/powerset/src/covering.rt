@@ -1,4 +1,4 @@
-//! Whether one union covers another.
+//! Whether one powerset covers another.
 ghost use Rattle.std.specs.Prelude.{◌≡◌, All, IfErr, IfOk, MatchOption};
 ghost use Rattle.poly_pair.specs.Polyhedra.{Polyhedron};
 ghost use Rattle.cover_search.specs.Inequalities.{AreInequalities};
@@ -13,12 +13,12 @@ use row_core::{ConvErr, Memory, RowBuf, Steps};
 use std::alloc::Global;
 use std::sync::ledger::Ledger;
 
-/// Whether a union covers another: a point of the other that it lacks, if there is one.
+/// Whether a powerset covers another: a point of the other that it lacks, if there is one.
 #[derive(Debug, Drop)]
 pub enum Cover {
-    /// Each point of the other union is in it.
+    /// Each point of the other powerset is in it.
     Yes,
-    /// This point of the other union isn't.
+    /// This point of the other powerset isn't.
     No(RowBuf),
 }
 
@@ -40,9 +40,13 @@ fn some_uncovered<L: Ledger>(
     systems: &[Walls],
     steps: &mut Steps<L>,
 ) -> Result<Option<RowBuf>, ConvErr>
-    requires dims { All (λ (p : Polyhedron). All (λ rows. rows.dim ≡ p.cons.dim) systems.now) members.now }
+    requires dims { All (λ (p : Polyhedron). All
+        (λ rows. rows.dim ≡ p.cons.dim) systems.now) members.now }
     requires inequalities { All AreInequalities systems.now }
-    ensures found { IfOk result (λ found. MatchOption found (All (λ (p : Polyhedron). AreCovered p.cons systems.now) members.now) (HasUncovered members.now systems.now)) }
+    ensures found { IfOk result
+        (λ found. MatchOption found
+        (All (λ (p : Polyhedron). AreCovered p.cons systems.now) members.now)
+        (HasUncovered members.now systems.now)) }
     ensures overflow { IfErr result (IsOverflowIn (LeavesOnSome members.now systems.now)) }
 {
     for index in 0..members.len() {

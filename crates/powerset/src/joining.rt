@@ -1,4 +1,4 @@
-//! Unions of two unions, and their common points.
+//! Joins of two powersets, and their common points.
 ghost use Rattle.std.specs.Prelude.{◌≡◌, ◌++◌, ◌∷◌, [], All, IfErr, IfOk, OnOk};
 ghost use Rattle.poly_pair.specs.Polyhedra.{Polyhedron};
 ghost use Rattle.lattice_ops.specs.LatticeLaws.{AreAlike};
@@ -37,7 +37,8 @@ fn append_copies(all: &mut Vec<Poly>, members: &[Poly]) -> Result<(), Memory>
 ///
 /// # Errors
 ///
-/// A constraint and a generator of two of these members whose dot leaves the range.
+/// A constraint and a generator of two of these members whose dot leaves the range: the first to which the tests
+/// come. The members are asked in order, and each is compared with the others in order.
 pub fn join(alloc: Global, s: &Powerset, t: &Powerset) -> Result<Powerset, ConvErr>
     requires topology { s.now.topology ≡ t.now.topology }
     requires dim { s.now.dim ≡ t.now.dim }

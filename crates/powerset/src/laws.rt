@@ -1,12 +1,12 @@
-//! Laws of unions, of their covers, and of what joins and meets are.
-ghost use Rattle.powerset.specs.UnionLaws.{CoveredBothWays, CoversWhereIncluded, ReductionKeepsPoints, ReductionIsIrredundant, JoinIsUnion, PairMeetIsIntersection};
+//! Laws of powersets, of their covers, and of what joins and meets are.
+ghost use Rattle.powerset.specs.PowersetLaws.{CoveredBothWays, CoversWhereIncluded, ReductionKeepsPoints, ReductionIsIrredundant, JoinIsUnion, PairMeetIsIntersection};
 
-/// Two unions that cover each other have the same points, and those of the same points cover each other.
+/// Two powersets that cover each other have the same points, and those of the same points cover each other.
 pub fn covered_both_ways()
     ensures { CoveredBothWays }
 {}
 
-/// Between unions of one polyhedron, covering is inclusion.
+/// Between powersets of one polyhedron, covering is inclusion.
 pub fn covers_where_included()
     ensures { CoversWhereIncluded }
 {}

@@ -1,8 +1,9 @@
-//! Finite unions of polyhedra.
+//! Powersets: finite unions of polyhedra.
 //!
 //! - [`Powerset`] keeps polyhedra of one topology and dimension.
-//! - [`join`] and [`pmeet`] are unions and common points of two, without members that others include.
-//! - [`covers`] says whether each point of one union is in another, or shows a point that isn't.
+//! - [`join`] and [`pmeet`] have the points of two powersets, and their common points, without members that others
+//!   include.
+//! - [`covers`] says whether each point of one powerset is in another, or shows a point that isn't.
 //!
 //! [`laws`] says what these mean in words of points.
 #![tactic(auto)]

@@ -1,74 +1,51 @@
 //! Lists of polyhedra without members that others include.
-ghost use Rattle.std.specs.Prelude.{◌≡◌, ◌≢◌, ◌↔◌, ◌<◌, length, slice_get, All, IfErr, IfOk, IsTrue, Some, MatchBool, ℕ, remove};
+ghost use Rattle.std.specs.Prelude.{◌≡◌, ◌↔◌, ◌<◌, false, length, slice_get, IfErr, IfOk, IsTrue, Some, MatchBool, remove};
 ghost use Rattle.flat_rows.specs.Flat.{marked};
-ghost use Rattle.row_core.specs.Range.{DotStays, IsFirstToLeave};
-ghost use Rattle.cons_sys.specs.Constraints as constraints;
-ghost use Rattle.gens_sys.specs.Generators as generators;
 ghost use Rattle.poly_pair.specs.Polyhedra.{Polyhedron};
 ghost use Rattle.lattice_ops.specs.Sets.{IsIncluded};
+ghost use Rattle.lattice_ops.specs.Questions.{LeavesRange};
 ghost use Rattle.row_core.specs.Refusals.{IsOverflowIn};
-ghost use Rattle.powerset.specs.Reductions.{Supersedes, IsSuperseded, HaveOneDimension, LeavesInEither, IsLeftOut, AreMarks, IsReduced, LeavesInDot, LeavesBetween};
+ghost use Rattle.powerset.specs.Reductions.{Supersedes, IsSuperseded, HaveOneDimension, IsLeftOut, AreMarks, IsReduced, IsAnswered, IsDecided, IsAsked, LeavesInTest, LeavesInAsking, LeavesAt, LeavesBetween};
 
-use cons_sys::ConsSys;
-use gens_sys::GensSys;
 use lattice_ops::contains;
 use poly_pair::Poly;
-use row_core::{ConvErr, Memory, OverKind, Overflow, RowBuf};
+use row_core::{ConvErr, Memory, Overflow, PairOver};
 use std::alloc::Global;
 
-/// The overflow of the dot of a constraint and a generator.
-fn dot_overflow(
-    alloc: Global,
-    cons: &ConsSys,
-    gens: &GensSys,
-    constraint: usize,
-    generator: usize,
-    column: u32,
-) -> Result<Overflow, Memory>
-    requires constraint { constraint < length cons.now.list }
-    requires generator { generator < length gens.now.list }
-    requires column { IsFirstToLeave (DotStays (constraints.row_at cons.now.list constraint) (generators.row_at gens.now.list generator)) (length (constraints.row_at cons.now.list constraint)) column }
-    ensures { IfOk result (LeavesInDot cons.now.list gens.now.list) }
+/// The overflow that shows the constraint of p and the generator of q of a pair.
+fn shown(alloc: Global, p: &Poly, q: &Poly, pair: PairOver) -> Result<Overflow, Memory>
+    requires { LeavesRange p.now.cons.list q.now.gens.list false pair }
+    ensures { IfOk result (LeavesInTest p.now q.now) }
 {
-    let left = RowBuf::new(alloc, cons.row(constraint))?;
-    let right = RowBuf::new(alloc, gens.row(generator))?;
-    Ok(Overflow {
-        kind: OverKind::Dot,
-        step: 0,
-        left,
-        right,
-        column,
-    })
+    let (left, right) = (p.cons().row(pair.left), q.gens().row(pair.right));
+    Overflow::of_rows(alloc, pair.kind, left, right, pair.column)
 }
 
 /// Whether each point of q is in p.
 ///
 /// # Errors
 ///
-/// A constraint of p and a generator of q whose dot leaves the range.
+/// A constraint of p and a generator of q to which the test comes, and whose dot leaves the range.
 fn includes(alloc: Global, p: &Poly, q: &Poly) -> Result<bool, ConvErr>
     requires { p.now.cons.dim ≡ q.now.cons.dim }
     ensures holds { IfOk result (λ b. IsTrue b ↔ IsIncluded q.now p.now) }
-    ensures overflow { IfErr result (IsOverflowIn (LeavesInDot p.now.cons.list q.now.gens.list)) }
+    ensures answered { IfOk result (λ _. IsAnswered p.now q.now) }
+    ensures overflow { IfErr result (IsOverflowIn (LeavesInTest p.now q.now)) }
 {
     match contains(p, q) {
         Ok(answer) => Ok(answer),
-        Err(over) => Err(ConvErr::Overflow(dot_overflow(
-            alloc,
-            p.cons(),
-            q.gens(),
-            over.left,
-            over.right,
-            over.column,
-        )?)),
+        Err(pair) => Err(ConvErr::Overflow(shown(alloc, p, q, pair)?)),
     }
 }
 
 /// Whether the other polyhedron includes the one, and stands before it or has further points.
 fn supersedes(alloc: Global, one: &Poly, other: &Poly, before: bool) -> Result<bool, ConvErr>
     requires { one.now.cons.dim ≡ other.now.cons.dim }
-    ensures answer { IfOk result (λ b. MatchBool b (Supersedes one.now other.now (IsTrue before)) (¬ (Supersedes one.now other.now (IsTrue before)))) }
-    ensures overflow { IfErr result (IsOverflowIn (LeavesInEither one.now other.now)) }
+    ensures answer { let supersedes = Supersedes one.now other.now (IsTrue before) in
+        IfOk result (λ b. MatchBool b supersedes (¬ supersedes)) }
+    ensures decided { IfOk result (λ _. IsDecided one.now other.now (IsTrue before)) }
+    ensures overflow { IfErr result
+        (IsOverflowIn (LeavesInAsking one.now other.now (IsTrue before))) }
 {
     if !includes(alloc, other, one)? {
         return Ok(false);
@@ -84,8 +61,12 @@ fn supersedes(alloc: Global, one: &Poly, other: &Poly, before: bool) -> Result<b
 fn is_superseded(alloc: Global, members: &[Poly], index: usize) -> Result<bool, ConvErr>
     requires index { index < length members.now }
     requires dims { HaveOneDimension members.now }
-    ensures answer { (p : Polyhedron) → slice_get members.now index ≡ Some p → IfOk result (λ b. MatchBool b (IsSuperseded members.now index p) (¬ (IsSuperseded members.now index p))) }
-    ensures overflow { IfErr result (IsOverflowIn (LeavesBetween members.now)) }
+    ensures answer { (p : Polyhedron) → slice_get members.now index ≡ Some p
+        → let superseded = IsSuperseded members.now index p in
+        IfOk result (λ b. MatchBool b superseded (¬ superseded)) }
+    ensures asked { (p : Polyhedron) → slice_get members.now index ≡ Some p
+        → IfOk result (λ _. IsAsked members.now index p) }
+    ensures overflow { IfErr result (IsOverflowIn (LeavesAt members.now index)) }
 {
     for other in 0..members.len() {
         if other != index {
@@ -102,8 +83,12 @@ fn is_superseded(alloc: Global, members: &[Poly], index: usize) -> Result<bool, 
 fn is_left_out(alloc: Global, members: &[Poly], index: usize) -> Result<bool, ConvErr>
     requires index { index < length members.now }
     requires dims { HaveOneDimension members.now }
-    ensures answer { (p : Polyhedron) → slice_get members.now index ≡ Some p → IfOk result (λ b. MatchBool b (IsLeftOut members.now index p) (¬ (IsLeftOut members.now index p))) }
-    ensures overflow { IfErr result (IsOverflowIn (LeavesBetween members.now)) }
+    ensures answer { (p : Polyhedron) → slice_get members.now index ≡ Some p
+        → let left_out = IsLeftOut members.now index p in
+        IfOk result (λ b. MatchBool b left_out (¬ left_out)) }
+    ensures asked { (p : Polyhedron) → slice_get members.now index ≡ Some p
+        → IfOk result (λ _. IsAsked members.now index p) }
+    ensures overflow { IfErr result (IsOverflowIn (LeavesAt members.now index)) }
 {
     if members[index].is_empty() {
         return Ok(true);
@@ -114,7 +99,8 @@ fn is_left_out(alloc: Global, members: &[Poly], index: usize) -> Result<bool, Co
 /// Which members stay.
 fn marks_of(alloc: Global, members: &[Poly]) -> Result<Vec<bool>, ConvErr>
     requires { HaveOneDimension members.now }
-    ensures marks { IfOk result (λ keep. (length keep.items ≡ length members.now) × AreMarks members.now keep.items) }
+    ensures marks { IfOk result
+        (λ keep. (length keep.items ≡ length members.now) × AreMarks members.now keep.items) }
     ensures overflow { IfErr result (IsOverflowIn (LeavesBetween members.now)) }
 {
     let mut keep = Vec::new(alloc);
@@ -153,7 +139,7 @@ fn marked_alone(members: Vec<Poly>, keep: &[bool]) -> Vec<Poly>
 ///
 /// # Errors
 ///
-/// A constraint and a generator of two members whose dot leaves the range.
+/// A constraint and a generator of two members whose dot leaves the range: the first to which the tests come.
 pub(crate) fn reduced(alloc: Global, members: Vec<Poly>) -> Result<Vec<Poly>, ConvErr>
     requires { HaveOneDimension members.items }
     ensures reduced { IfOk result (λ part. IsReduced members.items part.items) }

@@ -1,4 +1,4 @@
-use Rattle.powerset.proofs.UnionPoints.{covered_both_ways}
+use Rattle.powerset.proofs.PowersetPoints.{covered_both_ways}
 use Rattle.powerset.proofs.laws.covered_both_ways.Goals as goal
 
 pub returns : goal.returns

@@ -1,4 +1,4 @@
-use Rattle.powerset.proofs.UnionPoints.{pair_meet_is_intersection}
+use Rattle.powerset.proofs.PowersetPoints.{pair_meet_is_intersection}
 use Rattle.powerset.proofs.laws.pair_meet_is_intersection.Goals as goal
 
 pub returns : goal.returns

@@ -7,9 +7,9 @@ use Rattle.std.proofs.lemmas.List.Elements.{All-nil, All-cons, All-append, All-w
 use Rattle.row_core.specs.Points.{IsPoint}
 use Rattle.cons_sys.specs.Constraints.{In}
 use Rattle.poly_pair.specs.Polyhedra.{Polyhedron}
-use Rattle.powerset.specs.Powersets.{Union, IsKeptUnion, IsMember, IsInUnion, IsSingle}
+use Rattle.powerset.specs.Powersets.{FinitePowerset, IsKeptPowerset, IsMember, IsInPowerset, IsSingle}
 use Rattle.powerset.specs.Joins.{pairs_of, IsMeetOf, AreMeets}
-use Rattle.powerset.specs.UnionLaws.{AreOfDimension, CoveredBothWays, CoversWhereIncluded, JoinIsUnion, PairMeetIsIntersection}
+use Rattle.powerset.specs.PowersetLaws.{AreOfDimension, CoveredBothWays, CoversWhereIncluded, JoinIsUnion, PairMeetIsIntersection}
 use Rattle.powerset.proofs.JoinLemmas.{pairs_all, meets_members}
 use Rattle.powerset.proofs.ReducedPoints.{reduction_keeps_points}
 
@@ -22,14 +22,14 @@ covered_both_ways s t d =
     (λ h v pt. (λ i. h.1 v (of_dim s.dim t.dim v d pt) i, λ i. h.0 v pt i), λ h. (λ v pt i. (h v pt).1 i, λ v pt i. (h v (of_dim t.dim s.dim v (sym d) pt)).0 i))
 
 -- the points of a single polyhedron
-in_single : (p : Polyhedron) (members : List Polyhedron) (v : List ℤ) → IsPoint p.cons.dim v → IsSingle p members → IsInUnion members v ↔ In p.cons v
-in_single p members v pt (inl (none, e)) = (λ i. nothing (subst (λ (ps : List Polyhedron). IsInUnion ps v) e i), λ h. absurd (none v (record { point = pt; holds = h })))
+in_single : (p : Polyhedron) (members : List Polyhedron) (v : List ℤ) → IsPoint p.cons.dim v → IsSingle p members → IsInPowerset members v ↔ In p.cons v
+in_single p members v pt (inl (none, e)) = (λ i. nothing (subst (λ (ps : List Polyhedron). IsInPowerset ps v) e i), λ h. absurd (none v (record { point = pt; holds = h })))
   where
-    nothing : IsInUnion [] v → In p.cons v
+    nothing : IsInPowerset [] v → In p.cons v
     nothing i = absurd (omega (arith, i.listed.1))
-in_single p members v pt (inr (some, e)) = (λ i. only (subst (λ (ps : List Polyhedron). IsInUnion ps v) e i), λ h. subst (λ (ps : List Polyhedron). IsInUnion ps v) (sym e) (record { member = p; listed = (0, omega arith, refl); holds = h }))
+in_single p members v pt (inr (some, e)) = (λ i. only (subst (λ (ps : List Polyhedron). IsInPowerset ps v) e i), λ h. subst (λ (ps : List Polyhedron). IsInPowerset ps v) (sym e) (record { member = p; listed = (0, omega arith, refl); holds = h }))
   where
-    only : IsInUnion (p ∷ []) v → In p.cons v
+    only : IsInPowerset (p ∷ []) v → In p.cons v
     only i = All-contains (λ (o : Polyhedron). In o.cons v → In p.cons v) (p ∷ []) i.member (All-cons (λ (o : Polyhedron). In o.cons v → In p.cons v) p [] (λ h. h) (All-nil (λ (o : Polyhedron). In o.cons v → In p.cons v))) i.listed i.holds
 
 pub covers_where_included : CoversWhereIncluded
@@ -39,17 +39,17 @@ covers_where_included p q s t d a b = (
 )
 
 -- ---- joins
-dims_of : (u : Union) → IsKeptUnion u → AreOfDimension u.dim u.members
+dims_of : (u : FinitePowerset) → IsKeptPowerset u → AreOfDimension u.dim u.members
 dims_of u kept = All-weaker (IsMember u.topology u.dim) (λ (p : Polyhedron). p.cons.dim ≡ u.dim) (λ p m. m.over.same_dim) u.members kept.each
 
-in_either : (ps qs : List Polyhedron) (v : List ℤ) → IsInUnion (ps ++ qs) v ↔ (IsInUnion ps v ⊎ IsInUnion qs v)
+in_either : (ps qs : List Polyhedron) (v : List ℤ) → IsInPowerset (ps ++ qs) v ↔ (IsInPowerset ps v ⊎ IsInPowerset qs v)
 in_either ps qs v = (λ i. by_place i (Contains-append_cases ps qs i.member i.listed), joined)
   where
-    by_place : (i : IsInUnion (ps ++ qs) v) → Contains ps i.member ⊎ Contains qs i.member → IsInUnion ps v ⊎ IsInUnion qs v
+    by_place : (i : IsInPowerset (ps ++ qs) v) → Contains ps i.member ⊎ Contains qs i.member → IsInPowerset ps v ⊎ IsInPowerset qs v
     by_place i (inl c) = inl (record { member = i.member; listed = c; holds = i.holds })
     by_place i (inr c) = inr (record { member = i.member; listed = c; holds = i.holds })
 
-    joined : IsInUnion ps v ⊎ IsInUnion qs v → IsInUnion (ps ++ qs) v
+    joined : IsInPowerset ps v ⊎ IsInPowerset qs v → IsInPowerset (ps ++ qs) v
     joined (inl i) = record { member = i.member; listed = Contains-append_left ps qs i.member i.listed; holds = i.holds }
     joined (inr i) = record { member = i.member; listed = Contains-append_right ps qs i.member i.listed; holds = i.holds }
 
@@ -72,11 +72,11 @@ pair_listed [] qs p q k b e c = absurd (omega (arith, b))
 pair_listed (x ∷ ps) qs p q zero b e c = Contains-append_left (map (λ (o : Polyhedron). (x, o)) qs) (pairs_of ps qs) (p, q) (subst (λ (y : Polyhedron). Contains (map {B = Polyhedron × Polyhedron} (λ (o : Polyhedron). (y, o)) qs) (p, q)) (sym e) (paired p q qs c))
 pair_listed (x ∷ ps) qs p q (suc k) b e c = Contains-append_right (map (λ (o : Polyhedron). (x, o)) qs) (pairs_of ps qs) (p, q) (pair_listed ps qs p q k (omega (arith, b)) e c)
 
-module _ (s t : Union) (kept_s : IsKeptUnion s) (meets : List Polyhedron) (m : AreMeets s.members t.members meets) (v : List ℤ) (pt : IsPoint s.dim v) where
+module _ (s t : FinitePowerset) (kept_s : IsKeptPowerset s) (meets : List Polyhedron) (m : AreMeets s.members t.members meets) (v : List ℤ) (pt : IsPoint s.dim v) where
   listed_point : (p : Polyhedron) → Contains s.members p → IsPoint p.cons.dim v
   listed_point p c = of_dim s.dim p.cons.dim v (sym (All-contains (λ (o : Polyhedron). o.cons.dim ≡ s.dim) s.members p (dims_of s kept_s) c)) pt
 
-  in_both : IsInUnion meets v → IsInUnion s.members v × IsInUnion t.members v
+  in_both : IsInPowerset meets v → IsInPowerset s.members v × IsInPowerset t.members v
   in_both i =
       let below : i.listed.0 < length (pairs_of s.members t.members) = omega (arith, i.listed.1, m.as_many) in
       let pair : Polyhedron × Polyhedron = get_or (pairs_of s.members t.members) i.listed.0 (i.member, i.member) in
@@ -85,7 +85,7 @@ module _ (s t : Union) (kept_s : IsKeptUnion s) (meets : List Polyhedron) (m : A
       let h = (r.meet.points v (listed_point pair.0 parts.0)).0 i.holds in
       (record { member = pair.0; listed = parts.0; holds = h.0 }, record { member = pair.1; listed = parts.1; holds = h.1 })
 
-  in_meet : IsInUnion s.members v × IsInUnion t.members v → IsInUnion meets v
+  in_meet : IsInPowerset s.members v × IsInPowerset t.members v → IsInPowerset meets v
   in_meet (i, j) =
       let c = pair_listed s.members t.members i.member j.member i.listed.0 i.listed.1 i.listed.2 j.listed in
       let r : IsMeetOf (i.member, j.member) (get_or meets c.0 i.member) = subst (λ (pair : Polyhedron × Polyhedron). IsMeetOf pair (get_or meets c.0 i.member)) c.2 (m.each c.0 (i.member, j.member) i.member c.1) in
