@@ -51,12 +51,16 @@ impl<E: Drop> Names<E> {
         self.entries.get(name)
     }
 
-    /// Puts the entry under the name. A name that is there keeps its place, and a new one goes
-    /// last. After want of memory the table is as before.
+    /// Puts the entry under the name. A name that is there keeps its place, for which no memory is wanted, and a new
+    /// one goes last. After want of memory the table is as before.
     pub fn put(&mut self, name: &[u8], entry: E) -> Result<(), Memory>
         ensures ok { OnOk result (self.new ≡ put self.old name.now entry) }
         ensures err { OnErr result (self.new ≡ self.old) }
     {
+        if let Some(place) = self.get_mut(name) {
+            *place = entry;
+            return Ok(());
+        }
         let key = Vec::from_slice(self.alloc, name)?;
         self.entries.insert(key, entry)?;
         Ok(())

@@ -14,6 +14,10 @@ pub mod Facets
 pub mod KeptExist
 pub mod WidenedRows
 pub mod Inclusions
+pub mod WeighedRows
+pub mod LargerRows
+pub mod AmongSets
+pub mod AmongLists
 pub mod RankLaws
 pub mod Places
 pub mod Totals
