@@ -1,35 +1,12 @@
-//! Images, preimages and changes of the dimension of polyhedra, on both topologies.
+//! Images, preimages, posts and changes of the dimension of polyhedra, from one crate.
 //!
-//! - [`image`] and [`preimage`] replace a variable by what stands in an [`ImageRel`] to an expression.
-//! - [`embed`], [`project`] and [`remove_dims`] add and take away variables.
-//! - [`concat`] gives the product of two sets, and [`padded_constraints`] constraints over more variables.
-//! - [`shadow`] keeps some columns of the points at which constraints hold, [`shadow_from`] begins with the stored
-//!   pair of a polyhedron, and [`shadow_generators_from`] gives generators alone.
-//! - [`post_from`] is the set of all successors of the states of a set by a relation, and [`post_generators`] gives
-//!   generators of it.
-//!
-//! [`laws`] says which of them undo each other, and what images by relations are.
+//! [`affine_maps`] has images, preimages, shadows and posts, [`dimensions`] the calls that add and take away
+//! variables, and [`mapped_systems`] the systems that both make.
 #![tactic(auto)]
 
-mod added_variables;
-mod columns;
-mod dimensions;
-mod images;
-mod inverse_maps;
-pub mod laws;
-mod mapped;
-mod posts;
-mod pulled;
-mod refusals;
-mod related;
-mod relations;
-mod shadows;
-mod stored_pairs;
-mod substitution;
-
+pub use affine_maps::{
+    ImageRel, image, later_variables, post_from, post_generators, preimage, shadow, shadow_from,
+    shadow_generators_from,
+};
 pub use dimensions::{concat, embed, project, remove_dims};
-pub use images::{image, preimage};
-pub use posts::{later_variables, post_from, post_generators};
-pub use pulled::padded_constraints;
-pub use relations::ImageRel;
-pub use shadows::{shadow, shadow_from, shadow_generators_from};
+pub use mapped_systems::padded_constraints;

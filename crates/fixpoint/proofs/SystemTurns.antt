@@ -27,7 +27,7 @@ use Rattle.widening.specs.RunLaws.{AreProper, IsAbove, AreTaken, IsTaken, IsFoun
 use Rattle.widening.proofs.Places.{same_at, has_at, all_at}
 use Rattle.widening.proofs.TurnLemmas.{enlarged}
 use Rattle.widening.proofs.OneRun.{one_set}
-use Rattle.affine_ops.specs.Posts.{IsPost, IsStepTo, SpanPost}
+use Rattle.affine_maps.specs.Posts.{IsPost, IsStepTo, SpanPost}
 use Rattle.fixpoint.specs.Runs.{IsValidOnPost, IsHullWithSuccessors, IsJoinedBy, LeavesOnHullWithPost, LeavesOnGrowth, LeavesByGenerators, LeavesByPost, LeavesBothWays, target_of, JoinsBy, LeavesBy, turns_of}
 use Rattle.fixpoint.specs.RunLaws.{AreClosedUnder}
 

@@ -6,7 +6,7 @@ use Rattle.trans_sys.specs.declared.transition.Transition.{Transition}
 use Rattle.trans_sys.specs.Systems.{TransitionSystem, IsKeptSystem}
 use Rattle.widening.specs.RunLaws as run
 use Rattle.widening.specs.RunLaws.{IncludeEach}
-use Rattle.affine_ops.specs.Posts.{IsStepTo}
+use Rattle.affine_maps.specs.Posts.{IsStepTo}
 use Rattle.fixpoint.specs.Runs.{HasLimit}
 
 -- a closed polyhedron of the system's dimension for each location

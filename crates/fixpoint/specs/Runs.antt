@@ -12,8 +12,8 @@ use Rattle.trans_sys.specs.Systems.{TransitionSystem}
 use Rattle.lattice_ops.specs.Sets.{IsValidOn, both_generators}
 use Rattle.widening.specs.Runs as run
 use Rattle.widening.specs.Runs.{TurnList}
-use Rattle.affine_ops.specs.Posts.{IsPost, IsStepTo, SpanPost}
-use Rattle.affine_ops.specs.PostLists.{LeavesOnSteps}
+use Rattle.affine_maps.specs.Posts.{IsPost, IsStepTo, SpanPost}
+use Rattle.affine_maps.specs.PostLists.{LeavesOnSteps}
 use Rattle.fixpoint.specs.PostLists.{LeavesOnPairedPost}
 
 -- ---- turns

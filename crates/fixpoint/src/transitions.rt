@@ -6,7 +6,7 @@ ghost use Rattle.widening.specs.RunLaws.{IsFound};
 ghost use Rattle.fixpoint.specs.Runs.{IsHullWithSuccessors, LeavesByGenerators, LeavesByPost, LeavesBothWays};
 
 use crate::successors::post;
-use affine_ops::post_generators;
+use affine_maps::post_generators;
 use lattice_ops::{grown, grown_by};
 use poly_pair::Poly;
 use row_core::{ConvErr, Steps};

@@ -2,7 +2,7 @@
 use Rattle.std.proofs.Common.{◌≡◌, ◌⊎◌, inl, inr, ℕ, sym, ◌∙◌, subst}
 use Rattle.poly_pair.specs.Polyhedra.{Polyhedron, IsKept, HasNoPoint}
 use Rattle.poly_pair.specs.ClosedPolyhedra.{IsClosedOver}
-use Rattle.affine_ops.specs.Posts.{IsPost}
+use Rattle.affine_maps.specs.Posts.{IsPost}
 use Rattle.hybrid.specs.Steps.{IsPartIn, IsFlown, IsTimePost, IsJumpPost}
 
 pub part_closed : (d : ℕ) (p q part : Polyhedron) → IsClosedOver d p → IsPartIn p q part → IsClosedOver d part

@@ -13,7 +13,7 @@ use Rattle.widening.proofs.Places.{same_at, has_at, all_at}
 use Rattle.widening.proofs.RoundLemmas.{start_table, rounds_table}
 use Rattle.widening.proofs.OneRun.{one_set, one_limit}
 use Rattle.hybrid.specs.Systems.{HybridAutomaton, IsKeptHybrid}
-use Rattle.affine_ops.specs.Posts.{IsPost}
+use Rattle.affine_maps.specs.Posts.{IsPost}
 use Rattle.hybrid.specs.Steps.{IsPartIn, IsFlown, IsTimePost, IsJumpPost}
 use Rattle.hybrid.specs.Turns.{Turn, time, jump, IsHullWithPost, Joins, turn_at, turns_of}
 use Rattle.hybrid.specs.Reaches.{AreParts, HasOneReach}

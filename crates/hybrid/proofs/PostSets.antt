@@ -6,10 +6,11 @@ use Rattle.row_core.specs.Points.{IsPoint, IsSamePoint}
 use Rattle.cons_sys.specs.Constraints.{In}
 use Rattle.poly_pair.specs.Polyhedra.{Polyhedron}
 use Rattle.poly_pair.specs.ClosedPolyhedra.{IsClosedOver}
-use Rattle.affine_ops.specs.Maps.{without, remaining, kept_variables}
-use Rattle.affine_ops.specs.Results.{IsImage, IsOfSource}
-use Rattle.affine_ops.proofs.AddedVariables.{remaining_back, kept_last}
-use Rattle.affine_ops.specs.Posts.{IsPost, IsStepTo}
+use Rattle.mapped_systems.specs.Maps.{without, remaining, kept_variables}
+use Rattle.dimensions.specs.Results.{IsImage}
+use Rattle.mapped_systems.specs.Sources.{HasSource}
+use Rattle.mapped_systems.proofs.KeptColumns.{remaining_back, kept_last}
+use Rattle.affine_maps.specs.Posts.{IsPost, IsStepTo}
 use Rattle.hybrid.specs.Steps.{IsPartIn, IsEmbedded, behind}
 
 -- ---- the first variables
@@ -38,7 +39,7 @@ module _ (set relation embedded pairs : Polyhedron) (c : IsClosedOver set.cons.d
   at_embedded v pt = subst (λ (d : ℕ). IsPoint d v) (sym e.over.same_dim) pt
 
   module _ (post : Polyhedron) (i : IsImage (remaining pairs.cons.dim (behind n)) (length (kept_variables pairs.cons.dim (behind n))) pairs post) where
-    step_of : (y : List ℤ) → IsOfSource (remaining pairs.cons.dim (behind n)) pairs y → IsStepTo set.cons relation.cons y
+    step_of : (y : List ℤ) → HasSource (remaining pairs.cons.dim (behind n)) pairs.cons y → IsStepTo set.cons relation.cons y
     step_of y s =
         let pt : IsPoint (n + n) s.source = subst (λ (d : ℕ). IsPoint d s.source) pairs_dim s.within.point in
         let both = (m.is_meet.points s.source (at_embedded s.source pt)).0 s.within.holds in
@@ -49,7 +50,7 @@ module _ (set relation embedded pairs : Polyhedron) (c : IsClosedOver set.cons.d
           target = subst (IsSamePoint y) (left_out s.source s.within.point) s.same;
         }
 
-    of_step : (y : List ℤ) → IsStepTo set.cons relation.cons y → IsOfSource (remaining pairs.cons.dim (behind n)) pairs y
+    of_step : (y : List ℤ) → IsStepTo set.cons relation.cons y → HasSource (remaining pairs.cons.dim (behind n)) pairs.cons y
     of_step y s =
         let pt : IsPoint (n + n) s.pair = subst (λ (d : ℕ). IsPoint d s.pair) relation_dim s.related.point in
         let at : IsPoint pairs.cons.dim s.pair = subst (λ (d : ℕ). IsPoint d s.pair) (sym pairs_dim) pt in

@@ -16,7 +16,7 @@ use Rattle.widening.specs.Widenings.{IsPartOf}
 use Rattle.widening.proofs.Places.{some_same, same_at, has_at, all_at}
 use Rattle.widening.proofs.OneRun.{one_set}
 use Rattle.hybrid.specs.Systems.{HybridAutomaton, IsKeptHybrid}
-use Rattle.affine_ops.specs.Posts.{IsStepTo}
+use Rattle.affine_maps.specs.Posts.{IsStepTo}
 use Rattle.hybrid.specs.Steps.{IsPartIn, IsFlown, IsTimePost, IsJumpPost}
 use Rattle.hybrid.specs.Turns.{Turn, jump, IsOfTime, IsOfJump, Joins, turn_at, place_of, turns_of}
 use Rattle.hybrid.specs.Reaches.{IsPartAt, AreParts, LeavesInPart, LeavesInParts, IncludeInitial, AreClosedUnderFlow, AreClosedUnderJumps}

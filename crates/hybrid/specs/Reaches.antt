@@ -9,7 +9,7 @@ use Rattle.elapse.specs.ElapsedPoints.{IsMoved}
 use Rattle.widening.specs.Runs.{HasLimit}
 use Rattle.widening.specs.RunOverflows.{LeavesInRun}
 use Rattle.hybrid.specs.Systems.{HybridAutomaton, IsKeptHybrid}
-use Rattle.affine_ops.specs.Posts.{IsStepTo}
+use Rattle.affine_maps.specs.Posts.{IsStepTo}
 use Rattle.hybrid.specs.Steps.{IsPartIn, LeavesOnMeet}
 use Rattle.hybrid.specs.Turns.{turns_of}
 

@@ -5,12 +5,12 @@ use Rattle.stored_systems.specs.WorkLists.{LeavesOn}
 use Rattle.poly_pair.specs.TopologyLists.{list_width, generators_of}
 use Rattle.poly_pair.specs.Polyhedra.{Polyhedron, IsKept, HasNoPoint}
 use Rattle.lattice_ops.specs.Sets.{IsMeet, meet_list, both_generators}
-use Rattle.affine_ops.specs.Maps.{with_zeros, without, remaining, kept_variables}
-use Rattle.affine_ops.specs.Results.{IsPreimage}
-use Rattle.affine_ops.specs.Refusals.{LeavesOnPulled, LeavesOnMapped}
+use Rattle.mapped_systems.specs.Maps.{with_zeros, without, remaining, kept_variables}
+use Rattle.dimensions.specs.Results.{IsPreimage}
+use Rattle.dimensions.specs.Refusals.{LeavesOnPulled, LeavesOnMapped}
 use Rattle.elapse.specs.Elapses.{IsElapse, LeavesOnElapse}
-use Rattle.affine_ops.specs.Posts.{IsPost}
-use Rattle.affine_ops.specs.PostLists.{LeavesOnSteps}
+use Rattle.affine_maps.specs.Posts.{IsPost}
+use Rattle.affine_maps.specs.PostLists.{LeavesOnSteps}
 
 -- the polyhedron of the points that are in both
 pub record IsPartIn (p q part : Polyhedron) : Type 0 where

@@ -3,11 +3,12 @@ ghost use Rattle.std.specs.Prelude.{◌≡◌, ◌+◌, ◌*◌, ◌≤◌, IfOk
 ghost use Rattle.poly_pair.specs.declared.topology.TheConstants.{MAX_DIM};
 ghost use Rattle.poly_pair.specs.ClosedPolyhedra.{IsClosedOver};
 ghost use Rattle.row_core.specs.Refusals.{IsOverflowIn};
-ghost use Rattle.affine_ops.specs.Posts.{IsPost};
+ghost use Rattle.affine_maps.specs.Posts.{IsPost};
 ghost use Rattle.hybrid.specs.Steps.{behind, LeavesOnEmbedding, LeavesOnEmbeddedPost};
 
 use crate::parts::part_in;
-use affine_ops::{embed, post_from, remove_dims};
+use affine_maps::post_from;
+use dimensions::{embed, remove_dims};
 use poly_pair::{MAX_DIM, Poly};
 use row_core::{ConvErr, Memory, Steps};
 use std::alloc::Global;

@@ -6,9 +6,9 @@ use Rattle.poly_pair.specs.declared.topology.Topology.TheVariants.{Closed}
 use Rattle.poly_pair.specs.Polyhedra.{Polyhedron, IsKept, IsOfConstraints}
 use Rattle.poly_pair.specs.Additions.{with_constraints}
 use Rattle.lattice_ops.specs.Sets.{IsHull, both_generators}
-use Rattle.affine_ops.specs.declared.relations.ImageRel.TheVariants.{Eq}
-use Rattle.affine_ops.specs.Relations.{IsImageBy}
-use Rattle.affine_ops.specs.ImageResults.{LeavesInImageBy}
+use Rattle.affine_maps.specs.declared.relations.ImageRel.TheVariants.{Eq}
+use Rattle.affine_maps.specs.Relations.{IsImageBy}
+use Rattle.affine_maps.specs.ImageResults.{LeavesInImageBy}
 use Rattle.widening.specs.Runs.{TurnList}
 use Rattle.loop_analysis.specs.declared.loops.Assignment.{Assignment}
 use Rattle.loop_analysis.specs.Loops.{WhileLoop}

@@ -7,7 +7,7 @@ ghost use Rattle.loop_analysis.specs.Loops.{IsAssignment};
 ghost use Rattle.loop_analysis.specs.Rounds.{IsImageOf, IsRound, IsJoined, LeavesInImage, LeavesInRound, LeavesInJoin};
 
 use crate::loops::{Assignment, Loop};
-use affine_ops::{ImageRel, image};
+use affine_maps::{ImageRel, image};
 use lattice_ops::grown;
 use poly_pair::Poly;
 use row_core::{ConvErr, Steps};

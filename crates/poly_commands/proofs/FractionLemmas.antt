@@ -10,7 +10,7 @@ use Rattle.reply_text.specs.declared.faults.Fault.TheVariants.{TooManyNames}
 use Rattle.poly_pair.specs.Polyhedra.{Polyhedron}
 use Rattle.poly_pair.specs.declared.topology.Topology.{Topology}
 use Rattle.poly_pair.specs.declared.topology.Topology.TheVariants.{Closed, Nnc}
-use Rattle.affine_ops.specs.Relations.{IsRelationFor}
+use Rattle.affine_maps.specs.Relations.{IsRelationFor}
 use Rattle.script_text.specs.declared.command.Part.{Part}
 use Rattle.script_text.specs.declared.command.Rel.{Rel}
 use Rattle.script_text.specs.declared.command.Rel.TheVariants as rel

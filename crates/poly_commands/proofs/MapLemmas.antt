@@ -3,8 +3,9 @@ use Rattle.std.proofs.Common.{Bool, IsTrue, ℕ, ◌<◌, List, All, Err, Ok, le
 use Rattle.row_core.specs.declared.errors.ConvErr.{ConvErr}
 use Rattle.reply_text.specs.declared.faults.Fault.TheVariants.{TooManyNames}
 use Rattle.poly_pair.specs.Polyhedra.{Polyhedron}
-use Rattle.affine_ops.specs.Maps.{remaining, kept_variables}
-use Rattle.affine_ops.specs.Refusals.{IsOverflowIn, LeavesOnMapped}
+use Rattle.mapped_systems.specs.Maps.{remaining, kept_variables}
+use Rattle.row_core.specs.Refusals.{IsOverflowIn}
+use Rattle.dimensions.specs.Refusals.{LeavesOnMapped}
 use Rattle.line_values.specs.declared.refusal.StepErr.{StepErr}
 use Rattle.line_values.specs.Order.{NoneOf, IsFirst, Passes}
 use Rattle.line_values.specs.Refusals.{refusal_of_conversion}

@@ -4,13 +4,13 @@ use Rattle.row_core.specs.declared.errors.Overflow.{Overflow}
 use Rattle.reply_text.specs.declared.faults.Fault.TheVariants as fault
 use Rattle.term_text.specs.Texts.{IsFrac}
 use Rattle.poly_pair.specs.Polyhedra.{Polyhedron}
-use Rattle.affine_ops.specs.declared.relations.ImageRel.{ImageRel}
-use Rattle.affine_ops.specs.declared.relations.ImageRel.TheVariants as image
-use Rattle.affine_ops.specs.Maps.{remaining, kept_variables}
-use Rattle.affine_ops.specs.Relations.{IsImageBy, IsPreimageBy}
-use Rattle.affine_ops.specs.ImageResults.{IsStoredOfImage, LeavesInImageBy, IsStoredOfPreimage, LeavesInPreimageBy}
-use Rattle.affine_ops.specs.Results.{IsImage, IsStoredOfMapped}
-use Rattle.affine_ops.specs.Refusals.{LeavesOnMapped}
+use Rattle.affine_maps.specs.declared.relations.ImageRel.{ImageRel}
+use Rattle.affine_maps.specs.declared.relations.ImageRel.TheVariants as image
+use Rattle.mapped_systems.specs.Maps.{remaining, kept_variables}
+use Rattle.affine_maps.specs.Relations.{IsImageBy, IsPreimageBy}
+use Rattle.affine_maps.specs.ImageResults.{IsStoredOfImage, LeavesInImageBy, IsStoredOfPreimage, LeavesInPreimageBy}
+use Rattle.dimensions.specs.Results.{IsImage, IsStoredOfMapped}
+use Rattle.dimensions.specs.Refusals.{LeavesOnMapped}
 use Rattle.script_text.specs.declared.command.Part.{Part}
 use Rattle.script_text.specs.declared.command.Rel.{Rel}
 use Rattle.script_text.specs.declared.command.Rel.TheVariants as rel

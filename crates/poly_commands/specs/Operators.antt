@@ -8,9 +8,9 @@ use Rattle.poly_pair.specs.Parts.{AreStoredOfRows, AreStoredOfGenerators}
 use Rattle.poly_pair.specs.TopologyLists.{list_width, generators_of}
 use Rattle.poly_pair.specs.declared.topology.TheConstants.{MAX_DIM}
 use Rattle.lattice_ops.specs.Sets.{IsMeet, IsHull, both_generators, meet_list}
-use Rattle.affine_ops.specs.Maps.{with_zeros, without}
-use Rattle.affine_ops.specs.Results.{IsPreimage, IsProjection, IsProduct, IsStoredOfMapped, IsStoredOfPulled, IsStoredOfJoined}
-use Rattle.affine_ops.specs.Refusals.{LeavesOnMapped, LeavesOnPulled, LeavesOnJoined}
+use Rattle.mapped_systems.specs.Maps.{with_zeros, without}
+use Rattle.dimensions.specs.Results.{IsPreimage, IsProjection, IsProduct, IsStoredOfMapped, IsStoredOfPulled, IsStoredOfJoined}
+use Rattle.dimensions.specs.Refusals.{LeavesOnMapped, LeavesOnPulled, LeavesOnJoined}
 use Rattle.elapse.specs.Elapses.{IsElapse, AreStoredOfElapse, LeavesOnElapse}
 use Rattle.script_text.specs.declared.command.Operator.{Operator}
 use Rattle.script_text.specs.declared.command.Operator.TheVariants.{Meet, Hull, Concat, Elapse}

@@ -3,7 +3,7 @@ ghost use Rattle.std.specs.Prelude.{◌≡◌, ◌≢◌, ℕ, ◌+◌, ◌<◌,
 ghost use Rattle.std.specs.Option.{option_copied};
 ghost use Rattle.row_core.specs.Range.{InRange, AllInRange};
 ghost use Rattle.row_core.specs.Refusals.{IsOverflowIn};
-ghost use Rattle.affine_ops.specs.Relations.{IsRelationFor};
+ghost use Rattle.affine_maps.specs.Relations.{IsRelationFor};
 ghost use Rattle.grammar.specs.Form.{Matches};
 ghost use Rattle.grammar.specs.Grammar.{alone};
 ghost use Rattle.grammar.specs.Cases.{frac_cases};
@@ -12,7 +12,7 @@ ghost use Rattle.poly_commands.specs.Affine.{remove as make_removed, mapped_by a
 ghost use Rattle.line_values.specs.Texts.{IsTextRefusal};
 ghost use Rattle.line_values.specs.Performed.{IsPerformed};
 
-use affine_ops::ImageRel;
+use affine_maps::ImageRel;
 use line_values::{StepErr, fraction_of};
 use poly_pair::Poly;
 use reply_text::Fault;
@@ -56,8 +56,8 @@ fn map<L: Ledger>(
     ensures overflow { IfErr result (IsOverflowIn (LeavesInMap op rel var expr.now den p.now)) }
 {
     match op {
-        Mapping::Image => affine_ops::image(alloc, p, var, rel, expr, den, steps),
-        Mapping::Preimage => affine_ops::preimage(alloc, p, var, rel, expr, den, steps),
+        Mapping::Image => affine_maps::image(alloc, p, var, rel, expr, den, steps),
+        Mapping::Preimage => affine_maps::preimage(alloc, p, var, rel, expr, den, steps),
     }
 }
 
@@ -139,7 +139,7 @@ pub fn remove<L: Ledger>(
     if full {
         return Err(StepErr::Input(Fault::TooManyNames));
     }
-    match affine_ops::remove_dims(alloc, p, columns.as_slice(), steps) {
+    match dimensions::remove_dims(alloc, p, columns.as_slice(), steps) {
         Ok(made) => Ok(made),
         Err(cause) => Err(StepErr::from(cause)),
     }

@@ -80,7 +80,7 @@ fn operate<L: Ledger>(
     match op {
         Operator::Meet => lattice_ops::meet(alloc, p, q, steps),
         Operator::Hull => lattice_ops::hull(alloc, p, q, steps),
-        Operator::Concat => affine_ops::concat(alloc, p, q, steps),
+        Operator::Concat => dimensions::concat(alloc, p, q, steps),
         Operator::Elapse => elapse::time_elapse(alloc, p, q, steps),
     }
 }
@@ -136,7 +136,7 @@ fn extension<L: Ledger>(
     ensures overflow { IfErr result (IsOverflowIn (LeavesInExtension by count p.now)) }
 {
     match by {
-        Extension::Embed => affine_ops::embed(alloc, p, count, steps),
-        Extension::Project => affine_ops::project(alloc, p, count, steps),
+        Extension::Embed => dimensions::embed(alloc, p, count, steps),
+        Extension::Project => dimensions::project(alloc, p, count, steps),
     }
 }

@@ -8,10 +8,10 @@ use Rattle.row_core.proofs.DotLemmas.{dot-take_more}
 use Rattle.row_core.proofs.Ring.{mul_comm, neg-mul}
 use Rattle.cone_laws.specs.Cones.{negated}
 use Rattle.cone_laws.proofs.Columns.{dot_comm, dot-add, dot-negated, length-add, length-scale}
-use Rattle.affine_ops.specs.Maps.{with_zeros}
+use Rattle.mapped_systems.specs.Maps.{with_zeros}
 use Rattle.ranking.specs.Functions.{state_of, successor_of, value_at}
 use Rattle.ranking.specs.RankingRows.{bound_row, differences, fall_row}
-use Rattle.affine_ops.proofs.ColumnLemmas.{dot-with_zeros}
+use Rattle.mapped_systems.proofs.ColumnLemmas.{dot-with_zeros}
 
 -- ---- rows cut in two
 no_more : (z : ℤ) → z ≡ pos 0 +ℤ z

@@ -4,7 +4,7 @@ ghost use Rattle.row_core.specs.Vectors.{cell, add};
 ghost use Rattle.row_core.specs.Range.{InRange, AllInRange, IsFirstToLeave};
 ghost use Rattle.row_core.specs.declared.errors.OverKind.TheVariants.{Scale};
 ghost use Rattle.cone_laws.specs.Cones.{negated};
-ghost use Rattle.affine_ops.specs.Refusals.{ShowsPair};
+ghost use Rattle.mapped_systems.specs.Refusals.{ShowsPair};
 ghost use Rattle.row_core.specs.Refusals.{IsOverflowIn};
 ghost use Rattle.ranking.specs.RankingRows.{bound_row, differences, fall_row};
 ghost use Rattle.ranking.specs.Refusals.{DifferenceStays, LeavesInDifferences};

@@ -13,11 +13,12 @@ use Rattle.stored_systems.specs.PointSets.{IsWithin}
 use Rattle.poly_pair.specs.Polyhedra.{Polyhedron}
 use Rattle.poly_pair.specs.declared.topology.Topology.{Topology}
 use Rattle.poly_pair.specs.TopologyConstraints.{IsConstraintFor}
-use Rattle.affine_ops.specs.declared.relations.ImageRel.{ImageRel}
-use Rattle.affine_ops.specs.Relations.{Stands, IsRelatedImage, IsRelatedPreimage, replaced}
-use Rattle.affine_ops.specs.Maps.{without, remaining, kept_variables}
-use Rattle.affine_ops.specs.Results.{IsOfSource, IsImage, IsPreimage, IsPadded, IsProjection, IsOfBoth, IsProduct}
-use Rattle.affine_ops.proofs.ColumnLemmas.{length-without}
+use Rattle.affine_maps.specs.declared.relations.ImageRel.{ImageRel}
+use Rattle.affine_maps.specs.Relations.{Stands, IsRelatedImage, IsRelatedPreimage, replaced}
+use Rattle.mapped_systems.specs.Maps.{without, remaining, kept_variables}
+use Rattle.mapped_systems.specs.Sources.{HasSource}
+use Rattle.dimensions.specs.Results.{IsImage, IsPreimage, IsPadded, IsProjection, IsOfBoth, IsProduct}
+use Rattle.mapped_systems.proofs.ColumnLemmas.{length-without}
 use Rattle.elapse.specs.ElapsedPoints.{IsMoved, IsElapsed, IsInElapse}
 use Rattle.elapse.specs.Elapses.{IsElapse}
 use Rattle.script_text.specs.declared.command.Part.{Part}
@@ -72,12 +73,12 @@ back_point dim count v is = record {
 within_same : (x y : Polyhedron) (v : List ℤ) → AreSamePolyhedra x y → IsWithin x.cons v → IsWithin y.cons v
 within_same x y v same w = record { point = subst (λ (n : ℕ). IsPoint n v) same.dim w.point; holds = (same.points v w.point).0 w.holds }
 
-source_same : (f : List ℤ → List ℤ) (x y : Polyhedron) (v : List ℤ) → AreSamePolyhedra x y → IsOfSource f x v → IsOfSource f y v
+source_same : (f : List ℤ → List ℤ) (x y : Polyhedron) (v : List ℤ) → AreSamePolyhedra x y → HasSource f x.cons v → HasSource f y.cons v
 source_same f x y v same h = record { source = h.source; within = within_same x y h.source same h.within; same = h.same }
 
 one_image : OneForm → (f : List ℤ → List ℤ) (to : ℕ) (x y r s : Polyhedron) → AreSamePolyhedra x y → IsProper r → IsProper s → IsImage f to x r → IsImage f to y s → AreSamePolyhedra r s
 one_image laws f to x y r s same a b h k =
-    one_of_same laws x.topology y.topology to to (IsOfSource f x) (IsOfSource f y) r s same.topology refl (λ v is. (source_same f x y v same, source_same f y x v (same_back x y same))) a b h.over k.over h.points k.points
+    one_of_same laws x.topology y.topology to to (HasSource f x.cons) (HasSource f y.cons) r s same.topology refl (λ v is. (source_same f x y v same, source_same f y x v (same_back x y same))) a b h.over k.over h.points k.points
 
 one_preimage : OneForm → (f : List ℤ → List ℤ) (to : ℕ) (x y r s : Polyhedron) → AreSamePolyhedra x y → ((v : List ℤ) → IsPoint to v → IsPoint x.cons.dim (f v)) → IsProper r → IsProper s → IsPreimage f to x r → IsPreimage f to y s → AreSamePolyhedra r s
 one_preimage laws f to x y r s same maps a b h k =

@@ -1,9 +1,9 @@
 use Rattle.std.proofs.Common.{rules, IfOk}
 use Rattle.std.proofs.lemmas.Result.{IfOk-weaker}
-use Rattle.affine_ops.specs.Posts.{IsPost}
-use Rattle.affine_ops.specs.Posts.{AreSuccessors}
-use Rattle.affine_ops.specs.PostLists.{IsPairSystem}
-use Rattle.affine_ops.proofs.PairSets.{pairs_closed, post_of_successors}
+use Rattle.affine_maps.specs.Posts.{IsPost}
+use Rattle.affine_maps.specs.Posts.{AreSuccessors}
+use Rattle.affine_maps.specs.PostLists.{IsPairSystem}
+use Rattle.affine_maps.proofs.PairSets.{pairs_closed, post_of_successors}
 use Rattle.fixpoint.proofs.successors.post_of_pairs.Goals as goal
 
 pub successors-requires-clause-closed : goal.successors-requires-clause-closed

@@ -2,7 +2,7 @@ use Rattle.std.proofs.Common.{subst}
 use Rattle.std.proofs.lemmas.Result.{IfOk-weaker, IfErr-weaker}
 use Rattle.cons_sys.specs.Constraints.{FitDimension}
 use Rattle.lattice_ops.specs.Growing.{IsGrownBy}
-use Rattle.affine_ops.specs.Posts.{SpanPostIfAny}
+use Rattle.affine_maps.specs.Posts.{SpanPostIfAny}
 use Rattle.widening.specs.RunLaws.{IsFound}
 use Rattle.poly_pair.specs.Refusals.{IsOverflowOn}
 use Rattle.poly_pair.specs.Work.{added_gens}

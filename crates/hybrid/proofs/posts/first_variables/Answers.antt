@@ -1,5 +1,5 @@
 use Rattle.std.proofs.Common.{ℕ, List, [], ◌∷◌, ◌++◌, ap, sym, ◌∙◌}
-use Rattle.affine_ops.proofs.RelatedResults.{range_push}
+use Rattle.affine_maps.proofs.RelatedResults.{range_push}
 use Rattle.hybrid.proofs.posts.first_variables.Goals as goal
 
 pub loop-var-preserved : goal.loop-var-preserved

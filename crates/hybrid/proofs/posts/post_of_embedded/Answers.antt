@@ -2,12 +2,12 @@ use Rattle.std.proofs.Common.{◌≡◌, inl, inr, ℕ, ◌+◌, ◌<◌, List, 
 use Rattle.std.proofs.lemmas.Result.{IfOk-weaker, IfErr-weaker, err_from_is_err_and}
 use Rattle.row_core.specs.declared.errors.ConvErr.{ConvErr}
 use Rattle.row_core.specs.declared.errors.ConvErr.TheVariants as conversion
-use Rattle.affine_ops.specs.Maps.{with_zeros, without, remaining, kept_variables}
-use Rattle.affine_ops.specs.Results.{IsImage, IsPreimage}
+use Rattle.mapped_systems.specs.Maps.{with_zeros, without, remaining, kept_variables}
+use Rattle.dimensions.specs.Results.{IsImage, IsPreimage}
 use Rattle.row_core.specs.Refusals.{IsOverflowIn}
 use Rattle.row_core.proofs.RefusalLemmas.{overflow_weaker}
-use Rattle.affine_ops.specs.Refusals.{LeavesOnPulled, LeavesOnMapped}
-use Rattle.affine_ops.specs.Posts.{IsPost}
+use Rattle.dimensions.specs.Refusals.{LeavesOnPulled, LeavesOnMapped}
+use Rattle.affine_maps.specs.Posts.{IsPost}
 use Rattle.hybrid.specs.Steps.{IsEmbedded, behind, LeavesOnMeet, LeavesOnEmbedding}
 use Rattle.hybrid.proofs.PostSets.{behind_below, pairs_dim, post_of}
 use Rattle.hybrid.proofs.posts.post_of_embedded.Goals as goal

@@ -5,7 +5,7 @@ use Rattle.std.proofs.lemmas.Int.{to_z-of_z, fits_signed_from_abs}
 use Rattle.std.specs.Option.{option_copied}
 use Rattle.row_core.specs.Refusals.{IsOverflowIn}
 use Rattle.poly_pair.specs.Polyhedra.{Polyhedron}
-use Rattle.affine_ops.specs.declared.relations.ImageRel.{ImageRel}
+use Rattle.affine_maps.specs.declared.relations.ImageRel.{ImageRel}
 use Rattle.reply_text.specs.declared.faults.Fault.TheVariants.{TooManyNames}
 use Rattle.line_values.specs.Order.{IsFirst}
 use Rattle.line_values.specs.Meaning.{on_one}

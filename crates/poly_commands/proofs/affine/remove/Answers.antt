@@ -1,8 +1,9 @@
 use Rattle.std.proofs.Common.{◌≡◌, ℕ, ◌<◌, List, All, Option, Some, Ok, Err, length, sym, ◌∙◌, ap, subst}
 use Rattle.std.specs.Option.{option_copied}
 use Rattle.poly_pair.specs.Polyhedra.{Polyhedron}
-use Rattle.affine_ops.specs.Maps.{remaining, kept_variables}
-use Rattle.affine_ops.specs.Refusals.{IsOverflowIn, LeavesOnMapped}
+use Rattle.mapped_systems.specs.Maps.{remaining, kept_variables}
+use Rattle.row_core.specs.Refusals.{IsOverflowIn}
+use Rattle.dimensions.specs.Refusals.{LeavesOnMapped}
 use Rattle.reply_text.specs.declared.faults.Fault.TheVariants.{TooManyNames}
 use Rattle.line_values.specs.Order.{IsFirst}
 use Rattle.line_values.specs.Meaning.{on_one}

@@ -1,0 +1,10 @@
+pub mod MappedPolyhedra
+pub mod TurnedMaps
+pub mod ShadowSets
+pub mod PairSets
+pub mod RelatedRows
+pub mod RelatedImages
+pub mod RelatedPreimages
+pub mod RelatedResults
+pub mod EqualImages
+pub mod CarriedImages

@@ -1,0 +1,93 @@
+use Rattle.std.proofs.Common.{ℕ, ◌<◌, ℤ, pos, ◌<ℤ◌, refl, sym, ap, ◌∙◌, subst, ◌⊎◌, arith}
+use Rattle.std.specs.Prelude.{⊤, Option, MatchOption}
+use Rattle.std.proofs.lemmas.Result.{IfOk-weaker, IfErr-weaker, err_from_is_err_and}
+use Rattle.std.specs.Int.{w128}
+use Rattle.std.proofs.lemmas.Int.{to_z-of_z}
+use mir.Val.{SFits, to_z, of_z}
+use Rattle.row_core.specs.Range.{InRange}
+use Rattle.gens_sys.specs.Generators.{Generators, FitDimension}
+use Rattle.poly_pair.specs.TopologyLists.{list_width, generators_of}
+use Rattle.poly_pair.specs.Refusals.{IsOverflowOn}
+use Rattle.poly_pair.specs.Polyhedra.{Polyhedron, IsOfGenerators}
+use Rattle.poly_pair.proofs.StoredLemmas.{kept_dim}
+use Rattle.mapped_systems.specs.Maps.{substituted}
+use Rattle.mapped_systems.specs.MappedLists.{IsMappedSystem}
+use Rattle.row_core.specs.Vectors.{cell}
+use Rattle.affine_maps.specs.CarriedPairs.{CanBeCarried, ImagePairLeaves}
+use Rattle.affine_maps.specs.SubstitutedSets.{IsSubstitutedImage}
+use Rattle.row_core.specs.Refusals.{IsOverflowIn}
+use Rattle.mapped_systems.specs.Refusals.{SomeLeavesInImage}
+use Rattle.affine_maps.specs.SubstitutedSets.{LeavesOnSubstituted}
+use Rattle.mapped_systems.proofs.StoredPairs.{at_none}
+use Rattle.affine_maps.proofs.MappedPolyhedra.{lent_generators, mapped_kinds, mapped_point, image_points, mapped_overflow, either_overflow}
+use Rattle.affine_maps.proofs.images.substituted_image.Goals as goal
+
+pub generated-requires-clause-kinds : goal.generated-requires-clause-kinds
+generated-requires-clause-kinds g c =
+    let den_fits : SFits w128 c.args.den = c.ranges.den in
+    let p = c.args.p.now in
+    let m : IsMappedSystem (substituted c.args.var c.args.expr.now c.args.den) p.cons.dim p.gens c.in-Ok.mapped = lent_generators (λ n. substituted c.args.var c.args.expr.now c.args.den) (λ n. n) p c.gens.result.now c.in-Ok.mapped c.gens.ensures.value c.gens.ensures.kept (simp to_z-of_z at c.in-Ok.ensures.system) in
+    mapped_kinds (substituted c.args.var c.args.expr.now c.args.den) c.topology.result p.cons.dim p c.in-Ok.mapped c.topology.ensures.value c.topology.ensures.kept m
+
+pub generated-requires-clause-point : goal.generated-requires-clause-point
+generated-requires-clause-point g c =
+    let den_fits : SFits w128 c.args.den = c.ranges.den in
+    let p = c.args.p.now in
+    let m : IsMappedSystem (substituted c.args.var c.args.expr.now c.args.den) p.cons.dim p.gens c.in-Ok.mapped = lent_generators (λ n. substituted c.args.var c.args.expr.now c.args.den) (λ n. n) p c.gens.result.now c.in-Ok.mapped c.gens.ensures.value c.gens.ensures.kept (simp to_z-of_z at c.in-Ok.ensures.system) in
+    mapped_point (substituted c.args.var c.args.expr.now c.args.den) p.cons.dim p c.in-Ok.mapped c.gens.ensures.kept m
+
+pub returns-clause-points : goal.returns-clause-points
+returns-clause-points g c =
+    let den_fits : SFits w128 c.args.den = c.ranges.den in
+    let p = c.args.p.now in
+    let m : IsMappedSystem (substituted c.args.var c.args.expr.now c.args.den) p.cons.dim p.gens c.in-Ok.mapped = lent_generators (λ n. substituted c.args.var c.args.expr.now c.args.den) (λ n. n) p c.gens.result.now c.in-Ok.mapped c.gens.ensures.value c.gens.ensures.kept (simp to_z-of_z at c.in-Ok.ensures.system) in
+    IfOk-weaker c.generated.result (IsOfGenerators c.topology.result c.in-Ok.mapped) (IsSubstitutedImage c.args.var c.args.expr.now c.args.den p)
+    (λ q o. image_points c.args.var c.args.expr.now c.args.den p c.in-Ok.mapped c.topology.result c.topology.ensures.value c.gens.ensures.kept (subst FitDimension c.gens.ensures.value c.in-Ok.ensures.fit) c.requires.var c.requires.positive m q o)
+    c.generated.ensures.points
+
+pub returns-clause-overflow : goal.returns-clause-overflow
+returns-clause-overflow g c =
+    let den_fits : SFits w128 c.args.den = c.ranges.den in
+    let p = c.args.p.now in
+    let new = c.in-Ok.mapped in
+    let m : IsMappedSystem (substituted c.args.var c.args.expr.now c.args.den) p.cons.dim p.gens c.in-Ok.mapped = lent_generators (λ n. substituted c.args.var c.args.expr.now c.args.den) (λ n. n) p c.gens.result.now c.in-Ok.mapped c.gens.ensures.value c.gens.ensures.kept (simp to_z-of_z at c.in-Ok.ensures.system) in
+    let none = at_none c.in_ok-image.field-0 (CanBeCarried p (cell c.args.expr.now c.args.var) → ImagePairLeaves c.args.var c.args.expr.now (to_z w128 (of_z w128 c.args.den)) p) (λ _. ⊤) c.in_default.not-Some c.in_ok-image.ensures.none in
+    let pair = simp to_z-of_z at none in
+    IfErr-weaker c.generated.result (IsOverflowOn (list_width c.topology.result new.dim) new.dim (generators_of c.topology.result new)) (IsOverflowIn (λ over. SomeLeavesInImage c.args.var c.args.expr.now c.args.den p.gens.list over ⊎ LeavesOnSubstituted c.args.var c.args.expr.now c.args.den p over))
+    (λ e l. either_overflow (SomeLeavesInImage c.args.var c.args.expr.now c.args.den p.gens.list) (LeavesOnSubstituted c.args.var c.args.expr.now c.args.den p) e (mapped_overflow c.args.var c.args.expr.now c.args.den p new c.topology.result c.topology.ensures.value m pair e l))
+    c.generated.ensures.overflow
+
+pub returns-in-Some-clause-points : goal.returns-in-Some-clause-points
+returns-in-Some-clause-points g c =
+    let den_fits : SFits w128 c.args.den = c.ranges.den in
+    let p = c.args.p.now in
+    let m : IsMappedSystem (substituted c.args.var c.args.expr.now c.args.den) p.cons.dim p.gens c.in-Ok.mapped = lent_generators (λ n. substituted c.args.var c.args.expr.now c.args.den) (λ n. n) p c.gens.result.now c.in-Ok.mapped c.gens.ensures.value c.gens.ensures.kept (simp to_z-of_z at c.in-Ok.ensures.system) in
+    let o : IsOfGenerators p.topology c.in-Ok.mapped c.in-Some.image = subst (λ (x : Option Polyhedron). MatchOption x ⊤ (IsOfGenerators p.topology c.in-Ok.mapped)) c.in-Some.is c.in_ok-image.ensures.points in
+    image_points c.args.var c.args.expr.now c.args.den p c.in-Ok.mapped p.topology refl c.gens.ensures.kept (subst FitDimension c.gens.ensures.value c.in-Ok.ensures.fit) c.requires.var c.requires.positive m c.in-Some.image o
+
+pub image_generators-requires : goal.image_generators-requires
+image_generators-requires g c =
+    let back = sym (to_z-of_z w128 c.args.den c.ranges.den) in
+    let dim = ap (λ (gs : Generators). gs.dim) c.gens.ensures.value ∙ kept_dim c.args.p.now c.gens.ensures.kept in
+    record {
+      var = subst (λ (n : ℕ). c.args.var < n) (sym dim) c.requires.var;
+      wide = omega (arith, dim, c.requires.wide);
+      expr_in_range = c.requires.in_range;
+      den_in_range = subst InRange back c.requires.den_in_range;
+      positive = subst (λ (z : ℤ). pos 0 <ℤ z) back c.requires.positive;
+    }
+
+pub carried_image-requires : goal.carried_image-requires
+carried_image-requires g c =
+    let back = sym (to_z-of_z w128 c.args.den c.ranges.den) in
+    record {
+      var = c.requires.var;
+      wide = c.requires.wide;
+      in_range = c.requires.in_range;
+      den_in_range = subst InRange back c.requires.den_in_range;
+      positive = subst (λ (z : ℤ). pos 0 <ℤ z) back c.requires.positive;
+      mapped = lent_generators (λ n. substituted c.args.var c.args.expr.now (to_z w128 (of_z w128 c.args.den))) (λ n. n) c.args.p.now c.gens.result.now c.in-Ok.mapped c.gens.ensures.value c.gens.ensures.kept c.in-Ok.ensures.system;
+    }
+
+pub returns-in_err-image : goal.returns-in_err-image
+returns-in_err-image g c = let p = err_from_is_err_and c.from_residual.result c.from_residual.ensures.1 in rw (p.1, p.2) (record { points = tt; stored = tt; overflow = tt; no_fewer = omega (arith, c.carried_image.ensures.no_fewer) })

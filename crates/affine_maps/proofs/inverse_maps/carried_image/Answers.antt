@@ -1,0 +1,110 @@
+use Rattle.std.proofs.Common.{inl, inr, pos, ◌<◌, length, unsigned_abs, sym, subst, ap, arith}
+use Rattle.std.specs.Prelude.{⊤, IfOk, MatchOption}
+use Rattle.std.specs.Int.{w128}
+use Rattle.std.proofs.lemmas.Result.{IfOk-weaker, err_from_is_err_and}
+use Rattle.std.proofs.lemmas.Int.{to_z-of_z}
+use Rattle.row_core.specs.Vectors.{cell}
+use Rattle.row_core.specs.Range.{AllInRange, InRange}
+use Rattle.cons_sys.specs.Constraints.{Constraints, FitDimension as FitConstraints}
+use Rattle.gens_sys.specs.Generators.{FitDimension}
+use Rattle.poly_pair.specs.declared.topology.Topology.{Topology}
+use Rattle.poly_pair.specs.Polyhedra.{IsOfGenerators}
+use Rattle.poly_pair.specs.Parts.{AreStoredOfGenerators}
+use Rattle.mapped_systems.specs.StoredPairs.{HasOverflow}
+use Rattle.mapped_systems.proofs.StoredPairs.{none_weaker}
+use Rattle.affine_maps.specs.CarriedPairs.{CanBeCarried, ImagePairLeaves}
+use Rattle.affine_maps.proofs.CarriedImages.{image_pair, machine_in_range, machine_inverse, machine_negated, machine_pulled, machine_turned}
+use Rattle.affine_maps.proofs.inverse_maps.carried_image.Goals as goal
+
+pub preimage_constraints-requires : goal.preimage_constraints-requires
+preimage_constraints-requires g c = record {
+  var = subst (λ (cs : Constraints). c.args.var < cs.dim) (sym c.cons.ensures.value) c.requires.var;
+  wide = omega (arith, ap length c.deref.ensures.value, c.in_ok-row.ensures.row.wide, c.requires.wide, ap (λ (cs : Constraints). cs.dim) c.cons.ensures.value);
+  expr_in_range = subst AllInRange (sym c.deref.ensures.value) c.in_ok-row.ensures.in_range;
+  den_in_range = machine_in_range (cell c.args.expr.now c.args.var) c.abs.result (c.requires.in_range c.args.var (pos 0) (omega (arith, c.requires.wide, c.requires.var))) c.abs.ensures.value;
+}
+
+pub paired-requires-clause-pair : goal.paired-requires-clause-pair
+paired-requires-clause-pair g c =
+    let p = c.args.p.now in
+    let part = cell c.args.expr.now c.args.var in
+    let can : CanBeCarried p part = c.if-not-can_be_carried.ensures in
+    let r : InRange part = c.requires.in_range c.args.var (pos 0) (omega (arith, c.requires.wide, c.requires.var)) in
+    (image_pair p c.dim-dim.ensures.kept (subst FitDimension c.gens.ensures.value c.dim-vectors.ensures.rows) (subst FitConstraints c.cons.ensures.value c.in-Ok.ensures.fit) c.args.var c.requires.var c.args.expr.now c.deref.result.now c.args.den (pos (unsigned_abs part)) c.requires.positive
+    (machine_inverse c.args.var c.args.expr.now c.args.den (pos (unsigned_abs part)) c.in_ok-row.row.items c.deref.result.now (to_z-of_z w128 c.args.den c.ranges.den) c.deref.ensures.value c.in_ok-row.ensures.row) can c.args.gens.now c.requires.mapped c.in-Ok.cons
+    (machine_pulled p c.args.var part c.abs.result c.deref.result.now c.cons.result.now c.in-Ok.cons r c.abs.ensures.value c.cons.ensures.value c.in-Ok.ensures.system) c.zeros.result.now c.zeros.ensures.table).0
+
+pub paired-requires-clause-point : goal.paired-requires-clause-point
+paired-requires-clause-point g c =
+    let p = c.args.p.now in
+    let part = cell c.args.expr.now c.args.var in
+    let can : CanBeCarried p part = c.if-not-can_be_carried.ensures in
+    let r : InRange part = c.requires.in_range c.args.var (pos 0) (omega (arith, c.requires.wide, c.requires.var)) in
+    (image_pair p c.dim-dim.ensures.kept (subst FitDimension c.gens.ensures.value c.dim-vectors.ensures.rows) (subst FitConstraints c.cons.ensures.value c.in-Ok.ensures.fit) c.args.var c.requires.var c.args.expr.now c.deref.result.now c.args.den (pos (unsigned_abs part)) c.requires.positive
+    (machine_inverse c.args.var c.args.expr.now c.args.den (pos (unsigned_abs part)) c.in_ok-row.row.items c.deref.result.now (to_z-of_z w128 c.args.den c.ranges.den) c.deref.ensures.value c.in_ok-row.ensures.row) can c.args.gens.now c.requires.mapped c.in-Ok.cons
+    (machine_pulled p c.args.var part c.abs.result c.deref.result.now c.cons.result.now c.in-Ok.cons r c.abs.ensures.value c.cons.ensures.value c.in-Ok.ensures.system) c.zeros.result.now c.zeros.ensures.table).1
+
+pub returns-clause-points : goal.returns-clause-points
+returns-clause-points g c =
+    let can : CanBeCarried c.args.p.now (cell c.args.expr.now c.args.var) = c.if-not-can_be_carried.ensures in
+    subst (λ (t : Topology). IfOk c.paired.result (λ found. MatchOption found ⊤ (IsOfGenerators t c.args.gens.now))) (sym can.start.closed) c.paired.ensures.generators
+
+pub returns-clause-stored : goal.returns-clause-stored
+returns-clause-stored g c =
+    let can : CanBeCarried c.args.p.now (cell c.args.expr.now c.args.var) = c.if-not-can_be_carried.ensures in
+    subst (λ (t : Topology). IfOk c.paired.result (λ found. MatchOption found ⊤ (AreStoredOfGenerators t c.args.gens.now))) (sym can.start.closed) c.paired.ensures.stored_of_generators
+
+pub inverse_row-requires : goal.inverse_row-requires
+inverse_row-requires g c =
+    let can : CanBeCarried c.args.p.now (cell c.args.expr.now c.args.var) = c.if-not-can_be_carried.ensures in
+    record {
+      var = omega (arith, c.requires.var, c.requires.wide);
+      narrow = omega (arith, c.requires.wide, c.dim-dim.ensures.value, c.dim-dim.ensures.narrow);
+      part = can.part_is;
+      in_range = c.requires.in_range;
+      den_in_range = subst InRange (sym (to_z-of_z w128 c.args.den c.ranges.den)) c.requires.den_in_range;
+    }
+
+pub returns-in_err-row : goal.returns-in_err-row
+returns-in_err-row g c = let p = err_from_is_err_and c.from_residual.result c.from_residual.ensures.1 in rw p.1 (record { points = tt; stored = tt; none = tt; no_fewer = omega arith })
+
+pub paired-requires-clause-narrow : goal.paired-requires-clause-narrow
+paired-requires-clause-narrow g c = omega (arith, c.in-Ok.ensures.system.same_dim, ap (λ (cs : Constraints). cs.dim) c.cons.ensures.value, c.dim-dim.ensures.value, c.dim-dim.ensures.narrow)
+
+pub returns-clause-no_fewer : goal.returns-clause-no_fewer
+returns-clause-no_fewer g c = omega (arith, c.in-Ok.ensures.no_fewer, c.paired.ensures.no_fewer)
+
+pub abs-requires : goal.abs-requires
+abs-requires g c = machine_negated (cell c.args.expr.now c.args.var) (c.requires.in_range c.args.var (pos 0) (omega (arith, c.requires.wide, c.requires.var)))
+
+pub returns-clause-none : goal.returns-clause-none
+returns-clause-none g c =
+    let p = c.args.p.now in
+    let part = cell c.args.expr.now c.args.var in
+    let r : InRange part = c.requires.in_range c.args.var (pos 0) (omega (arith, c.requires.wide, c.requires.var)) in
+    IfOk-weaker c.paired.result (λ found. MatchOption found (HasOverflow c.in-Ok.cons) (λ _. ⊤)) (λ found. MatchOption found (CanBeCarried p part → ImagePairLeaves c.args.var c.args.expr.now c.args.den p) (λ _. ⊤))
+    (λ found h. none_weaker found (HasOverflow c.in-Ok.cons) (CanBeCarried p part → ImagePairLeaves c.args.var c.args.expr.now c.args.den p)
+    (λ over can. record {
+      row = c.deref.result.now;
+      inverse = machine_inverse c.args.var c.args.expr.now c.args.den (pos (unsigned_abs part)) c.in_ok-row.row.items c.deref.result.now (to_z-of_z w128 c.args.den c.ranges.den) c.deref.ensures.value c.in_ok-row.ensures.row;
+      leaves = inr (record {
+        system = c.in-Ok.cons;
+        pulled = machine_pulled p c.args.var part c.abs.result c.deref.result.now c.cons.result.now c.in-Ok.cons r c.abs.ensures.value c.cons.ensures.value c.in-Ok.ensures.system;
+        leaves = over;
+      });
+    }) h)
+    c.paired.ensures.none
+
+pub returns-in-Err-Overflow-clause-none : goal.returns-in-Err-Overflow-clause-none
+returns-in-Err-Overflow-clause-none g c =
+    let p = c.args.p.now in
+    let part = cell c.args.expr.now c.args.var in
+    let r : InRange part = c.requires.in_range c.args.var (pos 0) (omega (arith, c.requires.wide, c.requires.var)) in
+    λ can. record {
+      row = c.deref.result.now;
+      inverse = machine_inverse c.args.var c.args.expr.now c.args.den (pos (unsigned_abs part)) c.in_ok-row.row.items c.deref.result.now (to_z-of_z w128 c.args.den c.ranges.den) c.deref.ensures.value c.in_ok-row.ensures.row;
+      leaves = inl (machine_turned p c.args.var part c.abs.result c.deref.result.now c.cons.result.now c.in-Err-Overflow.field-0 c.in-Err-Overflow.field-0-0 r c.abs.ensures.value c.cons.ensures.value c.in-Err-Overflow.field-0-is c.in-Err-Overflow.ensures.overflow);
+    }
+
+pub returns-then-not-can_be_carried-clause-none : goal.returns-then-not-can_be_carried-clause-none
+returns-then-not-can_be_carried-clause-none g c = λ can. absurd (c.if-not-can_be_carried.ensures can)

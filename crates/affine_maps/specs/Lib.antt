@@ -1,0 +1,9 @@
+pub mod CarriedPairs
+pub mod Shadows
+pub mod Posts
+pub mod PostLists
+pub mod Relations
+pub mod RelationLaws
+pub mod SubstitutedSets
+pub mod ImageResults
+pub mod Laws

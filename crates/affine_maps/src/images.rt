@@ -1,0 +1,167 @@
+//! Images and preimages by a relation between a variable and an expression.
+ghost use Rattle.std.specs.Prelude.{◌≡◌, ◌+◌, ◌<◌, ◌≤◌, ◌⊎◌, length, pos, ◌<ℤ◌, IfOk, IfErr};
+ghost use Rattle.row_core.specs.Range.{InRange, AllInRange};
+ghost use Rattle.affine_maps.specs.SubstitutedSets.{IsSubstitutedImage, IsSubstitutedPreimage, IsStoredOfSubstituted, IsStoredOfPulledBack};
+ghost use Rattle.affine_maps.specs.Relations.{IsRelationFor, IsImageBy, IsPreimageBy};
+ghost use Rattle.affine_maps.specs.ImageResults.{IsStoredOfImage, LeavesInImageBy, IsStoredOfPreimage, LeavesInPreimageBy};
+ghost use Rattle.row_core.specs.Refusals.{IsOverflowIn};
+ghost use Rattle.mapped_systems.specs.Refusals.{SomeLeavesInImage, SomeLeavesInPullback};
+ghost use Rattle.affine_maps.specs.SubstitutedSets.{LeavesOnSubstituted, LeavesOnPulledBack};
+
+use crate::generated::generated;
+use crate::inverse_maps::{carried_image, carried_preimage};
+use crate::related::{related_image, related_preimage};
+use crate::relations::ImageRel;
+use mapped_systems::{image_generators, preimage_constraints};
+use poly_pair::Poly;
+use row_core::{ConvErr, Steps};
+use std::alloc::Global;
+use std::sync::ledger::Ledger;
+
+/// The points that those of a set become where a variable is replaced by the expression over the divisor. The
+/// generators are mapped, and their list is converted where the stored pair can't be mapped as a whole.
+///
+/// # Errors
+///
+/// An overflow shows a generator whose map leaves the range, or is one of the conversion of the list of the
+/// mapped generators, or of its second list.
+fn substituted_image<L: Ledger>(
+    alloc: Global,
+    p: &Poly,
+    var: usize,
+    expr: &[i128],
+    den: i128,
+    steps: &mut Steps<L>,
+) -> Result<Poly, ConvErr>
+    requires var { var < p.now.cons.dim }
+    requires wide { length expr.now ≡ p.now.cons.dim + 1 }
+    requires in_range { AllInRange expr.now }
+    requires den_in_range { InRange den }
+    requires positive { pos 0 <ℤ den }
+    ensures points { IfOk result (IsSubstitutedImage var expr.now den p.now) }
+    ensures stored { IfOk result (IsStoredOfSubstituted var expr.now den p.now) }
+    ensures overflow { IfErr result (IsOverflowIn (λ over. SomeLeavesInImage var expr.now den
+        p.now.gens.list over ⊎ LeavesOnSubstituted var expr.now den p.now over)) }
+    ensures no_fewer { steps.old ≤ steps.new }
+{
+    let mapped = match image_generators(alloc, p.gens(), var, expr, den) {
+        Ok(mapped) => mapped,
+        Err(cause) => return Err(cause),
+    };
+    if let Some(image) = carried_image(alloc, p, var, expr, den, &mapped, steps)? {
+        return Ok(image);
+    }
+    generated(alloc, p.topology(), &mapped, steps)
+}
+
+/// The points of a set in which a variable has any value that stands in the relation to that of the expression over the
+/// divisor. All other variables keep their values.
+///
+/// Where the relation is equality the generators are mapped, and their list is converted; where the map can be undone,
+/// those of a closed set without a line are paired with its constraints, mapped too. Else the list of the
+/// constraints with one more variable is converted, and then that of their generators where this variable has taken
+/// the place of the one.
+///
+/// # Errors
+///
+/// An overflow shows a generator whose map leaves the range, or is one of the conversion of one of these lists, or of
+/// the second list of the last.
+pub fn image<L: Ledger>(
+    alloc: Global,
+    p: &Poly,
+    var: usize,
+    rel: ImageRel,
+    expr: &[i128],
+    den: i128,
+    steps: &mut Steps<L>,
+) -> Result<Poly, ConvErr>
+    requires var { var < p.now.cons.dim }
+    requires rel { IsRelationFor p.now.topology rel }
+    requires wide { length expr.now ≡ p.now.cons.dim + 1 }
+    requires in_range { AllInRange expr.now }
+    requires den_in_range { InRange den }
+    requires positive { pos 0 <ℤ den }
+    ensures points { IfOk result (IsImageBy rel var expr.now den p.now) }
+    ensures stored { IfOk result (IsStoredOfImage rel var expr.now den p.now) }
+    ensures overflow { IfErr result (IsOverflowIn (LeavesInImageBy rel var expr.now den p.now)) }
+    ensures no_fewer { steps.old ≤ steps.new }
+{
+    if rel == ImageRel::Eq {
+        return substituted_image(alloc, p, var, expr, den, steps);
+    }
+    related_image(alloc, p, var, rel, expr, den, steps)
+}
+
+/// The points that are in a set once a variable is replaced by the expression over the divisor. The rows of the
+/// constraints are mapped, and their list is converted where the stored pair can't be mapped as a whole.
+///
+/// # Errors
+///
+/// An overflow shows a constraint whose map leaves the range, or is one of the conversion of the list of the
+/// mapped constraints, or of its second list.
+fn substituted_preimage<L: Ledger>(
+    alloc: Global,
+    p: &Poly,
+    var: usize,
+    expr: &[i128],
+    den: i128,
+    steps: &mut Steps<L>,
+) -> Result<Poly, ConvErr>
+    requires var { var < p.now.cons.dim }
+    requires wide { length expr.now ≡ p.now.cons.dim + 1 }
+    requires in_range { AllInRange expr.now }
+    requires den_in_range { InRange den }
+    requires positive { pos 0 <ℤ den }
+    ensures points { IfOk result (IsSubstitutedPreimage var expr.now den p.now) }
+    ensures stored { IfOk result (IsStoredOfPulledBack var expr.now den p.now) }
+    ensures overflow { IfErr result (IsOverflowIn (λ over. SomeLeavesInPullback var expr.now den
+        p.now.cons.list over ⊎ LeavesOnPulledBack var expr.now den p.now over)) }
+    ensures no_fewer { steps.old ≤ steps.new }
+{
+    let pulled = match preimage_constraints(alloc, p.cons(), var, expr, den, steps) {
+        Ok(pulled) => pulled,
+        Err(cause) => return Err(cause),
+    };
+    if let Some(preimage) = carried_preimage(alloc, p, var, expr, den, &pulled, steps)? {
+        return Ok(preimage);
+    }
+    Poly::from_cons(alloc, p.topology(), &pulled, steps)
+}
+
+/// The points that are in a set once a variable is replaced by some value that stands in the relation to that of the
+/// expression over the divisor.
+///
+/// Where the relation is equality the rows of the constraints are mapped, and their list is converted; where the map
+/// can be undone, those of a closed set without a line are paired with its generators, mapped too. Else the list of the
+/// constraints with one more variable in the place of the one is converted, and then that of their generators without
+/// it.
+///
+/// # Errors
+///
+/// An overflow shows a constraint whose map leaves the range, or is one of the conversion of one of these lists, or of
+/// the second list of the last.
+pub fn preimage<L: Ledger>(
+    alloc: Global,
+    p: &Poly,
+    var: usize,
+    rel: ImageRel,
+    expr: &[i128],
+    den: i128,
+    steps: &mut Steps<L>,
+) -> Result<Poly, ConvErr>
+    requires var { var < p.now.cons.dim }
+    requires rel { IsRelationFor p.now.topology rel }
+    requires wide { length expr.now ≡ p.now.cons.dim + 1 }
+    requires in_range { AllInRange expr.now }
+    requires den_in_range { InRange den }
+    requires positive { pos 0 <ℤ den }
+    ensures points { IfOk result (IsPreimageBy rel var expr.now den p.now) }
+    ensures stored { IfOk result (IsStoredOfPreimage rel var expr.now den p.now) }
+    ensures overflow { IfErr result (IsOverflowIn (LeavesInPreimageBy rel var expr.now den p.now)) }
+    ensures no_fewer { steps.old ≤ steps.new }
+{
+    if rel == ImageRel::Eq {
+        return substituted_preimage(alloc, p, var, expr, den, steps);
+    }
+    related_preimage(alloc, p, var, rel, expr, den, steps)
+}

@@ -1,0 +1,4 @@
+pub mod AddedVariables
+pub mod Results
+pub mod Refusals
+pub mod Laws

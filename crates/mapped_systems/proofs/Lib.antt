@@ -1,0 +1,14 @@
+pub mod ColumnLemmas
+pub mod LinearMaps
+pub mod Weights
+pub mod MappedSets
+pub mod PulledSets
+pub mod ListSteps
+pub mod KeptVariables
+pub mod KeptColumns
+pub mod SamePoints
+pub mod MappedKinds
+pub mod CarriedSystems
+pub mod InverseMaps
+pub mod CarriedLists
+pub mod StoredPairs

@@ -1,0 +1,111 @@
+//! Systems of mapped generators.
+ghost use Rattle.std.specs.Prelude.{◌≡◌, ℕ, ◌+◌, ◌-◌, ◌^◌, ◌<◌, length, pos, ◌<ℤ◌, All, IfOk, IfErr, OnOk};
+ghost use Rattle.row_core.specs.Vectors.{cell};
+ghost use Rattle.row_core.specs.Range.{InRange, AllInRange};
+ghost use Rattle.gens_sys.specs.Kinds.{HasBadDivisor};
+ghost use Rattle.gens_sys.specs.Generators.{FitDimension};
+ghost use Rattle.mapped_systems.specs.Maps.{substituted, with_zeros, picked, remaining, kept_variables};
+ghost use Rattle.mapped_systems.specs.MappedLists.{GainsMapped, IsMappedSystem};
+ghost use Rattle.row_core.specs.Refusals.{IsOverflowIn};
+ghost use Rattle.mapped_systems.specs.Refusals.{SomeLeavesInImage};
+
+use crate::columns::{kept_variables, picked, with_zeros};
+use crate::substitution::image_row;
+use gens_sys::{GenKind, GenPushErr, GensSys};
+use row_core::{ConvErr, Memory, RowBuf};
+use std::alloc::Global;
+
+/// Appends a mapped vector, made primitive. A line or a ray that became 0 is left out.
+fn push_mapped(gens: &mut GensSys, row: RowBuf, kind: GenKind) -> Result<(), Memory>
+    requires wide { length row ≡ gens.old.dim + 1 }
+    requires divisor { ¬ (HasBadDivisor kind (cell row gens.old.dim)) }
+    ensures dim { gens.new.dim ≡ gens.old.dim }
+    ensures list { OnOk result (GainsMapped gens.old.list gens.new.list row kind) }
+{
+    match gens.push_row(row, kind) {
+        Ok(()) => Ok(()),
+        Err(GenPushErr::ZeroVector) => Ok(()),
+        Err(GenPushErr::Memory) => Err(Memory),
+        Err(GenPushErr::BadDivisor) => unreachable!(),
+    }
+}
+
+/// The generators in which the variable is replaced.
+pub fn image_generators(
+    alloc: Global,
+    gens: &GensSys,
+    var: usize,
+    expr: &[i128],
+    den: i128,
+) -> Result<GensSys, ConvErr>
+    requires var { var < gens.now.dim }
+    requires wide { length expr.now ≡ gens.now.dim + 1 }
+    requires expr_in_range { AllInRange expr.now }
+    requires den_in_range { InRange den }
+    requires positive { pos 0 <ℤ den }
+    ensures fit { FitDimension gens.now }
+    ensures system { IfOk result (IsMappedSystem (substituted var expr.now den)
+        gens.now.dim gens.now) }
+    ensures overflow { IfErr result
+        (IsOverflowIn (SomeLeavesInImage var expr.now den gens.now.list)) }
+{
+    let mut mapped = GensSys::with_room(alloc, gens.dim(), gens.len())?;
+    for index in 0..gens.len() {
+        let row = match image_row(alloc, var, expr, den, gens.row(index)) {
+            Ok(row) => row,
+            Err(cause) => return Err(cause),
+        };
+        push_mapped(&mut mapped, row, gens.kind(index))?;
+    }
+    Ok(mapped)
+}
+
+/// The generators with more variables behind, all 0.
+pub fn padded_generators(alloc: Global, gens: &GensSys, count: usize) -> Result<GensSys, Memory>
+    requires narrow { gens.now.dim + count < 2 ^ 32 - 2 }
+    ensures fit { FitDimension gens.now }
+    ensures system { IfOk result (IsMappedSystem (with_zeros gens.now.dim count)
+        (gens.now.dim + count) gens.now) }
+{
+    let mut mapped = GensSys::with_room(alloc, gens.dim() + count, gens.len())?;
+    for index in 0..gens.len() {
+        let row = with_zeros(alloc, gens.dim(), count, gens.row(index))?;
+        push_mapped(&mut mapped, row, gens.kind(index))?;
+    }
+    Ok(mapped)
+}
+
+/// The generators' entries at the columns, and then the divisors.
+pub fn picked_generators(
+    alloc: Global,
+    gens: &GensSys,
+    columns: &[usize],
+) -> Result<GensSys, Memory>
+    requires columns { All (λ (j : ℕ). j < gens.now.dim) columns.now }
+    requires narrow { length columns.now < 2 ^ 32 - 2 }
+    ensures fit { FitDimension gens.now }
+    ensures system { IfOk result (IsMappedSystem (picked columns.now gens.now.dim)
+        (length columns.now) gens.now) }
+{
+    let divisor = gens.dim();
+    let mut mapped = GensSys::with_room(alloc, columns.len(), gens.len())?;
+    for index in 0..gens.len() {
+        let row = picked(alloc, columns, divisor, gens.row(index))?;
+        push_mapped(&mut mapped, row, gens.kind(index))?;
+    }
+    Ok(mapped)
+}
+
+/// The generators without the named variables.
+pub fn remaining_generators(
+    alloc: Global,
+    gens: &GensSys,
+    named: &[usize],
+) -> Result<GensSys, Memory>
+    ensures fit { FitDimension gens.now }
+    ensures system { IfOk result (IsMappedSystem (remaining gens.now.dim named.now)
+        (length (kept_variables gens.now.dim named.now)) gens.now) }
+{
+    let columns = kept_variables(alloc, gens.dim(), named)?;
+    picked_generators(alloc, gens, &columns)
+}
