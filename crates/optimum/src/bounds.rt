@@ -64,7 +64,8 @@ fn extremum(up: bool, p: &Poly, row: &[i128]) -> Result<Sup, PairOver>
     ensures holds { IfOk result (IsTrueSup up row.now p.now) }
     ensures empty { (result ≡ Ok answers.Empty) ↔ HasNoPoint p.now }
     ensures unbounded { IfOk result (λ s. (s ≡ answers.Unbounded) ↔ IsUnbounded up row.now p.now) }
-    ensures over { (over : PairOver) → (result ≡ Err over) ↔ SeekLeaves up row.now p.now.gens.dim p.now.gens.list over }
+    ensures over { (over : PairOver) → (result ≡ Err over)
+        ↔ SeekLeaves up row.now p.now.gens.dim p.now.gens.list over }
 {
     let gens = p.gens();
     let _dim = gens.dim();
@@ -86,8 +87,10 @@ pub fn sup(p: &Poly, expr: &[i128]) -> Result<Sup, PairOver>
     ensures answer { SupAnswer true expr.now p.now.gens result }
     ensures holds { IfOk result (IsTrueSup true expr.now p.now) }
     ensures empty { (result ≡ Ok answers.Empty) ↔ HasNoPoint p.now }
-    ensures unbounded { IfOk result (λ s. (s ≡ answers.Unbounded) ↔ IsUnbounded true expr.now p.now) }
-    ensures over { (over : PairOver) → (result ≡ Err over) ↔ SeekLeaves true expr.now p.now.gens.dim p.now.gens.list over }
+    ensures unbounded { IfOk result (λ s. (s ≡ answers.Unbounded)
+        ↔ IsUnbounded true expr.now p.now) }
+    ensures over { (over : PairOver) → (result ≡ Err over)
+        ↔ SeekLeaves true expr.now p.now.gens.dim p.now.gens.list over }
 {
     extremum(true, p, expr)
 }
@@ -102,8 +105,10 @@ pub fn inf(p: &Poly, expr: &[i128]) -> Result<Sup, PairOver>
     ensures answer { SupAnswer false expr.now p.now.gens result }
     ensures holds { IfOk result (IsTrueSup false expr.now p.now) }
     ensures empty { (result ≡ Ok answers.Empty) ↔ HasNoPoint p.now }
-    ensures unbounded { IfOk result (λ s. (s ≡ answers.Unbounded) ↔ IsUnbounded false expr.now p.now) }
-    ensures over { (over : PairOver) → (result ≡ Err over) ↔ SeekLeaves false expr.now p.now.gens.dim p.now.gens.list over }
+    ensures unbounded { IfOk result (λ s. (s ≡ answers.Unbounded)
+        ↔ IsUnbounded false expr.now p.now) }
+    ensures over { (over : PairOver) → (result ≡ Err over)
+        ↔ SeekLeaves false expr.now p.now.gens.dim p.now.gens.list over }
 {
     extremum(false, p, expr)
 }

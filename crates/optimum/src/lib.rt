@@ -8,7 +8,6 @@
 //! None of the first three calls takes memory. Each may answer the first product or partial sum that leaves the range.
 #![tactic(auto)]
 
-mod asking;
 mod bounds;
 pub mod laws;
 mod outcome;

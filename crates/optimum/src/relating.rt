@@ -5,12 +5,12 @@ ghost use Rattle.row_core.specs.declared.PairOver.{PairOver};
 ghost use Rattle.optimum.specs.Values.{ValueAnswer, RowLeaves};
 ghost use Rattle.optimum.specs.Relations.{AreNoted, AreFlags, SidesAnswer, RelationAnswer, IsRelation};
 
-use crate::asking::asks;
 use crate::outcome::Relation;
 use cons_sys::ConKind;
 use gens_sys::{GenKind, GensSys};
 use poly_pair::Poly;
 use row_core::{OverKind, PairOver, dot};
+use set_laws::asks;
 
 /// Which constraints of a row and of its negative all generators so far meet.
 #[derive(Clone, Copy)]
@@ -115,7 +115,8 @@ pub fn relation(p: &Poly, row: &[i128], kind: ConKind) -> Result<Relation, PairO
     requires wide { length row.now ≡ p.now.cons.dim + 1 }
     ensures answer { RelationAnswer row.now kind p.now result }
     ensures holds { IfOk result (IsRelation p.now.cons row.now kind) }
-    ensures over { (over : PairOver) → (result ≡ Err over) ↔ RowLeaves row.now p.now.gens.list over }
+    ensures over { (over : PairOver) → (result ≡ Err over)
+        ↔ RowLeaves row.now p.now.gens.list over }
 {
     let gens = p.gens();
     let _dim = gens.dim();

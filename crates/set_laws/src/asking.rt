@@ -6,7 +6,7 @@ use cons_sys::ConKind;
 use gens_sys::GenKind;
 
 /// Whether a generator of this kind has the value that the constraint's kind asks.
-pub(crate) fn asks(kind: ConKind, generator: GenKind, value: i128) -> bool
+pub fn asks(kind: ConKind, generator: GenKind, value: i128) -> bool
     ensures { IsTrue result ↔ Asks kind generator value }
 {
     match (kind, generator) {
