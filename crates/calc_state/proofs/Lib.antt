@@ -5,6 +5,7 @@ mod LatticeOnce
 pub mod LineLemmas
 mod OnPolyhedra
 mod OptimaOnce
+mod PartLemmas
 mod PowersetLemmas
 mod QuestionLemmas
 mod RankingLemmas

@@ -4,7 +4,7 @@ use Rattle.poly_pair.specs.declared.topology.Topology.TheVariants.{Closed}
 use Rattle.poly_pair.specs.Polyhedra.{Polyhedron}
 use Rattle.ranking.specs.Rankings.{IsRankingSet}
 use Rattle.ranking.specs.PrintedRankings.{IsRankingText}
-use Rattle.poly_commands.specs.Proper.{IsProper}
+use Rattle.line_values.specs.Proper.{IsProper}
 use Rattle.line_values.specs.Order.{Passes}
 use Rattle.line_values.specs.Meaning.{room, no_fault, line}
 use Rattle.calc_state.specs.Rankings.{relates_states, ranking, IsRankingLine}

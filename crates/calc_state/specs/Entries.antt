@@ -3,7 +3,7 @@ use Rattle.trans_sys.specs.Systems.{IsKeptSystem}
 use Rattle.powerset.specs.Powersets.{IsKeptUnion}
 use Rattle.bd_shape.specs.Shapes.{IsShape}
 use Rattle.hybrid.specs.Systems.{IsKeptHybrid}
-use Rattle.poly_commands.specs.Proper.{IsProper}
+use Rattle.line_values.specs.Proper.{IsProper}
 use Rattle.calc_state.specs.declared.entry.Entry.{Entry}
 use Rattle.calc_state.specs.declared.entry.Entry.TheVariants as entry
 

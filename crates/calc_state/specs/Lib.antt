@@ -5,6 +5,7 @@ pub mod Hybrids
 pub mod Laws
 pub mod Line
 pub mod Meanings
+pub mod Parts
 pub mod Powersets
 pub mod Rankings
 pub mod Reading

@@ -6,11 +6,12 @@ use Rattle.calc_state.specs.Table.{Table, Change, poly_of, system_of, powerset_o
 use Rattle.line_values.specs.Effects.{puts, tells}
 use Rattle.line_values.specs.Meaning.{Meaning, on_one, on_two}
 use Rattle.poly_commands.specs.Meanings.{meaning as meaning_on_polyhedra}
-use Rattle.calc_state.specs.Systems.{system, init, trans, fixpoint}
+use Rattle.calc_state.specs.Systems.{system, fixpoint}
+use Rattle.calc_state.specs.Parts.{init, trans, set_part}
 use Rattle.calc_state.specs.Powersets.{pset, of_two_powersets, member, psize, covers}
 use Rattle.calc_state.specs.Rankings.{rank, ranking}
 use Rattle.calc_state.specs.Shapes.{shape, bounds, of_two_shapes, shape_contains, shape_print, shape_poly}
-use Rattle.calc_state.specs.Hybrids.{hybrid, set_part, reach}
+use Rattle.calc_state.specs.Hybrids.{hybrid, reach}
 
 -- the meaning of the command
 abbrev pub meaning : Table → Command → Meaning Change

@@ -6,7 +6,7 @@ use Rattle.poly_pair.specs.Polyhedra.{Polyhedron}
 use Rattle.ranking.specs.Rankings.{IsRankingSet}
 use Rattle.ranking.specs.PrintedRankings.{IsRankingText}
 use Rattle.ranking.specs.Refusals.{LeavesInRanking}
-use Rattle.poly_commands.specs.Proper.{IsProper}
+use Rattle.line_values.specs.Proper.{IsProper}
 use Rattle.line_values.specs.Order.{Conditions}
 use Rattle.line_values.specs.Meaning.{Meaning, no_fault, room, line}
 

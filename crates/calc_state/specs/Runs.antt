@@ -1,16 +1,10 @@
 -- Runs over lines.
-use Rattle.std.specs.Prelude.{◌≡◌, ℕ, List, [], ◌∷◌, Bool, true, false, Option, None, Some}
+use Rattle.std.specs.Prelude.{◌≡◌, ℕ, List, [], ◌∷◌, true, Option, None, Some}
 use Rattle.reply_text.specs.declared.faults.Fault.TheVariants as fault
-use Rattle.poly_commands.specs.OpenFiles.{OpenFile}
+use Rattle.open_files.specs.OpenFiles.{OpenFile}
 use Rattle.calc_state.specs.State.{State}
-use Rattle.calc_state.specs.Step.{Reply, Answered, Refused, Overflows}
+use Rattle.line_values.specs.Replies.{Reply, Refused, is_answer}
 use Rattle.calc_state.specs.Line.{Step, MustSucceed}
-
--- the reply is neither a fault nor an overflow
-abbrev pub is_answer : Reply → Bool
-is_answer (Answered text) = true
-is_answer (Refused fault) = false
-is_answer (Overflows over) = false
 
 -- the calculator may give these replies to these lines, one step after another, and go from the old state to the new
 abbrev pub Run : State → List (List ℕ) → List Reply → State → Type 0

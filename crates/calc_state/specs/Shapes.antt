@@ -23,10 +23,9 @@ use Rattle.line_values.specs.declared.refusal.StepErr.TheVariants as err
 use Rattle.script_text.specs.declared.command.ShapeOperator.{ShapeOperator}
 use Rattle.script_text.specs.declared.command.ShapeOperator.TheVariants.{Meet, Hull}
 use Rattle.line_values.specs.Order.{Conditions}
-use Rattle.line_values.specs.Texts.{constraints_fault, with_text}
-use Rattle.poly_commands.specs.Makers.{SaysConstraints, LeavesOnConstraints}
-use Rattle.line_values.specs.Meaning.{line, says, Meaning, no_fault, room, small}
-use Rattle.poly_commands.specs.Lattice.{IsTold}
+use Rattle.line_values.specs.Texts.{constraints_fault, with_text, SaysConstraints}
+use Rattle.line_values.specs.Overflows.{LeavesOnConstraints}
+use Rattle.line_values.specs.Meaning.{line, says, Meaning, no_fault, room, small, IsTold}
 
 -- ---- making
 -- a set isn't closed

@@ -7,24 +7,16 @@ use Rattle.script_text.specs.declared.command.Command.TheVariants.{Has, Size, Pr
 use Rattle.script_text.specs.declared.command.Comparison.TheVariants as comparison
 use Rattle.line_values.specs.declared.change.Change.TheVariants.{Puts, PutsAll}
 use Rattle.line_values.specs.Effects.{lines_of, after as after_of}
+use Rattle.line_values.specs.Replies.{Reply, Answered, Refused, Overflows}
 use Rattle.line_values.specs.declared.refusal.StepErr.{StepErr}
 use Rattle.line_values.specs.declared.refusal.StepErr.TheVariants as err
 use Rattle.calc_state.specs.declared.entry.Entry.TheVariants as entry
 use Rattle.calc_state.specs.Table.{Table, Change}
-use Rattle.poly_commands.specs.Proper.{IsProper}
+use Rattle.line_values.specs.Proper.{IsProper}
 use Rattle.calc_state.specs.Entries.{IsKeptEntry}
 use Rattle.line_values.specs.Order.{IsFirst, Passes}
 use Rattle.line_values.specs.Meaning.{Meaning}
 use Rattle.calc_state.specs.Meanings.{meaning}
-
--- what the calculator answers a line
-pub data Reply : Type 0 where
-  -- the line was accepted, and these whole lines are written
-  Answered : List ℕ → Reply
-  -- the line is refused for this fault
-  Refused : Fault → Reply
-  -- the arithmetic of the line leaves the range
-  Overflows : Overflow → Reply
 
 -- the table after the change
 abbrev pub after : Table → Change → Table

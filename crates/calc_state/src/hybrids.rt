@@ -1,23 +1,18 @@
-//! The commands that make and change linear hybrid automata, and the one that runs them.
-ghost use Rattle.std.specs.Prelude.{ℕ, List};
+//! The command that makes linear hybrid automata, and the one that runs them.
 ghost use Rattle.std.specs.Option.{option_copied};
 ghost use Rattle.line_values.specs.Meaning.{on_one};
-ghost use Rattle.calc_state.specs.Hybrids.{hybrid as make_hybrid, set_part, reach as run_hybrid};
+ghost use Rattle.calc_state.specs.Hybrids.{hybrid as make_hybrid, reach as run_hybrid};
 ghost use Rattle.line_values.specs.Effects.{all_placed};
-ghost use Rattle.calc_state.specs.Changes.{as_entry, IsTested};
 ghost use Rattle.line_values.specs.Performed.{IsPerformed};
-ghost use Rattle.calc_state.specs.declared.entry.Entry.TheVariants as entry;
 
 use crate::entry::Entry;
-use crate::parts::{HybridChange, PartChange};
 use crate::systems::MAX_DELAY;
 use hybrid::Hybrid;
 use line_values::StepErr;
 use name_table::Names;
-use poly_pair::{Poly, Topology};
+use poly_pair::Poly;
 use reply_text::{Fault, Text};
 use row_core::Steps;
-use script_text::LocationPart;
 use std::alloc::Global;
 use std::sync::ledger::Ledger;
 use trans_sys::System;
@@ -35,37 +30,6 @@ pub fn hybrid(alloc: Global, s: Option<&System>, full: bool) -> Result<Hybrid, S
     let made = Hybrid::new(alloc, s.try_copy()?)?;
     let _kept = made.system();
     Ok(made)
-}
-
-/// Replaces the invariant or the flow of a location by a polyhedron.
-pub fn replaced_part(
-    part: LocationPart,
-    h: Option<&Hybrid>,
-    location: u64,
-    p: Option<&Poly>,
-) -> Result<PartChange, StepErr>
-    ensures { (name : List ℕ) → IsTested (on_one (option_copied h.entry) (λ found. on_one (option_copied p.entry) (set_part part name location found))) (as_entry entry.Hybrid (option_copied h.entry)) name result }
-{
-    let (Some(h), Some(p)) = (h, p) else {
-        return Err(StepErr::Input(Fault::UnknownName));
-    };
-    if p.topology() != Topology::Closed {
-        return Err(StepErr::Input(Fault::NotClosed));
-    }
-    if p.dim() != h.system().dim() {
-        return Err(StepErr::Input(Fault::DimMismatch));
-    }
-    if location >= h.system().locs() as u64 {
-        return Err(StepErr::Input(Fault::OutOfRange));
-    }
-    let copy = p.try_copy()?;
-    match part {
-        LocationPart::Invariant => Ok(PartChange::Hybrid(HybridChange::Invariant(
-            location as usize,
-            copy,
-        ))),
-        LocationPart::Flow => Ok(PartChange::Hybrid(HybridChange::Flow(location as usize, copy))),
-    }
 }
 
 /// The states of each location that the automaton may come to, where there is room for their numbered names.

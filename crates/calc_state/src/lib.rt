@@ -11,6 +11,7 @@ mod entry;
 mod hybrids;
 mod laws;
 mod operands;
+mod part_tests;
 mod parts;
 mod perform;
 mod powersets;

@@ -24,26 +24,6 @@ pub fn system_under<'a>(names: &'a Names<Entry>, name: &Text) -> Option<&'a Syst
     }
 }
 
-/// The powerset under the name.
-fn powerset_under<'a>(names: &'a Names<Entry>, name: &Text) -> Option<&'a Powerset>
-    ensures { option_copied result ≡ powerset_of names.now name.now }
-{
-    match names.get(name.bytes()) {
-        Some(Entry::Powerset(s)) => Some(s),
-        _ => None,
-    }
-}
-
-/// The bounded-difference shape under the name.
-fn shape_under<'a>(names: &'a Names<Entry>, name: &Text) -> Option<&'a Shape>
-    ensures { option_copied result ≡ shape_of names.now name.now }
-{
-    match names.get(name.bytes()) {
-        Some(Entry::Shape(s)) => Some(s),
-        _ => None,
-    }
-}
-
 /// The hybrid automaton under the name.
 pub fn hybrid_under<'a>(names: &'a Names<Entry>, name: &Text) -> Option<&'a Hybrid>
     ensures { option_copied result ≡ hybrid_of names.now name.now }
@@ -65,14 +45,20 @@ pub fn system_at(names: &Names<Entry>, name: Text) -> Option<&System>
 pub fn powerset_at(names: &Names<Entry>, name: Text) -> Option<&Powerset>
     ensures { option_copied result ≡ powerset_of names.now name }
 {
-    powerset_under(names, &name)
+    match names.get(name.bytes()) {
+        Some(Entry::Powerset(s)) => Some(s),
+        _ => None,
+    }
 }
 
 /// The bounded-difference shape under the name.
 pub fn shape_at(names: &Names<Entry>, name: Text) -> Option<&Shape>
     ensures { option_copied result ≡ shape_of names.now name }
 {
-    shape_under(names, &name)
+    match names.get(name.bytes()) {
+        Some(Entry::Shape(s)) => Some(s),
+        _ => None,
+    }
 }
 
 /// The hybrid automaton under the name.

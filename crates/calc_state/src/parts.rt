@@ -1,5 +1,5 @@
 //! Changes of a part of a transition system or of a hybrid automaton.
-ghost use Rattle.std.specs.Prelude.{◌≡◌, Some, OnOk, OnErr};
+ghost use Rattle.std.specs.Prelude.{◌≡◌, Some, IsSome, OnOk, OnErr};
 ghost use Rattle.name_table.specs.Table.{entry_of, put};
 ghost use Rattle.trans_sys.specs.Systems.{IsKeptSystem};
 ghost use Rattle.hybrid.specs.Systems.{IsKeptHybrid};
@@ -65,16 +65,17 @@ pub fn of_entry(
     }
 }
 
-/// Changes a part of the entry under the name, if one is there. After want of memory the table is as before.
+/// Changes a part of the entry under the name. After want of memory the table is as before.
 pub fn change_under(names: &mut Names<Entry>, name: &[u8], change: PartChange) -> Result<(), Memory>
-    requires { (e : AnyEntry) → entry_of names.old name.now ≡ Some e → FitsPart e change }
+    requires there { IsSome (entry_of names.old name.now) }
+    requires fits { (e : AnyEntry) → entry_of names.old name.now ≡ Some e → FitsPart e change }
     ensures ok { OnOk result ((e : AnyEntry) → entry_of names.old name.now ≡ Some e → names.new ≡ put names.old name.now (changed_part e change)) }
     ensures kept { OnOk result ((e : AnyEntry) → entry_of names.old name.now ≡ Some e → IsKeptEntry (changed_part e change)) }
     ensures err { OnErr result (names.new ≡ names.old) }
 {
     match names.get_mut(name) {
         Some(entry) => change.apply(entry),
-        None => Ok(()),
+        None => unreachable!(),
     }
 }
 

@@ -6,8 +6,7 @@ ghost use Rattle.line_values.specs.Meaning.{on_one, on_two};
 ghost use Rattle.calc_state.specs.Powersets.{pset as make_pset, of_two_powersets as make_of_two, member as make_member, psize as tell_size, covers as ask_covers, IsPowersetOf, LeavesInPowersets, members_text};
 ghost use Rattle.line_values.specs.Performed.{IsPerformed};
 
-use line_values::{StepErr, as_line, no_with_point};
-use poly_commands::answer;
+use line_values::{StepErr, answer, as_line, no_with_point};
 use poly_pair::Poly;
 use powerset::{Cover, Powerset, join, pmeet};
 use reply_text::{Fault, Text};

@@ -6,8 +6,7 @@ ghost use Rattle.line_values.specs.Meaning.{on_one};
 ghost use Rattle.calc_state.specs.Rankings.{rank as make_rank, ranking as tell_ranking, IsRankingLine};
 ghost use Rattle.line_values.specs.Performed.{IsPerformed};
 
-use line_values::{StepErr, as_line};
-use poly_commands::is_proper;
+use line_values::{StepErr, as_line, is_proper};
 use poly_pair::{Poly, Topology};
 use ranking::{print_ranking, ranking_set};
 use reply_text::{Fault, Text};

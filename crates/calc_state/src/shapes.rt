@@ -14,8 +14,7 @@ ghost use Rattle.line_values.specs.Performed.{IsPerformed};
 
 use bd_shape::{Shape, ShapeErr, shape_from, shape_hull, shape_meet, shape_of, shape_rows};
 use expr_text::{one_answer, print_cons};
-use line_values::{StepErr, as_line, constraints_of};
-use poly_commands::answer;
+use line_values::{StepErr, answer, as_line, constraints_of};
 use poly_pair::{MAX_DIM, Poly, Topology};
 use reply_text::{Fault, Text};
 use row_core::{ConvErr, Memory, Steps};

@@ -7,7 +7,7 @@ use Rattle.line_values.specs.declared.refusal.StepErr.{StepErr}
 use Rattle.line_values.specs.declared.refusal.StepErr.TheVariants as err
 use Rattle.line_values.specs.Order.{Passes}
 use Rattle.line_values.specs.Refusals.{refusal_of_conversion}
-use Rattle.line_values.specs.Meaning.{Meaning, on_two}
+use Rattle.line_values.specs.Meaning.{Meaning, on_two, room}
 use Rattle.line_values.specs.Performed.{IsPerformed}
 
 -- what came of a command with the operands that were found
@@ -21,6 +21,10 @@ not_so b P is e h = let never : true ≡ false = sym (is.1 h) ∙ e in cc
 -- the table isn't full
 pub not_full : (full : Bool) → full ≡ false → ¬ (IsTrue full)
 not_full full e h = let never : true ≡ false = sym h ∙ e in cc
+
+-- where there is room all tests are passed
+pub room_passes : (full : Bool) → full ≡ false → Passes (room full)
+room_passes full free = (λ k. k, (λ k. k, (λ k. k, (λ k. k, (λ k. k, (λ k. k, (λ k. k, (λ k. k, (λ k. k, (λ k. k, (λ k. k, (λ k. k, (not_full full free, (λ k. k, tt))))))))))))))
 
 -- the arithmetic of a command was refused
 pub leaves : {A : Type 0} (m : Meaning A) (cause : ConvErr) → Passes m.conditions → IsOverflowIn m.overflows cause → IsPerformed m (Err (refusal_of_conversion cause))

@@ -1,6 +1,10 @@
 pub mod Effects
 pub mod Meaning
+pub mod Operands
 pub mod Order
+pub mod Overflows
 pub mod Performed
+pub mod Proper
 pub mod Refusals
+pub mod Replies
 pub mod Texts

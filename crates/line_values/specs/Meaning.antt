@@ -1,5 +1,5 @@
 -- What a command asks of its operands, and what it answers.
-use Rattle.std.specs.Prelude.{◌≡◌, ◌≢◌, ℕ, ◌<◌, List, Bool, IsTrue, Option, None, Some, ◌∷◌, [], ◌++◌, codes, true, false}
+use Rattle.std.specs.Prelude.{◌≡◌, ◌≢◌, ◌↔◌, ℕ, ◌<◌, List, Bool, IsTrue, Option, None, Some, ◌∷◌, [], ◌++◌, codes, true, false}
 use Rattle.row_core.specs.declared.errors.Overflow.{Overflow}
 use Rattle.reply_text.specs.declared.faults.Fault.TheVariants as fault
 use Rattle.poly_pair.specs.Polyhedra.{Polyhedron}
@@ -70,3 +70,9 @@ says lines = record { conditions = no_fault; overflows = no_overflow; does = λ 
 abbrev pub answer_line : Bool → List ℕ
 answer_line true = codes "yes" ++ 10 ∷ []
 answer_line false = codes "no" ++ 10 ∷ []
+
+-- yes is said where the statement is true, and else no
+pub record IsTold (Statement : Type 0) (text : List ℕ) : Type 0 where
+  pub holds : Bool
+  pub true_of : IsTrue holds ↔ Statement
+  pub said : text ≡ answer_line holds

@@ -143,3 +143,16 @@ pub record ReadsFraction (topology : Topology) (dim v : ℕ) (rel : Rel) (part :
   pub faultless : NoneOf text_order (fraction_fault topology dim v rel part)
   pub within : v < dim
   pub read : IsFrac dim part.text expr divisor
+
+-- ---- systems
+-- the text says a system of constraints with this property
+pub record SaysConstraints (dim : ℕ) (part : Part) (P : Constraints → Type 0) : Type 0 where
+  pub system : Constraints
+  pub read : IsCons dim part.text system
+  pub holds : P system
+
+-- the text says a system of generators with this property
+pub record SaysGenerators (dim : ℕ) (part : Part) (P : Generators → Type 0) : Type 0 where
+  pub system : Generators
+  pub read : IsGens dim part.text system
+  pub holds : P system

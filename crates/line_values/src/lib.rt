@@ -3,19 +3,24 @@
 //! - [`StepErr`] says why a line was not accepted.
 //! - [`constraints_of`], [`generators_of`], [`point_of`], [`constraint_of`], [`expression_of`] and
 //!   [`fraction_of`] read the part of a line, or give its first fault.
-//! - [`Change`] is what an accepted command does, over entries of which some are polyhedra ([`PolyEntry`]), and
-//!   [`no_with_point`] an answer.
+//! - [`Change`] is what an accepted command does, over entries of which some are polyhedra ([`PolyEntry`]).
+//! - [`poly_at`] and [`poly_under`] look a polyhedron up, and [`is_full`] tells whether there is no room for a name.
+//! - [`answer`] and [`no_with_point`] are lines that answer a question.
 #![tactic(auto)]
 
+mod answers;
 mod change;
 mod entry;
-mod points;
+mod operands;
+mod proper;
 mod refusal;
 mod texts;
 
+pub use answers::{answer, no_with_point};
 pub use change::{Change, as_line, ok, put_entry, put_numbered, put_poly, say};
 pub use entry::PolyEntry;
-pub use points::no_with_point;
+pub use operands::{format_of, is_full, is_max, poly_at, poly_under, topology_of};
+pub use proper::is_proper;
 pub use refusal::StepErr;
 pub use texts::{
     constraint_of, constraints_of, expression_of, fraction_of, generators_of, point_of,

@@ -9,13 +9,10 @@ use crate::report::{overflow, refusal, report};
 use crate::status::Status;
 use expr_text::{Text, constraints_are_read_back};
 use loop_analysis::find_bounds;
-use poly_io::{ReadAllErr, Sink, Source, WriteAllErr, read_all, write_all};
+use poly_io::{INPUT_LIMIT, ReadAllErr, Sink, Source, WriteAllErr, read_all, write_all};
 use row_core::{ConvErr, Memory, Steps};
 use std::alloc::Global;
 use std::sync::ledger::Ledger;
-
-/// The most bytes that a source may give, 2^26.
-const INPUT_LIMIT: usize = 67_108_864;
 
 /// A reply, and whether it gives bounds.
 #[derive(Drop)]

@@ -13,10 +13,10 @@ use Rattle.lattice_ops.specs.Questions.{Answers, LeavesRange}
 use Rattle.line_values.specs.declared.refusal.StepErr.{StepErr}
 use Rattle.line_values.specs.declared.refusal.StepErr.TheVariants as err
 use Rattle.line_values.specs.Order.{Passes}
-use Rattle.line_values.specs.Meaning.{Meaning, alike, no_fault, answer_line}
+use Rattle.line_values.specs.Meaning.{Meaning, alike, no_fault, answer_line, IsTold}
 use Rattle.line_values.specs.Performed.{IsPerformed}
 use Rattle.line_values.specs.Refusals.{refusal_of_conversion}
-use Rattle.poly_commands.specs.Lattice.{disjoint, IsTold, IsTested, ShowsRows, shown_rows, shown_on, IsRefusalOfPair}
+use Rattle.poly_commands.specs.Lattice.{disjoint, IsTested, ShowsRows, shown_rows, shown_on, IsRefusalOfPair}
 
 -- two operands that are alike
 pub alike_pass : (p q : Polyhedron) → p.topology ≡ q.topology → p.cons.dim ≡ q.cons.dim → Passes (alike p q no_fault)

@@ -1,4 +1,3 @@
-mod FileLemmas
 mod FractionLemmas
 mod LatticeLemmas
 mod MakerLemmas
@@ -6,5 +5,4 @@ mod MapLemmas
 pub mod OperatorLemmas
 mod OptimaLemmas
 mod PointLemmas
-mod UniquePrints
 mod WideningLemmas

@@ -23,10 +23,11 @@ use Rattle.script_text.specs.declared.command.Part.{Part}
 use Rattle.line_values.specs.declared.refusal.StepErr.{StepErr}
 use Rattle.line_values.specs.Order.{NoneOf, IsFirst, Passes}
 use Rattle.line_values.specs.Refusals.{refusal_of_conversion, refusal_of_generators}
-use Rattle.line_values.specs.Texts.{constraints_fault, generators_fault, IsTextRefusal, ReadsConstraints, ReadsGenerators}
+use Rattle.line_values.specs.Texts.{constraints_fault, generators_fault, IsTextRefusal, ReadsConstraints, ReadsGenerators, SaysGenerators}
 use Rattle.poly_commands.specs.Results.{IsResultOfConstraints, IsResultOfGenerators}
 use Rattle.line_values.specs.Meaning.{Meaning}
-use Rattle.poly_commands.specs.Makers.{SaysGenerators, LeavesOnGenerators, cons, gens, add, addgen}
+use Rattle.poly_commands.specs.Makers.{cons, gens, add, addgen}
+use Rattle.line_values.specs.Overflows.{LeavesOnGenerators}
 use Rattle.line_values.specs.Performed.{IsPerformed}
 use Rattle.line_values.proofs.FaultOrder.{early, refused_by_text, refused_late, all_pass}
 

@@ -14,9 +14,6 @@ use Rattle.line_values.proofs.PerformedLemmas.{not_full}
 use Rattle.poly_commands.specs.Operators.{fitting, Fits, LeavesBy}
 
 -- ---- tests that are passed, where there is room
-pub room_passes : (full : Bool) → full ≡ false → Passes (room full)
-room_passes full free = (λ k. k, (λ k. k, (λ k. k, (λ k. k, (λ k. k, (λ k. k, (λ k. k, (λ k. k, (λ k. k, (λ k. k, (λ k. k, (λ k. k, (not_full full free, (λ k. k, tt))))))))))))))
-
 pub small_passes : (n : ℕ) (full : Bool) → n ≤ MAX_DIM → full ≡ false → Passes (small n (room full))
 small_passes n full within free = (λ k. k, (λ k. k, (λ k. k, (λ k. k, (λ (k : MAX_DIM < n). absurd (omega (arith, k, within)), (λ k. k, (λ k. k, (λ k. k, (λ k. k, (λ k. k, (λ k. k, (λ k. k, (not_full full free, (λ k. k, tt))))))))))))))
 

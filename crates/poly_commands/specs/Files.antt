@@ -2,17 +2,10 @@
 use Rattle.std.specs.Prelude.{◌≡◌, ◌≢◌, ℕ, List, Bool, false, true}
 use Rattle.reply_text.specs.declared.faults.Fault.TheVariants as fault
 use Rattle.cdd_text.specs.Written.{ine_text, ext_text}
-use Rattle.cdd_reading.specs.declared.format.Format.{Format}
-use Rattle.cdd_reading.specs.declared.format.Format.TheVariants.{Ine, Ext}
 use Rattle.poly_pair.specs.Polyhedra.{Polyhedron}
 use Rattle.poly_pair.specs.declared.topology.Topology.TheVariants.{Closed}
 use Rattle.line_values.specs.Order.{Conditions}
 use Rattle.line_values.specs.Meaning.{Meaning, no_overflow}
-
--- the list of a line's file, by whether its word is ext
-abbrev pub format_of : Bool → Format
-format_of false = Ine
-format_of true = Ext
 
 -- the file of the stored constraints, or of the stored generators
 abbrev pub file_of : Bool → Polyhedron → List ℕ

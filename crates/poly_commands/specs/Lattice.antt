@@ -1,10 +1,9 @@
 -- What the command means that makes the closure, and those that ask how two polyhedra lie.
-use Rattle.std.specs.Prelude.{◌≡◌, ◌↔◌, List, ℕ, Bool, true, false, IsTrue, Result, Ok, Err}
+use Rattle.std.specs.Prelude.{◌≡◌, List, ℕ, Bool, true, false, Result, Ok, Err}
 use Rattle.row_core.specs.declared.errors.Overflow.{Overflow}
 use Rattle.row_core.specs.declared.errors.PairOver.{PairOver}
 use Rattle.cons_sys.specs.Constraints.{Constraints, row_at}
-use Rattle.gens_sys.specs.Generators.{Generators}
-use Rattle.gens_sys.specs.Generators.{row_at as vector_at}
+use Rattle.gens_sys.specs.Generators.{Generators, row_at as vector_at}
 use Rattle.cone_laws.specs.Leaves.{Leaves}
 use Rattle.stored_systems.specs.WorkLists.{LeavesOn}
 use Rattle.poly_pair.specs.Polyhedra.{Polyhedron, HasNoPoint}
@@ -16,7 +15,7 @@ use Rattle.script_text.specs.declared.command.Comparison.TheVariants as by
 use Rattle.poly_commands.specs.Results.{IsResultOfClosure}
 use Rattle.line_values.specs.declared.refusal.StepErr.{StepErr}
 use Rattle.line_values.specs.declared.refusal.StepErr.TheVariants as err
-use Rattle.line_values.specs.Meaning.{Meaning, no_fault, no_overflow, room, alike, answer_line}
+use Rattle.line_values.specs.Meaning.{Meaning, no_fault, no_overflow, room, alike, IsTold}
 
 -- ---- makers
 -- closure OUT P
@@ -28,12 +27,6 @@ closure full p = record {
 }
 
 -- ---- questions
--- yes is said where the statement is true, and else no
-pub record IsTold (Statement : Type 0) (text : List ℕ) : Type 0 where
-  pub holds : Bool
-  pub true_of : IsTrue holds ↔ Statement
-  pub said : text ≡ answer_line holds
-
 -- a test of pairs of rows in order tells whether the statement is true, and this is said
 pub record IsTested (Answer : Result Bool PairOver → Type 0) (Statement : Type 0) (text : List ℕ) : Type 0 where
   pub told : IsTold Statement text

@@ -5,11 +5,8 @@ pub mod Lattice
 pub mod Makers
 pub mod Meanings
 pub mod Names
-pub mod OpenFiles
 pub mod Operators
 pub mod Optima
-pub mod Prints
-pub mod Proper
 pub mod Questions
 pub mod Results
 pub mod Widening

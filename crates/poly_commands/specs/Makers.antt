@@ -1,15 +1,10 @@
 -- What the commands mean that make, copy or change polyhedra.
 use Rattle.std.specs.Prelude.{◌≡◌, ℕ, ◌++◌, Bool}
-use Rattle.row_core.specs.declared.errors.Overflow.{Overflow}
 use Rattle.cons_sys.specs.Constraints.{Constraints}
 use Rattle.gens_sys.specs.Generators.{Generators}
-use Rattle.term_text.specs.Systems.{IsCons}
-use Rattle.expr_text.specs.GeneratorSystems.{IsGens}
 use Rattle.reply_text.specs.declared.faults.Fault.TheVariants as fault
-use Rattle.stored_systems.specs.WorkLists.{LeavesOn}
 use Rattle.poly_pair.specs.Polyhedra.{Polyhedron, IsUniverse, IsEmpty}
 use Rattle.poly_pair.specs.FirstLists.{LacksPoint}
-use Rattle.poly_pair.specs.TopologyLists.{list_width, constraints_of, generators_of}
 use Rattle.poly_pair.specs.declared.topology.Topology.{Topology}
 use Rattle.script_text.specs.declared.command.Part.{Part}
 use Rattle.script_text.specs.declared.command.Space.{Space}
@@ -17,21 +12,10 @@ use Rattle.script_text.specs.declared.command.Space.TheVariants.{Universe, Empty
 use Rattle.line_values.specs.Order.{Conditions}
 use Rattle.poly_commands.specs.Results.{IsResultOfConstraints, IsResultOfGenerators}
 use Rattle.line_values.specs.Meaning.{Meaning, no_fault, no_overflow, room, small}
-use Rattle.line_values.specs.Texts.{constraints_fault, generators_fault, with_text}
+use Rattle.line_values.specs.Texts.{constraints_fault, generators_fault, with_text, SaysConstraints, SaysGenerators}
+use Rattle.line_values.specs.Overflows.{LeavesOnConstraints, LeavesOnGenerators}
 
 -- ---- systems
--- the text says a system of constraints with this property
-pub record SaysConstraints (dim : ℕ) (part : Part) (P : Constraints → Type 0) : Type 0 where
-  pub system : Constraints
-  pub read : IsCons dim part.text system
-  pub holds : P system
-
--- the text says a system of generators with this property
-pub record SaysGenerators (dim : ℕ) (part : Part) (P : Generators → Type 0) : Type 0 where
-  pub system : Generators
-  pub read : IsGens dim part.text system
-  pub holds : P system
-
 -- the constraints of the one, and then those of the other
 abbrev pub more_constraints : Constraints → Constraints → Constraints
 more_constraints old new = record { dim = old.dim; list = old.list ++ new.list }
@@ -39,14 +23,6 @@ more_constraints old new = record { dim = old.dim; list = old.list ++ new.list }
 -- the generators of the one, and then those of the other
 abbrev pub more_generators : Generators → Generators → Generators
 more_generators old new = record { dim = old.dim; list = old.list ++ new.list }
-
--- the overflow shows a number outside the range in the conversion of the topology's constraint list, or of its second list
-abbrev pub LeavesOnConstraints : Topology → Constraints → Overflow → Type 0
-LeavesOnConstraints topology cs over = LeavesOn (list_width topology cs.dim) cs.dim (constraints_of topology cs) over
-
--- in that of the topology's generator list, or of its second list
-abbrev pub LeavesOnGenerators : Topology → Generators → Overflow → Type 0
-LeavesOnGenerators topology gs over = LeavesOn (list_width topology gs.dim) gs.dim (generators_of topology gs) over
 
 -- the generators aren't none, and none of them is a point
 abbrev pub no_point : Type 0 → Conditions → Conditions

@@ -1,32 +1,22 @@
 -- What each command on polyhedra means in a table.
-use Rattle.std.specs.Prelude.{ℕ, List, [], Bool, true, false, Option}
+use Rattle.std.specs.Prelude.{[], Option}
 use Rattle.poly_pair.specs.Polyhedra.{Polyhedron}
-use Rattle.poly_pair.specs.declared.topology.Topology.{Topology}
-use Rattle.poly_pair.specs.declared.topology.Topology.TheVariants.{Closed, Nnc}
 use Rattle.script_text.specs.declared.command.Command.{Command}
 use Rattle.script_text.specs.declared.command.Command.TheVariants.{Nothing, Cons, Gens, Space, Copy, Drop, Add, Addgen, Has, Size, Print, Names, OfTwo, Closure, Compare, Isempty, Relation, Bound, Map, Extend, Remove, Widen, Read, Write}
 use Rattle.name_table.specs.Table.{Table, entry_of, has_no_room}
 use Rattle.line_values.specs.declared.change.Change.{Change}
 use Rattle.line_values.specs.Effects.{puts, tells}
 use Rattle.line_values.specs.Meaning.{Meaning, on_one, on_two, says, unknown}
+use Rattle.line_values.specs.Operands.{topology_of, poly_of, is_max}
 use Rattle.poly_commands.specs.Makers.{cons, gens, space_of, copy, add, addgen}
 use Rattle.poly_commands.specs.Names.{drop_of, names}
 use Rattle.poly_commands.specs.Questions.{has, size, print}
-use Rattle.poly_commands.specs.Optima.{relation, bound, is_max}
+use Rattle.poly_commands.specs.Optima.{relation, bound}
 use Rattle.poly_commands.specs.Lattice.{closure, compared, isempty}
 use Rattle.poly_commands.specs.Operators.{operated, extended}
 use Rattle.poly_commands.specs.Widening.{widen}
 use Rattle.poly_commands.specs.Files.{write}
 use Rattle.poly_commands.specs.Affine.{mapped_by, remove}
-
--- the topology of a line, by whether its word is nnc
-abbrev pub topology_of : Bool → Topology
-topology_of false = Closed
-topology_of true = Nnc
-
--- the polyhedron under the name, in a table of which some entries are polyhedra
-abbrev pub poly_of : {E : Type 0} → (Option E → Option Polyhedron) → Table E → List ℕ → Option Polyhedron
-poly_of as_poly table name = as_poly (entry_of table name)
 
 -- the meaning of a command on polyhedra, or on the names
 abbrev pub meaning : {E : Type 0} → (Option E → Option Polyhedron) → Table E → Command → Meaning (Change E)

@@ -18,8 +18,6 @@ use Rattle.optimum.specs.declared.outcome.Relation.{Relation}
 use Rattle.optimum.specs.declared.outcome.Sup.{Sup}
 use Rattle.optimum.specs.declared.outcome.Sup.TheVariants as sup
 use Rattle.script_text.specs.declared.command.Part.{Part}
-use Rattle.script_text.specs.declared.command.Extremum.{Extremum}
-use Rattle.script_text.specs.declared.command.Extremum.TheVariants.{Max, Min}
 use Rattle.line_values.specs.Meaning.{Meaning, line}
 use Rattle.line_values.specs.Texts.{constraint_fault, expression_fault}
 
@@ -105,8 +103,3 @@ bound up part p = record {
   overflows = λ over. SaysExpression p.cons.dim part (λ row. ShowsValues (SearchLeaves up row p.gens) row p.gens over);
   does = λ text. SaysExpression p.cons.dim part (SaysBound up p text);
 }
-
--- whether the greatest value is asked for
-abbrev pub is_max : Extremum → Bool
-is_max Max = true
-is_max Min = false

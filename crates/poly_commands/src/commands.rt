@@ -9,12 +9,13 @@ use crate::files::write;
 use crate::lattice::{closure, compare, isempty};
 use crate::makers::{add, addgen, cons, copy, gens, space};
 use crate::names::{drop_name, name_list};
-use crate::operands::{is_full, is_max, poly_at, poly_under, topology_of};
 use crate::operators::{extend, of_two};
 use crate::optima::{bound, relation};
 use crate::questions::{has, print, size};
 use crate::widenings::widen;
-use line_values::{Change, PolyEntry, StepErr, put_poly, say};
+use line_values::{
+    Change, PolyEntry, StepErr, is_full, is_max, poly_at, poly_under, put_poly, say, topology_of,
+};
 use name_table::Names;
 use reply_text::Text;
 use row_core::Steps;

@@ -1,23 +1,15 @@
 //! The command that writes a file.
-ghost use Rattle.std.specs.Prelude.{◌≡◌};
 ghost use Rattle.std.specs.Option.{option_copied};
 ghost use Rattle.line_values.specs.Meaning.{on_one};
-ghost use Rattle.poly_commands.specs.Files.{format_of as named_format, write as write_of};
+ghost use Rattle.poly_commands.specs.Files.{write as write_of};
 ghost use Rattle.line_values.specs.Performed.{IsPerformed};
 
-use file_poly::{Format, write_file};
-use line_values::StepErr;
+use file_poly::write_file;
+use line_values::{StepErr, format_of};
 use poly_pair::{Poly, Topology};
 use reply_text::{Fault, Text};
 use row_core::Memory;
 use std::alloc::Global;
-
-/// The list of a line's file, by whether its word is `ext`.
-pub fn format_of(ext: bool) -> Format
-    ensures { result ≡ named_format ext }
-{
-    if ext { Format::Ext } else { Format::Ine }
-}
 
 /// Writes the file of the constraints, or of the generators.
 pub fn write(alloc: Global, ext: bool, p: Option<&Poly>) -> Result<Text, StepErr>

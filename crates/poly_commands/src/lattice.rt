@@ -5,10 +5,9 @@ ghost use Rattle.line_values.specs.Meaning.{on_one, on_two};
 ghost use Rattle.poly_commands.specs.Lattice.{compared, closure as make_closure, contains as ask_contains, equal as ask_equal, disjoint as ask_disjoint, isempty as ask_empty, shown_rows, IsRefusalOfPair};
 ghost use Rattle.line_values.specs.Performed.{IsPerformed};
 
-use crate::questions::answer;
 use cons_sys::ConsSys;
 use gens_sys::GensSys;
-use line_values::StepErr;
+use line_values::{StepErr, answer};
 use poly_pair::Poly;
 use reply_text::{Fault, Text};
 use row_core::{Memory, Overflow, PairOver, RowBuf, Steps};

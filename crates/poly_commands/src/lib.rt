@@ -3,27 +3,18 @@
 //! [`perform`] looks the operands up, in a table of which some entries are polyhedra, and hands them to the command's
 //! function. A maker is told whether the table of names is full, and answers the set; a question answers its line.
 //! Each does what its meaning says: the first fault in the order of faults, an overflow of its own arithmetic, or an
-//! answer that is right. [`prints_tell_points`] is a law of what is printed.
+//! answer that is right.
 #![tactic(auto)]
 
 mod affine;
 mod commands;
 mod files;
 mod lattice;
-mod laws;
 mod makers;
 mod names;
-mod operands;
 mod operators;
 mod optima;
-mod proper;
 mod questions;
-mod reading;
 mod widenings;
 
 pub use commands::perform;
-pub use laws::prints_tell_points;
-pub use operands::{is_full, poly_at, poly_under};
-pub use proper::is_proper;
-pub use questions::answer;
-pub use reading::{OpenFile, read_whole};

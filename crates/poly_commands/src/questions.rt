@@ -1,18 +1,17 @@
 //! The commands that only say something of a polyhedron.
-ghost use Rattle.std.specs.Prelude.{◌≡◌, ◌<◌, ◌++◌, length, decimal, IfOk, OnOk, MatchResult};
+ghost use Rattle.std.specs.Prelude.{◌≡◌, ◌<◌, ◌++◌, length, decimal, IfOk, OnOk};
 ghost use Rattle.std.specs.Option.{option_copied};
 ghost use Rattle.grammar.specs.Form.{Matches};
 ghost use Rattle.grammar.specs.Grammar.{alone};
 ghost use Rattle.grammar.specs.Cases.{point_cases};
 ghost use Rattle.cons_sys.specs.Constraints.{row_at};
-ghost use Rattle.line_values.specs.Meaning.{on_one, answer_line};
-ghost use Rattle.line_values.specs.declared.refusal.StepErr.TheVariants as refusal;
+ghost use Rattle.line_values.specs.Meaning.{on_one};
 ghost use Rattle.poly_commands.specs.Questions.{has as ask_point, size as tell_size, print as tell_side, size_text, side_text};
 ghost use Rattle.line_values.specs.Performed.{IsPerformed};
 
 use cons_sys::ConsSys;
 use expr_text::{print_cons, print_gens};
-use line_values::{StepErr, as_line, point_of};
+use line_values::{StepErr, answer, as_line, point_of};
 use poly_pair::Poly;
 use reply_text::{Fault, Text};
 use row_core::{Memory, Overflow, PairOver, RowBuf};
@@ -83,15 +82,6 @@ pub fn has(alloc: Global, p: Option<&Poly>, part: &Part) -> Result<Text, StepErr
         Ok(holds) => answer(alloc, holds),
         Err(pair) => Err(StepErr::Overflow(overflow(alloc, p.cons(), point, pair)?)),
     }
-}
-
-/// The line `yes` or `no`.
-pub fn answer(alloc: Global, holds: bool) -> Result<Text, StepErr>
-    ensures { MatchResult result (λ text. text ≡ answer_line holds) (λ cause. cause ≡ refusal.Memory) }
-{
-    let mut text = Text::new(alloc);
-    text.push(if holds { b"yes\n" } else { b"no\n" })?;
-    Ok(text)
 }
 
 /// The rows of a pair that leaves the range.

@@ -11,7 +11,7 @@ mod whole;
 mod writing;
 
 pub use edges::{StdSink, StdSource};
-pub use line_reader::{LineAns, LineReader};
+pub use line_reader::{INPUT_LIMIT, LineAns, LineReader};
 pub use memory_sinks::{MemSink, SafeSink};
 pub use memory_sources::{MemSource, SafeSource};
 pub use reading::{ReadAns, Source};

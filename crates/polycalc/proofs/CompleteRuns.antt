@@ -2,9 +2,9 @@
 use Rattle.std.proofs.Common.{◌≡◌, ℕ, List, [], ◌∷◌, refl, true}
 use Rattle.script_text.specs.Line.{SpellsOne, ReadsOnce}
 use Rattle.calc_state.specs.State.{State}
-use Rattle.calc_state.specs.Step.{Reply, Answered, Refused, Overflows}
+use Rattle.line_values.specs.Replies.{Reply, Answered, Refused, Overflows, is_answer}
 use Rattle.calc_state.specs.Line.{MustSucceed}
-use Rattle.calc_state.specs.Runs.{is_answer, Run, IsComplete}
+use Rattle.calc_state.specs.Runs.{Run, IsComplete}
 use Rattle.calc_state.proofs.LineLemmas.{IsAnswer, safe_reply}
 
 answer_true : (reply : Reply) → IsAnswer reply → is_answer reply ≡ true

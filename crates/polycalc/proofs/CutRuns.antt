@@ -1,7 +1,7 @@
 -- Runs over lines that were cut behind the limit of a line's length.
 use Rattle.std.proofs.Common.{◌≡◌, ℕ, List, [], ◌∷◌, ◌++◌, map, take, refl, ap, subst, sym, ◌∙◌}
 use Rattle.calc_state.specs.State.{State, closed}
-use Rattle.calc_state.specs.Step.{Reply}
+use Rattle.line_values.specs.Replies.{Reply}
 use Rattle.calc_state.proofs.CutLines.{step_of_cut}
 use Rattle.calc_state.specs.Runs.{Run}
 

@@ -6,9 +6,9 @@ use Rattle.std.proofs.lemmas.List.{append-nil}
 use Rattle.poly_io.proofs.Known.{append_known-nil}
 use Rattle.reply_text.specs.declared.faults.Fault.{Fault}
 use Rattle.reply_text.specs.declared.faults.Fault.TheVariants as fault
-use Rattle.poly_commands.specs.OpenFiles.{OpenFile}
+use Rattle.open_files.specs.OpenFiles.{OpenFile}
 use Rattle.calc_state.specs.State.{State}
-use Rattle.calc_state.specs.Step.{Reply, Refused}
+use Rattle.line_values.specs.Replies.{Reply, Refused}
 use Rattle.polycalc.specs.Replies.{Written, with_reply, reply_bytes, replies_bytes}
 use Rattle.calc_state.specs.Runs.{cut_off, at_end}
 use Rattle.polycalc.specs.Endings.{Closes, done, refused, unwritten, unmade}

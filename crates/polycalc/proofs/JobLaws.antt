@@ -15,8 +15,8 @@ use Rattle.polycalc.specs.declared.job.Job.{Job}
 use Rattle.polycalc.specs.declared.job.Job.TheVariants as job
 use Rattle.polycalc.specs.declared.status.Status.{Status}
 use Rattle.polycalc.specs.declared.status.Status.TheVariants.{Done, Refused, Usage, ReadFault, WriteFault, Memory, InputTooLong}
-use Rattle.polycalc.proofs.ConversionLaws.{must_convert}
-use Rattle.polycalc.proofs.SampleLaws.{must_sample}
+use Rattle.job_texts.proofs.ConversionLaws.{must_convert}
+use Rattle.job_texts.proofs.SampleLaws.{must_sample}
 use Rattle.polycalc.proofs.SampleWords.{second}
 
 abbrev first_byte : List (List ℕ) → ℕ

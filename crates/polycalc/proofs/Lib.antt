@@ -6,8 +6,7 @@ pub mod StreamLaws
 pub mod EndLaws
 pub mod FirstLines
 pub mod WriteLaws
-pub mod ConversionLaws
-pub mod SampleLaws
+pub mod GivenReplies
 pub mod DigitLaws
 pub mod SampleWords
 pub mod JobLaws

@@ -6,10 +6,10 @@ use Rattle.std.proofs.lemmas.Grind.{flat_map-append}
 use Rattle.std.proofs.lemmas.List.Folds.{list_all-append}
 use Rattle.std.proofs.lemmas.List.{append-nil}
 use Rattle.calc_state.specs.State.{State}
-use Rattle.calc_state.specs.Step.{Reply}
+use Rattle.line_values.specs.Replies.{Reply, is_answer}
 use Rattle.calc_state.specs.Line.{Step}
 use Rattle.polycalc.specs.Replies.{Written, written, with_reply, reply_bytes}
-use Rattle.calc_state.specs.Runs.{is_answer, Run}
+use Rattle.calc_state.specs.Runs.{Run}
 
 -- a run goes on by one step
 pub Run-then : (old : State) (lines : List (List ℕ)) (replies : List Reply) (mid : State) (line : List ℕ) (reply : Reply) (new : State) → Run old lines replies mid → Step mid line reply new → Run old (lines ++ line ∷ []) (replies ++ reply ∷ []) new

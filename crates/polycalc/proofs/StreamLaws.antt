@@ -15,10 +15,10 @@ use Rattle.poly_io.specs.declared.line_reader.LineAns.TheVariants.{Line, End, Fa
 use Rattle.poly_io.proofs.CutLaws.{cut_at}
 use Rattle.poly_io.proofs.Known.{append_known-append, append_known-nil}
 use Rattle.calc_state.specs.State.{State, closed}
-use Rattle.calc_state.specs.Step.{Reply}
+use Rattle.line_values.specs.Replies.{Reply, is_answer}
 use Rattle.calc_state.specs.Line.{Step}
 use Rattle.polycalc.specs.Replies.{Written, written, with_reply, reply_bytes, replies_bytes, is_clean}
-use Rattle.calc_state.specs.Runs.{is_answer, Run, at_end}
+use Rattle.calc_state.specs.Runs.{Run, at_end}
 use Rattle.poly_io.specs.Counts.{HasRisen}
 use Rattle.polycalc.specs.Outcomes.{Completes, WritesPrefix, AnswersWhole, AnswersEarlier, AnswersFirst, Outcome}
 use Rattle.polycalc.specs.Endings.{Closes, done, refused, unwritten, unmade}

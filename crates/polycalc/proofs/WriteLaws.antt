@@ -3,10 +3,10 @@ use Rattle.std.proofs.Common.{◌≡◌, ℕ, ◌^◌, ◌≤◌, List, [], leng
 use Rattle.std.specs.Prelude.{Option}
 use Rattle.std.specs.Io.KnownBytes.{IsAtEnd}
 use Rattle.cdd_reading.specs.declared.format.Format.{Format}
-use Rattle.calc_state.specs.Step.{Reply}
+use Rattle.line_values.specs.Replies.{Reply}
 use Rattle.polycalc.specs.Replies.{Written, written, with_reply}
-use Rattle.polycalc.specs.Conversions.{ConvertsTo}
-use Rattle.polycalc.specs.Samples.{SamplesTo}
+use Rattle.job_texts.specs.Conversions.{ConvertsTo}
+use Rattle.job_texts.specs.Samples.{SamplesTo}
 use Rattle.polycalc.specs.Endings.{Writes}
 use Rattle.polycalc.specs.Outcomes.{Outcome}
 use Rattle.polycalc.specs.declared.job.Job.TheVariants as job

@@ -1,7 +1,7 @@
 -- The end of a script.
 use Rattle.std.specs.Prelude.{◌≡◌, ℕ, List, take, Option, Bool, true, false, ◌&&◌}
 use Rattle.std.specs.Io.KnownBytes.{append_known}
-use Rattle.calc_state.specs.Step.{Reply}
+use Rattle.line_values.specs.Replies.{Reply}
 use Rattle.polycalc.specs.Replies.{Written, replies_bytes, is_clean}
 use Rattle.polycalc.specs.declared.status.Status.{Status}
 use Rattle.polycalc.specs.declared.status.Status.TheVariants.{Done, Refused, Usage, ReadFault, WriteFault, Memory, InputTooLong}

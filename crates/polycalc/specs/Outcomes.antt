@@ -2,13 +2,13 @@ use Rattle.std.specs.Prelude.{◌≡◌, ◌⊎◌, ℕ, ◌+◌, ◌^◌, ◌<�
 use Rattle.std.specs.Io.KnownBytes.{append_known, prepend_known, IsAtEnd}
 use Rattle.std.specs.Str.Lines.{lines}
 use Rattle.calc_state.specs.State.{State, closed}
-use Rattle.calc_state.specs.Step.{Reply}
+use Rattle.line_values.specs.Replies.{Reply, is_answer}
 use Rattle.cdd_reading.specs.declared.format.Format.{Format}
 use Rattle.polycalc.specs.Words.{IsAskedBy}
 use Rattle.polycalc.specs.Replies.{reply_bytes, replies_bytes, is_clean}
-use Rattle.polycalc.specs.Conversions.{ConvertsTo, MustConvert}
-use Rattle.polycalc.specs.Samples.{SamplesTo, MustSample}
-use Rattle.calc_state.specs.Runs.{is_answer, Run, IsComplete, at_end}
+use Rattle.job_texts.specs.Conversions.{ConvertsTo, MustConvert}
+use Rattle.job_texts.specs.Samples.{SamplesTo, MustSample}
+use Rattle.calc_state.specs.Runs.{Run, IsComplete, at_end}
 use Rattle.polycalc.specs.declared.job.Job.{Job}
 use Rattle.polycalc.specs.declared.job.Job.TheVariants as job
 use Rattle.polycalc.specs.declared.status.Status.{Status}

@@ -1,7 +1,8 @@
-use Rattle.std.specs.Prelude.{ℕ, List, [], ◌∷◌, ◌++◌, Bool, ◌&&◌}
+use Rattle.std.specs.Prelude.{◌≡◌, ℕ, List, [], ◌∷◌, ◌++◌, Bool, ◌&&◌, Result, Ok, Err}
 use Rattle.std.specs.List.{flat_map, list_all}
-use Rattle.calc_state.specs.Step.{Reply, Answered, Refused, Overflows}
-use Rattle.calc_state.specs.Runs.{is_answer}
+use Rattle.line_values.specs.Replies.{Reply, Answered, Refused, Overflows, is_answer}
+use Rattle.line_values.specs.declared.refusal.StepErr.{StepErr}
+use Rattle.line_values.specs.declared.refusal.StepErr.TheVariants as err
 use Rattle.reply_text.specs.Faults.{fault_text}
 use Rattle.reply_text.specs.Overflows.{overflow_text}
 
@@ -30,3 +31,10 @@ written replies = record { bytes = replies_bytes replies; clean = is_clean repli
 -- with one reply more
 abbrev pub with_reply : Written → Reply → Written
 with_reply w reply = record { bytes = w.bytes ++ reply_bytes reply; clean = w.clean && is_answer reply }
+
+-- the reply that was given is added; where memory ran out there is none
+abbrev pub Adds : Result (List ℕ) StepErr → Written → Written → Type 0
+Adds (Ok text) old new = new ≡ with_reply old (Answered text)
+Adds (Err (err.Input fault)) old new = new ≡ with_reply old (Refused fault)
+Adds (Err (err.Overflow over)) old new = new ≡ with_reply old (Overflows over)
+Adds (Err err.Memory) old new = ⊥

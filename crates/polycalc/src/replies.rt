@@ -1,11 +1,12 @@
 //! Replies, gathered before they are written.
-ghost use Rattle.std.specs.Prelude.{◌≡◌, ◌∷◌, ◌++◌, [], List, false, OnErr, OnOk};
-ghost use Rattle.calc_state.specs.Step.{Answered, Refused, Overflows};
+ghost use Rattle.std.specs.Prelude.{◌≡◌, ◌∷◌, ◌++◌, [], false, OnErr, OnOk};
+ghost use Rattle.line_values.specs.Replies.{Answered, Refused, Overflows};
 ghost use Rattle.poly_io.specs.Counts.{HasRisen};
-ghost use Rattle.polycalc.specs.Replies.{written, with_reply};
+ghost use Rattle.polycalc.specs.Replies.{written, with_reply, Adds};
 ghost use Rattle.polycalc.specs.Endings.{Writes};
 
 use crate::status::Status;
+use line_values::StepErr;
 use poly_io::{Sink, WriteAllErr, write_all};
 use reply_text::{Fault, Text, print_fault, print_overflow};
 use row_core::{Memory, Overflow};
@@ -40,8 +41,21 @@ impl Replies {
         }
     }
 
-    /// Adds the lines of an answer.
-    pub fn add_answer(&mut self, text: &Text) -> Result<(), Memory>
+    /// Adds the reply that was given. Where memory ran out, here or before, there is none, and the replies are as before.
+    pub fn add(&mut self, given: Result<Text, StepErr>) -> Result<(), Memory>
+        ensures added { OnOk result (Adds given self.old self.new) }
+        ensures wanting { OnErr result (self.new ≡ self.old) }
+    {
+        match given {
+            Ok(text) => self.add_answer(&text),
+            Err(StepErr::Input(fault)) => self.add_fault(&fault),
+            Err(StepErr::Overflow(over)) => self.add_overflow(&over),
+            Err(StepErr::Memory) => Err(Memory),
+        }
+    }
+
+    // Adds the lines of an answer.
+    fn add_answer(&mut self, text: &Text) -> Result<(), Memory>
         ensures added { OnOk result (self.new ≡ with_reply self.old (Answered text.now)) }
         ensures wanting { OnErr result (self.new ≡ self.old) }
     {
@@ -56,8 +70,8 @@ impl Replies {
         self.add_refusal(print_fault(self.alloc, fault)?)
     }
 
-    /// Adds the line of an overflow.
-    pub fn add_overflow(&mut self, over: &Overflow) -> Result<(), Memory>
+    // Adds the line of an overflow.
+    fn add_overflow(&mut self, over: &Overflow) -> Result<(), Memory>
         ensures added { OnOk result (self.new ≡ with_reply self.old (Overflows over.now)) }
         ensures wanting { OnErr result (self.new ≡ self.old) }
     {

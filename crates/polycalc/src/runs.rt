@@ -2,7 +2,7 @@
 ghost use Rattle.std.specs.Prelude.{◌≡◌, ℕ, ◌≤◌, ◌⊎◌, List, [], take, false, OnOk, OnErr};
 ghost use Rattle.std.specs.Io.KnownBytes.{append_known, prepend_known};
 ghost use Rattle.poly_io.specs.Counts.{HasRisen};
-ghost use Rattle.calc_state.specs.Step.{Reply};
+ghost use Rattle.line_values.specs.Replies.{Reply};
 ghost use Rattle.calc_state.specs.Line.{Step, Gives};
 ghost use Rattle.polycalc.specs.Replies.{written, with_reply};
 ghost use Rattle.calc_state.specs.State.{closed};
@@ -13,7 +13,8 @@ ghost use Rattle.polycalc.specs.declared.job.Job.TheVariants as job;
 
 use crate::replies::Replies;
 use crate::status::Status;
-use calc_state::{Calc, StepErr};
+use calc_state::Calc;
+use line_values::StepErr;
 use poly_io::{LineAns, LineReader, Sink, Source, WriteAllErr, write_all};
 use reply_text::Text;
 use row_core::{Memory, Steps};
@@ -132,12 +133,7 @@ fn reply_to<L: Ledger>(
     ensures answered { OnOk result ((reply : Reply) × Step calc.old line.now reply calc.new × (replies.new ≡ with_reply replies.old reply)) }
     ensures wanting { OnErr result (replies.new ≡ replies.old) }
 {
-    match take_step(calc, line, steps) {
-        Ok(text) => replies.add_answer(&text),
-        Err(StepErr::Input(fault)) => replies.add_fault(&fault),
-        Err(StepErr::Overflow(over)) => replies.add_overflow(&over),
-        Err(StepErr::Memory) => Err(Memory),
-    }
+    replies.add(take_step(calc, line, steps))
 }
 
 // The step that one line makes.

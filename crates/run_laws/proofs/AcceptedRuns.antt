@@ -6,10 +6,11 @@ use Rattle.script_text.specs.Line.{Spells, SpellsOne}
 use Rattle.name_table.specs.Table.{HasDistinctNames}
 use Rattle.calc_state.specs.Table.{Table}
 use Rattle.calc_state.specs.Meanings.{meaning}
-use Rattle.poly_commands.specs.OpenFiles.{OpenFile, with_line}
+use Rattle.open_files.specs.OpenFiles.{OpenFile, with_line}
 use Rattle.calc_state.specs.State.{State, opens}
 use Rattle.calc_state.specs.Reading.{IsRead}
-use Rattle.calc_state.specs.Step.{Reply, Answered, Refused, Overflows, IsAccepted}
+use Rattle.calc_state.specs.Step.{IsAccepted}
+use Rattle.line_values.specs.Replies.{Reply, Answered, Refused, Overflows}
 use Rattle.calc_state.specs.Line.{StepFrom}
 use Rattle.calc_state.specs.Laws.{KeepsNamesDistinct}
 use Rattle.calc_state.proofs.LineLemmas.{unchanged_from}

@@ -2,7 +2,7 @@
 use Rattle.std.proofs.Common.{ℕ, List, [], ◌∷◌, sym, subst}
 use Rattle.name_table.specs.Table.{HasDistinctNames}
 use Rattle.calc_state.specs.State.{State}
-use Rattle.calc_state.specs.Step.{Reply}
+use Rattle.line_values.specs.Replies.{Reply}
 use Rattle.calc_state.specs.Laws.{KeepsNamesDistinct}
 use Rattle.calc_state.specs.Runs.{Run}
 

@@ -20,3 +20,4 @@ pub mod TruthLaws
 pub mod SameTables
 pub mod KindAnswers
 pub mod AcceptedLaws
+pub mod UniquePrints

@@ -15,7 +15,7 @@ use Rattle.calc_state.specs.declared.entry.Entry.{Entry}
 use Rattle.calc_state.specs.declared.entry.Entry.TheVariants as entry
 use Rattle.name_table.specs.Table.{entry_of, put, put_each, numbered}
 use Rattle.calc_state.specs.Table.{Table, numbered_sets}
-use Rattle.calc_state.specs.Hybrids.{with_part}
+use Rattle.calc_state.specs.Parts.{with_part}
 use Rattle.run_laws.specs.Acts.{Act, Did, Took}
 use Rattle.run_laws.specs.Sets.{sets, locations_of, is_numbered, with_numbered, GivesSystem, GivesHybrid, GivesEntry, IsEntryOf}
 use Rattle.run_laws.proofs.TableLaws.{entry_of-put, names-put}

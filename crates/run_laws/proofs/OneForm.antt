@@ -19,7 +19,7 @@ use Rattle.poly_pair.specs.KeptLaws.{KeptIsPair, KeptIsEmpty}
 use Rattle.poly_pair.specs.Polyhedra.{Polyhedron, IsStoredAs, IsKept, HasNoPoint, IsOver}
 use Rattle.poly_pair.specs.declared.topology.Topology.{Topology}
 use Rattle.poly_pair.specs.declared.topology.Topology.TheVariants.{Closed, Nnc}
-use Rattle.poly_commands.specs.Proper.{IsProper}
+use Rattle.line_values.specs.Proper.{IsProper}
 use Rattle.run_laws.specs.Sameness.{AreSamePolyhedra}
 
 -- the laws that are cited: a text says one system; a closed set is stored in one way; both systems of a polyhedron hold

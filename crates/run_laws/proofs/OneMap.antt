@@ -31,7 +31,7 @@ use Rattle.script_text.specs.declared.command.Extension.{Extension}
 use Rattle.script_text.specs.declared.command.Extension.TheVariants.{Embed, Project}
 use Rattle.poly_commands.specs.Affine.{SaysReplacement, IsRemoved, image_rel, IsSetOfMap, IsMapped, IsMappedBy}
 use Rattle.poly_commands.specs.Operators.{Fits, IsMadeBy, IsExtended}
-use Rattle.poly_commands.specs.Proper.{IsProper}
+use Rattle.line_values.specs.Proper.{IsProper}
 use Rattle.run_laws.specs.Sets.{IsOfFit}
 use Rattle.run_laws.specs.Sameness.{AreSamePolyhedra}
 use Rattle.run_laws.proofs.OneForm.{OneForm}

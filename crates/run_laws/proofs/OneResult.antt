@@ -13,7 +13,7 @@ use Rattle.poly_pair.specs.TopologyConstraints.{IsConstraintFor}
 use Rattle.lattice_ops.specs.Sets.{IsMeet, IsHull, IsValidOn, IsIncluded, HaveSamePoints, AreDisjoint}
 use Rattle.calc_state.specs.declared.entry.Entry.{Entry}
 use Rattle.calc_state.specs.declared.entry.Entry.TheVariants as entry
-use Rattle.poly_commands.specs.Proper.{IsProper}
+use Rattle.line_values.specs.Proper.{IsProper}
 use Rattle.calc_state.specs.Entries.{IsKeptEntry}
 use Rattle.poly_commands.specs.Results.{IsResultOfClosure}
 use Rattle.run_laws.specs.Sets.{IsMadeOfOne, IsMadeOfTwo, IsOfNested}

@@ -1,9 +1,8 @@
 -- Steps that refuse a line.
 use Rattle.std.proofs.Common.{◌≡◌, ℕ, List, true, false}
 use Rattle.calc_state.specs.State.{State, closed}
-use Rattle.calc_state.specs.Step.{Reply, Answered, Refused, Overflows}
+use Rattle.line_values.specs.Replies.{Reply, Answered, Refused, Overflows, is_answer}
 use Rattle.calc_state.specs.Line.{Step}
-use Rattle.calc_state.specs.Runs.{is_answer}
 use Rattle.calc_state.proofs.LineLemmas.{IsAnswer, unchanged_from}
 
 never_answer : (reply : Reply) → is_answer reply ≡ false → ¬ (IsAnswer reply)

@@ -3,9 +3,9 @@ use Rattle.std.specs.Prelude.{◌≡◌, ◌⊎◌, ℕ, List, [], ◌∷◌, ma
 use Rattle.cdd_reading.specs.Files.{IsEnd}
 use Rattle.script_text.specs.Line.{Spells}
 use Rattle.script_text.specs.declared.command.Command.{Command}
-use Rattle.poly_commands.specs.OpenFiles.{OpenFile, with_line}
+use Rattle.open_files.specs.OpenFiles.{OpenFile, with_line}
 use Rattle.calc_state.specs.State.{opens}
-use Rattle.calc_state.specs.Step.{Reply, Answered, Refused, Overflows}
+use Rattle.line_values.specs.Replies.{Reply, Answered, Refused, Overflows}
 
 -- what is accepted: a command, or a whole file, with its last line
 pub data Act : Type 0 where

@@ -11,7 +11,7 @@ use Rattle.name_table.specs.Table.{entry_of}
 use Rattle.calc_state.specs.Table.{Table, poly_of}
 use Rattle.calc_state.specs.Powersets.{cover_line}
 use Rattle.calc_state.specs.State.{State, closed}
-use Rattle.calc_state.specs.Step.{Reply}
+use Rattle.line_values.specs.Replies.{Reply}
 use Rattle.run_laws.specs.Acts.{Act, Did, Accepted, acts, AreAccepted}
 use Rattle.calc_state.specs.Runs.{Run}
 use Rattle.run_laws.specs.Sets.{IsEntryOf, IsSetOf, names_of}

@@ -3,3 +3,4 @@ pub mod Sets
 pub mod Sameness
 pub mod Truth
 pub mod Laws
+pub mod Prints

@@ -21,20 +21,21 @@ use Rattle.script_text.specs.declared.command.Command.{Command}
 use Rattle.script_text.specs.declared.command.Command.TheVariants.{Cons, Gens, Space, Copy, Drop, Add, Addgen, OfTwo, Closure, Map, Extend, Remove, Widen, System, Init, Trans, Fixpoint, Pset, OfTwoPowersets, Member, Rank, ShapeOf, Bounds, OfTwoShapes, ShapePoly, Hybrid, SetPart, Reach}
 use Rattle.calc_state.specs.declared.entry.Entry.{Entry}
 use Rattle.calc_state.specs.declared.entry.Entry.TheVariants as entry
-use Rattle.poly_commands.specs.Proper.{IsProper}
+use Rattle.line_values.specs.Proper.{IsProper}
 use Rattle.calc_state.specs.Entries.{IsKeptEntry}
 use Rattle.name_table.specs.Table.{numbered}
-use Rattle.poly_commands.specs.Makers.{SaysConstraints, SaysGenerators, more_constraints, more_generators, IsSpace}
+use Rattle.poly_commands.specs.Makers.{more_constraints, more_generators, IsSpace}
+use Rattle.line_values.specs.Texts.{SaysConstraints, SaysGenerators}
 use Rattle.poly_commands.specs.Results.{IsResult, IsResultOfConstraints, IsResultOfGenerators, IsResultOfClosure}
 use Rattle.poly_commands.specs.Operators.{Fits, IsMadeBy, IsExtended}
 use Rattle.poly_commands.specs.Affine.{IsRemoved, IsMappedBy}
 use Rattle.calc_state.specs.Systems.{IsEmptySystem, AreReached}
 use Rattle.calc_state.specs.Powersets.{IsPowersetOf}
 use Rattle.calc_state.specs.Shapes.{IsShapeOfSet, IsShapeOfConstraints, IsShapeBy, IsPolyOfShape}
-use Rattle.calc_state.specs.Hybrids.{IsStill, with_part, AreReachedParts}
-use Rattle.poly_commands.specs.Meanings.{topology_of}
-use Rattle.poly_commands.specs.Files.{format_of}
-use Rattle.poly_commands.specs.OpenFiles.{OpenFile}
+use Rattle.calc_state.specs.Hybrids.{IsStill, AreReachedParts}
+use Rattle.calc_state.specs.Parts.{with_part}
+use Rattle.line_values.specs.Operands.{topology_of, format_of}
+use Rattle.open_files.specs.OpenFiles.{OpenFile}
 use Rattle.run_laws.specs.Acts.{Act, Did, Took}
 
 -- ---- what is made

@@ -2,9 +2,9 @@
 ghost use Rattle.std.specs.Prelude.{◌≡◌, ℕ, List, [], false};
 ghost use Rattle.name_table.specs.Table.{HasDistinctNames};
 ghost use Rattle.calc_state.specs.State.{State, closed};
-ghost use Rattle.calc_state.specs.Step.{Reply};
+ghost use Rattle.line_values.specs.Replies.{Reply, is_answer};
 ghost use Rattle.calc_state.specs.Line.{Step};
-ghost use Rattle.calc_state.specs.Runs.{is_answer, Run};
+ghost use Rattle.calc_state.specs.Runs.{Run};
 ghost use Rattle.run_laws.specs.Laws.{AcceptedDecide, AcceptedIsUnique, SetsAreAsCommanded, SetsAreUnique, AnswersAreTrue};
 
 use calc_state::names_stay_distinct;

@@ -1,8 +1,7 @@
 use Rattle.calc_state.specs.declared.entry.Entry.TheVariants as entry
 use Rattle.calc_state.specs.Table.{as_system, as_hybrid}
-use Rattle.calc_state.specs.Systems.{init, trans}
-use Rattle.calc_state.specs.Hybrids.{set_part}
-use Rattle.calc_state.proofs.SystemLemmas.{changes_part, system_found, hybrid_found, tested_as}
+use Rattle.calc_state.specs.Parts.{init, trans, set_part}
+use Rattle.calc_state.proofs.PartLemmas.{changes_part, system_found, hybrid_found, tested_as}
 use Rattle.calc_state.proofs.perform.part_change_of.Goals as goal
 
 pub returns-in-Init : goal.returns-in-Init

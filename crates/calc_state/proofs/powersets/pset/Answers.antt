@@ -1,4 +1,4 @@
-use Rattle.poly_commands.proofs.OperatorLemmas.{room_passes}
+use Rattle.line_values.proofs.PerformedLemmas.{room_passes}
 use Rattle.calc_state.proofs.powersets.pset.Goals as goal
 
 pub returns : goal.returns

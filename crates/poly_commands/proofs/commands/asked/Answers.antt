@@ -4,7 +4,8 @@ use Rattle.line_values.specs.Meaning.{on_one}
 use Rattle.line_values.specs.Performed.{IsPerformed}
 use Rattle.poly_commands.specs.Questions.{has, size, print}
 use Rattle.poly_commands.specs.Lattice.{compared, isempty}
-use Rattle.poly_commands.specs.Optima.{relation, bound, is_max}
+use Rattle.poly_commands.specs.Optima.{relation, bound}
+use Rattle.line_values.specs.Operands.{is_max}
 use Rattle.poly_commands.specs.Files.{write}
 use Rattle.poly_commands.specs.Names.{names}
 use Rattle.poly_commands.specs.Meanings.{meaning}

@@ -2,7 +2,8 @@ use Rattle.std.proofs.Common.{subst}
 use Rattle.poly_pair.specs.declared.topology.Topology.{Topology}
 use Rattle.line_values.specs.Performed.{IsPerformed}
 use Rattle.poly_commands.specs.Makers.{cons, gens, space_of, copy, add, addgen}
-use Rattle.poly_commands.specs.Meanings.{meaning, topology_of}
+use Rattle.poly_commands.specs.Meanings.{meaning}
+use Rattle.line_values.specs.Operands.{topology_of}
 use Rattle.line_values.proofs.EffectLemmas.{performed_as, put_none, put_one, put_found}
 use Rattle.poly_commands.proofs.commands.made.Goals as goal
 

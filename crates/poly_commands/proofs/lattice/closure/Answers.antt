@@ -1,4 +1,4 @@
-use Rattle.poly_commands.proofs.OperatorLemmas.{room_passes}
+use Rattle.line_values.proofs.PerformedLemmas.{room_passes}
 use Rattle.poly_commands.proofs.lattice.closure.Goals as goal
 
 pub returns-in-Ok : goal.returns-in-Ok

@@ -1,21 +1,23 @@
 use Rattle.std.proofs.Common.{ap, Err, inl, refl, ◌∙◌}
 use Rattle.polycalc.specs.Replies.{Written, with_reply}
+use Rattle.job_texts.specs.Conversions.{ConvertsTo}
+use Rattle.polycalc.proofs.GivenReplies.{reply_added}
 use Rattle.polycalc.proofs.WriteLaws.{conversion_written, writes_unread}
 use Rattle.polycalc.proofs.conversions.convert_file.Goals as goal
 
 pub returns-clause-outcome : goal.returns-clause-outcome
 returns-clause-outcome g c =
     let a = c.in-Ok.ensures.given in
-    let r = c.in-Ok-reply_to.ensures in
+    let r = reply_added (ConvertsTo c.args.want c.as_slice.result.now) c.converted.result c.new-replies.result c.add.new.self c.converted.ensures c.in-Ok-add.ensures.added in
     let held = g.W.Sink.held in (
       a.0,
       a.1,
-      conversion_written c.args.want c.as_slice.result.now a.0 (g.S.Source.left c.read_all.new.source) (held c.args.sink.now) (held c.write.new.sink) c.reply_to.new.replies r.0 c.write.result
+      conversion_written c.args.want c.as_slice.result.now a.0 (g.S.Source.left c.read_all.new.source) (held c.args.sink.now) (held c.write.new.sink) c.add.new.self r.0 c.write.result
           (c.as_slice.ensures.value ∙ a.2.1) r.1 (r.2 ∙ ap (λ (w : Written). with_reply w r.0) c.new-replies.ensures) a.2.0 c.in-Ok.ensures.end c.write.ensures.writes,
     )
 
 pub returns-clause-read_fault : goal.returns-clause-read_fault
-returns-clause-read_fault g c = λ e. absurd (writes_unread c.reply_to.new.replies (g.W.Sink.held c.args.sink.now) (g.W.Sink.held c.write.new.sink) c.write.result c.write.ensures.writes e)
+returns-clause-read_fault g c = λ e. absurd (writes_unread c.add.new.self (g.W.Sink.held c.args.sink.now) (g.W.Sink.held c.write.new.sink) c.write.result c.write.ensures.writes e)
 
 pub returns-clause-write_fault : goal.returns-clause-write_fault
 returns-clause-write_fault g c = c.write.ensures.fault

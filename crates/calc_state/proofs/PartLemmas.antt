@@ -1,0 +1,94 @@
+-- What came of a change of a part of an entry.
+use Rattle.std.proofs.Common.{◌≡◌, ◌∙◌, ℕ, List, Ok, Err, Result, Option, None, Some, refl, sym, subst}
+use Rattle.std.specs.Prelude.{IsSome}
+use Rattle.poly_pair.specs.Polyhedra.{Polyhedron}
+use Rattle.script_text.specs.declared.command.Command.{Command}
+use Rattle.calc_state.specs.declared.entry.Entry.{Entry}
+use Rattle.calc_state.specs.declared.entry.Entry.TheVariants as entry
+use Rattle.line_values.specs.declared.change.Change.TheVariants.{Puts}
+use Rattle.line_values.specs.declared.refusal.StepErr.{StepErr}
+use Rattle.line_values.specs.declared.refusal.StepErr.TheVariants as err
+use Rattle.calc_state.specs.declared.parts.PartChange.{PartChange}
+use Rattle.name_table.specs.Table.{entry_of}
+use Rattle.calc_state.specs.Table.{Table, as_system, as_hybrid, Change}
+use Rattle.line_values.specs.Order.{IsFirst}
+use Rattle.line_values.specs.Meaning.{Meaning, on_one}
+use Rattle.calc_state.specs.Meanings.{meaning}
+use Rattle.calc_state.specs.Step.{IsDone}
+use Rattle.calc_state.specs.Changes.{changed_part, FitsPart, as_entry, Makes, IsTested, IsTestedIn, named_change, IsChanged}
+
+-- ---- one entry
+abbrev some_entry : Entry → Option Entry
+some_entry e = Some e
+
+pub same_entry : (found : Option Entry) (e f : Entry) → found ≡ Some e → found ≡ Some f → e ≡ f
+same_entry found e f is are =
+    let same : some_entry e ≡ some_entry f = sym is ∙ are in
+    cc
+
+-- an entry was found
+pub is_there : (m : Meaning Change) (found : Option Entry) (name : List ℕ) (change : PartChange) → Makes m found name change → IsSome found
+is_there m found name change makes = subst IsSome (sym makes.is_found) refl
+
+-- the change fits whatever entry was found
+pub fits_found : (m : Meaning Change) (found : Option Entry) (name : List ℕ) (change : PartChange) → Makes m found name change → (e : Entry) → found ≡ Some e → FitsPart e change
+fits_found m found name change makes e is = subst (λ (f : Entry). FitsPart f change) (same_entry found makes.old e makes.is_found is) makes.fits
+
+-- what a look-up of a kind finds stands there
+pub system_found : (o : Option Entry) (e : Entry) → as_entry entry.System (as_system o) ≡ Some e → o ≡ Some e
+system_found (Some (entry.System s)) e is = is
+system_found (Some (entry.Poly p)) e is = let none : None ≡ some_entry e = is in cc
+system_found (Some (entry.Powerset u)) e is = let none : None ≡ some_entry e = is in cc
+system_found (Some (entry.Shape s)) e is = let none : None ≡ some_entry e = is in cc
+system_found (Some (entry.Hybrid h)) e is = let none : None ≡ some_entry e = is in cc
+system_found None e is = let none : None ≡ some_entry e = is in cc
+
+pub hybrid_found : (o : Option Entry) (e : Entry) → as_entry entry.Hybrid (as_hybrid o) ≡ Some e → o ≡ Some e
+hybrid_found (Some (entry.Hybrid h)) e is = is
+hybrid_found (Some (entry.Poly p)) e is = let none : None ≡ some_entry e = is in cc
+hybrid_found (Some (entry.System s)) e is = let none : None ≡ some_entry e = is in cc
+hybrid_found (Some (entry.Powerset u)) e is = let none : None ≡ some_entry e = is in cc
+hybrid_found (Some (entry.Shape s)) e is = let none : None ≡ some_entry e = is in cc
+hybrid_found None e is = let none : None ≡ some_entry e = is in cc
+
+-- ---- tests
+-- what came of the tests, of the operands that the table has: a change that fits what a look-up of a kind found fits the entry under its name
+module _ {A : Type 0} (make : A → Entry) (kind : Option Entry → Option A) (stands : (o : Option Entry) (e : Entry) → as_entry make (kind o) ≡ Some e → o ≡ Some e) (table : Table) (name : List ℕ) where
+  found_tested : (m : Meaning Change) (found : Option A) (change : PartChange) → found ≡ kind (entry_of table name) → Makes m (as_entry make found) name change → Makes m (entry_of table name) name change
+  found_tested m found change e t =
+      record { old = t.old; is_found = stands (entry_of table name) t.old (subst (λ (u : Option A). as_entry make u ≡ Some t.old) e t.is_found); fits = t.fits; passes = t.passes; does = t.does }
+
+  tests_change : (found : Option A) (p q : Option Polyhedron) (means : A → Polyhedron → Meaning Change) (result : Result PartChange StepErr) → found ≡ kind (entry_of table name) → p ≡ q →
+      IsTested (on_one found (λ s. on_one p (means s))) (as_entry make found) name result → IsTestedIn (on_one (kind (entry_of table name)) (λ s. on_one q (means s))) table (named_change name result)
+  tests_change found p q means (Ok change) e f t =
+      subst (λ (r : Option Polyhedron). Makes (on_one (kind (entry_of table name)) (λ s. on_one r (means s))) (entry_of table name) name change) f
+      (subst (λ (u : Option A). Makes (on_one u (λ s. on_one p (means s))) (entry_of table name) name change) e (found_tested (on_one found (λ s. on_one p (means s))) found change e t))
+  tests_change found p q means (Err (err.Input fault)) e f t =
+      subst (λ (r : Option Polyhedron). IsFirst (on_one (kind (entry_of table name)) (λ s. on_one r (means s))).conditions fault) f (subst (λ (u : Option A). IsFirst (on_one u (λ s. on_one p (means s))).conditions fault) e t)
+  tests_change found p q means (Err (err.Overflow over)) e f t = absurd t
+  tests_change found p q means (Err err.Memory) e f t = tt
+
+  pub changes_part : (means : A → Polyhedron → Meaning Change) (result : Result PartChange StepErr) {found : Option A} {p q : Option Polyhedron} {given : Result (List ℕ × PartChange) StepErr} → found ≡ kind (entry_of table name) → p ≡ q → given ≡ named_change name result →
+      IsTested (on_one found (λ s. on_one p (means s))) (as_entry make found) name result → IsTestedIn (on_one (kind (entry_of table name)) (λ s. on_one q (means s))) table given
+  changes_part means result {found} {p} {q} {given} e f is t =
+      subst (λ (r : Result (List ℕ × PartChange) StepErr). IsTestedIn (on_one (kind (entry_of table name)) (λ s. on_one q (means s))) table r) (sym is) (tests_change found p q means result e f t)
+
+-- what came of the tests of a command that is this one
+pub tested_as : (table : Table) (command spelled : Command) (result : Result (List ℕ × PartChange) StepErr) → command ≡ spelled → IsTestedIn (meaning table spelled) table result → IsTestedIn (meaning table command) table result
+tested_as table command spelled result e is = subst (λ (c : Command). IsTestedIn (meaning table c) table result) (sym e) is
+
+-- ---- what was given
+-- a change that passed its tests was made, or memory ran out
+pub change_done : (m : Meaning Change) (name : List ℕ) (change : PartChange) (old new : Table) (result : Result (List ℕ) StepErr) → Makes m (entry_of old name) name change → IsChanged name change old result new → IsDone m old result new
+change_done m name change old new (Ok lines) makes is =
+    let there = is.1 makes.old makes.is_found in
+    record { passes = makes.passes; change = Puts name (changed_part makes.old change); does = makes.does; proper = there.1; lines_are = is.0; table = there.0 }
+change_done m name change old new (Err (err.Input fault)) makes is = absurd is
+change_done m name change old new (Err (err.Overflow over)) makes is = absurd is
+change_done m name change old new (Err err.Memory) makes is = is
+
+-- a test wasn't passed, and the table is as before
+pub change_refused : (m : Meaning Change) (table : Table) (cause : StepErr) (old new : Table) → new ≡ old → IsTestedIn m table (Err cause) → IsDone m old (Err cause) new
+change_refused m table (err.Input fault) old new same is = (is, same)
+change_refused m table (err.Overflow over) old new same is = absurd is
+change_refused m table err.Memory old new same is = same
