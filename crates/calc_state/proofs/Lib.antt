@@ -3,7 +3,6 @@ mod DistinctNames
 mod HybridLemmas
 mod LatticeOnce
 pub mod LineLemmas
-mod OnPolyhedra
 mod OptimaOnce
 mod PartLemmas
 mod PowersetLemmas
@@ -14,3 +13,4 @@ pub mod SaysOnce
 mod ShapeLemmas
 pub mod StepLemmas
 mod SystemLemmas
+mod TaskLemmas

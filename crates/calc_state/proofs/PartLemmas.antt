@@ -2,7 +2,7 @@
 use Rattle.std.proofs.Common.{◌≡◌, ◌∙◌, ℕ, List, Ok, Err, Result, Option, None, Some, refl, sym, subst}
 use Rattle.std.specs.Prelude.{IsSome}
 use Rattle.poly_pair.specs.Polyhedra.{Polyhedron}
-use Rattle.script_text.specs.declared.command.Command.{Command}
+use Rattle.calc_state.specs.declared.tasks.PartTask.{PartTask}
 use Rattle.calc_state.specs.declared.entry.Entry.{Entry}
 use Rattle.calc_state.specs.declared.entry.Entry.TheVariants as entry
 use Rattle.line_values.specs.declared.change.Change.TheVariants.{Puts}
@@ -13,9 +13,9 @@ use Rattle.name_table.specs.Table.{entry_of}
 use Rattle.calc_state.specs.Table.{Table, as_system, as_hybrid, Change}
 use Rattle.line_values.specs.Order.{IsFirst}
 use Rattle.line_values.specs.Meaning.{Meaning, on_one}
-use Rattle.calc_state.specs.Meanings.{meaning}
+use Rattle.calc_state.specs.Meanings.{changed_part_of}
 use Rattle.calc_state.specs.Step.{IsDone}
-use Rattle.calc_state.specs.Changes.{changed_part, FitsPart, as_entry, Makes, IsTested, IsTestedIn, named_change, IsChanged}
+use Rattle.calc_state.specs.Changes.{changed_part, FitsPart, as_entry, Makes, IsTested, IsChanged}
 
 -- ---- one entry
 abbrev some_entry : Entry → Option Entry
@@ -58,24 +58,19 @@ module _ {A : Type 0} (make : A → Entry) (kind : Option Entry → Option A) (s
   found_tested m found change e t =
       record { old = t.old; is_found = stands (entry_of table name) t.old (subst (λ (u : Option A). as_entry make u ≡ Some t.old) e t.is_found); fits = t.fits; passes = t.passes; does = t.does }
 
-  tests_change : (found : Option A) (p q : Option Polyhedron) (means : A → Polyhedron → Meaning Change) (result : Result PartChange StepErr) → found ≡ kind (entry_of table name) → p ≡ q →
-      IsTested (on_one found (λ s. on_one p (means s))) (as_entry make found) name result → IsTestedIn (on_one (kind (entry_of table name)) (λ s. on_one q (means s))) table (named_change name result)
-  tests_change found p q means (Ok change) e f t =
+  pub changes_part : (means : A → Polyhedron → Meaning Change) (result : Result PartChange StepErr) {found : Option A} {p q : Option Polyhedron} → found ≡ kind (entry_of table name) → p ≡ q →
+      IsTested (on_one found (λ s. on_one p (means s))) (as_entry make found) name result → IsTested (on_one (kind (entry_of table name)) (λ s. on_one q (means s))) (entry_of table name) name result
+  changes_part means (Ok change) {found} {p} {q} e f t =
       subst (λ (r : Option Polyhedron). Makes (on_one (kind (entry_of table name)) (λ s. on_one r (means s))) (entry_of table name) name change) f
       (subst (λ (u : Option A). Makes (on_one u (λ s. on_one p (means s))) (entry_of table name) name change) e (found_tested (on_one found (λ s. on_one p (means s))) found change e t))
-  tests_change found p q means (Err (err.Input fault)) e f t =
+  changes_part means (Err (err.Input fault)) {found} {p} {q} e f t =
       subst (λ (r : Option Polyhedron). IsFirst (on_one (kind (entry_of table name)) (λ s. on_one r (means s))).conditions fault) f (subst (λ (u : Option A). IsFirst (on_one u (λ s. on_one p (means s))).conditions fault) e t)
-  tests_change found p q means (Err (err.Overflow over)) e f t = absurd t
-  tests_change found p q means (Err err.Memory) e f t = tt
+  changes_part means (Err (err.Overflow over)) {found} {p} {q} e f t = absurd t
+  changes_part means (Err err.Memory) {found} {p} {q} e f t = tt
 
-  pub changes_part : (means : A → Polyhedron → Meaning Change) (result : Result PartChange StepErr) {found : Option A} {p q : Option Polyhedron} {given : Result (List ℕ × PartChange) StepErr} → found ≡ kind (entry_of table name) → p ≡ q → given ≡ named_change name result →
-      IsTested (on_one found (λ s. on_one p (means s))) (as_entry make found) name result → IsTestedIn (on_one (kind (entry_of table name)) (λ s. on_one q (means s))) table given
-  changes_part means result {found} {p} {q} {given} e f is t =
-      subst (λ (r : Result (List ℕ × PartChange) StepErr). IsTestedIn (on_one (kind (entry_of table name)) (λ s. on_one q (means s))) table r) (sym is) (tests_change found p q means result e f t)
-
--- what came of the tests of a command that is this one
-pub tested_as : (table : Table) (command spelled : Command) (result : Result (List ℕ × PartChange) StepErr) → command ≡ spelled → IsTestedIn (meaning table spelled) table result → IsTestedIn (meaning table command) table result
-tested_as table command spelled result e is = subst (λ (c : Command). IsTestedIn (meaning table c) table result) (sym e) is
+-- what came of the tests of a task that is this one
+pub tested_as : (table : Table) (name : List ℕ) (what spelled : PartTask) (result : Result PartChange StepErr) → what ≡ spelled → IsTested (changed_part_of table name spelled) (entry_of table name) name result → IsTested (changed_part_of table name what) (entry_of table name) name result
+tested_as table name what spelled result e is = subst (λ (t : PartTask). IsTested (changed_part_of table name t) (entry_of table name) name result) (sym e) is
 
 -- ---- what was given
 -- a change that passed its tests was made, or memory ran out
@@ -88,7 +83,7 @@ change_done m name change old new (Err (err.Overflow over)) makes is = absurd is
 change_done m name change old new (Err err.Memory) makes is = is
 
 -- a test wasn't passed, and the table is as before
-pub change_refused : (m : Meaning Change) (table : Table) (cause : StepErr) (old new : Table) → new ≡ old → IsTestedIn m table (Err cause) → IsDone m old (Err cause) new
-change_refused m table (err.Input fault) old new same is = (is, same)
-change_refused m table (err.Overflow over) old new same is = absurd is
-change_refused m table err.Memory old new same is = same
+pub change_refused : (m : Meaning Change) (found : Option Entry) (name : List ℕ) (cause : StepErr) (old new : Table) → new ≡ old → IsTested m found name (Err cause) → IsDone m old (Err cause) new
+change_refused m found name (err.Input fault) old new same is = (is, same)
+change_refused m found name (err.Overflow over) old new same is = absurd is
+change_refused m found name err.Memory old new same is = same

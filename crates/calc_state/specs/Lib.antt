@@ -1,6 +1,5 @@
 pub mod Changes
 pub mod Entries
-pub mod Families
 pub mod Hybrids
 pub mod Laws
 pub mod Line
@@ -15,3 +14,4 @@ pub mod State
 pub mod Step
 pub mod Systems
 pub mod Table
+pub mod Tasks

@@ -3,16 +3,14 @@ ghost use Rattle.std.specs.Prelude.{◌≡◌, Some, IsSome, OnOk, OnErr};
 ghost use Rattle.name_table.specs.Table.{entry_of, put};
 ghost use Rattle.trans_sys.specs.Systems.{IsKeptSystem};
 ghost use Rattle.hybrid.specs.Systems.{IsKeptHybrid};
-ghost use Rattle.calc_state.specs.Changes.{changed_system, changed_hybrid, changed_part, FitsSystem, FitsHybrid, FitsPart, named_change};
+ghost use Rattle.calc_state.specs.Changes.{changed_system, changed_hybrid, changed_part, FitsSystem, FitsHybrid, FitsPart};
 ghost use Rattle.calc_state.specs.Entries.{IsKeptEntry};
 ghost use Rattle.calc_state.specs.declared.entry.Entry.{Entry as AnyEntry};
 
 use crate::entry::Entry;
 use hybrid::Hybrid;
-use line_values::StepErr;
 use name_table::Names;
 use poly_pair::Poly;
-use reply_text::Text;
 use row_core::Memory;
 use trans_sys::System;
 
@@ -50,19 +48,6 @@ pub enum HybridChange {
     Invariant(usize, Poly),
     /// The flow of a location is replaced.
     Flow(usize, Poly),
-}
-
-/// The change with the name of its entry.
-pub fn of_entry(
-    name: Text,
-    change: Result<PartChange, StepErr>,
-) -> Result<(Text, PartChange), StepErr>
-    ensures { result ≡ named_change name change }
-{
-    match change {
-        Ok(change) => Ok((name, change)),
-        Err(cause) => Err(cause),
-    }
 }
 
 /// Changes a part of the entry under the name. After want of memory the table is as before.

@@ -12,6 +12,13 @@ use Rattle.line_values.specs.Effects.{puts, tells, placed, replied}
 pub performed_as : {C A : Type 0} (means : C → Meaning A) (command spelled : C) (result : Result A StepErr) → command ≡ spelled → IsPerformed (means spelled) result → IsPerformed (means command) result
 performed_as {C} means command spelled result e is = subst (λ (c : C). IsPerformed (means c) result) (sym e) is
 
+-- what came of a command of which one or two operands were looked up
+pub on_found : {A B : Type 0} (m : B → Meaning A) (result : Result A StepErr) {o u : Option B} → o ≡ u → IsPerformed (on_one o m) result → IsPerformed (on_one u m) result
+on_found {A} {B} m result e is = subst (λ (x : Option B). IsPerformed (on_one x m) result) e is
+
+pub on_two_found : {A B C : Type 0} (m : B → C → Meaning A) (result : Result A StepErr) {o u : Option B} {v w : Option C} → o ≡ u → v ≡ w → IsPerformed (on_two o v m) result → IsPerformed (on_two u w m) result
+on_two_found {A} {B} {C} m result {o} {u} {v} {w} e f is = subst (λ (x : Option C). IsPerformed (on_two u x m) result) f (subst (λ (x : Option B). IsPerformed (on_two x v m) result) e is)
+
 -- the entry of a kind that was made is put under the name
 module _ {A E : Type 0} (make : A → E) (kind : Option E → Option A) (found : (a : A) → kind (Some (make a)) ≡ Some a) (out : List ℕ) where
   placed_performed : (m : Meaning A) (made : Result A StepErr) → IsPerformed m made → IsPerformed (puts kind out m) (placed make out made)

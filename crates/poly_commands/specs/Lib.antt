@@ -1,5 +1,5 @@
 pub mod Affine
-pub mod Families
+pub mod Parts
 pub mod Files
 pub mod Lattice
 pub mod Makers

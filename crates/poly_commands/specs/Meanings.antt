@@ -1,15 +1,26 @@
--- What each command on polyhedra means in a table.
-use Rattle.std.specs.Prelude.{[], Option}
+-- What each task on polyhedra means.
+use Rattle.std.specs.Prelude.{ℕ, List, Bool, Option}
 use Rattle.poly_pair.specs.Polyhedra.{Polyhedron}
-use Rattle.script_text.specs.declared.command.Command.{Command}
-use Rattle.script_text.specs.declared.command.Command.TheVariants.{Nothing, Cons, Gens, Space, Copy, Drop, Add, Addgen, Has, Size, Print, Names, OfTwo, Closure, Compare, Isempty, Relation, Bound, Map, Extend, Remove, Widen, Read, Write}
-use Rattle.name_table.specs.Table.{Table, entry_of, has_no_room}
-use Rattle.line_values.specs.declared.change.Change.{Change}
-use Rattle.line_values.specs.Effects.{puts, tells}
-use Rattle.line_values.specs.Meaning.{Meaning, on_one, on_two, says, unknown}
+use Rattle.poly_pair.specs.declared.topology.Topology.{Topology}
+use Rattle.name_table.specs.Table.{Table}
+use Rattle.line_values.specs.Meaning.{Meaning, on_one, on_two}
 use Rattle.line_values.specs.Operands.{topology_of, poly_of, is_max}
+use Rattle.poly_commands.specs.declared.tasks.Maker.{Maker}
+use Rattle.poly_commands.specs.declared.tasks.Maker.TheVariants as maker
+use Rattle.poly_commands.specs.declared.tasks.Given.{Given}
+use Rattle.poly_commands.specs.declared.tasks.Given.TheVariants as given
+use Rattle.poly_commands.specs.declared.tasks.OfOne.{OfOne}
+use Rattle.poly_commands.specs.declared.tasks.OfOne.TheVariants as one
+use Rattle.poly_commands.specs.declared.tasks.OfTwo.{OfTwo}
+use Rattle.poly_commands.specs.declared.tasks.OfTwo.TheVariants as two
+use Rattle.poly_commands.specs.declared.tasks.Addition.{Addition}
+use Rattle.poly_commands.specs.declared.tasks.Addition.TheVariants as addition
+use Rattle.poly_commands.specs.declared.tasks.Question.{Question}
+use Rattle.poly_commands.specs.declared.tasks.Question.TheVariants as question
+use Rattle.poly_commands.specs.declared.tasks.About.{About}
+use Rattle.poly_commands.specs.declared.tasks.About.TheVariants as about
 use Rattle.poly_commands.specs.Makers.{cons, gens, space_of, copy, add, addgen}
-use Rattle.poly_commands.specs.Names.{drop_of, names}
+use Rattle.poly_commands.specs.Names.{names}
 use Rattle.poly_commands.specs.Questions.{has, size, print}
 use Rattle.poly_commands.specs.Optima.{relation, bound}
 use Rattle.poly_commands.specs.Lattice.{closure, compared, isempty}
@@ -18,30 +29,50 @@ use Rattle.poly_commands.specs.Widening.{widen}
 use Rattle.poly_commands.specs.Files.{write}
 use Rattle.poly_commands.specs.Affine.{mapped_by, remove}
 
--- the meaning of a command on polyhedra, or on the names
-abbrev pub meaning : {E : Type 0} → (Option E → Option Polyhedron) → Table E → Command → Meaning (Change E)
-meaning as_poly table Nothing = tells (says [])
-meaning as_poly table (Cons out top n part) = puts as_poly out (cons (has_no_room table out) (topology_of top) n part)
-meaning as_poly table (Gens out top n part) = puts as_poly out (gens (has_no_room table out) (topology_of top) n part)
-meaning as_poly table (Space space out top n) = puts as_poly out (space_of space (has_no_room table out) (topology_of top) n)
-meaning as_poly table (Copy out p) = puts as_poly out (on_one (poly_of as_poly table p) (copy (has_no_room table out)))
-meaning as_poly table (Drop name) = drop_of name (entry_of table name)
-meaning as_poly table (Add p part) = puts as_poly p (on_one (poly_of as_poly table p) (add part))
-meaning as_poly table (Addgen p part) = puts as_poly p (on_one (poly_of as_poly table p) (addgen part))
-meaning as_poly table (Has p part) = tells (on_one (poly_of as_poly table p) (has part))
-meaning as_poly table (Size p) = tells (on_one (poly_of as_poly table p) size)
-meaning as_poly table (Print side p) = tells (on_one (poly_of as_poly table p) (print side))
-meaning as_poly table Names = tells (names table)
-meaning as_poly table (OfTwo op out p q) = puts as_poly out (on_two (poly_of as_poly table p) (poly_of as_poly table q) (operated op (has_no_room table out)))
-meaning as_poly table (Closure out p) = puts as_poly out (on_one (poly_of as_poly table p) (closure (has_no_room table out)))
-meaning as_poly table (Compare by p q) = tells (on_two (poly_of as_poly table p) (poly_of as_poly table q) (compared by))
-meaning as_poly table (Isempty p) = tells (on_one (poly_of as_poly table p) isempty)
-meaning as_poly table (Relation p part) = tells (on_one (poly_of as_poly table p) (relation part))
-meaning as_poly table (Bound extremum p part) = tells (on_one (poly_of as_poly table p) (bound (is_max extremum) part))
-meaning as_poly table (Map by out p v rel part) = puts as_poly out (on_one (poly_of as_poly table p) (mapped_by by (has_no_room table out) v rel part))
-meaning as_poly table (Extend by out p n) = puts as_poly out (on_one (poly_of as_poly table p) (extended by (has_no_room table out) n))
-meaning as_poly table (Remove out p vars) = puts as_poly out (on_one (poly_of as_poly table p) (remove (has_no_room table out) vars))
-meaning as_poly table (Widen out p q) = puts as_poly out (on_two (poly_of as_poly table p) (poly_of as_poly table q) (widen (has_no_room table out)))
-meaning as_poly table (Read out form) = tells (says [])
-meaning as_poly table (Write p form) = tells (on_one (poly_of as_poly table p) (write form))
-meaning as_poly table other = unknown
+-- ---- makers
+-- what words and a part make alone
+abbrev pub made_alone : Given → Bool → Topology → ℕ → Meaning Polyhedron
+made_alone (given.Cons part) full topology n = cons full topology n part
+made_alone (given.Gens part) full topology n = gens full topology n part
+made_alone (given.Space space) full topology n = space_of space full topology n
+
+-- what is made of one polyhedron
+abbrev pub made_of_one : OfOne → Bool → Polyhedron → Meaning Polyhedron
+made_of_one one.Copy full = copy full
+made_of_one one.Closure full = closure full
+made_of_one (one.Map by v rel part) full = mapped_by by full v rel part
+made_of_one (one.Extend by n) full = extended by full n
+made_of_one (one.Remove vars) full = remove full vars
+
+-- what is made of two
+abbrev pub made_of_two : OfTwo → Bool → Polyhedron → Polyhedron → Meaning Polyhedron
+made_of_two (two.Operate op) full = operated op full
+made_of_two two.Widen full = widen full
+
+-- what a maker makes, where names stand for polyhedra or not
+abbrev pub made : (List ℕ → Option Polyhedron) → Bool → Maker → Meaning Polyhedron
+made find full (maker.Given top n by) = made_alone by full (topology_of top) n
+made find full (maker.OfOne p by) = on_one (find p) (made_of_one by full)
+made find full (maker.OfTwo p q by) = on_two (find p) (find q) (made_of_two by full)
+
+-- what is made by an addition
+abbrev pub added : Addition → Polyhedron → Meaning Polyhedron
+added (addition.Cons part) = add part
+added (addition.Gens part) = addgen part
+
+-- ---- questions
+-- what is said of one polyhedron
+abbrev pub said_of_one : About → Polyhedron → Meaning (List ℕ)
+said_of_one (about.Has part) = has part
+said_of_one about.Size = size
+said_of_one (about.Print side) = print side
+said_of_one about.Isempty = isempty
+said_of_one (about.Relation part) = relation part
+said_of_one (about.Bound extremum part) = bound (is_max extremum) part
+said_of_one (about.Write form) = write form
+
+-- what is said in a table of which some entries are polyhedra
+abbrev pub said : {E : Type 0} → (Option E → Option Polyhedron) → Table E → Question → Meaning (List ℕ)
+said as_poly table (question.OfOne p of) = on_one (poly_of as_poly table p) (said_of_one of)
+said as_poly table (question.Compare by p q) = on_two (poly_of as_poly table p) (poly_of as_poly table q) (compared by)
+said as_poly table question.Names = names table

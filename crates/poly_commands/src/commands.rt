@@ -1,198 +1,154 @@
-//! What each command on polyhedra does, from the table as it stands.
-ghost use Rattle.script_text.specs.Line.{PartsMatch, PartsTold};
+//! What each task on polyhedra does, from the table as it stands: its operands are looked up here, and here alone.
+ghost use Rattle.std.specs.Option.{option_copied};
+ghost use Rattle.line_values.specs.Meaning.{on_one, on_two};
+ghost use Rattle.line_values.specs.Operands.{poly_of};
 ghost use Rattle.line_values.specs.Performed.{IsPerformed};
-ghost use Rattle.poly_commands.specs.Meanings.{meaning};
-ghost use Rattle.poly_commands.specs.Families.{Makes, Asks, Combines, IsOnPolyhedra};
+ghost use Rattle.poly_commands.specs.Meanings.{made_alone, made_of_one, made_of_two, made, added, said_of_one, said};
+ghost use Rattle.poly_commands.specs.Parts.{GivenFits, OfOneFits, MakerFits, AdditionFits, AboutFits, QuestionFits};
 
 use crate::affine::{mapped_by, remove};
 use crate::files::write;
 use crate::lattice::{closure, compare, isempty};
 use crate::makers::{add, addgen, cons, copy, gens, space};
-use crate::names::{drop_name, name_list};
+use crate::names::name_list;
 use crate::operators::{extend, of_two};
 use crate::optima::{bound, relation};
 use crate::questions::{has, print, size};
+use crate::tasks::{About, Addition, Given, Maker, OfOne, OfTwo, Question};
 use crate::widenings::widen;
-use line_values::{
-    Change, PolyEntry, StepErr, is_full, is_max, poly_at, poly_under, put_poly, say, topology_of,
-};
+use line_values::{PolyEntry, StepErr, is_max, poly_at, topology_of};
 use name_table::Names;
+use poly_pair::{Poly, Topology};
 use reply_text::Text;
 use row_core::Steps;
-use script_text::Command;
 use std::alloc::Global;
 use std::sync::ledger::Ledger;
 
-/// What a command that makes or changes a polyhedron by its words does, or why it is refused.
-fn made<E: PolyEntry, L: Ledger>(
+/// What the maker makes, where the table is full for its name or not, or why it is refused.
+pub fn make<E: PolyEntry, L: Ledger>(
     alloc: Global,
     names: &Names<E>,
-    command: Command,
+    maker: Maker,
+    full: bool,
     steps: &mut Steps<L>,
-) -> Result<Change<E>, StepErr>
-    requires forms { PartsMatch command }
-    requires told { PartsTold command }
-    requires family { Makes command }
-    ensures { IsPerformed (meaning E.as_poly names.now command) result }
+) -> Result<Poly, StepErr>
+    requires { MakerFits maker }
+    ensures { IsPerformed (made (poly_of E.as_poly names.now) full maker) result }
 {
-    match command {
-        Command::Cons {
-            out,
-            top,
-            n,
-            cons: part,
-        } => {
-            let full = is_full(names, &out);
-            put_poly(out, cons(alloc, topology_of(top), n, &part, full, steps))
+    match maker {
+        Maker::Given { top, n, by } => make_alone(alloc, by, topology_of(top), n, full, steps),
+        Maker::OfOne { p, by } => make_of_one(alloc, by, poly_at(names, p), full, steps),
+        Maker::OfTwo { p, q, by } => {
+            let one = poly_at(names, p);
+            make_of_two(alloc, by, one, poly_at(names, q), full, steps)
         }
-        Command::Gens {
-            out,
-            top,
-            n,
-            gens: part,
-        } => {
-            let full = is_full(names, &out);
-            put_poly(out, gens(alloc, topology_of(top), n, &part, full, steps))
-        }
-        Command::Space {
-            space: kind,
-            out,
-            top,
-            n,
-        } => {
-            let full = is_full(names, &out);
-            put_poly(out, space(alloc, kind, topology_of(top), n, full))
-        }
-        Command::Copy { out, p } => {
-            let full = is_full(names, &out);
-            put_poly(out, copy(poly_at(names, p), full))
-        }
-        Command::Drop { name } => drop_name(names, name),
-        Command::Add { p, cons: part } => {
-            let made = add(alloc, poly_under(names, &p), &part, steps);
-            put_poly(p, made)
-        }
-        Command::Addgen { p, gens: part } => {
-            let made = addgen(alloc, poly_under(names, &p), &part, steps);
-            put_poly(p, made)
-        }
-        _ => unreachable!(),
     }
 }
 
-/// What a question does, or why it is refused.
-fn asked<E: PolyEntry, L: Ledger>(
+/// What words and a part make alone.
+fn make_alone<L: Ledger>(
     alloc: Global,
-    names: &Names<E>,
-    command: Command,
+    by: Given,
+    topology: Topology,
+    n: u64,
+    full: bool,
     steps: &mut Steps<L>,
-) -> Result<Change<E>, StepErr>
-    requires forms { PartsMatch command }
-    requires told { PartsTold command }
-    requires family { Asks command }
-    ensures { IsPerformed (meaning E.as_poly names.now command) result }
+) -> Result<Poly, StepErr>
+    requires { GivenFits by }
+    ensures { IsPerformed (made_alone by full topology n) result }
 {
-    match command {
-        Command::Has { p, point } => say(has(alloc, poly_at(names, p), &point)),
-        Command::Size { p } => say(size(alloc, poly_at(names, p))),
-        Command::Print { side, p } => say(print(alloc, side, poly_at(names, p))),
-        Command::Names => say(name_list(names)),
-        Command::Compare { by, p, q } => {
-            let one = poly_at(names, p);
-            say(compare(alloc, by, one, poly_at(names, q), steps))
-        }
-        Command::Isempty { p } => say(isempty(alloc, poly_at(names, p))),
-        Command::Relation { p, con } => say(relation(alloc, poly_at(names, p), &con)),
-        Command::Bound { of, p, expr } => {
-            say(bound(alloc, is_max(of), poly_at(names, p), &expr))
-        }
-        Command::Write { p, form } => say(write(alloc, form, poly_at(names, p))),
-        _ => unreachable!(),
+    match by {
+        Given::Cons(part) => cons(alloc, topology, n, &part, full, steps),
+        Given::Gens(part) => gens(alloc, topology, n, &part, full, steps),
+        Given::Space(kind) => space(alloc, kind, topology, n, full),
     }
 }
 
-/// What a command that puts a set made of one or two others, or an image of one, does, or why it is refused.
-fn combined<E: PolyEntry, L: Ledger>(
+/// What is made of one polyhedron.
+fn make_of_one<L: Ledger>(
     alloc: Global,
-    names: &Names<E>,
-    command: Command,
+    by: OfOne,
+    p: Option<&Poly>,
+    full: bool,
     steps: &mut Steps<L>,
-) -> Result<Change<E>, StepErr>
-    requires forms { PartsMatch command }
-    requires told { PartsTold command }
-    requires family { Combines command }
-    ensures { IsPerformed (meaning E.as_poly names.now command) result }
+) -> Result<Poly, StepErr>
+    requires { OfOneFits by }
+    ensures { IsPerformed (on_one (option_copied p.entry) (made_of_one by full)) result }
 {
-    match command {
-        Command::OfTwo { op, out, p, q } => {
-            let full = is_full(names, &out);
-            let one = poly_at(names, p);
-            put_poly(out, of_two(alloc, op, one, poly_at(names, q), full, steps))
-        }
-        Command::Closure { out, p } => {
-            let full = is_full(names, &out);
-            put_poly(out, closure(alloc, poly_at(names, p), full, steps))
-        }
-        Command::Widen { out, p, q } => {
-            let full = is_full(names, &out);
-            let one = poly_at(names, p);
-            put_poly(out, widen(alloc, one, poly_at(names, q), full, steps))
-        }
-        Command::Map {
-            by,
-            out,
-            p,
-            v,
-            rel,
-            frac,
-        } => {
-            let full = is_full(names, &out);
-            let found = poly_at(names, p);
-            put_poly(out, mapped_by(alloc, by, found, v, rel, &frac, full, steps))
-        }
-        Command::Extend { by, out, p, n } => {
-            let full = is_full(names, &out);
-            put_poly(out, extend(alloc, by, poly_at(names, p), n, full, steps))
-        }
-        Command::Remove { out, p, vars } => {
-            let full = is_full(names, &out);
-            put_poly(out, remove(alloc, poly_at(names, p), &vars, full, steps))
-        }
-        _ => unreachable!(),
+    match by {
+        OfOne::Copy => copy(p, full),
+        OfOne::Closure => closure(alloc, p, full, steps),
+        OfOne::Map { by, v, rel, frac } => mapped_by(alloc, by, p, v, rel, &frac, full, steps),
+        OfOne::Extend { by, n } => extend(alloc, by, p, n, full, steps),
+        OfOne::Remove(vars) => remove(alloc, p, &vars, full, steps),
     }
 }
 
-/// What a command on polyhedra or on the names does, or why it is refused. A line without a command and one that opens
-/// a file say nothing.
-pub fn perform<E: PolyEntry, L: Ledger>(
+/// What is made of two polyhedra.
+fn make_of_two<L: Ledger>(
+    alloc: Global,
+    by: OfTwo,
+    p: Option<&Poly>,
+    q: Option<&Poly>,
+    full: bool,
+    steps: &mut Steps<L>,
+) -> Result<Poly, StepErr>
+    ensures { IsPerformed (on_two (option_copied p.entry) (option_copied q.entry) (made_of_two by full)) result }
+{
+    match by {
+        OfTwo::Operate(op) => of_two(alloc, op, p, q, full, steps),
+        OfTwo::Widen => widen(alloc, p, q, full, steps),
+    }
+}
+
+/// The polyhedron with what is added, or why the line is refused.
+pub fn add_to<L: Ledger>(
+    alloc: Global,
+    p: Option<&Poly>,
+    addition: Addition,
+    steps: &mut Steps<L>,
+) -> Result<Poly, StepErr>
+    requires { AdditionFits addition }
+    ensures { IsPerformed (on_one (option_copied p.entry) (added addition)) result }
+{
+    match addition {
+        Addition::Cons(part) => add(alloc, p, &part, steps),
+        Addition::Gens(part) => addgen(alloc, p, &part, steps),
+    }
+}
+
+/// The line that answers the question, or why it is refused.
+pub fn ask<E: PolyEntry, L: Ledger>(
     alloc: Global,
     names: &Names<E>,
-    command: Command,
+    question: Question,
     steps: &mut Steps<L>,
-) -> Result<Change<E>, StepErr>
-    requires forms { PartsMatch command }
-    requires told { PartsTold command }
-    requires family { IsOnPolyhedra command }
-    ensures { IsPerformed (meaning E.as_poly names.now command) result }
+) -> Result<Text, StepErr>
+    requires { QuestionFits question }
+    ensures { IsPerformed (said E.as_poly names.now question) result }
 {
-    match command {
-        Command::Nothing | Command::Read { .. } => Ok(Change::Says(Text::new(alloc))),
-        Command::Cons { .. }
-        | Command::Gens { .. }
-        | Command::Space { .. }
-        | Command::Copy { .. }
-        | Command::Drop { .. }
-        | Command::Add { .. }
-        | Command::Addgen { .. } => { made(alloc, names, command, steps) }
-        Command::Has { .. }
-        | Command::Size { .. }
-        | Command::Print { .. }
-        | Command::Names
-        | Command::Compare { .. }
-        | Command::Isempty { .. }
-        | Command::Relation { .. }
-        | Command::Bound { .. }
-        | Command::Write { .. } => { asked(alloc, names, command, steps) }
-        command => combined(alloc, names, command, steps),
+    match question {
+        Question::OfOne { p, about } => ask_of_one(alloc, about, poly_at(names, p)),
+        Question::Compare { by, p, q } => {
+            let one = poly_at(names, p);
+            compare(alloc, by, one, poly_at(names, q), steps)
+        }
+        Question::Names => name_list(names),
+    }
+}
+
+/// The line that answers a question about one polyhedron.
+fn ask_of_one(alloc: Global, about: About, p: Option<&Poly>) -> Result<Text, StepErr>
+    requires { AboutFits about }
+    ensures { IsPerformed (on_one (option_copied p.entry) (said_of_one about)) result }
+{
+    match about {
+        About::Has(part) => has(alloc, p, &part),
+        About::Size => size(alloc, p),
+        About::Print(side) => print(alloc, side, p),
+        About::Isempty => isempty(alloc, p),
+        About::Relation(part) => relation(alloc, p, &part),
+        About::Bound(of, part) => bound(alloc, is_max(of), p, &part),
+        About::Write(form) => write(alloc, form, p),
     }
 }

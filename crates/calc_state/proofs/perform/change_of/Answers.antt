@@ -1,26 +1,25 @@
-use Rattle.calc_state.proofs.OnPolyhedra.{on_polyhedra}
+use Rattle.std.proofs.Common.{refl}
+use Rattle.calc_state.specs.declared.entry.Entry.TheVariants as entry
+use Rattle.poly_commands.specs.Meanings.{added}
+use Rattle.calc_state.specs.Table.{as_poly}
+use Rattle.calc_state.specs.Meanings.{answered, on_table}
+use Rattle.line_values.proofs.EffectLemmas.{performed_as, put_found, say_none}
 use Rattle.calc_state.proofs.perform.change_of.Goals as goal
 
-pub returns-in_default : goal.returns-in_default
-returns-in_default g c = on_polyhedra c.args.names.now c.args.command c.perform.result (record {
-  system = c.in_default.not-System;
-  init = c.in_default.not-Init;
-  trans = c.in_default.not-Trans;
-  fixpoint = c.in_default.not-Fixpoint;
-  pset = c.in_default.not-Pset;
-  of_two_powersets = c.in_default.not-OfTwoPowersets;
-  member = c.in_default.not-Member;
-  psize = c.in_default.not-Psize;
-  covers = c.in_default.not-Covers;
-  rank = c.in_default.not-Rank;
-  ranking = c.in_default.not-Ranking;
-  shape_of = c.in_default.not-ShapeOf;
-  bounds = c.in_default.not-Bounds;
-  of_two_shapes = c.in_default.not-OfTwoShapes;
-  shape_contains = c.in_default.not-ShapeContains;
-  shape_print = c.in_default.not-ShapePrint;
-  shape_poly = c.in_default.not-ShapePoly;
-  hybrid = c.in_default.not-Hybrid;
-  set_part = c.in_default.not-SetPart;
-  reach = c.in_default.not-Reach;
-}) c.perform.ensures
+pub answer_to-requires : goal.answer_to-requires
+answer_to-requires g c = rw c.in-Asks.is at c.requires
+
+pub put_made-requires : goal.put_made-requires
+put_made-requires g c = rw c.in-Puts.is at c.requires
+
+pub add_to-requires : goal.add_to-requires
+add_to-requires g c = rw c.in-AddsTo.is at c.requires
+
+pub returns-in-Asks : goal.returns-in-Asks
+returns-in-Asks g c = performed_as (on_table c.args.names.now) c.args.task _ c.say.result c.in-Asks.is (say_none (answered c.args.names.now c.in-Asks.asked) c.answer_to.result c.say.ensures c.answer_to.ensures)
+
+pub returns-in-Puts : goal.returns-in-Puts
+returns-in-Puts g c = performed_as (on_table c.args.names.now) c.args.task _ c.put_made.result c.in-Puts.is c.put_made.ensures
+
+pub returns-in-AddsTo : goal.returns-in-AddsTo
+returns-in-AddsTo g c = performed_as (on_table c.args.names.now) c.args.task _ c.put_poly.result c.in-AddsTo.is (put_found entry.Poly as_poly (λ x. refl) c.in-AddsTo.p (added c.in-AddsTo.addition) c.add_to-made.result c.poly_under.ensures c.put_poly.ensures c.add_to-made.ensures)
