@@ -13,4 +13,3 @@ pub mod SaysOnce
 mod ShapeLemmas
 pub mod StepLemmas
 mod SystemLemmas
-mod TaskLemmas

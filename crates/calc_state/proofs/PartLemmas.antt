@@ -2,7 +2,7 @@
 use Rattle.std.proofs.Common.{◌≡◌, ◌∙◌, ℕ, List, Ok, Err, Result, Option, None, Some, refl, sym, subst}
 use Rattle.std.specs.Prelude.{IsSome}
 use Rattle.poly_pair.specs.Polyhedra.{Polyhedron}
-use Rattle.calc_state.specs.declared.tasks.PartTask.{PartTask}
+use Rattle.command_tasks.specs.declared.tasks.PartTask.{PartTask}
 use Rattle.calc_state.specs.declared.entry.Entry.{Entry}
 use Rattle.calc_state.specs.declared.entry.Entry.TheVariants as entry
 use Rattle.line_values.specs.declared.change.Change.TheVariants.{Puts}

@@ -14,4 +14,3 @@ pub mod State
 pub mod Step
 pub mod Systems
 pub mod Table
-pub mod Tasks

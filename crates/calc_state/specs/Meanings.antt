@@ -16,25 +16,25 @@ use Rattle.calc_state.specs.Rankings.{rank, ranking}
 use Rattle.calc_state.specs.Shapes.{shape as shape_of_set, bounds, of_two_shapes, shape_contains, shape_print, shape_poly}
 use Rattle.calc_state.specs.Hybrids.{hybrid, reach}
 use Rattle.calc_state.specs.Parts.{init, trans, set_part}
-use Rattle.calc_state.specs.Tasks.{task_of}
-use Rattle.calc_state.specs.declared.tasks.Task.{Task}
-use Rattle.calc_state.specs.declared.tasks.Task.TheVariants as task
-use Rattle.calc_state.specs.declared.tasks.TableTask.{TableTask}
-use Rattle.calc_state.specs.declared.tasks.TableTask.TheVariants as on
-use Rattle.calc_state.specs.declared.tasks.Asked.{Asked}
-use Rattle.calc_state.specs.declared.tasks.Asked.TheVariants as asked
-use Rattle.calc_state.specs.declared.tasks.Made.{Made}
-use Rattle.calc_state.specs.declared.tasks.Made.TheVariants as made
-use Rattle.calc_state.specs.declared.tasks.PolyMaker.{PolyMaker}
-use Rattle.calc_state.specs.declared.tasks.PolyMaker.TheVariants as poly
-use Rattle.calc_state.specs.declared.tasks.PowersetMaker.{PowersetMaker}
-use Rattle.calc_state.specs.declared.tasks.PowersetMaker.TheVariants as powerset
-use Rattle.calc_state.specs.declared.tasks.ShapeMaker.{ShapeMaker}
-use Rattle.calc_state.specs.declared.tasks.ShapeMaker.TheVariants as shape
-use Rattle.calc_state.specs.declared.tasks.Running.{Running}
-use Rattle.calc_state.specs.declared.tasks.Running.TheVariants as running
-use Rattle.calc_state.specs.declared.tasks.PartTask.{PartTask}
-use Rattle.calc_state.specs.declared.tasks.PartTask.TheVariants as part
+use Rattle.command_tasks.specs.Tasks.{task_of}
+use Rattle.command_tasks.specs.declared.tasks.Task.{Task}
+use Rattle.command_tasks.specs.declared.tasks.Task.TheVariants as task
+use Rattle.command_tasks.specs.declared.tasks.TableTask.{TableTask}
+use Rattle.command_tasks.specs.declared.tasks.TableTask.TheVariants as on
+use Rattle.command_tasks.specs.declared.tasks.Asked.{Asked}
+use Rattle.command_tasks.specs.declared.tasks.Asked.TheVariants as asked
+use Rattle.command_tasks.specs.declared.tasks.Made.{Made}
+use Rattle.command_tasks.specs.declared.tasks.Made.TheVariants as made
+use Rattle.command_tasks.specs.declared.tasks.PolyMaker.{PolyMaker}
+use Rattle.command_tasks.specs.declared.tasks.PolyMaker.TheVariants as poly
+use Rattle.command_tasks.specs.declared.tasks.PowersetMaker.{PowersetMaker}
+use Rattle.command_tasks.specs.declared.tasks.PowersetMaker.TheVariants as powerset
+use Rattle.command_tasks.specs.declared.tasks.ShapeMaker.{ShapeMaker}
+use Rattle.command_tasks.specs.declared.tasks.ShapeMaker.TheVariants as shape
+use Rattle.command_tasks.specs.declared.tasks.Running.{Running}
+use Rattle.command_tasks.specs.declared.tasks.Running.TheVariants as running
+use Rattle.command_tasks.specs.declared.tasks.PartTask.{PartTask}
+use Rattle.command_tasks.specs.declared.tasks.PartTask.TheVariants as part
 
 -- ---- what is made, where the table is full for its name or not
 abbrev pub made_poly : Table → Bool → PolyMaker → Meaning Polyhedron

@@ -18,7 +18,6 @@ mod powersets;
 mod rankings;
 mod shapes;
 mod systems;
-mod tasks;
 
 pub use calc::Calc;
 pub use laws::{names_stay_distinct, one_first, one_reply};

@@ -4,7 +4,7 @@ ghost use Rattle.line_values.specs.Effects.{all_placed};
 ghost use Rattle.line_values.specs.Performed.{IsPerformed};
 ghost use Rattle.calc_state.specs.Changes.{IsTested};
 ghost use Rattle.calc_state.specs.Meanings.{made_poly, made_powerset, made_shape, put_under, answered, ran, changed_part_of, on_table};
-ghost use Rattle.calc_state.specs.Tasks.{AskedFits, PolyMakerFits, ShapeMakerFits, MadeFits, TableTaskFits};
+ghost use Rattle.command_tasks.specs.Tasks.{AskedFits, PolyMakerFits, ShapeMakerFits, MadeFits, TableTaskFits};
 
 use crate::change::{put_hybrid, put_powerset, put_shape, put_system};
 use crate::entry::Entry;
@@ -16,10 +16,10 @@ use crate::powersets::{covers, member, of_two_powersets, pset, psize};
 use crate::rankings::{rank, ranking};
 use crate::shapes::{bounds, of_two_shapes, shape_contains, shape_of_set, shape_poly, shape_print};
 use crate::systems::{fixpoint, system};
-use crate::tasks::{
+use bd_shape::Shape;
+use command_tasks::{
     Asked, Made, PartTask, PolyMaker, PowersetMaker, Running, ShapeMaker, TableTask,
 };
-use bd_shape::Shape;
 use line_values::{Change, StepErr, is_full, poly_at, poly_under, put_numbered, put_poly, say};
 use name_table::Names;
 use poly_commands::{add_to, ask, drop_name, make};

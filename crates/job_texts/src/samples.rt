@@ -40,10 +40,12 @@ fn line_of_sample(alloc: Global, n: u32, made: &Poly) -> Result<Text, StepErr>
     requires { IsOfSample n made.now }
     ensures { GivesSample n result }
 {
-    let difference = RowBuf::new(alloc, &DIFFERENCE)?;
-    match sup(made, difference.cells()) {
+    match sup(made, &DIFFERENCE) {
         Ok(maximum) => Ok(sample_line(alloc, n, made, maximum)?),
-        Err(pair) => Err(StepErr::Overflow(shown(alloc, difference, made.gens(), pair)?)),
+        Err(pair) => {
+            let row = RowBuf::new(alloc, &DIFFERENCE)?;
+            Err(StepErr::Overflow(shown(alloc, row, made.gens(), pair)?))
+        }
     }
 }
 

@@ -1,5 +1,4 @@
 pub mod Affine
-pub mod Parts
 pub mod Files
 pub mod Lattice
 pub mod Makers

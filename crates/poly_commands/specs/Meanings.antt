@@ -5,20 +5,20 @@ use Rattle.poly_pair.specs.declared.topology.Topology.{Topology}
 use Rattle.name_table.specs.Table.{Table}
 use Rattle.line_values.specs.Meaning.{Meaning, on_one, on_two}
 use Rattle.line_values.specs.Operands.{topology_of, poly_of, is_max}
-use Rattle.poly_commands.specs.declared.tasks.Maker.{Maker}
-use Rattle.poly_commands.specs.declared.tasks.Maker.TheVariants as maker
-use Rattle.poly_commands.specs.declared.tasks.Given.{Given}
-use Rattle.poly_commands.specs.declared.tasks.Given.TheVariants as given
-use Rattle.poly_commands.specs.declared.tasks.OfOne.{OfOne}
-use Rattle.poly_commands.specs.declared.tasks.OfOne.TheVariants as one
-use Rattle.poly_commands.specs.declared.tasks.OfTwo.{OfTwo}
-use Rattle.poly_commands.specs.declared.tasks.OfTwo.TheVariants as two
-use Rattle.poly_commands.specs.declared.tasks.Addition.{Addition}
-use Rattle.poly_commands.specs.declared.tasks.Addition.TheVariants as addition
-use Rattle.poly_commands.specs.declared.tasks.Question.{Question}
-use Rattle.poly_commands.specs.declared.tasks.Question.TheVariants as question
-use Rattle.poly_commands.specs.declared.tasks.About.{About}
-use Rattle.poly_commands.specs.declared.tasks.About.TheVariants as about
+use Rattle.command_tasks.specs.declared.on_polyhedra.Maker.{Maker}
+use Rattle.command_tasks.specs.declared.on_polyhedra.Maker.TheVariants as maker
+use Rattle.command_tasks.specs.declared.on_polyhedra.Given.{Given}
+use Rattle.command_tasks.specs.declared.on_polyhedra.Given.TheVariants as given
+use Rattle.command_tasks.specs.declared.on_polyhedra.OfOne.{OfOne}
+use Rattle.command_tasks.specs.declared.on_polyhedra.OfOne.TheVariants as one
+use Rattle.command_tasks.specs.declared.on_polyhedra.OfTwo.{OfTwo}
+use Rattle.command_tasks.specs.declared.on_polyhedra.OfTwo.TheVariants as two
+use Rattle.command_tasks.specs.declared.on_polyhedra.Addition.{Addition}
+use Rattle.command_tasks.specs.declared.on_polyhedra.Addition.TheVariants as addition
+use Rattle.command_tasks.specs.declared.on_polyhedra.Question.{Question}
+use Rattle.command_tasks.specs.declared.on_polyhedra.Question.TheVariants as question
+use Rattle.command_tasks.specs.declared.on_polyhedra.About.{About}
+use Rattle.command_tasks.specs.declared.on_polyhedra.About.TheVariants as about
 use Rattle.poly_commands.specs.Makers.{cons, gens, space_of, copy, add, addgen}
 use Rattle.poly_commands.specs.Names.{names}
 use Rattle.poly_commands.specs.Questions.{has, size, print}

@@ -4,7 +4,7 @@ ghost use Rattle.line_values.specs.Meaning.{on_one, on_two};
 ghost use Rattle.line_values.specs.Operands.{poly_of};
 ghost use Rattle.line_values.specs.Performed.{IsPerformed};
 ghost use Rattle.poly_commands.specs.Meanings.{made_alone, made_of_one, made_of_two, made, added, said_of_one, said};
-ghost use Rattle.poly_commands.specs.Parts.{GivenFits, OfOneFits, MakerFits, AdditionFits, AboutFits, QuestionFits};
+ghost use Rattle.command_tasks.specs.Parts.{GivenFits, OfOneFits, MakerFits, AdditionFits, AboutFits, QuestionFits};
 
 use crate::affine::{mapped_by, remove};
 use crate::files::write;
@@ -14,8 +14,8 @@ use crate::names::name_list;
 use crate::operators::{extend, of_two};
 use crate::optima::{bound, relation};
 use crate::questions::{has, print, size};
-use crate::tasks::{About, Addition, Given, Maker, OfOne, OfTwo, Question};
 use crate::widenings::widen;
+use command_tasks::{About, Addition, Given, Maker, OfOne, OfTwo, Question};
 use line_values::{PolyEntry, StepErr, is_max, poly_at, topology_of};
 use name_table::Names;
 use poly_pair::{Poly, Topology};

@@ -1,6 +1,6 @@
 //! The commands on polyhedra and on the table of names, from a line's words to what it does or why it is refused.
 //!
-//! - [`make`] makes what a [`Maker`] says, [`add_to`] what an [`Addition`] does, and [`ask`] answers a [`Question`]: the
+//! - [`make`] makes what a `Maker` says, [`add_to`] what an `Addition` does, and [`ask`] answers a `Question`: the
 //!   operands are looked up in a table of which some entries are polyhedra, and handed to the command's function.
 //! - [`drop_name`] takes a name out.
 //!
@@ -17,9 +17,7 @@ mod names;
 mod operators;
 mod optima;
 mod questions;
-mod tasks;
 mod widenings;
 
 pub use commands::{add_to, ask, make};
 pub use names::drop_name;
-pub use tasks::{About, Addition, Given, Maker, OfOne, OfTwo, Question};

@@ -12,8 +12,8 @@ answer_to-requires g c = rw c.in-Asks.is at c.requires
 pub put_made-requires : goal.put_made-requires
 put_made-requires g c = rw c.in-Puts.is at c.requires
 
-pub add_to-requires : goal.add_to-requires
-add_to-requires g c = rw c.in-AddsTo.is at c.requires
+pub add_to-made-requires : goal.add_to-made-requires
+add_to-made-requires g c = rw c.in-AddsTo.is at c.requires
 
 pub returns-in-Asks : goal.returns-in-Asks
 returns-in-Asks g c = performed_as (on_table c.args.names.now) c.args.task _ c.say.result c.in-Asks.is (say_none (answered c.args.names.now c.in-Asks.asked) c.answer_to.result c.say.ensures c.answer_to.ensures)

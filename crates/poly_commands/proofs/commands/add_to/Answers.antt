@@ -1,7 +1,7 @@
 use Rattle.std.specs.Option.{option_copied}
 use Rattle.line_values.specs.Meaning.{on_one}
 use Rattle.line_values.proofs.EffectLemmas.{performed_as}
-use Rattle.poly_commands.specs.declared.tasks.Addition.{Addition}
+use Rattle.command_tasks.specs.declared.on_polyhedra.Addition.{Addition}
 use Rattle.poly_commands.specs.Meanings.{added}
 use Rattle.poly_commands.proofs.commands.add_to.Goals as goal
 

@@ -3,7 +3,7 @@ use Rattle.std.specs.Option.{option_copied}
 use Rattle.line_values.specs.Meaning.{on_one}
 use Rattle.line_values.specs.Performed.{IsPerformed}
 use Rattle.line_values.proofs.EffectLemmas.{performed_as}
-use Rattle.poly_commands.specs.declared.tasks.About.{About}
+use Rattle.command_tasks.specs.declared.on_polyhedra.About.{About}
 use Rattle.poly_commands.specs.Optima.{bound}
 use Rattle.poly_commands.specs.Meanings.{said_of_one}
 use Rattle.poly_commands.proofs.commands.ask_of_one.Goals as goal

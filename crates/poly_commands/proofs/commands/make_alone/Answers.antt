@@ -1,5 +1,5 @@
 use Rattle.line_values.proofs.EffectLemmas.{performed_as}
-use Rattle.poly_commands.specs.declared.tasks.Given.{Given}
+use Rattle.command_tasks.specs.declared.on_polyhedra.Given.{Given}
 use Rattle.poly_commands.specs.Meanings.{made_alone}
 use Rattle.poly_commands.proofs.commands.make_alone.Goals as goal
 

@@ -1,7 +1,7 @@
 use Rattle.std.specs.Option.{option_copied}
 use Rattle.line_values.specs.Meaning.{on_two}
 use Rattle.line_values.proofs.EffectLemmas.{performed_as}
-use Rattle.poly_commands.specs.declared.tasks.OfTwo.{OfTwo}
+use Rattle.command_tasks.specs.declared.on_polyhedra.OfTwo.{OfTwo}
 use Rattle.poly_commands.specs.Meanings.{made_of_two}
 use Rattle.poly_commands.proofs.commands.make_of_two.Goals as goal
 

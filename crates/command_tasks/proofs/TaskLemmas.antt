@@ -2,7 +2,7 @@
 use Rattle.script_text.specs.declared.command.Command.{Command}
 use Rattle.script_text.specs.declared.command.Command.TheVariants.{Cons, Gens, Add, Addgen, Has, Relation, Bound, Map, Bounds}
 use Rattle.script_text.specs.Line.{PartsMatch, PartsTold}
-use Rattle.calc_state.specs.Tasks.{task_of, TaskFits}
+use Rattle.command_tasks.specs.Tasks.{task_of, TaskFits}
 
 -- they are those of the command
 pub task_fits : (command : Command) → PartsMatch command → PartsTold command → TaskFits (task_of command)

@@ -2,31 +2,31 @@
 use Rattle.std.specs.Prelude.{ℕ, List}
 use Rattle.script_text.specs.declared.command.Command.{Command}
 use Rattle.script_text.specs.declared.command.Command.TheVariants as command
-use Rattle.poly_commands.specs.declared.tasks.Maker.{Maker}
-use Rattle.poly_commands.specs.declared.tasks.Maker.TheVariants as maker
-use Rattle.poly_commands.specs.declared.tasks.Given.TheVariants as given
-use Rattle.poly_commands.specs.declared.tasks.OfOne.TheVariants as one
-use Rattle.poly_commands.specs.declared.tasks.OfTwo.TheVariants as two
-use Rattle.poly_commands.specs.declared.tasks.Addition.TheVariants as addition
-use Rattle.poly_commands.specs.declared.tasks.Question.{Question}
-use Rattle.poly_commands.specs.declared.tasks.Question.TheVariants as question
-use Rattle.poly_commands.specs.declared.tasks.About.TheVariants as about
-use Rattle.poly_commands.specs.Parts.{IsConsPart, MakerFits, AdditionFits, QuestionFits}
-use Rattle.calc_state.specs.declared.tasks.Task.{Task}
-use Rattle.calc_state.specs.declared.tasks.Task.TheVariants as task
-use Rattle.calc_state.specs.declared.tasks.TableTask.{TableTask}
-use Rattle.calc_state.specs.declared.tasks.TableTask.TheVariants as table
-use Rattle.calc_state.specs.declared.tasks.Asked.{Asked}
-use Rattle.calc_state.specs.declared.tasks.Asked.TheVariants as asked
-use Rattle.calc_state.specs.declared.tasks.Made.{Made}
-use Rattle.calc_state.specs.declared.tasks.Made.TheVariants as made
-use Rattle.calc_state.specs.declared.tasks.PolyMaker.{PolyMaker}
-use Rattle.calc_state.specs.declared.tasks.PolyMaker.TheVariants as poly
-use Rattle.calc_state.specs.declared.tasks.PowersetMaker.TheVariants as powerset
-use Rattle.calc_state.specs.declared.tasks.ShapeMaker.{ShapeMaker}
-use Rattle.calc_state.specs.declared.tasks.ShapeMaker.TheVariants as shape
-use Rattle.calc_state.specs.declared.tasks.Running.TheVariants as running
-use Rattle.calc_state.specs.declared.tasks.PartTask.TheVariants as part
+use Rattle.command_tasks.specs.declared.on_polyhedra.Maker.{Maker}
+use Rattle.command_tasks.specs.declared.on_polyhedra.Maker.TheVariants as maker
+use Rattle.command_tasks.specs.declared.on_polyhedra.Given.TheVariants as given
+use Rattle.command_tasks.specs.declared.on_polyhedra.OfOne.TheVariants as one
+use Rattle.command_tasks.specs.declared.on_polyhedra.OfTwo.TheVariants as two
+use Rattle.command_tasks.specs.declared.on_polyhedra.Addition.TheVariants as addition
+use Rattle.command_tasks.specs.declared.on_polyhedra.Question.{Question}
+use Rattle.command_tasks.specs.declared.on_polyhedra.Question.TheVariants as question
+use Rattle.command_tasks.specs.declared.on_polyhedra.About.TheVariants as about
+use Rattle.command_tasks.specs.Parts.{IsConsPart, MakerFits, AdditionFits, QuestionFits}
+use Rattle.command_tasks.specs.declared.tasks.Task.{Task}
+use Rattle.command_tasks.specs.declared.tasks.Task.TheVariants as task
+use Rattle.command_tasks.specs.declared.tasks.TableTask.{TableTask}
+use Rattle.command_tasks.specs.declared.tasks.TableTask.TheVariants as table
+use Rattle.command_tasks.specs.declared.tasks.Asked.{Asked}
+use Rattle.command_tasks.specs.declared.tasks.Asked.TheVariants as asked
+use Rattle.command_tasks.specs.declared.tasks.Made.{Made}
+use Rattle.command_tasks.specs.declared.tasks.Made.TheVariants as made
+use Rattle.command_tasks.specs.declared.tasks.PolyMaker.{PolyMaker}
+use Rattle.command_tasks.specs.declared.tasks.PolyMaker.TheVariants as poly
+use Rattle.command_tasks.specs.declared.tasks.PowersetMaker.TheVariants as powerset
+use Rattle.command_tasks.specs.declared.tasks.ShapeMaker.{ShapeMaker}
+use Rattle.command_tasks.specs.declared.tasks.ShapeMaker.TheVariants as shape
+use Rattle.command_tasks.specs.declared.tasks.Running.TheVariants as running
+use Rattle.command_tasks.specs.declared.tasks.PartTask.TheVariants as part
 
 -- ---- tasks of some shapes
 abbrev pub puts : List ℕ → Made → Task

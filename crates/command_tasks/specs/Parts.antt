@@ -5,18 +5,18 @@ use Rattle.grammar.specs.Grammar.{alone}
 use Rattle.grammar.specs.Cases.{expr_cases, frac_cases, con_cases, cons_cases, gens_cases, point_cases}
 use Rattle.script_text.specs.Commands.{is_strict}
 use Rattle.script_text.specs.declared.command.Part.{Part}
-use Rattle.poly_commands.specs.declared.tasks.Maker.{Maker}
-use Rattle.poly_commands.specs.declared.tasks.Maker.TheVariants as maker
-use Rattle.poly_commands.specs.declared.tasks.Given.{Given}
-use Rattle.poly_commands.specs.declared.tasks.Given.TheVariants as given
-use Rattle.poly_commands.specs.declared.tasks.OfOne.{OfOne}
-use Rattle.poly_commands.specs.declared.tasks.OfOne.TheVariants as one
-use Rattle.poly_commands.specs.declared.tasks.Addition.{Addition}
-use Rattle.poly_commands.specs.declared.tasks.Addition.TheVariants as addition
-use Rattle.poly_commands.specs.declared.tasks.Question.{Question}
-use Rattle.poly_commands.specs.declared.tasks.Question.TheVariants as question
-use Rattle.poly_commands.specs.declared.tasks.About.{About}
-use Rattle.poly_commands.specs.declared.tasks.About.TheVariants as about
+use Rattle.command_tasks.specs.declared.on_polyhedra.Maker.{Maker}
+use Rattle.command_tasks.specs.declared.on_polyhedra.Maker.TheVariants as maker
+use Rattle.command_tasks.specs.declared.on_polyhedra.Given.{Given}
+use Rattle.command_tasks.specs.declared.on_polyhedra.Given.TheVariants as given
+use Rattle.command_tasks.specs.declared.on_polyhedra.OfOne.{OfOne}
+use Rattle.command_tasks.specs.declared.on_polyhedra.OfOne.TheVariants as one
+use Rattle.command_tasks.specs.declared.on_polyhedra.Addition.{Addition}
+use Rattle.command_tasks.specs.declared.on_polyhedra.Addition.TheVariants as addition
+use Rattle.command_tasks.specs.declared.on_polyhedra.Question.{Question}
+use Rattle.command_tasks.specs.declared.on_polyhedra.Question.TheVariants as question
+use Rattle.command_tasks.specs.declared.on_polyhedra.About.{About}
+use Rattle.command_tasks.specs.declared.on_polyhedra.About.TheVariants as about
 
 -- a text of constraints
 pub record IsConsPart (part : Part) : Type 0 where
