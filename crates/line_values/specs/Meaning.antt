@@ -3,7 +3,6 @@ use Rattle.std.specs.Prelude.{◌≡◌, ◌≢◌, ◌↔◌, ℕ, ◌<◌, Lis
 use Rattle.row_core.specs.declared.errors.Overflow.{Overflow}
 use Rattle.reply_text.specs.declared.faults.Fault.TheVariants as fault
 use Rattle.poly_pair.specs.Polyhedra.{Polyhedron}
-use Rattle.poly_pair.specs.declared.topology.TheConstants.{MAX_DIM}
 use Rattle.line_values.specs.Order.{Conditions}
 
 -- what a command asks and answers: when each fault holds, which overflows it may show, and which answers are right
@@ -52,9 +51,9 @@ abbrev pub room : Bool → Conditions
 room full fault.TooManyNames = IsTrue full
 room full other = ⊥
 
--- a dimension is within the limit
+-- a dimension is at most 63
 abbrev pub small : ℕ → Conditions → Conditions
-small n others fault.TooManyDims = MAX_DIM < n
+small n others fault.TooManyDims = 63 < n
 small n others other = others other
 
 -- ---- what a command says

@@ -1,17 +1,17 @@
 -- What came of the commands that make a set of others.
-use Rattle.std.proofs.Common.{◌≡◌, ◌+◌, ◌≤◌, ◌<◌, ℕ, Bool, false, Result, Ok, Err, IfErr, sym, subst, arith}
+use Rattle.std.proofs.Common.{◌≡◌, ◌+◌, ◌≤◌, ◌<◌, ℕ, Bool, true, false, Result, Ok, Err, IfErr, sym, subst, arith}
 use Rattle.row_core.specs.declared.errors.ConvErr.{ConvErr}
 use Rattle.row_core.specs.declared.errors.ConvErr.TheVariants as conversion
 use Rattle.row_core.specs.Refusals.{IsOverflowIn}
 use Rattle.poly_pair.specs.Polyhedra.{Polyhedron}
 use Rattle.elapse.specs.Elapses.{IsElapseOverflow}
 use Rattle.script_text.specs.declared.command.Operator.{Operator}
-use Rattle.script_text.specs.declared.command.Operator.TheVariants.{Meet, Hull, Concat, Elapse}
+use Rattle.script_text.specs.declared.command.Operator.TheVariants.{Elapse}
 use Rattle.poly_pair.specs.declared.topology.TheConstants.{MAX_DIM}
 use Rattle.line_values.specs.Order.{Passes}
 use Rattle.line_values.specs.Meaning.{room, small, alike}
 use Rattle.line_values.proofs.PerformedLemmas.{not_full}
-use Rattle.poly_commands.specs.Operators.{fitting, Fits, LeavesBy}
+use Rattle.poly_commands.specs.Operators.{adds_dims, fitting_by, fitting, FitDimsBy, Fits, LeavesBy}
 
 -- ---- tests that are passed, where there is room
 pub small_passes : (n : ℕ) (full : Bool) → n ≤ MAX_DIM → full ≡ false → Passes (small n (room full))
@@ -20,12 +20,13 @@ small_passes n full within free = (λ k. k, (λ k. k, (λ k. k, (λ k. k, (λ (k
 alike_passes : (p q : Polyhedron) (full : Bool) → p.topology ≡ q.topology → p.cons.dim ≡ q.cons.dim → full ≡ false → Passes (alike p q (room full))
 alike_passes p q full topology dim free = (λ k. k, (λ k. k topology, (λ k. k, (λ k. k dim, (λ k. k, (λ k. k, (λ k. k, (λ k. k, (λ k. k, (λ k. k, (λ k. k, (λ k. k, (not_full full free, (λ k. k, tt))))))))))))))
 
+passes_by : (adds : Bool) (p q : Polyhedron) (full : Bool) → p.topology ≡ q.topology → FitDimsBy adds p q → full ≡ false → Passes (fitting_by adds p q (room full))
+passes_by true p q full topology dims free =
+    (λ k. k, (λ k. k topology, (λ k. k, (λ k. k, (λ (k : MAX_DIM < p.cons.dim + q.cons.dim). absurd (omega (arith, k, dims)), (λ k. k, (λ k. k, (λ k. k, (λ k. k, (λ k. k, (λ k. k, (λ k. k, (not_full full free, (λ k. k, tt))))))))))))))
+passes_by false p q full topology dims free = alike_passes p q full topology dims free
+
 pub operands_pass : (op : Operator) (p q : Polyhedron) (full : Bool) → Fits op p q → full ≡ false → Passes (fitting op p q (room full))
-operands_pass Concat p q full fits free =
-    (λ k. k, (λ k. k fits.0, (λ k. k, (λ k. k, (λ (k : MAX_DIM < p.cons.dim + q.cons.dim). absurd (omega (arith, k, fits.1)), (λ k. k, (λ k. k, (λ k. k, (λ k. k, (λ k. k, (λ k. k, (λ k. k, (not_full full free, (λ k. k, tt))))))))))))))
-operands_pass Meet p q full fits free = alike_passes p q full fits.0 fits.1 free
-operands_pass Hull p q full fits free = alike_passes p q full fits.0 fits.1 free
-operands_pass Elapse p q full fits free = alike_passes p q full fits.0 fits.1 free
+operands_pass op p q full fits free = passes_by (adds_dims op) p q full fits.0 fits.1 free
 
 -- ---- refusals
 -- the time elapse was refused

@@ -1,5 +1,5 @@
 -- What the commands mean that make a polyhedron of two others, or of one and further variables.
-use Rattle.std.specs.Prelude.{◌≡◌, ◌≢◌, ℕ, ◌+◌, ◌≤◌, Bool}
+use Rattle.std.specs.Prelude.{◌≡◌, ◌≢◌, ℕ, ◌+◌, ◌≤◌, Bool, true, false}
 use Rattle.row_core.specs.declared.errors.Overflow.{Overflow}
 use Rattle.reply_text.specs.declared.faults.Fault.TheVariants as fault
 use Rattle.stored_systems.specs.WorkLists.{LeavesOn}
@@ -26,15 +26,28 @@ abbrev pub of_one_topology : Polyhedron → Polyhedron → Conditions → Condit
 of_one_topology p q others fault.TopologyMismatch = p.topology ≢ q.topology
 of_one_topology p q others other = others other
 
--- what the operator asks of its operands: the product keeps within the limit, and others take two of one dimension
+-- whether the operator adds the dimensions of its operands; others take two of one dimension
+abbrev pub adds_dims : Operator → Bool
+adds_dims Concat = true
+adds_dims other = false
+
+-- what is asked of two operands whose dimensions are added, or not
+abbrev pub fitting_by : Bool → Polyhedron → Polyhedron → Conditions → Conditions
+fitting_by true p q others = of_one_topology p q (small (p.cons.dim + q.cons.dim) others)
+fitting_by false p q others = alike p q others
+
+-- what the operator asks of its operands
 abbrev pub fitting : Operator → Polyhedron → Polyhedron → Conditions → Conditions
-fitting Concat p q others = of_one_topology p q (small (p.cons.dim + q.cons.dim) others)
-fitting other p q others = alike p q others
+fitting op p q others = fitting_by (adds_dims op) p q others
+
+-- the sum of the dimensions is within the limit, or they are one
+abbrev pub FitDimsBy : Bool → Polyhedron → Polyhedron → Type 0
+FitDimsBy true p q = p.cons.dim + q.cons.dim ≤ MAX_DIM
+FitDimsBy false p q = p.cons.dim ≡ q.cons.dim
 
 -- the dimensions fit the operator
 abbrev pub FitDims : Operator → Polyhedron → Polyhedron → Type 0
-FitDims Concat p q = p.cons.dim + q.cons.dim ≤ MAX_DIM
-FitDims other p q = p.cons.dim ≡ q.cons.dim
+FitDims op p q = FitDimsBy (adds_dims op) p q
 
 -- the operands fit the operator
 abbrev pub Fits : Operator → Polyhedron → Polyhedron → Type 0

@@ -1,5 +1,4 @@
 //! The commands that tell the names, and that take one out.
-ghost use Rattle.std.specs.Prelude.{◌≡◌};
 ghost use Rattle.name_table.specs.Table.{entry_of};
 ghost use Rattle.line_values.specs.Performed.{IsPerformed};
 ghost use Rattle.poly_commands.specs.Names.{names as tell_names, drop_of};

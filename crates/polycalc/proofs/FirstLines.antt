@@ -1,5 +1,5 @@
 -- The first lines of a text: whole ones, and all.
-use Rattle.std.proofs.Common.{◌≡◌, ℕ, suc, zero, ◌+◌, ◌<◌, ◌≤◌, ◌⊎◌, List, [], ◌∷◌, ◌++◌, length, take, map, refl, ap, ◌∙◌, sym, append_assoc, length-append, Bool, true, false, inl, inr, arith}
+use Rattle.std.proofs.Common.{◌≡◌, ℕ, suc, zero, ◌+◌, ◌<◌, ◌⊎◌, List, [], ◌∷◌, ◌++◌, length, take, map, refl, ap, ◌∙◌, sym, append_assoc, length-append, Bool, true, false, inl, inr, arith}
 use Rattle.std.specs.Prelude.{Option}
 use Rattle.std.specs.Str.Lines.{lines, lines_of_parts, strip_carriage_return}
 use Rattle.std.specs.List.{slice_split}
@@ -8,8 +8,8 @@ use Rattle.std.proofs.lemmas.List.{append-nil}
 use Rattle.std.proofs.lemmas.List.Splits.{slice_split_at, length-slice_split}
 use Rattle.poly_io.specs.Cut.{cut, is_feed, LacksFeed}
 use Rattle.poly_io.proofs.CutLaws.{feed_cases, cut_at}
-use Rattle.polycalc.specs.Outcomes.{AreWholeLines, AreFirstLines}
-use Rattle.polycalc.proofs.CutRuns.{Parts, parts_of_cut}
+use Rattle.polycalc.specs.Outcomes.{AreFirstLines}
+use Rattle.polycalc.proofs.CutRuns.{parts_of_cut}
 
 pub bool_cases : (b : Bool) → (b ≡ true) ⊎ (b ≡ false)
 bool_cases true = inl refl

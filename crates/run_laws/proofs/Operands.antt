@@ -1,5 +1,5 @@
 -- What an accepted command says of its operands.
-use Rattle.std.proofs.Common.{◌≡◌, ◌≢◌, ℕ, ◌+◌, ◌%◌, ◌<◌, ◌≤◌, List, refl, inl, inr, arith}
+use Rattle.std.proofs.Common.{◌≡◌, ◌≢◌, ℕ, ◌+◌, ◌%◌, ◌<◌, ◌≤◌, Bool, true, false, refl, inl, inr, arith}
 use Rattle.std.proofs.lemmas.Bool.{cases_lt}
 use Rattle.poly_pair.specs.Polyhedra.{Polyhedron}
 use Rattle.poly_pair.specs.declared.topology.Topology.{Topology}
@@ -7,10 +7,9 @@ use Rattle.poly_pair.specs.declared.topology.Topology.TheVariants.{Closed, Nnc}
 use Rattle.powerset.specs.Powersets.{Union}
 use Rattle.bd_shape.specs.Shapes.{Region}
 use Rattle.script_text.specs.declared.command.Operator.{Operator}
-use Rattle.script_text.specs.declared.command.Operator.TheVariants as operator
 use Rattle.line_values.specs.Order.{Conditions, Passes}
 use Rattle.line_values.specs.Meaning.{alike}
-use Rattle.poly_commands.specs.Operators.{fitting, Fits}
+use Rattle.poly_commands.specs.Operators.{adds_dims, fitting_by, fitting, FitDimsBy, Fits}
 use Rattle.calc_state.specs.Powersets.{alike_unions, misses_member}
 use Rattle.calc_state.specs.Rankings.{relates_states}
 use Rattle.calc_state.specs.Shapes.{closed, of_one_dim}
@@ -46,11 +45,12 @@ pub are_alike : (p q : Polyhedron) (others : Conditions) → Passes (alike p q o
 are_alike p q others passes = record { topology = one_topology p.topology q.topology passes.1.0; dim = one_number p.cons.dim q.cons.dim passes.1.1.1.0 }
 
 -- those of an operator
+fit_by : (adds : Bool) (p q : Polyhedron) (others : Conditions) → Passes (fitting_by adds p q others) → (p.topology ≡ q.topology) × FitDimsBy adds p q
+fit_by true p q others passes = (one_topology p.topology q.topology passes.1.0, at_most _ (p.cons.dim + q.cons.dim) passes.1.1.1.1.0)
+fit_by false p q others passes = (one_topology p.topology q.topology passes.1.0, one_number p.cons.dim q.cons.dim passes.1.1.1.0)
+
 pub fit_operator : (op : Operator) (p q : Polyhedron) (others : Conditions) → Passes (fitting op p q others) → Fits op p q
-fit_operator operator.Concat p q others passes = (one_topology p.topology q.topology passes.1.0, at_most _ (p.cons.dim + q.cons.dim) passes.1.1.1.1.0)
-fit_operator operator.Meet p q others passes = (one_topology p.topology q.topology passes.1.0, one_number p.cons.dim q.cons.dim passes.1.1.1.0)
-fit_operator operator.Hull p q others passes = (one_topology p.topology q.topology passes.1.0, one_number p.cons.dim q.cons.dim passes.1.1.1.0)
-fit_operator operator.Elapse p q others passes = (one_topology p.topology q.topology passes.1.0, one_number p.cons.dim q.cons.dim passes.1.1.1.0)
+fit_operator op p q others passes = fit_by (adds_dims op) p q others passes
 
 -- two powersets
 pub are_alike_unions : (s t : Union) (others : Conditions) → Passes (alike_unions s t others) → AreAlikeUnions s t

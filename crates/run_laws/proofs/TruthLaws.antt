@@ -1,6 +1,6 @@
 -- In each run the answers are true of the entries that accepted commands and files give.
-use Rattle.std.proofs.Common.{◌≡◌, ℕ, ◌-◌, ◌/◌, List, [], ◌++◌, length, refl, ap, sym, ◌∙◌, subst, Bool, true, false}
-use Rattle.std.specs.Prelude.{Option, None, Some, Ok, ℤ, codes, decimal, slice_get}
+use Rattle.std.proofs.Common.{◌≡◌, ℕ, ◌-◌, List, [], ◌++◌, length, refl, ap, sym, ◌∙◌, subst, Bool, true, false}
+use Rattle.std.specs.Prelude.{Option, None, Some, Ok, ℤ, codes, decimal}
 use Rattle.std.specs.Map.{keys_of}
 use Rattle.std.proofs.lemmas.Map.Entries.{length-keys_of}
 use Rattle.expr_text.specs.Printed.{constraints_text, generators_text}
