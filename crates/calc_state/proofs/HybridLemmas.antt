@@ -3,7 +3,7 @@ use Rattle.std.proofs.Common.{◌≡◌, ◌∙◌, ℕ, ◌<◌, List, length, 
 use Rattle.poly_pair.specs.Polyhedra.{IsUniverse, IsEmpty}
 use Rattle.poly_pair.specs.declared.topology.Topology.TheVariants.{Closed}
 use Rattle.trans_sys.specs.Systems.{TransitionSystem}
-use Rattle.hybrid.specs.Systems.{HybridSystem, IsKeptHybrid}
+use Rattle.hybrid.specs.Systems.{HybridAutomaton, IsKeptHybrid}
 use Rattle.calc_state.specs.declared.systems.TheConstants.{MAX_DELAY}
 use Rattle.name_table.specs.Table.{HasNoRoomForAll}
 use Rattle.calc_state.specs.Table.{Table}
@@ -11,7 +11,7 @@ use Rattle.line_values.specs.Order.{Passes}
 use Rattle.calc_state.specs.Hybrids.{IsStill, reach}
 
 -- the automaton of a copy of the system, which keeps a set for each location
-pub still : (s copy : TransitionSystem) (h : HybridSystem) → copy ≡ s → h.system ≡ copy → All (IsUniverse Closed copy.dim) h.invariants → All (IsEmpty Closed copy.dim) h.flows → IsKeptHybrid h → IsStill s h
+pub still : (s copy : TransitionSystem) (h : HybridAutomaton) → copy ≡ s → h.system ≡ copy → All (IsUniverse Closed copy.dim) h.invariants → All (IsEmpty Closed copy.dim) h.flows → IsKeptHybrid h → IsStill s h
 still s copy h same is universes empties kept = record {
   system = is ∙ same;
   invariant_count = kept.invariants.as_many ∙ ap (λ (x : TransitionSystem). length x.initial) (is ∙ same);
@@ -21,6 +21,6 @@ still s copy h same is universes empties kept = record {
 }
 
 -- a run passes its tests
-pub reach_passes : (table : Table) (delay : ℕ) (prefix : List ℕ) (h : HybridSystem) → ¬ (MAX_DELAY < delay) → ¬ (HasNoRoomForAll table prefix (length h.system.initial)) → Passes (reach table delay prefix h).conditions
+pub reach_passes : (table : Table) (delay : ℕ) (prefix : List ℕ) (h : HybridAutomaton) → ¬ (MAX_DELAY < delay) → ¬ (HasNoRoomForAll table prefix (length h.system.initial)) → Passes (reach table delay prefix h).conditions
 reach_passes table delay prefix h short room =
     (λ k. k, (λ k. k, (λ k. k, (λ k. k, (λ k. k, (short, (λ k. k, (λ k. k, (λ k. k, (λ k. k, (λ k. k, (λ k. k, (room, (λ k. k, tt))))))))))))))

@@ -6,7 +6,7 @@ use Rattle.reply_text.specs.declared.faults.Fault.TheVariants.{NotDifference, To
 use Rattle.expr_text.specs.OneAnswer.{ConsHasOneAnswer}
 use Rattle.poly_pair.specs.declared.topology.Topology.TheVariants.{Closed}
 use Rattle.poly_pair.specs.declared.topology.TheConstants.{MAX_DIM}
-use Rattle.bd_shape.specs.Shapes.{Region, Includes}
+use Rattle.bd_shape.specs.Shapes.{DifferenceShape, Includes}
 use Rattle.bd_shape.specs.Given.{HasOther}
 use Rattle.bd_shape.specs.Refusals.{LeavesInConstraints, IsRefusalOf}
 use Rattle.bd_shape.specs.declared.refusal.ShapeErr.{ShapeErr}
@@ -43,20 +43,20 @@ module _ (full : Bool) (n : ℕ) (part : Part) (small : n ≤ MAX_DIM) where
     bounds_passes law lacks room =
         (λ k. k, (λ k. k, (λ k. k, (λ k. k, (within, (read.faultless.0, (read.faultless.1.0, (read.faultless.1.1.0, (read.faultless.1.1.1.0, (none_other law lacks, (λ k. k, (λ k. k, (room, (λ k. k, tt))))))))))))))
 
-    pub bounds_made : (s : Region) → ConsHasOneAnswer → ¬ (HasOther system) → ¬ (IsTrue full) → IsShapeOfConstraints system s → IsPerformed (bounds full n part) (Ok s)
+    pub bounds_made : (s : DifferenceShape) → ConsHasOneAnswer → ¬ (HasOther system) → ¬ (IsTrue full) → IsShapeOfConstraints system s → IsPerformed (bounds full n part) (Ok s)
     bounds_made s law lacks room is = (bounds_passes law lacks room, record { system = system; read = read.read; holds = is })
 
     bounds_leaves : (over : Overflow) → ConsHasOneAnswer → ¬ (HasOther system) → ¬ (IsTrue full) → LeavesInConstraints system over → IsPerformed (bounds full n part) (Err (err.Overflow over))
     bounds_leaves over law lacks room is = (bounds_passes law lacks room, record { system = system; read = read.read; holds = is })
 
-abbrev made : Region → Result Region ShapeErr
+abbrev made : DifferenceShape → Result DifferenceShape ShapeErr
 made s = Ok s
 
-abbrev not_made : ShapeErr → Result Region ShapeErr
+abbrev not_made : ShapeErr → Result DifferenceShape ShapeErr
 not_made cause = Err cause
 
 -- constraints of which a shape was made bound differences alone
-pub none_other_made : (cs : Constraints) (s : Region) → (made s ≡ Err unmade.NotDifference) ↔ HasOther cs → ¬ (HasOther cs)
+pub none_other_made : (cs : Constraints) (s : DifferenceShape) → (made s ≡ Err unmade.NotDifference) ↔ HasOther cs → ¬ (HasOther cs)
 none_other_made cs s is k = let never : made s ≡ Err unmade.NotDifference = is.1 k in cc
 
 -- and so do those whose bounds leave the range
@@ -72,9 +72,9 @@ bounds_not_made unmade.Memory full n part small system read law only is = tt
 
 -- ---- two shapes
 -- whether the one includes the other was told
-pub contains_told : (s t : Region) (holds : Bool) (text : List ℕ) → Passes (of_one_dim s t no_fault) → IsTrue holds ↔ Includes s t → text ≡ answer_line holds → IsPerformed (shape_contains s t) (Ok text)
+pub contains_told : (s t : DifferenceShape) (holds : Bool) (text : List ℕ) → Passes (of_one_dim s t no_fault) → IsTrue holds ↔ Includes s t → text ≡ answer_line holds → IsPerformed (shape_contains s t) (Ok text)
 contains_told s t holds text passes true_of said = (passes, record { holds = holds; true_of = true_of; said = said })
 
 -- two shapes that are alike, and a name for which there is room
-pub shapes_pass : (s t : Region) (full : Bool) → s.dim ≡ t.dim → ¬ (IsTrue full) → Passes (of_one_dim s t (room full))
+pub shapes_pass : (s t : DifferenceShape) (full : Bool) → s.dim ≡ t.dim → ¬ (IsTrue full) → Passes (of_one_dim s t (room full))
 shapes_pass s t full dim free = (λ k. k, (λ k. k, (λ k. k, (λ k. k dim, (λ k. k, (λ k. k, (λ k. k, (λ k. k, (λ k. k, (λ k. k, (λ k. k, (λ k. k, (free, (λ k. k, tt))))))))))))))

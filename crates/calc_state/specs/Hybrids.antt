@@ -3,7 +3,7 @@ use Rattle.std.specs.Prelude.{◌≡◌, ℕ, Bool, List, length, All}
 use Rattle.poly_pair.specs.Polyhedra.{Polyhedron, IsUniverse, IsEmpty}
 use Rattle.poly_pair.specs.declared.topology.Topology.TheVariants.{Closed}
 use Rattle.trans_sys.specs.Systems.{TransitionSystem}
-use Rattle.hybrid.specs.Systems.{HybridSystem}
+use Rattle.hybrid.specs.Systems.{HybridAutomaton}
 use Rattle.hybrid.specs.Reaches.{AreReached, LeavesInReach, IncludeInitial, AreClosedUnderFlow, AreClosedUnderJumps}
 use Rattle.calc_state.specs.Table.{Table, Change}
 use Rattle.line_values.specs.Meaning.{Meaning, no_overflow, room}
@@ -12,7 +12,7 @@ use Rattle.calc_state.specs.Systems.{run_conditions}
 
 -- ---- making
 -- the system, in each location with the universe as its invariant and an empty flow
-pub record IsStill (s : TransitionSystem) (h : HybridSystem) : Type 0 where
+pub record IsStill (s : TransitionSystem) (h : HybridAutomaton) : Type 0 where
   pub system : h.system ≡ s
   pub invariant_count : length h.invariants ≡ length s.initial
   pub invariants : All (IsUniverse Closed s.dim) h.invariants
@@ -20,19 +20,19 @@ pub record IsStill (s : TransitionSystem) (h : HybridSystem) : Type 0 where
   pub flows : All (IsEmpty Closed s.dim) h.flows
 
 -- hybrid OUT S
-abbrev pub hybrid : Bool → TransitionSystem → Meaning HybridSystem
+abbrev pub hybrid : Bool → TransitionSystem → Meaning HybridAutomaton
 hybrid full s = record { conditions = room full; overflows = no_overflow; does = IsStill s }
 
 -- ---- running
 -- the parts of the limit in the invariants, which include the initial states there, what time makes of their own and all successors
-pub record AreReachedParts (h : HybridSystem) (delay : ℕ) (sets : List Polyhedron) : Type 0 where
+pub record AreReachedParts (h : HybridAutomaton) (delay : ℕ) (sets : List Polyhedron) : Type 0 where
   pub reached : AreReached h delay sets
   pub initial : IncludeInitial h sets
   pub flow : AreClosedUnderFlow h sets
   pub jumps : AreClosedUnderJumps h sets
 
 -- reach H DELAY PREFIX
-abbrev pub reach : Table → ℕ → List ℕ → HybridSystem → Meaning Change
+abbrev pub reach : Table → ℕ → List ℕ → HybridAutomaton → Meaning Change
 reach table delay prefix h = record {
   conditions = run_conditions table delay prefix (length h.system.initial);
   overflows = LeavesInReach h delay;

@@ -1,8 +1,8 @@
 -- What each command means in a table.
 use Rattle.std.specs.Prelude.{ℕ, List, [], Bool}
 use Rattle.poly_pair.specs.Polyhedra.{Polyhedron}
-use Rattle.powerset.specs.Powersets.{Union}
-use Rattle.bd_shape.specs.Shapes.{Region}
+use Rattle.powerset.specs.Powersets.{FinitePowerset}
+use Rattle.bd_shape.specs.Shapes.{DifferenceShape}
 use Rattle.script_text.specs.declared.command.Command.{Command}
 use Rattle.name_table.specs.Table.{entry_of, has_no_room}
 use Rattle.line_values.specs.Effects.{puts, tells}
@@ -43,11 +43,11 @@ made_poly table full (poly.Member s i) = on_one (powerset_of table s) (member fu
 made_poly table full (poly.Rank r) = on_one (poly_of table r) (rank full)
 made_poly table full (poly.OfShape s) = on_one (shape_of table s) (shape_poly full)
 
-abbrev pub made_powerset : Table → Bool → PowersetMaker → Meaning Union
+abbrev pub made_powerset : Table → Bool → PowersetMaker → Meaning FinitePowerset
 made_powerset table full (powerset.OfPoly p) = on_one (poly_of table p) (pset full)
 made_powerset table full (powerset.OfTwo op s t) = on_two (powerset_of table s) (powerset_of table t) (of_two_powersets op full)
 
-abbrev pub made_shape : Table → Bool → ShapeMaker → Meaning Region
+abbrev pub made_shape : Table → Bool → ShapeMaker → Meaning DifferenceShape
 made_shape table full (shape.OfPoly p) = on_one (poly_of table p) (shape_of_set full)
 made_shape table full (shape.Bounds n text) = bounds full n text
 made_shape table full (shape.OfTwo op s t) = on_two (shape_of table s) (shape_of table t) (of_two_shapes op full)

@@ -4,7 +4,7 @@ use Rattle.reply_text.specs.declared.faults.Fault.TheVariants as fault
 use Rattle.poly_pair.specs.Polyhedra.{Polyhedron}
 use Rattle.poly_pair.specs.declared.topology.Topology.TheVariants.{Closed}
 use Rattle.trans_sys.specs.Systems.{TransitionSystem, with_initial, with_transition}
-use Rattle.hybrid.specs.Systems.{HybridSystem, with_invariant, with_flow}
+use Rattle.hybrid.specs.Systems.{HybridAutomaton, with_invariant, with_flow}
 use Rattle.script_text.specs.declared.command.LocationPart.{LocationPart}
 use Rattle.script_text.specs.declared.command.LocationPart.TheVariants.{Invariant, Flow}
 use Rattle.line_values.specs.Order.{Conditions}
@@ -36,12 +36,12 @@ trans name source target s relation = record {
 }
 
 -- the automaton with this invariant, or this flow, of the location
-abbrev pub with_part : LocationPart → HybridSystem → ℕ → Polyhedron → HybridSystem
+abbrev pub with_part : LocationPart → HybridAutomaton → ℕ → Polyhedron → HybridAutomaton
 with_part Invariant h location p = with_invariant h location p
 with_part Flow h location p = with_flow h location p
 
 -- inv H LOC P, flow H LOC P
-abbrev pub set_part : LocationPart → List ℕ → ℕ → HybridSystem → Polyhedron → Meaning Change
+abbrev pub set_part : LocationPart → List ℕ → ℕ → HybridAutomaton → Polyhedron → Meaning Change
 set_part part name location h p = record {
   conditions = misfits h.system.dim p (length h.system.initial ≤ location);
   overflows = no_overflow;

@@ -8,11 +8,11 @@ use Rattle.expr_text.specs.Printed.{constraints_text}
 use Rattle.poly_pair.specs.Polyhedra.{Polyhedron, HasNoPoint}
 use Rattle.poly_pair.specs.declared.topology.Topology.TheVariants.{Closed}
 use Rattle.difference_bounds.specs.Tables.{bounds_of}
-use Rattle.bd_shape.specs.Shapes.{Region, IsIn, Includes, IsMeet, IsHull}
+use Rattle.bd_shape.specs.Shapes.{DifferenceShape, IsIn, Includes, IsMeet, IsHull}
 use Rattle.bd_shape.specs.Suprema.{AreSuprema, IsSmallest, AreFound, LeavesInSuprema}
 use Rattle.bd_shape.specs.Given.{HasOther}
 use Rattle.bd_shape.specs.Refusals.{LeavesInConstraints}
-use Rattle.bd_shape.specs.Overflows.{LeavesInBounds, LeavesInMeet}
+use Rattle.bd_shape.specs.Overflows.{LeavesInHull, LeavesInInclusion, LeavesInMeet}
 use Rattle.bd_shape.specs.Rows.{shape_constraints}
 use Rattle.bd_shape.specs.Laws.{HasPointsOf}
 use Rattle.bd_shape.specs.declared.refusal.ShapeErr.{ShapeErr}
@@ -34,7 +34,7 @@ closed p others fault.NotClosed = p.topology ≢ Closed
 closed p others other = others other
 
 -- the smallest shape that includes the set: each bound is the supremum of a difference, and all of these are found
-pub record IsShapeOfSet (p : Polyhedron) (s : Region) : Type 0 where
+pub record IsShapeOfSet (p : Polyhedron) (s : DifferenceShape) : Type 0 where
   pub dim : s.dim ≡ p.cons.dim
   pub empty : (s.bounds ≡ None) ↔ HasNoPoint p
   pub suprema : IfSome s.bounds (λ t. AreSuprema p (bounds_of t))
@@ -42,7 +42,7 @@ pub record IsShapeOfSet (p : Polyhedron) (s : Region) : Type 0 where
   pub found : AreFound p
 
 -- shape OUT P
-abbrev pub shape : Bool → Polyhedron → Meaning Region
+abbrev pub shape : Bool → Polyhedron → Meaning DifferenceShape
 shape full p = record {
   conditions = closed p (room full);
   overflows = LeavesInSuprema p;
@@ -55,12 +55,12 @@ no_difference Has others fault.NotDifference = Has
 no_difference Has others other = others other
 
 -- the points at which the constraints hold
-pub record IsShapeOfConstraints (cs : Constraints) (s : Region) : Type 0 where
+pub record IsShapeOfConstraints (cs : Constraints) (s : DifferenceShape) : Type 0 where
   pub dim : s.dim ≡ cs.dim
   pub points : (p : List ℤ) → IsIn s p ↔ (IsPoint cs.dim p × In cs p)
 
 -- bounds OUT N : CONS
-abbrev pub bounds : Bool → ℕ → Part → Meaning Region
+abbrev pub bounds : Bool → ℕ → Part → Meaning DifferenceShape
 bounds full n part = record {
   conditions = small n (no_difference (SaysConstraints n part (λ cs. HasOther cs)) (with_text (constraints_fault Closed n part) (room full)));
   overflows = λ over. SaysConstraints n part (λ cs. LeavesInConstraints cs over);
@@ -76,27 +76,27 @@ refusal_of_shape unmade.Memory full = err.Memory
 
 -- ---- two shapes
 -- two shapes have one dimension
-abbrev pub of_one_dim : Region → Region → Conditions → Conditions
+abbrev pub of_one_dim : DifferenceShape → DifferenceShape → Conditions → Conditions
 of_one_dim s t others fault.DimMismatch = s.dim ≢ t.dim
 of_one_dim s t others other = others other
 
 -- the points of both, or the smallest shape that includes both
-abbrev pub IsSetOfShapes : ShapeOperator → Region → Region → Region → Type 0
+abbrev pub IsSetOfShapes : ShapeOperator → DifferenceShape → DifferenceShape → DifferenceShape → Type 0
 IsSetOfShapes Meet s t r = IsMeet s t r
 IsSetOfShapes Hull s t r = IsHull s t r
 
 -- the overflows that it may show
-abbrev pub LeavesInShapes : ShapeOperator → Region → Region → Overflow → Type 0
+abbrev pub LeavesInShapes : ShapeOperator → DifferenceShape → DifferenceShape → Overflow → Type 0
 LeavesInShapes Meet s t over = LeavesInMeet s t over
-LeavesInShapes Hull s t over = LeavesInBounds s t over
+LeavesInShapes Hull s t over = LeavesInHull s t over
 
 -- this set, of their dimension
-pub record IsShapeBy (op : ShapeOperator) (s t r : Region) : Type 0 where
+pub record IsShapeBy (op : ShapeOperator) (s t r : DifferenceShape) : Type 0 where
   pub dim : r.dim ≡ s.dim
   pub set : IsSetOfShapes op s t r
 
 -- smeet OUT S T, shull OUT S T
-abbrev pub of_two_shapes : ShapeOperator → Bool → Region → Region → Meaning Region
+abbrev pub of_two_shapes : ShapeOperator → Bool → DifferenceShape → DifferenceShape → Meaning DifferenceShape
 of_two_shapes op full s t = record {
   conditions = of_one_dim s t (room full);
   overflows = LeavesInShapes op s t;
@@ -104,26 +104,26 @@ of_two_shapes op full s t = record {
 }
 
 -- scontains S T
-abbrev pub shape_contains : Region → Region → Meaning (List ℕ)
+abbrev pub shape_contains : DifferenceShape → DifferenceShape → Meaning (List ℕ)
 shape_contains s t = record {
   conditions = of_one_dim s t no_fault;
-  overflows = LeavesInBounds s t;
+  overflows = LeavesInInclusion s t;
   does = IsTold (Includes s t);
 }
 
 -- ---- one shape
 -- sprint S
-abbrev pub shape_print : Region → Meaning (List ℕ)
+abbrev pub shape_print : DifferenceShape → Meaning (List ℕ)
 shape_print s = says (line (constraints_text (shape_constraints s)))
 
 -- the closed polyhedron of the shape's points
-pub record IsPolyOfShape (s : Region) (p : Polyhedron) : Type 0 where
+pub record IsPolyOfShape (s : DifferenceShape) (p : Polyhedron) : Type 0 where
   pub topology : p.topology ≡ Closed
   pub dim : p.cons.dim ≡ s.dim
   pub points : HasPointsOf p s
 
 -- spoly OUT S
-abbrev pub shape_poly : Bool → Region → Meaning Polyhedron
+abbrev pub shape_poly : Bool → DifferenceShape → Meaning Polyhedron
 shape_poly full s = record {
   conditions = room full;
   overflows = LeavesOnConstraints Closed (shape_constraints s);

@@ -22,7 +22,7 @@ use Rattle.optimum.specs.Laws.{HasOneSup}
 use Rattle.optimum.specs.declared.outcome.Relation.{Relation as Flags}
 use Rattle.optimum.specs.declared.outcome.Sup.{Sup}
 use Rattle.script_text.specs.declared.command.Part.{Part}
-use Rattle.bd_shape.specs.Shapes.{Region, Includes}
+use Rattle.bd_shape.specs.Shapes.{DifferenceShape, Includes}
 use Rattle.bd_shape.specs.Rows.{shape_constraints}
 use Rattle.script_text.specs.declared.command.Comparison.{Comparison}
 use Rattle.script_text.specs.declared.command.Comparison.TheVariants as comparison
@@ -42,7 +42,7 @@ use Rattle.line_values.specs.Proper.{IsProper}
 use Rattle.calc_state.specs.Laws.{KeepsNamesDistinct}
 use Rattle.expr_text.specs.Printed.{constraints_text, generators_text}
 use Rattle.run_laws.specs.Acts.{Act, Did, Took, Accepted, acts}
-use Rattle.run_laws.specs.Sets.{AreAlike, AreAlikeUnions, HaveOneDim, IsSetOf, IsEntryOf}
+use Rattle.run_laws.specs.Sets.{AreAlike, AreAlikePowersets, HaveOneDim, IsSetOf, IsEntryOf}
 use Rattle.run_laws.specs.Sameness.{AreSamePolyhedra, AreSameEntries}
 use Rattle.run_laws.specs.Truth.{SaysWhether, IsTrueOf, IsTrueOfTwo, SaysTruth, LieSo, SaysHowItLies, SaysExtremum, SaysSide, SaysCover, SaysRanking, SaysBounds, IsTruthful, IsTrueAnswer, AreTruthful}
 use Rattle.run_laws.specs.Laws.{IsNotClosed, ShowsStored, ShowPoints, AreSameAnswers, AcceptedDecide}
@@ -142,8 +142,8 @@ lie_same comparison.Contains x y v w e d like h = included_same v w x y d e (sym
 lie_same comparison.Equal x y v w e d like h = equal_same x y v w e d like.dim h
 lie_same comparison.Disjoint x y v w e d like h = disjoint_same x y v w e d like.dim h
 
-includes_same : (s r t u : Region) → s ≡ r → t ≡ u → Includes s t → Includes r u
-includes_same s r t u e d h = subst (λ (x : Region). Includes x u) e (subst (λ (y : Region). Includes s y) d h)
+includes_same : (s r t u : DifferenceShape) → s ≡ r → t ≡ u → Includes s t → Includes r u
+includes_same s r t u e d h = subst (λ (x : DifferenceShape). Includes x u) e (subst (λ (y : DifferenceShape). Includes s y) d h)
 
 module _ (laws : OneMeaning) (earlier : List Act) where
   -- the answers are the same, but where stored systems or points are shown
@@ -208,7 +208,7 @@ module _ (laws : OneMeaning) (earlier : List Act) where
   answered_once (Psize name) text other a b =
       inr (inr (about_one entry.Powerset name (λ u. text ≡ line (members_text u)) (λ u. other ≡ line (members_text u)) (text ≡ other) (λ u w h k same x y. x ∙ sized_alike u w same ∙ sym y) a b))
   answered_once (Covers one name) text other a b =
-      inr (about_two entry.Powerset AreAlikeUnions one name (SaysCover text) (SaysCover other) (ShowPoints (Did (Covers one name)) text other ⊎ (text ≡ other))
+      inr (about_two entry.Powerset AreAlikePowersets one name (SaysCover text) (SaysCover other) (ShowPoints (Did (Covers one name)) text other ⊎ (text ≡ other))
       (λ x y v w g h i j e d fit fits s t. covered_once x y v w text other e d (entry_kept earlier one (entry.Powerset x) g) (entry_kept earlier one (entry.Powerset y) h) (entry_kept earlier name (entry.Powerset v) i) (entry_kept earlier name (entry.Powerset w) j) fit.dim s t) a b)
   answered_once (Ranking name) text other a b =
       inr (inr (about_one entry.Poly name (SaysRanking text) (SaysRanking other) (text ≡ other) (λ p q h k same x y. ranked_once laws.form q text other (subst (SaysRanking text) (same.closed x.closed) x) y) a b))
@@ -216,7 +216,7 @@ module _ (laws : OneMeaning) (earlier : List Act) where
       inr (inr (about_two entry.Shape HaveOneDim one name (λ s t. SaysTruth text (Includes s t)) (λ s t. SaysTruth other (Includes s t)) (text ≡ other)
       (λ x y v w g h i j e d fit fits s t. truth_once text other (Includes x v) (Includes y w) (includes_same x y v w e d, includes_same y x w v (sym e) (sym d)) s t) a b))
   answered_once (ShapePrint name) text other a b =
-      inr (inr (about_one entry.Shape name (SaysBounds text) (SaysBounds other) (text ≡ other) (λ s r h k same x y. x.said ∙ ap line (x.printed ∙ ap (λ (z : Region). constraints_text (shape_constraints z)) same ∙ sym y.printed) ∙ sym y.said) a b))
+      inr (inr (about_one entry.Shape name (SaysBounds text) (SaysBounds other) (text ≡ other) (λ s r h k same x y. x.said ∙ ap line (x.printed ∙ ap (λ (z : DifferenceShape). constraints_text (shape_constraints z)) same ∙ sym y.printed) ∙ sym y.said) a b))
   answered_once done text other a b = inr (inr (a ∙ sym b))
 
   -- of one command or file

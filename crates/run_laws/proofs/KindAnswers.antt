@@ -8,8 +8,8 @@ use Rattle.row_core.specs.Lists.{Pointwise}
 use Rattle.cons_sys.specs.Constraints.{In}
 use Rattle.gens_sys.specs.Generators.{row_at}
 use Rattle.poly_pair.specs.Polyhedra.{Polyhedron}
-use Rattle.powerset.specs.Powersets.{Union, IsKeptUnion, IsInUnion}
-use Rattle.powerset.specs.UnionLaws.{AreOfDimension}
+use Rattle.powerset.specs.Powersets.{FinitePowerset, IsKeptPowerset, IsInPowerset}
+use Rattle.powerset.specs.PowersetLaws.{AreOfDimension}
 use Rattle.powerset.specs.Covers.{Covers, IsCounterPoint, IsCover}
 use Rattle.powerset.specs.declared.covering.Cover.{Cover}
 use Rattle.powerset.specs.declared.covering.Cover.TheVariants.{Yes, No}
@@ -17,7 +17,7 @@ use Rattle.powerset.proofs.SameReductions.{pointwise_back}
 use Rattle.ranking.specs.PrintedRankings.{IsFirstPoint, IsRankingText, function_text}
 use Rattle.line_values.specs.Meaning.{line}
 use Rattle.calc_state.specs.Powersets.{members_text, cover_line}
-use Rattle.run_laws.specs.Sameness.{AreSamePolyhedra, AreSameUnions}
+use Rattle.run_laws.specs.Sameness.{AreSamePolyhedra, AreSamePowersets}
 use Rattle.run_laws.specs.Truth.{SaysCover, SaysRanking}
 use Rattle.run_laws.specs.Laws.{ShowUncovered}
 use Rattle.run_laws.proofs.OneForm.{OneForm}
@@ -26,14 +26,14 @@ use Rattle.run_laws.proofs.OneUnion.{dims_of}
 use Rattle.run_laws.proofs.OneShape.{one_ranking_set}
 
 -- ---- powersets
-pub same_unions_back : (u w : Union) → AreSameUnions u w → AreSameUnions w u
+pub same_unions_back : (u w : FinitePowerset) → AreSamePowersets u w → AreSamePowersets w u
 same_unions_back u w same = record { topology = sym same.topology; dim = sym same.dim; members = pointwise_back AreSamePolyhedra AreSamePolyhedra u.members w.members same_back same.members }
 
-pub sized_alike : (u w : Union) → AreSameUnions u w → line (members_text u) ≡ line (members_text w)
+pub sized_alike : (u w : FinitePowerset) → AreSamePowersets u w → line (members_text u) ≡ line (members_text w)
 sized_alike u w same = ap (λ (n : ℕ). line (codes "members " ++ decimal n)) (sym same.members.as_many)
 
 -- a point of the one is one of the other
-in_same : (dim : ℕ) (ms ns : List Polyhedron) (v : List ℤ) → AreOfDimension dim ms → Pointwise AreSamePolyhedra ms ns → IsPoint dim v → IsInUnion ms v → IsInUnion ns v
+in_same : (dim : ℕ) (ms ns : List Polyhedron) (v : List ℤ) → AreOfDimension dim ms → Pointwise AreSamePolyhedra ms ns → IsPoint dim v → IsInPowerset ms v → IsInPowerset ns v
 in_same dim ms ns v dims same is i =
     let k : ℕ = i.listed.0 in
     let here : k < length ms = i.listed.1 in
@@ -43,18 +43,18 @@ in_same dim ms ns v dims same is i =
     let inside : In one.cons v = subst (λ (o : Polyhedron). In o.cons v) (sym i.listed.2) i.holds in
     record { member = other; listed = Contains-get_or ns k i.member there; holds = (same_at one other dim v (same.each k i.member i.member here) (dims k i.member here) is).0 inside }
 
-pub in_union_same : (u w : Union) (v : List ℤ) → IsKeptUnion u → AreSameUnions u w → IsPoint u.dim v → IsInUnion u.members v → IsInUnion w.members v
+pub in_union_same : (u w : FinitePowerset) (v : List ℤ) → IsKeptPowerset u → AreSamePowersets u w → IsPoint u.dim v → IsInPowerset u.members v → IsInPowerset w.members v
 in_union_same u w v kept same is i = in_same u.dim u.members w.members v (dims_of u kept) same.members is i
 
 -- a union isn't covered where a point shows it
-never_both : (s s2 t t2 : Union) (v : List ℤ) → AreSameUnions s s2 → AreSameUnions t t2 → IsKeptUnion s → IsKeptUnion t2 → s.dim ≡ t.dim → Covers s t → IsCounterPoint s2 t2 v → ⊥
+never_both : (s s2 t t2 : FinitePowerset) (v : List ℤ) → AreSamePowersets s s2 → AreSamePowersets t t2 → IsKeptPowerset s → IsKeptPowerset t2 → s.dim ≡ t.dim → Covers s t → IsCounterPoint s2 t2 v → ⊥
 never_both s s2 t t2 v same others a b e h k =
     let at : IsPoint s.dim v = subst (λ (n : ℕ). IsPoint n v) (sym same.dim) k.point in
     let at_other : IsPoint t2.dim v = subst (λ (n : ℕ). IsPoint n v) (e ∙ others.dim) at in
     k.outside (in_union_same s s2 v a same at (h v at (in_union_same t2 t v b (same_unions_back t t2 others) at_other k.within)))
 
 -- both answers are that one union covers the other, or both show a point
-pub covered_once : (s s2 t t2 : Union) (text other : List ℕ) → AreSameUnions s s2 → AreSameUnions t t2 → IsKeptUnion s → IsKeptUnion s2 → IsKeptUnion t → IsKeptUnion t2 → s.dim ≡ t.dim → SaysCover text s t → SaysCover other s2 t2 → ShowUncovered text other ⊎ (text ≡ other)
+pub covered_once : (s s2 t t2 : FinitePowerset) (text other : List ℕ) → AreSamePowersets s s2 → AreSamePowersets t t2 → IsKeptPowerset s → IsKeptPowerset s2 → IsKeptPowerset t → IsKeptPowerset t2 → s.dim ≡ t.dim → SaysCover text s t → SaysCover other s2 t2 → ShowUncovered text other ⊎ (text ≡ other)
 covered_once s s2 t t2 text other same others a a2 b b2 e h k = by_answers h.answer k.answer h.said k.said h.true_of k.true_of
   where
     by_answers : (x y : Cover) → text ≡ cover_line s.dim x → other ≡ cover_line s2.dim y → IsCover s t x → IsCover s2 t2 y → ShowUncovered text other ⊎ (text ≡ other)

@@ -5,9 +5,9 @@ use Rattle.expr_text.specs.Printed.{constraints_text}
 use Rattle.expr_text.specs.ReadBack.{ConstraintsAreReadBack}
 use Rattle.poly_pair.specs.Polyhedra.{Polyhedron}
 use Rattle.poly_pair.specs.declared.topology.Topology.TheVariants.{Closed}
-use Rattle.powerset.specs.Powersets.{Union}
+use Rattle.powerset.specs.Powersets.{FinitePowerset}
 use Rattle.ranking.specs.Laws.{PrintedFunctionRanks}
-use Rattle.bd_shape.specs.Shapes.{Region, IsShape}
+use Rattle.bd_shape.specs.Shapes.{DifferenceShape, IsShape}
 use Rattle.bd_shape.specs.Rows.{shape_constraints}
 use Rattle.bd_shape.proofs.Canonical.{bounds_are_greatest}
 use Rattle.bd_shape.proofs.RowLists.{list_points}
@@ -18,7 +18,7 @@ use Rattle.run_laws.specs.Truth.{SaysCover, SaysRanking, SaysBounds}
 use Rattle.run_laws.proofs.ShapeRows.{shape_fits}
 
 -- whether the one union covers the other
-pub cover_says : (s t : Union) (text : List ℕ) → IsCoverTold s t text → SaysCover text s t
+pub cover_says : (s t : FinitePowerset) (text : List ℕ) → IsCoverTold s t text → SaysCover text s t
 cover_says s t text h = record { answer = h.answer; said = h.said; true_of = h.true_of }
 
 -- a ranking function of a closed relation, or none
@@ -34,7 +34,7 @@ ranking_says law r text closed h = record {
 }
 
 -- the bounds of a shape
-pub bounds_say : ConstraintsAreReadBack → (s : Region) (text : List ℕ) → IsShape s → text ≡ line (constraints_text (shape_constraints s)) → SaysBounds text s
+pub bounds_say : ConstraintsAreReadBack → (s : DifferenceShape) (text : List ℕ) → IsShape s → text ≡ line (constraints_text (shape_constraints s)) → SaysBounds text s
 bounds_say law s text a h = record {
   text = constraints_text (shape_constraints s);
   said = h;

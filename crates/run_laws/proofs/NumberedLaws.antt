@@ -7,7 +7,7 @@ use Rattle.std.proofs.lemmas.List.{length-set}
 use Rattle.std.proofs.lemmas.Slice.Eq.{bytes_eq-Decides}
 use Rattle.poly_pair.specs.Polyhedra.{Polyhedron}
 use Rattle.trans_sys.specs.Systems.{TransitionSystem}
-use Rattle.hybrid.specs.Systems.{HybridSystem}
+use Rattle.hybrid.specs.Systems.{HybridAutomaton}
 use Rattle.script_text.specs.declared.command.LocationPart.{LocationPart}
 use Rattle.script_text.specs.declared.command.LocationPart.TheVariants.{Invariant, Flow}
 use Rattle.script_text.specs.declared.command.Command.TheVariants.{System, Init, Trans, Hybrid, SetPart}
@@ -82,7 +82,7 @@ hybrid_locations out s Had name count (entry.Hybrid k) of h = of h.operand h.was
 hybrid_locations out s Had name count other of h = tt
 
 -- a part of a location leaves the system as it is
-same_system : (part : LocationPart) (h : HybridSystem) (location : ℕ) (p : Polyhedron) → (with_part part h location p).system ≡ h.system
+same_system : (part : LocationPart) (h : HybridAutomaton) (location : ℕ) (p : Polyhedron) → (with_part part h location p).system ≡ h.system
 same_system Invariant h location p = refl
 same_system Flow h location p = refl
 
@@ -102,7 +102,7 @@ has_locations (Did (Trans out source target r) ∷ earlier) name (entry.System s
     (λ m. has_locations earlier out (entry.System m.old) m.was ∙ ap (λ (t : TransitionSystem). length t.initial) (sym m.made.is)) (has_locations earlier name (entry.System s)) h
 has_locations (Did (SetPart part out location p) ∷ earlier) name (entry.Hybrid k) h =
     changed_locations (bytes_eq name out) name out (locations_of earlier) (length k.system.initial) (GivesHybrid (SetPart part out location p) (IsEntryOf earlier) k) (IsEntryOf earlier name (entry.Hybrid k)) refl
-    (λ m. has_locations earlier out (entry.Hybrid m.old) m.was ∙ ap (λ (t : TransitionSystem). length t.initial) (sym (ap (λ (x : HybridSystem). x.system) m.made.is ∙ same_system part m.old location m.part))) (has_locations earlier name (entry.Hybrid k)) h
+    (λ m. has_locations earlier out (entry.Hybrid m.old) m.was ∙ ap (λ (t : TransitionSystem). length t.initial) (sym (ap (λ (x : HybridAutomaton). x.system) m.made.is ∙ same_system part m.old location m.part))) (has_locations earlier name (entry.Hybrid k)) h
 has_locations (Did c ∷ earlier) name (entry.System s) h = not_made (sets earlier c name) (GivesSystem c (IsEntryOf earlier) s) (IsEntryOf earlier name (entry.System s)) (locations_of (Did c ∷ earlier) name ≡ length s.initial) (λ m. m) (has_locations earlier name (entry.System s)) h
 has_locations (Did c ∷ earlier) name (entry.Hybrid k) h = not_made (sets earlier c name) (GivesHybrid c (IsEntryOf earlier) k) (IsEntryOf earlier name (entry.Hybrid k)) (locations_of (Did c ∷ earlier) name ≡ length k.system.initial) (λ m. m) (has_locations earlier name (entry.Hybrid k)) h
 has_locations (Took file ∷ earlier) name (entry.System s) h = not_made (bytes_eq name file.name) ⊥ (IsEntryOf earlier name (entry.System s)) (locations_of earlier name ≡ length s.initial) (λ m. m) (has_locations earlier name (entry.System s)) h

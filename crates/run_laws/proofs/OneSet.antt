@@ -18,10 +18,10 @@ use Rattle.file_poly.specs.Files.{IsListOf, IsOfList, IsOfFile}
 use Rattle.file_poly.specs.declared.listed.Listed.{Listed}
 use Rattle.file_poly.specs.declared.listed.Listed.TheVariants as listed
 use Rattle.trans_sys.specs.Systems.{TransitionSystem, with_initial, with_transition}
-use Rattle.powerset.specs.Powersets.{Union, IsUnionOf}
+use Rattle.powerset.specs.Powersets.{FinitePowerset, IsPowersetOfOne}
 use Rattle.ranking.specs.Rankings.{IsRankingSet}
-use Rattle.bd_shape.specs.Shapes.{Region}
-use Rattle.hybrid.specs.Systems.{HybridSystem}
+use Rattle.bd_shape.specs.Shapes.{DifferenceShape}
+use Rattle.hybrid.specs.Systems.{HybridAutomaton}
 use Rattle.script_text.specs.declared.command.Part.{Part}
 use Rattle.script_text.specs.declared.command.Space.{Space as SpaceWord}
 use Rattle.script_text.specs.declared.command.Space.TheVariants.{Universe, Empty}
@@ -44,8 +44,8 @@ use Rattle.calc_state.specs.Hybrids.{IsStill, AreReachedParts}
 use Rattle.calc_state.specs.Parts.{with_part}
 use Rattle.line_values.specs.Operands.{topology_of, format_of}
 use Rattle.run_laws.specs.Acts.{Act, Did, Took}
-use Rattle.run_laws.specs.Sets.{IsMade, IsCut, IsCutOf, IsAdded, IsJoined, IsOfFit, IsOfClosed, IsOfNested, IsMemberAt, IsRankedBy, AreAlikeUnions, HaveOneDim, sets, GivesPoly, GivesSystem, GivesPowerset, GivesShape, GivesHybrid, GivesEntry, GivesFile, IsEntryOf, IsSetOf}
-use Rattle.run_laws.specs.Sameness.{AreSamePolyhedra, AreSameUnions, AreSameEntries}
+use Rattle.run_laws.specs.Sets.{IsMade, IsCut, IsCutOf, IsAdded, IsJoined, IsOfFit, IsOfClosed, IsOfNested, IsMemberAt, IsRankedBy, AreAlikePowersets, HaveOneDim, sets, GivesPoly, GivesSystem, GivesPowerset, GivesShape, GivesHybrid, GivesEntry, GivesFile, IsEntryOf, IsSetOf}
+use Rattle.run_laws.specs.Sameness.{AreSamePolyhedra, AreSamePowersets, AreSameEntries}
 use Rattle.run_laws.proofs.OneForm.{OneForm, same_dims, of_set, one_of_points}
 use Rattle.run_laws.proofs.OneResult.{one_of_one, one_of_poly, one_of_two, one_closure, one_widened}
 use Rattle.run_laws.proofs.OneSystem.{one_reached, one_changed, one_empty_system, one_run, run_few, one_reach, reach_few}
@@ -86,18 +86,18 @@ module _ (Had : List ℕ → Entry → Type 0) (kept : (name : List ℕ) (e : En
   system_kept (Trans out source target r) s h = h.made.kept
   system_kept other s h = absurd h
 
-  powerset_kept : (c : Command) (u : Union) → GivesPowerset c Had u → IsKeptEntry (entry.Powerset u)
+  powerset_kept : (c : Command) (u : FinitePowerset) → GivesPowerset c Had u → IsKeptEntry (entry.Powerset u)
   powerset_kept (Pset out p) u h = h.made.kept
   powerset_kept (OfTwoPowersets op out s t) u h = h.made.kept
   powerset_kept other u h = absurd h
 
-  shape_kept : (c : Command) (r : Region) → GivesShape c Had r → IsKeptEntry (entry.Shape r)
+  shape_kept : (c : Command) (r : DifferenceShape) → GivesShape c Had r → IsKeptEntry (entry.Shape r)
   shape_kept (ShapeOf out p) r h = h.made.kept
   shape_kept (Bounds out n part) r h = h.kept
   shape_kept (OfTwoShapes op out s t) r h = h.made.kept
   shape_kept other r h = absurd h
 
-  hybrid_kept : (c : Command) (k : HybridSystem) → GivesHybrid c Had k → IsKeptEntry (entry.Hybrid k)
+  hybrid_kept : (c : Command) (k : HybridAutomaton) → GivesHybrid c Had k → IsKeptEntry (entry.Hybrid k)
   hybrid_kept (Hybrid out s) k h = h.made.kept
   hybrid_kept (SetPart part out location p) k h = h.made.kept
   hybrid_kept other k h = absurd h
@@ -279,18 +279,18 @@ module _ (Had : List ℕ → Entry → Type 0) where
   system_given (Trans out source target r) s h = refl
   system_given other s h = absurd h
 
-  powerset_given : (c : Command) (u : Union) → GivesPowerset c Had u → kind_given c ≡ 2
+  powerset_given : (c : Command) (u : FinitePowerset) → GivesPowerset c Had u → kind_given c ≡ 2
   powerset_given (Pset out p) u h = refl
   powerset_given (OfTwoPowersets op out s t) u h = refl
   powerset_given other u h = absurd h
 
-  shape_given : (c : Command) (r : Region) → GivesShape c Had r → kind_given c ≡ 3
+  shape_given : (c : Command) (r : DifferenceShape) → GivesShape c Had r → kind_given c ≡ 3
   shape_given (ShapeOf out p) r h = refl
   shape_given (Bounds out n part) r h = refl
   shape_given (OfTwoShapes op out s t) r h = refl
   shape_given other r h = absurd h
 
-  hybrid_given : (c : Command) (k : HybridSystem) → GivesHybrid c Had k → kind_given c ≡ 4
+  hybrid_given : (c : Command) (k : HybridAutomaton) → GivesHybrid c Had k → kind_given c ≡ 4
   hybrid_given (Hybrid out s) k h = refl
   hybrid_given (SetPart part out location p) k h = refl
   hybrid_given other k h = absurd h
@@ -323,7 +323,7 @@ module _ (laws : OneForm) (Had : List ℕ → Entry → Type 0) (kept : (name : 
   one_given_poly (Member out s i) name p q h k = one_of_one entry.Powerset entry.Poly (Had s) (IsMemberAt i) p q (kept s) (one s) (λ x y e a b c d u w. one_member x y (i - 1) p q e u.1 w.1) h k
   one_given_poly (Rank out r) name p q h k = one_of_poly (Had r) (IsOfClosed IsRankedBy) p q (kept r) (one r) (one_ranked laws) h k
   one_given_poly (ShapePoly out s) name p q h k =
-      one_of_one entry.Shape entry.Poly (Had s) IsPolyOfShape p q (kept s) (one s) (λ x y e a b c d i j. one_poly_of_shape laws y p q c d (subst (λ (z : Region). IsPolyOfShape z p) e i) j) h k
+      one_of_one entry.Shape entry.Poly (Had s) IsPolyOfShape p q (kept s) (one s) (λ x y e a b c d i j. one_poly_of_shape laws y p q c d (subst (λ (z : DifferenceShape). IsPolyOfShape z p) e i) j) h k
   one_given_poly (Reach s delay prefix) name p q h k =
       one_reached entry.Hybrid (Had s) (λ x xs. AreReachedParts x delay xs) prefix name p q (λ x y u w. one s (entry.Hybrid x) (entry.Hybrid y) u w) (λ x xs ys w a b. one_reach laws x delay xs ys (kept s (entry.Hybrid x) w) a b) (λ x xs w a. reach_few x delay xs (kept s (entry.Hybrid x) w) a) h k
   one_given_poly other name p q h k = absurd h
@@ -335,23 +335,23 @@ module _ (laws : OneForm) (Had : List ℕ → Entry → Type 0) (kept : (name : 
       one_changed entry.System (Had out) (Had r) (λ old q. with_transition old (record { source = source; target = target; relation = q })) s t (λ x y u w. one out (entry.System x) (entry.System y) u w) (one r) h k
   one_given_system other s t h k = absurd h
 
-  one_given_powerset : (c : Command) (u w : Union) → GivesPowerset c Had u → GivesPowerset c Had w → AreSameUnions u w
-  one_given_powerset (Pset out p) u w h k = one_of_one entry.Poly entry.Powerset (Had p) IsUnionOf u w (kept p) (one p) (λ x y e a b c d i j. one_single laws x y u w e i j c d) h k
+  one_given_powerset : (c : Command) (u w : FinitePowerset) → GivesPowerset c Had u → GivesPowerset c Had w → AreSamePowersets u w
+  one_given_powerset (Pset out p) u w h k = one_of_one entry.Poly entry.Powerset (Had p) IsPowersetOfOne u w (kept p) (one p) (λ x y e a b c d i j. one_single laws x y u w e i j c d) h k
   one_given_powerset (OfTwoPowersets op out s t) u w h k =
-      one_of_two entry.Powerset entry.Powerset (Had s) (Had t) (IsOfFit AreAlikeUnions (IsPowersetOf op)) u w (kept s) (kept t) (one s) (one t)
+      one_of_two entry.Powerset entry.Powerset (Had s) (Had t) (IsOfFit AreAlikePowersets (IsPowersetOf op)) u w (kept s) (kept t) (one s) (one t)
       (λ x y v z e d a b c f g r i j. one_powerset laws op x y v z u w e d a b c f g r i.fit.topology i.fit.dim i.is j.is) h k
   one_given_powerset other u w h k = absurd h
 
-  one_given_shape : (c : Command) (s r : Region) → GivesShape c Had s → GivesShape c Had r → s ≡ r
+  one_given_shape : (c : Command) (s r : DifferenceShape) → GivesShape c Had s → GivesShape c Had r → s ≡ r
   one_given_shape (ShapeOf out p) s r h k = one_of_one entry.Poly entry.Shape (Had p) (IsOfClosed IsShapeOfSet) s r (kept p) (one p) (λ x y e a b c d i j. one_shape_of x y s r (e.closed i.closed) c d i.is j.is) h k
   one_given_shape (Bounds out n part) s r h k =
       one_says_constraints laws n n part (λ cs. IsShapeOfConstraints cs s) (λ cs. IsShapeOfConstraints cs r) (s ≡ r) refl (λ cs i j. one_bounds cs s r h.kept k.kept i j) h.is k.is
   one_given_shape (OfTwoShapes op out first other) s r h k =
       one_of_two entry.Shape entry.Shape (Had first) (Had other) (IsOfFit HaveOneDim (IsShapeBy op)) s r (kept first) (kept other) (one first) (one other)
-      (λ x y v w e d a b c f g z i j. one_shape_by op y w s r g z (subst (λ (t : Region). IsShapeBy op t w s) e (subst (λ (t : Region). IsShapeBy op x t s) d i.is)) j.is) h k
+      (λ x y v w e d a b c f g z i j. one_shape_by op y w s r g z (subst (λ (t : DifferenceShape). IsShapeBy op t w s) e (subst (λ (t : DifferenceShape). IsShapeBy op x t s) d i.is)) j.is) h k
   one_given_shape other s r h k = absurd h
 
-  one_given_hybrid : (c : Command) (h k : HybridSystem) → GivesHybrid c Had h → GivesHybrid c Had k → h ≡ k
+  one_given_hybrid : (c : Command) (h k : HybridAutomaton) → GivesHybrid c Had h → GivesHybrid c Had k → h ≡ k
   one_given_hybrid (Hybrid out s) h k u w = one_of_one entry.System entry.Hybrid (Had s) IsStill h k (kept s) (one s) (λ x y e a b c d i j. one_still laws y h k c d (subst (λ (z : TransitionSystem). IsStill z h) e i) j) u w
   one_given_hybrid (SetPart part out location p) h k u w = one_changed entry.Hybrid (Had out) (Had p) (λ old q. with_part part old location q) h k (λ x y i j. one out (entry.Hybrid x) (entry.Hybrid y) i j) (one p) u w
   one_given_hybrid other h k u w = absurd u

@@ -11,7 +11,7 @@ use Rattle.poly_pair.specs.declared.topology.Topology.TheVariants.{Closed}
 use Rattle.poly_pair.specs.ClosedPolyhedra.{IsClosedOver}
 use Rattle.trans_sys.specs.Systems.{TransitionSystem, IsKeptSystem}
 use Rattle.trans_sys.specs.declared.transition.Transition.{Transition}
-use Rattle.hybrid.specs.Systems.{HybridSystem, IsKeptHybrid}
+use Rattle.hybrid.specs.Systems.{HybridAutomaton, IsKeptHybrid}
 use Rattle.hybrid.specs.Reaches.{AreReached as AreReachedBy}
 use Rattle.hybrid.specs.Turns.{turns_of}
 use Rattle.hybrid.proofs.HybridTurns.{proper, initial_sets}
@@ -91,11 +91,11 @@ pub one_run : OneForm → (s : TransitionSystem) (delay : ℕ) (xs ys : List Pol
 one_run laws s delay xs ys kept a b = laws.limit s delay xs ys kept a.limit b.limit
 
 -- so are those of an automaton
-pub reach_count : (h : HybridSystem) (delay : ℕ) (parts : List Polyhedron) → IsKeptHybrid h → AreReachedBy h delay parts → length parts ≡ length h.system.initial
+pub reach_count : (h : HybridAutomaton) (delay : ℕ) (parts : List Polyhedron) → IsKeptHybrid h → AreReachedBy h delay parts → length parts ≡ length h.system.initial
 reach_count h delay parts kept r = r.of_limit.as_many ∙ (rounds_table (turns_of h) (proper h kept) (start_table (turns_of h) h.system.initial delay (initial_sets h kept)) r.limit.limit.rounds).sets.as_many
 
-pub reach_few : (h : HybridSystem) (delay : ℕ) (parts : List Polyhedron) → IsKeptHybrid h → AreReachedParts h delay parts → length parts < 2 ^ 64
+pub reach_few : (h : HybridAutomaton) (delay : ℕ) (parts : List Polyhedron) → IsKeptHybrid h → AreReachedParts h delay parts → length parts < 2 ^ 64
 reach_few h delay parts kept r = omega (arith, reach_count h delay parts kept r.reached, kept.system.few)
 
-pub one_reach : OneForm → (h : HybridSystem) (delay : ℕ) (xs ys : List Polyhedron) → IsKeptHybrid h → AreReachedParts h delay xs → AreReachedParts h delay ys → xs ≡ ys
+pub one_reach : OneForm → (h : HybridAutomaton) (delay : ℕ) (xs ys : List Polyhedron) → IsKeptHybrid h → AreReachedParts h delay xs → AreReachedParts h delay ys → xs ≡ ys
 one_reach laws h delay xs ys kept a b = laws.reach h delay xs ys kept a.reached b.reached

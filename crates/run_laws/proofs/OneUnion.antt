@@ -7,15 +7,15 @@ use Rattle.row_core.specs.Lists.{Pointwise}
 use Rattle.row_core.proofs.PointwiseLemmas.{pointwise_nil, pointwise_tail, pointwise_cons, pointwise_one, pointwise_append}
 use Rattle.stored_systems.specs.PointSets.{HoldSame}
 use Rattle.poly_pair.specs.Polyhedra.{Polyhedron, IsKept}
-use Rattle.powerset.specs.Powersets.{Union, IsMember, IsKeptUnion, IsSingle, IsUnionOf}
-use Rattle.powerset.specs.UnionLaws.{AreOfDimension}
+use Rattle.powerset.specs.Powersets.{FinitePowerset, IsMember, IsKeptPowerset, IsSingle, IsPowersetOfOne}
+use Rattle.powerset.specs.PowersetLaws.{AreOfDimension}
 use Rattle.powerset.specs.Joins.{IsJoin, pairs_of, IsMeetOf, IsPairMeet}
 use Rattle.powerset.proofs.JoinLemmas.{joined_all, meets_members}
 use Rattle.powerset.proofs.SameReductions.{AgreeIn, pointwise_at, reduced_same}
 use Rattle.script_text.specs.declared.command.PowersetOperator.{PowersetOperator}
 use Rattle.script_text.specs.declared.command.PowersetOperator.TheVariants.{Join, Meet}
 use Rattle.calc_state.specs.Powersets.{IsPowersetOf}
-use Rattle.run_laws.specs.Sameness.{AreSamePolyhedra, AreSameUnions}
+use Rattle.run_laws.specs.Sameness.{AreSamePolyhedra, AreSamePowersets}
 use Rattle.run_laws.proofs.OneForm.{OneForm, one_closed}
 use Rattle.run_laws.proofs.OneResult.{same_back, same_at, empty_same}
 
@@ -33,7 +33,7 @@ single_same p q ms ns same (inl (none, e)) (inr (some, f)) = absurd (some (empty
 single_same p q ms ns same (inr (some, e)) (inl (none, f)) = absurd (some (empty_same q p (same_back p q same) none))
 single_same p q ms ns same (inr (some, e)) (inr (other, f)) = lists_same ms ns (p ∷ []) (q ∷ []) e f (pointwise_one AreSamePolyhedra p q same)
 
-pub one_single : OneForm → (p q : Polyhedron) (u w : Union) → AreSamePolyhedra p q → IsUnionOf p u → IsUnionOf q w → IsKeptUnion u → IsKeptUnion w → AreSameUnions u w
+pub one_single : OneForm → (p q : Polyhedron) (u w : FinitePowerset) → AreSamePolyhedra p q → IsPowersetOfOne p u → IsPowersetOfOne q w → IsKeptPowerset u → IsKeptPowerset w → AreSamePowersets u w
 one_single laws p q u w same h k a b = record {
   topology = h.same_topology ∙ same.topology ∙ sym k.same_topology;
   dim = h.same_dim ∙ same.dim ∙ sym k.same_dim;
@@ -41,7 +41,7 @@ one_single laws p q u w same h k a b = record {
 }
 
 -- the members at a place are the same
-pub one_member : (s s2 : Union) (i : ℕ) (p q : Polyhedron) → AreSameUnions s s2 → slice_get s.members i ≡ Some p → slice_get s2.members i ≡ Some q → AreSamePolyhedra p q
+pub one_member : (s s2 : FinitePowerset) (i : ℕ) (p q : Polyhedron) → AreSamePowersets s s2 → slice_get s.members i ≡ Some p → slice_get s2.members i ≡ Some q → AreSamePolyhedra p q
 one_member s s2 i p q same at_p at_q = pointwise_at AreSamePolyhedra s.members s2.members i p q same.members at_p at_q
 
 -- ---- lists of one dimension
@@ -59,11 +59,11 @@ members_agree dim ms ns dims h = record { as_many = h.as_many; each = λ i d e b
     agree : (p q : Polyhedron) → AreSamePolyhedra p q → p.cons.dim ≡ dim → AgreeIn dim p q
     agree p q same e = record { first = e; second = sym same.dim ∙ e; points = λ v is. same_at p q dim v same e is }
 
-pub dims_of : (u : Union) → IsKeptUnion u → AreOfDimension u.dim u.members
+pub dims_of : (u : FinitePowerset) → IsKeptPowerset u → AreOfDimension u.dim u.members
 dims_of u kept = All-weaker (IsMember u.topology u.dim) (λ (p : Polyhedron). p.cons.dim ≡ u.dim) (λ p m. m.over.same_dim) u.members kept.each
 
 -- ---- joins
-one_join : (s s2 t t2 u w : Union) → AreSameUnions s s2 → AreSameUnions t t2 → IsKeptUnion s → IsKeptUnion t → s.topology ≡ t.topology → s.dim ≡ t.dim → IsJoin s t u → IsJoin s2 t2 w → AreSameUnions u w
+one_join : (s s2 t t2 u w : FinitePowerset) → AreSamePowersets s s2 → AreSamePowersets t t2 → IsKeptPowerset s → IsKeptPowerset t → s.topology ≡ t.topology → s.dim ≡ t.dim → IsJoin s t u → IsJoin s2 t2 w → AreSamePowersets u w
 one_join s s2 t t2 u w same others a b e f h k = record {
   topology = h.same_topology ∙ same.topology ∙ sym k.same_topology;
   dim = h.same_dim ∙ same.dim ∙ sym k.same_dim;
@@ -121,7 +121,7 @@ meets_same laws dim pairs others ms ns same h k = record { as_many = omega (arit
         let there : i < length others = omega (arith, here, same.as_many) in
         meet_same laws dim (get_or pairs i (d, d)) (get_or others i (e, e)) (get_or ms i d) (get_or ns i e) (same.each i (d, d) (e, e) here) (h.each i (d, d) d here) (k.each i (e, e) e there)
 
-one_pair_meet : OneForm → (s s2 t t2 u w : Union) → AreSameUnions s s2 → AreSameUnions t t2 → IsKeptUnion s → IsKeptUnion t → s.dim ≡ t.dim → IsPairMeet s t u → IsPairMeet s2 t2 w → AreSameUnions u w
+one_pair_meet : OneForm → (s s2 t t2 u w : FinitePowerset) → AreSamePowersets s s2 → AreSamePowersets t t2 → IsKeptPowerset s → IsKeptPowerset t → s.dim ≡ t.dim → IsPairMeet s t u → IsPairMeet s2 t2 w → AreSamePowersets u w
 one_pair_meet laws s s2 t t2 u w same others a b f h k = record {
   topology = h.same_topology ∙ same.topology ∙ sym k.same_topology;
   dim = h.same_dim ∙ same.dim ∙ sym k.same_dim;
@@ -141,6 +141,6 @@ one_pair_meet laws s s2 t t2 u w same others a b f h k = record {
     dims = All-weaker (IsMember s.topology s.dim) (λ (p : Polyhedron). p.cons.dim ≡ s.dim) (λ p m. m.over.same_dim) h.meets (meets_members s.topology s.dim s.members t.members h.meets a.each h.are_meets)
 
 -- ---- joins and meets
-pub one_powerset : OneForm → (op : PowersetOperator) (s s2 t t2 u w : Union) → AreSameUnions s s2 → AreSameUnions t t2 → IsKeptUnion s → IsKeptUnion s2 → IsKeptUnion t → IsKeptUnion t2 → IsKeptUnion u → IsKeptUnion w → s.topology ≡ t.topology → s.dim ≡ t.dim → IsPowersetOf op s t u → IsPowersetOf op s2 t2 w → AreSameUnions u w
+pub one_powerset : OneForm → (op : PowersetOperator) (s s2 t t2 u w : FinitePowerset) → AreSamePowersets s s2 → AreSamePowersets t t2 → IsKeptPowerset s → IsKeptPowerset s2 → IsKeptPowerset t → IsKeptPowerset t2 → IsKeptPowerset u → IsKeptPowerset w → s.topology ≡ t.topology → s.dim ≡ t.dim → IsPowersetOf op s t u → IsPowersetOf op s2 t2 w → AreSamePowersets u w
 one_powerset laws Join s s2 t t2 u w same others a a2 b b2 c c2 e f h k = one_join s s2 t t2 u w same others a b e f h k
 one_powerset laws Meet s s2 t t2 u w same others a a2 b b2 c c2 e f h k = one_pair_meet laws s s2 t t2 u w same others a b f h k

@@ -4,8 +4,8 @@ use Rattle.std.proofs.lemmas.Bool.{cases_lt}
 use Rattle.poly_pair.specs.Polyhedra.{Polyhedron}
 use Rattle.poly_pair.specs.declared.topology.Topology.{Topology}
 use Rattle.poly_pair.specs.declared.topology.Topology.TheVariants.{Closed, Nnc}
-use Rattle.powerset.specs.Powersets.{Union}
-use Rattle.bd_shape.specs.Shapes.{Region}
+use Rattle.powerset.specs.Powersets.{FinitePowerset}
+use Rattle.bd_shape.specs.Shapes.{DifferenceShape}
 use Rattle.script_text.specs.declared.command.Operator.{Operator}
 use Rattle.line_values.specs.Order.{Conditions, Passes}
 use Rattle.line_values.specs.Meaning.{alike}
@@ -14,7 +14,7 @@ use Rattle.calc_state.specs.Powersets.{alike_unions, misses_member}
 use Rattle.calc_state.specs.Rankings.{relates_states}
 use Rattle.calc_state.specs.Shapes.{closed, of_one_dim}
 use Rattle.poly_commands.specs.Widening.{nested, IsWidened}
-use Rattle.run_laws.specs.Sets.{AreAlike, AreAlikeUnions, HaveOneDim, IsOfNested}
+use Rattle.run_laws.specs.Sets.{AreAlike, AreAlikePowersets, HaveOneDim, IsOfNested}
 
 -- ---- the operands of a command that passes its tests
 pub one_topology : (s t : Topology) → ¬ (s ≢ t) → s ≡ t
@@ -53,11 +53,11 @@ pub fit_operator : (op : Operator) (p q : Polyhedron) (others : Conditions) → 
 fit_operator op p q others passes = fit_by (adds_dims op) p q others passes
 
 -- two powersets
-pub are_alike_unions : (s t : Union) (others : Conditions) → Passes (alike_unions s t others) → AreAlikeUnions s t
+pub are_alike_unions : (s t : FinitePowerset) (others : Conditions) → Passes (alike_unions s t others) → AreAlikePowersets s t
 are_alike_unions s t others passes = record { topology = one_topology s.topology t.topology passes.1.0; dim = one_number s.dim t.dim passes.1.1.1.0 }
 
 -- two shapes
-pub have_one_dim : (s t : Region) (others : Conditions) → Passes (of_one_dim s t others) → HaveOneDim s t
+pub have_one_dim : (s t : DifferenceShape) (others : Conditions) → Passes (of_one_dim s t others) → HaveOneDim s t
 have_one_dim s t others passes = one_number s.dim t.dim passes.1.1.1.0
 
 -- a closed polyhedron, and a closed relation of states

@@ -9,7 +9,7 @@ use Rattle.stored_systems.proofs.ListLemmas.{All-left, All-right}
 use Rattle.poly_pair.specs.declared.topology.Topology.TheVariants.{Closed}
 use Rattle.poly_pair.specs.Polyhedra.{Polyhedron, IsOfConstraints}
 use Rattle.trans_sys.specs.Systems.{with_initial, with_transition}
-use Rattle.powerset.specs.Powersets.{IsUnionOf}
+use Rattle.powerset.specs.Powersets.{IsPowersetOfOne}
 use Rattle.script_text.specs.declared.command.Part.{Part}
 use Rattle.script_text.specs.declared.command.Command.{Command}
 use Rattle.script_text.specs.declared.command.Command.TheVariants.{Nothing, Cons, Gens, Space, Copy, Drop, Add, Addgen, Has, Size, Print, Names, OfTwo, Closure, Compare, Isempty, Relation, Bound, Map, Extend, Remove, Widen, Read, Write, System, Init, Trans, Fixpoint, Pset, OfTwoPowersets, Member, Psize, Covers, Rank, Ranking, ShapeOf, Bounds, OfTwoShapes, ShapeContains, ShapePrint, ShapePoly, Hybrid, SetPart, Reach}
@@ -51,7 +51,7 @@ use Rattle.calc_state.specs.Laws.{KeepsNamesDistinct}
 use Rattle.file_poly.specs.Files.{IsOfFile}
 use Rattle.calc_state.specs.Runs.{Run}
 use Rattle.run_laws.specs.Acts.{Act, Did, Took, Accepted, acts}
-use Rattle.run_laws.specs.Sets.{IsMadeAs, IsMade, IsCut, IsMadeOfOne, IsMadeOfTwo, IsChangedBy, IsReachedSet, IsAdded, IsJoined, IsOfFit, IsOfClosed, IsOfNested, IsMemberAt, IsRankedBy, AreAlikeUnions, HaveOneDim, sets, locations_of, is_numbered, with_numbered, GivesEntry, GivesFile, IsEntryOf, IsSetOf, with_name, less_name, names_of}
+use Rattle.run_laws.specs.Sets.{IsMadeAs, IsMade, IsCut, IsMadeOfOne, IsMadeOfTwo, IsChangedBy, IsReachedSet, IsAdded, IsJoined, IsOfFit, IsOfClosed, IsOfNested, IsMemberAt, IsRankedBy, AreAlikePowersets, HaveOneDim, sets, locations_of, is_numbered, with_numbered, GivesEntry, GivesFile, IsEntryOf, IsSetOf, with_name, less_name, names_of}
 use Rattle.run_laws.specs.Laws.{IsUnder, AreAsCommanded}
 use Rattle.run_laws.proofs.AcceptedRuns.{Steps, run_told}
 use Rattle.run_laws.proofs.TableLaws.{entry_of-put, entry_of-without, distinct_keys, names-put, names-put_there, names-without}
@@ -335,9 +335,9 @@ module _ (old new : Table) (earlier : List Act) (text : List ℕ) (a : Agrees ol
       run_follows entry.System (Fixpoint s delay prefix) s prefix (fixpoint old delay prefix) (λ x xs. AreReached x delay xs) (system_of old s) (system_at old earlier a s) (λ n. refl) (λ n q h. h) refl
       (λ x xs was are. run_count x delay xs are ∙ sym (has_locations earlier s (entry.System x) was)) (λ x change does. does) p
   accepted_follows (Pset out other) p =
-      one_follows entry.Poly as_powerset entry.Powerset powerset_there (Pset out other) out other (pset (has_no_room old out)) IsUnionOf (poly_of old other) (poly_at old earlier a other) (λ n. refl) (λ n r h. h) (λ x e. new_name out) (λ x r passes is. is) p
+      one_follows entry.Poly as_powerset entry.Powerset powerset_there (Pset out other) out other (pset (has_no_room old out)) IsPowersetOfOne (poly_of old other) (poly_at old earlier a other) (λ n. refl) (λ n r h. h) (λ x e. new_name out) (λ x r passes is. is) p
   accepted_follows (OfTwoPowersets op out one other) p =
-      two_follows entry.Powerset as_powerset entry.Powerset powerset_there (OfTwoPowersets op out one other) out one other (of_two_powersets op (has_no_room old out)) (IsOfFit AreAlikeUnions (IsPowersetOf op)) (powerset_of old one) (powerset_of old other) (powerset_at old earlier a one) (powerset_at old earlier a other)
+      two_follows entry.Powerset as_powerset entry.Powerset powerset_there (OfTwoPowersets op out one other) out one other (of_two_powersets op (has_no_room old out)) (IsOfFit AreAlikePowersets (IsPowersetOf op)) (powerset_of old one) (powerset_of old other) (powerset_at old earlier a one) (powerset_at old earlier a other)
       (λ n. refl) (λ n r h. h) (new_name out) (λ x y r passes is. record { fit = are_alike_unions x y (room (has_no_room old out)) passes; is = is }) p
   accepted_follows (Member out s i) p =
       one_follows entry.Powerset as_poly entry.Poly poly_there (Member out s i) out s (member (has_no_room old out) i) (IsMemberAt i) (powerset_of old s) (powerset_at old earlier a s) (λ n. refl) (λ n r h. h) (λ x e. new_name out)

@@ -13,7 +13,7 @@ use Rattle.difference_bounds.specs.Fractions.{IsFraction}
 use Rattle.difference_bounds.specs.Walks.{Bound, Bounds}
 use Rattle.difference_bounds.specs.Tables.{Table, bounds_of}
 use Rattle.difference_bounds.proofs.PassLemmas.{bound_fraction}
-use Rattle.bd_shape.specs.Shapes.{Region, IsTightTable, IsShape}
+use Rattle.bd_shape.specs.Shapes.{DifferenceShape, IsTightTable, IsShape}
 use Rattle.bd_shape.specs.Rows.{constant_row, bound_row, rows_of, rows_at, rows_to, all_to, table_rows, shape_constraints}
 use Rattle.bd_shape.proofs.RowLists.{length_constant, constant_last, constant_in_range, one_in_range, length_bound, bound_in_range, bound_primitive}
 
@@ -66,5 +66,5 @@ table_fits dim None h = All-cons (IsConstraint dim) (constant_row dim (negsuc 0)
 table_fits dim (Some t) h = all_fit dim (bounds_of t) (λ i j. bound_fraction t i j h.table.fractions) (dim + 1) (omega arith)
 
 -- each row of a shape fits the dimension and the range
-pub shape_fits : (s : Region) → IsShape s → FitDimension (shape_constraints s)
+pub shape_fits : (s : DifferenceShape) → IsShape s → FitDimension (shape_constraints s)
 shape_fits s a = record { each = table_fits s.dim s.bounds a.tight; narrow = omega (arith, a.narrow) }

@@ -54,7 +54,7 @@ use Rattle.calc_state.specs.Laws.{KeepsNamesDistinct}
 use Rattle.calc_state.proofs.SaysOnce.{reply_is}
 use Rattle.calc_state.specs.Runs.{Run}
 use Rattle.run_laws.specs.Acts.{Act, Accepted, acts}
-use Rattle.run_laws.specs.Sets.{AreAlike, AreAlikeUnions, HaveOneDim, IsEntryOf, names_of}
+use Rattle.run_laws.specs.Sets.{AreAlike, AreAlikePowersets, HaveOneDim, IsEntryOf, names_of}
 use Rattle.run_laws.specs.Laws.{AnswersAreTrue}
 use Rattle.run_laws.specs.Truth.{SaysWhether, IsTrueOf, IsTrueOfTwo, SaysTruth, LieSo, SaysHowItLies, IsShownBy, SaysExtremum, SaysSide, SaysCover, SaysRanking, SaysBounds, IsTruthful, AreTruthful}
 use Rattle.run_laws.proofs.KindTruth.{cover_says, ranking_says, bounds_say}
@@ -196,7 +196,7 @@ module _ (laws : ReadBack) (old new : Table) (earlier : List Act) (text : List �
   accepted_true Nothing p = said (says []) p
   accepted_true (Psize name) p = one_true entry.Powerset name psize (λ u. text ≡ line (members_text u)) (powerset_of old name) (powerset_at old earlier g name) (λ x s passes h. h) p
   accepted_true (Covers one other) p =
-      two_true entry.Powerset AreAlikeUnions one other covers (SaysCover text) (powerset_of old one) (powerset_of old other) (powerset_at old earlier g one) (powerset_at old earlier g other) (λ x y passes. are_alike_unions x y no_fault passes) (λ x y h. cover_says x y text h) p
+      two_true entry.Powerset AreAlikePowersets one other covers (SaysCover text) (powerset_of old one) (powerset_of old other) (powerset_at old earlier g one) (powerset_at old earlier g other) (λ x y passes. are_alike_unions x y no_fault passes) (λ x y h. cover_says x y text h) p
   accepted_true (Ranking name) p = one_true entry.Poly name ranking (SaysRanking text) (poly_of old name) (poly_at old earlier g name) (λ x s passes h. ranking_says laws.ranking x text (is_closed_relation x no_fault passes) h) p
   accepted_true (ShapeContains one other) p =
       two_true entry.Shape HaveOneDim one other shape_contains (λ x y. SaysTruth text (Includes x y)) (shape_of old one) (shape_of old other) (shape_at old earlier g one) (shape_at old earlier g other) (λ x y passes. have_one_dim x y no_fault passes) (λ x y h. told_true (Includes x y) text h) p

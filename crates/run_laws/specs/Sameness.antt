@@ -4,7 +4,7 @@ use Rattle.row_core.specs.Lists.{Pointwise}
 use Rattle.stored_systems.specs.PointSets.{HoldSame}
 use Rattle.poly_pair.specs.Polyhedra.{Polyhedron}
 use Rattle.poly_pair.specs.declared.topology.Topology.TheVariants.{Closed}
-use Rattle.powerset.specs.Powersets.{Union}
+use Rattle.powerset.specs.Powersets.{FinitePowerset}
 use Rattle.calc_state.specs.declared.entry.Entry.{Entry}
 use Rattle.calc_state.specs.declared.entry.Entry.TheVariants as entry
 use Rattle.calc_state.specs.Table.{Table}
@@ -17,7 +17,7 @@ pub record AreSamePolyhedra (p q : Polyhedron) : Type 0 where
   pub closed : p.topology ≡ Closed → p ≡ q
 
 -- one topology, one dimension, and as many members, each the same as the one at its place
-pub record AreSameUnions (u w : Union) : Type 0 where
+pub record AreSamePowersets (u w : FinitePowerset) : Type 0 where
   pub topology : u.topology ≡ w.topology
   pub dim : u.dim ≡ w.dim
   pub members : Pointwise AreSamePolyhedra u.members w.members
@@ -26,7 +26,7 @@ pub record AreSameUnions (u w : Union) : Type 0 where
 abbrev pub AreSameEntries : Entry → Entry → Type 0
 AreSameEntries (entry.Poly p) (entry.Poly q) = AreSamePolyhedra p q
 AreSameEntries (entry.System s) (entry.System t) = s ≡ t
-AreSameEntries (entry.Powerset u) (entry.Powerset w) = AreSameUnions u w
+AreSameEntries (entry.Powerset u) (entry.Powerset w) = AreSamePowersets u w
 AreSameEntries (entry.Shape s) (entry.Shape r) = s ≡ r
 AreSameEntries (entry.Hybrid h) (entry.Hybrid k) = h ≡ k
 AreSameEntries e f = ⊥

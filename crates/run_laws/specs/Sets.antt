@@ -12,10 +12,10 @@ use Rattle.lattice_ops.specs.Sets.{IsIncluded}
 use Rattle.widening.specs.Widenings.{IsWidening}
 use Rattle.file_poly.specs.Files.{IsOfFile}
 use Rattle.trans_sys.specs.Systems.{TransitionSystem, with_initial, with_transition}
-use Rattle.powerset.specs.Powersets.{Union, IsUnionOf}
+use Rattle.powerset.specs.Powersets.{FinitePowerset, IsPowersetOfOne}
 use Rattle.ranking.specs.Rankings.{IsRankingSet}
-use Rattle.bd_shape.specs.Shapes.{Region}
-use Rattle.hybrid.specs.Systems.{HybridSystem}
+use Rattle.bd_shape.specs.Shapes.{DifferenceShape}
+use Rattle.hybrid.specs.Systems.{HybridAutomaton}
 use Rattle.script_text.specs.declared.command.Part.{Part}
 use Rattle.script_text.specs.declared.command.Command.{Command}
 use Rattle.script_text.specs.declared.command.Command.TheVariants.{Cons, Gens, Space, Copy, Drop, Add, Addgen, OfTwo, Closure, Map, Extend, Remove, Widen, System, Init, Trans, Fixpoint, Pset, OfTwoPowersets, Member, Rank, ShapeOf, Bounds, OfTwoShapes, ShapePoly, Hybrid, SetPart, Reach}
@@ -123,7 +123,7 @@ pub record IsOfNested (p q r : Polyhedron) : Type 0 where
   pub is : IsWidening p q r
 
 -- the member with this number, where the first is member 1
-abbrev pub IsMemberAt : ℕ → Union → Polyhedron → Type 0
+abbrev pub IsMemberAt : ℕ → FinitePowerset → Polyhedron → Type 0
 IsMemberAt i u p = (0 < i) × (slice_get u.members (i - 1) ≡ Some p)
 
 -- the functions that rank a relation of states and their successors, of as many variables each
@@ -132,12 +132,12 @@ IsRankedBy r p = (r.cons.dim % 2 ≡ 0) × IsRankingSet (r.cons.dim / 2) r p
 
 -- ---- powersets and shapes
 -- two powersets have one topology and one dimension
-pub record AreAlikeUnions (s t : Union) : Type 0 where
+pub record AreAlikePowersets (s t : FinitePowerset) : Type 0 where
   pub topology : s.topology ≡ t.topology
   pub dim : s.dim ≡ t.dim
 
 -- two shapes have one dimension
-abbrev pub HaveOneDim : Region → Region → Type 0
+abbrev pub HaveOneDim : DifferenceShape → DifferenceShape → Type 0
 HaveOneDim s t = s.dim ≡ t.dim
 
 -- ---- numbered names
@@ -215,20 +215,20 @@ GivesSystem (Trans out source target r) Had s = IsChangedBy entry.System (Had ou
 GivesSystem other Had s = ⊥
 
 -- the powerset
-abbrev pub GivesPowerset : Command → (List ℕ → Entry → Type 0) → Union → Type 0
-GivesPowerset (Pset out p) Had u = IsMadeOfOne entry.Poly entry.Powerset (Had p) IsUnionOf u
-GivesPowerset (OfTwoPowersets op out s t) Had u = IsMadeOfTwo entry.Powerset entry.Powerset (Had s) (Had t) (IsOfFit AreAlikeUnions (IsPowersetOf op)) u
+abbrev pub GivesPowerset : Command → (List ℕ → Entry → Type 0) → FinitePowerset → Type 0
+GivesPowerset (Pset out p) Had u = IsMadeOfOne entry.Poly entry.Powerset (Had p) IsPowersetOfOne u
+GivesPowerset (OfTwoPowersets op out s t) Had u = IsMadeOfTwo entry.Powerset entry.Powerset (Had s) (Had t) (IsOfFit AreAlikePowersets (IsPowersetOf op)) u
 GivesPowerset other Had u = ⊥
 
 -- the shape
-abbrev pub GivesShape : Command → (List ℕ → Entry → Type 0) → Region → Type 0
+abbrev pub GivesShape : Command → (List ℕ → Entry → Type 0) → DifferenceShape → Type 0
 GivesShape (ShapeOf out p) Had r = IsMadeOfOne entry.Poly entry.Shape (Had p) (IsOfClosed IsShapeOfSet) r
 GivesShape (Bounds out n part) Had r = IsMadeAs entry.Shape (λ s. SaysConstraints n part (λ cs. IsShapeOfConstraints cs s)) r
 GivesShape (OfTwoShapes op out s t) Had r = IsMadeOfTwo entry.Shape entry.Shape (Had s) (Had t) (IsOfFit HaveOneDim (IsShapeBy op)) r
 GivesShape other Had r = ⊥
 
 -- the automaton
-abbrev pub GivesHybrid : Command → (List ℕ → Entry → Type 0) → HybridSystem → Type 0
+abbrev pub GivesHybrid : Command → (List ℕ → Entry → Type 0) → HybridAutomaton → Type 0
 GivesHybrid (Hybrid out s) Had h = IsMadeOfOne entry.System entry.Hybrid (Had s) IsStill h
 GivesHybrid (SetPart part out location p) Had h = IsChangedBy entry.Hybrid (Had out) (Had p) (λ old q. with_part part old location q) h
 GivesHybrid other Had h = ⊥

@@ -19,14 +19,14 @@ use Rattle.optimum.specs.Laws.{IsWitness}
 use Rattle.optimum.specs.declared.outcome.Relation.{Relation as Flags}
 use Rattle.optimum.specs.declared.outcome.Sup.{Sup}
 use Rattle.optimum.specs.declared.outcome.Sup.TheVariants as sup
-use Rattle.powerset.specs.Powersets.{Union}
+use Rattle.powerset.specs.Powersets.{FinitePowerset}
 use Rattle.powerset.specs.Covers.{IsCover}
 use Rattle.powerset.specs.declared.covering.Cover.{Cover}
 use Rattle.ranking.specs.Rankings.{IsRankingSet}
 use Rattle.ranking.specs.PrintedRankings.{IsRankingText}
 use Rattle.ranking.specs.Laws.{IsWithoutRanking, IsOfRanking}
 use Rattle.difference_bounds.specs.Tables.{Table, bounds_of}
-use Rattle.bd_shape.specs.Shapes.{Region, IsIn, Includes}
+use Rattle.bd_shape.specs.Shapes.{DifferenceShape, IsIn, Includes}
 use Rattle.bd_shape.specs.Rows.{shape_constraints}
 use Rattle.bd_shape.specs.Laws.{IsGreatestAt}
 use Rattle.script_text.specs.declared.command.Part.{Part}
@@ -45,7 +45,7 @@ use Rattle.calc_state.specs.Powersets.{members_text, cover_line}
 use Rattle.poly_commands.specs.Files.{file_of}
 use Rattle.line_values.specs.Effects.{ok_line}
 use Rattle.run_laws.specs.Acts.{Act, Did, Took, Accepted, acts}
-use Rattle.run_laws.specs.Sets.{IsMade, AreAlike, AreAlikeUnions, HaveOneDim, IsEntryOf, names_of}
+use Rattle.run_laws.specs.Sets.{IsMade, AreAlike, AreAlikePowersets, HaveOneDim, IsEntryOf, names_of}
 
 -- the reply says whether the point of the text is in the polyhedron
 pub record SaysWhether (part : Part) (reply : List ℕ) (p : Polyhedron) : Type 0 where
@@ -133,7 +133,7 @@ SaysSide false reply p = SaysSystem reply p
 SaysSide true reply p = SaysGeneration reply p
 
 -- the reply says that each point of the second union is in the first, or shows a primitive point of the second that is in no member of the first
-pub record SaysCover (reply : List ℕ) (s t : Union) : Type 0 where
+pub record SaysCover (reply : List ℕ) (s t : FinitePowerset) : Type 0 where
   pub answer : Cover
   pub said : reply ≡ cover_line s.dim answer
   pub true_of : IsCover s t answer
@@ -149,11 +149,11 @@ pub record SaysRanking (reply : List ℕ) (r : Polyhedron) : Type 0 where
   pub first : IsRankingText functions text
 
 -- each bound of a shape is the greatest difference of its two places on the points of the shape
-abbrev pub AreGreatest : Region → Type 0
+abbrev pub AreGreatest : DifferenceShape → Type 0
 AreGreatest s = (t : Table) → s.bounds ≡ Some t → (i j : ℕ) → i < s.dim + 1 → j < s.dim + 1 → IsGreatestAt s i j (bounds_of t i j)
 
 -- the reply is the printed form of the bounds of the shape; it is read as these constraints, and they hold exactly at its points
-pub record SaysBounds (reply : List ℕ) (s : Region) : Type 0 where
+pub record SaysBounds (reply : List ℕ) (s : DifferenceShape) : Type 0 where
   pub text : List ℕ
   pub said : reply ≡ line text
   pub printed : text ≡ constraints_text (shape_constraints s)
@@ -178,7 +178,7 @@ IsTruthful earlier (Write name form) reply = IsTrueOf entry.Poly earlier name (�
 IsTruthful earlier (Read out form) reply = reply ≡ []
 IsTruthful earlier Nothing reply = reply ≡ []
 IsTruthful earlier (Psize name) reply = IsTrueOf entry.Powerset earlier name (λ u. reply ≡ line (members_text u))
-IsTruthful earlier (Covers one other) reply = IsTrueOfTwo entry.Powerset AreAlikeUnions earlier one other (SaysCover reply)
+IsTruthful earlier (Covers one other) reply = IsTrueOfTwo entry.Powerset AreAlikePowersets earlier one other (SaysCover reply)
 IsTruthful earlier (Ranking name) reply = IsTrueOf entry.Poly earlier name (SaysRanking reply)
 IsTruthful earlier (ShapeContains one other) reply = IsTrueOfTwo entry.Shape HaveOneDim earlier one other (λ s t. SaysTruth reply (Includes s t))
 IsTruthful earlier (ShapePrint name) reply = IsTrueOf entry.Shape earlier name (SaysBounds reply)

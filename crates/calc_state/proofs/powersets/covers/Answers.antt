@@ -2,7 +2,7 @@ use Rattle.std.proofs.Common.{◌≡◌, ◌∙◌, ℕ, List, true, ◌++◌, c
 use Rattle.std.specs.Option.{option_copied}
 use Rattle.gens_sys.specs.declared.kind.GenKind.TheVariants.{Point}
 use Rattle.expr_text.specs.Printed.{generator_text}
-use Rattle.powerset.specs.Powersets.{Union}
+use Rattle.powerset.specs.Powersets.{FinitePowerset}
 use Rattle.powerset.specs.declared.covering.Cover.TheVariants.{Yes, No}
 use Rattle.line_values.specs.Meaning.{on_two, line, answer_line}
 use Rattle.calc_state.specs.Powersets.{covers}
@@ -18,16 +18,16 @@ no_with_point-requires g c =
 
 pub returns-in-Ok-Yes : goal.returns-in-Ok-Yes
 returns-in-Ok-Yes g c =
-    let s : Union = c.in-Some-Some.s.now in
-    let t : Union = c.in-Some-Some.t.now in
+    let s : FinitePowerset = c.in-Some-Some.s.now in
+    let t : FinitePowerset = c.in-Some-Some.t.now in
     let topologies : s.topology ≡ t.topology = search rules in
     let dims : s.dim ≡ t.dim = sym c.dim-dim.ensures.value ∙ c.if-dim.false ∙ c.dim.ensures.value in
     rw c.in-Some-Some.is-0 (rw c.in-Some-Some.is-1 (answered (covers s t) (λ (text : List ℕ). text ≡ answer_line true) c.answer.result (λ text said. told s t Yes text topologies dims (rw c.in-Ok-Yes.field-0-is at c.in-Ok-Yes.ensures.answer) said) c.answer.ensures))
 
 pub returns-in_ok-no_with_point-in-Ok-No : goal.returns-in_ok-no_with_point-in-Ok-No
 returns-in_ok-no_with_point-in-Ok-No g c =
-    let s : Union = c.in-Some-Some.s.now in
-    let t : Union = c.in-Some-Some.t.now in
+    let s : FinitePowerset = c.in-Some-Some.s.now in
+    let t : FinitePowerset = c.in-Some-Some.t.now in
     let topologies : s.topology ≡ t.topology = search rules in
     let dims : s.dim ≡ t.dim = sym c.dim-dim.ensures.value ∙ c.if-dim.false ∙ c.dim.ensures.value in
     let said = c.in_ok-no_with_point-in-Ok-No.ensures ∙ ap (λ (n : ℕ). line (codes "no " ++ generator_text n (c.in-Ok-No.point, Point))) c.dim-dim.ensures.value in
@@ -35,12 +35,12 @@ returns-in_ok-no_with_point-in-Ok-No g c =
 
 pub returns-in-Err : goal.returns-in-Err
 returns-in-Err g c =
-    let s : Union = c.in-Some-Some.s.now in
-    let t : Union = c.in-Some-Some.t.now in
+    let s : FinitePowerset = c.in-Some-Some.s.now in
+    let t : FinitePowerset = c.in-Some-Some.t.now in
     let topologies : s.topology ≡ t.topology = search rules in
     let dims : s.dim ≡ t.dim = sym c.dim-dim.ensures.value ∙ c.if-dim.false ∙ c.dim.ensures.value in
     let one : option_copied c.args.s ≡ Some s = ap option_copied c.in-Some-Some.is-0 in
     let other : option_copied c.args.t ≡ Some t = ap option_copied c.in-Some-Some.is-1 in
-    subst (λ (o : Option Union). IsPerformed (on_two o (option_copied c.args.t) covers) (Err c.from.result)) (sym one)
-    (subst (λ (o : Option Union). IsPerformed (on_two (Some s) o covers) (Err c.from.result)) (sym other)
+    subst (λ (o : Option FinitePowerset). IsPerformed (on_two o (option_copied c.args.t) covers) (Err c.from.result)) (sym one)
+    (subst (λ (o : Option FinitePowerset). IsPerformed (on_two (Some s) o covers) (Err c.from.result)) (sym other)
     (rw c.from.ensures (leaves (covers s t) c.in-Err.cause (compared s t topologies dims) c.in-Err.ensures.overflow)))
