@@ -7,6 +7,5 @@ pub mod EndLaws
 pub mod FirstLines
 pub mod WriteLaws
 pub mod GivenReplies
-pub mod DigitLaws
 pub mod SampleWords
 pub mod JobLaws

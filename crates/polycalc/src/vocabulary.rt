@@ -1,12 +1,12 @@
 //! The words of a command line.
-ghost use Rattle.std.specs.Prelude.{◌≡◌, ℕ, ◌-◌, ◌^◌, ◌<◌, ◌==◌, ◌↔◌, min, List, [], ◌∷◌, ◌++◌, length, slice_index_or, IsTrue, OnOk, OnErr, MatchOption};
-ghost use Rattle.plain_text.specs.Digits.{is_nat, number};
+ghost use Rattle.std.specs.Prelude.{◌≡◌, ℕ, ◌<◌, ◌↔◌, List, [], ◌∷◌, ◌++◌, length, slice_index_or, IsTrue, OnOk, OnErr, MatchOption};
 ghost use Rattle.polycalc.specs.Words.{IsAskedBy, SpellsSize};
 ghost use Rattle.polycalc.specs.declared.job.Job.{Job};
 ghost use Rattle.polycalc.specs.declared.job.Job.TheVariants.{Sample};
 
 use crate::job::Job;
 use file_poly::Format;
+use plain_text::{is_nat, number_up_to};
 use row_core::Memory;
 use std::alloc::Global;
 use std::marker::Model;
@@ -114,38 +114,14 @@ impl Words {
     }
 }
 
-// Whether the word is one or more digits.
-fn is_digits(word: &[u8]) -> bool
-    ensures { result ≡ is_nat word.now }
-{
-    for byte in word {
-        if *byte < b'0' || b'9' < *byte {
-            return false;
-        }
-    }
-    !word.is_empty()
-}
-
-// The number that digits spell; `u32::MAX` stands for all greater ones too.
-fn number_of(word: &[u8]) -> u32
-    ensures { result ≡ min (number word.now) (2 ^ 32 - 1) }
-{
-    let mut number: u32 = 0;
-    for byte in word {
-        let digit = u32::from(byte.saturating_sub(b'0'));
-        number = number.saturating_mul(10).saturating_add(digit);
-    }
-    number
-}
-
 // The number of rows that the word spells.
 fn size_of(word: &[u8]) -> Option<u32>
     ensures { MatchOption result ((n : ℕ) → ¬ (SpellsSize word.now n)) (λ n. SpellsSize word.now n) }
 {
-    if word.len() > 4 || !is_digits(word) {
+    if word.len() > 4 || !is_nat(word) {
         return None;
     }
-    let number = number_of(word);
+    let number = number_up_to(word, u32::MAX as u128) as u32;
     if number > MOST_ROWS {
         return None;
     }

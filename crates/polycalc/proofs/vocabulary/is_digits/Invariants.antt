@@ -1,7 +1,0 @@
-use Rattle.std.proofs.Common.{◌≡◌, take, true}
-use Rattle.std.specs.List.{list_all}
-use Rattle.plain_text.specs.Digits.{is_digit}
-use Rattle.polycalc.proofs.vocabulary.is_digits.Given as goal
-
-abbrev pub invariant-loop-byte : goal.invariant-loop-byte
-invariant-loop-byte l = list_all is_digit (take l.byte-index l.word) ≡ true
