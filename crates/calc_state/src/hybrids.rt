@@ -41,7 +41,8 @@ pub fn reach<L: Ledger>(
     prefix: &Text,
     steps: &mut Steps<L>,
 ) -> Result<Vec<Poly>, StepErr>
-    ensures { IsPerformed (on_one (option_copied h.entry) (run_hybrid names.now delay prefix.now)) (all_placed prefix.now result) }
+    ensures { IsPerformed (on_one (option_copied h.entry) (run_hybrid names.now delay prefix.now))
+        (all_placed prefix.now result) }
 {
     let Some(h) = h else {
         return Err(StepErr::Input(Fault::UnknownName));

@@ -20,7 +20,10 @@ pub fn replaced_initial(
     location: u64,
     p: Option<&Poly>,
 ) -> Result<PartChange, StepErr>
-    ensures { (name : List ℕ) → IsTested (on_one (option_copied system.entry) (λ s. on_one (option_copied p.entry) (init name location s))) (as_entry entry.System (option_copied system.entry)) name result }
+    ensures { (name : List ℕ) → IsTested
+        (on_one (option_copied system.entry)
+        (λ s. on_one (option_copied p.entry) (init name location s)))
+        (as_entry entry.System (option_copied system.entry)) name result }
 {
     let (Some(system), Some(p)) = (system, p) else {
         return Err(StepErr::Input(Fault::UnknownName));
@@ -45,7 +48,10 @@ pub fn added_transition(
     target: u64,
     relation: Option<&Poly>,
 ) -> Result<PartChange, StepErr>
-    ensures { (name : List ℕ) → IsTested (on_one (option_copied system.entry) (λ s. on_one (option_copied relation.entry) (trans name source target s))) (as_entry entry.System (option_copied system.entry)) name result }
+    ensures { (name : List ℕ) → IsTested
+        (on_one (option_copied system.entry)
+        (λ s. on_one (option_copied relation.entry) (trans name source target s)))
+        (as_entry entry.System (option_copied system.entry)) name result }
 {
     let (Some(system), Some(relation)) = (system, relation) else {
         return Err(StepErr::Input(Fault::UnknownName));
@@ -71,7 +77,10 @@ pub fn replaced_part(
     location: u64,
     p: Option<&Poly>,
 ) -> Result<PartChange, StepErr>
-    ensures { (name : List ℕ) → IsTested (on_one (option_copied h.entry) (λ found. on_one (option_copied p.entry) (set_part part name location found))) (as_entry entry.Hybrid (option_copied h.entry)) name result }
+    ensures { (name : List ℕ) → IsTested
+        (on_one (option_copied h.entry)
+        (λ found. on_one (option_copied p.entry) (set_part part name location found)))
+        (as_entry entry.Hybrid (option_copied h.entry)) name result }
 {
     let (Some(h), Some(p)) = (h, p) else {
         return Err(StepErr::Input(Fault::UnknownName));

@@ -54,8 +54,10 @@ pub enum HybridChange {
 pub fn change_under(names: &mut Names<Entry>, name: &[u8], change: PartChange) -> Result<(), Memory>
     requires there { IsSome (entry_of names.old name.now) }
     requires fits { (e : AnyEntry) → entry_of names.old name.now ≡ Some e → FitsPart e change }
-    ensures ok { OnOk result ((e : AnyEntry) → entry_of names.old name.now ≡ Some e → names.new ≡ put names.old name.now (changed_part e change)) }
-    ensures kept { OnOk result ((e : AnyEntry) → entry_of names.old name.now ≡ Some e → IsKeptEntry (changed_part e change)) }
+    ensures ok { OnOk result ((e : AnyEntry) → entry_of names.old name.now ≡ Some e
+        → names.new ≡ put names.old name.now (changed_part e change)) }
+    ensures kept { OnOk result ((e : AnyEntry) → entry_of names.old name.now ≡ Some e
+        → IsKeptEntry (changed_part e change)) }
     ensures err { OnErr result (names.new ≡ names.old) }
 {
     match names.get_mut(name) {

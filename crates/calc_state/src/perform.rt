@@ -185,7 +185,8 @@ pub fn part_change_of(
     name: &Text,
     task: PartTask,
 ) -> Result<PartChange, StepErr>
-    ensures { IsTested (changed_part_of names.now name.now task) (entry_of names.now name.now) name.now result }
+    ensures { IsTested (changed_part_of names.now name.now task) (entry_of names.now name.now)
+        name.now result }
 {
     match task {
         PartTask::Initial(location, p) => {

@@ -56,7 +56,8 @@ pub fn of_two_powersets<L: Ledger>(
     full: bool,
     steps: &mut Steps<L>,
 ) -> Result<Powerset, StepErr>
-    ensures { IsPerformed (on_two (option_copied s.entry) (option_copied t.entry) (make_of_two op full)) result }
+    ensures { IsPerformed (on_two (option_copied s.entry) (option_copied t.entry)
+        (make_of_two op full)) result }
 {
     let (Some(s), Some(t)) = (s, t) else {
         return Err(StepErr::Input(Fault::UnknownName));
@@ -119,7 +120,8 @@ pub fn covers<L: Ledger>(
     t: Option<&Powerset>,
     steps: &mut Steps<L>,
 ) -> Result<Text, StepErr>
-    ensures { IsPerformed (on_two (option_copied s.entry) (option_copied t.entry) ask_covers) result }
+    ensures { IsPerformed (on_two (option_copied s.entry) (option_copied t.entry) ask_covers)
+        result }
 {
     let (Some(s), Some(t)) = (s, t) else {
         return Err(StepErr::Input(Fault::UnknownName));

@@ -96,7 +96,8 @@ pub fn of_two_shapes(
     t: Option<&Shape>,
     full: bool,
 ) -> Result<Shape, StepErr>
-    ensures { IsPerformed (on_two (option_copied s.entry) (option_copied t.entry) (make_of_two op full)) result }
+    ensures { IsPerformed (on_two (option_copied s.entry) (option_copied t.entry)
+        (make_of_two op full)) result }
 {
     let (Some(s), Some(t)) = (s, t) else {
         return Err(StepErr::Input(Fault::UnknownName));
@@ -115,7 +116,8 @@ pub fn of_two_shapes(
 
 /// Whether each point of the second shape is in the first.
 pub fn shape_contains(alloc: Global, s: Option<&Shape>, t: Option<&Shape>) -> Result<Text, StepErr>
-    ensures { IsPerformed (on_two (option_copied s.entry) (option_copied t.entry) ask_contains) result }
+    ensures { IsPerformed (on_two (option_copied s.entry) (option_copied t.entry) ask_contains)
+        result }
 {
     let (Some(s), Some(t)) = (s, t) else {
         return Err(StepErr::Input(Fault::UnknownName));

@@ -47,7 +47,8 @@ pub fn fixpoint<L: Ledger>(
     prefix: &Text,
     steps: &mut Steps<L>,
 ) -> Result<Vec<Poly>, StepErr>
-    ensures { IsPerformed (on_one (option_copied system.entry) (run_system names.now delay prefix.now)) (all_placed prefix.now result) }
+    ensures { IsPerformed (on_one (option_copied system.entry)
+        (run_system names.now delay prefix.now)) (all_placed prefix.now result) }
 {
     let Some(system) = system else {
         return Err(StepErr::Input(Fault::UnknownName));

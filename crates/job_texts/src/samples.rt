@@ -51,7 +51,8 @@ fn line_of_sample(alloc: Global, n: u32, made: &Poly) -> Result<Text, StepErr>
 
 /// The line of a sample whose polyhedron and maximum are found.
 fn sample_line(alloc: Global, n: u32, made: &Poly, maximum: Sup) -> Result<Text, Memory>
-    ensures { IfOk result (λ text. text ≡ line (sample_text n (length made.now.cons.list) (length made.now.gens.list) maximum)) }
+    ensures { IfOk result (λ text. text ≡ line
+        (sample_text n (length made.now.cons.list) (length made.now.gens.list) maximum)) }
 {
     let mut text = Text::new(alloc);
     push_line(&mut text, n, made, maximum)?;
@@ -61,7 +62,8 @@ fn sample_line(alloc: Global, n: u32, made: &Poly, maximum: Sup) -> Result<Text,
 /// Puts that line into an empty text.
 fn push_line(text: &mut Text, n: u32, made: &Poly, maximum: Sup) -> Result<(), Memory>
     requires { text.old ≡ [] }
-    ensures { OnOk result (text.new ≡ line (sample_text n (length made.now.cons.list) (length made.now.gens.list) maximum)) }
+    ensures { OnOk result (text.new ≡ line
+        (sample_text n (length made.now.cons.list) (length made.now.gens.list) maximum)) }
 {
     push_counts(text, n, made)?;
     text.push(b" max ")?;
@@ -73,7 +75,8 @@ fn push_line(text: &mut Text, n: u32, made: &Poly, maximum: Sup) -> Result<(), M
 /// Puts the number of rows, and how many constraints and generators are stored, into an empty text.
 fn push_counts(text: &mut Text, n: u32, made: &Poly) -> Result<(), Memory>
     requires { text.old ≡ [] }
-    ensures { OnOk result (text.new ≡ counts_text n (length made.now.cons.list) (length made.now.gens.list)) }
+    ensures { OnOk result (text.new ≡ counts_text n (length made.now.cons.list)
+        (length made.now.gens.list)) }
 {
     text.push(b"sample ")?;
     text.push_unsigned(n as u64)?;

@@ -55,10 +55,13 @@ pub fn loop_bounds<S: Source, W: Sink, L: Ledger>(
     sink: &mut W,
     steps: &mut Steps<L>,
 ) -> Status
-    ensures outcome { (given : List ℕ) × (S.left source.old ≡ prepend_known given (S.left source.new))
+    ensures outcome { (given : List ℕ)
+        × (S.left source.old ≡ prepend_known given (S.left source.new))
         × Outcome given (S.left source.new) (W.held sink.old) (W.held sink.new) result }
-    ensures read_fault { result ≡ Status.ReadFault → HasRisen (S.faults source.old) (S.faults source.new) }
-    ensures write_fault { result ≡ Status.WriteFault → HasRisen (W.faults sink.old) (W.faults sink.new) }
+    ensures read_fault { result ≡ Status.ReadFault
+        → HasRisen (S.faults source.old) (S.faults source.new) }
+    ensures write_fault { result ≡ Status.WriteFault
+        → HasRisen (W.faults sink.old) (W.faults sink.new) }
 {
     let text = match read_all(alloc, source, INPUT_LIMIT) {
         Ok(text) => text,

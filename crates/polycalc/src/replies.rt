@@ -80,7 +80,8 @@ impl Replies {
 
     // Adds the line of a fault or an overflow, and its line feed.
     fn add_refusal(&mut self, mut line: Text) -> Result<(), Memory>
-        ensures added { OnOk result (self.new ≡ record { bytes = self.old.bytes ++ (line ++ 10 ∷ []); clean = false }) }
+        ensures added { OnOk result (self.new ≡ record
+            { bytes = self.old.bytes ++ (line ++ 10 ∷ []); clean = false }) }
         ensures wanting { OnErr result (self.new ≡ self.old) }
     {
         line.push(b"\n")?;
@@ -106,7 +107,8 @@ impl Replies {
     /// Writes the bytes: `Done` where no reply is a fault or an overflow, and else `Refused`.
     pub fn write<W: Sink>(&self, sink: &mut W) -> Status
         ensures writes { Writes self.now (W.held sink.old) (W.held sink.new) result }
-        ensures fault { result ≡ Status.WriteFault → HasRisen (W.faults sink.old) (W.faults sink.new) }
+        ensures fault { result ≡ Status.WriteFault
+            → HasRisen (W.faults sink.old) (W.faults sink.new) }
         ensures want { result ≡ Status.Memory → HasRisen (W.wants sink.old) (W.wants sink.new) }
     {
         match write_all(sink, self.bytes()) {

@@ -28,11 +28,15 @@ pub fn run_lines<S: Source, W: Sink, L: Ledger>(
     sink: &mut W,
     steps: &mut Steps<L>,
 ) -> Status
-    ensures outcome { (given : List ℕ) × (S.left source.old ≡ prepend_known given (S.left source.new))
+    ensures outcome { (given : List ℕ)
+        × (S.left source.old ≡ prepend_known given (S.left source.new))
         × Outcome job.Run given (S.left source.new) (W.held sink.old) (W.held sink.new) result }
-    ensures read_fault { result ≡ Status.ReadFault → HasRisen (S.faults source.old) (S.faults source.new) }
-    ensures write_fault { result ≡ Status.WriteFault → HasRisen (W.faults sink.old) (W.faults sink.new) }
-    ensures lines_before { result ≡ Status.Memory → ¬ (HasRisen (W.wants sink.old) (W.wants sink.new))
+    ensures read_fault { result ≡ Status.ReadFault
+        → HasRisen (S.faults source.old) (S.faults source.new) }
+    ensures write_fault { result ≡ Status.WriteFault
+        → HasRisen (W.faults sink.old) (W.faults sink.new) }
+    ensures lines_before { result ≡ Status.Memory
+        → ¬ (HasRisen (W.wants sink.old) (W.wants sink.new))
         → GivesUp job.Run (S.left source.old) (S.left source.new) (W.held sink.old) (W.held sink.new) }
 {
     let Ok(mut reader) = LineReader::new(alloc) else {
@@ -55,11 +59,15 @@ fn answer_lines<S: Source, W: Sink, L: Ledger>(
     requires fresh { reader.old ≡ record { pending = []; taken = 0; ended = false; line = [] } }
     requires start { calc.old ≡ closed [] }
     requires silent { replies.old ≡ written [] }
-    ensures outcome { (given : List ℕ) × (S.left source.old ≡ prepend_known given (S.left source.new))
+    ensures outcome { (given : List ℕ)
+        × (S.left source.old ≡ prepend_known given (S.left source.new))
         × Outcome job.Run given (S.left source.new) (W.held sink.old) (W.held sink.new) result }
-    ensures read_fault { result ≡ Status.ReadFault → HasRisen (S.faults source.old) (S.faults source.new) }
-    ensures write_fault { result ≡ Status.WriteFault → HasRisen (W.faults sink.old) (W.faults sink.new) }
-    ensures lines_before { result ≡ Status.Memory → ¬ (HasRisen (W.wants sink.old) (W.wants sink.new))
+    ensures read_fault { result ≡ Status.ReadFault
+        → HasRisen (S.faults source.old) (S.faults source.new) }
+    ensures write_fault { result ≡ Status.WriteFault
+        → HasRisen (W.faults sink.old) (W.faults sink.new) }
+    ensures lines_before { result ≡ Status.Memory
+        → ¬ (HasRisen (W.wants sink.old) (W.wants sink.new))
         → GivesUp job.Run (S.left source.old) (S.left source.new) (W.held sink.old) (W.held sink.new) }
 {
     loop {
@@ -85,10 +93,12 @@ fn answer_lines<S: Source, W: Sink, L: Ledger>(
 // The end of the script, which cuts off a file that is open.
 fn end_script<W: Sink>(calc: &mut Calc, replies: &mut Replies, sink: &mut W) -> Status
     requires { replies.old.bytes ≡ [] }
-    ensures closes { Closes (at_end calc.old) replies.old.clean (W.held sink.old) (W.held sink.new) result }
+    ensures closes { Closes (at_end calc.old) replies.old.clean (W.held sink.old) (W.held sink.new)
+        result }
     ensures no_fewer { W.faults sink.old ≤ W.faults sink.new }
     ensures fault { result ≡ Status.WriteFault → HasRisen (W.faults sink.old) (W.faults sink.new) }
-    ensures untouched { result ≡ Status.Memory → ¬ (HasRisen (W.wants sink.old) (W.wants sink.new)) → W.held sink.new ≡ W.held sink.old }
+    ensures untouched { result ≡ Status.Memory → ¬ (HasRisen (W.wants sink.old) (W.wants sink.new))
+        → W.held sink.new ≡ W.held sink.old }
 {
     let Err(fault) = calc.finish() else {
         return if replies.is_clean() {
@@ -110,7 +120,8 @@ fn end_script<W: Sink>(calc: &mut Calc, replies: &mut Replies, sink: &mut W) -> 
 // The end of a run for want of memory: the replies to the lines before are written.
 fn give_up<W: Sink>(sink: &mut W, replies: &Replies) -> Status
     ensures status { (result ≡ Status.WriteFault) ⊎ (result ≡ Status.Memory) }
-    ensures partly { (count : ℕ) × (W.held sink.new ≡ append_known (W.held sink.old) (take count replies.now.bytes)) }
+    ensures partly { (count : ℕ) × (W.held sink.new ≡ append_known (W.held sink.old)
+        (take count replies.now.bytes)) }
     ensures whole { result ≡ Status.Memory → ¬ (HasRisen (W.wants sink.old) (W.wants sink.new))
         → W.held sink.new ≡ append_known (W.held sink.old) replies.now.bytes }
     ensures no_fewer { W.faults sink.old ≤ W.faults sink.new }
@@ -130,7 +141,8 @@ fn reply_to<L: Ledger>(
     steps: &mut Steps<L>,
     replies: &mut Replies,
 ) -> Result<(), Memory>
-    ensures answered { OnOk result ((reply : Reply) × Step calc.old line.now reply calc.new × (replies.new ≡ with_reply replies.old reply)) }
+    ensures answered { OnOk result ((reply : Reply) × Step calc.old line.now reply calc.new
+        × (replies.new ≡ with_reply replies.old reply)) }
     ensures wanting { OnErr result (replies.new ≡ replies.old) }
 {
     replies.add(take_step(calc, line, steps))

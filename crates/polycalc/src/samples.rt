@@ -19,9 +19,12 @@ pub fn write_sample<W: Sink, L: Ledger>(
     sink: &mut W,
     steps: &mut Steps<L>,
 ) -> Status
-    ensures outcome { (left : Option (List ℕ)) → Outcome (job.Sample n) [] left (W.held sink.old) (W.held sink.new) result }
-    ensures write_fault { result ≡ Status.WriteFault → HasRisen (W.faults sink.old) (W.faults sink.new) }
-    ensures untouched { result ≡ Status.Memory → ¬ (HasRisen (W.wants sink.old) (W.wants sink.new)) → W.held sink.new ≡ W.held sink.old }
+    ensures outcome { (left : Option (List ℕ))
+        → Outcome (job.Sample n) [] left (W.held sink.old) (W.held sink.new) result }
+    ensures write_fault { result ≡ Status.WriteFault
+        → HasRisen (W.faults sink.old) (W.faults sink.new) }
+    ensures untouched { result ≡ Status.Memory → ¬ (HasRisen (W.wants sink.old) (W.wants sink.new))
+        → W.held sink.new ≡ W.held sink.old }
 {
     let mut replies = Replies::new(alloc);
     let Ok(()) = replies.add(sampled(alloc, n, steps)) else {

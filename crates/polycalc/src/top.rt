@@ -41,36 +41,56 @@ pub fn polycalc<S: Source, W: Sink, L: Ledger>(
     // holds what it held and then the replies: of a run over the lines of all bytes, in which each
     // line that must succeed is answered, or to the file that all bytes are, which is converted where
     // it must be.
-    ensures answered { (job : AnyJob) (script before : List ℕ) → IsAskedBy words.now job → S.left source.old ≡ Some script → W.held sink.old ≡ Some before
-        → length script ≤ 2 ^ 26 → ¬ (HasRisen (S.faults source.old) (S.faults source.new)) → ¬ (HasRisen (W.faults sink.old) (W.faults sink.new))
+    ensures answered { (job : AnyJob) (script before : List ℕ) → IsAskedBy words.now job
+        → S.left source.old ≡ Some script → W.held sink.old ≡ Some before
+        → length script ≤ 2 ^ 26 → ¬ (HasRisen (S.faults source.old) (S.faults source.new))
+        → ¬ (HasRisen (W.faults sink.old) (W.faults sink.new))
         → result ≢ Status.Memory → IsAnswered job script before (W.held sink.new) result }
     // A sample asks only of the sink: it holds what it held and then the line of the sample, where it must
     // be answered, and nothing is read.
-    ensures sampled { (n : ℕ) (before : List ℕ) → IsAskedBy words.now (Sample n) → W.held sink.old ≡ Some before
-        → ¬ (HasRisen (W.faults sink.old) (W.faults sink.new)) → result ≢ Status.Memory → IsSampleAnswered n before (W.held sink.new) result }
+    ensures sampled { (n : ℕ) (before : List ℕ) → IsAskedBy words.now (Sample n)
+        → W.held sink.old ≡ Some before
+        → ¬ (HasRisen (W.faults sink.old) (W.faults sink.new)) → result ≢ Status.Memory
+        → IsSampleAnswered n before (W.held sink.new) result }
     ensures unread { (n : ℕ) → IsAskedBy words.now (Sample n) → source.new ≡ source.old }
     // What the job reads was read to its end and all replies were written; whether one of them is a fault or
     // an overflow.
-    ensures done { result ≡ Status.Done → Ends words.now (S.left source.old) (S.left source.new) (W.held sink.old) (W.held sink.new) true }
-    ensures refused { result ≡ Status.Refused → Ends words.now (S.left source.old) (S.left source.new) (W.held sink.old) (W.held sink.new) false }
+    ensures done { result ≡ Status.Done
+        → Ends words.now (S.left source.old) (S.left source.new) (W.held sink.old) (W.held sink.new)
+        true }
+    ensures refused { result ≡ Status.Refused
+        → Ends words.now (S.left source.old) (S.left source.new) (W.held sink.old) (W.held sink.new)
+        false }
     ensures usage { (result ≡ Status.Usage) ↔ ((job : AnyJob) → ¬ (IsAskedBy words.now job)) }
     ensures untouched { result ≡ Status.Usage → (source.new ≡ source.old) × (sink.new ≡ sink.old) }
-    ensures read_fault { result ≡ Status.ReadFault → HasRisen (S.faults source.old) (S.faults source.new) }
-    ensures write_fault { result ≡ Status.WriteFault → HasRisen (W.faults sink.old) (W.faults sink.new) }
+    ensures read_fault { result ≡ Status.ReadFault
+        → HasRisen (S.faults source.old) (S.faults source.new) }
+    ensures write_fault { result ≡ Status.WriteFault
+        → HasRisen (W.faults sink.old) (W.faults sink.new) }
     // It is too long exactly where the source gave more than so many bytes, and then no more is read.
-    ensures too_long { (given : List ℕ) × (S.left source.old ≡ prepend_known given (S.left source.new))
-        × ((result ≡ Status.InputTooLong) ↔ (2 ^ 26 < length given)) × (length given ≤ 2 ^ 26 + 2 ^ 16) }
+    ensures too_long { (given : List ℕ)
+        × (S.left source.old ≡ prepend_known given (S.left source.new))
+        × ((result ≡ Status.InputTooLong) ↔ (2 ^ 26 < length given))
+        × (length given ≤ 2 ^ 26 + 2 ^ 16) }
     // After a failed read all whole lines that the source gave are answered; of a file nothing is written.
-    ensures whole_lines { result ≡ Status.ReadFault → Stops words.now (S.left source.old) (S.left source.new) (W.held sink.old) (W.held sink.new) AnswersRead }
+    ensures whole_lines { result ≡ Status.ReadFault
+        → Stops words.now (S.left source.old) (S.left source.new) (W.held sink.old)
+        (W.held sink.new) AnswersRead }
     // Where the script is too long, those that it gave before the last read are.
-    ensures earlier_lines { result ≡ Status.InputTooLong → Stops words.now (S.left source.old) (S.left source.new) (W.held sink.old) (W.held sink.new) AnswersFront }
+    ensures earlier_lines { result ≡ Status.InputTooLong
+        → Stops words.now (S.left source.old) (S.left source.new) (W.held sink.old)
+        (W.held sink.new) AnswersFront }
     // Where memory was wanted elsewhere than at the sink, the lines before are answered, each with its whole reply; of a file
     // and of a sample nothing is written.
-    ensures lines_before { result ≡ Status.Memory → ¬ (HasRisen (W.wants sink.old) (W.wants sink.new))
-        → Stops words.now (S.left source.old) (S.left source.new) (W.held sink.old) (W.held sink.new) AnswersBefore }
+    ensures lines_before { result ≡ Status.Memory
+        → ¬ (HasRisen (W.wants sink.old) (W.wants sink.new))
+        → Stops words.now (S.left source.old) (S.left source.new) (W.held sink.old) (W.held sink.new)
+        AnswersBefore }
     // A front of the replies is written, whatever else went wrong.
-    ensures partly { (result ≡ Status.WriteFault) ⊎ (result ≡ Status.Memory) ⊎ (result ≡ Status.InputTooLong)
-        → Stops words.now (S.left source.old) (S.left source.new) (W.held sink.old) (W.held sink.new) WritesFront }
+    ensures partly { (result ≡ Status.WriteFault) ⊎ (result ≡ Status.Memory)
+        ⊎ (result ≡ Status.InputTooLong)
+        → Stops words.now (S.left source.old) (S.left source.new) (W.held sink.old) (W.held sink.new)
+        WritesFront }
 {
     runs_are_complete();
     match words.job() {
@@ -87,12 +107,16 @@ fn do_job<S: Source, W: Sink, L: Ledger>(
     sink: &mut W,
     steps: &mut Steps<L>,
 ) -> Status
-    ensures outcome { (given : List ℕ) × (S.left source.old ≡ prepend_known given (S.left source.new))
+    ensures outcome { (given : List ℕ)
+        × (S.left source.old ≡ prepend_known given (S.left source.new))
         × Outcome job given (S.left source.new) (W.held sink.old) (W.held sink.new) result }
-    ensures read_fault { result ≡ Status.ReadFault → HasRisen (S.faults source.old) (S.faults source.new) }
+    ensures read_fault { result ≡ Status.ReadFault
+        → HasRisen (S.faults source.old) (S.faults source.new) }
     ensures unread { (n : ℕ) → job ≡ Sample n → source.new ≡ source.old }
-    ensures write_fault { result ≡ Status.WriteFault → HasRisen (W.faults sink.old) (W.faults sink.new) }
-    ensures lines_before { result ≡ Status.Memory → ¬ (HasRisen (W.wants sink.old) (W.wants sink.new))
+    ensures write_fault { result ≡ Status.WriteFault
+        → HasRisen (W.faults sink.old) (W.faults sink.new) }
+    ensures lines_before { result ≡ Status.Memory
+        → ¬ (HasRisen (W.wants sink.old) (W.wants sink.new))
         → GivesUp job (S.left source.old) (S.left source.new) (W.held sink.old) (W.held sink.new) }
 {
     match job {

@@ -80,14 +80,16 @@ impl Words {
 
     // Whether the words are this one and one more.
     fn is_with_one(&self, word: &[u8]) -> bool
-        ensures { IsTrue result ↔ (length self.now ≡ 2) × (slice_index_or self.now 0 [] ≡ word.now) }
+        ensures { IsTrue result ↔ (length self.now ≡ 2)
+            × (slice_index_or self.now 0 [] ≡ word.now) }
     {
         self.len() == 2 && self.word(0) == word
     }
 
     // The number of the sample that the words ask for.
     fn sample(&self) -> Option<u32>
-        ensures { MatchOption result ((n : ℕ) → ¬ (IsAskedBy self.now (Sample n))) (λ n. IsAskedBy self.now (Sample n)) }
+        ensures { MatchOption result ((n : ℕ) → ¬ (IsAskedBy self.now (Sample n)))
+            (λ n. IsAskedBy self.now (Sample n)) }
     {
         if self.is_with_one(b"sample") {
             return size_of(self.word(1));

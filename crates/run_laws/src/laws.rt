@@ -98,12 +98,14 @@ pub fn accepted_is_unique()
 /// is open after it.
 #[tactic(auto, using(crate::proofs::StepLaws::refused_unchanged))]
 pub fn refusals_change_nothing()
-    ensures { (old : State) (line : List ℕ) (reply : Reply) (new : State) → Step old line reply new → is_answer reply ≡ false → new ≡ closed old.names }
+    ensures { (old : State) (line : List ℕ) (reply : Reply) (new : State) → Step old line reply new
+        → is_answer reply ≡ false → new ≡ closed old.names }
 {}
 
 /// In the table after a run no two entries have the same name.
 pub fn names_are_distinct()
-    ensures { (lines : List (List ℕ)) (replies : List Reply) (new : State) → Run (closed []) lines replies new → HasDistinctNames new.names }
+    ensures { (lines : List (List ℕ)) (replies : List Reply) (new : State)
+        → Run (closed []) lines replies new → HasDistinctNames new.names }
 {
     names_stay_distinct();
 }
