@@ -11,4 +11,4 @@ returns-in_ok-sample_line-in-Ok c = sample_told c.args.n c.args.made.now c.in-Ok
 pub returns-in_ok-shown-in-Err : goal.returns-in_ok-shown-in-Err
 returns-in_ok-shown-in-Err c =
     maximum_leaves c.args.n c.args.made.now c.in-Err.pair c.in_ok-shown-in-Err.field-0 c.requires c.in-Err.ensures.answer
-    (c.in_ok-shown-in-Err.ensures ∙ ap (λ (gs : Generators). shown_values c.in_ok-row.row gs c.in-Err.pair) c.gens.ensures.value ∙ ap (λ (row : List ℤ). shown_values row c.args.made.now.gens c.in-Err.pair) c.in_ok-row.ensures)
+    (c.in_ok-shown-in-Err.ensures ∙ ap (λ (gs : Generators). shown_values c.in_ok-row-in-Err.row gs c.in-Err.pair) c.gens.ensures.value ∙ ap (λ (row : List ℤ). shown_values row c.args.made.now.gens c.in-Err.pair) c.in_ok-row-in-Err.ensures)
