@@ -28,4 +28,4 @@ pub returns-in-Err-clause-step : goal.returns-in-Err-clause-step
 returns-in-Err-clause-step c =
     let name = c.args.name.now in
     let tested = subst (λ (s : State). IsTested (changed_part_of s.names name c.args.task) (entry_of s.names name) name (Err c.in-Err.cause)) c.self.view_is c.in-Err.ensures in
-    change_refused (changed_part_of c.args.self.now.names name c.args.task) _ name c.in-Err.cause c.args.self.now.names c.args.self.now.names refl tested
+    change_refused (changed_part_of c.args.self.now.names name c.args.task) (entry_of c.args.self.now.names name) name c.in-Err.cause c.args.self.now.names c.args.self.now.names refl tested
