@@ -116,7 +116,8 @@ fn push_bound(
     requires variable { variable < bounds.old.dim }
     requires in_range { IsFractionOf answer }
     ensures dim { bounds.new.dim ≡ bounds.old.dim }
-    ensures list { OnOk result (GainsBound up bounds.old.dim variable answer bounds.old.list bounds.new.list) }
+    ensures list { OnOk result (GainsBound up bounds.old.dim variable answer bounds.old.list
+        bounds.new.list) }
 {
     match answer {
         Sup::Empty => Ok(()),

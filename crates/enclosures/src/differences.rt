@@ -28,7 +28,8 @@ fn part<L: Ledger>(
     requires index { index < length cons.now.list }
     ensures points { IfOk result (IsPart p.now (constraint_at cons.now.list index)) }
     ensures kept { IfOk result IsKept }
-    ensures overflow { IfErr result (IsOverflowIn (LeavesOnPart p.now (constraint_at cons.now.list index))) }
+    ensures overflow { IfErr result
+        (IsOverflowIn (LeavesOnPart p.now (constraint_at cons.now.list index))) }
 {
     let one = one_of(alloc, cons, index)?;
     let made = p.add_cons(&one, steps)?;

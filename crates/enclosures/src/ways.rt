@@ -9,18 +9,6 @@ use cons_sys::{ConKind, ConsSys};
 use row_core::{Memory, RowBuf};
 use std::alloc::Global;
 
-/// Appends a primitive row, which is stored as it is.
-fn push_primitive(system: &mut ConsSys, row: &[i128], kind: ConKind) -> Result<(), Memory>
-    requires wide { length row.now ≡ system.old.dim + 1 }
-    requires in_range { AllInRange row.now }
-    requires primitive { IsPrimitive row.now }
-    ensures dim { system.new.dim ≡ system.old.dim }
-    ensures list { OnOk result (system.new.list ≡ system.old.list ++ (row.now, kind) ∷ []) }
-{
-    system.push(row, kind)?;
-    Ok(())
-}
-
 /// Appends the ways in which a constraint can fail.
 fn push_ways(alloc: Global, system: &mut ConsSys, row: &[i128], kind: ConKind) -> Result<(), Memory>
     requires wide { length row.now ≡ system.old.dim + 1 }
@@ -33,11 +21,11 @@ fn push_ways(alloc: Global, system: &mut ConsSys, row: &[i128], kind: ConKind) -
     let turned = RowBuf::negated(alloc, row)?;
     match kind {
         ConKind::Eq => {
-            push_primitive(system, row, ConKind::Gt)?;
-            push_primitive(system, turned.cells(), ConKind::Gt)
+            system.push_primitive(row, ConKind::Gt)?;
+            system.push_primitive(turned.cells(), ConKind::Gt)
         }
-        ConKind::Ge => push_primitive(system, turned.cells(), ConKind::Gt),
-        ConKind::Gt => push_primitive(system, turned.cells(), ConKind::Ge),
+        ConKind::Ge => system.push_primitive(turned.cells(), ConKind::Gt),
+        ConKind::Gt => system.push_primitive(turned.cells(), ConKind::Ge),
     }
 }
 
@@ -59,6 +47,6 @@ pub(crate) fn one_of(alloc: Global, cons: &ConsSys, index: usize) -> Result<Cons
     ensures list { IfOk result (λ system. system.list ≡ constraint_at cons.now.list index ∷ []) }
 {
     let mut system = ConsSys::new(alloc, cons.dim());
-    push_primitive(&mut system, cons.row(index), cons.kind(index))?;
+    system.push_primitive(cons.row(index), cons.kind(index))?;
     Ok(system)
 }
