@@ -27,7 +27,8 @@ fn push_direction(
     requires wide { length row.now ≡ directions.old.dim + 1 }
     requires in_range { AllInRange row.now }
     ensures dim { directions.new.dim ≡ directions.old.dim }
-    ensures list { OnOk result (GainsDirection directions.old.dim directions.old.list directions.new.list row.now kind) }
+    ensures list { OnOk result (GainsDirection directions.old.dim directions.old.list
+        directions.new.list row.now kind) }
 {
     let last = directions.dim();
     let mut direction = row.to_vec(alloc)?;

@@ -69,7 +69,8 @@ impl<E: Drop> Names<E> {
     /// Puts the entries in order, each under the name of the prefix and its number. A name that is
     /// there keeps its place, and new ones go last. After want of memory the table is as before.
     pub fn put_all(&mut self, prefix: &[u8], entries: Vec<E>) -> Result<(), Memory>
-        ensures ok { OnOk result (self.new ≡ put_each self.old (entries_numbered prefix.now 0 entries.items)) }
+        ensures ok { OnOk result (self.new
+            ≡ put_each self.old (entries_numbered prefix.now 0 entries.items)) }
         ensures err { OnErr result (self.new ≡ self.old) }
     {
         let entries = numbered_entries(self.alloc, prefix, entries)?;

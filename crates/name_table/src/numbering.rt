@@ -25,7 +25,8 @@ pub fn numbered_entries<E: Drop>(
     prefix: &[u8],
     entries: Vec<E>,
 ) -> Result<Vec<(Vec<u8>, E)>, Memory>
-    ensures { IfOk result (λ under. named under.items ≡ entries_numbered prefix.now 0 entries.items) }
+    ensures { IfOk result (λ under. named under.items
+        ≡ entries_numbered prefix.now 0 entries.items) }
 {
     let mut under = Vec::new(alloc);
     for entry in entries {

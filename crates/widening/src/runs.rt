@@ -22,8 +22,11 @@ fn round<T: Turns, L: Ledger>(
     steps: &mut Steps<L>,
 ) -> Result<bool, ConvErr>
     requires { IsTableOf (T.turns turns.now) table.old }
-    ensures round { IfOk result (λ changed. IsRound (T.turns turns.now) (T.turns turns.now).count table.old table.new) }
-    ensures falls { IfOk result (λ changed. MatchBool changed (total table.new.sets table.new.left < total table.old.sets table.old.left) (IsStable (T.turns turns.now) table.new)) }
+    ensures round { IfOk result (λ changed.
+        IsRound (T.turns turns.now) (T.turns turns.now).count table.old table.new) }
+    ensures falls { IfOk result (λ changed. MatchBool changed
+        (total table.new.sets table.new.left < total table.old.sets table.old.left)
+        (IsStable (T.turns turns.now) table.new)) }
     ensures overflow { IfErr result (IsOverflowIn (LeavesInRound (T.turns turns.now) table.old)) }
 {
     let mut changed = false;
@@ -52,11 +55,14 @@ pub fn run<T: Turns, L: Ledger>(
     steps: &mut Steps<L>,
 ) -> Result<Vec<Poly>, ConvErr>
     requires { AreSetsOf (T.turns turns.now).dim (T.turns turns.now).places initial.items }
-    ensures limit { IfOk result (λ sets. HasLimit (T.turns turns.now) initial.items delay sets.items) }
-    ensures sets { IfOk result (λ sets. AreSetsOf (T.turns turns.now).dim (T.turns turns.now).places sets.items) }
+    ensures limit { IfOk result (λ sets.
+        HasLimit (T.turns turns.now) initial.items delay sets.items) }
+    ensures sets { IfOk result (λ sets.
+        AreSetsOf (T.turns turns.now).dim (T.turns turns.now).places sets.items) }
     ensures includes_initial { IfOk result (λ sets. IncludeEach initial.items sets.items) }
     ensures taken { IfOk result (λ sets. AreTaken (T.turns turns.now) sets.items) }
-    ensures overflow { IfErr result (IsOverflowIn (LeavesInRun (T.turns turns.now) initial.items delay)) }
+    ensures overflow { IfErr result
+        (IsOverflowIn (LeavesInRun (T.turns turns.now) initial.items delay)) }
 {
     widening_includes();
     let _proper = turns.count();

@@ -42,7 +42,9 @@ pub trait Turns {
     ) -> Result<Option<Poly>, ConvErr>
         requires index { index < (turns self.now).count }
         requires sets { AreSetsOf (turns self.now).dim (turns self.now).places sets.now }
-        ensures found { IfOk result (λ o. (old : Polyhedron) → slice_get sets.now ((turns self.now).place index) ≡ Some old → IsFound ((turns self.now).Joins index sets.now) old o) }
+        ensures found { IfOk result (λ o. (old : Polyhedron)
+            → slice_get sets.now ((turns self.now).place index) ≡ Some old
+            → IsFound ((turns self.now).Joins index sets.now) old o) }
         ensures overflow { IfErr result (IsOverflowIn ((turns self.now).Leaves index sets.now)) };
 }
 
@@ -83,8 +85,11 @@ pub(crate) fn turn<T: Turns, L: Ledger>(
     requires table { IsTableOf (T.turns turns.now) table.old }
     requires index { index < (T.turns turns.now).count }
     ensures turn { IfOk result (λ changed. IsTurn (T.turns turns.now) index table.old table.new) }
-    ensures falls { IfOk result (λ changed. MatchBool changed (total table.new.sets table.new.left < total table.old.sets table.old.left) (table.new ≡ table.old)) }
-    ensures overflow { IfErr result (IsOverflowIn (LeavesInTurn (T.turns turns.now) index table.old)) }
+    ensures falls { IfOk result (λ changed. MatchBool changed
+        (total table.new.sets table.new.left < total table.old.sets table.old.left)
+        (table.new ≡ table.old)) }
+    ensures overflow { IfErr result
+        (IsOverflowIn (LeavesInTurn (T.turns turns.now) index table.old)) }
 {
     let place = turns.place(index);
     let joined = match turns.found(alloc, index, table.sets(), steps) {
