@@ -17,6 +17,8 @@ mod forms;
 #[cfg(test)]
 mod generator_systems;
 #[cfg(test)]
+mod large_steps;
+#[cfg(test)]
 mod printed_texts;
 #[cfg(test)]
 mod read_texts;
