@@ -60,17 +60,6 @@ pub(crate) fn has_crowded(
     false
 }
 
-/// Of how many rays one is looked at, a power of two: it counts for all of them.
-fn stride_of(rays: usize) -> usize
-    ensures { 0 < result }
-{
-    let mut stride = 1;
-    while stride <= rays / SAMPLE {
-        stride *= 2;
-    }
-    stride
-}
-
 /// How many rays the search for adjacent pairs is expected to look at, from the values of the rays on the
 /// row: one for each pair of a ray above the row and one below it, and part of all rays for each such pair
 /// of which both are 0 on more than one row above the least number, since only for those a third ray is
@@ -83,7 +72,8 @@ pub fn expected_looks(values: &[i128], zeros: &SatMatrix, least: usize) -> u64
     }
     let mut above = RayCount::NONE;
     let mut below = RayCount::NONE;
-    let stride = stride_of(values.len());
+    // Of so many rays one is looked at: it counts for all of them.
+    let stride = (values.len() / SAMPLE + 1).next_power_of_two();
     for ray in 0..values.len() {
         let is_seen = ray & (stride - 1) == 0;
         let crowded = if is_seen && is_crowded(zeros, ray, least) {

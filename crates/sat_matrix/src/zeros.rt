@@ -6,14 +6,6 @@ ghost use Rattle.sat_matrix.specs.TableSteps.{AreWithin, HasColumn, HasPairs, Ha
 
 use crate::matrix::SatMatrix;
 
-/// Whether a value is 0.
-#[inline]
-fn is_zero(value: i128) -> bool
-    ensures { result ≡ int_eq value (pos 0) }
-{
-    value == 0
-}
-
 /// Makes the last column true where the values are 0.
 pub fn mark_zeros(zeros: &mut SatMatrix, values: &[i128])
     requires columns { 0 < zeros.old.columns }
@@ -24,7 +16,7 @@ pub fn mark_zeros(zeros: &mut SatMatrix, values: &[i128])
 {
     let last = zeros.columns() - 1;
     for row in 0..values.len() {
-        zeros.set(row, last, is_zero(values[row]));
+        zeros.set(row, last, values[row] == 0);
     }
 }
 

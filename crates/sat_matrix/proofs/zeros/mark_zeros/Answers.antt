@@ -2,9 +2,9 @@ use Rattle.std.specs.Prelude.{◌≡◌, ℕ, ℤ, false, map, pos, refl}
 use Rattle.std.specs.Int.{w128}
 use Rattle.std.specs.Ordering.{int_eq}
 use Rattle.std.proofs.Common.{sym, subst, ◌∙◌, arith, rules, get_or}
-use Rattle.std.proofs.lemmas.Int.{to_z-of_z}
 use Rattle.std.proofs.lemmas.List.{get_or-map}
-use mir.Val.{SFits}
+use mir.Val.{of_z}
+use lib.Dec.{eqb}
 use Rattle.sat_matrix.proofs.TableLemmas.{IsColumnUpto, column_start, column_more, column_end, narrower, widened_count, last_of, large_set}
 use Rattle.sat_matrix.proofs.zeros.mark_zeros.Goals as goal
 
@@ -18,11 +18,10 @@ loop-row-init c = record {
 
 pub loop-row-preserved : goal.loop-row-preserved
 loop-row-preserved c =
-    let fits : SFits w128 (get_or c.args.values.now c.loop-row.row (pos 0)) = search rules in
-    let zero : c.is_zero.result ≡ int_eq (get_or c.args.values.now c.loop-row.row (pos 0)) (pos 0) = simp to_z-of_z at c.is_zero.ensures in
+    let zero : eqb (of_z w128 (get_or c.args.values.now c.loop-row.row (pos 0))) 0 ≡ int_eq (get_or c.args.values.now c.loop-row.row (pos 0)) (pos 0) = search rules in
     record {
       column = λ before wide.
-          column_more (map (λ (value : ℤ). int_eq value (pos 0)) c.args.values.now) before c.loop-row.zeros c.set.new.self _ c.loop-row.row c.is_zero.result (narrower before c.args.zeros.now wide c.columns-last.ensures.rectangular) (last_of before c.args.zeros.now _ wide c.columns-last.ensures.value) (omega (arith, c.requires.as_many, widened_count before c.args.zeros.now wide))
+          column_more (map (λ (value : ℤ). int_eq value (pos 0)) c.args.values.now) before c.loop-row.zeros c.set.new.self _ c.loop-row.row _ (narrower before c.args.zeros.now wide c.columns-last.ensures.rectangular) (last_of before c.args.zeros.now _ wide c.columns-last.ensures.value) (omega (arith, c.requires.as_many, widened_count before c.args.zeros.now wide))
           (zero ∙ sym (get_or-map (λ (value : ℤ). int_eq value (pos 0)) c.args.values.now c.loop-row.row (pos 0) false c.loop-row-test.true)) (c.loop-row.invariant.column before wide) c.set.ensures;
       kept = large_set c.args.zeros.now c.loop-row.zeros c.set.new.self c.loop-row.row _ c.loop-row.invariant.kept c.set.ensures;
     }

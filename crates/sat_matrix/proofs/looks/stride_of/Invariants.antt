@@ -1,8 +1,0 @@
-use Rattle.std.proofs.Common.{◌<◌, ◌-◌}
-use Rattle.sat_matrix.proofs.looks.stride_of.Given as goal
-
-abbrev pub invariant-loop-stride : goal.invariant-loop-stride
-invariant-loop-stride l = 0 < l.stride
-
-abbrev pub decreases-loop-stride : goal.decreases-loop-stride
-decreases-loop-stride l = l.rays - l.stride
