@@ -1,4 +1,4 @@
-use Rattle.std.proofs.Common.{subst, arith, below_more, sym, ℕ, List}
+use Rattle.std.proofs.Common.{subst, arith, below_more, sym, ◌∙◌, ℕ, List}
 use Rattle.std.proofs.lemmas.Bool.{false≢true}
 use Rattle.std.specs.Prelude.{IsTrue}
 use Rattle.sat_bits.specs.Places.{IsSubsetOfAnd}
@@ -22,3 +22,9 @@ loop-k-preserved c =
 
 pub returns : goal.returns
 returns c = (λ t. absurd (false≢true t), λ h. absurd (c.loop-k.invariant h.0 (let third : IsThirdRow c.args.rows.now c.args.i c.args.j h.0 = h.1 in omega (arith, third.row, c.len-k-end.ensures)) h.1))
+
+pub is_subset_of_and-requires-clause-second : goal.is_subset_of_and-requires-clause-second
+is_subset_of_and-requires-clause-second c = c.row_as_wide-second.ensures.wide ∙ sym c.row_as_wide-first.ensures.wide
+
+pub is_subset_of_and-requires-clause-third : goal.is_subset_of_and-requires-clause-third
+is_subset_of_and-requires-clause-third c = c.row_as_wide-row.ensures.wide ∙ sym c.row_as_wide-first.ensures.wide
