@@ -4,8 +4,8 @@ ghost use Rattle.poly_pair.specs.declared.topology.Topology.{Topology};
 ghost use Rattle.set_laws.specs.GeneratorLaws.{IsContained};
 ghost use Rattle.poly_pair.specs.TopologyLists.{AreGeneratorsFor};
 ghost use Rattle.poly_pair.specs.FirstLists.{LacksPoint};
-ghost use Rattle.poly_pair.specs.Polyhedra.{IsKept};
-ghost use Rattle.lattice_ops.specs.Sets.{HaveSamePoints, hull_work};
+ghost use Rattle.poly_pair.specs.Polyhedra.{IsKept, HaveSamePoints};
+ghost use Rattle.lattice_ops.specs.Sets.{hull_work};
 ghost use Rattle.lattice_ops.specs.Growing.{IsGrown, IsHullWith, IsGrownBy};
 ghost use Rattle.poly_pair.specs.Work.{Converts, added_gens};
 
