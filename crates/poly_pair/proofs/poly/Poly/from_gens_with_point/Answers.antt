@@ -1,5 +1,5 @@
-use Rattle.std.proofs.Common.{◌≡◌, ℕ, List, inr, sym, subst, arith}
-use Rattle.std.specs.Prelude.{IfOk}
+use Rattle.std.proofs.Common.{◌≡◌, ◌∙◌, ℕ, List, inr, sym, subst, arith}
+use Rattle.std.proofs.lemmas.Bool.{false≢true}
 use Rattle.std.proofs.lemmas.Result.{IfOk-weaker, err_from_is_err_and}
 use Rattle.row_core.specs.Lists.{Row}
 use Rattle.poly_pair.specs.TopologyLists.{list_width, generators_of}
@@ -26,7 +26,7 @@ from_vectors-requires-clause-list g c = record {
   same_dim = sym c.dim-2.ensures.value;
   kinds = c.requires.kinds;
   fit = c.dim-2.ensures.rows;
-  point = some_point c.args.gens.now.list (λ none. c.if-is_empty.false ((empty_list c.args.gens.now.list c.is_empty.result c.is_empty.ensures).1 none)) c.requires.point;
+  point = some_point c.args.gens.now.list (λ none. false≢true (sym c.if-is_empty.false ∙ (empty_list c.args.gens.now.list c.is_empty.result c.is_empty.ensures).1 none)) c.requires.point;
   listed = c.in_ok-vectors.ensures.rows;
 }
 
