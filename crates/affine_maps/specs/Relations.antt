@@ -1,4 +1,4 @@
-use Rattle.std.specs.Prelude.{◌≡◌, ◌≢◌, ◌↔◌, ⊤, ℕ, ◌+◌, ◌<◌, length, List, [], ◌∷◌, ◌++◌, take, drop, slice_set, ℤ, pos, neg_ℤ, ◌≤ℤ◌, ◌<ℤ◌}
+use Rattle.std.specs.Prelude.{◌≡◌, ◌≢◌, ◌⊎◌, ◌↔◌, ⊤, ℕ, ◌+◌, ◌<◌, length, Option, None, Result, List, [], ◌∷◌, ◌++◌, take, drop, slice_set, ℤ, pos, neg_ℤ, ◌≤ℤ◌, ◌<ℤ◌}
 use Rattle.std.specs.List.{range_with_len}
 use Rattle.std.proofs.Math.IntN.{◌*ℤ◌}
 use Rattle.row_core.specs.Vectors.{cell, dot, scale}
@@ -12,12 +12,14 @@ use Rattle.affine_maps.specs.declared.relations.ImageRel.{ImageRel}
 use Rattle.affine_maps.specs.declared.relations.ImageRel.TheVariants.{Eq, Ge, Le, Gt, Lt}
 use Rattle.row_core.specs.Points.{IsPoint}
 use Rattle.row_core.specs.declared.errors.Overflow.{Overflow}
+use Rattle.row_core.specs.declared.errors.ConvErr.{ConvErr}
 use Rattle.poly_pair.specs.declared.topology.Topology.{Topology}
 use Rattle.poly_pair.specs.declared.topology.Topology.TheVariants.{Nnc}
 use Rattle.poly_pair.specs.Polyhedra.{Polyhedron, IsOver}
+use Rattle.poly_pair.specs.Work.{cons_work, conv_overflow, overflow_in}
 use Rattle.mapped_systems.specs.Maps.{picked}
 use Rattle.mapped_systems.specs.MappedLists.{ArePulled}
-use Rattle.affine_maps.specs.Shadows.{IsStoredOfShadow, LeavesOnShadow}
+use Rattle.affine_maps.specs.Shadows.{IsStoredOfShadow, LeavesOnShadow, IsShadowConversion}
 
 -- the one number stands in the relation to the other
 abbrev pub Stands : ImageRel → ℤ → ℤ → Type 0
@@ -114,3 +116,18 @@ pub record IsStoredOfRelation (h : List ℤ → List ℤ) (columns : List ℕ) (
   pub extended : Constraints
   pub is_extended : IsExtended h rel expr den p.cons extended
   pub stored : IsStoredOfShadow p.topology (picked columns extended.dim) (length columns) extended result
+
+-- ---- what a call costs and shows
+-- the conversions of the list of the extended constraints and of that of their generators at the columns
+pub record IsRelationConversion (h : List ℤ → List ℤ) (columns : List ℕ) (rel : ImageRel) (expr : List ℤ)
+    (den : ℤ) (p : Polyhedron) (old new : ℕ) (over : Option Overflow) : Type 0 where
+  pub extended : Constraints
+  pub is_extended : IsExtended h rel expr den p.cons extended
+  pub conversion : IsShadowConversion (cons_work p.topology extended) p.topology
+    (picked columns extended.dim) (length columns) extended old new over
+
+-- a call that converts these, or nothing where memory runs out before the list is made
+abbrev pub ConvertsRelation : (List ℤ → List ℤ) → List ℕ → ImageRel → List ℤ → ℤ → Polyhedron → ℕ → ℕ → Result Polyhedron ConvErr → Type 0
+ConvertsRelation h columns rel expr den p old new result =
+    ((new ≡ old) × (overflow_in conv_overflow result ≡ None))
+    ⊎ IsRelationConversion h columns rel expr den p old new (overflow_in conv_overflow result)

@@ -1,10 +1,10 @@
 //! Polyhedra of generators of which one is a point.
-ghost use Rattle.std.specs.Prelude.{◌≤◌, IfOk, IfErr};
-ghost use Rattle.poly_pair.specs.TopologyLists.{AreGeneratorsFor, list_width, generators_of};
+ghost use Rattle.std.specs.Prelude.{◌≤◌, IfOk};
+ghost use Rattle.poly_pair.specs.TopologyLists.{AreGeneratorsFor};
 ghost use Rattle.poly_pair.specs.FirstLists.{LacksPoint};
 ghost use Rattle.poly_pair.specs.Polyhedra.{IsOfGenerators};
 ghost use Rattle.poly_pair.specs.Parts.{AreStoredOfGenerators};
-ghost use Rattle.poly_pair.specs.Refusals.{IsOverflowOn};
+ghost use Rattle.poly_pair.specs.Work.{Converts, gens_work};
 ghost use Rattle.poly_pair.specs.declared.topology.TheConstants.{MAX_DIM};
 
 use gens_sys::GensSys;
@@ -29,9 +29,7 @@ pub(crate) fn generated<L: Ledger>(
     requires point { ¬ (LacksPoint gens.now.list) }
     ensures points { IfOk result (IsOfGenerators topology gens.now) }
     ensures stored { IfOk result (AreStoredOfGenerators topology gens.now) }
-    ensures overflow { IfErr result (IsOverflowOn (list_width topology gens.now.dim) gens.now.dim
-        (generators_of topology gens.now)) }
-    ensures no_fewer { steps.old ≤ steps.new }
+    ensures conversion { Converts (gens_work topology gens.now) steps.old steps.new result }
 {
     match Poly::from_gens(alloc, topology, gens, steps) {
         Ok(p) => Ok(p),

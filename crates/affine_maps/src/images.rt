@@ -1,8 +1,10 @@
 //! Images and preimages by a relation between a variable and an expression.
-ghost use Rattle.std.specs.Prelude.{◌≡◌, ◌+◌, ◌<◌, ◌≤◌, ◌⊎◌, length, pos, ◌<ℤ◌, IfOk, IfErr};
+ghost use Rattle.std.specs.Prelude.{◌≡◌, ◌≢◌, ◌+◌, ◌<◌, ◌≤◌, ◌⊎◌, length, pos, ◌<ℤ◌, IfOk, IfErr};
+ghost use Rattle.std.specs.List.{range_with_len};
 ghost use Rattle.row_core.specs.Range.{InRange, AllInRange};
+ghost use Rattle.mapped_systems.specs.Maps.{with_zeros};
 ghost use Rattle.affine_maps.specs.SubstitutedSets.{IsSubstitutedImage, IsSubstitutedPreimage, IsStoredOfSubstituted, IsStoredOfPulledBack};
-ghost use Rattle.affine_maps.specs.Relations.{IsRelationFor, IsImageBy, IsPreimageBy};
+ghost use Rattle.affine_maps.specs.Relations.{IsRelationFor, IsImageBy, IsPreimageBy, moved, image_columns, ConvertsRelation};
 ghost use Rattle.affine_maps.specs.ImageResults.{IsStoredOfImage, LeavesInImageBy, IsStoredOfPreimage, LeavesInPreimageBy};
 ghost use Rattle.row_core.specs.Refusals.{IsOverflowIn};
 ghost use Rattle.mapped_systems.specs.Refusals.{SomeLeavesInImage, SomeLeavesInPullback};
@@ -85,6 +87,8 @@ pub fn image<L: Ledger>(
     ensures stored { IfOk result (IsStoredOfImage rel var expr.now den p.now) }
     ensures overflow { IfErr result (IsOverflowIn (LeavesInImageBy rel var expr.now den p.now)) }
     ensures no_fewer { steps.old ≤ steps.new }
+    ensures conversion { rel ≢ ImageRel.Eq → ConvertsRelation (with_zeros p.now.cons.dim 1)
+        (image_columns p.now.cons.dim var) rel expr.now den p.now steps.old steps.new result }
 {
     if rel == ImageRel::Eq {
         return substituted_image(alloc, p, var, expr, den, steps);
@@ -159,6 +163,8 @@ pub fn preimage<L: Ledger>(
     ensures stored { IfOk result (IsStoredOfPreimage rel var expr.now den p.now) }
     ensures overflow { IfErr result (IsOverflowIn (LeavesInPreimageBy rel var expr.now den p.now)) }
     ensures no_fewer { steps.old ≤ steps.new }
+    ensures conversion { rel ≢ ImageRel.Eq → ConvertsRelation (moved p.now.cons.dim var)
+        (range_with_len 0 p.now.cons.dim) rel expr.now den p.now steps.old steps.new result }
 {
     if rel == ImageRel::Eq {
         return substituted_preimage(alloc, p, var, expr, den, steps);

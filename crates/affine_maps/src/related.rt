@@ -1,12 +1,11 @@
 //! Images and preimages by a relation that isn't an equation, by one more variable.
-ghost use Rattle.std.specs.Prelude.{◌≡◌, ◌+◌, ◌-◌, ◌^◌, ◌<◌, ◌≤◌, length, IfOk, IfErr};
+ghost use Rattle.std.specs.Prelude.{◌≡◌, ◌+◌, ◌-◌, ◌^◌, ◌<◌, ◌≤◌, length, IfOk};
 ghost use Rattle.std.specs.List.{range_with_len};
 ghost use Rattle.row_core.specs.Range.{InRange, AllInRange};
 ghost use Rattle.cons_sys.specs.Constraints.{Gains, FitDimension};
 ghost use Rattle.mapped_systems.specs.Maps.{with_zeros};
 ghost use Rattle.mapped_systems.specs.MappedLists.{IsPulledSystem};
-ghost use Rattle.row_core.specs.Refusals.{IsOverflowIn};
-ghost use Rattle.affine_maps.specs.Relations.{with_entry, moved, relation_row, relation_kind, image_columns, IsRelationFor, IsImageBy, IsPreimageBy, IsStoredOfRelation, LeavesOnRelation};
+ghost use Rattle.affine_maps.specs.Relations.{with_entry, moved, relation_row, relation_kind, image_columns, IsRelationFor, IsImageBy, IsPreimageBy, IsStoredOfRelation, ConvertsRelation};
 
 use crate::relations::ImageRel;
 use crate::shadows::shadow;
@@ -127,9 +126,8 @@ pub(crate) fn related_image<L: Ledger>(
     ensures points { IfOk result (IsImageBy rel var expr.now den p.now) }
     ensures stored { IfOk result (IsStoredOfRelation (with_zeros p.now.cons.dim 1)
         (image_columns p.now.cons.dim var) rel expr.now den p.now) }
-    ensures overflow { IfErr result (IsOverflowIn (LeavesOnRelation (with_zeros p.now.cons.dim 1)
-        (image_columns p.now.cons.dim var) rel expr.now den p.now)) }
-    ensures no_fewer { steps.old ≤ steps.new }
+    ensures conversion { ConvertsRelation (with_zeros p.now.cons.dim 1)
+        (image_columns p.now.cons.dim var) rel expr.now den p.now steps.old steps.new result }
 {
     let dim = p.dim();
     let front = padded_constraints(alloc, p.cons(), dim, 1)?;
@@ -205,9 +203,8 @@ pub(crate) fn related_preimage<L: Ledger>(
     ensures points { IfOk result (IsPreimageBy rel var expr.now den p.now) }
     ensures stored { IfOk result (IsStoredOfRelation (moved p.now.cons.dim var)
         (range_with_len 0 p.now.cons.dim) rel expr.now den p.now) }
-    ensures overflow { IfErr result (IsOverflowIn (LeavesOnRelation (moved p.now.cons.dim var)
-        (range_with_len 0 p.now.cons.dim) rel expr.now den p.now)) }
-    ensures no_fewer { steps.old ≤ steps.new }
+    ensures conversion { ConvertsRelation (moved p.now.cons.dim var)
+        (range_with_len 0 p.now.cons.dim) rel expr.now den p.now steps.old steps.new result }
 {
     let dim = p.dim();
     let front = moved_constraints(alloc, p.cons(), var)?;

@@ -6,7 +6,7 @@ ghost use Rattle.mapped_systems.specs.Maps.{with_zeros, without, remaining, kept
 ghost use Rattle.dimensions.specs.AddedVariables.{LeavesWithZeros};
 ghost use Rattle.dimensions.specs.Results.{IsImage, IsPreimage, IsProjection, IsProduct, IsStoredOfMapped, IsStoredOfPulled, IsStoredOfJoined};
 ghost use Rattle.row_core.specs.Refusals.{IsOverflowIn};
-ghost use Rattle.dimensions.specs.Refusals.{LeavesOnMapped, LeavesOnPulled, LeavesOnJoined};
+ghost use Rattle.dimensions.specs.Refusals.{LeavesOnMapped, LeavesOnPulled, ConvertsMapped, ConvertsJoined};
 
 use crate::added_variables::{embedded_pair, projected_pair};
 use crate::generated::generated;
@@ -94,9 +94,8 @@ pub fn remove_dims<L: Ledger>(
         (length (kept_variables p.now.cons.dim vars.now)) p.now) }
     ensures stored { IfOk result (IsStoredOfMapped (remaining p.now.cons.dim vars.now)
         (length (kept_variables p.now.cons.dim vars.now)) p.now) }
-    ensures overflow { IfErr result (IsOverflowIn (LeavesOnMapped (remaining p.now.cons.dim
-        vars.now) (length (kept_variables p.now.cons.dim vars.now)) p.now)) }
-    ensures no_fewer { steps.old ≤ steps.new }
+    ensures conversion { ConvertsMapped (remaining p.now.cons.dim vars.now)
+        (length (kept_variables p.now.cons.dim vars.now)) p.now steps.old steps.new result }
 {
     let remaining = remaining_generators(alloc, p.gens(), vars)?;
     generated(alloc, p.topology(), &remaining, steps)
@@ -117,8 +116,7 @@ pub fn concat<L: Ledger>(
     requires narrow { p.now.cons.dim + q.now.cons.dim ≤ MAX_DIM }
     ensures points { IfOk result (IsProduct p.now q.now) }
     ensures stored { IfOk result (IsStoredOfJoined p.now q.now) }
-    ensures overflow { IfErr result (IsOverflowIn (LeavesOnJoined p.now q.now)) }
-    ensures no_fewer { steps.old ≤ steps.new }
+    ensures conversion { ConvertsJoined p.now q.now steps.old steps.new result }
 {
     let joined = joined_constraints(alloc, p.cons(), q.cons())?;
     Poly::from_cons(alloc, p.topology(), &joined, steps)

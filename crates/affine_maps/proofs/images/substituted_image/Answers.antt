@@ -10,6 +10,7 @@ use Rattle.poly_pair.specs.TopologyLists.{list_width, generators_of}
 use Rattle.poly_pair.specs.Refusals.{IsOverflowOn}
 use Rattle.poly_pair.specs.Polyhedra.{Polyhedron, IsOfGenerators}
 use Rattle.poly_pair.proofs.StoredLemmas.{kept_dim}
+use Rattle.poly_pair.proofs.WorkLemmas.{overflow_clause}
 use Rattle.mapped_systems.specs.Maps.{substituted}
 use Rattle.mapped_systems.specs.MappedLists.{IsMappedSystem}
 use Rattle.row_core.specs.Vectors.{cell}
@@ -55,7 +56,7 @@ returns-clause-overflow g c =
     let pair = simp to_z-of_z at none in
     IfErr-weaker c.generated.result (IsOverflowOn (list_width c.topology.result new.dim) new.dim (generators_of c.topology.result new)) (IsOverflowIn (λ over. SomeLeavesInImage c.args.var c.args.expr.now c.args.den p.gens.list over ⊎ LeavesOnSubstituted c.args.var c.args.expr.now c.args.den p over))
     (λ e l. either_overflow (SomeLeavesInImage c.args.var c.args.expr.now c.args.den p.gens.list) (LeavesOnSubstituted c.args.var c.args.expr.now c.args.den p) e (mapped_overflow c.args.var c.args.expr.now c.args.den p new c.topology.result c.topology.ensures.value m pair e l))
-    c.generated.ensures.overflow
+    (overflow_clause _ _ _ c.generated.result c.generated.ensures.conversion)
 
 pub returns-in-Some-clause-points : goal.returns-in-Some-clause-points
 returns-in-Some-clause-points g c =

@@ -1,17 +1,17 @@
 use Rattle.std.specs.Int.{w128}
 use Rattle.std.proofs.lemmas.Int.{to_z-of_z}
 use mir.Val.{SFits, to_z, of_z}
-use Rattle.std.proofs.Common.{◌≡◌, ℤ, ℕ, List, ◌<◌, length, sym, subst, ap, ◌∙◌, arith, All}
-use Rattle.std.proofs.lemmas.Result.{IfOk-weaker, IfErr-weaker}
+use Rattle.std.proofs.Common.{◌≡◌, ℤ, ℕ, List, ◌<◌, length, inl, inr, refl, sym, subst, ap, ◌∙◌, arith, All}
+use Rattle.std.proofs.lemmas.Result.{IfOk-weaker, err_from_is_err_and}
 use Rattle.row_core.specs.Range.{InRange}
 use Rattle.cons_sys.specs.Constraints.{Constraints}
 use Rattle.mapped_systems.specs.Maps.{picked}
-use Rattle.row_core.specs.Refusals.{IsOverflowIn}
-use Rattle.affine_maps.specs.Shadows.{IsShadow, IsStoredOfShadow, LeavesOnShadow}
-use Rattle.affine_maps.specs.Relations.{moved, IsPreimageBy, IsStoredOfRelation, LeavesOnRelation}
+use Rattle.poly_pair.specs.Work.{conv_overflow, overflow_in}
+use Rattle.affine_maps.specs.Shadows.{IsShadow, IsStoredOfShadow}
+use Rattle.affine_maps.specs.Relations.{moved, IsPreimageBy, IsStoredOfRelation}
 use Rattle.std.specs.List.{range_with_len}
 use Rattle.std.proofs.lemmas.List.FromFn.{length-range_with_len}
-use Rattle.affine_maps.proofs.RelatedResults.{front_below, extended_kinds, lent_moved, lent_preimage, preimage_overflow, relation_stored}
+use Rattle.affine_maps.proofs.RelatedResults.{front_below, extended_kinds, lent_moved, lent_preimage, relation_conversion, relation_stored}
 use Rattle.affine_maps.proofs.related.related_preimage.Goals as goal
 
 told : (z : ℤ) → SFits w128 z → to_z w128 (of_z w128 z) ≡ z
@@ -47,16 +47,23 @@ returns-clause-points g c =
     (lent_preimage p c.args.rel c.args.var c.args.expr.now c.args.den all c.topology.result js c.topology.ensures.value columns c.requires.var c.requires.wide c.cons.result.now c.cons.ensures.value c.in_ok-front.ensures.fit is)
     c.shadow.ensures.points
 
-pub returns-clause-overflow : goal.returns-clause-overflow
-returns-clause-overflow g c =
+pub returns-clause-conversion : goal.returns-clause-conversion
+returns-clause-conversion g c =
     let p = c.args.p.now in
     let all = c.in_ok-all.all in
     let js = c.deref.result.now in
     let columns = c.deref.ensures.value ∙ c.in_ok-columns.ensures ∙ ap (range_with_len 0) c.dim-dim.ensures.value in
     let is = lent_moved (λ n. moved n c.args.var) p c.cons.result.now c.dim-dim.result c.cons.ensures.value c.dim-dim.ensures.value c.args.rel c.args.expr.now c.args.den (to_z w128 (of_z w128 c.args.den)) (told c.args.den c.ranges.den) c.in_ok-front.front all c.in_ok-front.ensures.system c.in_ok-all.ensures.dim c.in_ok-all.ensures.list in
-    IfErr-weaker c.shadow.result (IsOverflowIn (LeavesOnShadow c.topology.result (picked js all.dim) (length js) all)) (IsOverflowIn (LeavesOnRelation (moved p.cons.dim c.args.var) (range_with_len 0 p.cons.dim) c.args.rel c.args.expr.now c.args.den p))
-    (preimage_overflow p c.args.rel c.args.var c.args.expr.now c.args.den all c.topology.result js c.topology.ensures.value columns is)
-    c.shadow.ensures.overflow
+    inr (relation_conversion (moved p.cons.dim c.args.var) (range_with_len 0 p.cons.dim) c.args.rel c.args.expr.now c.args.den p js all c.topology.result c.args.steps.now c.shadow.new.steps (overflow_in conv_overflow c.shadow.result) c.topology.ensures.value columns is c.shadow.ensures.conversion)
+
+pub returns-in_err-front-clause-conversion : goal.returns-in_err-front-clause-conversion
+returns-in_err-front-clause-conversion g c = let p = err_from_is_err_and c.from_residual.result c.from_residual.ensures.1 in rw (p.1, p.2) (inl (refl, refl))
+
+pub returns-in_err-all-clause-conversion : goal.returns-in_err-all-clause-conversion
+returns-in_err-all-clause-conversion g c = let p = err_from_is_err_and c.from_residual-in_err-all.result c.from_residual-in_err-all.ensures.1 in rw (p.1, p.2) (inl (refl, refl))
+
+pub returns-in_err-columns-clause-conversion : goal.returns-in_err-columns-clause-conversion
+returns-in_err-columns-clause-conversion g c = let p = err_from_is_err_and c.from_residual-in_err-columns.result c.from_residual-in_err-columns.ensures.1 in rw (p.1, p.2) (inl (refl, refl))
 
 pub returns-clause-stored : goal.returns-clause-stored
 returns-clause-stored g c =

@@ -2,14 +2,11 @@ use Rattle.std.proofs.Common.{◌+◌, refl, subst}
 use Rattle.std.specs.Prelude.{⊤, Option, MatchOption}
 use Rattle.std.proofs.lemmas.Result.{IfOk-weaker, IfErr-weaker}
 use Rattle.gens_sys.specs.Generators.{FitDimension}
-use Rattle.poly_pair.specs.TopologyLists.{list_width, generators_of}
-use Rattle.poly_pair.specs.Refusals.{IsOverflowOn}
 use Rattle.poly_pair.specs.Polyhedra.{Polyhedron, IsOfGenerators}
 use Rattle.mapped_systems.specs.Maps.{with_zeros}
 use Rattle.mapped_systems.specs.MappedLists.{IsMappedSystem}
 use Rattle.dimensions.specs.Results.{IsProjection}
 use Rattle.row_core.specs.Refusals.{IsOverflowIn}
-use Rattle.dimensions.specs.Refusals.{LeavesOnMapped}
 use Rattle.mapped_systems.proofs.LinearMaps.{padding_linear}
 use Rattle.poly_pair.specs.Starts.{CanStart}
 use Rattle.mapped_systems.proofs.StoredPairs.{at_none, always_in, any_error}
@@ -42,9 +39,7 @@ returns-clause-overflow g c =
     let p = c.args.p.now in
     let new = c.in_ok-padded.padded in
     let m : IsMappedSystem (with_zeros p.cons.dim c.args.count) (p.cons.dim + c.args.count) p.gens c.in_ok-padded.padded = lent_generators (λ n. with_zeros n c.args.count) (λ n. n + c.args.count) p c.gens.result.now c.in_ok-padded.padded c.gens.ensures.value c.gens.ensures.kept c.in_ok-padded.ensures.system in
-    IfErr-weaker c.generated.result (IsOverflowOn (list_width c.topology.result new.dim) new.dim (generators_of c.topology.result new)) (IsOverflowIn (LeavesOnMapped (with_zeros p.cons.dim c.args.count) (p.cons.dim + c.args.count) p))
-    (λ e l. mapped_overflow (with_zeros p.cons.dim c.args.count) (p.cons.dim + c.args.count) p new c.topology.result c.topology.ensures.value m e l)
-    c.generated.ensures.overflow
+    mapped_overflow (with_zeros p.cons.dim c.args.count) (p.cons.dim + c.args.count) p new c.topology.result _ _ c.generated.result c.topology.ensures.value m c.generated.ensures.conversion
 
 pub returns-in-Some-clause-points : goal.returns-in-Some-clause-points
 returns-in-Some-clause-points g c =
