@@ -37,14 +37,16 @@ pub record LeavesOnSteps (p relation : Polyhedron) (over : Overflow) : Type 0 wh
 
 -- ---- what a call costs and shows
 -- the conversion of the list of a relation's constraints and then a set's, from the stored pair of the relation, and then that of their successors
-pub record IsStepConversion (p relation : Polyhedron) (old new : ℕ) (over : Option Overflow) : Type 0 where
+pub record IsStepConversion (p relation : Polyhedron) (old new : ℕ)
+    (over : Option Overflow) : Type 0 where
   pub steps : Constraints
   pub are_steps : IsStepSystem p.cons relation.cons steps
   pub conversion : IsShadowConversion (begun_cons relation steps) Closed
     (picked (later p.cons.dim) steps.dim) p.cons.dim steps old new over
 
 -- the first alone
-pub record IsFirstStepConversion (p relation : Polyhedron) (old new : ℕ) (over : Option Overflow) : Type 0 where
+pub record IsFirstStepConversion (p relation : Polyhedron) (old new : ℕ)
+    (over : Option Overflow) : Type 0 where
   pub steps : Constraints
   pub are_steps : IsStepSystem p.cons relation.cons steps
   pub conversion : IsFirstConversion (begun_cons relation steps) old new over
@@ -56,7 +58,8 @@ ConvertsSteps p relation old new result =
     ⊎ IsStepConversion p relation old new (overflow_in conv_overflow result)
 
 -- one that gives generators
-abbrev pub ConvertsFirstSteps : Polyhedron → Polyhedron → ℕ → ℕ → Result (Option Generators) ConvErr → Type 0
+abbrev pub ConvertsFirstSteps : Polyhedron → Polyhedron → ℕ → ℕ → Result (Option Generators) ConvErr
+    → Type 0
 ConvertsFirstSteps p relation old new result =
     ((new ≡ old) × (overflow_in conv_overflow result ≡ None))
     ⊎ IsFirstStepConversion p relation old new (overflow_in conv_overflow result)

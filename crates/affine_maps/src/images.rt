@@ -50,7 +50,7 @@ fn substituted_image<L: Ledger>(
         Ok(mapped) => mapped,
         Err(cause) => return Err(cause),
     };
-    if let Some(image) = carried_image(alloc, p, var, expr, den, &mapped, steps)? {
+    if let Some(image) = carried_image(p, var, expr, den, &mapped, steps)? {
         return Ok(image);
     }
     generated(alloc, p.topology(), &mapped, steps)
@@ -93,7 +93,7 @@ pub fn image<L: Ledger>(
     if rel == ImageRel::Eq {
         return substituted_image(alloc, p, var, expr, den, steps);
     }
-    related_image(alloc, p, var, rel, expr, den, steps)
+    related_image(p, var, rel, expr, den, steps)
 }
 
 /// The points that are in a set once a variable is replaced by the expression over the divisor. The rows of the
@@ -126,7 +126,7 @@ fn substituted_preimage<L: Ledger>(
         Ok(pulled) => pulled,
         Err(cause) => return Err(cause),
     };
-    if let Some(preimage) = carried_preimage(alloc, p, var, expr, den, &pulled, steps)? {
+    if let Some(preimage) = carried_preimage(p, var, expr, den, &pulled, steps)? {
         return Ok(preimage);
     }
     Poly::from_cons(alloc, p.topology(), &pulled, steps)
@@ -169,5 +169,5 @@ pub fn preimage<L: Ledger>(
     if rel == ImageRel::Eq {
         return substituted_preimage(alloc, p, var, expr, den, steps);
     }
-    related_preimage(alloc, p, var, rel, expr, den, steps)
+    related_preimage(p, var, rel, expr, den, steps)
 }

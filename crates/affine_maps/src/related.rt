@@ -110,7 +110,6 @@ fn image_columns(alloc: Global, dim: usize, var: usize) -> Result<Vec<usize>, Me
 /// An overflow is one of the conversion of the list of the constraints with one more variable, or of that of their
 /// generators where this variable has taken the place of the one, or of the second list of the latter.
 pub(crate) fn related_image<L: Ledger>(
-    alloc: Global,
     p: &Poly,
     var: usize,
     rel: ImageRel,
@@ -130,7 +129,9 @@ pub(crate) fn related_image<L: Ledger>(
         (image_columns p.now.cons.dim var) rel expr.now den p.now steps.old steps.new result }
 {
     let dim = p.dim();
-    let front = padded_constraints(alloc, p.cons(), dim, 1)?;
+    let cons = p.cons();
+    let alloc = cons.allocator();
+    let front = padded_constraints(alloc, cons, dim, 1)?;
     let all = extended(alloc, front, dim, rel, expr, den)?;
     let columns = image_columns(alloc, dim, var)?;
     shadow(alloc, p.topology(), &all, &columns, steps)
@@ -187,7 +188,6 @@ fn front_columns(alloc: Global, dim: usize) -> Result<Vec<usize>, Memory>
 /// An overflow is one of the conversion of the list of the constraints with one more variable in the place of the one,
 /// or of that of their generators without it, or of the second list of the latter.
 pub(crate) fn related_preimage<L: Ledger>(
-    alloc: Global,
     p: &Poly,
     var: usize,
     rel: ImageRel,
@@ -207,7 +207,9 @@ pub(crate) fn related_preimage<L: Ledger>(
         (range_with_len 0 p.now.cons.dim) rel expr.now den p.now steps.old steps.new result }
 {
     let dim = p.dim();
-    let front = moved_constraints(alloc, p.cons(), var)?;
+    let cons = p.cons();
+    let alloc = cons.allocator();
+    let front = moved_constraints(alloc, cons, var)?;
     let all = extended(alloc, front, dim, rel, expr, den)?;
     let columns = front_columns(alloc, dim)?;
     shadow(alloc, p.topology(), &all, &columns, steps)

@@ -16,7 +16,8 @@ use Rattle.elapse.specs.Directions.{AreDirections}
 -- the time elapse of the one by the other: the points at which each constraint of the topology holds that holds at all x + t*y
 pub record IsElapse (p q result : Polyhedron) : Type 0 where
   pub over : IsOver p.topology p.cons.dim result
-  pub points : (v : List ℤ) → IsPoint p.cons.dim v → In result.cons v ↔ IsInElapse p.topology p.cons q.cons v
+  pub points : (v : List ℤ) → IsPoint p.cons.dim v → In result.cons v
+      ↔ IsInElapse p.topology p.cons q.cons v
 
 -- the generators of the one, and then the directions
 abbrev pub followed : Generators → List Generator → Generators
@@ -51,7 +52,8 @@ pub record LeavesOnElapse (p q : Polyhedron) (over : Overflow) : Type 0 where
   pub leaves : LeavesOn (list_width p.topology p.gens.dim) p.gens.dim rows over
 
 -- what the conversion of that list, or of its second list, costs and shows
-pub record IsElapseConversion (p q : Polyhedron) (old new : ℕ) (over : Option Overflow) : Type 0 where
+pub record IsElapseConversion (p q : Polyhedron) (old new : ℕ)
+    (over : Option Overflow) : Type 0 where
   pub some : ¬ (p.gens.list ≡ [])
   pub moving : ¬ (q.gens.list ≡ [])
   pub directions : List Generator
