@@ -36,7 +36,7 @@ fn by_branches<L: Ledger>(
         row: 0,
     })?;
     while let Some(piece) = pending.pop() {
-        let found = turn(alloc, systems, piece, &mut pending, steps)?;
+        let found = turn(systems, piece, &mut pending, steps)?;
         if found.is_some() {
             return Ok(found);
         }

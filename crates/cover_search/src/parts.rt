@@ -20,7 +20,6 @@ pub(crate) struct Part {
 
 /// Appends the part of a set on which an inequality of the system doesn't hold.
 fn push_outside<L: Ledger>(
-    alloc: Global,
     walls: &Walls,
     index: usize,
     region: Region,
@@ -33,7 +32,8 @@ fn push_outside<L: Ledger>(
     ensures { OnOk result
         (IsPushed walls.now index region numbers.now pending.old.items pending.new.items) }
 {
-    let region = region.outside(alloc, walls, index, steps)?;
+    let alloc = region.allocator();
+    let region = region.outside(walls, index, steps)?;
     let met = Vec::from_slice(alloc, numbers)?;
     pending.push(Part { region, met })?;
     Ok(())
@@ -42,7 +42,6 @@ fn push_outside<L: Ledger>(
 /// What is left of a set behind an inequality of the system: all of it where that is seen to hold on it. Else the part
 /// on which it doesn't hold is appended, and the other is left.
 fn rest_of<L: Ledger>(
-    alloc: Global,
     walls: &Walls,
     index: usize,
     region: Region,
@@ -60,13 +59,12 @@ fn rest_of<L: Ledger>(
         return Ok(region);
     }
     let copy = region.copied()?;
-    push_outside(alloc, walls, index, copy, numbers, pending, steps)?;
-    region.inside(alloc, walls, index, steps)
+    push_outside(walls, index, copy, numbers, pending, steps)?;
+    region.inside(walls, index, steps)
 }
 
 /// Appends the parts of a set outside of the system, whose inequalities behind number `last` hold on the set.
 fn part_by<L: Ledger>(
-    alloc: Global,
     walls: &Walls,
     last: usize,
     region: Region,
@@ -83,15 +81,14 @@ fn part_by<L: Ledger>(
 {
     let mut rest = region;
     for index in 0..last {
-        rest = rest_of(alloc, walls, index, rest, numbers, pending, steps)?;
+        rest = rest_of(walls, index, rest, numbers, pending, steps)?;
     }
-    push_outside(alloc, walls, last, rest, numbers, pending, steps)?;
+    push_outside(walls, last, rest, numbers, pending, steps)?;
     Ok(())
 }
 
 /// Appends the parts of a set outside of the system of a cut.
 fn cut_by<L: Ledger>(
-    alloc: Global,
     systems: &[Walls],
     cut: Cut,
     region: Region,
@@ -107,14 +104,13 @@ fn cut_by<L: Ledger>(
         (IsCutBy systems.now cut region numbers.now pending.old.items pending.new.items) }
 {
     let walls = &systems[cut.system];
-    part_by(alloc, walls, cut.last, region, numbers, pending, steps)?;
+    part_by(walls, cut.last, region, numbers, pending, steps)?;
     Ok(())
 }
 
 /// Follows a plan: appends the parts outside of the system that comes next. Without one the point is given.
 #[tactic(auto, using(crate::proofs::PartLemmas::next_cut, crate::proofs::PartLemmas::next_below))]
 fn follow<L: Ledger>(
-    alloc: Global,
     systems: &[Walls],
     plan: Plan,
     region: Region,
@@ -131,7 +127,7 @@ fn follow<L: Ledger>(
     match plan.next {
         None => Ok(Some(point)),
         Some(cut) => {
-            cut_by(alloc, systems, cut, region, &plan.met, pending, steps)?;
+            cut_by(systems, cut, region, &plan.met, pending, steps)?;
             Ok(None)
         }
     }
@@ -159,7 +155,7 @@ fn settle_at<L: Ledger>(
     match planned {
         None => Ok(None),
         Some(plan) => {
-            let found = follow(alloc, systems, plan, part.region, point, pending, steps)?;
+            let found = follow(systems, plan, part.region, point, pending, steps)?;
             Ok(found)
         }
     }
@@ -180,7 +176,7 @@ pub(crate) fn settle<L: Ledger>(
         (λ found. MatchOption found (IsSettled systems.now part pending.old.items pending.new.items)
         (IsMissed systems.now part.region)) }
 {
-    let seen = part.region.point(alloc)?;
+    let seen = part.region.point()?;
     match seen {
         None => Ok(None),
         Some(point) => settle_at(alloc, systems, part, point, pending, steps),

@@ -9,7 +9,6 @@ use crate::contacts::{Contact, contact_of};
 use crate::region::Region;
 use crate::walls::Walls;
 use row_core::{ConvErr, Memory, RowBuf, Steps};
-use std::alloc::Global;
 use std::sync::ledger::Ledger;
 
 /// A part of a set that is left to be covered. It is outside of the first systems, and some inequalities of the next
@@ -35,12 +34,7 @@ impl Piece {
     }
 
     /// The part on which the next inequality of the next system doesn't hold.
-    fn outer<L: Ledger>(
-        self,
-        alloc: Global,
-        walls: &Walls,
-        steps: &mut Steps<L>,
-    ) -> Result<Piece, ConvErr>
+    fn outer<L: Ledger>(self, walls: &Walls, steps: &mut Steps<L>) -> Result<Piece, ConvErr>
         requires dim { walls.now.dim ≡ self.region.dim }
         requires passed { self.passed + 1 < 2 ^ 64 }
         requires row { self.row < length walls.now.list }
@@ -49,7 +43,7 @@ impl Piece {
             (IsOverflowIn (LeavesOnList (outer_part walls.now self).region)) }
     {
         let passed = self.passed + 1;
-        let region = self.region.outside(alloc, walls, self.row, steps)?;
+        let region = self.region.outside(walls, self.row, steps)?;
         Ok(Piece {
             region,
             passed,
@@ -58,12 +52,7 @@ impl Piece {
     }
 
     /// The part on which it holds.
-    fn inner<L: Ledger>(
-        self,
-        alloc: Global,
-        walls: &Walls,
-        steps: &mut Steps<L>,
-    ) -> Result<Piece, ConvErr>
+    fn inner<L: Ledger>(self, walls: &Walls, steps: &mut Steps<L>) -> Result<Piece, ConvErr>
         requires dim { walls.now.dim ≡ self.region.dim }
         requires row { self.row < length walls.now.list }
         requires row_fits { self.row + 1 < 2 ^ 64 }
@@ -73,7 +62,7 @@ impl Piece {
     {
         let row = self.row + 1;
         let passed = self.passed;
-        let region = self.region.inside(alloc, walls, self.row, steps)?;
+        let region = self.region.inside(walls, self.row, steps)?;
         Ok(Piece {
             region,
             passed,
@@ -85,7 +74,6 @@ impl Piece {
 /// Appends the part of a piece on which the next inequality of the system holds, if it isn't the last: then the part is
 /// within the system.
 fn push_inner<L: Ledger>(
-    alloc: Global,
     walls: &Walls,
     piece: Piece,
     pending: &mut Vec<Piece>,
@@ -100,14 +88,13 @@ fn push_inner<L: Ledger>(
     if piece.row + 1 == end {
         return Ok(());
     }
-    let inner = piece.inner(alloc, walls, steps)?;
+    let inner = piece.inner(walls, steps)?;
     pending.push(inner)?;
     Ok(())
 }
 
 /// Appends the part on which it doesn't hold.
 fn push_outer<L: Ledger>(
-    alloc: Global,
     walls: &Walls,
     piece: Piece,
     pending: &mut Vec<Piece>,
@@ -120,14 +107,13 @@ fn push_outer<L: Ledger>(
         (pending.new.items ≡ pending.old.items ++ outer_part walls.now piece ∷ []) }
     ensures overflow { IfErr result (IsOverflowIn (LeavesInSplit walls.now piece)) }
 {
-    let outer = piece.outer(alloc, walls, steps)?;
+    let outer = piece.outer(walls, steps)?;
     pending.push(outer)?;
     Ok(())
 }
 
 /// Appends both parts, the one on which it doesn't hold last.
 fn push_both<L: Ledger>(
-    alloc: Global,
     walls: &Walls,
     piece: Piece,
     pending: &mut Vec<Piece>,
@@ -140,15 +126,14 @@ fn push_both<L: Ledger>(
     ensures overflow { IfErr result (IsOverflowIn (LeavesInSplit walls.now piece)) }
 {
     let copy = piece.copied()?;
-    push_inner(alloc, walls, piece, pending, steps)?;
-    push_outer(alloc, walls, copy, pending, steps)?;
+    push_inner(walls, piece, pending, steps)?;
+    push_outer(walls, copy, pending, steps)?;
     Ok(())
 }
 
 /// Appends the parts of a piece on which the next inequality of the system holds and on which it doesn't, the latter
 /// last. A part that is within the system, or is seen to have no point, is left out.
 fn split<L: Ledger>(
-    alloc: Global,
     walls: &Walls,
     piece: Piece,
     pending: &mut Vec<Piece>,
@@ -165,14 +150,14 @@ fn split<L: Ledger>(
         return Ok(());
     }
     if piece.region.is_outside(walls, piece.row) {
-        push_outer(alloc, walls, piece, pending, steps)?;
+        push_outer(walls, piece, pending, steps)?;
         return Ok(());
     }
     if piece.region.is_inside(walls, piece.row) {
-        push_inner(alloc, walls, piece, pending, steps)?;
+        push_inner(walls, piece, pending, steps)?;
         return Ok(());
     }
-    push_both(alloc, walls, piece, pending, steps)
+    push_both(walls, piece, pending, steps)
 }
 
 /// Whether the piece is seen to lie in one of the systems that are still to come, before any of its inequalities is taken.
@@ -195,7 +180,6 @@ fn lies_in_some(systems: &[Walls], piece: &Piece) -> bool
 /// Takes a piece: gives a point of it where it is outside of all systems, and else its parts by the next system, behind
 /// the pieces that are pending. A piece without a point has none, nor has one that is seen to lie in one system.
 pub(crate) fn turn<L: Ledger>(
-    alloc: Global,
     systems: &[Walls],
     piece: Piece,
     pending: &mut Vec<Piece>,
@@ -208,7 +192,7 @@ pub(crate) fn turn<L: Ledger>(
         (IsFound systems.now piece)) }
     ensures overflow { IfErr result (IsOverflowIn (LeavesInTurn systems.now piece)) }
 {
-    let point = match piece.region.point(alloc)? {
+    let point = match piece.region.point()? {
         Some(point) => point,
         None => return Ok(None),
     };
@@ -219,6 +203,6 @@ pub(crate) fn turn<L: Ledger>(
         return Ok(None);
     }
     let passed = piece.passed;
-    split(alloc, &systems[passed], piece, pending, steps)?;
+    split(&systems[passed], piece, pending, steps)?;
     Ok(None)
 }

@@ -249,7 +249,6 @@ impl Region {
     /// An overflow is one of the conversion of the list of all constraints.
     pub(crate) fn inside<L: Ledger>(
         self,
-        alloc: Global,
         walls: &Walls,
         index: usize,
         steps: &mut Steps<L>,
@@ -260,6 +259,7 @@ impl Region {
         ensures overflow { IfErr result
             (IsOverflowIn (LeavesOnList (with_one self (constraint_at walls.now.list index)))) }
     {
+        let alloc = self.allocator();
         self.narrowed(alloc, walls.inner(), index, steps)
     }
 
@@ -270,7 +270,6 @@ impl Region {
     /// As [`Region::inside`].
     pub(crate) fn outside<L: Ledger>(
         self,
-        alloc: Global,
         walls: &Walls,
         index: usize,
         steps: &mut Steps<L>,
@@ -283,7 +282,13 @@ impl Region {
             (IsOverflowIn
             (LeavesOnList (with_one self (complement (constraint_at walls.now.list index))))) }
     {
+        let alloc = self.allocator();
         self.narrowed(alloc, walls.outer(), index, steps)
+    }
+
+    /// The allocator that the constraints keep.
+    pub(crate) fn allocator(&self) -> Global {
+        self.cons.allocator()
     }
 
     /// A copy.
@@ -297,7 +302,7 @@ impl Region {
     }
 
     /// One of the points, if there is one: that of the first ray that codes a point.
-    pub(crate) fn point(&self, alloc: Global) -> Result<Option<RowBuf>, Memory>
+    pub(crate) fn point(&self) -> Result<Option<RowBuf>, Memory>
         ensures { IfOk result
             (λ found. MatchOption found (HoldNowhere self.now) (IsPointIn self.now)) }
     {
@@ -305,7 +310,7 @@ impl Region {
         let Some(index) = first_positive(dim, &self.cone.rays) else {
             return Ok(None);
         };
-        let point = lowered_row(alloc, dim, self.cone.rays.row(index))?;
+        let point = lowered_row(self.allocator(), dim, self.cone.rays.row(index))?;
         Ok(Some(point))
     }
 }

@@ -1,16 +1,11 @@
 //! The list of a file, and its polyhedron.
 ghost use Rattle.std.specs.Prelude.{◌≡◌, ◌-◌, ◌≤◌, IfOk, IfErr};
-ghost use Rattle.stored_systems.specs.PointSets.{AreClosedKinds};
-ghost use Rattle.poly_pair.specs.FirstLists.{LacksPoint};
-ghost use Rattle.poly_pair.specs.Polyhedra.{IsOfGenerators};
-ghost use Rattle.poly_pair.specs.declared.topology.TheConstants.{MAX_DIM};
 ghost use Rattle.poly_pair.specs.declared.topology.Topology.TheVariants.{Closed};
 ghost use Rattle.file_poly.specs.Files.{IsFit, IsOfList, IsOverflowOnList, IsCountedOnList, IsCountedBeforeOnList};
-ghost use Rattle.file_poly.specs.declared.listed.Listed.TheVariants;
 
 use cons_sys::ConsSys;
 use gens_sys::GensSys;
-use poly_pair::{GenErr, Poly, Topology};
+use poly_pair::{Poly, Topology};
 use row_core::{ConvErr, Steps};
 use std::alloc::Global;
 use std::sync::ledger::Ledger;
@@ -42,35 +37,12 @@ impl Listed {
         ensures overflow { IfErr result (IsOverflowOnList self.now) }
         ensures no_fewer { steps.old ≤ steps.new }
         ensures counted { IsCountedOnList self.now (steps.new - steps.old) }
-        ensures counted_before { IfErr result (IsCountedBeforeOnList self.now (steps.new - steps.old)) }
+        ensures counted_before { IfErr result
+            (IsCountedBeforeOnList self.now (steps.new - steps.old)) }
     {
         match self {
             Listed::Cons(cons) => Poly::from_cons(alloc, Topology::Closed, cons, steps),
-            Listed::Gens(gens) => of_generators(alloc, gens, steps),
+            Listed::Gens(gens) => Poly::from_gens_with_point(alloc, Topology::Closed, gens, steps),
         }
-    }
-}
-
-// The closed polyhedron of generators, where there is none or one is a point.
-fn of_generators<L: Ledger>(
-    alloc: Global,
-    gens: &GensSys,
-    steps: &mut Steps<L>,
-) -> Result<Poly, ConvErr>
-    requires narrow { gens.now.dim ≤ MAX_DIM }
-    requires kinds { AreClosedKinds gens.now }
-    requires point { ¬ (LacksPoint gens.now.list) }
-    ensures set { IfOk result (IsOfGenerators Closed gens.now) }
-    ensures closed { IfOk result (λ p. p.topology ≡ Closed) }
-    ensures overflow { IfErr result (IsOverflowOnList (TheVariants.Gens gens.now)) }
-    ensures no_fewer { steps.old ≤ steps.new }
-    ensures counted { IsCountedOnList (TheVariants.Gens gens.now) (steps.new - steps.old) }
-    ensures counted_before { IfErr result (IsCountedBeforeOnList (TheVariants.Gens gens.now) (steps.new - steps.old)) }
-{
-    match Poly::from_gens(alloc, Topology::Closed, gens, steps) {
-        Ok(made) => Ok(made),
-        Err(GenErr::NoPoint) => unreachable!(),
-        Err(GenErr::Overflow(over)) => Err(ConvErr::Overflow(over)),
-        Err(GenErr::Memory) => Err(ConvErr::Memory),
     }
 }

@@ -7,12 +7,11 @@ use Rattle.row_core.specs.declared.errors.ConvErr.TheVariants as conversion
 use Rattle.row_core.specs.Refusals.{IsOverflowIn}
 use Rattle.cons_sys.specs.Constraints.{In}
 use Rattle.stored_systems.specs.PointSets.{IsWithin}
-use Rattle.poly_pair.specs.Polyhedra.{Polyhedron, HasNoPoint}
+use Rattle.poly_pair.specs.Polyhedra.{Polyhedron, HasNoPoint, IsIncluded}
 use Rattle.trans_sys.specs.declared.transition.Transition.{Transition}
 use Rattle.poly_pair.specs.ClosedPolyhedra.{IsClosedOver}
 use Rattle.elapse.specs.ElapsedPoints.{IsMoved}
 use Rattle.widening.specs.RunLaws.{AreSetsOf, IncludeEach, AreTaken}
-use Rattle.widening.specs.Widenings.{IsPartOf}
 use Rattle.widening.proofs.Places.{some_same, same_at, has_at, all_at}
 use Rattle.widening.proofs.OneRun.{one_set}
 use Rattle.hybrid.specs.Systems.{HybridAutomaton, IsKeptHybrid}
@@ -87,12 +86,12 @@ module _ (h : HybridAutomaton) (kept : IsKeptHybrid h) (sets parts : List Polyhe
       part_takes h.system.dim set.0 inv part (set_at h sets l set.0 are set.1) (of.each l part has_part inv set.0 has_inv set.1) v pt (each l initial set.0 has_initial set.1 v (point_at h.system.dim initial.cons.dim v (sym begins.over.same_dim) pt) in_initial) in_inv
 
   module _ (taken : AreTaken (turns_of h) sets) where
-    time_taken : (l : ℕ) → l < length h.system.initial → (set : Polyhedron) → slice_get sets l ≡ Some set → (joined : Polyhedron) × (IsOfTime h l sets joined × IsPartOf joined set)
+    time_taken : (l : ℕ) → l < length h.system.initial → (set : Polyhedron) → slice_get sets l ≡ Some set → (joined : Polyhedron) × (IsOfTime h l sets joined × IsIncluded joined set)
     time_taken l b set has_set =
         let here = taken l (omega (arith, b)) in
         let turn : IsOfTime h l sets here.joined = subst (λ (t : Turn). Joins h t sets here.joined) (at_time h l b) here.is_joined in
         let at : slice_get sets l ≡ Some here.set = subst (λ (t : Turn). slice_get sets (place_of t) ≡ Some here.set) (at_time h l b) here.has_set in
-        (here.joined, (turn, subst (λ (p : Polyhedron). IsPartOf here.joined p) (same_at sets l here.set set at has_set) here.within))
+        (here.joined, (turn, subst (λ (p : Polyhedron). IsIncluded here.joined p) (same_at sets l here.set set at has_set) here.within))
 
     pub closed_under_flow : AreClosedUnderFlow h parts
     closed_under_flow l inv flow part has_inv has_flow has_part x q v in_part w moved inside =
@@ -118,7 +117,7 @@ module _ (h : HybridAutomaton) (kept : IsKeptHybrid h) (sets parts : List Polyhe
         here.1.1 v (point_at d here.0.cons.dim v (sym above.closed.over.same_dim) moved.point) (hull_takes (IsTimePost j.old j.inv j.flow) d j.old old_closed here.0 j.is_joined c v moved.point in_post) in
         part_takes d set.0 inv part set_closed is_part v moved.point in_set inside
 
-    jump_taken : (k : ℕ) (t : Transition) → slice_get h.system.transitions k ≡ Some t → (set : Polyhedron) → slice_get sets t.target ≡ Some set → (joined : Polyhedron) × (IsOfJump h t sets joined × IsPartOf joined set)
+    jump_taken : (k : ℕ) (t : Transition) → slice_get h.system.transitions k ≡ Some t → (set : Polyhedron) → slice_get sets t.target ≡ Some set → (joined : Polyhedron) × (IsOfJump h t sets joined × IsIncluded joined set)
     jump_taken k t at set has_set =
         let n = length h.system.initial + k in
         let here = taken n (omega (arith, slice_get_within h.system.transitions k t at)) in
@@ -126,7 +125,7 @@ module _ (h : HybridAutomaton) (kept : IsKeptHybrid h) (sets parts : List Polyhe
         let is : turn_at h n ≡ jump (Some t) = at_jump h n (λ l. omega (arith, l)) ∙ ap (λ (i : ℕ). jump (slice_get h.system.transitions i)) back ∙ ap jump at in
         let turn : IsOfJump h t sets here.joined = subst (λ (x : Turn). Joins h x sets here.joined) is here.is_joined in
         let place : slice_get sets t.target ≡ Some here.set = subst (λ (x : Turn). slice_get sets (place_of x) ≡ Some here.set) is here.has_set in
-        (here.joined, (turn, subst (λ (p : Polyhedron). IsPartOf here.joined p) (same_at sets t.target here.set set place has_set) here.within))
+        (here.joined, (turn, subst (λ (p : Polyhedron). IsIncluded here.joined p) (same_at sets t.target here.set set place has_set) here.within))
 
     pub closed_under_jumps : AreClosedUnderJumps h parts
     closed_under_jumps k t source target inv at has_source has_target has_inv y pt step inside =

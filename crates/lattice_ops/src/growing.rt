@@ -4,8 +4,8 @@ ghost use Rattle.poly_pair.specs.declared.topology.Topology.{Topology};
 ghost use Rattle.set_laws.specs.GeneratorLaws.{IsContained};
 ghost use Rattle.poly_pair.specs.TopologyLists.{AreGeneratorsFor};
 ghost use Rattle.poly_pair.specs.FirstLists.{LacksPoint};
-ghost use Rattle.poly_pair.specs.Polyhedra.{IsKept};
-ghost use Rattle.lattice_ops.specs.Sets.{HaveSamePoints, hull_work};
+ghost use Rattle.poly_pair.specs.Polyhedra.{IsKept, HaveSamePoints};
+ghost use Rattle.lattice_ops.specs.Sets.{hull_work};
 ghost use Rattle.lattice_ops.specs.Growing.{IsGrown, IsHullWith, IsGrownBy};
 ghost use Rattle.poly_pair.specs.Work.{Converts, added_gens};
 
@@ -14,7 +14,7 @@ use crate::containing::test_in_order;
 use crate::rows::rows_fit;
 use crate::sets::hull;
 use gens_sys::GensSys;
-use poly_pair::{GenErr, Poly};
+use poly_pair::Poly;
 use row_core::{ConvErr, Steps};
 use std::alloc::Global;
 use std::sync::ledger::Ledger;
@@ -86,15 +86,9 @@ fn hull_with<L: Ledger>(p: &Poly, gens: &GensSys, steps: &mut Steps<L>) -> Resul
 {
     rows_fit(p);
     let _fit = gens.dim();
-    match p.add_gens(gens, steps) {
-        Ok(made) => {
-            rows_fit(&made);
-            Ok(made)
-        }
-        Err(GenErr::NoPoint) => unreachable!(),
-        Err(GenErr::Overflow(over)) => Err(ConvErr::Overflow(over)),
-        Err(GenErr::Memory) => Err(ConvErr::Memory),
-    }
+    let made = p.add_gens_with_point(gens, steps)?;
+    rows_fit(&made);
+    Ok(made)
 }
 
 /// What the closed polyhedron `p` grows to where generators are added, of which one is a point: the smallest that has

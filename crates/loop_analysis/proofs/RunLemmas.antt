@@ -15,10 +15,9 @@ use Rattle.poly_pair.specs.declared.topology.Topology.TheVariants.{Closed}
 use Rattle.poly_pair.specs.TopologyLists.{list_width, constraints_of}
 use Rattle.poly_pair.specs.Additions.{with_constraints}
 use Rattle.poly_pair.specs.Refusals.{IsOverflowOn}
-use Rattle.poly_pair.specs.Polyhedra.{Polyhedron, IsKept, IsOfConstraints}
+use Rattle.poly_pair.specs.Polyhedra.{Polyhedron, IsKept, IsOfConstraints, IsIncluded}
 use Rattle.poly_pair.specs.ClosedPolyhedra.{IsClosedOver}
 use Rattle.lattice_ops.specs.Sets.{IsHull}
-use Rattle.widening.specs.Widenings.{IsPartOf}
 use Rattle.widening.proofs.Places.{all_at}
 use Rattle.loop_analysis.specs.declared.loops.Assignment.{Assignment}
 use Rattle.loop_analysis.specs.Loops.{WhileLoop, IsLoop, IsAssignment}
@@ -27,7 +26,7 @@ use Rattle.loop_analysis.specs.Rounds.{IsImageOf, AreImages, IsRound, IsJoined, 
 use Rattle.loop_analysis.specs.Analysis.{IsStart, IsStable, IsHead, IsBehind}
 
 -- ---- hulls
-pub hull_first : (p q r : Polyhedron) → IsHull p q r → IsPartOf p r
+pub hull_first : (p q r : Polyhedron) → IsHull p q r → IsIncluded p r
 hull_first p q r h v pt inside = (h.points v pt).1 (λ c is in_p in_q. in_p v pt inside)
 
 hull_second : (d : ℕ) (p q r : Polyhedron) → p.cons.dim ≡ d → q.cons.dim ≡ d → IsHull p q r → (v : List ℤ) → IsPoint d v → In q.cons v → In r.cons v

@@ -4,7 +4,7 @@ use Rattle.row_core.specs.declared.errors.Overflow.{Overflow}
 use Rattle.stored_systems.specs.WorkLists.{LeavesOn, LeavesOnClosed, constraint_list}
 use Rattle.poly_pair.specs.declared.topology.Topology.TheVariants.{Closed, Nnc}
 use Rattle.poly_pair.specs.TopologyLists.{list_width, constraints_of}
-use Rattle.poly_pair.specs.Polyhedra.{Polyhedron, IsKept, IsOfConstraints}
+use Rattle.poly_pair.specs.Polyhedra.{Polyhedron, IsKept, IsOfConstraints, IsIncluded}
 use Rattle.poly_pair.specs.ClosedPolyhedra.{IsClosedOver}
 use Rattle.lattice_ops.specs.Sets.{IsHull}
 use Rattle.widening.specs.Runs.{HasLimit}
@@ -14,7 +14,6 @@ use Rattle.enclosures.specs.Differences.{IsDifference, LeavesInDifference}
 use Rattle.loop_analysis.specs.declared.analysis.Bounds.{Bounds}
 use Rattle.loop_analysis.specs.declared.analysis.TheConstants.{DELAY}
 use Rattle.loop_analysis.specs.Loops.{WhileLoop}
-use Rattle.widening.specs.Widenings.{IsPartOf}
 use Rattle.loop_analysis.specs.Rounds.{IsRound, IsJoined, LeavesInRound, LeavesOnHull, turns_of}
 
 -- the points of the start
@@ -24,10 +23,10 @@ pub record IsStart (l : WhileLoop) (start : Polyhedron) : Type 0 where
 
 -- the set has the states of the start, and a round from its own states doesn't leave it
 pub record IsStable (l : WhileLoop) (start set : Polyhedron) : Type 0 where
-  pub includes : IsPartOf start set
+  pub includes : IsIncluded start set
   pub joined : Polyhedron
   pub is_joined : IsJoined l set joined
-  pub within : IsPartOf joined set
+  pub within : IsIncluded joined set
 
 -- the limit of rounds from the start, with this delay before the widening
 abbrev pub IsInvariant : WhileLoop → Polyhedron → Polyhedron → Type 0

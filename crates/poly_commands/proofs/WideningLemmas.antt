@@ -5,8 +5,7 @@ use Rattle.row_core.specs.declared.errors.PairOver.{PairOver}
 use Rattle.row_core.specs.declared.errors.ConvErr.{ConvErr}
 use Rattle.row_core.specs.declared.errors.ConvErr.TheVariants as conversion
 use Rattle.poly_pair.specs.declared.topology.Topology.TheVariants.{Closed}
-use Rattle.poly_pair.specs.Polyhedra.{Polyhedron}
-use Rattle.lattice_ops.specs.Sets.{IsIncluded}
+use Rattle.poly_pair.specs.Polyhedra.{Polyhedron, IsIncluded}
 use Rattle.lattice_ops.specs.Questions.{Answers, HasOneAnswer}
 use Rattle.widening.specs.Widenings.{IsWidening}
 use Rattle.widening.specs.Overflows.{IsWideningOverflow}

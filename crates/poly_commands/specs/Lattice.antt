@@ -6,9 +6,9 @@ use Rattle.cons_sys.specs.Constraints.{Constraints, row_at}
 use Rattle.gens_sys.specs.Generators.{Generators, row_at as vector_at}
 use Rattle.cone_laws.specs.Leaves.{Leaves}
 use Rattle.stored_systems.specs.WorkLists.{LeavesOn}
-use Rattle.poly_pair.specs.Polyhedra.{Polyhedron, HasNoPoint}
+use Rattle.poly_pair.specs.Polyhedra.{Polyhedron, HasNoPoint, IsIncluded, HaveSamePoints}
 use Rattle.poly_pair.specs.TopologyLists.{list_width}
-use Rattle.lattice_ops.specs.Sets.{IsIncluded, HaveSamePoints, AreDisjoint, meet_list, closure_list}
+use Rattle.lattice_ops.specs.Sets.{AreDisjoint, meet_list, closure_list}
 use Rattle.lattice_ops.specs.Questions.{Answers, AnswersEqual}
 use Rattle.script_text.specs.declared.command.Comparison.{Comparison}
 use Rattle.script_text.specs.declared.command.Comparison.TheVariants as by

@@ -3,8 +3,7 @@ use Rattle.std.specs.Prelude.{◌≢◌, ◌⊎◌, Bool, true, false, Ok}
 use Rattle.row_core.specs.declared.errors.Overflow.{Overflow}
 use Rattle.reply_text.specs.declared.faults.Fault.TheVariants as fault
 use Rattle.poly_pair.specs.declared.topology.Topology.TheVariants.{Closed}
-use Rattle.poly_pair.specs.Polyhedra.{Polyhedron}
-use Rattle.lattice_ops.specs.Sets.{IsIncluded}
+use Rattle.poly_pair.specs.Polyhedra.{Polyhedron, IsIncluded}
 use Rattle.lattice_ops.specs.Questions.{Answers}
 use Rattle.widening.specs.Widenings.{IsWidening}
 use Rattle.widening.specs.Overflows.{LeavesOnWidening}

@@ -24,7 +24,7 @@ mod topology;
 
 pub use errors::GenErr;
 pub use lists::{constraints_of, generators_of};
-pub use making::has_point_kind;
+pub use making::{has_point_kind, lacks_point};
 pub use poly::Poly;
 pub use spanning::{spanning_generators, spanning_generators_from};
 pub use topology::{MAX_DIM, Topology};

@@ -11,10 +11,9 @@ use Rattle.row_core.proofs.PointwiseLemmas.{pointwise_nil, pointwise_one, pointw
 use Rattle.flat_rows.proofs.Marked.{all_marked}
 use Rattle.poly_pair.specs.declared.topology.Topology.{Topology}
 use Rattle.poly_pair.specs.TopologyLists.{list_width}
-use Rattle.poly_pair.specs.Polyhedra.{Polyhedron}
+use Rattle.poly_pair.specs.Polyhedra.{Polyhedron, AreAlike}
 use Rattle.poly_pair.specs.Refusals.{IsOverflowOn}
 use Rattle.lattice_ops.specs.Sets.{meet_list}
-use Rattle.lattice_ops.specs.LatticeLaws.{AreAlike}
 use Rattle.row_core.specs.Refusals.{IsOverflowIn}
 use Rattle.powerset.specs.Powersets.{FinitePowerset, IsKeptPowerset, IsMember}
 use Rattle.powerset.specs.Reductions.{IsReduced, HaveOneDimension}

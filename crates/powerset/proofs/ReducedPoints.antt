@@ -7,8 +7,7 @@ use Rattle.std.proofs.lemmas.List.Elements.{All-contains, All-contains_itself, C
 use Rattle.flat_rows.specs.Flat.{marked}
 use Rattle.row_core.specs.Points.{IsPoint}
 use Rattle.cons_sys.specs.Constraints.{In}
-use Rattle.poly_pair.specs.Polyhedra.{Polyhedron, HasNoPoint}
-use Rattle.lattice_ops.specs.Sets.{IsIncluded, HaveSamePoints}
+use Rattle.poly_pair.specs.Polyhedra.{Polyhedron, HasNoPoint, IsIncluded, HaveSamePoints}
 use Rattle.powerset.specs.Powersets.{IsInPowerset}
 use Rattle.powerset.specs.Reductions.{IsSuperseded, IsLeftOut, IsReduced}
 use Rattle.powerset.specs.PowersetLaws.{AreOfDimension, ReductionKeepsPoints, IsIrredundant, ReductionIsIrredundant}

@@ -18,8 +18,7 @@ use Rattle.row_core.specs.declared.errors.ConvErr.TheVariants as conversion
 use Rattle.flat_rows.specs.Flat.{marked}
 use Rattle.row_core.specs.Points.{IsPoint}
 use Rattle.poly_pair.specs.declared.topology.Topology.TheVariants.{Closed}
-use Rattle.poly_pair.specs.Polyhedra.{Polyhedron, HasNoPoint}
-use Rattle.lattice_ops.specs.Sets.{IsIncluded, HaveSamePoints}
+use Rattle.poly_pair.specs.Polyhedra.{Polyhedron, HasNoPoint, IsIncluded, HaveSamePoints}
 use Rattle.row_core.specs.Refusals.{IsOverflowIn}
 use Rattle.powerset.specs.Reductions.{Supersedes, IsSuperseded, IsLeftOut, AreMarks, shown_pair, IsDecided, AreDecided, StopsAt, IsAsked, LeavesInAsking, LeavesAt, LeavesBetween}
 use Rattle.cover_search.proofs.BranchLemmas.{same_at}

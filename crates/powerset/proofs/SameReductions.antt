@@ -8,8 +8,7 @@ use Rattle.row_core.specs.Lists.{Pointwise}
 use Rattle.row_core.specs.Points.{IsPoint}
 use Rattle.sat_matrix.proofs.MarkedRows.{pointwise_marked}
 use Rattle.cons_sys.specs.Constraints.{In}
-use Rattle.poly_pair.specs.Polyhedra.{Polyhedron, HasNoPoint}
-use Rattle.lattice_ops.specs.Sets.{IsIncluded, HaveSamePoints}
+use Rattle.poly_pair.specs.Polyhedra.{Polyhedron, HasNoPoint, IsIncluded, HaveSamePoints}
 use Rattle.powerset.specs.Reductions.{IsSuperseded, IsLeftOut, AreMarks, IsReduced}
 
 -- both are of the dimension, with the same points

@@ -1,7 +1,6 @@
 use Rattle.std.specs.Prelude.{◌≡◌, ◌≢◌, ◌⊎◌, ◌↔◌, ℕ, List, ℤ, slice_get, Some, All}
 use Rattle.row_core.specs.Points.{IsPoint}
-use Rattle.poly_pair.specs.Polyhedra.{Polyhedron, HasNoPoint}
-use Rattle.lattice_ops.specs.Sets.{IsIncluded}
+use Rattle.poly_pair.specs.Polyhedra.{Polyhedron, HasNoPoint, IsIncluded}
 use Rattle.powerset.specs.Powersets.{FinitePowerset, IsKeptPowerset, IsInPowerset, IsPowersetOfOne}
 use Rattle.powerset.specs.Covers.{Covers}
 use Rattle.powerset.specs.Reductions.{IsReduced}

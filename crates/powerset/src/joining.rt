@@ -1,7 +1,6 @@
 //! Joins of two powersets, and their common points.
 ghost use Rattle.std.specs.Prelude.{◌≡◌, ◌++◌, ◌∷◌, [], All, IfErr, IfOk, OnOk};
-ghost use Rattle.poly_pair.specs.Polyhedra.{Polyhedron};
-ghost use Rattle.lattice_ops.specs.LatticeLaws.{AreAlike};
+ghost use Rattle.poly_pair.specs.Polyhedra.{Polyhedron, AreAlike};
 ghost use Rattle.row_core.specs.Refusals.{IsOverflowIn};
 ghost use Rattle.powerset.specs.Joins.{IsJoin, LeavesOnJoin, AreMeets, HasMeets, IsPairMeet, LeavesOnMeet, LeavesOnPairMeet};
 

@@ -1,8 +1,7 @@
 //! Lists of polyhedra without members that others include.
 ghost use Rattle.std.specs.Prelude.{◌≡◌, ◌↔◌, ◌<◌, false, length, slice_get, IfErr, IfOk, IsTrue, Some, MatchBool, remove};
 ghost use Rattle.flat_rows.specs.Flat.{marked};
-ghost use Rattle.poly_pair.specs.Polyhedra.{Polyhedron};
-ghost use Rattle.lattice_ops.specs.Sets.{IsIncluded};
+ghost use Rattle.poly_pair.specs.Polyhedra.{Polyhedron, IsIncluded};
 ghost use Rattle.lattice_ops.specs.Questions.{LeavesRange};
 ghost use Rattle.row_core.specs.Refusals.{IsOverflowIn};
 ghost use Rattle.powerset.specs.Reductions.{Supersedes, IsSuperseded, HaveOneDimension, IsLeftOut, AreMarks, IsReduced, IsAnswered, IsDecided, IsAsked, LeavesInTest, LeavesInAsking, LeavesAt, LeavesBetween};

@@ -13,7 +13,7 @@ use Rattle.term_text.specs.Values.{Ratio, point_by, alone_by}
 use Rattle.term_text.specs.Texts.{IsPoint, IsPointOf}
 use Rattle.term_text.specs.Systems.{IsCon}
 use Rattle.expr_text.specs.OneAnswer.{ExprHasOneAnswer, ConHasOneAnswer, PointHasOneAnswer}
-use Rattle.poly_pair.specs.Polyhedra.{Polyhedron, HasNoPoint}
+use Rattle.poly_pair.specs.Polyhedra.{Polyhedron, HasNoPoint, AreAlike}
 use Rattle.poly_pair.specs.declared.topology.Topology.{Topology}
 use Rattle.poly_pair.specs.declared.topology.Topology.TheVariants.{Closed, Nnc}
 use Rattle.optimum.specs.Relations.{IsRelation, HoldsThroughout, HoldsNowhere, HoldsSomewhere, FailsSomewhere}
@@ -42,7 +42,7 @@ use Rattle.line_values.specs.Proper.{IsProper}
 use Rattle.calc_state.specs.Laws.{KeepsNamesDistinct}
 use Rattle.expr_text.specs.Printed.{constraints_text, generators_text}
 use Rattle.run_laws.specs.Acts.{Act, Did, Took, Accepted, acts}
-use Rattle.run_laws.specs.Sets.{AreAlike, AreAlikePowersets, HaveOneDim, IsSetOf, IsEntryOf}
+use Rattle.run_laws.specs.Sets.{AreAlikePowersets, HaveOneDim, IsSetOf, IsEntryOf}
 use Rattle.run_laws.specs.Sameness.{AreSamePolyhedra, AreSameEntries}
 use Rattle.run_laws.specs.Truth.{SaysWhether, IsTrueOf, IsTrueOfTwo, SaysTruth, LieSo, SaysHowItLies, SaysExtremum, SaysSide, SaysCover, SaysRanking, SaysBounds, IsTruthful, IsTrueAnswer, AreTruthful}
 use Rattle.run_laws.specs.Laws.{IsNotClosed, ShowsStored, ShowPoints, AreSameAnswers, AcceptedDecide}

@@ -11,12 +11,11 @@ use Rattle.widening.specs.WideningLaws.{OneWidening}
 use Rattle.fixpoint.specs.RunLaws.{HasOneLimit}
 use Rattle.hybrid.specs.Reaches.{HasOneReach}
 use Rattle.cdd_reading.specs.OneAnswer.{HasOneIne, HasOneExt}
-use Rattle.stored_systems.specs.PointSets.{HoldSame}
 use Rattle.stored_systems.specs.StoredLaws.{StoredIsUnique, AreSameSystems}
 use Rattle.nnc_enc.specs.EncodedGenerators.{HasPoint}
 use Rattle.set_laws.specs.JoinedSets.{AreOfSet, JoinedSetsAreSame}
 use Rattle.poly_pair.specs.KeptLaws.{KeptIsPair, KeptIsEmpty}
-use Rattle.poly_pair.specs.Polyhedra.{Polyhedron, IsStoredAs, IsKept, HasNoPoint, IsOver}
+use Rattle.poly_pair.specs.Polyhedra.{Polyhedron, IsStoredAs, IsKept, HasNoPoint, IsOver, HaveSamePoints}
 use Rattle.poly_pair.specs.declared.topology.Topology.{Topology}
 use Rattle.poly_pair.specs.declared.topology.Topology.TheVariants.{Closed, Nnc}
 use Rattle.line_values.specs.Proper.{IsProper}
@@ -88,7 +87,7 @@ same_parts : (p q : Polyhedron) → p.topology ≡ q.topology → p.cons ≡ q.c
 same_parts p q t c g = ap (λ (x : Topology). of_parts x p.cons p.gens) t ∙ ap (λ (x : Constraints). of_parts q.topology x p.gens) c ∙ ap (λ (x : Generators). of_parts q.topology q.cons x) g
 
 -- a closed set is stored in one way
-pub one_closed : OneForm → (p q : Polyhedron) → IsKept p → IsKept q → p.topology ≡ Closed → p.topology ≡ q.topology → p.cons.dim ≡ q.cons.dim → HoldSame p.cons q.cons → p ≡ q
+pub one_closed : OneForm → (p q : Polyhedron) → IsKept p → IsKept q → p.topology ≡ Closed → p.topology ≡ q.topology → p.cons.dim ≡ q.cons.dim → HaveSamePoints p q → p ≡ q
 one_closed laws p q a b c t d points =
     let forms : AreSameSystems p.cons q.cons p.gens q.gens =
     (laws.stored p.cons q.cons p.gens q.gens d (subst (λ (s : Topology). IsStoredAs s p.cons p.gens) c a.stored) (subst (λ (s : Topology). IsStoredAs s q.cons q.gens) (sym t ∙ c) b.stored)).0 points in
@@ -104,5 +103,5 @@ one_of_points laws t dim Has p q a b d e h k = record {
   closed = λ c. one_closed laws p q a.kept b.kept c (d.same_topology ∙ sym e.same_topology) (d.same_dim ∙ sym e.same_dim) points;
 }
   where
-    points : HoldSame p.cons q.cons
+    points : HaveSamePoints p q
     points v is = let at = subst (λ (n : ℕ). IsPoint n v) d.same_dim is in (λ x. (k v at).0 ((h v at).1 x), λ x. (h v at).0 ((k v at).1 x))

@@ -3,14 +3,14 @@ use Rattle.std.proofs.Common.{◌≡◌, ℕ, List, refl, sym, ◌∙◌, subst}
 use Rattle.std.specs.Prelude.{◌↔◌, ℤ}
 use Rattle.row_core.specs.Points.{IsPoint}
 use Rattle.cons_sys.specs.Constraints.{Constraint, In, Satisfies}
-use Rattle.poly_pair.specs.Polyhedra.{Polyhedron, HasNoPoint, IsOver}
+use Rattle.poly_pair.specs.Polyhedra.{Polyhedron, HasNoPoint, IsOver, IsIncluded, HaveSamePoints}
 use Rattle.poly_pair.specs.declared.topology.Topology.{Topology}
 use Rattle.poly_pair.specs.declared.topology.Topology.TheVariants.{Closed}
 use Rattle.stored_systems.specs.PointSets.{IsWithin}
 use Rattle.optimum.specs.Relations.{HoldsThroughout, HoldsNowhere, HoldsSomewhere, FailsSomewhere}
 use Rattle.widening.specs.Widenings.{IsWidening}
 use Rattle.poly_pair.specs.TopologyConstraints.{IsConstraintFor}
-use Rattle.lattice_ops.specs.Sets.{IsMeet, IsHull, IsValidOn, IsIncluded, HaveSamePoints, AreDisjoint}
+use Rattle.lattice_ops.specs.Sets.{IsMeet, IsHull, IsValidOn, AreDisjoint}
 use Rattle.calc_state.specs.declared.entry.Entry.{Entry}
 use Rattle.calc_state.specs.declared.entry.Entry.TheVariants as entry
 use Rattle.line_values.specs.Proper.{IsProper}

@@ -5,8 +5,7 @@ use Rattle.std.proofs.lemmas.List.Elements.{All-weaker}
 use Rattle.row_core.specs.Points.{IsPoint}
 use Rattle.row_core.specs.Lists.{Pointwise}
 use Rattle.row_core.proofs.PointwiseLemmas.{pointwise_nil, pointwise_tail, pointwise_cons, pointwise_one, pointwise_append}
-use Rattle.stored_systems.specs.PointSets.{HoldSame}
-use Rattle.poly_pair.specs.Polyhedra.{Polyhedron, IsKept}
+use Rattle.poly_pair.specs.Polyhedra.{Polyhedron, IsKept, HaveSamePoints}
 use Rattle.powerset.specs.Powersets.{FinitePowerset, IsMember, IsKeptPowerset, IsSingle, IsPowersetOfOne}
 use Rattle.powerset.specs.PowersetLaws.{AreOfDimension}
 use Rattle.powerset.specs.Joins.{IsJoin, pairs_of, IsMeetOf, IsPairMeet}
@@ -20,7 +19,7 @@ use Rattle.run_laws.proofs.OneForm.{OneForm, one_closed}
 use Rattle.run_laws.proofs.OneResult.{same_back, same_at, empty_same}
 
 -- two kept polyhedra with the same points
-one_kept : OneForm → (p q : Polyhedron) → IsKept p → IsKept q → p.topology ≡ q.topology → p.cons.dim ≡ q.cons.dim → HoldSame p.cons q.cons → AreSamePolyhedra p q
+one_kept : OneForm → (p q : Polyhedron) → IsKept p → IsKept q → p.topology ≡ q.topology → p.cons.dim ≡ q.cons.dim → HaveSamePoints p q → AreSamePolyhedra p q
 one_kept laws p q a b t d points = record { topology = t; dim = d; points = points; closed = λ c. one_closed laws p q a b c t d points }
 
 -- ---- one polyhedron
@@ -102,7 +101,7 @@ meet_same : OneForm → (dim : ℕ) (one other : Polyhedron × Polyhedron) (r s 
 meet_same laws dim one other r s same h k =
     one_kept laws r s h.kept k.kept (h.meet.over.same_topology ∙ same.first.same.topology ∙ sym k.meet.over.same_topology) (h.meet.over.same_dim ∙ same.first.same.dim ∙ sym k.meet.over.same_dim) points
   where
-    points : HoldSame r.cons s.cons
+    points : HaveSamePoints r s
     points v is =
         let at : IsPoint one.0.cons.dim v = subst (λ (n : ℕ). IsPoint n v) h.meet.over.same_dim is in
         let at_dim : IsPoint dim v = subst (λ (n : ℕ). IsPoint n v) same.first.of_dim at in

@@ -1,7 +1,7 @@
 -- What an accepted command says of its operands.
 use Rattle.std.proofs.Common.{◌≡◌, ◌≢◌, ℕ, ◌+◌, ◌%◌, ◌<◌, ◌≤◌, Bool, true, false, refl, inl, inr, arith}
 use Rattle.std.proofs.lemmas.Bool.{cases_lt}
-use Rattle.poly_pair.specs.Polyhedra.{Polyhedron}
+use Rattle.poly_pair.specs.Polyhedra.{Polyhedron, AreAlike}
 use Rattle.poly_pair.specs.declared.topology.Topology.{Topology}
 use Rattle.poly_pair.specs.declared.topology.Topology.TheVariants.{Closed, Nnc}
 use Rattle.powerset.specs.Powersets.{FinitePowerset}
@@ -14,7 +14,7 @@ use Rattle.calc_state.specs.Powersets.{alike_unions, misses_member}
 use Rattle.calc_state.specs.Rankings.{relates_states}
 use Rattle.calc_state.specs.Shapes.{closed, of_one_dim}
 use Rattle.poly_commands.specs.Widening.{nested, IsWidened}
-use Rattle.run_laws.specs.Sets.{AreAlike, AreAlikePowersets, HaveOneDim, IsOfNested}
+use Rattle.run_laws.specs.Sets.{AreAlikePowersets, HaveOneDim, IsOfNested}
 
 -- ---- the operands of a command that passes its tests
 pub one_topology : (s t : Topology) → ¬ (s ≢ t) → s ≡ t

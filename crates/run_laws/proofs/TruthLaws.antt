@@ -12,7 +12,7 @@ use Rattle.optimum.specs.declared.outcome.Sup.{Sup}
 use Rattle.optimum.specs.declared.outcome.Sup.TheVariants as sup
 use Rattle.poly_pair.specs.KeptLaws.{KeptIsPair}
 use Rattle.poly_pair.specs.declared.topology.Topology.TheVariants.{Closed}
-use Rattle.poly_pair.specs.Polyhedra.{Polyhedron, HasNoPoint}
+use Rattle.poly_pair.specs.Polyhedra.{Polyhedron, HasNoPoint, AreAlike}
 use Rattle.ranking.specs.Laws.{PrintedFunctionRanks}
 use Rattle.bd_shape.specs.Shapes.{Includes}
 use Rattle.script_text.specs.declared.command.Comparison.{Comparison}
@@ -54,7 +54,7 @@ use Rattle.calc_state.specs.Laws.{KeepsNamesDistinct}
 use Rattle.calc_state.proofs.SaysOnce.{reply_is}
 use Rattle.calc_state.specs.Runs.{Run}
 use Rattle.run_laws.specs.Acts.{Act, Accepted, acts}
-use Rattle.run_laws.specs.Sets.{AreAlike, AreAlikePowersets, HaveOneDim, IsEntryOf, names_of}
+use Rattle.run_laws.specs.Sets.{AreAlikePowersets, HaveOneDim, IsEntryOf, names_of}
 use Rattle.run_laws.specs.Laws.{AnswersAreTrue}
 use Rattle.run_laws.specs.Truth.{SaysWhether, IsTrueOf, IsTrueOfTwo, SaysTruth, LieSo, SaysHowItLies, IsShownBy, SaysExtremum, SaysSide, SaysCover, SaysRanking, SaysBounds, IsTruthful, AreTruthful}
 use Rattle.run_laws.proofs.KindTruth.{cover_says, ranking_says, bounds_say}

@@ -13,10 +13,9 @@ use Rattle.stored_systems.specs.PointSets.{HoldSame}
 use Rattle.stored_systems.specs.StoredForms.{IsStored}
 use Rattle.stored_systems.specs.StoredLaws.{StoredIsUnique, StoredIsClosed, AreSameSystems}
 use Rattle.poly_pair.specs.KeptLaws.{KeptIsPair}
-use Rattle.poly_pair.specs.Polyhedra.{Polyhedron, IsStoredAs}
+use Rattle.poly_pair.specs.Polyhedra.{Polyhedron, IsStoredAs, HaveSamePoints}
 use Rattle.poly_pair.specs.declared.topology.Topology.{Topology}
 use Rattle.poly_pair.specs.declared.topology.Topology.TheVariants.{Closed}
-use Rattle.lattice_ops.specs.Sets.{HaveSamePoints}
 use Rattle.line_values.specs.Meaning.{line}
 use Rattle.poly_commands.specs.Questions.{side_text}
 use Rattle.line_values.specs.Proper.{IsProper}

@@ -1,8 +1,7 @@
 -- What is printed of closed polyhedra tells their points.
 use Rattle.std.specs.Prelude.{◌≡◌, ◌↔◌, Bool}
-use Rattle.poly_pair.specs.Polyhedra.{Polyhedron}
+use Rattle.poly_pair.specs.Polyhedra.{Polyhedron, HaveSamePoints}
 use Rattle.poly_pair.specs.declared.topology.Topology.TheVariants.{Closed}
-use Rattle.lattice_ops.specs.Sets.{HaveSamePoints}
 use Rattle.line_values.specs.Meaning.{line}
 use Rattle.poly_commands.specs.Questions.{side_text}
 use Rattle.line_values.specs.Proper.{IsProper}

@@ -1,8 +1,7 @@
 -- When two entries are the same, and two tables have the same entries.
 use Rattle.std.specs.Prelude.{◌≡◌, [], ◌∷◌}
 use Rattle.row_core.specs.Lists.{Pointwise}
-use Rattle.stored_systems.specs.PointSets.{HoldSame}
-use Rattle.poly_pair.specs.Polyhedra.{Polyhedron}
+use Rattle.poly_pair.specs.Polyhedra.{Polyhedron, HaveSamePoints}
 use Rattle.poly_pair.specs.declared.topology.Topology.TheVariants.{Closed}
 use Rattle.powerset.specs.Powersets.{FinitePowerset}
 use Rattle.calc_state.specs.declared.entry.Entry.{Entry}
@@ -13,7 +12,7 @@ use Rattle.calc_state.specs.Table.{Table}
 pub record AreSamePolyhedra (p q : Polyhedron) : Type 0 where
   pub topology : p.topology ≡ q.topology
   pub dim : p.cons.dim ≡ q.cons.dim
-  pub points : HoldSame p.cons q.cons
+  pub points : HaveSamePoints p q
   pub closed : p.topology ≡ Closed → p ≡ q
 
 -- one topology, one dimension, and as many members, each the same as the one at its place

@@ -4,11 +4,10 @@ use Rattle.std.specs.List.{list_any}
 use Rattle.std.specs.Str.{bytes_eq}
 use Rattle.row_core.specs.Points.{IsPoint}
 use Rattle.cons_sys.specs.Constraints.{Constraints, In}
-use Rattle.poly_pair.specs.Polyhedra.{Polyhedron, IsOver}
+use Rattle.poly_pair.specs.Polyhedra.{Polyhedron, IsOver, IsIncluded, AreAlike}
 use Rattle.poly_pair.specs.declared.topology.Topology.TheVariants.{Closed}
 use Rattle.poly_pair.specs.Parts.{AreStoredOfRows}
 use Rattle.poly_pair.specs.TopologyLists.{constraints_of}
-use Rattle.lattice_ops.specs.Sets.{IsIncluded}
 use Rattle.widening.specs.Widenings.{IsWidening}
 use Rattle.file_poly.specs.Files.{IsOfFile}
 use Rattle.trans_sys.specs.Systems.{TransitionSystem, with_initial, with_transition}
@@ -109,11 +108,6 @@ IsAdded part old p = SaysConstraints old.cons.dim part (λ cs. IsCutOf old cs p)
 -- what the generators of what there was and those of the text generate
 abbrev pub IsJoined : Part → Polyhedron → Polyhedron → Type 0
 IsJoined part old p = SaysGenerators old.gens.dim part (λ gs. IsResultOfGenerators old.topology (more_generators old.gens gs) p)
-
--- two operands have one topology and one dimension
-pub record AreAlike (p q : Polyhedron) : Type 0 where
-  pub topology : p.topology ≡ q.topology
-  pub dim : p.cons.dim ≡ q.cons.dim
 
 -- the widening of a closed operand by one that includes it
 pub record IsOfNested (p q r : Polyhedron) : Type 0 where

@@ -10,9 +10,9 @@ use Rattle.term_text.specs.Systems.{IsCon, IsCons}
 use Rattle.expr_text.specs.GeneratorSystems.{IsGens}
 use Rattle.expr_text.specs.Printed.{constraints_text, generators_text}
 use Rattle.stored_systems.specs.PointSets.{HoldSame}
-use Rattle.poly_pair.specs.Polyhedra.{Polyhedron, HasNoPoint}
+use Rattle.poly_pair.specs.Polyhedra.{Polyhedron, HasNoPoint, IsIncluded, HaveSamePoints, AreAlike}
 use Rattle.poly_pair.specs.declared.topology.Topology.TheVariants.{Closed}
-use Rattle.lattice_ops.specs.Sets.{IsIncluded, HaveSamePoints, AreDisjoint}
+use Rattle.lattice_ops.specs.Sets.{AreDisjoint}
 use Rattle.optimum.specs.Relations.{IsRelation}
 use Rattle.optimum.specs.Suprema.{SupAnswer, IsTrueSup}
 use Rattle.optimum.specs.Laws.{IsWitness}
@@ -45,7 +45,7 @@ use Rattle.calc_state.specs.Powersets.{members_text, cover_line}
 use Rattle.poly_commands.specs.Files.{file_of}
 use Rattle.line_values.specs.Effects.{ok_line}
 use Rattle.run_laws.specs.Acts.{Act, Did, Took, Accepted, acts}
-use Rattle.run_laws.specs.Sets.{IsMade, AreAlike, AreAlikePowersets, HaveOneDim, IsEntryOf, names_of}
+use Rattle.run_laws.specs.Sets.{IsMade, AreAlikePowersets, HaveOneDim, IsEntryOf, names_of}
 
 -- the reply says whether the point of the text is in the polyhedron
 pub record SaysWhether (part : Part) (reply : List ℕ) (p : Polyhedron) : Type 0 where

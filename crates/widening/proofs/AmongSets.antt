@@ -11,9 +11,9 @@ use Rattle.cons_sys.specs.Constraints.{Constraints, Satisfies, constraint_at, ro
 use Rattle.stored_systems.specs.StoredForms.{IsStored}
 use Rattle.stored_systems.proofs.Stored.{stored_is_closed}
 use Rattle.poly_pair.specs.declared.topology.Topology.TheVariants.{Closed}
-use Rattle.poly_pair.specs.Polyhedra.{Polyhedron, IsOfConstraints}
+use Rattle.poly_pair.specs.Polyhedra.{Polyhedron, IsOfConstraints, IsIncluded}
 use Rattle.widening.specs.Inequalities.{HasSameZeros}
-use Rattle.widening.specs.Widenings.{IsPartOf, AllowOthers, IsWidening}
+use Rattle.widening.specs.Widenings.{AllowOthers, IsWidening}
 use Rattle.widening.specs.Values.{HasZerosAmong, HaveZerosAmong, HoldAmong, IsOfAmong}
 use Rattle.widening.proofs.ZeroLists.{zero_negated, among_negated, negated_among}
 use Rattle.widening.proofs.SideLists.{sides, both_sides, all_sides, row_is_side, negative_is_side}
@@ -22,7 +22,7 @@ use Rattle.widening.proofs.KeptRows.{holds_at, among_are_zeros}
 use Rattle.widening.proofs.WidenedSets.{HasMember, others_valid}
 use Rattle.widening.proofs.LargerRows.{closed_satisfied, others_suffice}
 
-module _ (p q : Polyhedron) (stored : IsStored p.cons p.gens) (stored2 : IsStored q.cons q.gens) (same : p.cons.dim ≡ q.cons.dim) (nested : IsPartOf p q) (member : HasMember p) where
+module _ (p q : Polyhedron) (stored : IsStored p.cons p.gens) (stored2 : IsStored q.cons q.gens) (same : p.cons.dim ≡ q.cons.dim) (nested : IsIncluded p q) (member : HasMember p) where
   abbrev Among : List ℤ → Type 0
   Among k = HasZerosAmong p.cons.list p.gens k
 

@@ -32,9 +32,9 @@ use Rattle.stored_systems.proofs.ListLemmas.{All-unmap, All-left, All-right}
 use Rattle.stored_systems.proofs.RemovedElements.{all_filter_contained}
 use Rattle.stored_systems.proofs.Stored.{stored_is_closed}
 use Rattle.stored_systems.proofs.StoredPair.{kept_rows}
-use Rattle.poly_pair.specs.Polyhedra.{Polyhedron}
+use Rattle.poly_pair.specs.Polyhedra.{Polyhedron, IsIncluded}
 use Rattle.widening.specs.Inequalities.{sides_of, inequalities_of, HasSameZeros}
-use Rattle.widening.specs.Widenings.{IsPartOf, IsKeptRow, AllowKeptRows, AllowOthers, as_least}
+use Rattle.widening.specs.Widenings.{IsKeptRow, AllowKeptRows, AllowOthers, as_least}
 use Rattle.widening.specs.WideningLaws.{OthersSuffice}
 use Rattle.widening.specs.Values.{AreZeroOnSame}
 use Rattle.widening.proofs.SideLists.{sides, row_is_side}
@@ -147,7 +147,7 @@ module _ (dim : ℕ) (p : Polyhedron) (f : HasRows dim p) where
     kept_or_none = of_mark (holds_at (λ a. IsFlat dim p f a ⊎ Contains (kept_rows dim f.inequalities) a) (inequalities_of p.cons) k (flat_or_needed dim p f) c)
 
 -- ---- an inequality of the smaller set that is valid on the larger one
-module _ (p q : Polyhedron) (f : HasRows q.cons.dim p) (stored2 : IsStored q.cons q.gens) (nested : IsPartOf p q) where
+module _ (p q : Polyhedron) (f : HasRows q.cons.dim p) (stored2 : IsStored q.cons q.gens) (nested : IsIncluded p q) where
   abbrev cs : Constraints
   cs = record { dim = q.cons.dim; list = as_least (sides q.cons.list) }
 
@@ -220,7 +220,7 @@ module _ (p q : Polyhedron) (f : HasRows q.cons.dim p) (stored2 : IsStored q.con
       pub implied : pos 0 ≤ℤ dot k v
       implied = at_least_zero_of_mul s.times (dot k v) s.positive (subst (λ (z : ℤ). pos 0 ≤ℤ z) (sym (value_sum v)) (weighed_least v s.ray_factors rows term))
 
-pub others_suffice : (p q : Polyhedron) → IsStored p.cons p.gens → IsStored q.cons q.gens → p.cons.dim ≡ q.cons.dim → IsPartOf p q → HasMember p → (v : List ℤ) → IsPoint p.cons.dim v → AllowOthers p q v → AllowKeptRows p q v
+pub others_suffice : (p q : Polyhedron) → IsStored p.cons p.gens → IsStored q.cons q.gens → p.cons.dim ≡ q.cons.dim → IsIncluded p q → HasMember p → (v : List ℤ) → IsPoint p.cons.dim v → AllowOthers p q v → AllowKeptRows p q v
 others_suffice p q stored stored2 same nested member v pt allowed k kept = by_case kept
   where
     by_case : IsKeptRow p q k → pos 0 ≤ℤ dot k v

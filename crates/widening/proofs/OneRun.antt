@@ -2,12 +2,11 @@
 use Rattle.std.proofs.Common.{◌≡◌, ◌⊎◌, inl, inr, ℕ, zero, suc, ◌+◌, ◌<◌, ◌≤◌, List, Option, Some, None, slice_get, refl, sym, ap, ◌∙◌, subst, arith}
 use Rattle.cons_sys.specs.Constraints.{Constraints}
 use Rattle.gens_sys.specs.Generators.{Generators}
-use Rattle.stored_systems.specs.PointSets.{HoldSame}
 use Rattle.stored_systems.specs.StoredForms.{IsStored}
 use Rattle.stored_systems.proofs.Stored.{stored_is_unique}
 use Rattle.poly_pair.specs.declared.topology.Topology.{Topology}
 use Rattle.poly_pair.specs.declared.topology.Topology.TheVariants.{Closed}
-use Rattle.poly_pair.specs.Polyhedra.{Polyhedron, IsKept, IsStoredAs}
+use Rattle.poly_pair.specs.Polyhedra.{Polyhedron, IsKept, IsStoredAs, HaveSamePoints}
 use Rattle.widening.specs.declared.updates.Updated.{Updated}
 use Rattle.widening.specs.Updates.{IsUpdate}
 use Rattle.poly_pair.specs.ClosedPolyhedra.{IsClosedOver}
@@ -29,7 +28,7 @@ same_polyhedron p q e f g =
     ∙ ap (λ (gs : Generators). record { topology = q.topology; cons = q.cons; gens = gs }) g
 
 -- two closed polyhedra of the same points are one
-pub one_set : (d : ℕ) (p q : Polyhedron) → IsClosedOver d p → IsClosedOver d q → HoldSame p.cons q.cons → p ≡ q
+pub one_set : (d : ℕ) (p q : Polyhedron) → IsClosedOver d p → IsClosedOver d q → HaveSamePoints p q → p ≡ q
 one_set d p q c e h =
     let unique = (stored_is_unique p.cons q.cons p.gens q.gens (c.over.same_dim ∙ sym e.over.same_dim) (closed_stored p.topology p.cons p.gens c.over.same_topology c.kept.stored) (closed_stored q.topology q.cons q.gens e.over.same_topology e.kept.stored)).0 h in
     same_polyhedron p q (c.over.same_topology ∙ sym e.over.same_topology) unique.cons unique.gens
@@ -51,8 +50,8 @@ module _ (alone : OneWidening) where
   module _ (turns : TurnList) (proper : AreProper turns) (one_joined : JoinOne turns) where
     -- ---- turns
     module _ (k : ℕ) (below : k < turns.count) (sets : List Polyhedron) (are : AreSetsOf turns.dim turns.places sets) (old : Polyhedron) (has_old : slice_get sets (turns.place k) ≡ Some old) (left : ℕ) where
-      moves_or_stays : (joined other : Polyhedron) → turns.Joins k sets joined → turns.Joins k sets other → HoldSame joined.cons old.cons → ¬ (HoldSame other.cons old.cons) → ⊥
-      moves_or_stays joined other j l h ne = ne (subst (λ (p : Polyhedron). HoldSame p.cons old.cons) (one_joined k sets joined other below are j l) h)
+      moves_or_stays : (joined other : Polyhedron) → turns.Joins k sets joined → turns.Joins k sets other → HaveSamePoints joined old → ¬ (HaveSamePoints other old) → ⊥
+      moves_or_stays joined other j l h ne = ne (subst (λ (p : Polyhedron). HaveSamePoints p old) (one_joined k sets joined other below are j l) h)
 
       one_move : (u v : Updated) → IsMove (turns.Joins k sets) old left u.set u.left → IsMove (turns.Joins k sets) old left v.set v.left → u ≡ v
       one_move u v m n =

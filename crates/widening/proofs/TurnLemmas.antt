@@ -8,10 +8,8 @@ use Rattle.row_core.specs.Points.{IsPoint}
 use Rattle.row_core.specs.declared.errors.ConvErr.{ConvErr}
 use Rattle.row_core.specs.declared.errors.ConvErr.TheVariants as conversion
 use Rattle.cons_sys.specs.Constraints.{In}
-use Rattle.stored_systems.specs.PointSets.{HoldSame}
-use Rattle.poly_pair.specs.Polyhedra.{Polyhedron, IsKept}
+use Rattle.poly_pair.specs.Polyhedra.{Polyhedron, IsKept, IsIncluded, HaveSamePoints}
 use Rattle.widening.specs.declared.updates.Updated.{Updated}
-use Rattle.widening.specs.Widenings.{IsPartOf}
 use Rattle.widening.specs.Updates.{IsUpdate, IsUpdateOverflow}
 use Rattle.poly_pair.specs.ClosedPolyhedra.{IsClosedOver}
 use Rattle.widening.specs.WideningLaws.{IsEnlarged, WideningIncludes}
@@ -22,10 +20,10 @@ use Rattle.widening.specs.RunOverflows.{LeavesInTurn}
 use Rattle.widening.proofs.Places.{same_at, has_at, all_at, set_same, set_other}
 
 -- ---- parts of sets
-pub part_of_itself : (p q : Polyhedron) → p ≡ q → IsPartOf p q
+pub part_of_itself : (p q : Polyhedron) → p ≡ q → IsIncluded p q
 part_of_itself p q e v pt i = subst (λ (r : Polyhedron). In r.cons v) e i
 
-pub part_of_part : (p q r : Polyhedron) → p.cons.dim ≡ q.cons.dim → IsPartOf p q → IsPartOf q r → IsPartOf p r
+pub part_of_part : (p q r : Polyhedron) → p.cons.dim ≡ q.cons.dim → IsIncluded p q → IsIncluded q r → IsIncluded p r
 part_of_part p q r e f g v pt i = g v (subst (λ (n : ℕ). IsPoint n v) e pt) (f v pt i)
 
 -- ---- updates
@@ -33,13 +31,13 @@ pub update_closed : (d : ℕ) (old joined set : Polyhedron) (left new : ℕ) →
 update_closed d old joined set left new o j k (inl (h, e, f)) = subst (IsClosedOver d) (sym e) j
 update_closed d old joined set left new o j k (inr (h, e, w)) = record { kept = k; over = record { same_topology = w.over.same_topology; same_dim = w.over.same_dim ∙ o.over.same_dim } }
 
-pub update_includes : (d : ℕ) (old joined set : Polyhedron) (left new : ℕ) → WideningIncludes → IsClosedOver d old → IsClosedOver d joined → IsPartOf old joined → IsUpdate left old joined set new → IsPartOf joined set
+pub update_includes : (d : ℕ) (old joined set : Polyhedron) (left new : ℕ) → WideningIncludes → IsClosedOver d old → IsClosedOver d joined → IsIncluded old joined → IsUpdate left old joined set new → IsIncluded joined set
 update_includes d old joined set left new wider o j part (inl (h, e, f)) = part_of_itself joined set (sym e)
 update_includes d old joined set left new wider o j part (inr (h, e, w)) =
     wider old joined set (subst (λ (n : ℕ). IsClosedOver n old) (sym o.over.same_dim) o) (subst (λ (n : ℕ). IsClosedOver n joined) (sym o.over.same_dim) j) part w
 
 -- where the joined set isn't the old one it has more points
-pub enlarged : (d : ℕ) (old joined : Polyhedron) → IsClosedOver d old → IsAbove d old joined → ¬ (HoldSame joined.cons old.cons) → IsEnlarged old joined
+pub enlarged : (d : ℕ) (old joined : Polyhedron) → IsClosedOver d old → IsAbove d old joined → ¬ (HaveSamePoints joined old) → IsEnlarged old joined
 enlarged d old joined o a differs = record {
   old_closed = subst (λ (n : ℕ). IsClosedOver n old) (sym a.closed.over.same_dim) o;
   joined_closed = subst (λ (n : ℕ). IsClosedOver n joined) (sym a.closed.over.same_dim) a.closed;
@@ -70,27 +68,27 @@ module _ (turns : TurnList) (proper : AreProper turns) (k : ℕ) (below : k < tu
 
   -- ---- what a turn includes
   module _ (wider : WideningIncludes) where
-    joined_in_move : (set : Polyhedron) (new : ℕ) → (m : IsMove (turns.Joins k before.sets) turn.old turn.left set new) → IsPartOf m.joined set
+    joined_in_move : (set : Polyhedron) (new : ℕ) → (m : IsMove (turns.Joins k before.sets) turn.old turn.left set new) → IsIncluded m.joined set
     joined_in_move set new m = let a = joined_above m.joined m.is_joined in update_includes turns.dim turn.old m.joined set turn.left new wider old_closed a.closed a.includes m.update
 
-    move_includes : (set : Polyhedron) (new : ℕ) → IsMove (turns.Joins k before.sets) turn.old turn.left set new → IsPartOf turn.old set
+    move_includes : (set : Polyhedron) (new : ℕ) → IsMove (turns.Joins k before.sets) turn.old turn.left set new → IsIncluded turn.old set
     move_includes set new m = let a = joined_above m.joined m.is_joined in part_of_part turn.old m.joined set (old_closed.over.same_dim ∙ sym a.closed.over.same_dim) a.includes (joined_in_move set new m)
 
-    pub turn_includes : (i : ℕ) (p q : Polyhedron) → slice_get before.sets i ≡ Some p → slice_get after.sets i ≡ Some q → IsPartOf p q
+    pub turn_includes : (i : ℕ) (p q : Polyhedron) → slice_get before.sets i ≡ Some p → slice_get after.sets i ≡ Some q → IsIncluded p q
     turn_includes i p q has_p has_q = by turn.outcome turn.is_outcome turn.is_placed
       where
-        stays : slice_get after.sets i ≡ slice_get before.sets i → IsPartOf p q
+        stays : slice_get after.sets i ≡ slice_get before.sets i → IsIncluded p q
         stays e = part_of_itself p q (same_at before.sets i p q has_p (sym e ∙ has_q))
 
-        moved : (u : Updated) → IsMove (turns.Joins k before.sets) turn.old turn.left u.set u.left → after ≡ placed before (turns.place k) (Some u) → (i ≡ turns.place k) ⊎ (i ≢ turns.place k) → IsPartOf p q
+        moved : (u : Updated) → IsMove (turns.Joins k before.sets) turn.old turn.left u.set u.left → after ≡ placed before (turns.place k) (Some u) → (i ≡ turns.place k) ⊎ (i ≢ turns.place k) → IsIncluded p q
         moved u m e (inl f) =
             let is_old : turn.old ≡ p = same_at before.sets (turns.place k) turn.old p turn.has_old (ap (slice_get before.sets) (sym f) ∙ has_p) in
             let at : slice_get after.sets i ≡ Some u.set = ap (λ (x : RunTable). slice_get x.sets i) e ∙ ap (slice_get (slice_set before.sets (turns.place k) u.set)) f ∙ set_same before.sets (turns.place k) u.set (slice_get_within before.sets (turns.place k) turn.old turn.has_old) in
             let is_set : u.set ≡ q = same_at after.sets i u.set q at has_q in
-            subst (λ (r : Polyhedron). IsPartOf p r) is_set (subst (λ (r : Polyhedron). IsPartOf r u.set) is_old (move_includes u.set u.left m))
+            subst (λ (r : Polyhedron). IsIncluded p r) is_set (subst (λ (r : Polyhedron). IsIncluded r u.set) is_old (move_includes u.set u.left m))
         moved u m e (inr ne) = stays (ap (λ (x : RunTable). slice_get x.sets i) e ∙ set_other before.sets (turns.place k) i u.set ne)
 
-        by : (outcome : Option Updated) → IsOutcome (turns.Joins k before.sets) turn.old turn.left outcome → after ≡ placed before (turns.place k) outcome → IsPartOf p q
+        by : (outcome : Option Updated) → IsOutcome (turns.Joins k before.sets) turn.old turn.left outcome → after ≡ placed before (turns.place k) outcome → IsIncluded p q
         by None h e = stays (ap (λ (x : RunTable). slice_get x.sets i) e)
         by (Some u) h e = moved u h e (cases_eq i (turns.place k))
 
@@ -98,7 +96,7 @@ module _ (turns : TurnList) (proper : AreProper turns) (k : ℕ) (below : k < tu
 pub turn_takes : (turns : TurnList) → AreProper turns → (k : ℕ) → k < turns.count → (t : RunTable) → IsTableOf turns t → WideningIncludes → IsTurn turns k t t → IsTaken turns k t.sets
 turn_takes turns proper k below t table wider turn = by turn.outcome turn.is_outcome turn.is_placed
   where
-    taken : (joined : Polyhedron) → turns.Joins k t.sets joined → IsPartOf joined turn.old → IsTaken turns k t.sets
+    taken : (joined : Polyhedron) → turns.Joins k t.sets joined → IsIncluded joined turn.old → IsTaken turns k t.sets
     taken joined j part = record { set = turn.old; has_set = turn.has_old; joined = joined; is_joined = j; within = part }
 
     by : (outcome : Option Updated) → IsOutcome (turns.Joins k t.sets) turn.old turn.left outcome → t ≡ placed t (turns.place k) outcome → IsTaken turns k t.sets
@@ -106,7 +104,7 @@ turn_takes turns proper k below t table wider turn = by turn.outcome turn.is_out
     by (Some u) h e =
         let at : slice_get t.sets (turns.place k) ≡ Some u.set = ap (λ (x : RunTable). slice_get x.sets (turns.place k)) e ∙ set_same t.sets (turns.place k) u.set (slice_get_within t.sets (turns.place k) turn.old turn.has_old) in
         let is_set : u.set ≡ turn.old = same_at t.sets (turns.place k) u.set turn.old at turn.has_old in
-        taken h.joined h.is_joined (subst (λ (r : Polyhedron). IsPartOf h.joined r) is_set (joined_in_move turns proper k below t t table turn wider u.set u.left h))
+        taken h.joined h.is_joined (subst (λ (r : Polyhedron). IsIncluded h.joined r) is_set (joined_in_move turns proper k below t t table turn wider u.set u.left h))
 
 -- ---- outcomes of a turn
 -- where the joined set has no more points the table stays
@@ -135,7 +133,7 @@ module _ (turns : TurnList) (k : ℕ) (t : RunTable) (sets : List Polyhedron) (s
   pub is_larger : IsLarger (turns.Joins k t.sets) old joined
   is_larger = subst (λ (x : Option Polyhedron). IsFound (turns.Joins k t.sets) old x) is (subst (λ (xs : List Polyhedron). (p : Polyhedron) → slice_get xs (turns.place k) ≡ Some p → IsFound (turns.Joins k xs) p o) same found old old_at)
 
-  differs : ¬ (HoldSame joined.cons old.cons)
+  differs : ¬ (HaveSamePoints joined old)
   differs h = is_larger.enlarged.more (λ v pt i. (h v pt).0 i)
 
   pub moves : (set : Polyhedron) (new : ℕ) (after : RunTable) → IsUpdate left old joined set new → IsKept set → after ≡ record { sets = slice_set t.sets m set; left = slice_set t.left m new } → IsTurn turns k t after

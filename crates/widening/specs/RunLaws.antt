@@ -1,6 +1,5 @@
 use Rattle.std.specs.Prelude.{◌≡◌, ℕ, ◌<◌, List, length, slice_get, Option, Some, None, All}
-use Rattle.poly_pair.specs.Polyhedra.{Polyhedron}
-use Rattle.widening.specs.Widenings.{IsPartOf}
+use Rattle.poly_pair.specs.Polyhedra.{Polyhedron, IsIncluded}
 use Rattle.poly_pair.specs.ClosedPolyhedra.{IsClosedOver}
 use Rattle.widening.specs.WideningLaws.{IsEnlarged}
 use Rattle.widening.specs.Runs.{RunTable, TurnList, IsNoMove}
@@ -18,7 +17,7 @@ pub record IsTableOf (turns : TurnList) (t : RunTable) : Type 0 where
 -- a closed polyhedron of so many variables that includes the other
 pub record IsAbove (dim : ℕ) (old joined : Polyhedron) : Type 0 where
   pub closed : IsClosedOver dim joined
-  pub includes : IsPartOf old joined
+  pub includes : IsIncluded old joined
 
 -- each turn has one of the places, and joins a closed set that includes that of its place
 pub record AreProper (turns : TurnList) : Type 0 where
@@ -39,7 +38,7 @@ IsFound Joins old (Some joined) = IsLarger Joins old joined
 -- ---- what a limit includes
 -- the set of each place includes the one that it began with
 abbrev pub IncludeEach : List Polyhedron → List Polyhedron → Type 0
-IncludeEach initial sets = (i : ℕ) (p q : Polyhedron) → slice_get initial i ≡ Some p → slice_get sets i ≡ Some q → IsPartOf p q
+IncludeEach initial sets = (i : ℕ) (p q : Polyhedron) → slice_get initial i ≡ Some p → slice_get sets i ≡ Some q → IsIncluded p q
 
 -- what the turn joins is in the set of its place
 pub record IsTaken (turns : TurnList) (k : ℕ) (sets : List Polyhedron) : Type 0 where
@@ -47,7 +46,7 @@ pub record IsTaken (turns : TurnList) (k : ℕ) (sets : List Polyhedron) : Type 
   pub has_set : slice_get sets (turns.place k) ≡ Some set
   pub joined : Polyhedron
   pub is_joined : turns.Joins k sets joined
-  pub within : IsPartOf joined set
+  pub within : IsIncluded joined set
 
 abbrev pub AreTaken : TurnList → List Polyhedron → Type 0
 AreTaken turns sets = (k : ℕ) → k < turns.count → IsTaken turns k sets

@@ -1,7 +1,6 @@
 use Rattle.std.specs.Prelude.{◌≡◌, ◌⊎◌, ℕ, ◌<◌, List, slice_get, Some}
 use Rattle.row_core.specs.declared.errors.Overflow.{Overflow}
-use Rattle.stored_systems.specs.PointSets.{HoldSame}
-use Rattle.poly_pair.specs.Polyhedra.{Polyhedron}
+use Rattle.poly_pair.specs.Polyhedra.{Polyhedron, HaveSamePoints}
 use Rattle.widening.specs.Overflows.{LeavesOnWidening}
 use Rattle.widening.specs.Runs.{RunTable, TurnList, IsRound, AreRounds, start}
 
@@ -12,7 +11,7 @@ pub record LeavesOnUpdate (turns : TurnList) (k : ℕ) (t : RunTable) (over : Ov
   pub used_up : slice_get t.left (turns.place k) ≡ Some 0
   pub joined : Polyhedron
   pub is_joined : turns.Joins k t.sets joined
-  pub differs : ¬ (HoldSame joined.cons old.cons)
+  pub differs : ¬ (HaveSamePoints joined old)
   pub leaves : LeavesOnWidening old joined over
 
 -- an overflow of a turn at the table

@@ -2,7 +2,7 @@ use Rattle.std.proofs.Common.{rules, ℕ, List, Err, ◌≡◌, sym, ◌∙◌, 
 use Rattle.std.specs.Option.{option_copied}
 use Rattle.cons_sys.specs.Constraints.{Constraints}
 use Rattle.gens_sys.specs.Generators.{Generators}
-use Rattle.lattice_ops.specs.Sets.{IsIncluded}
+use Rattle.poly_pair.specs.Polyhedra.{IsIncluded}
 use Rattle.lattice_ops.specs.Questions.{Answers}
 use Rattle.line_values.specs.Meaning.{answer_line}
 use Rattle.line_values.proofs.PerformedLemmas.{answered, found_two}

@@ -1,8 +1,7 @@
 use Rattle.std.proofs.Common.{All, List, sym, subst, arith}
 use Rattle.std.proofs.lemmas.List.{take_all}
 use Rattle.std.proofs.lemmas.Result.{err_from_is_err_and}
-use Rattle.poly_pair.specs.Polyhedra.{Polyhedron}
-use Rattle.lattice_ops.specs.LatticeLaws.{AreAlike}
+use Rattle.poly_pair.specs.Polyhedra.{Polyhedron, AreAlike}
 use Rattle.powerset.specs.Joins.{AreMeets}
 use Rattle.powerset.proofs.JoinLemmas.{no_pairs, all_more, row_leaves}
 use Rattle.powerset.proofs.joining.all_meets.Goals as goal

@@ -2,9 +2,8 @@ use Rattle.std.proofs.Common.{inl, inr, sym, subst, ℕ, List}
 use Rattle.std.specs.Prelude.{All}
 use Rattle.row_core.specs.Refusals.{IsOverflowIn}
 use Rattle.row_core.proofs.RefusalLemmas.{overflow_weaker}
-use Rattle.lattice_ops.specs.LatticeLaws.{AreAlike}
 use Rattle.poly_pair.specs.declared.topology.Topology.{Topology}
-use Rattle.poly_pair.specs.Polyhedra.{Polyhedron}
+use Rattle.poly_pair.specs.Polyhedra.{Polyhedron, AreAlike}
 use Rattle.powerset.specs.Powersets.{IsMember}
 use Rattle.powerset.specs.Reductions.{IsReduced, LeavesBetween}
 use Rattle.powerset.specs.Joins.{AreMeets, IsPairMeet, LeavesOnMeet, LeavesOnPairMeet}
