@@ -10,7 +10,6 @@ ghost use Rattle.row_core.specs.Refusals.{IsOverflowIn};
 ghost use Rattle.mapped_systems.specs.Refusals.{SomeLeavesInImage, SomeLeavesInPullback};
 ghost use Rattle.affine_maps.specs.SubstitutedSets.{LeavesOnSubstituted, LeavesOnPulledBack};
 
-use crate::generated::generated;
 use crate::inverse_maps::{carried_image, carried_preimage};
 use crate::related::{related_image, related_preimage};
 use crate::relations::ImageRel;
@@ -53,7 +52,7 @@ fn substituted_image<L: Ledger>(
     if let Some(image) = carried_image(p, var, expr, den, &mapped, steps)? {
         return Ok(image);
     }
-    generated(alloc, p.topology(), &mapped, steps)
+    Poly::from_gens_with_point(alloc, p.topology(), &mapped, steps)
 }
 
 /// The points of a set in which a variable has any value that stands in the relation to that of the expression over the

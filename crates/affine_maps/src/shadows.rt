@@ -8,7 +8,6 @@ ghost use Rattle.mapped_systems.specs.Maps.{picked};
 ghost use Rattle.poly_pair.specs.Work.{ConvertsFirst, cons_work, begun_cons};
 ghost use Rattle.affine_maps.specs.Shadows.{IsShadow, IsStoredOfShadow, SpanShadowIfAny, ConvertsSystem, ConvertsShadow};
 
-use crate::generated::generated;
 use cons_sys::ConsSys;
 use gens_sys::GensSys;
 use mapped_systems::picked_generators;
@@ -63,7 +62,7 @@ fn shadow_of_generators<L: Ledger>(
     let Some(mapped) = generators else {
         return Ok(Poly::empty(alloc, topology, columns.len())?);
     };
-    generated(alloc, topology, &mapped, steps)
+    Poly::from_gens_with_point(alloc, topology, &mapped, steps)
 }
 
 /// The points that those at which constraints hold become where the columns alone are kept, in their order.

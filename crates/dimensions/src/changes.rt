@@ -9,7 +9,6 @@ ghost use Rattle.row_core.specs.Refusals.{IsOverflowIn};
 ghost use Rattle.dimensions.specs.Refusals.{LeavesOnMapped, LeavesOnPulled, ConvertsMapped, ConvertsJoined};
 
 use crate::added_variables::{embedded_pair, projected_pair};
-use crate::generated::generated;
 use mapped_systems::{
     joined_constraints, padded_constraints, padded_generators, remaining_generators,
 };
@@ -73,7 +72,7 @@ pub fn project<L: Ledger>(
     if let Some(projection) = projected_pair(alloc, p, count, &padded, steps)? {
         return Ok(projection);
     }
-    generated(alloc, p.topology(), &padded, steps)
+    Poly::from_gens_with_point(alloc, p.topology(), &padded, steps)
 }
 
 /// The points that those of a set become without the named variables. The others keep their order; one that is
@@ -98,7 +97,7 @@ pub fn remove_dims<L: Ledger>(
         (length (kept_variables p.now.cons.dim vars.now)) p.now steps.old steps.new result }
 {
     let remaining = remaining_generators(alloc, p.gens(), vars)?;
-    generated(alloc, p.topology(), &remaining, steps)
+    Poly::from_gens_with_point(alloc, p.topology(), &remaining, steps)
 }
 
 /// The product of two sets: the points whose first variables are in the first and whose others are in the second.

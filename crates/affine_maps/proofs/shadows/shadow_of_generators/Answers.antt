@@ -22,22 +22,22 @@ returns-in_default-clause-stored g c =
     let columns = c.args.columns.now in
     inl (subst (SpanShadowIfAny c.args.topology (picked columns cs.dim) (length columns) cs) c.in_default.is c.in_ok-generators.ensures)
 
-pub generated-requires-clause-narrow : goal.generated-requires-clause-narrow
-generated-requires-clause-narrow g c =
+pub from_gens_with_point-requires-clause-narrow : goal.from_gens_with_point-requires-clause-narrow
+from_gens_with_point-requires-clause-narrow g c =
     let cs = c.args.cons.now in
     let columns = c.args.columns.now in
     let span : SpanShadow c.args.topology (picked columns cs.dim) (length columns) cs c.in-Some.mapped = subst (SpanShadowIfAny c.args.topology (picked columns cs.dim) (length columns) cs) c.in-Some.is c.in_ok-generators.ensures in
     subst (λ (n : ℕ). n ≤ MAX_DIM) (sym span.is_system.mapped.same_dim) c.requires.narrow
 
-pub generated-requires-clause-kinds : goal.generated-requires-clause-kinds
-generated-requires-clause-kinds g c =
+pub from_gens_with_point-requires-clause-kinds : goal.from_gens_with_point-requires-clause-kinds
+from_gens_with_point-requires-clause-kinds g c =
     let cs = c.args.cons.now in
     let columns = c.args.columns.now in
     let span : SpanShadow c.args.topology (picked columns cs.dim) (length columns) cs c.in-Some.mapped = subst (SpanShadowIfAny c.args.topology (picked columns cs.dim) (length columns) cs) c.in-Some.is c.in_ok-generators.ensures in
     span.kinds
 
-pub generated-requires-clause-point : goal.generated-requires-clause-point
-generated-requires-clause-point g c =
+pub from_gens_with_point-requires-clause-point : goal.from_gens_with_point-requires-clause-point
+from_gens_with_point-requires-clause-point g c =
     let cs = c.args.cons.now in
     let columns = c.args.columns.now in
     let span : SpanShadow c.args.topology (picked columns cs.dim) (length columns) cs c.in-Some.mapped = subst (SpanShadowIfAny c.args.topology (picked columns cs.dim) (length columns) cs) c.in-Some.is c.in_ok-generators.ensures in
@@ -47,24 +47,24 @@ pub returns-clause-points : goal.returns-clause-points
 returns-clause-points g c =
     let cs = c.args.cons.now in
     let columns = c.args.columns.now in
-    IfOk-weaker c.generated.result (IsOfGenerators c.args.topology c.in-Some.mapped) (IsShadow c.args.topology (picked columns cs.dim) (length columns) cs)
+    IfOk-weaker c.from_gens_with_point.result (IsOfGenerators c.args.topology c.in-Some.mapped) (IsShadow c.args.topology (picked columns cs.dim) (length columns) cs)
     (shadow_points c.args.topology (picked columns cs.dim) (length columns) cs c.in-Some.mapped (subst (SpanShadowIfAny c.args.topology (picked columns cs.dim) (length columns) cs) c.in-Some.is c.in_ok-generators.ensures))
-    c.generated.ensures.points
+    c.from_gens_with_point.ensures.points
 
 pub returns-clause-stored : goal.returns-clause-stored
 returns-clause-stored g c =
     let cs = c.args.cons.now in
     let columns = c.args.columns.now in
-    IfOk-weaker c.generated.result (AreStoredOfGenerators c.args.topology c.in-Some.mapped) (IsStoredOfShadow c.args.topology (picked columns cs.dim) (length columns) cs)
+    IfOk-weaker c.from_gens_with_point.result (AreStoredOfGenerators c.args.topology c.in-Some.mapped) (IsStoredOfShadow c.args.topology (picked columns cs.dim) (length columns) cs)
     (shadow_stored c.args.topology (picked columns cs.dim) (length columns) cs c.in-Some.mapped (subst (SpanShadowIfAny c.args.topology (picked columns cs.dim) (length columns) cs) c.in-Some.is c.in_ok-generators.ensures))
-    c.generated.ensures.stored
+    c.from_gens_with_point.ensures.stored
 
 pub returns-clause-conversion : goal.returns-clause-conversion
 returns-clause-conversion g c =
     let cs = c.args.cons.now in
     let columns = c.args.columns.now in
     system_conversion c.args.topology (picked columns cs.dim) (length columns) cs c.in-Some.mapped (subst (SpanShadowIfAny c.args.topology (picked columns cs.dim) (length columns) cs) c.in-Some.is c.in_ok-generators.ensures)
-    c.args.steps.now c.generated.new.steps (overflow_in conv_overflow c.generated.result) c.generated.ensures.conversion
+    c.args.steps.now c.from_gens_with_point.new.steps (overflow_in conv_overflow c.from_gens_with_point.result) c.from_gens_with_point.ensures.conversion
 
 pub returns-in_default-clause-conversion : goal.returns-in_default-clause-conversion
 returns-in_default-clause-conversion g c = inl (refl, refl)

@@ -14,14 +14,14 @@ use Rattle.dimensions.specs.AddedVariables.{LeavesWithZeros}
 use Rattle.dimensions.proofs.MappedResults.{lent_generators, mapped_kinds, mapped_point, image_points, mapped_overflow, projection_points}
 use Rattle.dimensions.proofs.changes.project.Goals as goal
 
-pub generated-requires-clause-kinds : goal.generated-requires-clause-kinds
-generated-requires-clause-kinds g c =
+pub from_gens_with_point-requires-clause-kinds : goal.from_gens_with_point-requires-clause-kinds
+from_gens_with_point-requires-clause-kinds g c =
     let p = c.args.p.now in
     let m : IsMappedSystem (with_zeros p.cons.dim c.args.count) (p.cons.dim + c.args.count) p.gens c.in_ok-padded.padded = lent_generators (λ n. with_zeros n c.args.count) (λ n. n + c.args.count) p c.gens.result.now c.in_ok-padded.padded c.gens.ensures.value c.gens.ensures.kept c.in_ok-padded.ensures.system in
     mapped_kinds (with_zeros p.cons.dim c.args.count) c.topology.result (p.cons.dim + c.args.count) p c.in_ok-padded.padded c.topology.ensures.value c.topology.ensures.kept m
 
-pub generated-requires-clause-point : goal.generated-requires-clause-point
-generated-requires-clause-point g c =
+pub from_gens_with_point-requires-clause-point : goal.from_gens_with_point-requires-clause-point
+from_gens_with_point-requires-clause-point g c =
     let p = c.args.p.now in
     let m : IsMappedSystem (with_zeros p.cons.dim c.args.count) (p.cons.dim + c.args.count) p.gens c.in_ok-padded.padded = lent_generators (λ n. with_zeros n c.args.count) (λ n. n + c.args.count) p c.gens.result.now c.in_ok-padded.padded c.gens.ensures.value c.gens.ensures.kept c.in_ok-padded.ensures.system in
     mapped_point (with_zeros p.cons.dim c.args.count) (p.cons.dim + c.args.count) p c.in_ok-padded.padded c.gens.ensures.kept m
@@ -30,16 +30,16 @@ pub returns-clause-points : goal.returns-clause-points
 returns-clause-points g c =
     let p = c.args.p.now in
     let m : IsMappedSystem (with_zeros p.cons.dim c.args.count) (p.cons.dim + c.args.count) p.gens c.in_ok-padded.padded = lent_generators (λ n. with_zeros n c.args.count) (λ n. n + c.args.count) p c.gens.result.now c.in_ok-padded.padded c.gens.ensures.value c.gens.ensures.kept c.in_ok-padded.ensures.system in
-    IfOk-weaker c.generated.result (IsOfGenerators c.topology.result c.in_ok-padded.padded) (IsProjection c.args.count p)
+    IfOk-weaker c.from_gens_with_point.result (IsOfGenerators c.topology.result c.in_ok-padded.padded) (IsProjection c.args.count p)
     (λ q o. projection_points p c.args.count q (image_points (with_zeros p.cons.dim c.args.count) (p.cons.dim + c.args.count) p c.in_ok-padded.padded c.topology.result c.topology.ensures.value c.gens.ensures.kept (subst FitDimension c.gens.ensures.value c.in_ok-padded.ensures.fit) (padding_linear p.cons.dim c.args.count) m q o))
-    c.generated.ensures.points
+    c.from_gens_with_point.ensures.points
 
 pub returns-clause-overflow : goal.returns-clause-overflow
 returns-clause-overflow g c =
     let p = c.args.p.now in
     let new = c.in_ok-padded.padded in
     let m : IsMappedSystem (with_zeros p.cons.dim c.args.count) (p.cons.dim + c.args.count) p.gens c.in_ok-padded.padded = lent_generators (λ n. with_zeros n c.args.count) (λ n. n + c.args.count) p c.gens.result.now c.in_ok-padded.padded c.gens.ensures.value c.gens.ensures.kept c.in_ok-padded.ensures.system in
-    mapped_overflow (with_zeros p.cons.dim c.args.count) (p.cons.dim + c.args.count) p new c.topology.result _ _ c.generated.result c.topology.ensures.value m c.generated.ensures.conversion
+    mapped_overflow (with_zeros p.cons.dim c.args.count) (p.cons.dim + c.args.count) p new c.topology.result _ _ c.from_gens_with_point.result c.topology.ensures.value m c.from_gens_with_point.ensures.conversion
 
 pub returns-in-Some-clause-points : goal.returns-in-Some-clause-points
 returns-in-Some-clause-points g c =
@@ -58,4 +58,4 @@ pub returns-clause-pair : goal.returns-clause-pair
 returns-clause-pair g c =
     let p = c.args.p.now in
     let none : CanStart p → LeavesWithZeros c.args.count p = at_none c.in_ok-projection.field-0 (CanStart p → LeavesWithZeros c.args.count p) (λ _. ⊤) c.in_default.not-Some c.in_ok-projection.ensures.none in
-    IfErr-weaker c.generated.result (λ _. ⊤) (IsOverflowIn (λ _. CanStart p → LeavesWithZeros c.args.count p)) (λ e _. always_in (CanStart p → LeavesWithZeros c.args.count p) none e) (any_error c.generated.result)
+    IfErr-weaker c.from_gens_with_point.result (λ _. ⊤) (IsOverflowIn (λ _. CanStart p → LeavesWithZeros c.args.count p)) (λ e _. always_in (CanStart p → LeavesWithZeros c.args.count p) none e) (any_error c.from_gens_with_point.result)
