@@ -1,30 +1,35 @@
 -- The successors in pairs, by the constraints of these and by columns.
 use Rattle.std.specs.List.{range_with_len}
-use Rattle.std.proofs.Common.{◌≡◌, ℕ, zero, suc, ◌+◌, ◌*◌, ◌<◌, List, [], ◌∷◌, ◌++◌, length, drop, ℤ, refl, sym, ap, ◌∙◌, subst, arith, All}
-use Rattle.std.specs.Prelude.{Option, Some, None}
+use Rattle.std.proofs.Common.{◌≡◌, ◌⊎◌, inl, inr, ℕ, zero, suc, ◌+◌, ◌*◌, ◌<◌, List, [], ◌∷◌, ◌++◌, length, drop, ℤ, refl, sym, ap, ◌∙◌, subst, arith, All}
+use Rattle.std.specs.Prelude.{Option, Some, None, Result, Ok, Err, IfErr}
 use Rattle.std.proofs.lemmas.List.FromFn.{get_or-range_with_len, length-range_with_len}
 use Rattle.std.proofs.lemmas.List.Elements.{All-append, All-from_get_or}
 use Rattle.row_core.specs.Points.{IsPoint, IsSamePoint}
+use Rattle.row_core.specs.declared.errors.Overflow.{Overflow}
 use Rattle.row_core.specs.declared.errors.ConvErr.{ConvErr}
 use Rattle.row_core.specs.declared.errors.ConvErr.TheVariants as conversion
 use Rattle.cons_sys.specs.Constraints.{Constraint, Constraints, In, Satisfies}
 use Rattle.gens_sys.specs.Generators.{Generators}
 use Rattle.stored_systems.specs.PointSets.{IsWithin, AreClosed, IsClosedKind}
 use Rattle.stored_systems.proofs.ListLemmas.{All-left, All-right}
+use Rattle.cone_laws.specs.Leaves.{Leaves}
+use Rattle.poly_pair.specs.declared.topology.Topology.{Topology}
 use Rattle.poly_pair.specs.declared.topology.Topology.TheVariants.{Closed}
-use Rattle.poly_pair.specs.TopologyLists.{AreConstraintsFor}
+use Rattle.poly_pair.specs.TopologyLists.{AreConstraintsFor, list_width, constraints_of}
+use Rattle.poly_pair.specs.Work.{begun_cons}
 use Rattle.poly_pair.specs.Polyhedra.{Polyhedron, IsKept}
 use Rattle.poly_pair.proofs.StoredLemmas.{kept_constraints}
 use Rattle.mapped_systems.specs.Maps.{with_zeros, without, picked}
 use Rattle.affine_maps.specs.Posts.{IsStepTo, IsPost, SpanPostIfAny, HasPairOf, AreSuccessors}
 use Rattle.row_core.specs.Refusals.{IsOverflowIn}
 use Rattle.mapped_systems.specs.Sources.{HasSource}
-use Rattle.affine_maps.specs.Shadows.{IsShadow, SpanShadowIfAny, LeavesOnShadow}
+use Rattle.affine_maps.specs.Shadows.{IsShadow, SpanShadowIfAny, LeavesOnSystem}
+use Rattle.affine_maps.proofs.ShadowSets.{shadow_leaves}
 use Rattle.mapped_systems.proofs.KeptColumns.{remaining_back, kept_last}
 use Rattle.mapped_systems.proofs.PulledSets.{MeetsAt, pulled_holds, holds_pulled}
 use Rattle.affine_maps.proofs.MappedPolyhedra.{pulled_kinds}
 use Rattle.mapped_systems.proofs.PulledSets.{padded_meets}
-use Rattle.affine_maps.specs.PostLists.{IsPairSystem, IsStepSystem, later, LeavesOnSteps}
+use Rattle.affine_maps.specs.PostLists.{IsPairSystem, IsStepSystem, later, LeavesOnSteps, ConvertsSteps, ConvertsFirstSteps}
 
 -- ---- pairs of a state and its successor
 module _ (p relation pairs : Constraints) (twice : relation.dim ≡ 2 * p.dim) (s : IsPairSystem p relation pairs) where
@@ -173,6 +178,25 @@ module _ (p relation : Polyhedron) (steps : Constraints) (twice : relation.cons.
     );
   }
 
-pub steps_overflow : (p relation : Polyhedron) (steps : Constraints) → IsStepSystem p.cons relation.cons steps → (e : ConvErr) → IsOverflowIn (LeavesOnShadow Closed (picked (later p.cons.dim) steps.dim) p.cons.dim steps) e → IsOverflowIn (LeavesOnSteps p relation) e
-steps_overflow p relation steps s (conversion.Overflow over) l = record { steps = steps; are_steps = s; leaves = l }
-steps_overflow p relation steps s conversion.Memory l = tt
+-- ---- refusals
+pub steps_clause : (p relation : Polyhedron) (old new : ℕ) (r : Result Polyhedron ConvErr) → relation.topology ≡ Closed → ConvertsSteps p relation old new r → IfErr r (IsOverflowIn (LeavesOnSteps p relation))
+steps_clause p relation old new (Ok made) closed h = tt
+steps_clause p relation old new (Err (conversion.Overflow over)) closed (inl h) = absurd (let never : Some over ≡ None = h.1 in cc)
+steps_clause p relation old new (Err (conversion.Overflow over)) closed (inr h) = record {
+  steps = h.steps;
+  are_steps = h.are_steps;
+  leaves =
+      subst (λ (t : Topology). Leaves (list_width t h.steps.dim) (constraints_of t h.steps) over ⊎ LeavesOnSystem Closed (picked (later p.cons.dim) h.steps.dim) p.cons.dim h.steps over) closed
+      (shadow_leaves (begun_cons relation h.steps) Closed (picked (later p.cons.dim) h.steps.dim) p.cons.dim h.steps old new over h.conversion);
+}
+steps_clause p relation old new (Err conversion.Memory) closed h = tt
+
+pub first_steps_clause : (p relation : Polyhedron) (old new : ℕ) (r : Result (Option Generators) ConvErr) → relation.topology ≡ Closed → ConvertsFirstSteps p relation old new r → IfErr r (IsOverflowIn (LeavesOnSteps p relation))
+first_steps_clause p relation old new (Ok made) closed h = tt
+first_steps_clause p relation old new (Err (conversion.Overflow over)) closed (inl h) = absurd (let never : Some over ≡ None = h.1 in cc)
+first_steps_clause p relation old new (Err (conversion.Overflow over)) closed (inr h) = record {
+  steps = h.steps;
+  are_steps = h.are_steps;
+  leaves = inl (subst (λ (t : Topology). Leaves (list_width t h.steps.dim) (constraints_of t h.steps) over) closed h.conversion.overflow);
+}
+first_steps_clause p relation old new (Err conversion.Memory) closed h = tt

@@ -1,8 +1,10 @@
 -- The polyhedra of related images.
-use Rattle.std.proofs.Common.{◌≡◌, ℕ, ◌+◌, ◌<◌, List, [], ◌∷◌, ◌++◌, length, ℤ, refl, sym, ap, ◌∙◌, subst, arith, All}
+use Rattle.std.specs.Prelude.{IfErr}
+use Rattle.std.proofs.Common.{◌≡◌, inl, inr, ℕ, ◌+◌, ◌<◌, ◌≤◌, Option, Some, None, Result, Ok, Err, List, [], ◌∷◌, ◌++◌, length, ℤ, refl, sym, ap, ◌∙◌, subst, arith, All}
 use Rattle.std.specs.List.{range_with_len}
 use Rattle.std.proofs.lemmas.List.Elements.{All-nil, All-cons, All-append, All-set}
 use Rattle.row_core.specs.Points.{IsPoint}
+use Rattle.row_core.specs.declared.errors.Overflow.{Overflow}
 use Rattle.row_core.specs.declared.errors.ConvErr.{ConvErr}
 use Rattle.row_core.specs.declared.errors.ConvErr.TheVariants as conversion
 use Rattle.cons_sys.specs.Constraints.{Constraint, Constraints, FitDimension, Gains}
@@ -15,8 +17,10 @@ use Rattle.affine_maps.specs.declared.relations.ImageRel.TheVariants.{Eq, Ge, Le
 use Rattle.mapped_systems.specs.Maps.{with_zeros, picked}
 use Rattle.mapped_systems.specs.MappedLists.{IsPulledSystem}
 use Rattle.row_core.specs.Refusals.{IsOverflowIn}
-use Rattle.affine_maps.specs.Shadows.{IsShadow, IsStoredOfShadow, LeavesOnShadow}
-use Rattle.affine_maps.specs.Relations.{relation_row, relation_kind, IsExtended, IsRelationFor, moved, image_columns, IsPreimageBy, IsImageBy, IsStoredOfRelation, LeavesOnRelation}
+use Rattle.poly_pair.specs.Work.{cons_work, conv_overflow, overflow_in}
+use Rattle.affine_maps.specs.Shadows.{IsShadow, IsStoredOfShadow, IsShadowConversion}
+use Rattle.affine_maps.proofs.ShadowSets.{shadow_fewer, shadow_leaves}
+use Rattle.affine_maps.specs.Relations.{relation_row, relation_kind, IsExtended, IsRelationFor, moved, image_columns, IsPreimageBy, IsImageBy, IsStoredOfRelation, LeavesOnRelation, IsRelationConversion, ConvertsRelation}
 use Rattle.poly_pair.specs.Polyhedra.{Polyhedron, IsKept}
 use Rattle.mapped_systems.proofs.KeptVariables.{range_more, by_suc, range_below}
 use Rattle.affine_maps.proofs.MappedPolyhedra.{pulled_kinds}
@@ -33,10 +37,6 @@ extended_of h rel expr den cs front all p d g = record {
   primitive = g.primitive;
   joined = g.list;
 }
-
-pub relation_overflow : (h : List ℤ → List ℤ) (columns : List ℕ) (rel : ImageRel) (expr : List ℤ) (den : ℤ) (p : Polyhedron) (all : Constraints) → IsExtended h rel expr den p.cons all → (e : ConvErr) → IsOverflowIn (LeavesOnShadow p.topology (picked columns all.dim) (length columns) all) e → IsOverflowIn (LeavesOnRelation h columns rel expr den p) e
-relation_overflow h columns rel expr den p all is (conversion.Overflow over) l = record { extended = all; is_extended = is; leaves = l }
-relation_overflow h columns rel expr den p all is conversion.Memory l = tt
 
 pub image_by : (rel : ImageRel) (var : ℕ) (expr : List ℤ) (den : ℤ) (p : Polyhedron) (all : Constraints) → var < p.cons.dim → length expr ≡ p.cons.dim + 1 → IsExtended (with_zeros p.cons.dim 1) rel expr den p.cons all → (r : Polyhedron) → IsShadow p.topology (picked (image_columns p.cons.dim var) all.dim) (length (image_columns p.cons.dim var)) all r → IsImageBy rel var expr den p r
 image_by rel var expr den p all below wide is r s =
@@ -92,11 +92,6 @@ lent_points p rel var expr den all topology columns t c below wide is r s =
     image_by rel var expr den p all below wide is r
     (subst (λ (js : List ℕ). IsShadow p.topology (picked js all.dim) (length js) all r) c (subst (λ (u : Topology). IsShadow u (picked columns all.dim) (length columns) all r) t s))
 
-pub lent_overflow : (p : Polyhedron) (rel : ImageRel) (var : ℕ) (expr : List ℤ) (den : ℤ) (all : Constraints) (topology : Topology) (columns : List ℕ) → topology ≡ p.topology → columns ≡ image_columns p.cons.dim var → IsExtended (with_zeros p.cons.dim 1) rel expr den p.cons all → (e : ConvErr) → IsOverflowIn (LeavesOnShadow topology (picked columns all.dim) (length columns) all) e → IsOverflowIn (LeavesOnRelation (with_zeros p.cons.dim 1) (image_columns p.cons.dim var) rel expr den p) e
-lent_overflow p rel var expr den all topology columns t c is e l =
-    relation_overflow (with_zeros p.cons.dim 1) (image_columns p.cons.dim var) rel expr den p all is e
-    (subst (λ (js : List ℕ). IsOverflowIn (LeavesOnShadow p.topology (picked js all.dim) (length js) all) e) c (subst (λ (u : Topology). IsOverflowIn (LeavesOnShadow u (picked columns all.dim) (length columns) all) e) t l))
-
 -- ---- preimages
 pub front_below : (dim : ℕ) → All (λ (j : ℕ). j < dim + 1) (range_with_len 0 dim)
 front_below dim i d h = let r = range_below dim i d h in omega (arith, r)
@@ -127,11 +122,6 @@ lent_preimage p rel var expr den all topology columns t c below wide cs same fit
     preimage_by rel var expr den p all below wide (λ i d h. ((subst FitDimension same fit).each i d h).wide) is r
     (subst (λ (js : List ℕ). IsShadow p.topology (picked js all.dim) (length js) all r) c (subst (λ (u : Topology). IsShadow u (picked columns all.dim) (length columns) all r) t s))
 
-pub preimage_overflow : (p : Polyhedron) (rel : ImageRel) (var : ℕ) (expr : List ℤ) (den : ℤ) (all : Constraints) (topology : Topology) (columns : List ℕ) → topology ≡ p.topology → columns ≡ range_with_len 0 p.cons.dim → IsExtended (moved p.cons.dim var) rel expr den p.cons all → (e : ConvErr) → IsOverflowIn (LeavesOnShadow topology (picked columns all.dim) (length columns) all) e → IsOverflowIn (LeavesOnRelation (moved p.cons.dim var) (range_with_len 0 p.cons.dim) rel expr den p) e
-preimage_overflow p rel var expr den all topology columns t c is e l =
-    relation_overflow (moved p.cons.dim var) (range_with_len 0 p.cons.dim) rel expr den p all is e
-    (subst (λ (js : List ℕ). IsOverflowIn (LeavesOnShadow p.topology (picked js all.dim) (length js) all) e) c (subst (λ (u : Topology). IsOverflowIn (LeavesOnShadow u (picked columns all.dim) (length columns) all) e) t l))
-
 -- ---- what is stored
 pub relation_stored : (h : List ℤ → List ℤ) (columns js : List ℕ) (rel : ImageRel) (expr : List ℤ) (den : ℤ) (p : Polyhedron) (all : Constraints) (topology : Topology) → topology ≡ p.topology → js ≡ columns → IsExtended h rel expr den p.cons all → (r : Polyhedron) → IsStoredOfShadow topology (picked js all.dim) (length js) all r → IsStoredOfRelation h columns rel expr den p r
 relation_stored h columns js rel expr den p all topology t c is r s = record {
@@ -139,3 +129,26 @@ relation_stored h columns js rel expr den p all topology t c is r s = record {
   is_extended = is;
   stored = subst (λ (ks : List ℕ). IsStoredOfShadow p.topology (picked ks all.dim) (length ks) all r) c (subst (λ (u : Topology). IsStoredOfShadow u (picked js all.dim) (length js) all r) t s);
 }
+
+-- ---- what the calls cost and show
+module _ (h : List ℤ → List ℤ) (columns : List ℕ) (rel : ImageRel) (expr : List ℤ) (den : ℤ) (p : Polyhedron) where
+  pub relation_conversion : (js : List ℕ) (all : Constraints) (topology : Topology) (old new : ℕ) (over : Option Overflow) → topology ≡ p.topology → js ≡ columns → IsExtended h rel expr den p.cons all → IsShadowConversion (cons_work topology all) topology (picked js all.dim) (length js) all old new over → IsRelationConversion h columns rel expr den p old new over
+  relation_conversion js all topology old new over t c is s = record {
+    extended = all;
+    is_extended = is;
+    conversion = subst (λ (ks : List ℕ). IsShadowConversion (cons_work p.topology all) p.topology (picked ks all.dim) (length ks) all old new over) c (subst (λ (u : Topology). IsShadowConversion (cons_work u all) u (picked js all.dim) (length js) all old new over) t s);
+  }
+
+  pub relation_fewer : (old new : ℕ) (r : Result Polyhedron ConvErr) → ConvertsRelation h columns rel expr den p old new r → old ≤ new
+  relation_fewer old new r (inl s) = omega (arith, s.0)
+  relation_fewer old new r (inr s) = shadow_fewer (cons_work p.topology s.extended) p.topology (picked columns s.extended.dim) (length columns) s.extended old new (overflow_in conv_overflow r) s.conversion
+
+  pub relation_clause : (old new : ℕ) (r : Result Polyhedron ConvErr) → ConvertsRelation h columns rel expr den p old new r → IfErr r (IsOverflowIn (LeavesOnRelation h columns rel expr den p))
+  relation_clause old new (Ok made) s = tt
+  relation_clause old new (Err (conversion.Overflow over)) (inl s) = absurd (let never : Some over ≡ None = s.1 in cc)
+  relation_clause old new (Err (conversion.Overflow over)) (inr s) = record {
+    extended = s.extended;
+    is_extended = s.is_extended;
+    leaves = shadow_leaves (cons_work p.topology s.extended) p.topology (picked columns s.extended.dim) (length columns) s.extended old new over s.conversion;
+  }
+  relation_clause old new (Err conversion.Memory) s = tt

@@ -1,23 +1,28 @@
 -- The points that constraints become where some columns alone are kept, by the generators of the constraints.
-use Rattle.std.proofs.Common.{◌≡◌, inl, inr, ℕ, ◌+◌, List, length, ℤ, sym, ap, ◌∙◌, subst, All}
+use Rattle.std.proofs.Common.{◌≡◌, ◌⊎◌, inl, inr, ℕ, ◌+◌, ◌-◌, ◌≤◌, List, [], length, ℤ, Option, Some, None, Result, Ok, Err, sym, ap, ◌∙◌, subst, arith, All}
+use Rattle.std.specs.Prelude.{IfErr}
 use Rattle.row_core.specs.Points.{IsPoint}
+use Rattle.row_core.specs.declared.errors.Overflow.{Overflow}
 use Rattle.row_core.specs.declared.errors.ConvErr.{ConvErr}
 use Rattle.row_core.specs.declared.errors.ConvErr.TheVariants as conversion
-use Rattle.chernikova.specs.Conversion.{IsRealOverflow}
+use Rattle.cone_laws.specs.Leaves.{Leaves}
+use Rattle.chernikova.specs.Conversion.{IsRealOverflow, IsCountedUpto, IsCountedBetween, IsCountedBefore, IsCountedBeforeFrom}
 use Rattle.cons_sys.specs.Constraints.{Constraints}
 use Rattle.gens_sys.specs.Generators.{Generator, Generators, FitDimension}
-use Rattle.stored_systems.specs.WorkLists.{LeavesOn}
+use Rattle.stored_systems.specs.WorkLists.{LeavesOn, constraint_list}
 use Rattle.poly_pair.specs.declared.topology.Topology.{Topology}
-use Rattle.poly_pair.specs.TopologyLists.{list_width, constraints_of, generators_of}
+use Rattle.poly_pair.specs.declared.topology.Topology.TheVariants.{Closed}
+use Rattle.poly_pair.specs.TopologyLists.{list_width, generators_of}
 use Rattle.poly_pair.specs.Polyhedra.{Polyhedron, IsEmpty, IsOfGenerators}
-use Rattle.poly_pair.specs.Refusals.{IsOverflowOn}
+use Rattle.poly_pair.specs.Work.{Work, cons_work, gens_work, begun_cons, known_rows, IsConversion, IsFirstConversion, ConvertsFirst}
+use Rattle.poly_pair.proofs.WorkLemmas.{first_of_clauses, at_known}
 use Rattle.poly_pair.specs.Parts.{AreStoredOfGenerators}
 use Rattle.poly_pair.specs.Spanning.{HoldNowhere, IsSpanning}
 use Rattle.mapped_systems.specs.Maps.{picked}
 use Rattle.mapped_systems.specs.MappedLists.{IsMappedSystem}
 use Rattle.row_core.specs.Refusals.{IsOverflowIn}
 use Rattle.mapped_systems.specs.Sources.{HasSource}
-use Rattle.affine_maps.specs.Shadows.{IsShadow, IsStoredOfShadow, SpanShadow, LeavesOnShadow}
+use Rattle.affine_maps.specs.Shadows.{IsShadow, IsStoredOfShadow, SpanShadow, LeavesOnSystem, LeavesOnShadow, IsSecondConversion, IsShadowConversion, ConvertsShadow}
 use Rattle.mapped_systems.proofs.LinearMaps.{IsLinearMap}
 use Rattle.mapped_systems.proofs.MappedSets.{SpannedSource, source_of, of_source}
 use Rattle.affine_maps.proofs.MappedPolyhedra.{kinds_for}
@@ -76,15 +81,39 @@ module _ (topology : Topology) (f : List ℤ → List ℤ) (to : ℕ) (cs : Cons
   pub shadow_stored : (r : Polyhedron) → AreStoredOfGenerators topology new r → IsStoredOfShadow topology f to cs r
   shadow_stored r st = inr (record { system = new; is_system = s.is_system; stored = st })
 
-  -- ---- refusals
-  pub system_overflow : (e : ConvErr) → IsOverflowOn (list_width topology new.dim) new.dim (generators_of topology new) e → IsOverflowIn (LeavesOnShadow topology f to cs) e
-  system_overflow (conversion.Overflow over) l = inr (record {
-    system = new;
-    is_system = s.is_system;
-    leaves = subst (λ (n : ℕ). LeavesOn (list_width topology n) n (generators_of topology new) over) s.is_system.mapped.same_dim l;
-  })
-  system_overflow conversion.Memory l = tt
+  -- ---- what its conversion costs and shows
+  pub system_conversion : (before after : ℕ) (over : Option Overflow) → IsConversion (gens_work topology new) before after over → IsSecondConversion topology f to cs before after over
+  system_conversion before after over h = inr (record { system = new; is_system = s.is_system; conversion = h })
 
-pub list_overflow : (topology : Topology) (f : List ℤ → List ℤ) (to : ℕ) (cs : Constraints) (e : ConvErr) → IsRealOverflow (list_width topology cs.dim) (constraints_of topology cs) e → IsOverflowIn (LeavesOnShadow topology f to cs) e
-list_overflow topology f to cs (conversion.Overflow over) l = inl l
-list_overflow topology f to cs conversion.Memory l = tt
+-- ---- what the calls cost and show
+-- the first conversion, by the clauses of the call that begins with a stored pair
+pub first_begun : {T : Type 0} (p : Polyhedron) (cs : Constraints) (old new : ℕ) (r : Result T ConvErr) → p.topology ≡ Closed → IfErr r (IsRealOverflow (cs.dim + 1) (constraint_list cs)) → old ≤ new → IsCountedUpto (cs.dim + 1) (constraint_list cs) (length (constraint_list cs)) (new - old) → (¬ (p.gens.list ≡ []) → IsCountedBetween (cs.dim + 1) (constraint_list cs) (length p.cons.list + 1) (length (constraint_list cs)) (new - old)) → IfErr r (IsCountedBefore (cs.dim + 1) (constraint_list cs) (new - old)) → (¬ (p.gens.list ≡ []) → IfErr r (IsCountedBeforeFrom (cs.dim + 1) (constraint_list cs) (length p.cons.list + 1) (new - old))) → ConvertsFirst (begun_cons p cs) old new r
+first_begun p cs old new r closed leaves fewer counted counted_from before before_from =
+    let known = length p.cons.list + 1 in
+    subst (λ (t : Topology). ConvertsFirst (record (cons_work t cs) { from = known_rows t p.gens.list known }) old new r) (sym closed)
+    (first_of_clauses (record (cons_work Closed cs) { from = known_rows Closed p.gens.list known }) old new r leaves fewer
+    (at_known (λ k. IsCountedBetween (cs.dim + 1) (constraint_list cs) k (length (constraint_list cs)) (new - old)) Closed p.gens.list known counted (λ _ some. counted_from some))
+    (at_known (λ k. IfErr r (IsCountedBeforeFrom (cs.dim + 1) (constraint_list cs) k (new - old))) Closed p.gens.list known before (λ _ some. before_from some)))
+
+module _ (work : Work) (topology : Topology) (f : List ℤ → List ℤ) (to : ℕ) (cs : Constraints) where
+  -- the second after the first
+  pub both_conversions : (old between new : ℕ) (over : Option Overflow) → IsFirstConversion work old between None → IsSecondConversion topology f to cs between new over → IsShadowConversion work topology f to cs old new over
+  both_conversions old between new over first (inl h) = inl (subst (λ (n : ℕ). IsFirstConversion work old n over) (sym h.0) (subst (λ (o : Option Overflow). IsFirstConversion work old between o) (sym h.1) first))
+  both_conversions old between new over first (inr second) = inr (record { between = between; first = first; second = second })
+
+  pub shadow_fewer : (old new : ℕ) (over : Option Overflow) → IsShadowConversion work topology f to cs old new over → old ≤ new
+  shadow_fewer old new over (inl first) = first.no_fewer
+  shadow_fewer old new over (inr both) = omega (arith, both.first.no_fewer, both.second.conversion.no_fewer)
+
+  pub shadow_leaves : (old new : ℕ) (over : Overflow) → IsShadowConversion work topology f to cs old new (Some over) → Leaves work.width work.rows over ⊎ LeavesOnSystem topology f to cs over
+  shadow_leaves old new over (inl first) = inl first.overflow
+  shadow_leaves old new over (inr both) = inr (record {
+    system = both.second.system;
+    is_system = both.second.is_system;
+    leaves = subst (λ (n : ℕ). LeavesOn (list_width topology n) n (generators_of topology both.second.system) over) both.second.is_system.mapped.same_dim both.second.conversion.overflow;
+  })
+
+pub shadow_clause : (topology : Topology) (f : List ℤ → List ℤ) (to : ℕ) (cs : Constraints) (old new : ℕ) (r : Result Polyhedron ConvErr) → ConvertsShadow (cons_work topology cs) topology f to cs old new r → IfErr r (IsOverflowIn (LeavesOnShadow topology f to cs))
+shadow_clause topology f to cs old new (Ok made) h = tt
+shadow_clause topology f to cs old new (Err (conversion.Overflow over)) h = shadow_leaves (cons_work topology cs) topology f to cs old new over h
+shadow_clause topology f to cs old new (Err conversion.Memory) h = tt

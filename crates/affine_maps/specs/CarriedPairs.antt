@@ -37,4 +37,5 @@ pub record LeavesInTurned (var : ℕ) (row : List ℤ) (size : ℤ) (p : Polyhed
 pub record ImagePairLeaves (var : ℕ) (expr : List ℤ) (den : ℤ) (p : Polyhedron) : Type 0 where
   pub row : List ℤ
   pub inverse : IsInverseRow var expr den row (pos (unsigned_abs (cell expr var)))
-  pub leaves : LeavesInTurned var row (pos (unsigned_abs (cell expr var))) p ⊎ LeavesOnTurned var row (pos (unsigned_abs (cell expr var))) p
+  pub leaves : LeavesInTurned var row (pos (unsigned_abs (cell expr var))) p
+      ⊎ LeavesOnTurned var row (pos (unsigned_abs (cell expr var))) p

@@ -1,12 +1,15 @@
-use Rattle.std.specs.Prelude.{◌≡◌, ℕ, List, ◌++◌}
+use Rattle.std.specs.Prelude.{◌≡◌, ◌⊎◌, ℕ, List, ◌++◌, Option, None, Result}
 use Rattle.std.specs.List.{range_with_len}
 use Rattle.row_core.specs.declared.errors.Overflow.{Overflow}
+use Rattle.row_core.specs.declared.errors.ConvErr.{ConvErr}
 use Rattle.cons_sys.specs.Constraints.{Constraint, Constraints}
+use Rattle.gens_sys.specs.Generators.{Generators}
 use Rattle.poly_pair.specs.declared.topology.Topology.TheVariants.{Closed}
 use Rattle.poly_pair.specs.Polyhedra.{Polyhedron}
+use Rattle.poly_pair.specs.Work.{begun_cons, conv_overflow, overflow_in, IsFirstConversion}
 use Rattle.mapped_systems.specs.Maps.{with_zeros, picked}
 use Rattle.mapped_systems.specs.MappedLists.{ArePulled}
-use Rattle.affine_maps.specs.Shadows.{LeavesOnShadow}
+use Rattle.affine_maps.specs.Shadows.{LeavesOnShadow, IsShadowConversion}
 
 -- the constraints of a set on the first variables of a pair, and then those of a relation
 pub record IsPairSystem (p relation pairs : Constraints) : Type 0 where
@@ -31,3 +34,32 @@ pub record LeavesOnSteps (p relation : Polyhedron) (over : Overflow) : Type 0 wh
   pub steps : Constraints
   pub are_steps : IsStepSystem p.cons relation.cons steps
   pub leaves : LeavesOnShadow Closed (picked (later p.cons.dim) steps.dim) p.cons.dim steps over
+
+-- ---- what a call costs and shows
+-- the conversion of the list of a relation's constraints and then a set's, from the stored pair of the relation, and then that of their successors
+pub record IsStepConversion (p relation : Polyhedron) (old new : ℕ)
+    (over : Option Overflow) : Type 0 where
+  pub steps : Constraints
+  pub are_steps : IsStepSystem p.cons relation.cons steps
+  pub conversion : IsShadowConversion (begun_cons relation steps) Closed
+    (picked (later p.cons.dim) steps.dim) p.cons.dim steps old new over
+
+-- the first alone
+pub record IsFirstStepConversion (p relation : Polyhedron) (old new : ℕ)
+    (over : Option Overflow) : Type 0 where
+  pub steps : Constraints
+  pub are_steps : IsStepSystem p.cons relation.cons steps
+  pub conversion : IsFirstConversion (begun_cons relation steps) old new over
+
+-- a call that converts these, or nothing where memory runs out before the list is made
+abbrev pub ConvertsSteps : Polyhedron → Polyhedron → ℕ → ℕ → Result Polyhedron ConvErr → Type 0
+ConvertsSteps p relation old new result =
+    ((new ≡ old) × (overflow_in conv_overflow result ≡ None))
+    ⊎ IsStepConversion p relation old new (overflow_in conv_overflow result)
+
+-- one that gives generators
+abbrev pub ConvertsFirstSteps : Polyhedron → Polyhedron → ℕ → ℕ → Result (Option Generators) ConvErr
+    → Type 0
+ConvertsFirstSteps p relation old new result =
+    ((new ≡ old) × (overflow_in conv_overflow result ≡ None))
+    ⊎ IsFirstStepConversion p relation old new (overflow_in conv_overflow result)

@@ -19,7 +19,8 @@ pub record IsStepTo (p relation : Constraints) (y : List ℤ) : Type 0 where
 -- the post of a set by a relation: all successors of its states
 pub record IsPost (p relation post : Polyhedron) : Type 0 where
   pub over : IsOver Closed p.cons.dim post
-  pub points : (y : List ℤ) → IsPoint p.cons.dim y → In post.cons y ↔ IsStepTo p.cons relation.cons y
+  pub points : (y : List ℤ) → IsPoint p.cons.dim y → In post.cons y
+      ↔ IsStepTo p.cons relation.cons y
 
 -- generators of the post, of which one is a point
 pub record SpanPost (p relation : Polyhedron) (gs : Generators) : Type 0 where

@@ -10,8 +10,16 @@ use Rattle.affine_maps.specs.Relations.{IsRelatedImage, IsRelatedPreimage, IsExt
 
 -- the points that the extended constraints become where the new variable takes the place of the variable are the image by the relation
 abbrev pub ImageIsShadow : Type 0
-ImageIsShadow = (rel : ImageRel) (var : ℕ) (expr : List ℤ) (den : ℤ) (cs extended : Constraints) (v : List ℤ) → var < cs.dim → length expr ≡ cs.dim + 1 → IsExtended (with_zeros cs.dim 1) rel expr den cs extended → IsPoint cs.dim v → HasSource (picked (image_columns cs.dim var) extended.dim) extended v ↔ IsRelatedImage rel var expr den cs v
+ImageIsShadow = (rel : ImageRel) (var : ℕ) (expr : List ℤ) (den : ℤ) (cs extended : Constraints)
+    (v : List ℤ) → var < cs.dim → length expr ≡ cs.dim + 1
+    → IsExtended (with_zeros cs.dim 1) rel expr den cs extended → IsPoint cs.dim v
+    → HasSource (picked (image_columns cs.dim var) extended.dim) extended v
+    ↔ IsRelatedImage rel var expr den cs v
 
 -- those that they become without the new variable are the preimage
 abbrev pub PreimageIsShadow : Type 0
-PreimageIsShadow = (rel : ImageRel) (var : ℕ) (expr : List ℤ) (den : ℤ) (cs extended : Constraints) (v : List ℤ) → var < cs.dim → length expr ≡ cs.dim + 1 → AreWide cs → IsExtended (moved cs.dim var) rel expr den cs extended → IsPoint cs.dim v → HasSource (picked (range_with_len 0 cs.dim) extended.dim) extended v ↔ IsRelatedPreimage rel var expr den cs v
+PreimageIsShadow = (rel : ImageRel) (var : ℕ) (expr : List ℤ) (den : ℤ) (cs extended : Constraints)
+    (v : List ℤ) → var < cs.dim → length expr ≡ cs.dim + 1 → AreWide cs
+    → IsExtended (moved cs.dim var) rel expr den cs extended → IsPoint cs.dim v
+    → HasSource (picked (range_with_len 0 cs.dim) extended.dim) extended v
+    ↔ IsRelatedPreimage rel var expr den cs v

@@ -1,4 +1,4 @@
-use Rattle.std.specs.Prelude.{◌≡◌, ◌≢◌, ◌↔◌, ⊤, ℕ, ◌+◌, ◌<◌, length, List, [], ◌∷◌, ◌++◌, take, drop, slice_set, ℤ, pos, neg_ℤ, ◌≤ℤ◌, ◌<ℤ◌}
+use Rattle.std.specs.Prelude.{◌≡◌, ◌≢◌, ◌⊎◌, ◌↔◌, ⊤, ℕ, ◌+◌, ◌<◌, length, Option, None, Result, List, [], ◌∷◌, ◌++◌, take, drop, slice_set, ℤ, pos, neg_ℤ, ◌≤ℤ◌, ◌<ℤ◌}
 use Rattle.std.specs.List.{range_with_len}
 use Rattle.std.proofs.Math.IntN.{◌*ℤ◌}
 use Rattle.row_core.specs.Vectors.{cell, dot, scale}
@@ -12,12 +12,14 @@ use Rattle.affine_maps.specs.declared.relations.ImageRel.{ImageRel}
 use Rattle.affine_maps.specs.declared.relations.ImageRel.TheVariants.{Eq, Ge, Le, Gt, Lt}
 use Rattle.row_core.specs.Points.{IsPoint}
 use Rattle.row_core.specs.declared.errors.Overflow.{Overflow}
+use Rattle.row_core.specs.declared.errors.ConvErr.{ConvErr}
 use Rattle.poly_pair.specs.declared.topology.Topology.{Topology}
 use Rattle.poly_pair.specs.declared.topology.Topology.TheVariants.{Nnc}
 use Rattle.poly_pair.specs.Polyhedra.{Polyhedron, IsOver}
+use Rattle.poly_pair.specs.Work.{cons_work, conv_overflow, overflow_in}
 use Rattle.mapped_systems.specs.Maps.{picked}
 use Rattle.mapped_systems.specs.MappedLists.{ArePulled}
-use Rattle.affine_maps.specs.Shadows.{IsStoredOfShadow, LeavesOnShadow}
+use Rattle.affine_maps.specs.Shadows.{IsStoredOfShadow, LeavesOnShadow, IsShadowConversion}
 
 -- the one number stands in the relation to the other
 abbrev pub Stands : ImageRel → ℤ → ℤ → Type 0
@@ -29,18 +31,22 @@ Stands Lt x y = x <ℤ y
 
 -- ---- sets
 -- some point of the set has the same values in all other variables, and the value of the variable at the vector stands in the relation to that of the expression over the divisor at this point; all is multiplied out by the divisors
-pub record IsRelatedImage (rel : ImageRel) (var : ℕ) (expr : List ℤ) (den : ℤ) (cs : Constraints) (v : List ℤ) : Type 0 where
+pub record IsRelatedImage (rel : ImageRel) (var : ℕ) (expr : List ℤ) (den : ℤ) (cs : Constraints)
+    (v : List ℤ) : Type 0 where
   pub source : List ℤ
   pub within : IsWithin cs source
-  pub others : (j : ℕ) → j < cs.dim → j ≢ var → cell v j *ℤ cell source cs.dim ≡ cell source j *ℤ cell v cs.dim
-  pub stands : Stands rel (cell v var *ℤ (den *ℤ cell source cs.dim)) (dot expr source *ℤ cell v cs.dim)
+  pub others : (j : ℕ) → j < cs.dim → j ≢ var → cell v j *ℤ cell source cs.dim
+      ≡ cell source j *ℤ cell v cs.dim
+  pub stands : Stands rel (cell v var *ℤ (den *ℤ cell source cs.dim))
+      (dot expr source *ℤ cell v cs.dim)
 
 -- the vector with the fraction as the value of the variable
 abbrev pub replaced : ℕ → ℕ → ℤ → ℤ → List ℤ → List ℤ
 replaced dim var num below v = slice_set (scale below v) var (num *ℤ cell v dim)
 
 -- some fraction stands in the relation to the value of the expression over the divisor at the vector, and with it as the value of the variable the vector is in the set
-pub record IsRelatedPreimage (rel : ImageRel) (var : ℕ) (expr : List ℤ) (den : ℤ) (cs : Constraints) (v : List ℤ) : Type 0 where
+pub record IsRelatedPreimage (rel : ImageRel) (var : ℕ) (expr : List ℤ) (den : ℤ) (cs : Constraints)
+    (v : List ℤ) : Type 0 where
   pub num : ℤ
   pub below : ℤ
   pub positive : pos 0 <ℤ below
@@ -72,7 +78,8 @@ relation_kind Gt = con.Gt
 relation_kind Lt = con.Gt
 
 -- the mapped constraints, and then that of the new variable, made primitive
-pub record IsExtended (h : List ℤ → List ℤ) (rel : ImageRel) (expr : List ℤ) (den : ℤ) (cs extended : Constraints) : Type 0 where
+pub record IsExtended (h : List ℤ → List ℤ) (rel : ImageRel) (expr : List ℤ) (den : ℤ)
+    (cs extended : Constraints) : Type 0 where
   pub same_dim : extended.dim ≡ cs.dim + 1
   pub front : List Constraint
   pub pulled : ArePulled h cs.list front
@@ -95,22 +102,46 @@ IsRelationFor topology Gt = topology ≡ Nnc
 IsRelationFor topology Lt = topology ≡ Nnc
 
 -- the polyhedron of the related images, or preimages
-pub record IsImageBy (rel : ImageRel) (var : ℕ) (expr : List ℤ) (den : ℤ) (p image : Polyhedron) : Type 0 where
+pub record IsImageBy (rel : ImageRel) (var : ℕ) (expr : List ℤ) (den : ℤ)
+    (p image : Polyhedron) : Type 0 where
   pub over : IsOver p.topology p.cons.dim image
-  pub points : (v : List ℤ) → IsPoint p.cons.dim v → In image.cons v ↔ IsRelatedImage rel var expr den p.cons v
+  pub points : (v : List ℤ) → IsPoint p.cons.dim v → In image.cons v
+      ↔ IsRelatedImage rel var expr den p.cons v
 
-pub record IsPreimageBy (rel : ImageRel) (var : ℕ) (expr : List ℤ) (den : ℤ) (p preimage : Polyhedron) : Type 0 where
+pub record IsPreimageBy (rel : ImageRel) (var : ℕ) (expr : List ℤ) (den : ℤ)
+    (p preimage : Polyhedron) : Type 0 where
   pub over : IsOver p.topology p.cons.dim preimage
-  pub points : (v : List ℤ) → IsPoint p.cons.dim v → In preimage.cons v ↔ IsRelatedPreimage rel var expr den p.cons v
+  pub points : (v : List ℤ) → IsPoint p.cons.dim v → In preimage.cons v
+      ↔ IsRelatedPreimage rel var expr den p.cons v
 
 -- the conversion of the list of the extended constraints, of that of their generators at the columns, or of the second list of the latter leaves the range
-pub record LeavesOnRelation (h : List ℤ → List ℤ) (columns : List ℕ) (rel : ImageRel) (expr : List ℤ) (den : ℤ) (p : Polyhedron) (over : Overflow) : Type 0 where
+pub record LeavesOnRelation (h : List ℤ → List ℤ) (columns : List ℕ) (rel : ImageRel)
+    (expr : List ℤ) (den : ℤ) (p : Polyhedron) (over : Overflow) : Type 0 where
   pub extended : Constraints
   pub is_extended : IsExtended h rel expr den p.cons extended
-  pub leaves : LeavesOnShadow p.topology (picked columns extended.dim) (length columns) extended over
+  pub leaves : LeavesOnShadow p.topology (picked columns extended.dim) (length columns)
+      extended over
 
 -- what is stored: of the system of the extended constraints' generators at the columns, where these constraints hold somewhere
-pub record IsStoredOfRelation (h : List ℤ → List ℤ) (columns : List ℕ) (rel : ImageRel) (expr : List ℤ) (den : ℤ) (p result : Polyhedron) : Type 0 where
+pub record IsStoredOfRelation (h : List ℤ → List ℤ) (columns : List ℕ) (rel : ImageRel)
+    (expr : List ℤ) (den : ℤ) (p result : Polyhedron) : Type 0 where
   pub extended : Constraints
   pub is_extended : IsExtended h rel expr den p.cons extended
-  pub stored : IsStoredOfShadow p.topology (picked columns extended.dim) (length columns) extended result
+  pub stored : IsStoredOfShadow p.topology (picked columns extended.dim) (length columns)
+      extended result
+
+-- ---- what a call costs and shows
+-- the conversions of the list of the extended constraints and of that of their generators at the columns
+pub record IsRelationConversion (h : List ℤ → List ℤ) (columns : List ℕ) (rel : ImageRel)
+    (expr : List ℤ) (den : ℤ) (p : Polyhedron) (old new : ℕ) (over : Option Overflow) : Type 0 where
+  pub extended : Constraints
+  pub is_extended : IsExtended h rel expr den p.cons extended
+  pub conversion : IsShadowConversion (cons_work p.topology extended) p.topology
+    (picked columns extended.dim) (length columns) extended old new over
+
+-- a call that converts these, or nothing where memory runs out before the list is made
+abbrev pub ConvertsRelation : (List ℤ → List ℤ) → List ℕ → ImageRel → List ℤ → ℤ → Polyhedron → ℕ
+    → ℕ → Result Polyhedron ConvErr → Type 0
+ConvertsRelation h columns rel expr den p old new result =
+    ((new ≡ old) × (overflow_in conv_overflow result ≡ None))
+    ⊎ IsRelationConversion h columns rel expr den p old new (overflow_in conv_overflow result)

@@ -1,14 +1,15 @@
 //! Images and preimages by a relation between a variable and an expression.
-ghost use Rattle.std.specs.Prelude.{◌≡◌, ◌+◌, ◌<◌, ◌≤◌, ◌⊎◌, length, pos, ◌<ℤ◌, IfOk, IfErr};
+ghost use Rattle.std.specs.Prelude.{◌≡◌, ◌≢◌, ◌+◌, ◌<◌, ◌≤◌, ◌⊎◌, length, pos, ◌<ℤ◌, IfOk, IfErr};
+ghost use Rattle.std.specs.List.{range_with_len};
 ghost use Rattle.row_core.specs.Range.{InRange, AllInRange};
+ghost use Rattle.mapped_systems.specs.Maps.{with_zeros};
 ghost use Rattle.affine_maps.specs.SubstitutedSets.{IsSubstitutedImage, IsSubstitutedPreimage, IsStoredOfSubstituted, IsStoredOfPulledBack};
-ghost use Rattle.affine_maps.specs.Relations.{IsRelationFor, IsImageBy, IsPreimageBy};
+ghost use Rattle.affine_maps.specs.Relations.{IsRelationFor, IsImageBy, IsPreimageBy, moved, image_columns, ConvertsRelation};
 ghost use Rattle.affine_maps.specs.ImageResults.{IsStoredOfImage, LeavesInImageBy, IsStoredOfPreimage, LeavesInPreimageBy};
 ghost use Rattle.row_core.specs.Refusals.{IsOverflowIn};
 ghost use Rattle.mapped_systems.specs.Refusals.{SomeLeavesInImage, SomeLeavesInPullback};
 ghost use Rattle.affine_maps.specs.SubstitutedSets.{LeavesOnSubstituted, LeavesOnPulledBack};
 
-use crate::generated::generated;
 use crate::inverse_maps::{carried_image, carried_preimage};
 use crate::related::{related_image, related_preimage};
 use crate::relations::ImageRel;
@@ -48,10 +49,10 @@ fn substituted_image<L: Ledger>(
         Ok(mapped) => mapped,
         Err(cause) => return Err(cause),
     };
-    if let Some(image) = carried_image(alloc, p, var, expr, den, &mapped, steps)? {
+    if let Some(image) = carried_image(p, var, expr, den, &mapped, steps)? {
         return Ok(image);
     }
-    generated(alloc, p.topology(), &mapped, steps)
+    Poly::from_gens_with_point(alloc, p.topology(), &mapped, steps)
 }
 
 /// The points of a set in which a variable has any value that stands in the relation to that of the expression over the
@@ -85,11 +86,13 @@ pub fn image<L: Ledger>(
     ensures stored { IfOk result (IsStoredOfImage rel var expr.now den p.now) }
     ensures overflow { IfErr result (IsOverflowIn (LeavesInImageBy rel var expr.now den p.now)) }
     ensures no_fewer { steps.old ≤ steps.new }
+    ensures conversion { rel ≢ ImageRel.Eq → ConvertsRelation (with_zeros p.now.cons.dim 1)
+        (image_columns p.now.cons.dim var) rel expr.now den p.now steps.old steps.new result }
 {
     if rel == ImageRel::Eq {
         return substituted_image(alloc, p, var, expr, den, steps);
     }
-    related_image(alloc, p, var, rel, expr, den, steps)
+    related_image(p, var, rel, expr, den, steps)
 }
 
 /// The points that are in a set once a variable is replaced by the expression over the divisor. The rows of the
@@ -122,7 +125,7 @@ fn substituted_preimage<L: Ledger>(
         Ok(pulled) => pulled,
         Err(cause) => return Err(cause),
     };
-    if let Some(preimage) = carried_preimage(alloc, p, var, expr, den, &pulled, steps)? {
+    if let Some(preimage) = carried_preimage(p, var, expr, den, &pulled, steps)? {
         return Ok(preimage);
     }
     Poly::from_cons(alloc, p.topology(), &pulled, steps)
@@ -159,9 +162,11 @@ pub fn preimage<L: Ledger>(
     ensures stored { IfOk result (IsStoredOfPreimage rel var expr.now den p.now) }
     ensures overflow { IfErr result (IsOverflowIn (LeavesInPreimageBy rel var expr.now den p.now)) }
     ensures no_fewer { steps.old ≤ steps.new }
+    ensures conversion { rel ≢ ImageRel.Eq → ConvertsRelation (moved p.now.cons.dim var)
+        (range_with_len 0 p.now.cons.dim) rel expr.now den p.now steps.old steps.new result }
 {
     if rel == ImageRel::Eq {
         return substituted_preimage(alloc, p, var, expr, den, steps);
     }
-    related_preimage(alloc, p, var, rel, expr, den, steps)
+    related_preimage(p, var, rel, expr, den, steps)
 }

@@ -15,7 +15,6 @@ use gens_sys::{GenKind, GensSys};
 use mapped_systems::{image_generators, inverse_row, preimage_constraints};
 use poly_pair::Poly;
 use row_core::{ConvErr, Memory, Steps};
-use std::alloc::Global;
 use std::sync::ledger::Ledger;
 
 /// Whether some generator is a line.
@@ -47,7 +46,6 @@ fn can_be_carried(p: &Poly, var: usize, expr: &[i128]) -> bool
 /// be undone. Its constraints are mapped the other way, and nothing is converted. There is no answer elsewhere, or
 /// where a number leaves the range.
 pub(crate) fn carried_image<L: Ledger>(
-    alloc: Global,
     p: &Poly,
     var: usize,
     expr: &[i128],
@@ -67,7 +65,8 @@ pub(crate) fn carried_image<L: Ledger>(
     ensures stored { IfOk result (λ found.
         MatchOption found ⊤ (AreStoredOfGenerators p.now.topology gens.now)) }
     ensures none { IfOk result (λ found. MatchOption found
-        (CanBeCarried p.now (cell expr.now var) → ImagePairLeaves var expr.now den p.now) (λ _. ⊤)) }
+        (CanBeCarried p.now (cell expr.now var) → ImagePairLeaves var expr.now den p.now)
+        (λ _. ⊤)) }
     ensures no_fewer { steps.old ≤ steps.new }
 {
     let _dim = p.dim();
@@ -75,8 +74,10 @@ pub(crate) fn carried_image<L: Ledger>(
     if !can_be_carried(p, var, expr) {
         return Ok(None);
     }
+    let rows = p.cons();
+    let alloc = rows.allocator();
     let row = inverse_row(alloc, var, expr, den)?;
-    let cons = match preimage_constraints(alloc, p.cons(), var, &row, expr[var].abs(), steps) {
+    let cons = match preimage_constraints(alloc, rows, var, &row, expr[var].abs(), steps) {
         Ok(cons) => cons,
         Err(ConvErr::Overflow(_)) => return Ok(None),
         Err(ConvErr::Memory) => return Err(Memory),
@@ -88,7 +89,6 @@ pub(crate) fn carried_image<L: Ledger>(
 /// be undone. Its generators are mapped the other way, and nothing is converted. There is no answer elsewhere, or
 /// where a number leaves the range.
 pub(crate) fn carried_preimage<L: Ledger>(
-    alloc: Global,
     p: &Poly,
     var: usize,
     expr: &[i128],
@@ -114,6 +114,7 @@ pub(crate) fn carried_preimage<L: Ledger>(
     if !can_be_carried(p, var, expr) {
         return Ok(None);
     }
+    let alloc = cons.allocator();
     let row = inverse_row(alloc, var, expr, den)?;
     let gens = match image_generators(alloc, p.gens(), var, &row, expr[var].abs()) {
         Ok(gens) => gens,

@@ -9,7 +9,6 @@
 //! [`laws`] says which of them undo each other, and what images by relations are.
 #![tactic(auto)]
 
-mod generated;
 mod images;
 mod inverse_maps;
 pub mod laws;

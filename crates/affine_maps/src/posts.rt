@@ -1,10 +1,9 @@
 //! The successors of the states of a set by a relation.
-ghost use Rattle.std.specs.Prelude.{◌≡◌, ◌*◌, ◌≤◌, IfOk, IfErr};
+ghost use Rattle.std.specs.Prelude.{◌≡◌, ◌*◌, ◌≤◌, IfOk};
 ghost use Rattle.poly_pair.specs.declared.topology.Topology.TheVariants.{Closed};
 ghost use Rattle.poly_pair.specs.declared.topology.TheConstants.{MAX_DIM};
-ghost use Rattle.row_core.specs.Refusals.{IsOverflowIn};
 ghost use Rattle.affine_maps.specs.Posts.{IsPost, SpanPostIfAny};
-ghost use Rattle.affine_maps.specs.PostLists.{later, IsStepSystem, LeavesOnSteps};
+ghost use Rattle.affine_maps.specs.PostLists.{later, IsStepSystem, ConvertsSteps, ConvertsFirstSteps};
 
 use crate::shadows::{shadow_from, shadow_generators_from};
 use cons_sys::ConsSys;
@@ -54,8 +53,7 @@ pub fn post_from<L: Ledger>(
     requires closed_relation { relation.now.topology ≡ Closed }
     requires dim { relation.now.cons.dim ≡ 2 * p.now.cons.dim }
     ensures points { IfOk result (IsPost p.now relation.now) }
-    ensures overflow { IfErr result (IsOverflowIn (LeavesOnSteps p.now relation.now)) }
-    ensures no_fewer { steps.old ≤ steps.new }
+    ensures conversion { ConvertsSteps p.now relation.now steps.old steps.new result }
 {
     prove!(relation.dim() <= MAX_DIM);
     let pairs = step_constraints(alloc, p.cons(), relation.cons())?;
@@ -78,8 +76,7 @@ pub fn post_generators<L: Ledger>(
     requires closed_relation { relation.now.topology ≡ Closed }
     requires dim { relation.now.cons.dim ≡ 2 * p.now.cons.dim }
     ensures generators { IfOk result (SpanPostIfAny p.now relation.now) }
-    ensures overflow { IfErr result (IsOverflowIn (LeavesOnSteps p.now relation.now)) }
-    ensures no_fewer { steps.old ≤ steps.new }
+    ensures conversion { ConvertsFirstSteps p.now relation.now steps.old steps.new result }
 {
     prove!(relation.dim() <= MAX_DIM);
     let pairs = step_constraints(alloc, p.cons(), relation.cons())?;

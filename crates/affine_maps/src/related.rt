@@ -1,12 +1,11 @@
 //! Images and preimages by a relation that isn't an equation, by one more variable.
-ghost use Rattle.std.specs.Prelude.{◌≡◌, ◌+◌, ◌-◌, ◌^◌, ◌<◌, ◌≤◌, length, IfOk, IfErr};
+ghost use Rattle.std.specs.Prelude.{◌≡◌, ◌+◌, ◌-◌, ◌^◌, ◌<◌, ◌≤◌, length, IfOk};
 ghost use Rattle.std.specs.List.{range_with_len};
 ghost use Rattle.row_core.specs.Range.{InRange, AllInRange};
 ghost use Rattle.cons_sys.specs.Constraints.{Gains, FitDimension};
 ghost use Rattle.mapped_systems.specs.Maps.{with_zeros};
 ghost use Rattle.mapped_systems.specs.MappedLists.{IsPulledSystem};
-ghost use Rattle.row_core.specs.Refusals.{IsOverflowIn};
-ghost use Rattle.affine_maps.specs.Relations.{with_entry, moved, relation_row, relation_kind, image_columns, IsRelationFor, IsImageBy, IsPreimageBy, IsStoredOfRelation, LeavesOnRelation};
+ghost use Rattle.affine_maps.specs.Relations.{with_entry, moved, relation_row, relation_kind, image_columns, IsRelationFor, IsImageBy, IsPreimageBy, IsStoredOfRelation, ConvertsRelation};
 
 use crate::relations::ImageRel;
 use crate::shadows::shadow;
@@ -111,7 +110,6 @@ fn image_columns(alloc: Global, dim: usize, var: usize) -> Result<Vec<usize>, Me
 /// An overflow is one of the conversion of the list of the constraints with one more variable, or of that of their
 /// generators where this variable has taken the place of the one, or of the second list of the latter.
 pub(crate) fn related_image<L: Ledger>(
-    alloc: Global,
     p: &Poly,
     var: usize,
     rel: ImageRel,
@@ -127,12 +125,13 @@ pub(crate) fn related_image<L: Ledger>(
     ensures points { IfOk result (IsImageBy rel var expr.now den p.now) }
     ensures stored { IfOk result (IsStoredOfRelation (with_zeros p.now.cons.dim 1)
         (image_columns p.now.cons.dim var) rel expr.now den p.now) }
-    ensures overflow { IfErr result (IsOverflowIn (LeavesOnRelation (with_zeros p.now.cons.dim 1)
-        (image_columns p.now.cons.dim var) rel expr.now den p.now)) }
-    ensures no_fewer { steps.old ≤ steps.new }
+    ensures conversion { ConvertsRelation (with_zeros p.now.cons.dim 1)
+        (image_columns p.now.cons.dim var) rel expr.now den p.now steps.old steps.new result }
 {
     let dim = p.dim();
-    let front = padded_constraints(alloc, p.cons(), dim, 1)?;
+    let cons = p.cons();
+    let alloc = cons.allocator();
+    let front = padded_constraints(alloc, cons, dim, 1)?;
     let all = extended(alloc, front, dim, rel, expr, den)?;
     let columns = image_columns(alloc, dim, var)?;
     shadow(alloc, p.topology(), &all, &columns, steps)
@@ -189,7 +188,6 @@ fn front_columns(alloc: Global, dim: usize) -> Result<Vec<usize>, Memory>
 /// An overflow is one of the conversion of the list of the constraints with one more variable in the place of the one,
 /// or of that of their generators without it, or of the second list of the latter.
 pub(crate) fn related_preimage<L: Ledger>(
-    alloc: Global,
     p: &Poly,
     var: usize,
     rel: ImageRel,
@@ -205,12 +203,13 @@ pub(crate) fn related_preimage<L: Ledger>(
     ensures points { IfOk result (IsPreimageBy rel var expr.now den p.now) }
     ensures stored { IfOk result (IsStoredOfRelation (moved p.now.cons.dim var)
         (range_with_len 0 p.now.cons.dim) rel expr.now den p.now) }
-    ensures overflow { IfErr result (IsOverflowIn (LeavesOnRelation (moved p.now.cons.dim var)
-        (range_with_len 0 p.now.cons.dim) rel expr.now den p.now)) }
-    ensures no_fewer { steps.old ≤ steps.new }
+    ensures conversion { ConvertsRelation (moved p.now.cons.dim var)
+        (range_with_len 0 p.now.cons.dim) rel expr.now den p.now steps.old steps.new result }
 {
     let dim = p.dim();
-    let front = moved_constraints(alloc, p.cons(), var)?;
+    let cons = p.cons();
+    let alloc = cons.allocator();
+    let front = moved_constraints(alloc, cons, var)?;
     let all = extended(alloc, front, dim, rel, expr, den)?;
     let columns = front_columns(alloc, dim)?;
     shadow(alloc, p.topology(), &all, &columns, steps)

@@ -1,16 +1,13 @@
 //! The points of constraints with some of their columns alone.
-ghost use Rattle.std.specs.Prelude.{◌≡◌, ℕ, ◌+◌, ◌<◌, ◌≤◌, length, All, IfOk, IfErr};
-ghost use Rattle.chernikova.specs.Conversion.{IsRealOverflow};
-ghost use Rattle.stored_systems.specs.WorkLists.{constraint_list};
+ghost use Rattle.std.specs.Prelude.{◌≡◌, ℕ, ◌<◌, ◌≤◌, length, All, IfOk};
 ghost use Rattle.poly_pair.specs.TopologyLists.{AreConstraintsFor};
 ghost use Rattle.poly_pair.specs.declared.topology.TheConstants.{MAX_DIM};
 ghost use Rattle.poly_pair.specs.declared.topology.Topology.TheVariants.{Closed};
 ghost use Rattle.poly_pair.specs.Spanning.{BeginsWith, IsSpanningIfAny};
 ghost use Rattle.mapped_systems.specs.Maps.{picked};
-ghost use Rattle.row_core.specs.Refusals.{IsOverflowIn};
-ghost use Rattle.affine_maps.specs.Shadows.{IsShadow, IsStoredOfShadow, SpanShadowIfAny, LeavesOnShadow};
+ghost use Rattle.poly_pair.specs.Work.{ConvertsFirst, cons_work, begun_cons};
+ghost use Rattle.affine_maps.specs.Shadows.{IsShadow, IsStoredOfShadow, SpanShadowIfAny, ConvertsSystem, ConvertsShadow};
 
-use crate::generated::generated;
 use cons_sys::ConsSys;
 use gens_sys::GensSys;
 use mapped_systems::picked_generators;
@@ -58,15 +55,14 @@ fn shadow_of_generators<L: Ledger>(
         (length columns.now) cons.now) }
     ensures stored { IfOk result (IsStoredOfShadow topology (picked columns.now cons.now.dim)
         (length columns.now) cons.now) }
-    ensures overflow { IfErr result (IsOverflowIn
-        (LeavesOnShadow topology (picked columns.now cons.now.dim) (length columns.now) cons.now)) }
-    ensures no_fewer { steps.old ≤ steps.new }
+    ensures conversion { ConvertsSystem topology (picked columns.now cons.now.dim)
+        (length columns.now) cons.now steps.old steps.new result }
 {
     let generators = picked_if_any(alloc, topology, cons, found, columns)?;
     let Some(mapped) = generators else {
         return Ok(Poly::empty(alloc, topology, columns.len())?);
     };
-    generated(alloc, topology, &mapped, steps)
+    Poly::from_gens_with_point(alloc, topology, &mapped, steps)
 }
 
 /// The points that those at which constraints hold become where the columns alone are kept, in their order.
@@ -92,9 +88,9 @@ pub fn shadow<L: Ledger>(
         (length columns.now) cons.now) }
     ensures stored { IfOk result (IsStoredOfShadow topology (picked columns.now cons.now.dim)
         (length columns.now) cons.now) }
-    ensures overflow { IfErr result (IsOverflowIn
-        (LeavesOnShadow topology (picked columns.now cons.now.dim) (length columns.now) cons.now)) }
-    ensures no_fewer { steps.old ≤ steps.new }
+    ensures conversion { ConvertsShadow (cons_work topology cons.now) topology
+        (picked columns.now cons.now.dim) (length columns.now) cons.now steps.old steps.new
+        result }
 {
     match spanning_generators(alloc, topology, cons, steps) {
         Ok(found) => shadow_of_generators(alloc, topology, cons, found, columns, steps),
@@ -123,9 +119,9 @@ pub fn shadow_from<L: Ledger>(
         (length columns.now) cons.now) }
     ensures stored { IfOk result (IsStoredOfShadow Closed (picked columns.now cons.now.dim)
         (length columns.now) cons.now) }
-    ensures overflow { IfErr result (IsOverflowIn
-        (LeavesOnShadow Closed (picked columns.now cons.now.dim) (length columns.now) cons.now)) }
-    ensures no_fewer { steps.old ≤ steps.new }
+    ensures conversion { ConvertsShadow (begun_cons p.now cons.now) Closed
+        (picked columns.now cons.now.dim) (length columns.now) cons.now steps.old steps.new
+        result }
 {
     match spanning_generators_from(alloc, p, cons, steps) {
         Ok(found) => shadow_of_generators(alloc, Topology::Closed, cons, found, columns, steps),
@@ -153,8 +149,7 @@ pub fn shadow_generators_from<L: Ledger>(
     requires narrow { length columns.now ≤ MAX_DIM }
     ensures generators { IfOk result (SpanShadowIfAny Closed (picked columns.now cons.now.dim)
         (length columns.now) cons.now) }
-    ensures overflow { IfErr result (IsRealOverflow (cons.now.dim + 1) (constraint_list cons.now)) }
-    ensures no_fewer { steps.old ≤ steps.new }
+    ensures conversion { ConvertsFirst (begun_cons p.now cons.now) steps.old steps.new result }
 {
     match spanning_generators_from(alloc, p, cons, steps) {
         Ok(found) => Ok(picked_if_any(alloc, Topology::Closed, cons, found, columns)?),

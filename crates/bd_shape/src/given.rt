@@ -71,7 +71,6 @@ fn take_negated(
 
 /// Takes the bounds that constraint `k` gives, which is that of a difference.
 fn take_difference(
-    alloc: Global,
     bounds: &mut BoundTable,
     cons: &ConsSys,
     k: usize,
@@ -86,6 +85,7 @@ fn take_difference(
     ensures reading { OnOk result (IsReading cons.now (k + 1) bounds.new) }
     ensures overflow { IfErr result (IsOverflowIn (LeavesInTwoGiven cons.now)) }
 {
+    let alloc = cons.allocator();
     let _old = bounds.places();
     let constant = cons.row(k)[cons.dim()];
     take(alloc, bounds, minus, plus, constant, factor)?;
@@ -99,7 +99,6 @@ fn take_difference(
 
 /// Takes the bounds that constraint `k` gives, and answers whether it holds at a point at all.
 fn take_constraint(
-    alloc: Global,
     bounds: &mut BoundTable,
     cons: &ConsSys,
     k: usize,
@@ -121,7 +120,7 @@ fn take_constraint(
             minus,
             factor,
         } => {
-            take_difference(alloc, bounds, cons, k, plus, minus, factor)?;
+            take_difference(bounds, cons, k, plus, minus, factor)?;
             Ok(true)
         }
         Form::Other => unreachable!(),
@@ -141,7 +140,7 @@ fn shape_of_differences(alloc: Global, cons: &ConsSys) -> Result<Shape, ConvErr>
     let dim = cons.dim();
     let mut bounds = BoundTable::new(alloc, dim + 1)?;
     for k in 0..cons.len() {
-        if !take_constraint(alloc, &mut bounds, cons, k)? {
+        if !take_constraint(&mut bounds, cons, k)? {
             return Ok(Shape { dim, bounds: None });
         }
     }

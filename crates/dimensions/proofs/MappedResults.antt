@@ -1,5 +1,6 @@
 -- Polyhedra of mapped generators.
-use Rattle.std.proofs.Common.{◌≡◌, ℕ, ◌+◌, ◌<◌, List, length, ℤ, pos, ◌*ℤ◌, ◌<ℤ◌, sym, ap, ◌∙◌, subst, arith, All}
+use Rattle.std.proofs.Common.{◌≡◌, ℕ, ◌+◌, List, length, ℤ, pos, ◌*ℤ◌, ◌<ℤ◌, Option, Some, None, Result, Ok, Err, inl, inr, sym, ap, ◌∙◌, subst, arith, All}
+use Rattle.std.specs.Prelude.{IfErr}
 use Rattle.std.proofs.lemmas.Int.{ints}
 use Rattle.row_core.specs.Vectors.{cell, scale}
 use Rattle.row_core.specs.Points.{IsPoint, IsSamePoint}
@@ -16,7 +17,7 @@ use Rattle.poly_pair.specs.declared.topology.Topology.{Topology}
 use Rattle.poly_pair.specs.declared.topology.Topology.TheVariants.{Closed, Nnc}
 use Rattle.poly_pair.specs.TopologyLists.{AreGeneratorsFor, list_width, generators_of}
 use Rattle.poly_pair.specs.FirstLists.{LacksPoint}
-use Rattle.poly_pair.specs.Refusals.{IsOverflowOn}
+use Rattle.poly_pair.specs.Work.{gens_work, conv_overflow, overflow_in, IsConversion, Converts}
 use Rattle.poly_pair.specs.Polyhedra.{Polyhedron, IsKept, IsOfGenerators, HasNoPoint}
 use Rattle.poly_pair.proofs.StoredLemmas.{none_kept, kept_is_pair, kept_dim, kept_generators}
 use Rattle.mapped_systems.specs.Maps.{with_zeros, without}
@@ -27,7 +28,8 @@ use Rattle.mapped_systems.proofs.LinearMaps.{IsLinearMap}
 use Rattle.mapped_systems.proofs.MappedKinds.{closed_gen_kinds, none_before, nothing_new}
 use Rattle.mapped_systems.proofs.MappedSets.{SpannedSource, source_of, of_source}
 use Rattle.dimensions.specs.Results.{IsImage, IsPadded, IsProjection}
-use Rattle.dimensions.specs.Refusals.{LeavesOnMapped}
+use Rattle.row_core.specs.declared.errors.Overflow.{Overflow}
+use Rattle.dimensions.specs.Refusals.{LeavesOnMapped, IsMappedConversion, ConvertsMapped}
 
 -- ---- kinds
 module _ (f : List ℤ → List ℤ) where
@@ -69,14 +71,22 @@ module _ (f : List ℤ → List ℤ) (to : ℕ) (p : Polyhedron) (new : Generato
       at_dim : (v : List ℤ) → IsPoint to v → IsPoint new.dim v
       at_dim v pt = subst (λ (n : ℕ). IsPoint n v) (sym m.same_dim) pt
 
--- ---- refusals
-pub mapped_overflow : (f : List ℤ → List ℤ) (to : ℕ) (p : Polyhedron) (new : Generators) (topology : Topology) → topology ≡ p.topology → IsMappedSystem f to p.gens new → (e : ConvErr) → IsOverflowOn (list_width topology new.dim) new.dim (generators_of topology new) e → IsOverflowIn (LeavesOnMapped f to p) e
-mapped_overflow f to p new topology same m (conversion.Overflow over) l = record {
-  system = new;
-  mapped = m;
-  leaves = subst (λ (n : ℕ). LeavesOn (list_width p.topology n) n (generators_of p.topology new) over) m.same_dim (subst (λ (t : Topology). LeavesOn (list_width t new.dim) new.dim (generators_of t new) over) same l);
+-- ---- conversions
+pub mapped_conversion : (f : List ℤ → List ℤ) (to : ℕ) (p : Polyhedron) (made : Generators) (topology : Topology) (old new : ℕ) (over : Option Overflow) → topology ≡ p.topology → IsMappedSystem f to p.gens made → IsConversion (gens_work topology made) old new over → IsMappedConversion f to p old new over
+mapped_conversion f to p made topology old new over same m h = record { system = made; mapped = m; conversion = subst (λ (t : Topology). IsConversion (gens_work t made) old new over) same h }
+
+pub mapped_clause : (f : List ℤ → List ℤ) (to : ℕ) (p : Polyhedron) (old new : ℕ) (r : Result Polyhedron ConvErr) → ConvertsMapped f to p old new r → IfErr r (IsOverflowIn (LeavesOnMapped f to p))
+mapped_clause f to p old new (Ok q) h = tt
+mapped_clause f to p old new (Err (conversion.Overflow over)) (inl h) = absurd (let never : Some over ≡ None = h.1 in cc)
+mapped_clause f to p old new (Err (conversion.Overflow over)) (inr h) = record {
+  system = h.system;
+  mapped = h.mapped;
+  leaves = subst (λ (n : ℕ). LeavesOn (list_width p.topology n) n (generators_of p.topology h.system) over) h.mapped.same_dim h.conversion.overflow;
 }
-mapped_overflow f to p new topology same m conversion.Memory l = tt
+mapped_clause f to p old new (Err conversion.Memory) h = tt
+
+pub mapped_overflow : (f : List ℤ → List ℤ) (to : ℕ) (p : Polyhedron) (made : Generators) (topology : Topology) (old new : ℕ) (r : Result Polyhedron ConvErr) → topology ≡ p.topology → IsMappedSystem f to p.gens made → Converts (gens_work topology made) old new r → IfErr r (IsOverflowIn (LeavesOnMapped f to p))
+mapped_overflow f to p made topology old new r same m h = mapped_clause f to p old new r (inr (mapped_conversion f to p made topology old new (overflow_in conv_overflow r) same m h))
 
 -- ---- more variables, all 0
 module _ (p : Polyhedron) (count : ℕ) where

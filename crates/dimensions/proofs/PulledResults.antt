@@ -1,5 +1,5 @@
 -- Polyhedra of constraints whose rows are mapped.
-use Rattle.std.proofs.Common.{◌≡◌, ℕ, ◌+◌, List, ◌++◌, drop, slice_index_or, ℤ, sym, ap, ◌∙◌, subst, arith, All}
+use Rattle.std.proofs.Common.{◌≡◌, ℕ, ◌+◌, List, ◌++◌, drop, slice_index_or, ℤ, Some, None, Result, Ok, Err, inl, inr, sym, ap, ◌∙◌, subst, arith, All}
 use Rattle.std.proofs.lemmas.List.Elements.{All-append}
 use Rattle.row_core.specs.Vectors.{dot}
 use Rattle.row_core.specs.Points.{IsPoint}
@@ -8,13 +8,19 @@ use Rattle.stored_systems.specs.PointSets.{IsClosedKind}
 use Rattle.stored_systems.proofs.ListLemmas.{All-left, All-right}
 use Rattle.poly_pair.specs.declared.topology.Topology.{Topology}
 use Rattle.poly_pair.specs.declared.topology.Topology.TheVariants.{Closed, Nnc}
-use Rattle.poly_pair.specs.TopologyLists.{AreConstraintsFor}
+use Rattle.poly_pair.specs.TopologyLists.{AreConstraintsFor, list_width, constraints_of}
 use Rattle.poly_pair.specs.Polyhedra.{Polyhedron, IsKept, IsOfConstraints}
 use Rattle.poly_pair.proofs.StoredLemmas.{kept_constraints}
 use Rattle.mapped_systems.specs.Maps.{with_zeros, without}
 use Rattle.mapped_systems.specs.MappedLists.{ArePulled, IsPulledSystem, IsJoinedSystem}
 use Rattle.mapped_systems.proofs.ColumnLemmas.{dot-with_zeros}
 use Rattle.mapped_systems.proofs.PulledSets.{MeetsAt, pulled_holds, holds_pulled, closed_kinds, padded_meets}
+use Rattle.std.specs.Prelude.{IfErr}
+use Rattle.row_core.specs.declared.errors.ConvErr.{ConvErr}
+use Rattle.row_core.specs.declared.errors.ConvErr.TheVariants as conversion
+use Rattle.row_core.specs.Refusals.{IsOverflowIn}
+use Rattle.stored_systems.specs.WorkLists.{LeavesOn}
+use Rattle.dimensions.specs.Refusals.{LeavesOnJoined, ConvertsJoined}
 use Rattle.dimensions.specs.Results.{IsPreimage, IsOfBoth, IsProduct}
 
 -- ---- kinds
@@ -80,3 +86,14 @@ module _ (p q : Polyhedron) (new : Constraints) (topology : Topology) (same : to
     where
       at_dim : (v : List ℤ) → IsPoint (p.cons.dim + q.cons.dim) v → IsPoint new.dim v
       at_dim v pt = subst (λ (n : ℕ). IsPoint n v) (sym j.same_dim) pt
+
+-- ---- conversions
+pub joined_clause : (p q : Polyhedron) (old new : ℕ) (r : Result Polyhedron ConvErr) → ConvertsJoined p q old new r → IfErr r (IsOverflowIn (LeavesOnJoined p q))
+joined_clause p q old new (Ok made) h = tt
+joined_clause p q old new (Err (conversion.Overflow over)) (inl h) = absurd (let never : Some over ≡ None = h.1 in cc)
+joined_clause p q old new (Err (conversion.Overflow over)) (inr h) = record {
+  system = h.system;
+  joined = h.joined;
+  leaves = subst (λ (n : ℕ). LeavesOn (list_width p.topology n) n (constraints_of p.topology h.system) over) h.joined.same_dim h.conversion.overflow;
+}
+joined_clause p q old new (Err conversion.Memory) h = tt

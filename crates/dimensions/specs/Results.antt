@@ -29,7 +29,8 @@ pub record IsPadded (first end : ℕ) (p : Polyhedron) (v : List ℤ) : Type 0 w
 -- the points of the set with that many variables behind, all 0
 pub record IsProjection (count : ℕ) (p projection : Polyhedron) : Type 0 where
   pub over : IsOver p.topology (p.cons.dim + count) projection
-  pub points : (v : List ℤ) → IsPoint (p.cons.dim + count) v → In projection.cons v ↔ IsPadded p.cons.dim (p.cons.dim + count) p v
+  pub points : (v : List ℤ) → IsPoint (p.cons.dim + count) v → In projection.cons v
+      ↔ IsPadded p.cons.dim (p.cons.dim + count) p v
 
 -- the first variables, with the divisor, are in the one set, and the others, with the divisor, in the other
 pub record IsOfBoth (p q : Polyhedron) (v : List ℤ) : Type 0 where
@@ -38,7 +39,8 @@ pub record IsOfBoth (p q : Polyhedron) (v : List ℤ) : Type 0 where
 
 pub record IsProduct (p q product : Polyhedron) : Type 0 where
   pub over : IsOver p.topology (p.cons.dim + q.cons.dim) product
-  pub points : (v : List ℤ) → IsPoint (p.cons.dim + q.cons.dim) v → In product.cons v ↔ IsOfBoth p q v
+  pub points : (v : List ℤ) → IsPoint (p.cons.dim + q.cons.dim) v → In product.cons v
+      ↔ IsOfBoth p q v
 
 -- ---- what is stored
 -- of the list of the mapped generators, and nothing where there are none
@@ -57,4 +59,5 @@ pub record IsStoredOfPulled (f : List ℤ → List ℤ) (dim : ℕ) (p preimage 
 pub record IsStoredOfJoined (p q product : Polyhedron) : Type 0 where
   pub system : Constraints
   pub joined : IsJoinedSystem p.cons q.cons system
-  pub stored : AreStoredOfRows p.topology (p.cons.dim + q.cons.dim) (constraints_of p.topology system) product
+  pub stored : AreStoredOfRows p.topology (p.cons.dim + q.cons.dim)
+      (constraints_of p.topology system) product

@@ -6,10 +6,9 @@ ghost use Rattle.mapped_systems.specs.Maps.{with_zeros, without, remaining, kept
 ghost use Rattle.dimensions.specs.AddedVariables.{LeavesWithZeros};
 ghost use Rattle.dimensions.specs.Results.{IsImage, IsPreimage, IsProjection, IsProduct, IsStoredOfMapped, IsStoredOfPulled, IsStoredOfJoined};
 ghost use Rattle.row_core.specs.Refusals.{IsOverflowIn};
-ghost use Rattle.dimensions.specs.Refusals.{LeavesOnMapped, LeavesOnPulled, LeavesOnJoined};
+ghost use Rattle.dimensions.specs.Refusals.{LeavesOnMapped, LeavesOnPulled, ConvertsMapped, ConvertsJoined};
 
 use crate::added_variables::{embedded_pair, projected_pair};
-use crate::generated::generated;
 use mapped_systems::{
     joined_constraints, padded_constraints, padded_generators, remaining_generators,
 };
@@ -73,7 +72,7 @@ pub fn project<L: Ledger>(
     if let Some(projection) = projected_pair(alloc, p, count, &padded, steps)? {
         return Ok(projection);
     }
-    generated(alloc, p.topology(), &padded, steps)
+    Poly::from_gens_with_point(alloc, p.topology(), &padded, steps)
 }
 
 /// The points that those of a set become without the named variables. The others keep their order; one that is
@@ -94,12 +93,11 @@ pub fn remove_dims<L: Ledger>(
         (length (kept_variables p.now.cons.dim vars.now)) p.now) }
     ensures stored { IfOk result (IsStoredOfMapped (remaining p.now.cons.dim vars.now)
         (length (kept_variables p.now.cons.dim vars.now)) p.now) }
-    ensures overflow { IfErr result (IsOverflowIn (LeavesOnMapped (remaining p.now.cons.dim
-        vars.now) (length (kept_variables p.now.cons.dim vars.now)) p.now)) }
-    ensures no_fewer { steps.old ≤ steps.new }
+    ensures conversion { ConvertsMapped (remaining p.now.cons.dim vars.now)
+        (length (kept_variables p.now.cons.dim vars.now)) p.now steps.old steps.new result }
 {
     let remaining = remaining_generators(alloc, p.gens(), vars)?;
-    generated(alloc, p.topology(), &remaining, steps)
+    Poly::from_gens_with_point(alloc, p.topology(), &remaining, steps)
 }
 
 /// The product of two sets: the points whose first variables are in the first and whose others are in the second.
@@ -117,8 +115,7 @@ pub fn concat<L: Ledger>(
     requires narrow { p.now.cons.dim + q.now.cons.dim ≤ MAX_DIM }
     ensures points { IfOk result (IsProduct p.now q.now) }
     ensures stored { IfOk result (IsStoredOfJoined p.now q.now) }
-    ensures overflow { IfErr result (IsOverflowIn (LeavesOnJoined p.now q.now)) }
-    ensures no_fewer { steps.old ≤ steps.new }
+    ensures conversion { ConvertsJoined p.now q.now steps.old steps.new result }
 {
     let joined = joined_constraints(alloc, p.cons(), q.cons())?;
     Poly::from_cons(alloc, p.topology(), &joined, steps)

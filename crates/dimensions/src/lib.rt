@@ -8,7 +8,6 @@
 
 mod added_variables;
 mod changes;
-mod generated;
 pub mod laws;
 mod stored_pairs;
 

@@ -1,11 +1,14 @@
 -- The time elapse of two polyhedra by what they store.
 use Rattle.std.proofs.Common.{◌≡◌, ◌⊎◌, inl, inr, ℕ, ◌<◌, List, [], ◌∷◌, ◌++◌, length, ℤ, refl, sym, ap, ◌∙◌, subst, arith, All}
-use Rattle.std.specs.Prelude.{◌↔◌}
+use Rattle.std.specs.Prelude.{◌↔◌, Option, Some, None, Result, Ok, Err, IfErr}
 use Rattle.std.proofs.Math.ListN.{get_or-append}
 use Rattle.std.proofs.lemmas.List.{length-append}
 use Rattle.std.proofs.lemmas.List.Elements.{All-nil, All-cons, All-append}
 use Rattle.row_core.specs.Points.{IsPoint}
 use Rattle.row_core.specs.declared.errors.Overflow.{Overflow}
+use Rattle.row_core.specs.declared.errors.ConvErr.{ConvErr}
+use Rattle.row_core.specs.declared.errors.ConvErr.TheVariants as conversion
+use Rattle.row_core.specs.Refusals.{IsOverflowIn}
 use Rattle.cons_sys.specs.declared.kind.ConKind.TheVariants.{Ge}
 use Rattle.cons_sys.specs.Constraints.{Constraints, FitDimension, In}
 use Rattle.gens_sys.specs.declared.kind.GenKind.{GenKind}
@@ -14,12 +17,11 @@ use Rattle.gens_sys.specs.Generators.{Generator, Generators, FitDimension as Fit
 use Rattle.gens_sys.specs.Spans.{Span}
 use Rattle.stored_systems.specs.PointSets.{IsWithin, IsClosedGenKind}
 use Rattle.stored_systems.specs.StoredForms.{false_row}
-use Rattle.stored_systems.specs.WorkLists.{LeavesOn}
 use Rattle.stored_systems.proofs.StoredPair.{inner_point}
 use Rattle.stored_systems.proofs.Stored.{stored_is_closed, pair_point}
 use Rattle.poly_pair.specs.declared.topology.Topology.{Topology}
 use Rattle.poly_pair.specs.declared.topology.Topology.TheVariants.{Closed, Nnc}
-use Rattle.poly_pair.specs.TopologyLists.{AreConstraintsFor, AreGeneratorsFor, list_width, generators_of}
+use Rattle.poly_pair.specs.TopologyLists.{AreConstraintsFor, AreGeneratorsFor, generators_of}
 use Rattle.poly_pair.specs.Polyhedra.{Polyhedron, IsStoredAs, IsKept, HasNoPoint, IsOfGenerators}
 use Rattle.poly_pair.specs.KeptLaws.{KeptIsPair}
 use Rattle.poly_pair.specs.FirstLists.{LacksPoint}
@@ -28,7 +30,8 @@ use Rattle.set_laws.specs.Asking.{HasPoint}
 use Rattle.set_laws.proofs.GeneratorLaws.{spans_law}
 use Rattle.elapse.specs.Directions.{AreDirections, no_direction, zero_direction, one_direction, direction_kind}
 use Rattle.elapse.specs.ElapsedPoints.{IsElapsed}
-use Rattle.elapse.specs.Elapses.{IsElapse, followed, AreStoredOfList, LeavesOnElapse}
+use Rattle.poly_pair.specs.Work.{gens_work, IsConversion}
+use Rattle.elapse.specs.Elapses.{IsElapse, followed, AreStoredOfList, LeavesOnElapse, IsElapseConversion, ConvertsElapse}
 use Rattle.elapse.proofs.ElapseLaws.{false_for, never_satisfied}
 use Rattle.elapse.proofs.ElapsedSets.{AreSystems, elapse_points}
 
@@ -180,16 +183,29 @@ module _ (p q : Polyhedron) (law : KeptIsPair) (kept : IsKept p) (kept_q : IsKep
           (subst (λ (gs : Generators). AreStoredOfVectors t gs.dim (generators_of t gs) r) is_joined s);
     }
 
-    pub joined_leaves : (over : Overflow) → LeavesOn (list_width t joined.dim) joined.dim (generators_of t joined) over → LeavesOnElapse p q over
-    joined_leaves over h = record {
+    pub joined_conversion : (before after : ℕ) (over : Option Overflow) → IsConversion (gens_work t joined) before after over → IsElapseConversion p q before after over
+    joined_conversion before after over h = record {
       some = some;
       moving = moving;
-      rows = generators_of p.topology (followed p.gens new);
-      is_list = record { directions = new; are_directions = are; listed = refl };
-      leaves =
-          subst (λ u. LeavesOn (list_width u p.gens.dim) p.gens.dim (generators_of u (followed p.gens new)) over) same_t
-          (subst (λ (gs : Generators). LeavesOn (list_width t gs.dim) gs.dim (generators_of t gs) over) is_joined h);
+      directions = new;
+      are_directions = are;
+      conversion =
+          subst (λ u. IsConversion (gens_work u (followed p.gens new)) before after over) same_t
+          (subst (λ (gs : Generators). IsConversion (gens_work t gs) before after over) is_joined h);
     }
+
+-- ---- refusals
+pub elapse_clause : (p q : Polyhedron) (old new : ℕ) (r : Result Polyhedron ConvErr) → ConvertsElapse p q old new r → IfErr r (IsOverflowIn (LeavesOnElapse p q))
+elapse_clause p q old new (Ok made) h = tt
+elapse_clause p q old new (Err (conversion.Overflow over)) (inl h) = absurd (let never : Some over ≡ None = h.1 in cc)
+elapse_clause p q old new (Err (conversion.Overflow over)) (inr h) = record {
+  some = h.some;
+  moving = h.moving;
+  rows = generators_of p.topology (followed p.gens h.directions);
+  is_list = record { directions = h.directions; are_directions = h.are_directions; listed = refl };
+  leaves = h.conversion.overflow;
+}
+elapse_clause p q old new (Err conversion.Memory) h = tt
 
 -- ---- the joined list
 pub same_followed : (joined gs hs : Generators) (new : List Generator) → joined.dim ≡ hs.dim → joined.list ≡ hs.list ++ new → hs ≡ gs → joined ≡ followed gs new

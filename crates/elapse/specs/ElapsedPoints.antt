@@ -9,7 +9,8 @@ use Rattle.poly_pair.specs.TopologyConstraints.{IsConstraintFor}
 
 -- coordinate j of the point v is that of x plus num / den times that of y, multiplied out: the coordinates of the vectors are fractions over their last entries
 abbrev pub IsMovedAt : ℕ → List ℤ → List ℤ → ℤ → ℤ → List ℤ → ℕ → Type 0
-IsMovedAt dim x y num den v j = (cell x dim *ℤ den *ℤ cell y dim) *ℤ cell v j ≡ cell v dim *ℤ (cell x j *ℤ den *ℤ cell y dim +ℤ num *ℤ cell y j *ℤ cell x dim)
+IsMovedAt dim x y num den v j = (cell x dim *ℤ den *ℤ cell y dim) *ℤ cell v j ≡ cell v
+    dim *ℤ (cell x j *ℤ den *ℤ cell y dim +ℤ num *ℤ cell y j *ℤ cell x dim)
 
 -- the vector is the point x + t*y, where t is a fraction of at least 0
 pub record IsMoved (dim : ℕ) (x y v : List ℤ) : Type 0 where
@@ -34,4 +35,5 @@ IsTrueElapsed cs ds c = (v : List ℤ) → IsElapsed cs ds v → Satisfies v c
 
 -- each constraint of the topology that holds at all of them holds at the vector
 abbrev pub IsInElapse : Topology → Constraints → Constraints → List ℤ → Type 0
-IsInElapse topology cs ds v = (c : Constraint) → IsConstraintFor topology cs.dim c → IsTrueElapsed cs ds c → Satisfies v c
+IsInElapse topology cs ds v = (c : Constraint) → IsConstraintFor topology cs.dim c
+    → IsTrueElapsed cs ds c → Satisfies v c

@@ -1,10 +1,10 @@
 //! The time elapse of two polyhedra.
-ghost use Rattle.std.specs.Prelude.{◌≡◌, ◌≤◌, [], IfOk, IfErr};
-ghost use Rattle.elapse.specs.Elapses.{IsElapse, AreStoredOfElapse, AreStoredOfList, IsElapseOverflow};
+ghost use Rattle.std.specs.Prelude.{◌≡◌, [], IfOk};
+ghost use Rattle.elapse.specs.Elapses.{IsElapse, AreStoredOfElapse, AreStoredOfList, ConvertsElapse};
 
 use crate::directions::directions;
 use poly_pair::laws::kept_is_pair;
-use poly_pair::{GenErr, Poly};
+use poly_pair::Poly;
 use row_core::{ConvErr, Steps};
 use std::alloc::Global;
 use std::sync::ledger::Ledger;
@@ -22,8 +22,7 @@ fn moved<L: Ledger>(
     requires moving { ¬ (q.now.gens.list ≡ []) }
     ensures points { IfOk result (IsElapse p.now q.now) }
     ensures stored { IfOk result (AreStoredOfList p.now q.now) }
-    ensures overflow { IfErr result (IsElapseOverflow p.now q.now) }
-    ensures no_fewer { steps.old ≤ steps.new }
+    ensures conversion { ConvertsElapse p.now q.now steps.old steps.new result }
 {
     kept_is_pair();
     prove!(p.gens().dim() == p.dim());
@@ -31,14 +30,12 @@ fn moved<L: Ledger>(
     let moves = directions(alloc, q.gens())?;
     let gens = p.gens().followed_by(&moves)?;
     prove!(gens.dim() == p.dim());
-    match Poly::from_gens(alloc, p.topology(), &gens, steps) {
+    match Poly::from_gens_with_point(alloc, p.topology(), &gens, steps) {
         Ok(poly) => {
             prove!(poly.cons().dim() == p.dim());
             Ok(poly)
         }
-        Err(GenErr::NoPoint) => unreachable!(),
-        Err(GenErr::Overflow(over)) => Err(ConvErr::Overflow(over)),
-        Err(GenErr::Memory) => Err(ConvErr::Memory),
+        Err(cause) => Err(cause),
     }
 }
 
@@ -59,8 +56,7 @@ pub fn time_elapse<L: Ledger>(
     requires same_dim { q.now.cons.dim ≡ p.now.cons.dim }
     ensures points { IfOk result (IsElapse p.now q.now) }
     ensures stored { IfOk result (AreStoredOfElapse p.now q.now) }
-    ensures overflow { IfErr result (IsElapseOverflow p.now q.now) }
-    ensures no_fewer { steps.old ≤ steps.new }
+    ensures conversion { ConvertsElapse p.now q.now steps.old steps.new result }
 {
     if p.is_empty() {
         return Ok(p.try_copy()?);

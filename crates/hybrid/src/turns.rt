@@ -44,7 +44,6 @@ fn time_joined<L: Ledger>(
 
 /// What the set of a transition's target grows to by what the transition leads to, if it grows.
 fn jump_joined<L: Ledger>(
-    alloc: Global,
     source: &Poly,
     inv: &Poly,
     relation: &Poly,
@@ -59,10 +58,12 @@ fn jump_joined<L: Ledger>(
     requires old { IsClosedOver target_inv.now.cons.dim old.now }
     requires target_inv { IsClosedOver target_inv.now.cons.dim target_inv.now }
     ensures found { IfOk result (IsFound
-        (IsHullWithPost (IsJumpPost source.now inv.now relation.now target_inv.now) old.now) old.now) }
+        (IsHullWithPost (IsJumpPost source.now inv.now relation.now target_inv.now) old.now)
+        old.now) }
     ensures overflow { IfErr result (IsOverflowIn
         (LeavesOnJumpTurn source.now inv.now relation.now old.now target_inv.now)) }
 {
+    let alloc = old.cons().allocator();
     let post = match jump_post(alloc, source, inv, relation, target_inv, steps) {
         Ok(post) => post,
         Err(cause) => return Err(cause),
@@ -96,7 +97,6 @@ fn time_turn<L: Ledger>(
 
 /// The jump turn of a transition.
 fn jump_turn<L: Ledger>(
-    alloc: Global,
     h: &Hybrid,
     index: usize,
     sets: &[Poly],
@@ -112,7 +112,6 @@ fn jump_turn<L: Ledger>(
 {
     let transition = h.system().trans(index);
     jump_joined(
-        alloc,
         set_of(sets, transition.source),
         h.inv(transition.source),
         &transition.relation,
@@ -150,6 +149,6 @@ impl Turns for Hybrid {
         if index < locations {
             return time_turn(alloc, self, index, sets, steps);
         }
-        jump_turn(alloc, self, index - locations, sets, steps)
+        jump_turn(self, index - locations, sets, steps)
     }
 }

@@ -1,12 +1,9 @@
 -- What came of the commands that make a set of others.
-use Rattle.std.proofs.Common.{◌≡◌, ◌+◌, ◌≤◌, ◌<◌, ℕ, Bool, true, false, Result, Ok, Err, IfErr, sym, subst, arith}
+use Rattle.std.proofs.Common.{◌≡◌, ◌+◌, ◌≤◌, ◌<◌, ℕ, Bool, true, false, Result, IfErr, sym, subst, arith}
 use Rattle.row_core.specs.declared.errors.ConvErr.{ConvErr}
-use Rattle.row_core.specs.declared.errors.ConvErr.TheVariants as conversion
 use Rattle.row_core.specs.Refusals.{IsOverflowIn}
 use Rattle.poly_pair.specs.Polyhedra.{Polyhedron}
-use Rattle.elapse.specs.Elapses.{IsElapseOverflow}
 use Rattle.script_text.specs.declared.command.Operator.{Operator}
-use Rattle.script_text.specs.declared.command.Operator.TheVariants.{Elapse}
 use Rattle.poly_pair.specs.declared.topology.TheConstants.{MAX_DIM}
 use Rattle.line_values.specs.Order.{Passes}
 use Rattle.line_values.specs.Meaning.{room, small, alike}
@@ -29,8 +26,6 @@ pub operands_pass : (op : Operator) (p q : Polyhedron) (full : Bool) → Fits op
 operands_pass op p q full fits free = passes_by (adds_dims op) p q full fits.0 fits.1 free
 
 -- ---- refusals
--- the time elapse was refused
-pub elapse_refused : (op : Operator) (p q : Polyhedron) (result : Result Polyhedron ConvErr) → op ≡ Elapse → IfErr result (IsElapseOverflow p q) → IfErr result (IsOverflowIn (LeavesBy op p q))
-elapse_refused op p q (Ok r) is refused = tt
-elapse_refused op p q (Err (conversion.Overflow over)) is refused = subst (λ (o : Operator). LeavesBy o p q over) (sym is) refused
-elapse_refused op p q (Err conversion.Memory) is refused = tt
+-- the call of the operator was refused
+pub refused_by : (op by : Operator) (p q : Polyhedron) (result : Result Polyhedron ConvErr) → op ≡ by → IfErr result (IsOverflowIn (LeavesBy by p q)) → IfErr result (IsOverflowIn (LeavesBy op p q))
+refused_by op by p q result is refused = subst (λ (o : Operator). IfErr result (IsOverflowIn (LeavesBy o p q))) (sym is) refused

@@ -10,6 +10,7 @@ use Rattle.poly_pair.specs.TopologyLists.{list_width, generators_of}
 use Rattle.poly_pair.specs.Refusals.{IsOverflowOn}
 use Rattle.poly_pair.specs.Polyhedra.{Polyhedron, IsOfGenerators}
 use Rattle.poly_pair.proofs.StoredLemmas.{kept_dim}
+use Rattle.poly_pair.proofs.WorkLemmas.{overflow_clause}
 use Rattle.mapped_systems.specs.Maps.{substituted}
 use Rattle.mapped_systems.specs.MappedLists.{IsMappedSystem}
 use Rattle.row_core.specs.Vectors.{cell}
@@ -22,15 +23,15 @@ use Rattle.mapped_systems.proofs.StoredPairs.{at_none}
 use Rattle.affine_maps.proofs.MappedPolyhedra.{lent_generators, mapped_kinds, mapped_point, image_points, mapped_overflow, either_overflow}
 use Rattle.affine_maps.proofs.images.substituted_image.Goals as goal
 
-pub generated-requires-clause-kinds : goal.generated-requires-clause-kinds
-generated-requires-clause-kinds g c =
+pub from_gens_with_point-requires-clause-kinds : goal.from_gens_with_point-requires-clause-kinds
+from_gens_with_point-requires-clause-kinds g c =
     let den_fits : SFits w128 c.args.den = c.ranges.den in
     let p = c.args.p.now in
     let m : IsMappedSystem (substituted c.args.var c.args.expr.now c.args.den) p.cons.dim p.gens c.in-Ok.mapped = lent_generators (λ n. substituted c.args.var c.args.expr.now c.args.den) (λ n. n) p c.gens.result.now c.in-Ok.mapped c.gens.ensures.value c.gens.ensures.kept (simp to_z-of_z at c.in-Ok.ensures.system) in
     mapped_kinds (substituted c.args.var c.args.expr.now c.args.den) c.topology.result p.cons.dim p c.in-Ok.mapped c.topology.ensures.value c.topology.ensures.kept m
 
-pub generated-requires-clause-point : goal.generated-requires-clause-point
-generated-requires-clause-point g c =
+pub from_gens_with_point-requires-clause-point : goal.from_gens_with_point-requires-clause-point
+from_gens_with_point-requires-clause-point g c =
     let den_fits : SFits w128 c.args.den = c.ranges.den in
     let p = c.args.p.now in
     let m : IsMappedSystem (substituted c.args.var c.args.expr.now c.args.den) p.cons.dim p.gens c.in-Ok.mapped = lent_generators (λ n. substituted c.args.var c.args.expr.now c.args.den) (λ n. n) p c.gens.result.now c.in-Ok.mapped c.gens.ensures.value c.gens.ensures.kept (simp to_z-of_z at c.in-Ok.ensures.system) in
@@ -41,9 +42,9 @@ returns-clause-points g c =
     let den_fits : SFits w128 c.args.den = c.ranges.den in
     let p = c.args.p.now in
     let m : IsMappedSystem (substituted c.args.var c.args.expr.now c.args.den) p.cons.dim p.gens c.in-Ok.mapped = lent_generators (λ n. substituted c.args.var c.args.expr.now c.args.den) (λ n. n) p c.gens.result.now c.in-Ok.mapped c.gens.ensures.value c.gens.ensures.kept (simp to_z-of_z at c.in-Ok.ensures.system) in
-    IfOk-weaker c.generated.result (IsOfGenerators c.topology.result c.in-Ok.mapped) (IsSubstitutedImage c.args.var c.args.expr.now c.args.den p)
+    IfOk-weaker c.from_gens_with_point.result (IsOfGenerators c.topology.result c.in-Ok.mapped) (IsSubstitutedImage c.args.var c.args.expr.now c.args.den p)
     (λ q o. image_points c.args.var c.args.expr.now c.args.den p c.in-Ok.mapped c.topology.result c.topology.ensures.value c.gens.ensures.kept (subst FitDimension c.gens.ensures.value c.in-Ok.ensures.fit) c.requires.var c.requires.positive m q o)
-    c.generated.ensures.points
+    c.from_gens_with_point.ensures.points
 
 pub returns-clause-overflow : goal.returns-clause-overflow
 returns-clause-overflow g c =
@@ -53,9 +54,9 @@ returns-clause-overflow g c =
     let m : IsMappedSystem (substituted c.args.var c.args.expr.now c.args.den) p.cons.dim p.gens c.in-Ok.mapped = lent_generators (λ n. substituted c.args.var c.args.expr.now c.args.den) (λ n. n) p c.gens.result.now c.in-Ok.mapped c.gens.ensures.value c.gens.ensures.kept (simp to_z-of_z at c.in-Ok.ensures.system) in
     let none = at_none c.in_ok-image.field-0 (CanBeCarried p (cell c.args.expr.now c.args.var) → ImagePairLeaves c.args.var c.args.expr.now (to_z w128 (of_z w128 c.args.den)) p) (λ _. ⊤) c.in_default.not-Some c.in_ok-image.ensures.none in
     let pair = simp to_z-of_z at none in
-    IfErr-weaker c.generated.result (IsOverflowOn (list_width c.topology.result new.dim) new.dim (generators_of c.topology.result new)) (IsOverflowIn (λ over. SomeLeavesInImage c.args.var c.args.expr.now c.args.den p.gens.list over ⊎ LeavesOnSubstituted c.args.var c.args.expr.now c.args.den p over))
+    IfErr-weaker c.from_gens_with_point.result (IsOverflowOn (list_width c.topology.result new.dim) new.dim (generators_of c.topology.result new)) (IsOverflowIn (λ over. SomeLeavesInImage c.args.var c.args.expr.now c.args.den p.gens.list over ⊎ LeavesOnSubstituted c.args.var c.args.expr.now c.args.den p over))
     (λ e l. either_overflow (SomeLeavesInImage c.args.var c.args.expr.now c.args.den p.gens.list) (LeavesOnSubstituted c.args.var c.args.expr.now c.args.den p) e (mapped_overflow c.args.var c.args.expr.now c.args.den p new c.topology.result c.topology.ensures.value m pair e l))
-    c.generated.ensures.overflow
+    (overflow_clause _ _ _ c.from_gens_with_point.result c.from_gens_with_point.ensures.conversion)
 
 pub returns-in-Some-clause-points : goal.returns-in-Some-clause-points
 returns-in-Some-clause-points g c =

@@ -18,8 +18,8 @@ use Rattle.affine_maps.proofs.inverse_maps.carried_image.Goals as goal
 
 pub preimage_constraints-requires : goal.preimage_constraints-requires
 preimage_constraints-requires g c = record {
-  var = subst (λ (cs : Constraints). c.args.var < cs.dim) (sym c.cons.ensures.value) c.requires.var;
-  wide = omega (arith, ap length c.deref.ensures.value, c.in_ok-row.ensures.row.wide, c.requires.wide, ap (λ (cs : Constraints). cs.dim) c.cons.ensures.value);
+  var = subst (λ (cs : Constraints). c.args.var < cs.dim) (sym c.cons-rows.ensures.value) c.requires.var;
+  wide = omega (arith, ap length c.deref.ensures.value, c.in_ok-row.ensures.row.wide, c.requires.wide, ap (λ (cs : Constraints). cs.dim) c.cons-rows.ensures.value);
   expr_in_range = subst AllInRange (sym c.deref.ensures.value) c.in_ok-row.ensures.in_range;
   den_in_range = machine_in_range (cell c.args.expr.now c.args.var) c.abs.result (c.requires.in_range c.args.var (pos 0) (omega (arith, c.requires.wide, c.requires.var))) c.abs.ensures.value;
 }
@@ -30,9 +30,9 @@ paired-requires-clause-pair g c =
     let part = cell c.args.expr.now c.args.var in
     let can : CanBeCarried p part = c.if-not-can_be_carried.ensures in
     let r : InRange part = c.requires.in_range c.args.var (pos 0) (omega (arith, c.requires.wide, c.requires.var)) in
-    (image_pair p c.dim-dim.ensures.kept (subst FitDimension c.gens.ensures.value c.dim-vectors.ensures.rows) (subst FitConstraints c.cons.ensures.value c.in-Ok.ensures.fit) c.args.var c.requires.var c.args.expr.now c.deref.result.now c.args.den (pos (unsigned_abs part)) c.requires.positive
+    (image_pair p c.dim-dim.ensures.kept (subst FitDimension c.gens.ensures.value c.dim-vectors.ensures.rows) (subst FitConstraints c.cons-rows.ensures.value c.in-Ok.ensures.fit) c.args.var c.requires.var c.args.expr.now c.deref.result.now c.args.den (pos (unsigned_abs part)) c.requires.positive
     (machine_inverse c.args.var c.args.expr.now c.args.den (pos (unsigned_abs part)) c.in_ok-row.row.items c.deref.result.now (to_z-of_z w128 c.args.den c.ranges.den) c.deref.ensures.value c.in_ok-row.ensures.row) can c.args.gens.now c.requires.mapped c.in-Ok.cons
-    (machine_pulled p c.args.var part c.abs.result c.deref.result.now c.cons.result.now c.in-Ok.cons r c.abs.ensures.value c.cons.ensures.value c.in-Ok.ensures.system) c.zeros.result.now c.zeros.ensures.table).0
+    (machine_pulled p c.args.var part c.abs.result c.deref.result.now c.cons-rows.result.now c.in-Ok.cons r c.abs.ensures.value c.cons-rows.ensures.value c.in-Ok.ensures.system) c.zeros.result.now c.zeros.ensures.table).0
 
 pub paired-requires-clause-point : goal.paired-requires-clause-point
 paired-requires-clause-point g c =
@@ -40,9 +40,9 @@ paired-requires-clause-point g c =
     let part = cell c.args.expr.now c.args.var in
     let can : CanBeCarried p part = c.if-not-can_be_carried.ensures in
     let r : InRange part = c.requires.in_range c.args.var (pos 0) (omega (arith, c.requires.wide, c.requires.var)) in
-    (image_pair p c.dim-dim.ensures.kept (subst FitDimension c.gens.ensures.value c.dim-vectors.ensures.rows) (subst FitConstraints c.cons.ensures.value c.in-Ok.ensures.fit) c.args.var c.requires.var c.args.expr.now c.deref.result.now c.args.den (pos (unsigned_abs part)) c.requires.positive
+    (image_pair p c.dim-dim.ensures.kept (subst FitDimension c.gens.ensures.value c.dim-vectors.ensures.rows) (subst FitConstraints c.cons-rows.ensures.value c.in-Ok.ensures.fit) c.args.var c.requires.var c.args.expr.now c.deref.result.now c.args.den (pos (unsigned_abs part)) c.requires.positive
     (machine_inverse c.args.var c.args.expr.now c.args.den (pos (unsigned_abs part)) c.in_ok-row.row.items c.deref.result.now (to_z-of_z w128 c.args.den c.ranges.den) c.deref.ensures.value c.in_ok-row.ensures.row) can c.args.gens.now c.requires.mapped c.in-Ok.cons
-    (machine_pulled p c.args.var part c.abs.result c.deref.result.now c.cons.result.now c.in-Ok.cons r c.abs.ensures.value c.cons.ensures.value c.in-Ok.ensures.system) c.zeros.result.now c.zeros.ensures.table).1
+    (machine_pulled p c.args.var part c.abs.result c.deref.result.now c.cons-rows.result.now c.in-Ok.cons r c.abs.ensures.value c.cons-rows.ensures.value c.in-Ok.ensures.system) c.zeros.result.now c.zeros.ensures.table).1
 
 pub returns-clause-points : goal.returns-clause-points
 returns-clause-points g c =
@@ -69,7 +69,7 @@ pub returns-in_err-row : goal.returns-in_err-row
 returns-in_err-row g c = let p = err_from_is_err_and c.from_residual.result c.from_residual.ensures.1 in rw p.1 (record { points = tt; stored = tt; none = tt; no_fewer = omega arith })
 
 pub paired-requires-clause-narrow : goal.paired-requires-clause-narrow
-paired-requires-clause-narrow g c = omega (arith, c.in-Ok.ensures.system.same_dim, ap (λ (cs : Constraints). cs.dim) c.cons.ensures.value, c.dim-dim.ensures.value, c.dim-dim.ensures.narrow)
+paired-requires-clause-narrow g c = omega (arith, c.in-Ok.ensures.system.same_dim, ap (λ (cs : Constraints). cs.dim) c.cons-rows.ensures.value, c.dim-dim.ensures.value, c.dim-dim.ensures.narrow)
 
 pub returns-clause-no_fewer : goal.returns-clause-no_fewer
 returns-clause-no_fewer g c = omega (arith, c.in-Ok.ensures.no_fewer, c.paired.ensures.no_fewer)
@@ -89,7 +89,7 @@ returns-clause-none g c =
       inverse = machine_inverse c.args.var c.args.expr.now c.args.den (pos (unsigned_abs part)) c.in_ok-row.row.items c.deref.result.now (to_z-of_z w128 c.args.den c.ranges.den) c.deref.ensures.value c.in_ok-row.ensures.row;
       leaves = inr (record {
         system = c.in-Ok.cons;
-        pulled = machine_pulled p c.args.var part c.abs.result c.deref.result.now c.cons.result.now c.in-Ok.cons r c.abs.ensures.value c.cons.ensures.value c.in-Ok.ensures.system;
+        pulled = machine_pulled p c.args.var part c.abs.result c.deref.result.now c.cons-rows.result.now c.in-Ok.cons r c.abs.ensures.value c.cons-rows.ensures.value c.in-Ok.ensures.system;
         leaves = over;
       });
     }) h)
@@ -103,7 +103,7 @@ returns-in-Err-Overflow-clause-none g c =
     λ can. record {
       row = c.deref.result.now;
       inverse = machine_inverse c.args.var c.args.expr.now c.args.den (pos (unsigned_abs part)) c.in_ok-row.row.items c.deref.result.now (to_z-of_z w128 c.args.den c.ranges.den) c.deref.ensures.value c.in_ok-row.ensures.row;
-      leaves = inl (machine_turned p c.args.var part c.abs.result c.deref.result.now c.cons.result.now c.in-Err-Overflow.field-0 c.in-Err-Overflow.field-0-0 r c.abs.ensures.value c.cons.ensures.value c.in-Err-Overflow.field-0-is c.in-Err-Overflow.ensures.overflow);
+      leaves = inl (machine_turned p c.args.var part c.abs.result c.deref.result.now c.cons-rows.result.now c.in-Err-Overflow.field-0 c.in-Err-Overflow.field-0-0 r c.abs.ensures.value c.cons-rows.ensures.value c.in-Err-Overflow.field-0-is c.in-Err-Overflow.ensures.overflow);
     }
 
 pub returns-then-not-can_be_carried-clause-none : goal.returns-then-not-can_be_carried-clause-none

@@ -1,13 +1,13 @@
-use Rattle.std.proofs.Common.{◌≡◌, ℕ, ◌<◌, ◌≤◌, List, length, sym, ◌∙◌, subst, ap, All, IfOk, IfErr}
-use Rattle.std.proofs.lemmas.Result.{IfOk-weaker, IfErr-weaker}
+use Rattle.std.proofs.Common.{◌≡◌, ℕ, ◌<◌, ◌≤◌, List, length, inl, inr, refl, sym, ◌∙◌, subst, ap, All, IfOk}
+use Rattle.std.proofs.lemmas.Result.{IfOk-weaker, err_from_is_err_and}
 use Rattle.poly_pair.specs.declared.topology.Topology.TheVariants.{Closed}
 use Rattle.poly_pair.specs.declared.topology.TheConstants.{MAX_DIM}
 use Rattle.mapped_systems.specs.Maps.{picked}
-use Rattle.row_core.specs.Refusals.{IsOverflowIn}
-use Rattle.affine_maps.specs.Shadows.{IsShadow, LeavesOnShadow}
+use Rattle.affine_maps.specs.Shadows.{IsShadow, IsShadowConversion}
+use Rattle.poly_pair.specs.Work.{begun_cons, conv_overflow, overflow_in}
 use Rattle.affine_maps.specs.Posts.{IsPost}
-use Rattle.affine_maps.specs.PostLists.{later, LeavesOnSteps}
-use Rattle.affine_maps.proofs.PairSets.{lent_steps, later_many, later_below, successors_of_shadow, turned, turned_pairs, steps_closed, pairs_closed, post_of_steps, steps_overflow}
+use Rattle.affine_maps.specs.PostLists.{later}
+use Rattle.affine_maps.proofs.PairSets.{lent_steps, later_many, later_below, successors_of_shadow, turned, turned_pairs, steps_closed, pairs_closed, post_of_steps}
 use Rattle.affine_maps.proofs.posts.post_from.Goals as goal
 
 pub shadow_from-requires-clause-kinds : goal.shadow_from-requires-clause-kinds
@@ -46,14 +46,24 @@ returns-clause-points g c =
     (λ r shadow. post_of_steps p relation pairs c.requires.dim s r (successors_of_shadow p.cons.dim pairs (s.same_dim ∙ c.requires.dim) r shadow))
     (subst (λ (columns : List ℕ). IfOk c.shadow_from.result (IsShadow Closed (picked columns pairs.dim) (length columns) pairs)) is c.shadow_from.ensures.points)
 
-pub returns-clause-overflow : goal.returns-clause-overflow
-returns-clause-overflow g c =
+pub returns-clause-conversion : goal.returns-clause-conversion
+returns-clause-conversion g c =
     let p = c.args.p.now in
     let relation = c.args.relation.now in
     let pairs = c.in_ok-pairs.pairs in
     let s = lent_steps p.cons relation.cons c.cons.result.now c.cons-2.result.now pairs c.cons.ensures.value c.cons-2.ensures.value c.in_ok-pairs.ensures in
     let is : c.deref.result.now ≡ later p.cons.dim = c.deref.ensures.value ∙ c.in_ok-columns.ensures ∙ ap later c.dim-2.ensures.value in
-    IfErr-weaker c.shadow_from.result (IsOverflowIn (LeavesOnShadow Closed (picked (later p.cons.dim) pairs.dim) p.cons.dim pairs)) (IsOverflowIn (LeavesOnSteps p relation))
-    (steps_overflow p relation pairs s)
-    (subst (λ (n : ℕ). IfErr c.shadow_from.result (IsOverflowIn (LeavesOnShadow Closed (picked (later p.cons.dim) pairs.dim) n pairs))) (later_many p.cons.dim)
-    (subst (λ (columns : List ℕ). IfErr c.shadow_from.result (IsOverflowIn (LeavesOnShadow Closed (picked columns pairs.dim) (length columns) pairs))) is c.shadow_from.ensures.overflow))
+    let shown = overflow_in conv_overflow c.shadow_from.result in
+    inr (record {
+      steps = pairs;
+      are_steps = s;
+      conversion =
+          subst (λ (n : ℕ). IsShadowConversion (begun_cons relation pairs) Closed (picked (later p.cons.dim) pairs.dim) n pairs c.args.steps.now c.shadow_from.new.steps shown) (later_many p.cons.dim)
+          (subst (λ (columns : List ℕ). IsShadowConversion (begun_cons relation pairs) Closed (picked columns pairs.dim) (length columns) pairs c.args.steps.now c.shadow_from.new.steps shown) is c.shadow_from.ensures.conversion);
+    })
+
+pub returns-in_err-pairs-clause-conversion : goal.returns-in_err-pairs-clause-conversion
+returns-in_err-pairs-clause-conversion g c = let p = err_from_is_err_and c.from_residual.result c.from_residual.ensures.1 in rw (p.1, p.2) (inl (refl, refl))
+
+pub returns-in_err-columns-clause-conversion : goal.returns-in_err-columns-clause-conversion
+returns-in_err-columns-clause-conversion g c = let p = err_from_is_err_and c.from_residual-in_err-columns.result c.from_residual-in_err-columns.ensures.1 in rw (p.1, p.2) (inl (refl, refl))

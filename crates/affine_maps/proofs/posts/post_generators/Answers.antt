@@ -1,16 +1,12 @@
-use Rattle.std.proofs.Common.{◌≡◌, ℕ, ◌+◌, ◌<◌, ◌≤◌, List, length, sym, ◌∙◌, subst, ap, All, IfOk}
-use Rattle.std.proofs.lemmas.Result.{IfOk-weaker, IfErr-weaker}
-use Rattle.chernikova.specs.Conversion.{IsRealOverflow}
-use Rattle.stored_systems.specs.WorkLists.{constraint_list}
+use Rattle.std.proofs.Common.{◌≡◌, ℕ, ◌<◌, ◌≤◌, List, length, inl, inr, refl, sym, ◌∙◌, subst, ap, All, IfOk}
+use Rattle.std.proofs.lemmas.Result.{IfOk-weaker, err_from_is_err_and}
 use Rattle.poly_pair.specs.declared.topology.Topology.TheVariants.{Closed}
 use Rattle.poly_pair.specs.declared.topology.TheConstants.{MAX_DIM}
 use Rattle.mapped_systems.specs.Maps.{picked}
-use Rattle.row_core.specs.Refusals.{IsOverflowIn}
 use Rattle.affine_maps.specs.Shadows.{SpanShadowIfAny}
 use Rattle.affine_maps.specs.Posts.{SpanPostIfAny}
-use Rattle.affine_maps.specs.PostLists.{later, LeavesOnSteps}
-use Rattle.affine_maps.proofs.PairSets.{lent_steps, later_many, later_below, turned, turned_pairs, steps_closed, pairs_closed, spans_post, steps_overflow}
-use Rattle.affine_maps.proofs.ShadowSets.{list_overflow}
+use Rattle.affine_maps.specs.PostLists.{later}
+use Rattle.affine_maps.proofs.PairSets.{lent_steps, later_many, later_below, turned, turned_pairs, steps_closed, pairs_closed, spans_post}
 use Rattle.affine_maps.proofs.posts.post_generators.Goals as goal
 
 pub shadow_generators_from-requires-clause-kinds : goal.shadow_generators_from-requires-clause-kinds
@@ -49,12 +45,16 @@ returns-clause-generators g c =
     (spans_post p relation pairs c.requires.dim s)
     (subst (λ (columns : List ℕ). IfOk c.shadow_generators_from.result (SpanShadowIfAny Closed (picked columns pairs.dim) (length columns) pairs)) is c.shadow_generators_from.ensures.generators)
 
-pub returns-clause-overflow : goal.returns-clause-overflow
-returns-clause-overflow g c =
+pub returns-clause-conversion : goal.returns-clause-conversion
+returns-clause-conversion g c =
     let p = c.args.p.now in
     let relation = c.args.relation.now in
     let pairs = c.in_ok-pairs.pairs in
     let s = lent_steps p.cons relation.cons c.cons.result.now c.cons-2.result.now pairs c.cons.ensures.value c.cons-2.ensures.value c.in_ok-pairs.ensures in
-    IfErr-weaker c.shadow_generators_from.result (IsRealOverflow (pairs.dim + 1) (constraint_list pairs)) (IsOverflowIn (LeavesOnSteps p relation))
-    (λ e l. steps_overflow p relation pairs s e (list_overflow Closed (picked (later p.cons.dim) pairs.dim) p.cons.dim pairs e l))
-    c.shadow_generators_from.ensures.overflow
+    inr (record { steps = pairs; are_steps = s; conversion = c.shadow_generators_from.ensures.conversion })
+
+pub returns-in_err-pairs-clause-conversion : goal.returns-in_err-pairs-clause-conversion
+returns-in_err-pairs-clause-conversion g c = let p = err_from_is_err_and c.from_residual.result c.from_residual.ensures.1 in rw (p.1, p.2) (inl (refl, refl))
+
+pub returns-in_err-columns-clause-conversion : goal.returns-in_err-columns-clause-conversion
+returns-in_err-columns-clause-conversion g c = let p = err_from_is_err_and c.from_residual-in_err-columns.result c.from_residual-in_err-columns.ensures.1 in rw (p.1, p.2) (inl (refl, refl))

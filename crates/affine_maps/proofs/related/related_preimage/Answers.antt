@@ -1,17 +1,17 @@
 use Rattle.std.specs.Int.{w128}
 use Rattle.std.proofs.lemmas.Int.{to_z-of_z}
 use mir.Val.{SFits, to_z, of_z}
-use Rattle.std.proofs.Common.{◌≡◌, ℤ, ℕ, List, ◌<◌, length, sym, subst, ap, ◌∙◌, arith, All}
-use Rattle.std.proofs.lemmas.Result.{IfOk-weaker, IfErr-weaker}
+use Rattle.std.proofs.Common.{◌≡◌, ℤ, ℕ, List, ◌<◌, length, inl, inr, refl, sym, subst, ap, ◌∙◌, arith, All}
+use Rattle.std.proofs.lemmas.Result.{IfOk-weaker, err_from_is_err_and}
 use Rattle.row_core.specs.Range.{InRange}
 use Rattle.cons_sys.specs.Constraints.{Constraints}
 use Rattle.mapped_systems.specs.Maps.{picked}
-use Rattle.row_core.specs.Refusals.{IsOverflowIn}
-use Rattle.affine_maps.specs.Shadows.{IsShadow, IsStoredOfShadow, LeavesOnShadow}
-use Rattle.affine_maps.specs.Relations.{moved, IsPreimageBy, IsStoredOfRelation, LeavesOnRelation}
+use Rattle.poly_pair.specs.Work.{conv_overflow, overflow_in}
+use Rattle.affine_maps.specs.Shadows.{IsShadow, IsStoredOfShadow}
+use Rattle.affine_maps.specs.Relations.{moved, IsPreimageBy, IsStoredOfRelation}
 use Rattle.std.specs.List.{range_with_len}
 use Rattle.std.proofs.lemmas.List.FromFn.{length-range_with_len}
-use Rattle.affine_maps.proofs.RelatedResults.{front_below, extended_kinds, lent_moved, lent_preimage, preimage_overflow, relation_stored}
+use Rattle.affine_maps.proofs.RelatedResults.{front_below, extended_kinds, lent_moved, lent_preimage, relation_conversion, relation_stored}
 use Rattle.affine_maps.proofs.related.related_preimage.Goals as goal
 
 told : (z : ℤ) → SFits w128 z → to_z w128 (of_z w128 z) ≡ z
@@ -21,12 +21,12 @@ pub shadow-requires-clause-kinds : goal.shadow-requires-clause-kinds
 shadow-requires-clause-kinds g c =
     let p = c.args.p.now in
     extended_kinds c.topology.result (moved p.cons.dim c.args.var) c.args.rel c.args.expr.now c.args.den p c.in_ok-all.all c.topology.ensures.value c.topology.ensures.kept c.requires.rel
-    (lent_moved (λ n. moved n c.args.var) p c.cons.result.now c.dim-dim.result c.cons.ensures.value c.dim-dim.ensures.value c.args.rel c.args.expr.now c.args.den (to_z w128 (of_z w128 c.args.den)) (told c.args.den c.ranges.den) c.in_ok-front.front c.in_ok-all.all c.in_ok-front.ensures.system c.in_ok-all.ensures.dim c.in_ok-all.ensures.list)
+    (lent_moved (λ n. moved n c.args.var) p c.cons-cons.result.now c.dim-dim.result c.cons-cons.ensures.value c.dim-dim.ensures.value c.args.rel c.args.expr.now c.args.den (to_z w128 (of_z w128 c.args.den)) (told c.args.den c.ranges.den) c.in_ok-front.front c.in_ok-all.all c.in_ok-front.ensures.system c.in_ok-all.ensures.dim c.in_ok-all.ensures.list)
 
 pub shadow-requires-clause-columns : goal.shadow-requires-clause-columns
 shadow-requires-clause-columns g c =
     let p = c.args.p.now in
-    let is = lent_moved (λ n. moved n c.args.var) p c.cons.result.now c.dim-dim.result c.cons.ensures.value c.dim-dim.ensures.value c.args.rel c.args.expr.now c.args.den (to_z w128 (of_z w128 c.args.den)) (told c.args.den c.ranges.den) c.in_ok-front.front c.in_ok-all.all c.in_ok-front.ensures.system c.in_ok-all.ensures.dim c.in_ok-all.ensures.list in
+    let is = lent_moved (λ n. moved n c.args.var) p c.cons-cons.result.now c.dim-dim.result c.cons-cons.ensures.value c.dim-dim.ensures.value c.args.rel c.args.expr.now c.args.den (to_z w128 (of_z w128 c.args.den)) (told c.args.den c.ranges.den) c.in_ok-front.front c.in_ok-all.all c.in_ok-front.ensures.system c.in_ok-all.ensures.dim c.in_ok-all.ensures.list in
     let columns = c.deref.ensures.value ∙ c.in_ok-columns.ensures ∙ ap (range_with_len 0) c.dim-dim.ensures.value in
     subst (λ (js : List ℕ). All (λ (j : ℕ). j < c.in_ok-all.all.dim) js) (sym columns) (subst (λ (n : ℕ). All (λ (j : ℕ). j < n) (range_with_len 0 p.cons.dim)) (sym is.same_dim) (front_below p.cons.dim))
 
@@ -42,21 +42,28 @@ returns-clause-points g c =
     let all = c.in_ok-all.all in
     let js = c.deref.result.now in
     let columns = c.deref.ensures.value ∙ c.in_ok-columns.ensures ∙ ap (range_with_len 0) c.dim-dim.ensures.value in
-    let is = lent_moved (λ n. moved n c.args.var) p c.cons.result.now c.dim-dim.result c.cons.ensures.value c.dim-dim.ensures.value c.args.rel c.args.expr.now c.args.den (to_z w128 (of_z w128 c.args.den)) (told c.args.den c.ranges.den) c.in_ok-front.front all c.in_ok-front.ensures.system c.in_ok-all.ensures.dim c.in_ok-all.ensures.list in
+    let is = lent_moved (λ n. moved n c.args.var) p c.cons-cons.result.now c.dim-dim.result c.cons-cons.ensures.value c.dim-dim.ensures.value c.args.rel c.args.expr.now c.args.den (to_z w128 (of_z w128 c.args.den)) (told c.args.den c.ranges.den) c.in_ok-front.front all c.in_ok-front.ensures.system c.in_ok-all.ensures.dim c.in_ok-all.ensures.list in
     IfOk-weaker c.shadow.result (IsShadow c.topology.result (picked js all.dim) (length js) all) (IsPreimageBy c.args.rel c.args.var c.args.expr.now c.args.den p)
-    (lent_preimage p c.args.rel c.args.var c.args.expr.now c.args.den all c.topology.result js c.topology.ensures.value columns c.requires.var c.requires.wide c.cons.result.now c.cons.ensures.value c.in_ok-front.ensures.fit is)
+    (lent_preimage p c.args.rel c.args.var c.args.expr.now c.args.den all c.topology.result js c.topology.ensures.value columns c.requires.var c.requires.wide c.cons-cons.result.now c.cons-cons.ensures.value c.in_ok-front.ensures.fit is)
     c.shadow.ensures.points
 
-pub returns-clause-overflow : goal.returns-clause-overflow
-returns-clause-overflow g c =
+pub returns-clause-conversion : goal.returns-clause-conversion
+returns-clause-conversion g c =
     let p = c.args.p.now in
     let all = c.in_ok-all.all in
     let js = c.deref.result.now in
     let columns = c.deref.ensures.value ∙ c.in_ok-columns.ensures ∙ ap (range_with_len 0) c.dim-dim.ensures.value in
-    let is = lent_moved (λ n. moved n c.args.var) p c.cons.result.now c.dim-dim.result c.cons.ensures.value c.dim-dim.ensures.value c.args.rel c.args.expr.now c.args.den (to_z w128 (of_z w128 c.args.den)) (told c.args.den c.ranges.den) c.in_ok-front.front all c.in_ok-front.ensures.system c.in_ok-all.ensures.dim c.in_ok-all.ensures.list in
-    IfErr-weaker c.shadow.result (IsOverflowIn (LeavesOnShadow c.topology.result (picked js all.dim) (length js) all)) (IsOverflowIn (LeavesOnRelation (moved p.cons.dim c.args.var) (range_with_len 0 p.cons.dim) c.args.rel c.args.expr.now c.args.den p))
-    (preimage_overflow p c.args.rel c.args.var c.args.expr.now c.args.den all c.topology.result js c.topology.ensures.value columns is)
-    c.shadow.ensures.overflow
+    let is = lent_moved (λ n. moved n c.args.var) p c.cons-cons.result.now c.dim-dim.result c.cons-cons.ensures.value c.dim-dim.ensures.value c.args.rel c.args.expr.now c.args.den (to_z w128 (of_z w128 c.args.den)) (told c.args.den c.ranges.den) c.in_ok-front.front all c.in_ok-front.ensures.system c.in_ok-all.ensures.dim c.in_ok-all.ensures.list in
+    inr (relation_conversion (moved p.cons.dim c.args.var) (range_with_len 0 p.cons.dim) c.args.rel c.args.expr.now c.args.den p js all c.topology.result c.args.steps.now c.shadow.new.steps (overflow_in conv_overflow c.shadow.result) c.topology.ensures.value columns is c.shadow.ensures.conversion)
+
+pub returns-in_err-front-clause-conversion : goal.returns-in_err-front-clause-conversion
+returns-in_err-front-clause-conversion g c = let p = err_from_is_err_and c.from_residual.result c.from_residual.ensures.1 in rw (p.1, p.2) (inl (refl, refl))
+
+pub returns-in_err-all-clause-conversion : goal.returns-in_err-all-clause-conversion
+returns-in_err-all-clause-conversion g c = let p = err_from_is_err_and c.from_residual-in_err-all.result c.from_residual-in_err-all.ensures.1 in rw (p.1, p.2) (inl (refl, refl))
+
+pub returns-in_err-columns-clause-conversion : goal.returns-in_err-columns-clause-conversion
+returns-in_err-columns-clause-conversion g c = let p = err_from_is_err_and c.from_residual-in_err-columns.result c.from_residual-in_err-columns.ensures.1 in rw (p.1, p.2) (inl (refl, refl))
 
 pub returns-clause-stored : goal.returns-clause-stored
 returns-clause-stored g c =
@@ -64,14 +71,14 @@ returns-clause-stored g c =
     let all = c.in_ok-all.all in
     let js = c.deref.result.now in
     let columns = c.deref.ensures.value ∙ c.in_ok-columns.ensures ∙ ap (range_with_len 0) c.dim-dim.ensures.value in
-    let is = lent_moved (λ n. moved n c.args.var) p c.cons.result.now c.dim-dim.result c.cons.ensures.value c.dim-dim.ensures.value c.args.rel c.args.expr.now c.args.den (to_z w128 (of_z w128 c.args.den)) (told c.args.den c.ranges.den) c.in_ok-front.front all c.in_ok-front.ensures.system c.in_ok-all.ensures.dim c.in_ok-all.ensures.list in
+    let is = lent_moved (λ n. moved n c.args.var) p c.cons-cons.result.now c.dim-dim.result c.cons-cons.ensures.value c.dim-dim.ensures.value c.args.rel c.args.expr.now c.args.den (to_z w128 (of_z w128 c.args.den)) (told c.args.den c.ranges.den) c.in_ok-front.front all c.in_ok-front.ensures.system c.in_ok-all.ensures.dim c.in_ok-all.ensures.list in
     IfOk-weaker c.shadow.result (IsStoredOfShadow c.topology.result (picked js all.dim) (length js) all) (IsStoredOfRelation (moved p.cons.dim c.args.var) (range_with_len 0 p.cons.dim) c.args.rel c.args.expr.now c.args.den p)
     (relation_stored (moved p.cons.dim c.args.var) (range_with_len 0 p.cons.dim) js c.args.rel c.args.expr.now c.args.den p all c.topology.result c.topology.ensures.value columns is)
     c.shadow.ensures.stored
 
 pub extended-requires : goal.extended-requires
 extended-requires g c = record {
-  dim = omega (arith, c.in_ok-front.ensures.system.same_dim, ap (λ (cs : Constraints). cs.dim) c.cons.ensures.value, c.dim-dim.ensures.value);
+  dim = omega (arith, c.in_ok-front.ensures.system.same_dim, ap (λ (cs : Constraints). cs.dim) c.cons-cons.ensures.value, c.dim-dim.ensures.value);
   wide = omega (arith, c.requires.wide, c.dim-dim.ensures.value);
   narrow = omega (arith, c.dim-dim.ensures.narrow);
   in_range = c.requires.in_range;

@@ -1,4 +1,4 @@
-use Rattle.std.proofs.Common.{inl, inr, refl, sym, subst, ◌∙◌, arith}
+use Rattle.std.proofs.Common.{inl, inr, refl, sym, subst, ◌∙◌}
 use Rattle.std.proofs.lemmas.Bool.{false≢true}
 use Rattle.std.proofs.lemmas.Result.{err_from_is_err_and, IfOk-weaker}
 use Rattle.elapse.specs.Elapses.{IsElapse, AreStoredOfElapse, AreStoredOfList}
@@ -26,10 +26,10 @@ returns-then-is_empty-2-clause-stored g c =
     subst (AreStoredOfElapse c.args.p.now c.args.q.now) (sym c.in_ok-try_copy-2.ensures) (inl (record { given = inr none; none = none }))
 
 pub returns-in_err-try_copy : goal.returns-in_err-try_copy
-returns-in_err-try_copy g c = let p = err_from_is_err_and c.from_residual.result c.from_residual.ensures.1 in rw (p.1, p.2) (record { points = tt; stored = tt; overflow = tt; no_fewer = omega arith })
+returns-in_err-try_copy g c = let p = err_from_is_err_and c.from_residual.result c.from_residual.ensures.1 in rw (p.1, p.2) (record { points = tt; stored = tt; conversion = inl (refl, refl) })
 
 pub returns-in_err-try_copy-2 : goal.returns-in_err-try_copy-2
-returns-in_err-try_copy-2 g c = let p = err_from_is_err_and c.from_residual-in_err-try_copy-2.result c.from_residual-in_err-try_copy-2.ensures.1 in rw (p.1, p.2) (record { points = tt; stored = tt; overflow = tt; no_fewer = omega arith })
+returns-in_err-try_copy-2 g c = let p = err_from_is_err_and c.from_residual-in_err-try_copy-2.result c.from_residual-in_err-try_copy-2.ensures.1 in rw (p.1, p.2) (record { points = tt; stored = tt; conversion = inl (refl, refl) })
 
 pub moved-requires : goal.moved-requires
 moved-requires g c = record {
@@ -43,6 +43,11 @@ pub returns : goal.returns
 returns g c = record {
   points = c.moved.ensures.points;
   stored = IfOk-weaker c.moved.result (AreStoredOfList c.args.p.now c.args.q.now) (AreStoredOfElapse c.args.p.now c.args.q.now) (λ r s. inr s) c.moved.ensures.stored;
-  overflow = c.moved.ensures.overflow;
-  no_fewer = c.moved.ensures.no_fewer;
+  conversion = c.moved.ensures.conversion;
 }
+
+pub returns-then-is_empty-clause-conversion : goal.returns-then-is_empty-clause-conversion
+returns-then-is_empty-clause-conversion g c = inl (refl, refl)
+
+pub returns-then-is_empty-2-clause-conversion : goal.returns-then-is_empty-2-clause-conversion
+returns-then-is_empty-2-clause-conversion g c = inl (refl, refl)

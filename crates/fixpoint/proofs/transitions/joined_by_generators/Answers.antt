@@ -1,4 +1,4 @@
-use Rattle.std.proofs.Common.{subst}
+use Rattle.std.proofs.Common.{Err, inl, subst}
 use Rattle.std.proofs.lemmas.Result.{IfOk-weaker, IfErr-weaker}
 use Rattle.cons_sys.specs.Constraints.{FitDimension}
 use Rattle.lattice_ops.specs.Growing.{IsGrownBy}
@@ -8,6 +8,9 @@ use Rattle.poly_pair.specs.Refusals.{IsOverflowOn}
 use Rattle.poly_pair.specs.Work.{added_gens}
 use Rattle.poly_pair.proofs.WorkLemmas.{overflow_clause}
 use Rattle.row_core.specs.Refusals.{IsOverflowIn}
+use Rattle.row_core.proofs.RefusalLemmas.{overflow_weaker}
+use Rattle.affine_maps.specs.PostLists.{LeavesOnSteps}
+use Rattle.affine_maps.proofs.PairSets.{first_steps_clause}
 use Rattle.fixpoint.specs.Runs.{IsHullWithSuccessors, LeavesByGenerators}
 use Rattle.fixpoint.proofs.SystemTurns.{found_without, found_by_generators, growth_leaves}
 use Rattle.fixpoint.proofs.transitions.joined_by_generators.Goals as goal
@@ -32,3 +35,10 @@ returns-clause-overflow g c =
     IfErr-weaker c.grown_by.result (IsOverflowOn work.width work.column work.rows) (IsOverflowIn (LeavesByGenerators c.args.source.now c.args.relation.now old))
     (growth_leaves c.args.source.now c.args.relation.now old gens (subst (SpanPostIfAny c.args.source.now c.args.relation.now) c.in-Some.is c.in-Ok.ensures.generators))
     (overflow_clause _ _ _ c.grown_by.result c.grown_by.ensures.conversion)
+
+pub returns-in-Err-clause-overflow : goal.returns-in-Err-clause-overflow
+returns-in-Err-clause-overflow g c =
+    let source = c.args.source.now in
+    let relation = c.args.relation.now in
+    overflow_weaker (LeavesOnSteps source relation) (LeavesByGenerators source relation c.args.old.now) (λ over l. inl l) c.in-Err.cause
+    (first_steps_clause source relation c.args.steps.now c.post_generators.new.steps (Err c.in-Err.cause) c.requires.relation.over.same_topology c.in-Err.ensures.conversion)

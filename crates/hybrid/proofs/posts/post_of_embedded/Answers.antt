@@ -7,6 +7,7 @@ use Rattle.dimensions.specs.Results.{IsImage, IsPreimage}
 use Rattle.row_core.specs.Refusals.{IsOverflowIn}
 use Rattle.row_core.proofs.RefusalLemmas.{overflow_weaker}
 use Rattle.dimensions.specs.Refusals.{LeavesOnPulled, LeavesOnMapped}
+use Rattle.dimensions.proofs.MappedResults.{mapped_clause}
 use Rattle.affine_maps.specs.Posts.{IsPost}
 use Rattle.hybrid.specs.Steps.{IsEmbedded, behind, LeavesOnMeet, LeavesOnEmbedding}
 use Rattle.hybrid.proofs.PostSets.{behind_below, pairs_dim, post_of}
@@ -32,7 +33,7 @@ returns-clause-post g c = IfOk-weaker c.remove_dims.result (IsImage (remaining c
     embedded = subst (λ (k : ℕ). IsPreimage (without c.args.set.now.cons.dim (c.args.set.now.cons.dim + k)) (c.args.set.now.cons.dim + k) c.args.set.now c.in-Ok.embedded) c.dim-dim.ensures.value c.in-Ok.ensures.points
 
 pub returns-clause-overflow : goal.returns-clause-overflow
-returns-clause-overflow g c = IfErr-weaker c.remove_dims.result (IsOverflowIn (LeavesOnMapped (remaining c.in-Ok-part_in.pairs.cons.dim c.deref.result.now) (length (kept_variables c.in-Ok-part_in.pairs.cons.dim c.deref.result.now)) c.in-Ok-part_in.pairs)) (IsOverflowIn (LeavesOnEmbedding c.args.set.now c.args.relation.now)) by c.remove_dims.ensures.overflow
+returns-clause-overflow g c = IfErr-weaker c.remove_dims.result (IsOverflowIn (LeavesOnMapped (remaining c.in-Ok-part_in.pairs.cons.dim c.deref.result.now) (length (kept_variables c.in-Ok-part_in.pairs.cons.dim c.deref.result.now)) c.in-Ok-part_in.pairs)) (IsOverflowIn (LeavesOnEmbedding c.args.set.now c.args.relation.now)) by (mapped_clause (remaining c.in-Ok-part_in.pairs.cons.dim c.deref.result.now) (length (kept_variables c.in-Ok-part_in.pairs.cons.dim c.deref.result.now)) c.in-Ok-part_in.pairs c.part_in.new.steps c.remove_dims.new.steps c.remove_dims.result c.remove_dims.ensures.conversion)
   where
     is : c.deref.result.now ≡ behind c.args.set.now.cons.dim
     is = c.deref.ensures.value ∙ c.in_ok-vars.ensures ∙ ap behind c.dim-dim.ensures.value

@@ -1,9 +1,11 @@
-use Rattle.std.proofs.Common.{inl, inr}
+use Rattle.std.proofs.Common.{Err, inl, inr}
 use Rattle.std.proofs.lemmas.Result.{IfOk-weaker, IfErr-weaker}
 use Rattle.row_core.specs.declared.errors.ConvErr.{ConvErr}
 use Rattle.row_core.specs.declared.errors.ConvErr.TheVariants as conversion
 use Rattle.row_core.specs.Refusals.{IsOverflowIn}
-use Rattle.elapse.specs.Elapses.{IsElapseOverflow}
+use Rattle.row_core.proofs.RefusalLemmas.{overflow_weaker}
+use Rattle.elapse.specs.Elapses.{LeavesOnElapse}
+use Rattle.elapse.proofs.ElapsedPolyhedra.{elapse_clause}
 use Rattle.hybrid.specs.Steps.{IsPartIn, IsFlown, LeavesOnMeet, LeavesOnFlow}
 use Rattle.hybrid.proofs.times.flown.Goals as goal
 
@@ -19,8 +21,8 @@ returns-clause-overflow g c = IfErr-weaker c.part_in.result (IsOverflowIn (Leave
     by conversion.Memory l = tt
 
 pub returns-in-Err-clause-overflow : goal.returns-in-Err-clause-overflow
-returns-in-Err-clause-overflow g c = by c.in-Err.cause c.in-Err.ensures.overflow
-  where
-    by : (e : ConvErr) → IsElapseOverflow c.args.start.now c.args.flow.now e → IsOverflowIn (LeavesOnFlow c.args.start.now c.args.inv.now c.args.flow.now) e
-    by (conversion.Overflow over) l = inl l
-    by conversion.Memory l = tt
+returns-in-Err-clause-overflow g c =
+    let start = c.args.start.now in
+    let flow = c.args.flow.now in
+    overflow_weaker (LeavesOnElapse start flow) (LeavesOnFlow start c.args.inv.now flow) (λ over l. inl l) c.in-Err.cause
+    (elapse_clause start flow c.args.steps.now c.time_elapse.new.steps (Err c.in-Err.cause) c.in-Err.ensures.conversion)

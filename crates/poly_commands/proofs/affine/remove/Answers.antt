@@ -4,6 +4,7 @@ use Rattle.poly_pair.specs.Polyhedra.{Polyhedron}
 use Rattle.mapped_systems.specs.Maps.{remaining, kept_variables}
 use Rattle.row_core.specs.Refusals.{IsOverflowIn}
 use Rattle.dimensions.specs.Refusals.{LeavesOnMapped}
+use Rattle.dimensions.proofs.MappedResults.{mapped_clause}
 use Rattle.reply_text.specs.declared.faults.Fault.TheVariants.{TooManyNames}
 use Rattle.line_values.specs.Order.{IsFirst}
 use Rattle.line_values.specs.Meaning.{on_one}
@@ -41,7 +42,7 @@ pub returns : goal.returns
 returns g c =
     let below = subst (λ (k : ℕ). All (λ (i : ℕ). i < k) c.args.vars.now) c.dim.ensures.value c.in-Ok.ensures.1 in
     let room = not_full c.args.full c.if-full.false in
-    let leaves = subst (λ (w : List ℕ). IsOverflowIn (LeavesOnMapped (remaining c.in-Some.p.now.cons.dim w) (length (kept_variables c.in-Some.p.now.cons.dim w)) c.in-Some.p.now) c.in-Err-remove_dims.cause) (c.as_slice.ensures.value ∙ c.in-Ok.ensures.0) c.in-Err-remove_dims.ensures.overflow in
+    let leaves = subst (λ (w : List ℕ). IsOverflowIn (LeavesOnMapped (remaining c.in-Some.p.now.cons.dim w) (length (kept_variables c.in-Some.p.now.cons.dim w)) c.in-Some.p.now) c.in-Err-remove_dims.cause) (c.as_slice.ensures.value ∙ c.in-Ok.ensures.0) (mapped_clause (remaining c.in-Some.p.now.cons.dim c.as_slice.result.now) (length (kept_variables c.in-Some.p.now.cons.dim c.as_slice.result.now)) c.in-Some.p.now c.args.steps.now c.remove_dims.new.steps (Err c.in-Err-remove_dims.cause) c.in-Err-remove_dims.ensures.conversion) in
     let found : option_copied c.args.p ≡ Some c.in-Some.p.now = ap option_copied c.in-Some.is in
     subst (λ (o : Option Polyhedron). IsPerformed (on_one o (remove c.args.full c.args.vars.now)) (Err c.from.result)) (sym found)
     (rw c.from.ensures (remove_leaves c.args.full c.args.vars.now c.in-Some.p.now c.in-Err-remove_dims.cause below room leaves))
