@@ -23,13 +23,13 @@ lacks_sound (c ∷ cs) b e h =
     let p = and_parts (not (eqb c b)) (lacks cs b) e in
     elim (contains_cases c cs b h) [ inl x ↦ other c b p.0 x | inr y ↦ lacks_sound cs b p.1 y ]
 
-or_parts : (x y : Bool) → (x || y) ≡ true → (x ≡ true) ⊎ (y ≡ true)
-or_parts true y e = inl refl
-or_parts false y e = inr e
+pub or_cases : (x y : Bool) → (x || y) ≡ true → (x ≡ true) ⊎ (y ≡ true)
+or_cases true y e = inl refl
+or_cases false y e = inr e
 
 outside : (low high b c : ℕ) → (ltb b low || ltb high b) ≡ true → low ≤ c → c ≤ high → c ≡ b → ⊥
 outside low high b c e l h is =
-    elim (or_parts (ltb b low) (ltb high b) e) [
+    elim (or_cases (ltb b low) (ltb high b) e) [
       | inl x ↦ (let p : b < low = ltb-true b low x in omega arith)
       | inr y ↦ (let p : high < b = ltb-true high b y in omega arith)
     ]

@@ -1,8 +1,9 @@
 -- The derivative of a form by a byte is sound and complete.
-use Rattle.std.proofs.Common.{◌≡◌, ℕ, ◌≤◌, ◌⊎◌, Bool, true, false, cond, ◌&&◌, ◌||◌, eqb, leb, List, [], ◌∷◌, ◌++◌, zero, suc, refl, ap, sym, subst, ◌∙◌, inl, inr, arith, append_assoc}
-use Rattle.std.proofs.lemmas.Bool.{eqb-true, eq-eqb, leb-true, le-leb, and_parts, and_from}
+use Rattle.std.proofs.Common.{◌≡◌, ℕ, ◌≤◌, ◌⊎◌, Bool, true, false, cond, ◌&&◌, eqb, leb, List, [], ◌∷◌, ◌++◌, zero, suc, refl, ap, sym, subst, ◌∙◌, inl, inr, arith, append_assoc}
+use Rattle.std.proofs.lemmas.Bool.{eqb-true, eq-eqb, leb-true, le-leb, and_parts, and_from, or_left, or_right}
 use Rattle.grammar.specs.Form.{Form, word, byte, seq, alt, many, upto, Times, Matches}
 use Rattle.grammar.specs.Derivative.{nullable, after, after_row, after_rows, states, row_ends, some_ends, Spells, AnySpells}
+use Rattle.grammar.proofs.AvoidedByte.{or_cases}
 
 any_left : (a b : List (List Form)) (w : List ℕ) → AnySpells a w → AnySpells (a ++ b) w
 any_left [] b w h = absurd h
@@ -26,18 +27,6 @@ any_when : (t : Bool) (a : List (List Form)) (w : List ℕ) → AnySpells (cond 
 any_when true a w h = (refl, h)
 any_when false a w h = absurd h
 
-or_left : (x y : Bool) → x ≡ true → (x || y) ≡ true
-or_left true y e = refl
-or_left false y e = cc
-
-or_right : (x y : Bool) → y ≡ true → (x || y) ≡ true
-or_right true y e = refl
-or_right false y e = e
-
-or_parts : (x y : Bool) → (x || y) ≡ true → (x ≡ true) ⊎ (y ≡ true)
-or_parts true y e = inl refl
-or_parts false y e = inr e
-
 -- two texts that make the empty one are empty
 empty_parts : (u v : List ℕ) → [] ≡ u ++ v → (u ≡ []) × (v ≡ [])
 empty_parts [] v e = (refl, sym e)
@@ -52,7 +41,7 @@ nullable_sound (seq f g) e =
     let h = and_parts (nullable f) (nullable g) e in
     ([], [], refl, nullable_sound f h.0, nullable_sound g h.1)
 nullable_sound (alt f g) e =
-    elim (or_parts (nullable f) (nullable g) e) [ inl x ↦ inl (nullable_sound f x) | inr y ↦ inr (nullable_sound g y) ]
+    elim (or_cases (nullable f) (nullable g) e) [ inl x ↦ inl (nullable_sound f x) | inr y ↦ inr (nullable_sound g y) ]
 nullable_sound (many f) e = (zero, refl)
 nullable_sound (upto k f) e = (zero, omega arith, refl)
 
@@ -93,7 +82,7 @@ row_ends_complete (f ∷ row) (u, v, e, m, s) =
 pub some_ends_sound : (rows : List (List Form)) → some_ends rows ≡ true → AnySpells rows []
 some_ends_sound [] e = cc
 some_ends_sound (row ∷ rows) e =
-    elim (or_parts (row_ends row) (some_ends rows) e) [ inl x ↦ inl (row_ends_sound row x) | inr y ↦ inr (some_ends_sound rows y) ]
+    elim (or_cases (row_ends row) (some_ends rows) e) [ inl x ↦ inl (row_ends_sound row x) | inr y ↦ inr (some_ends_sound rows y) ]
 
 pub some_ends_complete : (rows : List (List Form)) → AnySpells rows [] → some_ends rows ≡ true
 some_ends_complete [] s = absurd s

@@ -1,5 +1,6 @@
 -- The rows of the code, one after the other.
-use Rattle.std.proofs.Common.{◌≡◌, ℕ, zero, suc, ◌+◌, ◌<◌, Bool, true, false, ◌||◌, List, [], ◌∷◌, ◌++◌, length, take, map, get_or, refl, ap, sym, ◌∙◌, arith, append_assoc, append-nil}
+use Rattle.std.proofs.Common.{◌≡◌, ℕ, zero, suc, ◌+◌, ◌<◌, true, false, List, [], ◌∷◌, ◌++◌, length, take, map, get_or, refl, ap, sym, ◌∙◌, arith, append_assoc, append-nil}
+use Rattle.std.proofs.lemmas.Bool.{or_from, or_left, or_parts, or_right}
 use Rattle.std.proofs.lemmas.List.{take_more, length-map}
 use Rattle.grammar.specs.Form.{Form}
 use Rattle.grammar.specs.Shape.{shape}
@@ -31,27 +32,11 @@ after_rows_more b rows i row start old new h e o n =
     ∙ ap (λ (x : List (List Form)). start ++ x) (sym (after_rows-push b (take i (map (map shape) rows)) (map shape row)))
     ∙ ap (λ (x : List (List Form)). start ++ after_rows b x) (sym (rows_more rows i row h e))
 
-or_false : (x y : Bool) → x ≡ false → y ≡ false → (x || y) ≡ false
-or_false true y e h = cc
-or_false false y e h = h
-
-or_falses : (x y : Bool) → (x || y) ≡ false → (x ≡ false) × (y ≡ false)
-or_falses true y e = cc
-or_falses false y e = (refl, e)
-
-or_left : (x y : Bool) → x ≡ true → (x || y) ≡ true
-or_left true y e = refl
-or_left false y e = cc
-
-or_right : (x y : Bool) → y ≡ true → (x || y) ≡ true
-or_right true y e = refl
-or_right false y e = e
-
 some_ends-push : (rows : List (List Form)) (row : List Form) → some_ends rows ≡ false → row_ends row ≡ false → some_ends (rows ++ row ∷ []) ≡ false
-some_ends-push [] row e h = or_false (row_ends row) false h refl
+some_ends-push [] row e h = or_from (row_ends row) false h refl
 some_ends-push (first ∷ rows) row e h =
-    let p = or_falses (row_ends first) (some_ends rows) e in
-    or_false (row_ends first) (some_ends (rows ++ row ∷ [])) p.0 (some_ends-push rows row p.1 h)
+    let p = or_parts (row_ends first) (some_ends rows) e in
+    or_from (row_ends first) (some_ends (rows ++ row ∷ [])) p.0 (some_ends-push rows row p.1 h)
 
 pub some_ends_more : (rows : List (List Re)) (i : ℕ) (row : List Re) → i < length rows → row ≡ get_or rows i [] →
     some_ends (take i (map (map shape) rows)) ≡ false → row_ends (map shape row) ≡ false → some_ends (take (i + 1) (map (map shape) rows)) ≡ false

@@ -7,7 +7,8 @@ use Rattle.grammar.specs.Form.{Form}
 use Rattle.grammar.specs.Derivative.{after_rows, states, some_ends, lives}
 use Rattle.grammar.specs.SameRows.{SameRows}
 use Rattle.grammar.specs.Machine.{next, Steps, Decides}
-use Rattle.grammar.proofs.SameForms.{within, or_parts, same_rows_by}
+use Rattle.grammar.proofs.AvoidedByte.{or_cases}
+use Rattle.grammar.proofs.SameForms.{within, same_rows_by}
 use Rattle.grammar.proofs.AlikeBytes.{same_bool, bools_equal, alike, AlikeInRows, same_after_rows, alike_states}
 
 -- the rows of each state: the form alone at first, and then what may come behind each text
@@ -88,7 +89,7 @@ row_step : (f : Form) (all : List (List (List Form))) (old : List (List Form)) (
 row_step f all old row b class [] h e = cc
 row_step f all old row b class (c ∷ bytes) h e =
     let p = and_parts (ltb c.1 32 && leads_to all (get_or row c.1 255) (after_rows c.0 old)) (is_row all old row bytes) e in
-    elim (or_parts (eqb class c.1 && alike b c.0 f) (has_alike f b class bytes) h) [
+    elim (or_cases (eqb class c.1 && alike b c.0 f) (has_alike f b class bytes) h) [
       | inl x ↦ (
           let q = and_parts (eqb class c.1) (alike b c.0 f) x in
           let same : c.1 ≡ class = sym (eqb-true class c.1 q.0) in

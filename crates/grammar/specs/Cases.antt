@@ -1,4 +1,5 @@
--- The large forms spelled out, for definitions by cases on how a text matches: each equals the form of its name.
+-- The large forms spelled out, for definitions by cases on how a text matches: each equals the form
+-- of its name.
 use Rattle.std.specs.Prelude.{codes}
 use Rattle.grammar.specs.Form.{Form, word}
 use Rattle.grammar.specs.Grammar.{◌∣◌, ◌⋯◌, symbol, list_of, sum_of, over_nat, term, vterm, rel}
@@ -33,7 +34,9 @@ point_cases = word (codes "p(") ⋯ vfrac_cases ⋯ symbol 41
 
 -- a generator, spelled out
 abbrev pub gen_cases : Form
-gen_cases = point_cases ∣ (word (codes "c(") ⋯ vfrac_cases ⋯ symbol 41) ∣ (word (codes "r(") ⋯ vexpr_cases ⋯ symbol 41) ∣ (word (codes "l(") ⋯ vexpr_cases ⋯ symbol 41)
+gen_cases =
+    point_cases ∣ (word (codes "c(") ⋯ vfrac_cases ⋯ symbol 41)
+    ∣ (word (codes "r(") ⋯ vexpr_cases ⋯ symbol 41) ∣ (word (codes "l(") ⋯ vexpr_cases ⋯ symbol 41)
 
 -- a list of generators, spelled out
 abbrev pub gens_cases : Form

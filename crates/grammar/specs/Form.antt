@@ -33,8 +33,8 @@ Matches (upto k f) w = (n : ℕ) × (n ≤ k) × Times (Matches f) n w
 abbrev pub Begins : Form → List ℕ → Type 0
 Begins f p = (rest : List ℕ) × Matches f (p ++ rest)
 
--- the text hasn't the form, and c is the least number such that its first c bytes begin no text of the form,
--- or the length plus 1 where the whole text begins one
+-- the text hasn't the form, and c is the least number such that its first c bytes begin no text of
+-- the form, or the length plus 1 where the whole text begins one
 pub record IsColumn (f : Form) (w : List ℕ) (c : ℕ) : Type 0 where
   pub not : ¬ (Matches f w)
   pub before : (i : ℕ) → i < c → Begins f (take i w)
@@ -50,8 +50,8 @@ abbrev pub AnyBegins : List Form → List ℕ → Type 0
 AnyBegins [] p = ⊥
 AnyBegins (f ∷ fs) p = Begins f p ⊎ AnyBegins fs p
 
--- the text has none of the forms, and c is the least number such that its first c bytes begin no text of any of them,
--- or the length plus 1 where the whole text begins one
+-- the text has none of the forms, and c is the least number such that its first c bytes begin no
+-- text of any of them, or the length plus 1 where the whole text begins one
 pub record IsColumnOfAny (fs : List Form) (w : List ℕ) (c : ℕ) : Type 0 where
   pub not : ¬ (AnyMatches fs w)
   pub before : (i : ℕ) → i < c → AnyBegins fs (take i w)

@@ -117,7 +117,9 @@ point = word (codes "p(") ⋯ vfrac ⋯ symbol 41
 
 -- p( VFRAC ), c( VFRAC ), r( VEXPR ), l( VEXPR )
 unfoldable pub gen : Form
-gen = point ∣ (word (codes "c(") ⋯ vfrac ⋯ symbol 41) ∣ (word (codes "r(") ⋯ vexpr ⋯ symbol 41) ∣ (word (codes "l(") ⋯ vexpr ⋯ symbol 41)
+gen =
+    point ∣ (word (codes "c(") ⋯ vfrac ⋯ symbol 41) ∣ (word (codes "r(") ⋯ vexpr ⋯ symbol 41)
+    ∣ (word (codes "l(") ⋯ vexpr ⋯ symbol 41)
 
 -- none, or GEN, then any number of , GEN
 unfoldable pub gens : Form

@@ -19,8 +19,8 @@ const FEW: usize = 16;
 
 /// Whether the text has the form.
 ///
-/// The form is followed by its partial derivatives (Antimirov, 1996). Each byte costs a step for each way in which the
-/// form may go on; where there are many, those that are repeats are dropped.
+/// The form is followed by its partial derivatives (Antimirov, 1996). Each byte costs a step for
+/// each way in which the form may go on; where there are many, those that are repeats are dropped.
 pub fn column_of(alloc: Global, form: &Re, text: &[u8]) -> Result<Verdict, AllocError>
     ensures { IfOk result (IsVerdict (shape form.now) text.now) }
 {
@@ -53,7 +53,8 @@ fn column_from<'a>(
     }
 }
 
-// Takes the rows over the byte, and drops repeats where there are many. The other rows lend their memory.
+// Takes the rows over the byte, and drops repeats where there are many. The other rows lend their
+// memory.
 fn advance<'a>(byte: u8, rows: &mut Rows<'a>, spare: &mut Rows<'a>) -> Result<(), AllocError>
     ensures { OnOk result (SameRows (after_rows byte (shapes_of rows.old)) (shapes_of rows.new)) }
 {

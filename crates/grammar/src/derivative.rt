@@ -33,7 +33,9 @@ pub fn push_after<'a>(
     rest: &Rest<'_, 'a>,
     out: &mut Rows<'a>,
 ) -> Result<(), AllocError>
-    ensures { OnOk result (shapes_of out.new ≡ shapes_of out.old ++ after byte (shape form.now) (map shape (listed rest.now))) }
+    ensures { OnOk result
+        (shapes_of out.new
+        ≡ shapes_of out.old ++ after byte (shape form.now) (map shape (listed rest.now))) }
 {
     match *form {
         Re::Word(word) => push_after_word(byte, word, rest, out),
@@ -69,7 +71,9 @@ fn push_after_word<'a>(
     rest: &Rest<'_, 'a>,
     out: &mut Rows<'a>,
 ) -> Result<(), AllocError>
-    ensures { OnOk result (shapes_of out.new ≡ shapes_of out.old ++ after byte (word text.now) (map shape (listed rest.now))) }
+    ensures { OnOk result
+        (shapes_of out.new
+        ≡ shapes_of out.old ++ after byte (word text.now) (map shape (listed rest.now))) }
 {
     if let [first, tail @ ..] = text {
         if *first == byte {
@@ -86,7 +90,9 @@ fn push_after_byte<'a>(
     rest: &Rest<'_, 'a>,
     out: &mut Rows<'a>,
 ) -> Result<(), AllocError>
-    ensures { OnOk result (shapes_of out.new ≡ shapes_of out.old ++ after letter (byte (min one other) (max one other)) (map shape (listed rest.now))) }
+    ensures { OnOk result
+        (shapes_of out.new ≡ shapes_of out.old
+        ++ after letter (byte (min one other) (max one other)) (map shape (listed rest.now))) }
 {
     if one.min(other) <= letter && letter <= one.max(other) {
         out.push(rest)?;
@@ -96,7 +102,8 @@ fn push_after_byte<'a>(
 
 // Adds what may come behind the byte, where a text of the row begins with it.
 fn push_after_row<'a>(byte: u8, row: &[Re<'a>], out: &mut Rows<'a>) -> Result<(), AllocError>
-    ensures { OnOk result (shapes_of out.new ≡ shapes_of out.old ++ after_row byte (map shape row.now)) }
+    ensures { OnOk result
+        (shapes_of out.new ≡ shapes_of out.old ++ after_row byte (map shape row.now)) }
 {
     if let [first, rest @ ..] = row {
         push_after(byte, first, &Rest::Row(rest), out)?;
@@ -109,7 +116,8 @@ fn push_after_row<'a>(byte: u8, row: &[Re<'a>], out: &mut Rows<'a>) -> Result<()
 
 // Adds what may come behind the byte, where a text of one of the rows begins with it.
 pub fn push_after_rows<'a>(byte: u8, rows: &Rows<'a>, out: &mut Rows<'a>) -> Result<(), AllocError>
-    ensures { OnOk result (shapes_of out.new ≡ shapes_of out.old ++ after_rows byte (shapes_of rows.now)) }
+    ensures { OnOk result
+        (shapes_of out.new ≡ shapes_of out.old ++ after_rows byte (shapes_of rows.now)) }
 {
     for index in 0..rows.len() {
         push_after_row(byte, rows.row(index), out)?;

@@ -29,13 +29,18 @@ macro_rules! sum_of {
     ($term:expr) => {
         seq!(
             alt!($term, spaced!(symbol!(b'-'), $term)),
-            Re::Many(&seq!(BLANKS, alt!(spaced!(symbol!(b'+'), $term), spaced!(symbol!(b'-'), $term))))
+            Re::Many(&seq!(
+                BLANKS,
+                alt!(spaced!(symbol!(b'+'), $term), spaced!(symbol!(b'-'), $term))
+            ))
         )
     };
 }
 
 macro_rules! over_nat {
-    ($form:expr) => { alt!($form, spaced!(symbol!(b'('), $form, symbol!(b')'), symbol!(b'/'), NAT)) };
+    ($form:expr) => {
+        alt!($form, spaced!(symbol!(b'('), $form, symbol!(b')'), symbol!(b'/'), NAT))
+    };
 }
 
 macro_rules! in_brackets {

@@ -1,4 +1,5 @@
-//! Regular forms of text, the grammar of the calculator's texts as such forms, and one recognizer for all of them.
+//! Regular forms of text, the grammar of the calculator's texts as such forms, and one recognizer
+//! for all of them.
 #![tactic(auto)]
 
 mod bodies;

@@ -16,7 +16,8 @@ const MOST_STEPS: usize = 8_160;
 pub struct Machine<'a> {
     /// The class of each byte, less than 32.
     pub classes: &'a [u8; 256],
-    /// The state behind each state and each of 32 classes; 255 where no text of the form is reached.
+    /// The state behind each state and each of 32 classes; 255 where no text of the form is
+    /// reached.
     pub steps: &'a [u8],
     /// Whether a text may end in each state.
     pub ends: &'a [bool],
@@ -28,9 +29,12 @@ impl Machine<'_> {
     ghost use Rattle.grammar.specs.Machine.{next, Decides};
     ghost use Rattle.grammar.specs.Verdict.{IsVerdict};
 
-    /// Whether the text has the form that the machine decides. Linear in the length, and without memory.
+    /// Whether the text has the form that the machine decides. Linear in the length, and without
+    /// memory.
     pub fn column(&self, text: &[u8]) -> Verdict
-        ensures { (form : Form) → Decides self.now.classes.now self.now.steps.now self.now.ends.now form → IsVerdict form text.now result }
+        ensures { (form : Form)
+            → Decides self.now.classes.now self.now.steps.now self.now.ends.now form
+            → IsVerdict form text.now result }
     {
         if self.accepts(text) {
             return Verdict::Accepted;
@@ -38,9 +42,12 @@ impl Machine<'_> {
         self.column_by_byte(text)
     }
 
-    // Whether the text is known to have the form, from the state behind all of it: no step leads out of the dead one.
+    // Whether the text is known to have the form, from the state behind all of it: no step leads
+    // out of the dead one.
     fn accepts(&self, text: &[u8]) -> bool
-        ensures { (form : Form) → Decides self.now.classes.now self.now.steps.now self.now.ends.now form → IsTrue result → Matches form text.now }
+        ensures { (form : Form)
+            → Decides self.now.classes.now self.now.steps.now self.now.ends.now form
+            → IsTrue result → Matches form text.now }
     {
         if self.steps.len() > MOST_STEPS {
             return false;
@@ -57,7 +64,9 @@ impl Machine<'_> {
 
     // The verdict, up to the byte at which the dead state is reached.
     fn column_by_byte(&self, text: &[u8]) -> Verdict
-        ensures { (form : Form) → Decides self.now.classes.now self.now.steps.now self.now.ends.now form → IsVerdict form text.now result }
+        ensures { (form : Form)
+            → Decides self.now.classes.now self.now.steps.now self.now.ends.now form
+            → IsVerdict form text.now result }
     {
         let mut state = 0;
         for (index, byte) in text.iter().enumerate() {

@@ -3,7 +3,7 @@
 pub enum Verdict {
     /// The text has the form.
     Accepted,
-    /// The text hasn't the form. The column of the fault is the least number such that the first so many bytes begin
-    /// no text of the form, or the length plus 1 where the whole text begins one.
+    /// The text hasn't the form. The column of the fault is the least number such that the first so
+    /// many bytes begin no text of the form, or the length plus 1 where the whole text begins one.
     RefusedAt(usize),
 }

@@ -1,5 +1,5 @@
 -- The column of a line whose first word is a command's is that of what stands behind the word.
-use Rattle.std.proofs.Common.{◌≡◌, ℕ, ◌+◌, ◌-◌, ◌<◌, ◌≤◌, List, [], ◌∷◌, ◌++◌, Bool, true, false, ◌||◌, ◌⊎◌, eqb, zero, suc, length, take, drop, cond, refl, ap, arith, subst, sym, ◌∙◌, append_assoc, inl, inr}
+use Rattle.std.proofs.Common.{◌≡◌, ℕ, ◌+◌, ◌-◌, ◌<◌, ◌≤◌, List, [], ◌∷◌, ◌++◌, Bool, true, false, eqb, zero, suc, length, take, drop, cond, refl, ap, arith, subst, sym, ◌∙◌, append_assoc, inl, inr}
 use Rattle.std.specs.Prelude.{Contains}
 use Rattle.std.specs.List.{take_while}
 use Rattle.std.proofs.lemmas.Bool.{eqb-true}
@@ -10,6 +10,7 @@ use Rattle.grammar.specs.Form.{Form, word, Matches, Begins, IsColumn, IsColumnOf
 use Rattle.grammar.specs.Grammar.{blank, blanks}
 use Rattle.grammar.specs.Derivative.{lives}
 use Rattle.grammar.proofs.Columns.{begins_shorter, means_start, begins_from_rows}
+use Rattle.grammar.proofs.AvoidedByte.{or_cases}
 use Rattle.line_forms.specs.Words.{is_blank, is_in_word, past_blanks, word_of, behind_word}
 use Rattle.line_forms.specs.CommandWords.{CommandWord, command_words, IsCommandWord, lines_with, line_forms, HasForm}
 use Rattle.line_forms.specs.Layouts.{Layout, rest_form, layout_form, layout_of}
@@ -47,13 +48,9 @@ pub cut_of : (p : ℕ → Bool) (w : List ℕ) → IsCut p w
 cut_of p [] = record { each = tt; stops = tt; whole = refl }
 cut_of p (b ∷ w) = first_cut (p b) p b w refl (cut_of p w)
 
-or_parts : (x y : Bool) → (x || y) ≡ true → (x ≡ true) ⊎ (y ≡ true)
-or_parts true y e = inl refl
-or_parts false y e = inr e
-
 one_blank : (b : ℕ) → is_blank b ≡ true → Matches blank (b ∷ [])
 one_blank b e =
-    elim (or_parts (eqb b 32) (eqb b 9) e) [
+    elim (or_cases (eqb b 32) (eqb b 9) e) [
       | inl h ↦ (let is : b ≡ 32 = eqb-true b 32 h in inl (b, omega arith, omega arith, refl))
       | inr h ↦ (let is : b ≡ 9 = eqb-true b 9 h in inr (b, omega arith, omega arith, refl))
     ]

@@ -1,12 +1,12 @@
 -- How the texts of a form begin and end.
-use Rattle.std.proofs.Common.{◌≡◌, ◌≢◌, ℕ, List, [], ◌∷◌, ◌++◌, Bool, true, false, not, ◌&&◌, ◌||◌, ◌⊎◌, zero, suc, refl, ap, sym, ◌∙◌, arith, eqb, subst, inl, inr, reverse}
+use Rattle.std.proofs.Common.{◌≡◌, ◌≢◌, ℕ, List, [], ◌∷◌, ◌++◌, Bool, true, false, not, ◌&&◌, ◌||◌, zero, suc, refl, ap, sym, ◌∙◌, arith, eqb, subst, inl, inr, reverse}
 use Rattle.std.specs.Prelude.{Contains}
 use Rattle.std.proofs.lemmas.Bool.{and_parts, eq-eqb}
 use Rattle.std.proofs.lemmas.List.{reverse-append, reverse-reverse}
 use Rattle.std.proofs.lemmas.Bool.Decides.{eqb_tells}
 use Rattle.grammar.specs.Form.{Form, word, byte, seq, alt, many, upto, Times, Matches}
 use Rattle.grammar.specs.Avoids.{avoids}
-use Rattle.grammar.proofs.AvoidedByte.{avoids_sound}
+use Rattle.grammar.proofs.AvoidedByte.{avoids_sound, or_cases}
 use Rattle.line_forms.specs.Words.{is_blank, is_sign, is_in_word, is_before_sign}
 use Rattle.line_forms.proofs.WordLemmas.{Each, Stops, IsWord}
 
@@ -93,15 +93,11 @@ before_sign_by f w e m =
     let r = and_parts (avoids f 61) (avoids f 62) q.1 in
     each_before_sign w (avoids_sound f 58 w p.0 m) (avoids_sound f 60 w q.0 m) (avoids_sound f 61 w r.0 m) (avoids_sound f 62 w r.1 m)
 
-or_parts : (x y : Bool) → (x || y) ≡ true → (x ≡ true) ⊎ (y ≡ true)
-or_parts true y e = inl refl
-or_parts false y e = inr e
-
 pub not_empty : (f : Form) → never_empty f ≡ true → Matches f [] → ⊥
 not_empty (word []) e m = cc
 not_empty (word (c ∷ cs)) e m = cc
 not_empty (byte low high) e (b, l, h, d) = cc
-not_empty (seq f g) e ([], [], d, m, n) = elim (or_parts (never_empty f) (never_empty g) e) [ inl x ↦ not_empty f x m | inr y ↦ not_empty g y n ]
+not_empty (seq f g) e ([], [], d, m, n) = elim (or_cases (never_empty f) (never_empty g) e) [ inl x ↦ not_empty f x m | inr y ↦ not_empty g y n ]
 not_empty (seq f g) e ([], (a ∷ v), d, m, n) = cc
 not_empty (seq f g) e ((a ∷ u), v, d, m, n) = cc
 not_empty (alt f g) e (inl m) = not_empty f ((and_parts (never_empty f) (never_empty g) e).0) m
@@ -130,7 +126,7 @@ begins_sound (byte low high) b w e m = leaf_begins (byte low high) b w e m
 begins_sound (seq f g) b w e (u, v, d, m, n) =
     let p = and_parts (begins_other f b) (never_empty f || begins_other g b) e in
     seq_begins b w u v d (begins_sound f b u p.0 m)
-    (λ (h : u ≡ []). elim (or_parts (never_empty f) (begins_other g b) p.1) [ inl x ↦ absurd (not_empty f x (subst (λ (y : List ℕ). Matches f y) h m)) | inr y ↦ begins_sound g b v y n ])
+    (λ (h : u ≡ []). elim (or_cases (never_empty f) (begins_other g b) p.1) [ inl x ↦ absurd (not_empty f x (subst (λ (y : List ℕ). Matches f y) h m)) | inr y ↦ begins_sound g b v y n ])
 begins_sound (alt f g) b w e (inl m) = begins_sound f b w ((and_parts (begins_other f b) (begins_other g b) e).0) m
 begins_sound (alt f g) b w e (inr m) = begins_sound g b w ((and_parts (begins_other f b) (begins_other g b) e).1) m
 begins_sound (many f) b w e (n, t) = times_begin (Matches f) b (λ (u : List ℕ) (m : Matches f u). begins_sound f b u e m) n w t
@@ -169,7 +165,7 @@ ends_sound (byte low high) b w e m = leaf_ends (byte low high) b w e m
 ends_sound (seq f g) b w e (u, v, d, m, n) =
     let p = and_parts (ends_other g b) (never_empty g || ends_other f b) e in
     seq_ends b w u v d (ends_sound g b v p.0 n)
-    (λ (h : v ≡ []). elim (or_parts (never_empty g) (ends_other f b) p.1) [ inl x ↦ absurd (not_empty g x (subst (λ (y : List ℕ). Matches g y) h n)) | inr y ↦ ends_sound f b u y m ])
+    (λ (h : v ≡ []). elim (or_cases (never_empty g) (ends_other f b) p.1) [ inl x ↦ absurd (not_empty g x (subst (λ (y : List ℕ). Matches g y) h n)) | inr y ↦ ends_sound f b u y m ])
 ends_sound (alt f g) b w e (inl m) = ends_sound f b w ((and_parts (ends_other f b) (ends_other g b) e).0) m
 ends_sound (alt f g) b w e (inr m) = ends_sound g b w ((and_parts (ends_other f b) (ends_other g b) e).1) m
 ends_sound (many f) b w e (n, t) = times_end (Matches f) b (λ (u : List ℕ) (m : Matches f u). ends_sound f b u e m) n w t

@@ -9,8 +9,8 @@ use Rattle.line_forms.specs.declared.form.LineForm.TheVariants.{Nothing, Names, 
 use Rattle.line_forms.specs.declared.form.NameAndPart.TheVariants as name_and_part
 use Rattle.line_forms.specs.declared.form.SpaceAndPart.TheVariants as space_and_part
 
--- a line: its command word, what each word behind it may be, whether a relation may stand in the place of the colon, and
--- the part behind it
+-- a line: its command word, what each word behind it may be, whether a relation may stand in the
+-- place of the colon, and the part behind it
 pub record Layout : Type 0 where
   pub command : List ℕ
   pub words : List Form
@@ -70,11 +70,21 @@ plain command words = record { command = command; words = words; relates = false
 
 -- a command word, words behind it, and a part behind a colon
 abbrev pub with_part : List ℕ → List Form → Form → Layout
-with_part command words part = record { command = command; words = words; relates = false; part = Some part }
+with_part command words part = record {
+  command = command;
+  words = words;
+  relates = false;
+  part = Some part;
+}
 
 -- a command word, words behind it, and a part behind a colon or a relation
 abbrev pub with_relation : List ℕ → List Form → Form → Layout
-with_relation command words part = record { command = command; words = words; relates = true; part = Some part }
+with_relation command words part = record {
+  command = command;
+  words = words;
+  relates = true;
+  part = Some part;
+}
 
 -- the part behind the name of a command with a name and a part
 abbrev pub named_part : NamedPart → Form
@@ -90,7 +100,8 @@ abbrev pub space_part : SpacePart → Form
 space_part space_and_part.Cons = cons
 space_part space_and_part.Gens = gens
 
--- the layout of the lines of the form, where they begin with this word; a blank line has none of its own
+-- the layout of the lines of the form, where they begin with this word; a blank line has none of
+-- its own
 abbrev pub layout_of : LineForm → List ℕ → Layout
 layout_of Nothing command = plain command []
 layout_of Names command = plain command []

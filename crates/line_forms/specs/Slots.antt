@@ -6,7 +6,10 @@ use Rattle.line_forms.specs.declared.form.LineForm.TheVariants.{Nothing}
 
 -- the slot of a word
 abbrev pub slot : List ℕ → ℕ
-slot w = if nat_lt (length w) 3 then 0 else (length w + 4 * slice_index w 0 + 15 * slice_index w 1 + 8 * slice_index w (length w - 1)) % 256
+slot w =
+    if nat_lt (length w) 3 then 0
+    else (length w + 4 * slice_index w 0 + 15 * slice_index w 1 + 8 * slice_index w (length w - 1))
+    % 256
 
 -- the row at a place, and that of a blank line where there is none
 abbrev pub row_at : List CommandWord → ℕ → CommandWord

@@ -6,10 +6,13 @@ use Rattle.std.proofs.Math.Dec.{eqb-suc-zero}
 use Rattle.std.proofs.lemmas.Bool.{leb-true, le-leb, and_parts, and_from}
 use Rattle.std.proofs.lemmas.Fmt.{decimal_by_steps_wide}
 use Rattle.std.proofs.lemmas.List.Folds.{list_all-append}
-use Rattle.plain_text.specs.Digits.{is_digit, is_nat, number, number_after}
+use Rattle.plain_text.specs.Digits.{is_digit, is_nat, number, number_after, is_upper}
 
-digit_is : (b : ℕ) → 48 ≤ b → b ≤ 57 → is_digit b ≡ true
+pub digit_is : (b : ℕ) → 48 ≤ b → b ≤ 57 → is_digit b ≡ true
 digit_is b h k = and_from _ _ (le-leb 48 b h) (le-leb b 57 k)
+
+pub letter_is : (b : ℕ) → 65 ≤ b → b ≤ 90 → is_upper b ≡ true
+letter_is b h k = and_from _ _ (le-leb 65 b h) (le-leb b 90 k)
 
 pub digit_low : (b : ℕ) → is_digit b ≡ true → 48 ≤ b
 digit_low b e = leb-true 48 b (and_parts _ _ e).0

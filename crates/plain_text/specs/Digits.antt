@@ -1,9 +1,12 @@
--- Digits, and the numbers that they spell.
+-- Digits and letters, and the numbers that digits spell.
 use Rattle.std.specs.Prelude.{ℕ, ◌+◌, ◌-◌, ◌*◌, ◌==◌, ◌&&◌, nat_le, not, Bool, List, [], ◌∷◌, length, min}
 use Rattle.std.specs.List.{list_all}
 
 abbrev pub is_digit : ℕ → Bool
 is_digit b = nat_le 48 b && nat_le b 57
+
+abbrev pub is_upper : ℕ → Bool
+is_upper b = nat_le 65 b && nat_le b 90
 
 -- one or more digits
 abbrev pub is_nat : List ℕ → Bool

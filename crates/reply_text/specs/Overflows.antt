@@ -19,5 +19,6 @@ row_text row = join_with_byte 32 (map signed_decimal row)
 -- the kind, the step, the column counted from 1, and both rows
 abbrev pub overflow_text : Overflow → List ℕ
 overflow_text over =
-    codes "overflow " ++ kind_name over.kind ++ codes " step " ++ decimal over.step ++ codes " column " ++ decimal (over.column + 1)
+    codes "overflow " ++ kind_name over.kind ++ codes " step " ++ decimal over.step
+    ++ codes " column " ++ decimal (over.column + 1)
     ++ codes " left " ++ row_text over.left ++ codes " right " ++ row_text over.right

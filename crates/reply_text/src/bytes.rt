@@ -17,7 +17,8 @@ pub struct Text {
     bytes: SmallVec<u8, 32>,
 }
 
-// Written by hand, so that a function that drops a text calls this one, and doesn't free its bytes itself.
+// Written by hand, so that a function that drops a text calls this one, and doesn't free its bytes
+// itself.
 impl Drop for Text {
     fn drop(self) {
         let Text { bytes: _ } = self;
