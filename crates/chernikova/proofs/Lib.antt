@@ -13,3 +13,4 @@ pub mod PlacedCones
 pub mod Positions
 pub mod RoomLemmas
 pub mod Told
+pub mod Costs

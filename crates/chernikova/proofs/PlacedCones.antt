@@ -11,7 +11,7 @@ use Rattle.cone_laws.proofs.MemberLemmas.{same_cone}
 use Rattle.chernikova.specs.declared.beside.Beside.{Beside}
 use Rattle.chernikova.specs.declared.cone.Cone.{Cone}
 use Rattle.row_core.specs.MarkedLists.{AreLists}
-use Rattle.chernikova.specs.Conversion.{IsState}
+use Rattle.chernikova.specs.Conversion.{IsState, IsConverted}
 use Rattle.chernikova.specs.Orders.{IsPlaced}
 use Rattle.chernikova.specs.Beside.{IsBeside, IsDone}
 use Rattle.chernikova.proofs.Rankings.{rearranged_canon, rearranged_zeros, rearranged_lists}
@@ -32,7 +32,7 @@ done_places width rows beside h =
     All-from_get_or (λ (i : ℕ). i < beside.system.sat.columns) beside.places.items 0
     (λ i below. omega (arith, h.running.reordered.within i (omega (arith, below, h.running.reordered.as_many_places)), state.zeros.columns))
 
-pub placed_canon : (width : ℕ) (rows : List Row) (beside : Beside) (cone : Cone) → IsDone width rows beside → IsPlaced beside.system beside.places.items cone → Canon (Upto width rows (length rows)) (vectors cone.lines.rows) (vectors cone.rays.rows)
+placed_canon : (width : ℕ) (rows : List Row) (beside : Beside) (cone : Cone) → IsDone width rows beside → IsPlaced beside.system beside.places.items cone → Canon (Upto width rows (length rows)) (vectors cone.lines.rows) (vectors cone.rays.rows)
 placed_canon width rows beside cone h p =
     let n : ℕ = length rows in
     let P : Rows → Type 0 = λ lines. Canon (Upto width rows (length rows)) (vectors lines.rows) (vectors cone.rays.rows) in
@@ -41,18 +41,25 @@ placed_canon width rows beside cone h p =
     ((same_cone width beside.rows.rows n rows n (vectors p.sorted.lines.rows) (vectors p.sorted.rays.rows) (reordered_admit width rows beside.rows.rows beside.places.items h.running.reordered)).1
     (rearranged_canon width beside.rows.rows n beside.system p.sorted (done_state width rows beside h) p.is_sorted)))
 
-pub placed_lists : (width : ℕ) (rows : List Row) (beside : Beside) (cone : Cone) → IsDone width rows beside → IsPlaced beside.system beside.places.items cone → AreLists width cone.lines cone.rays
+placed_lists : (width : ℕ) (rows : List Row) (beside : Beside) (cone : Cone) → IsDone width rows beside → IsPlaced beside.system beside.places.items cone → AreLists width cone.lines cone.rays
 placed_lists width rows beside cone h p =
     let P : Rows → Type 0 = λ lines. AreLists width lines cone.rays in
     let Q : Rows → Type 0 = λ rays. AreLists width p.sorted.lines rays in
     subst P (sym p.lines) (subst Q (sym p.rays) (rearranged_lists width beside.rows.rows (length rows) beside.system p.sorted (done_state width rows beside h) p.is_sorted))
 
-pub placed_zeros : (width : ℕ) (rows : List Row) (beside : Beside) (cone : Cone) → IsDone width rows beside → IsPlaced beside.system beside.places.items cone → IsZeroTable rows (length rows) (vectors cone.rays.rows) cone.sat
+placed_zeros : (width : ℕ) (rows : List Row) (beside : Beside) (cone : Cone) → IsDone width rows beside → IsPlaced beside.system beside.places.items cone → IsZeroTable rows (length rows) (vectors cone.rays.rows) cone.sat
 placed_zeros width rows beside cone h p =
     let P : Rows → Type 0 = λ rays. IsZeroTable rows (length rows) (vectors rays.rows) cone.sat in
     subst P (sym p.rays)
     (reordered_zeros rows beside.rows.rows beside.places.items (vectors p.sorted.rays.rows) p.sorted.sat cone.sat h.running.reordered
     (rearranged_zeros width beside.rows.rows (length rows) beside.system p.sorted (done_state width rows beside h) p.is_sorted) p.columns p.rows)
+
+pub placed_converted : (width : ℕ) (rows : List Row) (beside : Beside) (cone : Cone) → IsDone width rows beside → IsPlaced beside.system beside.places.items cone → IsConverted width rows cone
+placed_converted width rows beside cone h p = record {
+  canon = placed_canon width rows beside cone h p;
+  lists = placed_lists width rows beside cone h p;
+  sat = placed_zeros width rows beside cone h p;
+}
 
 -- which of two conversions has all rows
 pub first_of : (b : Bool) (A B : Type 0) → b ≡ true → MatchBool b A B → A

@@ -1,4 +1,4 @@
-use Rattle.std.specs.Prelude.{◌≡◌, ℕ, ◌+◌, ◌^◌, ◌<◌, ◌≤◌, ⊤, Bool, true, false, List, length, map, sum, ℤ, pos, slice_index_or}
+use Rattle.std.specs.Prelude.{◌≡◌, ℕ, ◌+◌, ◌-◌, ◌^◌, ◌<◌, ◌≤◌, ⊤, Bool, true, false, List, length, map, sum, ℤ, pos, slice_index_or, Result, IfErr}
 use Rattle.row_core.specs.Vectors.{dot}
 use Rattle.row_core.specs.Lists.{Row, vectors, vector_at}
 use Rattle.row_core.specs.declared.errors.ConvErr.{ConvErr}
@@ -26,10 +26,14 @@ pub record IsState (width : ℕ) (rows : List Row) (k : ℕ) (cone : System) : T
   pub system : IsSystem (Upto width rows k) (vectors cone.lines.rows) (vectors cone.rays.rows)
   pub zeros : IsZeroTable rows k (vectors cone.rays.rows) cone.sat
 
--- what a conversion of the rows gives: their canonical system, and the table that tells the rows on which each ray is 0
+-- what a conversion of the rows gives
 pub record IsConverted (width : ℕ) (rows : List Row) (cone : Cone) : Type 0 where
-  pub canon : Canon (Upto width rows (length rows)) (vectors cone.lines.rows) (vectors cone.rays.rows)
+  -- the canonical system of the vectors that the rows admit
+  pub canon : Canon (Upto width rows (length rows))
+      (vectors cone.lines.rows) (vectors cone.rays.rows)
+  -- in lists of that width, the lines marked as equalities and the rays as inequalities
   pub lists : AreLists width cone.lines cone.rays
+  -- the table tells the rows on which each ray is 0
   pub sat : IsZeroTable rows (length rows) (vectors cone.rays.rows) cone.sat
 
 -- the system has the lines and rays that a conversion gave, and the rows of their table
@@ -87,6 +91,30 @@ IsCountedBeforeFrom width rows from total Memory = ⊤
 -- of all rows up to that of its step
 abbrev pub IsCountedBefore : ℕ → List Row → ℕ → ConvErr → Type 0
 IsCountedBefore width rows total error = IsCountedBeforeFrom width rows 0 total error
+
+-- what a conversion of the rows costs and shows
+pub record ConvertsRows {T : Type 0} (width : ℕ) (rows : List Row) (old new : ℕ)
+    (result : Result T ConvErr) : Type 0 where
+  -- an overflow shows a number outside the range
+  pub overflow : IfErr result (IsRealOverflow width rows)
+  -- the count of combinations never falls
+  pub no_fewer : old ≤ new
+  -- it grows by at most the sizes of the systems of the rows up to each of them
+  pub counted : IsCountedUpto width rows (length rows) (new - old)
+  -- at an overflow by those up to its step
+  pub counted_before : IfErr result (IsCountedBefore width rows (new - old))
+
+-- what taking in the rows from an index on costs and shows
+pub record ConvertsFrom {T : Type 0} (width : ℕ) (rows : List Row) (from old new : ℕ)
+    (result : Result T ConvErr) : Type 0 where
+  -- an overflow shows a number outside the range, at the step with one of these rows
+  pub overflow : IfErr result (IsRealOverflowFrom width rows from)
+  -- the count of combinations never falls
+  pub no_fewer : old ≤ new
+  -- it grows by at most the sizes of the systems of the rows up to each of these
+  pub counted : IsCountedBetween width rows from (length rows) (new - old)
+  -- at an overflow by those up to its step
+  pub counted_before : IfErr result (IsCountedBeforeFrom width rows from (new - old))
 
 -- whether the first k rows admit other vectors than the first of them up to an index
 abbrev pub TellsChange : ℕ → List Row → ℕ → ℕ → Bool → Type 0

@@ -160,7 +160,8 @@ impl Beside {
 
     // Whether it is to take in a row within so many looks.
     fn has_turn(&self, looks_left: u64, slack: u128) -> bool
-        ensures { IsTrue result → (self.now.running ≡ true) × (self.now.taken < length self.now.rows.rows) }
+        ensures { IsTrue result
+            → (self.now.running ≡ true) × (self.now.taken < length self.now.rows.rows) }
     {
         self.running
             && self.taken < self.rows.len()
@@ -172,12 +173,15 @@ impl Beside {
     // An overflow or want of memory ends it.
     fn plan_next(&mut self, alloc: Global, looks_left: u64)
         requires row { self.old.taken < length self.old.rows.rows }
-        requires state { IsState self.old.rows.width self.old.rows.rows self.old.taken self.old.system }
+        requires state { let rows = self.old.rows in
+            IsState rows.width rows.rows self.old.taken self.old.system }
         requires planned { IsPlanned self.old }
         ensures row { self.new.taken < length self.new.rows.rows }
-        ensures state { IsState self.new.rows.width self.new.rows.rows self.new.taken self.new.system }
+        ensures state { let rows = self.new.rows in
+            IsState rows.width rows.rows self.new.taken self.new.system }
         ensures planned { IsPlanned self.new }
-        ensures running { (width : ℕ) (rows : List Row) → IsRunning width rows self.old → IsRunning width rows self.new }
+        ensures running { (width : ℕ) (rows : List Row)
+            → IsRunning width rows self.old → IsRunning width rows self.new }
     {
         if self.plan.is_some() {
             return;
@@ -198,9 +202,11 @@ impl Beside {
     // or want of memory ends it.
     fn take_in<L: Ledger>(&mut self, alloc: Global, slack: &mut u128, steps: &mut Steps<L>)
         requires row { self.old.taken < length self.old.rows.rows }
-        requires state { IsState self.old.rows.width self.old.rows.rows self.old.taken self.old.system }
+        requires state { let rows = self.old.rows in
+            IsState rows.width rows.rows self.old.taken self.old.system }
         requires planned { IsPlanned self.old }
-        ensures beside { (width : ℕ) (rows : List Row) → IsRunning width rows self.old → IsBeside width rows self.new }
+        ensures beside { (width : ℕ) (rows : List Row)
+            → IsRunning width rows self.old → IsBeside width rows self.new }
         ensures no_fewer { steps.old ≤ steps.new }
         ensures within { steps.new + slack.new ≤ steps.old + slack.old }
     {

@@ -19,14 +19,10 @@
 //!   all of them fit the slack, so the bound holds for both together; the pairs that it found wait until they do.
 //! - *Overflows.* An overflow of the second conversion ends it and is never shown. If the list's order overflows
 //!   first, the second goes on as far as the slack allows, and may still answer.
-ghost use Rattle.std.specs.Prelude.{◌≡◌, ℕ, ◌+◌, ◌-◌, ◌^◌, ◌<◌, ◌≤◌, true, false, length, map, All, IfOk, IfErr, MatchBool};
+ghost use Rattle.std.specs.Prelude.{◌≡◌, ◌+◌, ◌-◌, ◌^◌, ◌<◌, ◌≤◌, true, false, length, map, All, IfOk, IfErr, MatchBool};
 ghost use Rattle.row_core.specs.Lists.{vectors, AreMarked};
-ghost use Rattle.cone_laws.specs.Cones.{Upto};
-ghost use Rattle.cone_laws.specs.Canon.{Canon};
 ghost use Rattle.cone_laws.specs.SystemLaws.{HasSystemOf};
-ghost use Rattle.sat_matrix.specs.ZeroTables.{IsZeroTable};
-ghost use Rattle.row_core.specs.MarkedLists.{AreLists};
-ghost use Rattle.chernikova.specs.Conversion.{IsState, IsAtStep, IsCountedUpto, IsCountedBefore, IsRealOverflow};
+ghost use Rattle.chernikova.specs.Conversion.{IsState, IsAtStep, IsRealOverflow, IsConverted, ConvertsRows};
 ghost use Rattle.chernikova.specs.Orders.{bits_at, IsPlaced};
 ghost use Rattle.chernikova.specs.Beside.{IsBeside, IsDone};
 
@@ -63,13 +59,8 @@ pub fn convert_in_better_order<L: Ledger>(
 ) -> Result<Cone, ConvErr>
     requires width { rows.now.width ≡ width }
     requires narrow { width < 2 ^ 32 }
-    ensures canon { IfOk result (λ cone. Canon (Upto width rows.now.rows (length rows.now.rows)) (vectors cone.lines.rows) (vectors cone.rays.rows)) }
-    ensures lists { IfOk result (λ cone. AreLists width cone.lines cone.rays) }
-    ensures sat { IfOk result (λ cone. IsZeroTable rows.now.rows (length rows.now.rows) (vectors cone.rays.rows) cone.sat) }
-    ensures overflow { IfErr result (IsRealOverflow width rows.now.rows) }
-    ensures no_fewer { steps.old ≤ steps.new }
-    ensures counted { IsCountedUpto width rows.now.rows (length rows.now.rows) (steps.new - steps.old) }
-    ensures counted_before { IfErr result (IsCountedBefore width rows.now.rows (steps.new - steps.old)) }
+    ensures cone { IfOk result (IsConverted width rows.now.rows) }
+    ensures conversion { ConvertsRows width rows.now.rows steps.old steps.new result }
 {
     let system = start(alloc, width, rows)?;
     let mut race = Race {
@@ -161,12 +152,7 @@ impl Race {
         ensures done { let list = rows.now in
             IfOk result (λ other. MatchBool other (IsDone list.width list.rows self.new.beside)
             (IsState list.width list.rows (length list.rows) self.new.system)) }
-        ensures overflow { IfErr result (IsRealOverflow rows.now.width rows.now.rows) }
-        ensures no_fewer { steps.old ≤ steps.new }
-        ensures counted { let list = rows.now in
-            IsCountedUpto list.width list.rows (length list.rows) (steps.new - steps.old) }
-        ensures counted_before { let list = rows.now in
-            IfErr result (IsCountedBefore list.width list.rows (steps.new - steps.old)) }
+        ensures conversion { ConvertsRows rows.now.width rows.now.rows steps.old steps.new result }
     {
         for k in 0..rows.len() {
             match self.take_row(alloc, rows, k, steps) {

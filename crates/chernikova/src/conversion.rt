@@ -1,14 +1,13 @@
 //! The conversion.
-ghost use Rattle.std.specs.Prelude.{◌≡◌, ℕ, ◌+◌, ◌^◌, ◌-◌, ◌<◌, ◌≤◌, ◌++◌, List, length, pos, true, IfOk, IfErr, MatchResult, OnOk};
-ghost use Rattle.row_core.specs.Lists.{row_at, vectors, AreMarked};
+ghost use Rattle.std.specs.Prelude.{◌≡◌, ◌+◌, ◌^◌, ◌-◌, ◌<◌, ◌≤◌, ◌++◌, length, true, IfOk, IfErr, MatchResult, OnOk};
+ghost use Rattle.row_core.specs.Lists.{vectors, AreMarked};
 ghost use Rattle.cone_laws.specs.Cones.{Upto};
-ghost use Rattle.cone_laws.specs.Canon.{Canon, IsSystem};
+ghost use Rattle.cone_laws.specs.Canon.{IsSystem};
 ghost use Rattle.cone_laws.specs.Steps.{AreUnits};
 ghost use Rattle.cone_laws.specs.SystemLaws.{HasSystemOf};
-ghost use Rattle.row_core.specs.Range.{AllInRange};
 ghost use Rattle.sat_matrix.specs.ZeroTables.{IsZeroTable};
 ghost use Rattle.row_core.specs.MarkedLists.{AreLists};
-ghost use Rattle.chernikova.specs.Conversion.{IsState, IsAtStep, IsCountedUpto, IsCountedBetween, IsCountedBefore, IsCountedBeforeFrom, IsConverted, IsRealOverflow, IsRealOverflowFrom, TellsChange};
+ghost use Rattle.chernikova.specs.Conversion.{IsState, IsAtStep, IsConverted, IsRealOverflow, TellsChange, ConvertsRows, ConvertsFrom};
 
 use crate::cone::{Added, Cone};
 use crate::lists::{rows_of_both, system_of_cone, system_of_copy};
@@ -38,13 +37,8 @@ pub fn convert<L: Ledger>(
 ) -> Result<Cone, ConvErr>
     requires width { rows.now.width ≡ width }
     requires narrow { width < 2 ^ 32 }
-    ensures canon { IfOk result (λ cone. Canon (Upto width rows.now.rows (length rows.now.rows)) (vectors cone.lines.rows) (vectors cone.rays.rows)) }
-    ensures lists { IfOk result (λ cone. AreLists width cone.lines cone.rays) }
-    ensures sat { IfOk result (λ cone. IsZeroTable rows.now.rows (length rows.now.rows) (vectors cone.rays.rows) cone.sat) }
-    ensures overflow { IfErr result (IsRealOverflow width rows.now.rows) }
-    ensures no_fewer { steps.old ≤ steps.new }
-    ensures counted { IsCountedUpto width rows.now.rows (length rows.now.rows) (steps.new - steps.old) }
-    ensures counted_before { IfErr result (IsCountedBefore width rows.now.rows (steps.new - steps.old)) }
+    ensures cone { IfOk result (IsConverted width rows.now.rows) }
+    ensures conversion { ConvertsRows width rows.now.rows steps.old steps.new result }
 {
     let mut cone = start(alloc, width, rows)?;
     take_rows(alloc, &mut cone, rows, 0, steps)?;
@@ -68,15 +62,9 @@ pub fn add_rows<L: Ledger>(
     requires cone { IsConverted taken.now.width taken.now.rows cone.now }
     ensures cone { let rows = taken.now.rows ++ more.now.rows in
         IfOk result (IsConverted taken.now.width rows) }
-    ensures overflow { let rows = taken.now.rows ++ more.now.rows in
-        IfErr result (IsRealOverflowFrom taken.now.width rows (length taken.now.rows)) }
-    ensures no_fewer { steps.old ≤ steps.new }
-    ensures counted { let rows = taken.now.rows ++ more.now.rows in
+    ensures conversion { let rows = taken.now.rows ++ more.now.rows in
         let from = length taken.now.rows in
-        IsCountedBetween taken.now.width rows from (length rows) (steps.new - steps.old) }
-    ensures counted_before { let rows = taken.now.rows ++ more.now.rows in
-        let from = length taken.now.rows in
-        IfErr result (IsCountedBeforeFrom taken.now.width rows from (steps.new - steps.old)) }
+        ConvertsFrom taken.now.width rows from steps.old steps.new result }
 {
     let rows = rows_of_both(taken, more)?;
     prove!(rows.width() < 0x1_0000_0000);
@@ -101,17 +89,18 @@ pub fn add_rows_from<L: Ledger>(
     steps: &mut Steps<L>,
 ) -> Result<Added, ConvErr>
     requires from { from ≤ length rows.now.rows }
-    requires system { IsSystem (Upto rows.now.width rows.now.rows from) (vectors cone.lines.rows) (vectors cone.rays.rows) }
+    requires system { let list = rows.now in
+        IsSystem (Upto list.width list.rows from)
+        (vectors cone.lines.rows) (vectors cone.rays.rows) }
     requires lists { AreLists rows.now.width cone.lines cone.rays }
     requires sat { IsZeroTable rows.now.rows from (vectors cone.rays.rows) cone.sat }
-    ensures canon { IfOk result (λ added. Canon (Upto rows.now.width rows.now.rows (length rows.now.rows)) (vectors added.cone.lines.rows) (vectors added.cone.rays.rows)) }
-    ensures lists { IfOk result (λ added. AreLists rows.now.width added.cone.lines added.cone.rays) }
-    ensures sat { IfOk result (λ added. IsZeroTable rows.now.rows (length rows.now.rows) (vectors added.cone.rays.rows) added.cone.sat) }
-    ensures changed { IfOk result (λ added. TellsChange rows.now.width rows.now.rows from (length rows.now.rows) added.changed) }
-    ensures overflow { IfErr result (IsRealOverflowFrom rows.now.width rows.now.rows from) }
-    ensures no_fewer { steps.old ≤ steps.new }
-    ensures counted { IsCountedBetween rows.now.width rows.now.rows from (length rows.now.rows) (steps.new - steps.old) }
-    ensures counted_before { IfErr result (IsCountedBeforeFrom rows.now.width rows.now.rows from (steps.new - steps.old)) }
+    ensures cone { let list = rows.now in
+        IfOk result (λ added. IsConverted list.width list.rows added.cone) }
+    ensures changed { let list = rows.now in
+        let all = length list.rows in
+        IfOk result (λ added. TellsChange list.width list.rows from all added.changed) }
+    ensures conversion { let list = rows.now in
+        ConvertsFrom list.width list.rows from steps.old steps.new result }
 {
     prove!(rows.width() < 0x1_0000_0000);
     let mut system = system_of_cone(alloc, cone)?;
@@ -158,7 +147,9 @@ fn take_row<L: Ledger>(
 ) -> Result<bool, ConvErr>
     requires row { k < length rows.now.rows }
     requires state { IsState rows.now.width rows.now.rows k cone.old }
-    ensures state { MatchResult result (λ _. IsState rows.now.width rows.now.rows (k + 1) cone.new) (IsRealOverflow rows.now.width rows.now.rows) }
+    ensures state { let list = rows.now in
+        MatchResult result (λ _. IsState list.width list.rows (k + 1) cone.new)
+        (IsRealOverflow list.width list.rows) }
     ensures changed { IfOk result (TellsChange rows.now.width rows.now.rows k (k + 1)) }
     ensures step { IfErr result (IsAtStep k) }
     ensures no_fewer { steps.old ≤ steps.new }
@@ -180,12 +171,12 @@ fn take_rows<L: Ledger>(
 ) -> Result<bool, ConvErr>
     requires from { from ≤ length rows.now.rows }
     requires state { IsState rows.now.width rows.now.rows from cone.old }
-    ensures state { OnOk result (IsState rows.now.width rows.now.rows (length rows.now.rows) cone.new) }
-    ensures changed { IfOk result (TellsChange rows.now.width rows.now.rows from (length rows.now.rows)) }
-    ensures overflow { IfErr result (IsRealOverflowFrom rows.now.width rows.now.rows from) }
-    ensures no_fewer { steps.old ≤ steps.new }
-    ensures counted { IsCountedBetween rows.now.width rows.now.rows from (length rows.now.rows) (steps.new - steps.old) }
-    ensures counted_before { IfErr result (IsCountedBeforeFrom rows.now.width rows.now.rows from (steps.new - steps.old)) }
+    ensures state { let list = rows.now in
+        OnOk result (IsState list.width list.rows (length list.rows) cone.new) }
+    ensures changed { let list = rows.now in
+        IfOk result (TellsChange list.width list.rows from (length list.rows)) }
+    ensures conversion { let list = rows.now in
+        ConvertsFrom list.width list.rows from steps.old steps.new result }
 {
     let mut scratch = Scratch::new(alloc);
     let mut changed = false;

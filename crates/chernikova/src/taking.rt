@@ -35,7 +35,9 @@ pub(crate) fn row_position(
 ) -> Result<Position, ConvErr>
     requires row { k < length rows.now.rows }
     requires state { IsState rows.now.width rows.now.rows k cone.now }
-    ensures position { MatchResult result (IsPosition rows.now.rows k cone.now) (IsRealOverflow rows.now.width rows.now.rows) }
+    ensures position { let list = rows.now in
+        MatchResult result (IsPosition list.rows k cone.now)
+        (IsRealOverflow list.width list.rows) }
     ensures step { IfErr result (IsAtStep k) }
 {
     match position(alloc, scratch, cone, rows, k) {
@@ -54,7 +56,9 @@ pub(crate) fn plan_row(
 ) -> Result<Plan, ConvErr>
     requires row { k < length rows.now.rows }
     requires state { IsState rows.now.width rows.now.rows k cone.now }
-    ensures plan { MatchResult result (IsPlan rows.now.rows k cone.now) (IsRealOverflow rows.now.width rows.now.rows) }
+    ensures plan { let list = rows.now in
+        MatchResult result (IsPlan list.rows k cone.now)
+        (IsRealOverflow list.width list.rows) }
     ensures step { IfErr result (IsAtStep k) }
 {
     let position = row_position(alloc, scratch, cone, rows, k)?;
@@ -74,7 +78,9 @@ pub(crate) fn take_planned<L: Ledger>(
     requires row { k < length rows.now.rows }
     requires state { IsState rows.now.width rows.now.rows k cone.old }
     requires plan { IsPlan rows.now.rows k cone.old plan }
-    ensures state { MatchResult result (λ _. IsState rows.now.width rows.now.rows (k + 1) cone.new) (IsRealOverflow rows.now.width rows.now.rows) }
+    ensures state { let list = rows.now in
+        MatchResult result (λ _. IsState list.width list.rows (k + 1) cone.new)
+        (IsRealOverflow list.width list.rows) }
     ensures step { IfErr result (IsAtStep k) }
     ensures no_fewer { steps.old ≤ steps.new }
     ensures counted { steps.new ≤ steps.old + combinations_of cone.old plan }
@@ -101,11 +107,16 @@ pub(crate) fn take_row_sparing<L: Ledger>(
     requires row { k < length rows.now.rows }
     requires state { IsState rows.now.width rows.now.rows k cone.old }
     requires position { IsPosition rows.now.rows k cone.old position }
-    ensures state { MatchResult result (λ _. IsState rows.now.width rows.now.rows (k + 1) cone.new) (IsRealOverflow rows.now.width rows.now.rows) }
+    ensures state { let list = rows.now in
+        MatchResult result (λ _. IsState list.width list.rows (k + 1) cone.new)
+        (IsRealOverflow list.width list.rows) }
     ensures step { IfErr result (IsAtStep k) }
     ensures no_fewer { steps.old ≤ steps.new }
-    ensures counted { HasSystemOf rows.now.width rows.now.rows (k + 1) (kept_of (is_eq_at rows.now.rows k) cone.old position + (steps.new - steps.old)) }
-    ensures spared { IfOk result (λ spared. HasSystemOf rows.now.width rows.now.rows (k + 1) (steps.new - steps.old + spared)) }
+    ensures counted { let kept = kept_of (is_eq_at rows.now.rows k) cone.old position in
+        HasSystemOf rows.now.width rows.now.rows (k + 1) (kept + (steps.new - steps.old)) }
+    ensures spared { let list = rows.now in
+        IfOk result (λ spared.
+        HasSystemOf list.width list.rows (k + 1) (steps.new - steps.old + spared)) }
 {
     let plan = plan_of_position(alloc, scratch, cone, position, rows, k)?;
     let made = plan.combinations(cone);

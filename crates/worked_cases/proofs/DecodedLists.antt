@@ -1,5 +1,5 @@
 -- The canonical system of the list of generators with a point, as the decoding takes it.
-use Rattle.std.specs.Prelude.{◌≡◌, ℕ, ◌+◌, ◌<◌, List, [], ◌∷◌, ◌++◌, length, All, slice_index_or, Result, Ok, Err, IfOk, ℤ}
+use Rattle.std.specs.Prelude.{◌≡◌, ℕ, ◌+◌, ◌<◌, List, [], ◌∷◌, ◌++◌, length, All, slice_index_or, ℤ}
 use Rattle.std.proofs.Common.{sym, subst, ap, ◌∙◌, arith}
 use Rattle.std.proofs.Math.Seq.{get_or-append_seam}
 use Rattle.std.proofs.lemmas.List.{length_push}
@@ -34,8 +34,3 @@ are_row_lists gs list width cone fit point w e v wide canon lists = record {
       (subst (λ (rs : List Row). All (IsRow (gs.dim + 2)) rs) e (subst (λ (n : ℕ). All (IsRow n) list.rows) w wide.each))
       (subst (λ (rs : List Row). IsSystem (ConeOf (gs.dim + 2) rs) (vectors cone.lines.rows) (vectors cone.rays.rows)) e (subst (λ (n : ℕ). IsSystem (ConeOf n list.rows) (vectors cone.lines.rows) (vectors cone.rays.rows)) (v ∙ w) canon.system));
 }
-
--- what two clauses of one answer give together
-pub ok_of_both : {A E : Type 0} (P Q S : A → Type 0) (r : Result A E) → ((a : A) → P a → Q a → S a) → IfOk r P → IfOk r Q → IfOk r S
-ok_of_both P Q S (Ok a) f p q = f a p q
-ok_of_both P Q S (Err e) f p q = tt

@@ -1,16 +1,12 @@
-use Rattle.std.specs.Prelude.{ℕ, ◌-◌, length}
-use Rattle.row_core.specs.Lists.{vectors}
-use Rattle.cone_laws.specs.Cones.{Upto}
-use Rattle.cone_laws.specs.Canon.{Canon}
-use Rattle.std.proofs.Common.{sym, subst, arith}
-use Rattle.std.proofs.lemmas.Grind.{common_steps}
-use Rattle.chernikova.specs.Beside.{IsDone}
-use Rattle.row_core.specs.MarkedLists.{AreLists}
-use Rattle.chernikova.specs.Conversion.{IsState, IsCountedUpto, IsCountedBefore, IsRealOverflow}
-use Rattle.chernikova.proofs.Counts.{counted_start}
-use Rattle.chernikova.proofs.Rankings.{rearranged_canon, rearranged_zeros, rearranged_lists}
-use Rattle.chernikova.proofs.PlacedCones.{beside_idle, placed_canon, placed_lists, placed_zeros, done_places, first_of, second_of}
+use Rattle.std.specs.Prelude.{ℕ, length, Bool, Ok, Err}
+use Rattle.std.proofs.Common.{sym, subst, ◌∙◌}
 use Rattle.std.proofs.lemmas.Result.{err_from_is_err_and}
+use Rattle.row_core.proofs.RowListLemmas.{length-vectors}
+use Rattle.chernikova.specs.Beside.{IsDone}
+use Rattle.chernikova.specs.Conversion.{IsState, IsConverted, ConvertsRows}
+use Rattle.chernikova.proofs.Rankings.{rearranged_converted}
+use Rattle.chernikova.proofs.PlacedCones.{beside_idle, placed_converted, done_places, done_state, first_of, second_of}
+use Rattle.chernikova.proofs.Costs.{rows_not_begun, rows_done, rows_then_memory, rows_refused}
 use Rattle.chernikova.proofs.better_order.convert_in_better_order.Goals as goal
 
 pub run-requires-clause-state : goal.run-requires-clause-state
@@ -21,106 +17,100 @@ run-requires-clause-state g c =
 pub run-requires-clause-beside : goal.run-requires-clause-beside
 run-requires-clause-beside g c = beside_idle c.args.rows.now.width c.args.rows.now.rows c.waiting.result c.waiting.ensures
 
-pub returns-in_err-system-clause-counted : goal.returns-in_err-system-clause-counted
-returns-in_err-system-clause-counted g c = counted_start c.args.width c.args.rows.now.rows _ (omega arith)
+pub returns-then-other-clause-cone : goal.returns-then-other-clause-cone
+returns-then-other-clause-cone g c =
+    let width = c.args.rows.now.width in
+    let rows = c.args.rows.now.rows in
+    let cone = c.in_ok-cone_of_other_order.field-0 in
+    let done : IsDone width rows c.run.new.self.beside = first_of c.in_ok-other.other (IsDone width rows c.run.new.self.beside) (IsState width rows (length rows) c.run.new.self.system) c.if-other.true c.in_ok-other.ensures.done in
+    subst (λ (w : ℕ). IsConverted w rows cone) c.requires.width (placed_converted width rows c.run.new.self.beside cone done c.in_ok-cone_of_other_order.ensures)
 
-pub returns-then-other-clause-canon : goal.returns-then-other-clause-canon
-returns-then-other-clause-canon g c =
-    let done : IsDone c.args.rows.now.width c.args.rows.now.rows c.run.new.self.beside =
-    first_of c.in_ok-other.other (IsDone c.args.rows.now.width c.args.rows.now.rows c.run.new.self.beside) (IsState c.args.rows.now.width c.args.rows.now.rows (length c.args.rows.now.rows) c.run.new.self.system) c.if-other.true c.in_ok-other.ensures.done in
-    let P : ℕ → Type 0 = λ w. Canon (Upto w c.args.rows.now.rows (length c.args.rows.now.rows)) (vectors c.in_ok-cone_of_other_order.field-0.lines.rows) (vectors c.in_ok-cone_of_other_order.field-0.rays.rows) in
-    subst P c.requires.width (placed_canon c.args.rows.now.width c.args.rows.now.rows c.run.new.self.beside c.in_ok-cone_of_other_order.field-0 done c.in_ok-cone_of_other_order.ensures)
-
-pub returns-then-other-clause-lists : goal.returns-then-other-clause-lists
-returns-then-other-clause-lists g c =
-    let done : IsDone c.args.rows.now.width c.args.rows.now.rows c.run.new.self.beside =
-    first_of c.in_ok-other.other (IsDone c.args.rows.now.width c.args.rows.now.rows c.run.new.self.beside) (IsState c.args.rows.now.width c.args.rows.now.rows (length c.args.rows.now.rows) c.run.new.self.system) c.if-other.true c.in_ok-other.ensures.done in
-    let P : ℕ → Type 0 = λ w. AreLists w c.in_ok-cone_of_other_order.field-0.lines c.in_ok-cone_of_other_order.field-0.rays in
-    subst P c.requires.width (placed_lists c.args.rows.now.width c.args.rows.now.rows c.run.new.self.beside c.in_ok-cone_of_other_order.field-0 done c.in_ok-cone_of_other_order.ensures)
-
-pub returns-then-other-clause-sat : goal.returns-then-other-clause-sat
-returns-then-other-clause-sat g c =
-    let done : IsDone c.args.rows.now.width c.args.rows.now.rows c.run.new.self.beside =
-    first_of c.in_ok-other.other (IsDone c.args.rows.now.width c.args.rows.now.rows c.run.new.self.beside) (IsState c.args.rows.now.width c.args.rows.now.rows (length c.args.rows.now.rows) c.run.new.self.system) c.if-other.true c.in_ok-other.ensures.done in
-    placed_zeros c.args.rows.now.width c.args.rows.now.rows c.run.new.self.beside c.in_ok-cone_of_other_order.field-0 done c.in_ok-cone_of_other_order.ensures
-
-pub returns-clause-canon : goal.returns-clause-canon
-returns-clause-canon g c =
-    let state : IsState c.args.rows.now.width c.args.rows.now.rows (length c.args.rows.now.rows) c.run.new.self.system =
-    second_of c.in_ok-other.other (IsDone c.args.rows.now.width c.args.rows.now.rows c.run.new.self.beside) (IsState c.args.rows.now.width c.args.rows.now.rows (length c.args.rows.now.rows) c.run.new.self.system) c.if-other.false c.in_ok-other.ensures.done in
-    let P : ℕ → Type 0 = λ w. Canon (Upto w c.args.rows.now.rows (length c.args.rows.now.rows)) (vectors c.in_ok-sorted_cone.field-0.lines.rows) (vectors c.in_ok-sorted_cone.field-0.rays.rows) in
-    subst P c.requires.width (rearranged_canon c.args.rows.now.width c.args.rows.now.rows (length c.args.rows.now.rows) c.run.new.self.system c.in_ok-sorted_cone.field-0 state c.in_ok-sorted_cone.ensures)
-
-pub returns-clause-lists : goal.returns-clause-lists
-returns-clause-lists g c =
-    let state : IsState c.args.rows.now.width c.args.rows.now.rows (length c.args.rows.now.rows) c.run.new.self.system =
-    second_of c.in_ok-other.other (IsDone c.args.rows.now.width c.args.rows.now.rows c.run.new.self.beside) (IsState c.args.rows.now.width c.args.rows.now.rows (length c.args.rows.now.rows) c.run.new.self.system) c.if-other.false c.in_ok-other.ensures.done in
-    let P : ℕ → Type 0 = λ w. AreLists w c.in_ok-sorted_cone.field-0.lines c.in_ok-sorted_cone.field-0.rays in
-    subst P c.requires.width (rearranged_lists c.args.rows.now.width c.args.rows.now.rows (length c.args.rows.now.rows) c.run.new.self.system c.in_ok-sorted_cone.field-0 state c.in_ok-sorted_cone.ensures)
-
-pub returns-clause-sat : goal.returns-clause-sat
-returns-clause-sat g c =
-    let state : IsState c.args.rows.now.width c.args.rows.now.rows (length c.args.rows.now.rows) c.run.new.self.system =
-    second_of c.in_ok-other.other (IsDone c.args.rows.now.width c.args.rows.now.rows c.run.new.self.beside) (IsState c.args.rows.now.width c.args.rows.now.rows (length c.args.rows.now.rows) c.run.new.self.system) c.if-other.false c.in_ok-other.ensures.done in
-    rearranged_zeros c.args.rows.now.width c.args.rows.now.rows (length c.args.rows.now.rows) c.run.new.self.system c.in_ok-sorted_cone.field-0 state c.in_ok-sorted_cone.ensures
+pub returns-clause-cone : goal.returns-clause-cone
+returns-clause-cone g c =
+    let width = c.args.rows.now.width in
+    let rows = c.args.rows.now.rows in
+    let cone = c.in_ok-sorted_cone.field-0 in
+    let state : IsState width rows (length rows) c.run.new.self.system = second_of c.in_ok-other.other (IsDone width rows c.run.new.self.beside) (IsState width rows (length rows) c.run.new.self.system) c.if-other.false c.in_ok-other.ensures.done in
+    subst (λ (w : ℕ). IsConverted w rows cone) c.requires.width (rearranged_converted width rows c.run.new.self.system cone state c.in_ok-sorted_cone.ensures)
 
 pub cone_of_other_order-requires-clause-as_many : goal.cone_of_other_order-requires-clause-as_many
-cone_of_other_order-requires-clause-as_many g c = grind (arith, common_steps)
+cone_of_other_order-requires-clause-as_many g c =
+    let width = c.args.rows.now.width in
+    let rows = c.args.rows.now.rows in
+    let done : IsDone width rows c.run.new.self.beside = first_of c.in_ok-other.other (IsDone width rows c.run.new.self.beside) (IsState width rows (length rows) c.run.new.self.system) c.if-other.true c.in_ok-other.ensures.done in
+    (done_state width rows c.run.new.self.beside done).zeros.each.as_many ∙ length-vectors c.run.new.self.beside.system.rays.rows
 
 pub cone_of_other_order-requires-clause-lines : goal.cone_of_other_order-requires-clause-lines
-cone_of_other_order-requires-clause-lines g c = grind (arith, common_steps)
+cone_of_other_order-requires-clause-lines g c =
+    let width = c.args.rows.now.width in
+    let rows = c.args.rows.now.rows in
+    let done : IsDone width rows c.run.new.self.beside = first_of c.in_ok-other.other (IsDone width rows c.run.new.self.beside) (IsState width rows (length rows) c.run.new.self.system) c.if-other.true c.in_ok-other.ensures.done in
+    (done_state width rows c.run.new.self.beside done).lists.lines_marked
 
 pub cone_of_other_order-requires-clause-rays : goal.cone_of_other_order-requires-clause-rays
-cone_of_other_order-requires-clause-rays g c = grind (arith, common_steps)
+cone_of_other_order-requires-clause-rays g c =
+    let width = c.args.rows.now.width in
+    let rows = c.args.rows.now.rows in
+    let done : IsDone width rows c.run.new.self.beside = first_of c.in_ok-other.other (IsDone width rows c.run.new.self.beside) (IsState width rows (length rows) c.run.new.self.system) c.if-other.true c.in_ok-other.ensures.done in
+    (done_state width rows c.run.new.self.beside done).lists.rays_marked
 
 pub sorted_cone-requires-clause-as_many : goal.sorted_cone-requires-clause-as_many
-sorted_cone-requires-clause-as_many g c = grind (arith, common_steps)
+sorted_cone-requires-clause-as_many g c =
+    let width = c.args.rows.now.width in
+    let rows = c.args.rows.now.rows in
+    let state : IsState width rows (length rows) c.run.new.self.system = second_of c.in_ok-other.other (IsDone width rows c.run.new.self.beside) (IsState width rows (length rows) c.run.new.self.system) c.if-other.false c.in_ok-other.ensures.done in
+    state.zeros.each.as_many ∙ length-vectors c.run.new.self.system.rays.rows
 
 pub sorted_cone-requires-clause-lines : goal.sorted_cone-requires-clause-lines
-sorted_cone-requires-clause-lines g c = grind (arith, common_steps)
+sorted_cone-requires-clause-lines g c =
+    let width = c.args.rows.now.width in
+    let rows = c.args.rows.now.rows in
+    let state : IsState width rows (length rows) c.run.new.self.system = second_of c.in_ok-other.other (IsDone width rows c.run.new.self.beside) (IsState width rows (length rows) c.run.new.self.system) c.if-other.false c.in_ok-other.ensures.done in
+    state.lists.lines_marked
 
 pub sorted_cone-requires-clause-rays : goal.sorted_cone-requires-clause-rays
-sorted_cone-requires-clause-rays g c = grind (arith, common_steps)
+sorted_cone-requires-clause-rays g c =
+    let width = c.args.rows.now.width in
+    let rows = c.args.rows.now.rows in
+    let state : IsState width rows (length rows) c.run.new.self.system = second_of c.in_ok-other.other (IsDone width rows c.run.new.self.beside) (IsState width rows (length rows) c.run.new.self.system) c.if-other.false c.in_ok-other.ensures.done in
+    state.lists.rays_marked
 
 pub cone_of_other_order-requires-clause-places : goal.cone_of_other_order-requires-clause-places
 cone_of_other_order-requires-clause-places g c =
-    let done : IsDone c.args.rows.now.width c.args.rows.now.rows c.run.new.self.beside =
-    first_of c.in_ok-other.other (IsDone c.args.rows.now.width c.args.rows.now.rows c.run.new.self.beside) (IsState c.args.rows.now.width c.args.rows.now.rows (length c.args.rows.now.rows) c.run.new.self.system) c.if-other.true c.in_ok-other.ensures.done in
-    done_places c.args.rows.now.width c.args.rows.now.rows c.run.new.self.beside done
+    let width = c.args.rows.now.width in
+    let rows = c.args.rows.now.rows in
+    let done : IsDone width rows c.run.new.self.beside = first_of c.in_ok-other.other (IsDone width rows c.run.new.self.beside) (IsState width rows (length rows) c.run.new.self.system) c.if-other.true c.in_ok-other.ensures.done in
+    done_places width rows c.run.new.self.beside done
 
-pub returns-in_err-other-clause-counted : goal.returns-in_err-other-clause-counted
-returns-in_err-other-clause-counted g c =
-    let P : ℕ → Type 0 = λ w. IsCountedUpto w c.args.rows.now.rows (length c.args.rows.now.rows) (c.run.new.steps - c.args.steps.now) in
-    subst P c.requires.width c.run.ensures.counted
+pub returns-in_err-system-clause-conversion : goal.returns-in_err-system-clause-conversion
+returns-in_err-system-clause-conversion g c =
+    let p = err_from_is_err_and c.from_residual.result c.from_residual.ensures.1 in
+    rw (p.1, p.2) (rows_not_begun c.args.width c.args.rows.now.rows c.args.steps.now)
 
-pub returns-then-other-clause-counted : goal.returns-then-other-clause-counted
-returns-then-other-clause-counted g c =
-    let P : ℕ → Type 0 = λ w. IsCountedUpto w c.args.rows.now.rows (length c.args.rows.now.rows) (c.run.new.steps - c.args.steps.now) in
-    subst P c.requires.width c.run.ensures.counted
-
-pub returns-clause-counted : goal.returns-clause-counted
-returns-clause-counted g c =
-    let P : ℕ → Type 0 = λ w. IsCountedUpto w c.args.rows.now.rows (length c.args.rows.now.rows) (c.run.new.steps - c.args.steps.now) in
-    subst P c.requires.width c.run.ensures.counted
-
-pub returns-in_err-cone_of_other_order-clause-counted : goal.returns-in_err-cone_of_other_order-clause-counted
-returns-in_err-cone_of_other_order-clause-counted g c =
-    let P : ℕ → Type 0 = λ w. IsCountedUpto w c.args.rows.now.rows (length c.args.rows.now.rows) (c.run.new.steps - c.args.steps.now) in
-    subst P c.requires.width c.run.ensures.counted
-
-pub returns-in_err-sorted_cone-clause-counted : goal.returns-in_err-sorted_cone-clause-counted
-returns-in_err-sorted_cone-clause-counted g c =
-    let P : ℕ → Type 0 = λ w. IsCountedUpto w c.args.rows.now.rows (length c.args.rows.now.rows) (c.run.new.steps - c.args.steps.now) in
-    subst P c.requires.width c.run.ensures.counted
-
-pub returns-in_err-other-clause-overflow : goal.returns-in_err-other-clause-overflow
-returns-in_err-other-clause-overflow g c =
-    let P : ℕ → Type 0 = λ w. IsRealOverflow w c.args.rows.now.rows c.in_err-other.field-0.0 in
+pub returns-in_err-other-clause-conversion : goal.returns-in_err-other-clause-conversion
+returns-in_err-other-clause-conversion g c =
     let p = err_from_is_err_and c.from_residual-in_err-other.result c.from_residual-in_err-other.ensures.1 in
-    rw (p.1, p.2) (subst P c.requires.width c.in_err-other.ensures.overflow)
+    rw (p.1, p.2) (rows_refused c.args.width c.args.rows.now.rows c.args.steps.now c.run.new.steps c.in_err-other.field-0.0
+    (subst (λ (w : ℕ). ConvertsRows {T = Bool} w c.args.rows.now.rows c.args.steps.now c.run.new.steps (Err c.in_err-other.field-0.0)) c.requires.width c.in_err-other.ensures.conversion))
 
-pub returns-in_err-other-clause-counted_before : goal.returns-in_err-other-clause-counted_before
-returns-in_err-other-clause-counted_before g c =
-    let P : ℕ → Type 0 = λ w. IsCountedBefore w c.args.rows.now.rows (c.run.new.steps - c.args.steps.now) c.in_err-other.field-0.0 in
-    let p = err_from_is_err_and c.from_residual-in_err-other.result c.from_residual-in_err-other.ensures.1 in
-    rw (p.1, p.2) (subst P c.requires.width c.in_err-other.ensures.counted_before)
+pub returns-in_err-cone_of_other_order-clause-conversion : goal.returns-in_err-cone_of_other_order-clause-conversion
+returns-in_err-cone_of_other_order-clause-conversion g c =
+    let p = err_from_is_err_and c.from_residual-in_err-cone_of_other_order.result c.from_residual-in_err-cone_of_other_order.ensures.1 in
+    rw (p.1, p.2) (rows_then_memory c.args.width c.args.rows.now.rows c.args.steps.now c.run.new.steps c.in_ok-other.other
+    (subst (λ (w : ℕ). ConvertsRows w c.args.rows.now.rows c.args.steps.now c.run.new.steps (Ok c.in_ok-other.other)) c.requires.width c.in_ok-other.ensures.conversion))
+
+pub returns-in_err-sorted_cone-clause-conversion : goal.returns-in_err-sorted_cone-clause-conversion
+returns-in_err-sorted_cone-clause-conversion g c =
+    let p = err_from_is_err_and c.from_residual-in_err-sorted_cone.result c.from_residual-in_err-sorted_cone.ensures.1 in
+    rw (p.1, p.2) (rows_then_memory c.args.width c.args.rows.now.rows c.args.steps.now c.run.new.steps c.in_ok-other.other
+    (subst (λ (w : ℕ). ConvertsRows w c.args.rows.now.rows c.args.steps.now c.run.new.steps (Ok c.in_ok-other.other)) c.requires.width c.in_ok-other.ensures.conversion))
+
+pub returns-then-other-clause-conversion : goal.returns-then-other-clause-conversion
+returns-then-other-clause-conversion g c =
+    rows_done c.args.width c.args.rows.now.rows c.args.steps.now c.run.new.steps c.in_ok-other.other _
+    (subst (λ (w : ℕ). ConvertsRows w c.args.rows.now.rows c.args.steps.now c.run.new.steps (Ok c.in_ok-other.other)) c.requires.width c.in_ok-other.ensures.conversion)
+
+pub returns-clause-conversion : goal.returns-clause-conversion
+returns-clause-conversion g c =
+    rows_done c.args.width c.args.rows.now.rows c.args.steps.now c.run.new.steps c.in_ok-other.other _
+    (subst (λ (w : ℕ). ConvertsRows w c.args.rows.now.rows c.args.steps.now c.run.new.steps (Ok c.in_ok-other.other)) c.requires.width c.in_ok-other.ensures.conversion)

@@ -1,12 +1,14 @@
-use Rattle.std.specs.Prelude.{refl, ◌≡◌, ◌-◌, ◌^◌, ◌<◌, ◌≤◌, ◌++◌, ℕ, List, length}
+use Rattle.std.specs.Prelude.{refl, ◌≡◌, ◌^◌, ◌<◌, ◌≤◌, ◌++◌, ℕ, List, length, Ok, Err}
 use Rattle.std.proofs.Common.{subst, arith, ◌∙◌, sym, length-append}
 use Rattle.std.proofs.lemmas.Result.{err_from_is_err_and}
 use Rattle.row_core.specs.Lists.{Row}
-use Rattle.chernikova.specs.Conversion.{IsState, IsConverted, IsCountedBetween, IsCountedBeforeFrom, IsRealOverflowFrom}
+use Rattle.row_core.specs.declared.errors.ConvErr.TheVariants.{Memory}
+use Rattle.chernikova.specs.declared.cone.Cone.{Cone}
+use Rattle.chernikova.specs.Conversion.{IsConverted, ConvertsFrom}
 use Rattle.chernikova.proofs.Prefixes.{front_state, state_moved}
-use Rattle.chernikova.proofs.Counts.{counted_start_from}
 use Rattle.row_core.proofs.RowListLemmas.{length-vectors}
-use Rattle.chernikova.proofs.Rankings.{rearranged_canon, rearranged_zeros, rearranged_lists}
+use Rattle.chernikova.proofs.Rankings.{rearranged_converted}
+use Rattle.chernikova.proofs.Costs.{further_not_begun, further_done, further_then_memory, further_refused}
 use Rattle.chernikova.proofs.conversion.add_rows.Goals as goal
 
 -- what holds of a list, of the list that it is, from the index that it is
@@ -33,44 +35,45 @@ take_rows-requires-clause-state g c =
 pub sorted_cone-requires-clause-as_many : goal.sorted_cone-requires-clause-as_many
 sorted_cone-requires-clause-as_many g c = c.in_ok-take_rows.ensures.state.zeros.each.as_many ∙ length-vectors c.take_rows.new.cone.rays.rows
 
-pub returns-in_err-rows-clause-counted : goal.returns-in_err-rows-clause-counted
-returns-in_err-rows-clause-counted g c = counted_start_from c.args.taken.now.width (c.args.taken.now.rows ++ c.args.more.now.rows) (length c.args.taken.now.rows) _ (front_fewer c.args.taken.now.rows c.args.more.now.rows) (omega arith)
+pub returns-in_err-rows-clause-conversion : goal.returns-in_err-rows-clause-conversion
+returns-in_err-rows-clause-conversion g c =
+    let taken = c.args.taken.now in
+    let p = err_from_is_err_and c.from_residual.result c.from_residual.ensures.1 in
+    rw (p.1, p.2) (further_not_begun taken.width (taken.rows ++ c.args.more.now.rows) (length taken.rows) c.args.steps.now (front_fewer taken.rows c.args.more.now.rows))
 
-pub returns-in_err-system-clause-counted : goal.returns-in_err-system-clause-counted
-returns-in_err-system-clause-counted g c = counted_start_from c.args.taken.now.width (c.args.taken.now.rows ++ c.args.more.now.rows) (length c.args.taken.now.rows) _ (front_fewer c.args.taken.now.rows c.args.more.now.rows) (omega arith)
+pub returns-in_err-system-clause-conversion : goal.returns-in_err-system-clause-conversion
+returns-in_err-system-clause-conversion g c =
+    let taken = c.args.taken.now in
+    let p = err_from_is_err_and c.from_residual-in_err-system.result c.from_residual-in_err-system.ensures.1 in
+    rw (p.1, p.2) (further_not_begun taken.width (taken.rows ++ c.args.more.now.rows) (length taken.rows) c.args.steps.now (front_fewer taken.rows c.args.more.now.rows))
 
-pub returns-in_err-take_rows-clause-overflow : goal.returns-in_err-take_rows-clause-overflow
-returns-in_err-take_rows-clause-overflow g c =
+pub returns-in_err-take_rows-clause-conversion : goal.returns-in_err-take_rows-clause-conversion
+returns-in_err-take_rows-clause-conversion g c =
+    let rows = c.in_ok-rows.rows in
     let error = c.in_err-take_rows.field-0.0 in
+    let h : ConvertsFrom {T = Cone} rows.width rows.rows c.len-from.result c.args.steps.now c.take_rows.new.steps (Err error) =
+    further_refused rows.width rows.rows c.len-from.result c.args.steps.now c.take_rows.new.steps error c.in_err-take_rows.ensures.conversion in
     let p = err_from_is_err_and c.from_residual-in_err-take_rows.result c.from_residual-in_err-take_rows.ensures.1 in
-    rw (p.1, p.2) (moved (λ n xs k. IsRealOverflowFrom n xs k error) _ _ _ _ _ _ c.in_ok-rows.ensures.width c.in_ok-rows.ensures.rows c.len-from.ensures c.in_err-take_rows.ensures.overflow)
+    rw (p.1, p.2) (moved (λ n xs k. ConvertsFrom {T = Cone} n xs k c.args.steps.now c.take_rows.new.steps (Err error)) _ _ _ _ _ _ c.in_ok-rows.ensures.width c.in_ok-rows.ensures.rows c.len-from.ensures h)
 
-pub returns-in_err-take_rows-clause-counted : goal.returns-in_err-take_rows-clause-counted
-returns-in_err-take_rows-clause-counted g c =
-    let total = c.take_rows.new.steps - c.args.steps.now in
-    moved (λ n xs k. IsCountedBetween n xs k (length xs) total) _ _ _ _ _ _ c.in_ok-rows.ensures.width c.in_ok-rows.ensures.rows c.len-from.ensures c.take_rows.ensures.counted
-
-pub returns-in_err-take_rows-clause-counted_before : goal.returns-in_err-take_rows-clause-counted_before
-returns-in_err-take_rows-clause-counted_before g c =
-    let error = c.in_err-take_rows.field-0.0 in
-    let total = c.take_rows.new.steps - c.args.steps.now in
-    let p = err_from_is_err_and c.from_residual-in_err-take_rows.result c.from_residual-in_err-take_rows.ensures.1 in
-    rw (p.1, p.2) (moved (λ n xs k. IsCountedBeforeFrom n xs k total error) _ _ _ _ _ _ c.in_ok-rows.ensures.width c.in_ok-rows.ensures.rows c.len-from.ensures c.in_err-take_rows.ensures.counted_before)
+pub returns-in_err-sorted_cone-clause-conversion : goal.returns-in_err-sorted_cone-clause-conversion
+returns-in_err-sorted_cone-clause-conversion g c =
+    let rows = c.in_ok-rows.rows in
+    let h : ConvertsFrom {T = Cone} rows.width rows.rows c.len-from.result c.args.steps.now c.take_rows.new.steps (Err Memory) =
+    further_then_memory rows.width rows.rows c.len-from.result c.args.steps.now c.take_rows.new.steps _ c.in_ok-take_rows.ensures.conversion in
+    let p = err_from_is_err_and c.from_residual-in_err-sorted_cone.result c.from_residual-in_err-sorted_cone.ensures.1 in
+    rw (p.1, p.2) (moved (λ n xs k. ConvertsFrom {T = Cone} n xs k c.args.steps.now c.take_rows.new.steps (Err Memory)) _ _ _ _ _ _ c.in_ok-rows.ensures.width c.in_ok-rows.ensures.rows c.len-from.ensures h)
 
 pub returns-clause-cone : goal.returns-clause-cone
 returns-clause-cone g c =
     let rows = c.in_ok-rows.rows in
     let cone = c.in_ok-sorted_cone.field-0 in
-    let system = c.take_rows.new.cone in
-    let state : IsState rows.width rows.rows (length rows.rows) system = c.in_ok-take_rows.ensures.state in
     moved (λ n xs k. IsConverted n xs cone) _ _ _ _ _ _ c.in_ok-rows.ensures.width c.in_ok-rows.ensures.rows c.len-from.ensures
-    (record {
-      canon = rearranged_canon rows.width rows.rows (length rows.rows) system cone state c.in_ok-sorted_cone.ensures;
-      lists = rearranged_lists rows.width rows.rows (length rows.rows) system cone state c.in_ok-sorted_cone.ensures;
-      sat = rearranged_zeros rows.width rows.rows (length rows.rows) system cone state c.in_ok-sorted_cone.ensures;
-    })
+    (rearranged_converted rows.width rows.rows c.take_rows.new.cone cone c.in_ok-take_rows.ensures.state c.in_ok-sorted_cone.ensures)
 
-pub returns-clause-counted : goal.returns-clause-counted
-returns-clause-counted g c =
-    let total = c.take_rows.new.steps - c.args.steps.now in
-    moved (λ n xs k. IsCountedBetween n xs k (length xs) total) _ _ _ _ _ _ c.in_ok-rows.ensures.width c.in_ok-rows.ensures.rows c.len-from.ensures c.take_rows.ensures.counted
+pub returns-clause-conversion : goal.returns-clause-conversion
+returns-clause-conversion g c =
+    let rows = c.in_ok-rows.rows in
+    let cone = c.in_ok-sorted_cone.field-0 in
+    moved (λ n xs k. ConvertsFrom n xs k c.args.steps.now c.take_rows.new.steps (Ok cone)) _ _ _ _ _ _ c.in_ok-rows.ensures.width c.in_ok-rows.ensures.rows c.len-from.ensures
+    (further_done rows.width rows.rows c.len-from.result c.args.steps.now c.take_rows.new.steps _ cone c.in_ok-take_rows.ensures.conversion)

@@ -1,7 +1,7 @@
-use Rattle.std.specs.Prelude.{◌≡◌, ◌-◌, ℕ, length}
+use Rattle.std.specs.Prelude.{◌≡◌, ◌-◌, ◌+◌, ◌≤◌, ℕ, length}
 use Rattle.std.proofs.Common.{subst, arith}
 use Rattle.chernikova.specs.Conversion.{IsState, TellsChange, IsCountedBetween}
-use Rattle.chernikova.proofs.Counts.{counted_none, counted_more, counted_last, counted_before}
+use Rattle.chernikova.proofs.Counts.{counted_none, counted_more, counted_all, counted_before}
 use Rattle.chernikova.proofs.Prefixes.{overflow_from}
 use Rattle.chernikova.proofs.Told.{none_told, tells_more}
 use Rattle.std.proofs.lemmas.Result.{err_from_is_err_and}
@@ -38,25 +38,32 @@ returns-clause-state g c =
     let P : ℕ → Type 0 = λ k. IsState c.args.rows.now.width c.args.rows.now.rows k c.loop-k.cone in
     subst P (let e : c.loop-k.k ≡ length c.args.rows.now.rows = omega (arith, c.len-k-end.ensures, c.requires.from) in e) c.loop-k.invariant.state
 
-pub returns-in_err-row_changes-clause-overflow : goal.returns-in_err-row_changes-clause-overflow
-returns-in_err-row_changes-clause-overflow g c =
-    let p = err_from_is_err_and c.from_residual.result c.from_residual.ensures.1 in
-    rw (p.1, p.2) (overflow_from c.args.rows.now.width c.args.rows.now.rows c.args.from c.loop-k.k c.in_err-row_changes.field-0.0 c.loop-k.invariant.from c.in_err-row_changes.ensures.step c.in_err-row_changes.ensures.state)
-
-pub returns-in_err-row_changes-clause-counted : goal.returns-in_err-row_changes-clause-counted
-returns-in_err-row_changes-clause-counted g c =
+pub returns-in_err-row_changes-clause-conversion : goal.returns-in_err-row_changes-clause-conversion
+returns-in_err-row_changes-clause-conversion g c =
     let inv = c.loop-k.invariant in
-    counted_last c.args.rows.now.width c.args.rows.now.rows c.args.from c.loop-k.k (c.loop-k.steps - c.args.steps.now) (c.take_row.new.steps - c.loop-k.steps) (c.take_row.new.steps - c.args.steps.now) (omega arith) inv.counted c.take_row.ensures.counted
-    (omega (arith, inv.no_fewer, c.take_row.ensures.no_fewer))
-
-pub returns-in_err-row_changes-clause-counted_before : goal.returns-in_err-row_changes-clause-counted_before
-returns-in_err-row_changes-clause-counted_before g c =
-    let inv = c.loop-k.invariant in
+    let width = c.args.rows.now.width in
+    let rows = c.args.rows.now.rows in
+    let k = c.loop-k.k in
+    let error = c.in_err-row_changes.field-0.0 in
+    let total : ℕ = c.take_row.new.steps - c.args.steps.now in
+    let none_fewer : c.args.steps.now ≤ c.take_row.new.steps = omega (arith, inv.no_fewer, c.take_row.ensures.no_fewer) in
+    let counted = counted_more width rows c.args.from k (c.loop-k.steps - c.args.steps.now) (c.take_row.new.steps - c.loop-k.steps) total inv.counted c.take_row.ensures.counted
+    (omega (arith, inv.no_fewer, c.take_row.ensures.no_fewer)) in
     let p = err_from_is_err_and c.from_residual.result c.from_residual.ensures.1 in
-    rw (p.1, p.2) (counted_before c.args.rows.now.width c.args.rows.now.rows c.args.from c.loop-k.k (c.take_row.new.steps - c.args.steps.now) c.in_err-row_changes.field-0.0 c.in_err-row_changes.ensures.step
-    (counted_more c.args.rows.now.width c.args.rows.now.rows c.args.from c.loop-k.k (c.loop-k.steps - c.args.steps.now) (c.take_row.new.steps - c.loop-k.steps) (c.take_row.new.steps - c.args.steps.now) inv.counted c.in_err-row_changes.ensures.counted
-    (omega (arith, inv.no_fewer, c.in_err-row_changes.ensures.no_fewer))))
+    rw (p.1, p.2) (record {
+      overflow = overflow_from width rows c.args.from k error inv.from c.in_err-row_changes.ensures.step c.in_err-row_changes.ensures.state;
+      no_fewer = none_fewer;
+      counted = counted_all width rows c.args.from (k + 1) total (omega arith) counted;
+      counted_before = counted_before width rows c.args.from k total error c.in_err-row_changes.ensures.step counted;
+    })
 
-pub returns-clause-counted : goal.returns-clause-counted
-returns-clause-counted g c =
-    subst (λ (n : ℕ). IsCountedBetween c.args.rows.now.width c.args.rows.now.rows c.args.from n (c.loop-k.steps - c.args.steps.now)) (let e : c.loop-k.k ≡ length c.args.rows.now.rows = omega (arith, c.len-k-end.ensures, c.requires.from) in e) c.loop-k.invariant.counted
+pub returns-clause-conversion : goal.returns-clause-conversion
+returns-clause-conversion g c =
+    let total : ℕ = c.loop-k.steps - c.args.steps.now in
+    let all : c.loop-k.k ≡ length c.args.rows.now.rows = omega (arith, c.len-k-end.ensures, c.requires.from) in
+    record {
+      overflow = tt;
+      no_fewer = c.loop-k.invariant.no_fewer;
+      counted = subst (λ (n : ℕ). IsCountedBetween c.args.rows.now.width c.args.rows.now.rows c.args.from n total) all c.loop-k.invariant.counted;
+      counted_before = tt;
+    }

@@ -1,11 +1,11 @@
 use Rattle.std.proofs.Common.{ℕ, ◌+◌, ◌-◌, length, arith, subst, ◌∙◌}
-use Rattle.std.specs.Prelude.{List, IfOk, IfErr}
+use Rattle.std.specs.Prelude.{List, IfErr}
 use Rattle.std.proofs.lemmas.Result.{IfOk-weaker}
 use Rattle.row_core.specs.Lists.{Row, vectors}
 use Rattle.cone_laws.specs.Canon.{Canon}
 use Rattle.cone_laws.specs.Members.{ConeOf}
 use Rattle.row_core.specs.MarkedLists.{AreLists}
-use Rattle.chernikova.specs.Conversion.{IsRealOverflow, IsCountedUpto, IsCountedBefore}
+use Rattle.chernikova.specs.Conversion.{IsConverted, IsRealOverflow, IsCountedUpto, IsCountedBefore}
 use Rattle.stored_systems.specs.WorkLists.{generator_list}
 use Rattle.poly_pair.proofs.CountLemmas.{upto_none}
 use Rattle.poly_pair.proofs.SpanningSystems.{canon_at}
@@ -17,23 +17,28 @@ returns-in_err-rows-clause-counted g c = upto_none (c.args.gens.now.dim + 1) (ge
 pub returns-clause-canon : goal.returns-clause-canon
 returns-clause-canon g c =
     let gs = c.args.gens.now in
-    IfOk-weaker c.convert_in_better_order.result (λ s. Canon (ConeOf c.width.result c.in_ok-rows.rows.rows) (vectors s.lines.rows) (vectors s.rays.rows)) (λ s. Canon (ConeOf (gs.dim + 1) (generator_list gs)) (vectors s.lines.rows) (vectors s.rays.rows))
-    (λ s h. canon_at (gs.dim + 1) c.width.result (generator_list gs) c.in_ok-rows.rows.rows (vectors s.lines.rows) (vectors s.rays.rows) (c.width.ensures.value ∙ c.in_ok-rows.ensures.width) c.in_ok-rows.ensures.rows h) c.convert_in_better_order.ensures.canon
+    IfOk-weaker c.convert_in_better_order.result (IsConverted c.width.result c.in_ok-rows.rows.rows) (λ s. Canon (ConeOf (gs.dim + 1) (generator_list gs)) (vectors s.lines.rows) (vectors s.rays.rows))
+    (λ s h. canon_at (gs.dim + 1) c.width.result (generator_list gs) c.in_ok-rows.rows.rows (vectors s.lines.rows) (vectors s.rays.rows) (c.width.ensures.value ∙ c.in_ok-rows.ensures.width) c.in_ok-rows.ensures.rows h.canon) c.convert_in_better_order.ensures.cone
 
 pub returns-clause-lists : goal.returns-clause-lists
-returns-clause-lists g c = subst (λ (w : ℕ). IfOk c.convert_in_better_order.result (λ s. AreLists w s.lines s.rays)) (c.width.ensures.value ∙ c.in_ok-rows.ensures.width) c.convert_in_better_order.ensures.lists
+returns-clause-lists g c =
+    IfOk-weaker c.convert_in_better_order.result (IsConverted c.width.result c.in_ok-rows.rows.rows) (λ s. AreLists (c.args.gens.now.dim + 1) s.lines s.rays)
+    (λ s h. subst (λ (w : ℕ). AreLists w s.lines s.rays) (c.width.ensures.value ∙ c.in_ok-rows.ensures.width) h.lists) c.convert_in_better_order.ensures.cone
 
 pub returns-clause-overflow : goal.returns-clause-overflow
 returns-clause-overflow g c =
     subst (λ (w : ℕ). IfErr c.convert_in_better_order.result (IsRealOverflow w (generator_list c.args.gens.now))) (c.width.ensures.value ∙ c.in_ok-rows.ensures.width)
-    (subst (λ (rs : List Row). IfErr c.convert_in_better_order.result (IsRealOverflow c.width.result rs)) c.in_ok-rows.ensures.rows c.convert_in_better_order.ensures.overflow)
+    (subst (λ (rs : List Row). IfErr c.convert_in_better_order.result (IsRealOverflow c.width.result rs)) c.in_ok-rows.ensures.rows c.convert_in_better_order.ensures.conversion.overflow)
 
 pub returns-clause-counted : goal.returns-clause-counted
 returns-clause-counted g c =
     subst (λ (w : ℕ). IsCountedUpto w (generator_list c.args.gens.now) (length (generator_list c.args.gens.now)) (c.convert_in_better_order.new.steps - c.args.steps.now)) (c.width.ensures.value ∙ c.in_ok-rows.ensures.width)
-    (subst (λ (rs : List Row). IsCountedUpto c.width.result rs (length rs) (c.convert_in_better_order.new.steps - c.args.steps.now)) c.in_ok-rows.ensures.rows c.convert_in_better_order.ensures.counted)
+    (subst (λ (rs : List Row). IsCountedUpto c.width.result rs (length rs) (c.convert_in_better_order.new.steps - c.args.steps.now)) c.in_ok-rows.ensures.rows c.convert_in_better_order.ensures.conversion.counted)
 
 pub returns-clause-counted_before : goal.returns-clause-counted_before
 returns-clause-counted_before g c =
     subst (λ (w : ℕ). IfErr c.convert_in_better_order.result (IsCountedBefore w (generator_list c.args.gens.now) (c.convert_in_better_order.new.steps - c.args.steps.now))) (c.width.ensures.value ∙ c.in_ok-rows.ensures.width)
-    (subst (λ (rs : List Row). IfErr c.convert_in_better_order.result (IsCountedBefore c.width.result rs (c.convert_in_better_order.new.steps - c.args.steps.now))) c.in_ok-rows.ensures.rows c.convert_in_better_order.ensures.counted_before)
+    (subst (λ (rs : List Row). IfErr c.convert_in_better_order.result (IsCountedBefore c.width.result rs (c.convert_in_better_order.new.steps - c.args.steps.now))) c.in_ok-rows.ensures.rows c.convert_in_better_order.ensures.conversion.counted_before)
+
+pub returns-clause-no_fewer : goal.returns-clause-no_fewer
+returns-clause-no_fewer g c = c.convert_in_better_order.ensures.conversion.no_fewer

@@ -1,11 +1,12 @@
 use Rattle.std.proofs.Common.{◌≡◌, ◌+◌, ◌-◌, ◌<◌, ℕ, length, arith, refl, ap, subst, ◌∙◌}
-use Rattle.std.specs.Prelude.{IfOk, IfErr}
+use Rattle.std.specs.Prelude.{IfErr}
 use Rattle.std.proofs.lemmas.Result.{IfOk-weaker, IfErr-weaker, err_from_is_err_and}
 use Rattle.row_core.specs.Lists.{row_at, vectors}
 use Rattle.cone_laws.specs.Canon.{Canon}
 use Rattle.cone_laws.specs.Members.{ConeOf}
 use Rattle.row_core.specs.MarkedLists.{AreLists}
-use Rattle.chernikova.specs.Conversion.{IsRealOverflow, IsRealOverflowFrom, IsCountedBetween, IsCountedBeforeFrom}
+use Rattle.chernikova.specs.Conversion.{IsConverted, IsRealOverflow, IsRealOverflowFrom, IsCountedBetween, IsCountedBeforeFrom}
+use Rattle.chernikova.specs.declared.cone.Added.{Added}
 use Rattle.chernikova.proofs.Counts.{counted_start_from}
 use Rattle.cons_sys.specs.Constraints.{Constraints}
 use Rattle.stored_systems.specs.WorkLists.{constraint_list}
@@ -32,37 +33,39 @@ add_rows_from-requires-clause-sat g c =
 pub returns-clause-canon : goal.returns-clause-canon
 returns-clause-canon g c =
     let cs = c.args.cons.now in
-    IfOk-weaker c.add_rows_from.result (λ a. Canon (ConeOf c.in_ok-rows.rows.width c.in_ok-rows.rows.rows) (vectors a.cone.lines.rows) (vectors a.cone.rays.rows)) (λ a. Canon (ConeOf (cs.dim + 1) (constraint_list cs)) (vectors a.cone.lines.rows) (vectors a.cone.rays.rows))
-    (λ a h. canon_at (cs.dim + 1) c.in_ok-rows.rows.width (constraint_list cs) c.in_ok-rows.rows.rows (vectors a.cone.lines.rows) (vectors a.cone.rays.rows) c.in_ok-rows.ensures.width c.in_ok-rows.ensures.rows h) c.add_rows_from.ensures.canon
+    IfOk-weaker c.add_rows_from.result (λ (a : Added). IsConverted c.in_ok-rows.rows.width c.in_ok-rows.rows.rows a.cone) (λ a. Canon (ConeOf (cs.dim + 1) (constraint_list cs)) (vectors a.cone.lines.rows) (vectors a.cone.rays.rows))
+    (λ a h. canon_at (cs.dim + 1) c.in_ok-rows.rows.width (constraint_list cs) c.in_ok-rows.rows.rows (vectors a.cone.lines.rows) (vectors a.cone.rays.rows) c.in_ok-rows.ensures.width c.in_ok-rows.ensures.rows h.canon) c.add_rows_from.ensures.cone
 
 pub returns-clause-lists : goal.returns-clause-lists
-returns-clause-lists g c = subst (λ (w : ℕ). IfOk c.add_rows_from.result (λ a. AreLists w a.cone.lines a.cone.rays)) c.in_ok-rows.ensures.width c.add_rows_from.ensures.lists
+returns-clause-lists g c =
+    IfOk-weaker c.add_rows_from.result (λ (a : Added). IsConverted c.in_ok-rows.rows.width c.in_ok-rows.rows.rows a.cone) (λ a. AreLists (c.args.cons.now.dim + 1) a.cone.lines a.cone.rays)
+    (λ a h. subst (λ (w : ℕ). AreLists w a.cone.lines a.cone.rays) c.in_ok-rows.ensures.width h.lists) c.add_rows_from.ensures.cone
 
 pub returns-clause-wide : goal.returns-clause-wide
 returns-clause-wide g c =
     let cs = c.args.cons.now in
-    IfOk-weaker c.add_rows_from.result (λ a. AreLists c.in_ok-rows.rows.width a.cone.lines a.cone.rays) (λ a. (j : ℕ) → j < length (constraint_list cs) → length (row_at (constraint_list cs) j) ≡ cs.dim + 1)
-    (λ a h. wide_at Closed cs c.in_ok-rows.rows c.width.ensures.rows c.in_ok-rows.ensures.width c.in_ok-rows.ensures.rows) c.add_rows_from.ensures.lists
+    IfOk-weaker c.add_rows_from.result (λ (a : Added). IsConverted c.in_ok-rows.rows.width c.in_ok-rows.rows.rows a.cone) (λ a. (j : ℕ) → j < length (constraint_list cs) → length (row_at (constraint_list cs) j) ≡ cs.dim + 1)
+    (λ a h. wide_at Closed cs c.in_ok-rows.rows c.width.ensures.rows c.in_ok-rows.ensures.width c.in_ok-rows.ensures.rows) c.add_rows_from.ensures.cone
 
 pub returns-clause-overflow : goal.returns-clause-overflow
 returns-clause-overflow g c =
     IfErr-weaker c.add_rows_from.result (IsRealOverflowFrom c.in_ok-rows.rows.width c.in_ok-rows.rows.rows (c.len-from.result + 1)) (IsRealOverflow (c.args.cons.now.dim + 1) (constraint_list c.args.cons.now))
     (λ e h. moved (λ w rs. IsRealOverflow w rs e) c.in_ok-rows.rows.width (c.args.cons.now.dim + 1) c.in_ok-rows.rows.rows (constraint_list c.args.cons.now) c.in_ok-rows.ensures.width c.in_ok-rows.ensures.rows
-    (real_from c.in_ok-rows.rows.width c.in_ok-rows.rows.rows (c.len-from.result + 1) e h)) c.add_rows_from.ensures.overflow
+    (real_from c.in_ok-rows.rows.width c.in_ok-rows.rows.rows (c.len-from.result + 1) e h)) c.add_rows_from.ensures.conversion.overflow
 
 pub returns-clause-counted : goal.returns-clause-counted
 returns-clause-counted g c =
     let from = length c.args.p.now.cons.list + 1 in
     let total = c.add_rows_from.new.steps - c.args.steps.now in
     moved (λ w rs. IsCountedBetween w rs from (length rs) total) c.in_ok-rows.rows.width (c.args.cons.now.dim + 1) c.in_ok-rows.rows.rows (constraint_list c.args.cons.now) c.in_ok-rows.ensures.width c.in_ok-rows.ensures.rows
-    (subst (λ (n : ℕ). IsCountedBetween c.in_ok-rows.rows.width c.in_ok-rows.rows.rows n (length c.in_ok-rows.rows.rows) total) (ap (λ (n : ℕ). n + 1) (c.len-from.ensures ∙ ap (λ (cs : Constraints). length cs.list) c.cons.ensures.value)) c.add_rows_from.ensures.counted)
+    (subst (λ (n : ℕ). IsCountedBetween c.in_ok-rows.rows.width c.in_ok-rows.rows.rows n (length c.in_ok-rows.rows.rows) total) (ap (λ (n : ℕ). n + 1) (c.len-from.ensures ∙ ap (λ (cs : Constraints). length cs.list) c.cons.ensures.value)) c.add_rows_from.ensures.conversion.counted)
 
 pub returns-clause-counted_before : goal.returns-clause-counted_before
 returns-clause-counted_before g c =
     let from = length c.args.p.now.cons.list + 1 in
     let total = c.add_rows_from.new.steps - c.args.steps.now in
     moved (λ w rs. IfErr c.add_rows_from.result (IsCountedBeforeFrom w rs from total)) c.in_ok-rows.rows.width (c.args.cons.now.dim + 1) c.in_ok-rows.rows.rows (constraint_list c.args.cons.now) c.in_ok-rows.ensures.width c.in_ok-rows.ensures.rows
-    (subst (λ (n : ℕ). IfErr c.add_rows_from.result (IsCountedBeforeFrom c.in_ok-rows.rows.width c.in_ok-rows.rows.rows n total)) (ap (λ (n : ℕ). n + 1) (c.len-from.ensures ∙ ap (λ (cs : Constraints). length cs.list) c.cons.ensures.value)) c.add_rows_from.ensures.counted_before)
+    (subst (λ (n : ℕ). IfErr c.add_rows_from.result (IsCountedBeforeFrom c.in_ok-rows.rows.width c.in_ok-rows.rows.rows n total)) (ap (λ (n : ℕ). n + 1) (c.len-from.ensures ∙ ap (λ (cs : Constraints). length cs.list) c.cons.ensures.value)) c.add_rows_from.ensures.conversion.counted_before)
 
 pub returns-in_err-rows : goal.returns-in_err-rows
 returns-in_err-rows g c =
@@ -93,3 +96,6 @@ returns-in_err-start g c =
           (begun_fewer c.args.p.now c.args.cons.now c.requires.begins (length c.args.p.now.cons.list + 1) (constraint_list c.args.cons.now) refl refl) (omega arith);
       counted_before = tt;
     })
+
+pub returns-clause-no_fewer : goal.returns-clause-no_fewer
+returns-clause-no_fewer g c = c.add_rows_from.ensures.conversion.no_fewer

@@ -24,7 +24,7 @@ returns-in_err-added-clause-overflow g c =
     let one = constraint_at c.args.halfspaces.now.list c.args.index in
     let width : c.push_one.new.list.width ≡ c.args.self.dim + 2 = c.in_ok-push_one.ensures.width ∙ c.self.invariant.width ∙ ap (λ (cs : Constraints). cs.dim + 2) c.self.view_is in
     let all : c.push_one.new.list.rows ≡ encoded_constraints (with_one c.args.self one) = c.in_ok-push_one.ensures.rows ∙ ap (λ (rs : List Row). rs ++ encoded_constraint c.self.inside.cons.dim one ∷ []) c.self.invariant.rows ∙ sym (list_with_one c.self.inside.cons one) ∙ ap (λ (cs : Constraints). encoded_constraints (with_one cs one)) c.self.view_is in
-    let known : IsOverflowIn (LeavesOnList (with_one c.args.self one)) c.in_err-added.field-0.0 = list_overflow (with_one c.args.self one) c.push_one.new.list.width c.len-from.result c.push_one.new.list.rows c.in_err-added.field-0.0 width all c.in_err-added.ensures.overflow in
+    let known : IsOverflowIn (LeavesOnList (with_one c.args.self one)) c.in_err-added.field-0.0 = list_overflow (with_one c.args.self one) c.push_one.new.list.width c.len-from.result c.push_one.new.list.rows c.in_err-added.field-0.0 width all c.in_err-added.ensures.conversion.overflow in
     search (rules, known, c.from_residual-in_err-added.ensures)
 
 pub invariant_of-result : goal.invariant_of-result
@@ -38,7 +38,7 @@ invariant_of-result g c =
     record {
       width = width;
       rows = rows;
-      canonical = has_cone cons list.width list.rows c.in_ok-added.added.cone width rows c.in_ok-added.ensures.canon c.in_ok-added.ensures.lists c.in_ok-added.ensures.sat;
+      canonical = has_cone cons list.width list.rows c.in_ok-added.added.cone width rows c.in_ok-added.ensures.cone.canon c.in_ok-added.ensures.cone.lists c.in_ok-added.ensures.cone.sat;
     }
 
 pub returns-in_err-added-clause-region : goal.returns-in_err-added-clause-region

@@ -13,13 +13,13 @@ invariant_of-result g c =
     record {
       width = width;
       rows = rows;
-      canonical = has_cone c.in_ok-cons.cons c.width.result c.in_ok-list.list.rows c.in_ok-cone.cone (c.width.ensures.value ∙ width) rows c.in_ok-cone.ensures.canon c.in_ok-cone.ensures.lists c.in_ok-cone.ensures.sat;
+      canonical = has_cone c.in_ok-cons.cons c.width.result c.in_ok-list.list.rows c.in_ok-cone.cone (c.width.ensures.value ∙ width) rows c.in_ok-cone.ensures.cone.canon c.in_ok-cone.ensures.cone.lists c.in_ok-cone.ensures.cone.sat;
     }
 
 pub returns-in_err-cone-clause-overflow : goal.returns-in_err-cone-clause-overflow
 returns-in_err-cone-clause-overflow g c =
     let p = err_from_is_err_and c.from_residual-in_err-cone.result c.from_residual-in_err-cone.ensures.1 in
-    rw (p.1, p.2) (whole_overflow c.args.cons.now c.width.result c.in_ok-list.list.rows _ (c.width.ensures.value ∙ c.in_ok-list.ensures.width) c.in_ok-list.ensures.rows c.in_err-cone.ensures.overflow)
+    rw (p.1, p.2) (whole_overflow c.args.cons.now c.width.result c.in_ok-list.list.rows _ (c.width.ensures.value ∙ c.in_ok-list.ensures.width) c.in_ok-list.ensures.rows c.in_err-cone.ensures.conversion.overflow)
 
 pub returns-in_err-cone-clause-region : goal.returns-in_err-cone-clause-region
 returns-in_err-cone-clause-region g c = let p = err_from_is_err_and c.from_residual-in_err-cone.result c.from_residual-in_err-cone.ensures.1 in rw p.1 tt
