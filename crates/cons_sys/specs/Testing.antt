@@ -31,7 +31,8 @@ pub record LeavesRange (list : List Constraint) (v : List ℤ) (over : PairOver)
   pub right : over.right ≡ 0
   pub turned : over.turned ≡ false
   pub reached : Reaches list v over.left
-  pub column : IsFirstToLeave (DotStays (row_at list over.left) v) (length (row_at list over.left)) over.column
+  pub column : IsFirstToLeave (DotStays (row_at list over.left) v) (length (row_at list over.left))
+      over.column
 
 -- what a test of the constraints in order answers, up to the first that fails or leaves the range
 abbrev pub Answers : List Constraint → List ℤ → Result Bool PairOver → Type 0
@@ -43,8 +44,11 @@ Answers list v (Err over) = LeavesRange list v over
 abbrev pub AnswersAt : List Constraint → List ℤ → ℕ → Result Bool PairOver → Type 0
 AnswersAt list v i (Ok true) = Passes list v i
 AnswersAt list v i (Ok false) = Stays list v i × ¬ (Satisfies v (constraint_at list i))
-AnswersAt list v i (Err over) = (over ≡ record { kind = Dot; left = i; right = 0; column = over.column; turned = false }) × IsFirstToLeave (DotStays (row_at list i) v) (length (row_at list i)) over.column
+AnswersAt list v i (Err over) =
+    (over ≡ record { kind = Dot; left = i; right = 0; column = over.column; turned = false })
+    × IsFirstToLeave (DotStays (row_at list i) v) (length (row_at list i)) over.column
 
 -- no two answers are right
 abbrev pub HasOneAnswer : Type 0
-HasOneAnswer = (list : List Constraint) (v : List ℤ) (r s : Result Bool PairOver) → Answers list v r → Answers list v s → r ≡ s
+HasOneAnswer = (list : List Constraint) (v : List ℤ) (r s : Result Bool PairOver) → Answers list v r
+    → Answers list v s → r ≡ s

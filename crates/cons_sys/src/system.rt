@@ -22,7 +22,8 @@ pub struct ConsSys {
     rows: MarkedRows<ConKind>,
 }
 
-// Written by hand, so that a function that drops a system calls this one, and doesn't free each part itself.
+// Written by hand, so that a function that drops a system calls this one, and doesn't free each
+// part itself.
 impl Drop for ConsSys {
     fn drop(self) {
         let ConsSys {
@@ -68,37 +69,41 @@ impl ConsSys {
         Ok(ConsSys { alloc, dim, rows })
     }
 
-    /// Appends a copy of the constraint, its row made primitive. After want of memory the list is as
-    /// before.
+    /// Appends a copy of the constraint, its row made primitive. After want of memory the list is
+    /// as before.
     pub fn push(&mut self, row: &[i128], kind: ConKind) -> Result<(), Memory>
         requires wide { length row.now ≡ self.old.dim + 1 }
         requires in_range { AllInRange row.now }
         ensures dim { self.new.dim ≡ self.old.dim }
-        ensures list { MatchResult result (λ _. Gains self.old.list self.new.list row.now kind) (λ _. self.new.list ≡ self.old.list) }
+        ensures list { MatchResult result (λ _. Gains self.old.list self.new.list row.now kind)
+            (λ _. self.new.list ≡ self.old.list) }
     {
         self.rows.push_primitive(row, kind)?;
         Ok(())
     }
 
-    /// Appends a copy of a constraint whose row is primitive already. After want of memory the list is as
-    /// before.
+    /// Appends a copy of a constraint whose row is primitive already. After want of memory the list
+    /// is as before.
     pub fn push_primitive(&mut self, row: &[i128], kind: ConKind) -> Result<(), Memory>
         requires wide { length row.now ≡ self.old.dim + 1 }
         requires in_range { AllInRange row.now }
         requires primitive { IsPrimitive row.now }
         ensures dim { self.new.dim ≡ self.old.dim }
-        ensures list { MatchResult result (λ _. self.new.list ≡ self.old.list ++ (row.now, kind) ∷ []) (λ _. self.new.list ≡ self.old.list) }
+        ensures list { MatchResult result
+            (λ _. self.new.list ≡ self.old.list ++ (row.now, kind) ∷ [])
+            (λ _. self.new.list ≡ self.old.list) }
     {
         self.rows.push_copy(row, kind)?;
         Ok(())
     }
 
-    /// Appends the constraint, its row made primitive; that of the first one is taken over without a
-    /// copy. After want of memory the list is as before, and the row is dropped.
+    /// Appends the constraint, its row made primitive; that of the first one is taken over without
+    /// a copy. After want of memory the list is as before, and the row is dropped.
     pub fn push_row(&mut self, row: RowBuf, kind: ConKind) -> Result<(), Memory>
         requires { length row ≡ self.old.dim + 1 }
         ensures dim { self.new.dim ≡ self.old.dim }
-        ensures list { MatchResult result (λ _. Gains self.old.list self.new.list row kind) (λ _. self.new.list ≡ self.old.list) }
+        ensures list { MatchResult result (λ _. Gains self.old.list self.new.list row kind)
+            (λ _. self.new.list ≡ self.old.list) }
     {
         let row = row.into_primitive();
         self.rows.push(row, kind)?;
@@ -239,19 +244,20 @@ impl ConsSys {
         Ok(true)
     }
 
-    /// Whether each constraint holds at a point. The constraints are tested in order, up to the first
-    /// that fails.
+    /// Whether each constraint holds at a point. The constraints are tested in order, up to the
+    /// first that fails.
     ///
     /// # Errors
     ///
-    /// A constraint that is reached and whose dot with the point leaves the range: `left` numbers it,
-    /// and `right` is 0 and stands for the point.
+    /// A constraint that is reached and whose dot with the point leaves the range: `left` numbers
+    /// it, and `right` is 0 and stands for the point.
     pub fn holds_at(&self, v: &[i128]) -> Result<bool, PairOver>
         requires point { IsPoint self.now.dim v.now }
         requires in_range { AllInRange v.now }
         ensures answer { Answers self.now.list v.now result }
         ensures holds { IfOk result (λ b. IsTrue b ↔ In self.now v.now) }
-        ensures over { (over : PairOver) → (result ≡ Err over) ↔ LeavesRange self.now.list v.now over }
+        ensures over { (over : PairOver) → (result ≡ Err over)
+            ↔ LeavesRange self.now.list v.now over }
     {
         self.test_in_order(v)
     }

@@ -18,7 +18,8 @@ pub data IsBranch (first : List Constraint) (systems : List Constraints) : ℕ �
       → IsBranch first systems (k + 1) (list ++ choice rows.list j)
 
 -- the conversion of the list of a branch leaves the range
-pub record LeavesOnBranch (first : Constraints) (systems : List Constraints) (over : Overflow) : Type 0 where
+pub record LeavesOnBranch (first : Constraints) (systems : List Constraints)
+    (over : Overflow) : Type 0 where
   pub passed : ℕ
   pub list : List Constraint
   pub branch : IsBranch first.list systems passed list
@@ -40,7 +41,8 @@ abbrev pub AreCovered : Constraints → List Constraints → Type 0
 AreCovered first systems = (v : List ℤ) → IsPoint first.dim v → In first v → HoldsInSome systems v
 
 -- a point at which the first constraints hold, and no system does
-pub record IsUncovered (first : Constraints) (systems : List Constraints) (v : List ℤ) : Type 0 where
+pub record IsUncovered (first : Constraints) (systems : List Constraints)
+    (v : List ℤ) : Type 0 where
   pub point : IsPoint first.dim v
   pub primitive : IsPrimitive v
   pub holds : In first v

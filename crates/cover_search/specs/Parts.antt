@@ -61,7 +61,8 @@ IsNext systems region numbers None = numbers ≡ []
 IsNext systems region numbers (Some cut) = IsCutOf systems region cut
 
 -- each of the first k numbers is in the plan, or the set has no point of its system
-pub record IsPlan (systems : List Constraints) (region : Constraints) (numbers : List ℕ) (k : ℕ) (plan : Plan) : Type 0 where
+pub record IsPlan (systems : List Constraints) (region : Constraints) (numbers : List ℕ) (k : ℕ)
+    (plan : Plan) : Type 0 where
   pub listed : (n : ℕ) → n < k → n < length numbers → IsOpenIn plan (slice_index_or numbers n 0)
       ⊎ IsApartAt systems region (slice_index_or numbers n 0)
   pub next : IsNext systems region plan.met.items plan.next
@@ -83,7 +84,8 @@ IsMet region rows system old new = (AreApart region rows × (new ≡ old)) ⊎ (
 
 -- ---- parts of a set
 -- behind other parts, the one on which an inequality of the system doesn't hold, with the same open systems
-pub record IsPushed (rows : Constraints) (index : ℕ) (region : Constraints) (numbers : List ℕ) (old new : List Part) : Type 0 where
+pub record IsPushed (rows : Constraints) (index : ℕ) (region : Constraints) (numbers : List ℕ)
+    (old new : List Part) : Type 0 where
   pub part : Part
   pub cut : part.region ≡ with_one region (complement (constraint_at rows.list index))
   pub same : part.met.items ≡ numbers
@@ -110,7 +112,8 @@ pub record IsOutside (rows region : Constraints) (numbers : List ℕ) (part : Pa
   pub same : part.met.items ≡ numbers
 
 -- behind other parts, those of a set outside of the system, one for some of the first k inequalities; what is left of the set has these
-pub record IsPartedBy (rows : Constraints) (k : ℕ) (region : Constraints) (numbers : List ℕ) (old new : List Part) (rest : Constraints) : Type 0 where
+pub record IsPartedBy (rows : Constraints) (k : ℕ) (region : Constraints) (numbers : List ℕ)
+    (old new : List Part) (rest : Constraints) : Type 0 where
   pub added : List Part
   pub joined : new ≡ old ++ added
   pub few : length added ≤ k
@@ -121,7 +124,8 @@ pub record IsPartedBy (rows : Constraints) (k : ℕ) (region : Constraints) (num
       → Satisfies v (constraint_at rows.list i))) ⊎ IsInSomePart added v
 
 -- behind other parts, those of a set outside of the system
-pub record IsParted (rows region : Constraints) (numbers : List ℕ) (old new : List Part) : Type 0 where
+pub record IsParted (rows region : Constraints) (numbers : List ℕ)
+    (old new : List Part) : Type 0 where
   pub added : List Part
   pub joined : new ≡ old ++ added
   pub few : length added ≤ length rows.list
@@ -136,7 +140,8 @@ IsCutBy systems cut region numbers old new = (rows : Constraints)
 -- the point is given where no system comes next, and else the parts outside of that system are appended
 abbrev pub IsFollowed : List Constraints → Plan → Constraints → List ℤ → List Part → List Part
     → Option (List ℤ) → Type 0
-IsFollowed systems plan region point old new found = MatchOption plan.next (found ≡ Some point) (λ cut. (found ≡ None)
+IsFollowed systems plan region point old new found =
+    MatchOption plan.next (found ≡ Some point) (λ cut. (found ≡ None)
     × IsCutBy systems cut region plan.met.items old new)
 
 -- ---- a search over parts
@@ -166,7 +171,8 @@ all_to_come m (part ∷ parts) = to_come m (length part.met.items) + all_to_come
 pub record IsSettled (systems : List Constraints) (part : Part) (old new : List Part) : Type 0 where
   pub added : List Part
   pub joined : new ≡ old ++ added
-  pub few : all_to_come (all_rows systems) added < to_come (all_rows systems) (length part.met.items)
+  pub few : all_to_come (all_rows systems) added < to_come (all_rows systems)
+      (length part.met.items)
   pub each : All (IsPart part.region systems) added
   pub told : (v : List ℤ) → IsPoint part.region.dim v → In part.region v → HoldsInSome systems v
       ⊎ IsInSomePart added v

@@ -10,11 +10,19 @@ use Rattle.cover_search.specs.declared.pieces.Piece.{Piece}
 -- ---- parts of a piece
 -- the part on which the next inequality holds
 abbrev pub inner_part : Constraints → Piece → Piece
-inner_part rows piece = record { region = with_one piece.region (constraint_at rows.list piece.row); passed = piece.passed; row = piece.row + 1 }
+inner_part rows piece = record {
+  region = with_one piece.region (constraint_at rows.list piece.row);
+  passed = piece.passed;
+  row = piece.row + 1;
+}
 
 -- the part on which it doesn't
 abbrev pub outer_part : Constraints → Piece → Piece
-outer_part rows piece = record { region = with_one piece.region (complement (constraint_at rows.list piece.row)); passed = piece.passed + 1; row = 0 }
+outer_part rows piece = record {
+  region = with_one piece.region (complement (constraint_at rows.list piece.row));
+  passed = piece.passed + 1;
+  row = 0;
+}
 
 -- behind other pieces, the part on which it holds, unless that is within the system
 pub data IsInner (rows : Constraints) (piece : Piece) (old : List Piece) : List Piece → Type 0 where
@@ -68,7 +76,8 @@ still (rows ∷ systems) row = 1 + (length rows.list - row) * (1 + still systems
 -- those below all of a list
 abbrev pub all_still : List Constraints → List Piece → ℕ
 all_still systems [] = 0
-all_still systems (piece ∷ pieces) = still (drop piece.passed systems) piece.row + all_still systems pieces
+all_still systems (piece ∷ pieces) =
+    still (drop piece.passed systems) piece.row + all_still systems pieces
 
 -- ---- what a turn does
 -- the number of systems is enough for the next one
@@ -102,7 +111,8 @@ pub record IsFound (systems : List Constraints) (piece : Piece) (v : List ℤ) :
   pub point : IsPointIn piece.region v
 
 -- the split by the next system leaves the range
-pub record LeavesInTurn (systems : List Constraints) (piece : Piece) (over : Overflow) : Type 0 where
+pub record LeavesInTurn (systems : List Constraints) (piece : Piece)
+    (over : Overflow) : Type 0 where
   pub rows : Constraints
   pub at : slice_get systems piece.passed ≡ Some rows
   pub leaves : LeavesInSplit rows piece over

@@ -31,9 +31,11 @@ pub record IsPointIn (cs : Constraints) (v : List ℤ) : Type 0 where
 -- ---- systems
 -- the canonical system of the encoded list of the constraints, with its table
 pub record HasCone (cs : Constraints) (cone : Cone) : Type 0 where
-  pub canon : Canon (ConeOf (cs.dim + 2) (encoded_constraints cs)) (vectors cone.lines.rows) (vectors cone.rays.rows)
+  pub canon : Canon (ConeOf (cs.dim + 2) (encoded_constraints cs)) (vectors cone.lines.rows)
+      (vectors cone.rays.rows)
   pub lists : AreLists (cs.dim + 2) cone.lines cone.rays
-  pub zeros : IsZeroTable (encoded_constraints cs) (length (encoded_constraints cs)) (vectors cone.rays.rows) cone.sat
+  pub zeros : IsZeroTable (encoded_constraints cs) (length (encoded_constraints cs))
+      (vectors cone.rays.rows) cone.sat
 
 -- the rows encode the constraints
 pub record HasRows (cs : Constraints) (encoded : Rows) : Type 0 where

@@ -14,7 +14,9 @@ use std::alloc::Global;
 ///
 /// `Input` with the first fault of the file.
 pub fn read_file(alloc: Global, want: Format, bytes: &[u8]) -> Result<Listed, ReadErr>
-    ensures read { MatchResult result (λ list. IsListOf want bytes.now list × NoneOf (tests want bytes.now)) (IsRefusal (tests want bytes.now)) }
+    ensures read { MatchResult result
+        (λ list. IsListOf want bytes.now list × NoneOf (tests want bytes.now))
+        (IsRefusal (tests want bytes.now)) }
     ensures fit { IfOk result IsFit }
 {
     match want {

@@ -7,7 +7,10 @@ use Rattle.gens_sys.specs.declared.kind.GenPushErr.TheVariants.{ZeroVector, BadD
 
 -- whether a vector may be kept, and why not
 abbrev pub Refusal : ℕ → List ℤ → GenKind → Result ⊤ GenPushErr → Type 0
-Refusal dim row kind (Ok done) = ¬ (HasBadDivisor kind (cell row dim)) × ¬ (IsZeroDirection kind row)
-Refusal dim row kind (Err BadDivisor) = HasBadDivisor kind (cell row dim) × ¬ (IsZeroDirection kind row)
-Refusal dim row kind (Err ZeroVector) = ¬ (HasBadDivisor kind (cell row dim)) × IsZeroDirection kind row
+Refusal dim row kind (Ok done) =
+    ¬ (HasBadDivisor kind (cell row dim)) × ¬ (IsZeroDirection kind row)
+Refusal dim row kind (Err BadDivisor) =
+    HasBadDivisor kind (cell row dim) × ¬ (IsZeroDirection kind row)
+Refusal dim row kind (Err ZeroVector) =
+    ¬ (HasBadDivisor kind (cell row dim)) × IsZeroDirection kind row
 Refusal dim row kind (Err Memory) = ⊥

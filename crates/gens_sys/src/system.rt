@@ -21,7 +21,8 @@ pub struct GensSys {
     rows: MarkedRows<GenKind>,
 }
 
-// Written by hand, so that a function that drops a system calls this one, and doesn't free each part itself.
+// Written by hand, so that a function that drops a system calls this one, and doesn't free each
+// part itself.
 impl Drop for GensSys {
     fn drop(self) {
         let GensSys {
@@ -71,28 +72,32 @@ impl GensSys {
     ///
     /// # Errors
     ///
-    /// `BadDivisor` for a line or a ray whose last entry isn't 0, and for a point of either kind whose
-    /// last entry is below 1; `ZeroVector` for a line or a ray that is all zero. After each refusal the
-    /// list is as before.
+    /// `BadDivisor` for a line or a ray whose last entry isn't 0, and for a point of either kind
+    /// whose last entry is below 1; `ZeroVector` for a line or a ray that is all zero. After each
+    /// refusal the list is as before.
     pub fn push(&mut self, row: &[i128], kind: GenKind) -> Result<(), GenPushErr>
         requires wide { length row.now ≡ self.old.dim + 1 }
         requires in_range { AllInRange row.now }
         ensures dim { self.new.dim ≡ self.old.dim }
-        ensures bad_divisor { (result ≡ Err GenPushErr.BadDivisor) ↔ HasBadDivisor kind (cell row.now self.old.dim) }
+        ensures bad_divisor { (result ≡ Err GenPushErr.BadDivisor)
+            ↔ HasBadDivisor kind (cell row.now self.old.dim) }
         ensures zero_vector { (result ≡ Err GenPushErr.ZeroVector) ↔ IsZeroDirection kind row.now }
-        ensures list { MatchResult result (λ _. Gains self.old.list self.new.list row.now kind) (λ _. self.new.list ≡ self.old.list) }
+        ensures list { MatchResult result (λ _. Gains self.old.list self.new.list row.now kind)
+            (λ _. self.new.list ≡ self.old.list) }
     {
         self.check(row, kind)?;
         self.store(row, kind)?;
         Ok(())
     }
 
-    /// Appends a copy of a vector that is primitive already and fits its kind. After want of memory the
-    /// list is as before.
+    /// Appends a copy of a vector that is primitive already and fits its kind. After want of memory
+    /// the list is as before.
     pub fn push_primitive(&mut self, row: &[i128], kind: GenKind) -> Result<(), Memory>
         requires { IsGenerator self.old.dim (row.now, kind) }
         ensures dim { self.new.dim ≡ self.old.dim }
-        ensures list { MatchResult result (λ _. self.new.list ≡ self.old.list ++ (row.now, kind) ∷ []) (λ _. self.new.list ≡ self.old.list) }
+        ensures list { MatchResult result
+            (λ _. self.new.list ≡ self.old.list ++ (row.now, kind) ∷ [])
+            (λ _. self.new.list ≡ self.old.list) }
     {
         self.rows.push_copy(row, kind)?;
         Ok(())
@@ -106,9 +111,11 @@ impl GensSys {
     pub fn push_row(&mut self, row: RowBuf, kind: GenKind) -> Result<(), GenPushErr>
         requires { length row ≡ self.old.dim + 1 }
         ensures dim { self.new.dim ≡ self.old.dim }
-        ensures bad_divisor { (result ≡ Err GenPushErr.BadDivisor) ↔ HasBadDivisor kind (cell row self.old.dim) }
+        ensures bad_divisor { (result ≡ Err GenPushErr.BadDivisor)
+            ↔ HasBadDivisor kind (cell row self.old.dim) }
         ensures zero_vector { (result ≡ Err GenPushErr.ZeroVector) ↔ IsZeroDirection kind row }
-        ensures list { MatchResult result (λ _. Gains self.old.list self.new.list row kind) (λ _. self.new.list ≡ self.old.list) }
+        ensures list { MatchResult result (λ _. Gains self.old.list self.new.list row kind)
+            (λ _. self.new.list ≡ self.old.list) }
     {
         self.check(row.cells(), kind)?;
         self.store_row(row, kind)?;
@@ -135,7 +142,8 @@ impl GensSys {
         requires divisor { ¬ (HasBadDivisor kind (cell row self.old.dim)) }
         requires nonzero { ¬ (IsZeroDirection kind row) }
         ensures dim { self.new.dim ≡ self.old.dim }
-        ensures list { MatchResult result (λ _. Gains self.old.list self.new.list row kind) (λ _. self.new.list ≡ self.old.list) }
+        ensures list { MatchResult result (λ _. Gains self.old.list self.new.list row kind)
+            (λ _. self.new.list ≡ self.old.list) }
     {
         let row = row.into_primitive();
         self.rows.push(row, kind)?;
@@ -149,7 +157,8 @@ impl GensSys {
         requires divisor { ¬ (HasBadDivisor kind (cell row.now self.old.dim)) }
         requires nonzero { ¬ (IsZeroDirection kind row.now) }
         ensures dim { self.new.dim ≡ self.old.dim }
-        ensures list { MatchResult result (λ _. Gains self.old.list self.new.list row.now kind) (λ _. self.new.list ≡ self.old.list) }
+        ensures list { MatchResult result (λ _. Gains self.old.list self.new.list row.now kind)
+            (λ _. self.new.list ≡ self.old.list) }
     {
         self.rows.push_primitive(row, kind)?;
         Ok(())

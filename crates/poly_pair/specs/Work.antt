@@ -27,14 +27,17 @@ pub record Work : Type 0 where
   pub from : ℕ
 
 abbrev pub rows_work : ℕ → ℕ → List Row → ℕ → Work
-rows_work width column rows from = record { width = width; column = column; rows = rows; from = from }
+rows_work width column rows from =
+    record { width = width; column = column; rows = rows; from = from }
 
 -- the list of a system, from its first row on
 abbrev pub cons_work : Topology → Constraints → Work
-cons_work t cs = record { width = list_width t cs.dim; column = cs.dim; rows = constraints_of t cs; from = 0 }
+cons_work t cs =
+    record { width = list_width t cs.dim; column = cs.dim; rows = constraints_of t cs; from = 0 }
 
 abbrev pub gens_work : Topology → Generators → Work
-gens_work t gs = record { width = list_width t gs.dim; column = gs.dim; rows = generators_of t gs; from = 0 }
+gens_work t gs =
+    record { width = list_width t gs.dim; column = gs.dim; rows = generators_of t gs; from = 0 }
 
 -- how many rows needn't be converted: those of a closed polyhedron with a point, and none of another
 abbrev pub known_rows : Topology → List Generator → ℕ → ℕ
@@ -44,11 +47,13 @@ known_rows Nnc gs n = 0
 
 -- the list of constraints that begin with those of a polyhedron: its row of the divisor is known too
 abbrev pub begun_cons : Polyhedron → Constraints → Work
-begun_cons p cs = record (cons_work p.topology cs) { from = known_rows p.topology p.gens.list (length p.cons.list + 1) }
+begun_cons p cs = record (cons_work p.topology cs)
+    { from = known_rows p.topology p.gens.list (length p.cons.list + 1) }
 
 -- of generators
 abbrev pub begun_gens : Polyhedron → Generators → Work
-begun_gens p gs = record (gens_work p.topology gs) { from = known_rows p.topology p.gens.list (length p.gens.list) }
+begun_gens p gs = record (gens_work p.topology gs)
+    { from = known_rows p.topology p.gens.list (length p.gens.list) }
 
 -- the list of a polyhedron with further constraints
 abbrev pub added_cons : Polyhedron → Constraints → Work
@@ -87,7 +92,8 @@ pub record IsConversion (work : Work) (old new : ℕ) (over : Option Overflow) :
   -- it grows by at most the sizes of the systems of the list from that row on, and what making the second system takes
   pub counted : IsCountedFrom work.width work.column work.rows work.from (new - old)
   -- at an overflow by those up to its step
-  pub counted_before : IfSome over (IsCountedBeforeOverflow work.width work.column work.rows work.from (new - old))
+  pub counted_before : IfSome over
+      (IsCountedBeforeOverflow work.width work.column work.rows work.from (new - old))
 
 -- of the list alone
 pub record IsFirstConversion (work : Work) (old new : ℕ) (over : Option Overflow) : Type 0 where
@@ -98,7 +104,8 @@ pub record IsFirstConversion (work : Work) (old new : ℕ) (over : Option Overfl
   -- it grows by at most the sizes of the systems of the list from that row on
   pub counted : IsCountedBetween work.width work.rows work.from (length work.rows) (new - old)
   -- at an overflow by those up to its step
-  pub counted_before : IfSome over (λ o. IsCountedBetween work.width work.rows work.from (o.step + 1) (new - old))
+  pub counted_before : IfSome over
+      (λ o. IsCountedBetween work.width work.rows work.from (o.step + 1) (new - old))
 
 -- what a call costs and shows that converts both lists
 abbrev pub Converts : {T : Type 0} → Work → ℕ → ℕ → Result T ConvErr → Type 0
@@ -110,4 +117,5 @@ GenConverts work old new result = IsConversion work old new (overflow_in gen_ove
 
 -- one that converts the first list alone
 abbrev pub ConvertsFirst : {T : Type 0} → Work → ℕ → ℕ → Result T ConvErr → Type 0
-ConvertsFirst work old new result = IsFirstConversion work old new (overflow_in conv_overflow result)
+ConvertsFirst work old new result =
+    IsFirstConversion work old new (overflow_in conv_overflow result)

@@ -20,4 +20,5 @@ pub record AreToldByLists (cs ds : Constraints) (gs hs : Generators) : Type 0 wh
 
 -- so it is with the stored systems of two sets of a dimension
 abbrev pub StoredListsTell : Type 0
-StoredListsTell = (cs ds : Constraints) (gs hs : Generators) → cs.dim ≡ ds.dim → IsStored cs gs → IsStored ds hs → AreToldByLists cs ds gs hs
+StoredListsTell = (cs ds : Constraints) (gs hs : Generators) → cs.dim ≡ ds.dim → IsStored cs gs
+    → IsStored ds hs → AreToldByLists cs ds gs hs

@@ -21,7 +21,8 @@ is_divisor_row (suc dim) (a ∷ v) = int_eq a (pos 0) && is_divisor_row dim v
 
 -- the constraints of a canonical system of rows: all but the row of the divisor
 abbrev pub stored_constraints : ℕ → List (List ℤ) → List (List ℤ) → List Constraint
-stored_constraints dim equalities inequalities = map (λ l. (l, Eq)) equalities ++ map (λ r. (r, Ge)) (filter (λ r. not (is_divisor_row dim r)) inequalities)
+stored_constraints dim equalities inequalities = map (λ l. (l, Eq)) equalities ++ map (λ r. (r, Ge))
+    (filter (λ r. not (is_divisor_row dim r)) inequalities)
 
 -- the kind of a ray with the last entry
 abbrev pub vector_kind : ℤ → GenKind
@@ -30,11 +31,13 @@ vector_kind d = Point
 
 -- the generators of a canonical system of vectors
 abbrev pub stored_generators : ℕ → List (List ℤ) → List (List ℤ) → List Generator
-stored_generators dim lines rays = map (λ l. (l, Line)) lines ++ map (λ r. (r, vector_kind (cell r dim))) rays
+stored_generators dim lines rays =
+    map (λ l. (l, Line)) lines ++ map (λ r. (r, vector_kind (cell r dim))) rays
 
 -- ---- what a closed polyhedron stores
 -- dual systems of a set with a point: no vector has a negative last entry, and some ray has a positive one
-pub record AreClosedSystems (dim : ℕ) (lines rays equalities inequalities : List (List ℤ)) : Type 0 where
+pub record AreClosedSystems (dim : ℕ)
+    (lines rays equalities inequalities : List (List ℤ)) : Type 0 where
   pub dual : IsDual (dim + 1) lines rays equalities inequalities
   pub divisor : ConeOf (dim + 1) (system_rows lines rays) (divisor_row dim)
   pub point : HasPoint dim rays

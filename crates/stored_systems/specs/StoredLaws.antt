@@ -24,7 +24,8 @@ StoredIsClosed = (cs : Constraints) (gs : Generators) → IsStored cs gs → Are
 
 -- there is no generator exactly where there is no point
 abbrev pub StoredIsEmpty : Type 0
-StoredIsEmpty = (cs : Constraints) (gs : Generators) → IsStored cs gs → (gs.list ≡ []) ↔ ((p : List ℤ) → ¬ (IsWithin cs p))
+StoredIsEmpty = (cs : Constraints) (gs : Generators) → IsStored cs gs → (gs.list ≡ [])
+    ↔ ((p : List ℤ) → ¬ (IsWithin cs p))
 
 -- both systems hold the same points
 abbrev pub IsPair : Constraints → Generators → Type 0
@@ -36,14 +37,17 @@ StoredIsPair = (cs : Constraints) (gs : Generators) → IsStored cs gs → IsPai
 -- ---- no row to spare
 -- leaving out any one constraint lets in another point
 abbrev pub AreIrredundantConstraints : Constraints → Type 0
-AreIrredundantConstraints cs = (i : ℕ) → i < length cs.list → ¬ ((p : List ℤ) → IsPoint cs.dim p → In (record { dim = cs.dim; list = remove cs.list i }) p → In cs p)
+AreIrredundantConstraints cs = (i : ℕ) → i < length cs.list → ¬ ((p : List ℤ) → IsPoint cs.dim p
+    → In (record { dim = cs.dim; list = remove cs.list i }) p → In cs p)
 
 -- leaving out any one generator loses a point
 abbrev pub AreIrredundantGenerators : Generators → Type 0
-AreIrredundantGenerators gs = (i : ℕ) → i < length gs.list → ¬ ((p : List ℤ) → IsPoint gs.dim p → Span gs p → Span (record { dim = gs.dim; list = remove gs.list i }) p)
+AreIrredundantGenerators gs = (i : ℕ) → i < length gs.list → ¬ ((p : List ℤ) → IsPoint gs.dim p
+    → Span gs p → Span (record { dim = gs.dim; list = remove gs.list i }) p)
 
 abbrev pub StoredIsIrredundant : Type 0
-StoredIsIrredundant = (cs : Constraints) (gs : Generators) → IsStored cs gs → AreIrredundantConstraints cs × AreIrredundantGenerators gs
+StoredIsIrredundant = (cs : Constraints) (gs : Generators) → IsStored cs gs
+    → AreIrredundantConstraints cs × AreIrredundantGenerators gs
 
 -- ---- canonical systems of the set
 -- the canonical systems of a set with a point: of its valid rows, without that of the divisor, and of the vectors on which these are at least 0
@@ -59,7 +63,8 @@ pub record IsCanonicalPair (cs : Constraints) (gs : Generators) : Type 0 where
   pub gens_are : gs.list ≡ stored_generators cs.dim lines rays
 
 abbrev pub StoredIsCanonical : Type 0
-StoredIsCanonical = (cs : Constraints) (gs : Generators) (p : List ℤ) → IsStored cs gs → IsWithin cs p → IsCanonicalPair cs gs
+StoredIsCanonical = (cs : Constraints) (gs : Generators) (p : List ℤ) → IsStored cs gs
+    → IsWithin cs p → IsCanonicalPair cs gs
 
 -- the rows that are valid on the set are those that its generators admit, be it empty or not
 abbrev pub AdmitValidRows : Constraints → Generators → Type 0
@@ -78,7 +83,9 @@ pub record TouchesPoint (gs : Generators) (a : List ℤ) : Type 0 where
 
 -- each stored inequality of a set with a point is 0 at a stored point
 abbrev pub StoredInequalitiesTouch : Type 0
-StoredInequalitiesTouch = (cs : Constraints) (gs : Generators) (p : List ℤ) (i : ℕ) → IsStored cs gs → IsWithin cs p → i < length cs.list → kind_at cs.list i ≡ Ge → TouchesPoint gs (row_at cs.list i)
+StoredInequalitiesTouch = (cs : Constraints) (gs : Generators) (p : List ℤ) (i : ℕ) → IsStored cs gs
+    → IsWithin cs p → i < length cs.list → kind_at cs.list i ≡ Ge
+    → TouchesPoint gs (row_at cs.list i)
 
 -- ---- one form of a set
 -- both have the same constraints and the same generators
@@ -88,4 +95,5 @@ pub record AreSameSystems (cs ds : Constraints) (gs hs : Generators) : Type 0 wh
 
 -- two sets of a dimension hold the same points exactly where their stored systems are equal
 abbrev pub StoredIsUnique : Type 0
-StoredIsUnique = (cs ds : Constraints) (gs hs : Generators) → cs.dim ≡ ds.dim → IsStored cs gs → IsStored ds hs → HoldSame cs ds ↔ AreSameSystems cs ds gs hs
+StoredIsUnique = (cs ds : Constraints) (gs hs : Generators) → cs.dim ≡ ds.dim → IsStored cs gs
+    → IsStored ds hs → HoldSame cs ds ↔ AreSameSystems cs ds gs hs

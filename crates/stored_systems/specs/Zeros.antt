@@ -10,10 +10,12 @@ use Rattle.stored_systems.specs.StoredForms.{is_divisor_row}
 
 -- a row for each row of the constraint list and a column for each row of the generator list, true exactly where the one is 0 on the other
 abbrev pub ArePairZeros : Constraints → Generators → Table → Type 0
-ArePairZeros cs gs table = IsZeroTable (generator_list gs) (length (generator_list gs)) (vectors (constraint_list cs)) table
+ArePairZeros cs gs table = IsZeroTable (generator_list gs) (length (generator_list gs))
+    (vectors (constraint_list cs)) table
 
 -- the rows of the table from one on tell on which rows of the list the rays are 0
-pub record TellsFrom (from : ℕ) (list : List Row) (rays : List (List ℤ)) (table : Table) : Type 0 where
+pub record TellsFrom (from : ℕ) (list : List Row) (rays : List (List ℤ))
+    (table : Table) : Type 0 where
   pub columns : table.columns ≡ length list
   pub many : length table.rows ≡ from + length rays
   pub each : Pointwise (TellsZeros list (length list)) rays (drop from table.rows)
