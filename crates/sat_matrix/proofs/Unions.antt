@@ -1,8 +1,8 @@
 -- A row that is true wherever another is shares at least as much.
-use Rattle.std.specs.Prelude.{ℕ, ◌*◌, ◌^◌, ◌<◌, ◌≤◌, ◌&&◌, Bool, true, false, List, length, cond, IsTrue}
+use Rattle.std.specs.Prelude.{◌≡◌, ℕ, ◌+◌, ◌*◌, ◌^◌, ◌<◌, ◌≤◌, ◌&&◌, ◌||◌, Bool, true, false, List, length, cond, IsTrue}
 use Rattle.std.specs.List.{range_with_len, count_by}
-use Rattle.std.proofs.Common.{refl, arith}
-use Rattle.std.proofs.lemmas.Bool.{false≢true}
+use Rattle.std.proofs.Common.{refl, sym, subst, ◌∙◌, inl, inr, arith}
+use Rattle.std.proofs.lemmas.Bool.{false≢true, cases_eq, or_left, or_right}
 use Rattle.std.proofs.lemmas.List.Sums.{sum_by-le-sum_by}
 use Rattle.sat_bits.specs.Places.{place}
 use Rattle.flat_rows.specs.Flat.{Flat, entries_at}
@@ -36,6 +36,16 @@ shared_more row a u h =
 shared_in_first : (row u : List ℕ) → shared_places row u ≤ count_by (place row) (range_with_len 0 (length row * 64))
 shared_in_first row u =
     sum_by-le-sum_by (λ c. cond (place row c && place u c) 1 0) (λ c. cond (place row c) 1 0) (range_with_len 0 (length row * 64)) (λ c. true_in_first (place u c) (place row c))
+
+-- the row that a list names next is united with those before it
+pub union_more : (rows : List (List ℕ)) (outer : List ℕ) (from to : ℕ) (row old new : List ℕ) → row ≡ entries_at rows (index_at outer to) → ((i : ℕ) → place new i ≡ (place old i || place row i)) → IsUnionOf rows outer from to old → IsUnionOf rows outer from (to + 1) new
+union_more rows outer from to row old new is places before = λ p c low below named. elim (cases_eq p to) [
+  | inl here ↦
+      let P : ℕ → Type 0 = λ n. IsTrue (place (entries_at rows (index_at outer n)) c) in
+      let Q : List ℕ → Type 0 = λ words. IsTrue (place words c) in
+      places c ∙ or_right (place old c) (place row c) (subst Q (sym is) (subst P here named))
+  | inr other ↦ places c ∙ or_left (place old c) (place row c) (before p c low (omega (arith, below, other)) named)
+]
 
 module _ (table : Table) (words : Flat ℕ) (are : AreWordsOf table words) where
   pub in_words : (i : ℕ) → i < length table.rows → i < length words.rows
