@@ -116,9 +116,10 @@ class Parser:
 
 def read_definitions(path, clauses):
     """Adds the clauses `name pattern.. = expression` of the file, and of infix definitions `x · y = expression`."""
-    for line in open(path, encoding='utf-8'):
-        line = line.split('--')[0].rstrip()
-        if ' = ' not in line or line[0] in ' \t' or ' : ' in line:
+    lines = [line.split('--')[0].rstrip() for line in open(path, encoding='utf-8')]
+    # (a line that is indented goes on with the one before it)
+    for line in re.sub(r'\n +', ' ', '\n'.join(lines)).split('\n'):
+        if ' = ' not in line or ' : ' in line:
             continue
         left, right = line.split(' = ', 1)
         if not TOKEN.search(right):

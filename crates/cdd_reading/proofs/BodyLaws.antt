@@ -1,8 +1,8 @@
 -- What tokens can begin a body.
-use Rattle.std.proofs.Common.{◌≡◌, ℕ, ◌+◌, ◌-◌, ◌*◌, ◌^◌, ◌<◌, ◌≤◌, List, [], ◌∷◌, ◌++◌, length, ◌≢◌, refl, sym, ◌∙◌, ap, subst, arith, Bool, true, false, inl, inr, ◌⊎◌, length-append, codes, zero, suc, min, drop, get_or}
-use Rattle.std.specs.Prelude.{◌&&◌}
+use Rattle.std.proofs.Common.{◌≡◌, ℕ, ◌+◌, ◌-◌, ◌*◌, ◌^◌, ◌<◌, ◌≤◌, List, [], ◌∷◌, ◌++◌, length, ◌≢◌, refl, sym, ◌∙◌, ap, subst, arith, true, false, inl, inr, ◌⊎◌, length-append, codes, zero, suc, min, drop, get_or}
 use Rattle.std.specs.List.{list_all}
 use Rattle.std.proofs.lemmas.List.Folds.{list_all-append}
+use Rattle.std.proofs.lemmas.Bool.{and_from, and_parts}
 use Rattle.cdd_reading.specs.Tokens.{texts, Token}
 use Rattle.plain_text.specs.Digits.{is_nat, number}
 use Rattle.cdd_reading.specs.Bodies.{type_word, is_number, Sizes, AreSizes, IsBody, CanBody, HasNoSizes, HasNoBody, AreRead, HasType, IsBodyRead, ArentNumbers, AreNumbers}
@@ -25,30 +25,17 @@ zero_number Integer = refl
 zero_number Rational = refl
 zero_number Real = refl
 
-pub and-left : (a b : Bool) → (a && b) ≡ true → a ≡ true
-and-left true b e = refl
-and-left false b e = cc
-
-pub and-right : (a b : Bool) → (a && b) ≡ true → b ≡ true
-and-right true b e = e
-and-right false b e = cc
-
-pub both : (a b : Bool) → a ≡ true → b ≡ true → (a && b) ≡ true
-both true true e f = refl
-both true false e f = cc
-both false b e f = cc
-
 zeros-numbers : (t : NumberType) (n : ℕ) → list_all (is_number t) (zeros n) ≡ true
 unfolding zeros
 zeros-numbers t zero = refl
-zeros-numbers t (suc n) = both (is_number t (codes "0")) (list_all (is_number t) (zeros n)) (zero_number t) (zeros-numbers t n)
+zeros-numbers t (suc n) = and_from (is_number t (codes "0")) (list_all (is_number t) (zeros n)) (zero_number t) (zeros-numbers t n)
 
 all_both : (t : NumberType) (xs ys : List (List ℕ)) → list_all (is_number t) xs ≡ true → list_all (is_number t) ys ≡ true → list_all (is_number t) (xs ++ ys) ≡ true
-all_both t xs ys e f = list_all-append (is_number t) xs ys ∙ both (list_all (is_number t) xs) (list_all (is_number t) ys) e f
+all_both t xs ys e f = list_all-append (is_number t) xs ys ∙ and_from (list_all (is_number t) xs) (list_all (is_number t) ys) e f
 
 inside : (t : NumberType) (done : List (List ℕ)) (x : List ℕ) (more : List (List ℕ)) → list_all (is_number t) ((done ++ x ∷ []) ++ more) ≡ true → is_number t x ≡ true
-inside t [] x more e = and-left (is_number t x) (list_all (is_number t) more) e
-inside t (y ∷ done) x more e = inside t done x more (and-right (is_number t y) (list_all (is_number t) ((done ++ x ∷ []) ++ more)) e)
+inside t [] x more e = (and_parts (is_number t x) (list_all (is_number t) more) e).0
+inside t (y ∷ done) x more e = inside t done x more (and_parts (is_number t y) (list_all (is_number t) ((done ++ x ∷ []) ++ more)) e).1
 
 -- numbers that there is room for can go on
 pub can_go_on : (m d t : List ℕ) (s : Sizes) (done : List (List ℕ)) → AreSizes m d t s → list_all (is_number s.number_type) done ≡ true → length done ≤ s.rows * s.columns → CanBody (m ∷ d ∷ t ∷ done)
@@ -171,7 +158,7 @@ texts-push [] x = refl
 texts-push (y ∷ before) x = ap (λ t. y.1 ∷ t) (texts-push before x)
 
 pub all_more : (t : NumberType) (before : List Token) (x : Token) → list_all (is_number t) (texts before) ≡ true → is_number t x.1 ≡ true → list_all (is_number t) (texts (before ++ x ∷ [])) ≡ true
-all_more t before x e f = ap (λ (l : List (List ℕ)). list_all (is_number t) l) (texts-push before x) ∙ all_both t (texts before) (x.1 ∷ []) e (both (is_number t x.1) true f refl)
+all_more t before x e f = ap (λ (l : List (List ℕ)). list_all (is_number t) l) (texts-push before x) ∙ all_both t (texts before) (x.1 ∷ []) e (and_from (is_number t x.1) true f refl)
 
 pub one_longer : (before : List Token) (x : Token) (n : ℕ) → n ≡ length before → n + 1 ≡ length (before ++ x ∷ [])
 one_longer before x n e = let k = length-append before (x ∷ []) in omega arith
@@ -228,7 +215,7 @@ large_right (suc a) b c h p = omega arith
 min_positive : (n c : ℕ) → 0 < n → 0 < c → 0 < min n c
 min_positive n c h k = grind arith
 
-zero_or : (n : ℕ) → (n ≡ 0) ⊎ (0 < n)
+pub zero_or : (n : ℕ) → (n ≡ 0) ⊎ (0 < n)
 zero_or zero = inl refl
 zero_or (suc n) = inr (omega arith)
 

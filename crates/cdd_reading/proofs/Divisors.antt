@@ -4,13 +4,13 @@ use Prim.Native.Nat.{◌∣◌}
 use Rattle.std.specs.Prelude.{All}
 use Rattle.std.specs.Int.{IsGcd}
 use Rattle.std.proofs.Math.Nat.{dvd-mul_left, dvd-mul_right, mul-dvd-mul_left, dvd_of_mul-dvd-mul_left, eq-zero_of_zero-dvd, one-dvd, mul-div_cancel', mul_assoc, mul_comm}
-use Rattle.std.proofs.lemmas.Bool.{cases_lt}
+use Rattle.std.proofs.lemmas.Bool.{cases_lt, and_from, and_parts}
 use Rattle.std.proofs.lemmas.Bool.Decides.{Decides-eqb}
 use Rattle.std.proofs.lemmas.List.Elements.{All-nil, All-cons, All-head, All-tail, All-weaker}
 use Rattle.std.proofs.lemmas.Nat.Gcd.{dvd_refl, same_from_IsGcd, dvd_trans, dvd_antisymm, le_of_dvd, dvd_of_mod-eq-zero, mod-eq-zero_of_dvd}
 use Rattle.row_core.proofs.OnePrimitive.{ScaledGcd, scaled_gcd_by}
 use Rattle.cdd_reading.specs.Fractions.{greatest, divides_both, gcd, lcm, lcm_of}
-use Rattle.cdd_reading.proofs.BodyLaws.{and-left, and-right, both}
+use Rattle.cdd_reading.proofs.BodyLaws.{zero_or}
 
 -- ---- the greatest number that passes a test
 record IsGreatest (test : ℕ → Bool) (n g : ℕ) : Type 0 where
@@ -35,10 +35,6 @@ greatest_is test (suc n) = greatest_step test n (test (suc n)) (greatest test n)
 scaled_gcd : (a b : ℕ) → ScaledGcd a b
 scaled_gcd a b = scaled_gcd_by (a + b) a b (omega arith)
 
-zero_or : (n : ℕ) → (n ≡ 0) ⊎ (0 < n)
-zero_or zero = inl refl
-zero_or (suc n) = inr (omega arith)
-
 -- a divisor of a positive number is positive
 divisor_cases : (d b : ℕ) → 0 < b → d ∣ b → (d ≡ 0) ⊎ (0 < d) → 0 < d
 divisor_cases d b some h (inl e) = absurd (omega (arith, eq-zero_of_zero-dvd (subst (λ (n : ℕ). n ∣ b) e h), some))
@@ -48,12 +44,12 @@ pub divisor_positive : (d b : ℕ) → 0 < b → d ∣ b → 0 < d
 divisor_positive d b some h = divisor_cases d b some h (zero_or d)
 
 test_passes : (a b d : ℕ) → d ∣ a → d ∣ b → divides_both a b d ≡ true
-test_passes a b d p q = both (a % d == 0) (b % d == 0) (eq-eqb (a % d) 0 (mod-eq-zero_of_dvd d p)) (eq-eqb (b % d) 0 (mod-eq-zero_of_dvd d q))
+test_passes a b d p q = and_from (a % d == 0) (b % d == 0) (eq-eqb (a % d) 0 (mod-eq-zero_of_dvd d p)) (eq-eqb (b % d) 0 (mod-eq-zero_of_dvd d q))
 
 test_divides : (a b d : ℕ) → divides_both a b d ≡ true → (d ∣ a) × (d ∣ b)
 test_divides a b d e = (
-  dvd_of_mod-eq-zero d ((Decides-eqb (a % d) 0).0 (and-left (a % d == 0) (b % d == 0) e)),
-  dvd_of_mod-eq-zero d ((Decides-eqb (b % d) 0).0 (and-right (a % d == 0) (b % d == 0) e)),
+  dvd_of_mod-eq-zero d ((Decides-eqb (a % d) 0).0 (and_parts (a % d == 0) (b % d == 0) e).0),
+  dvd_of_mod-eq-zero d ((Decides-eqb (b % d) 0).0 (and_parts (a % d == 0) (b % d == 0) e).1),
 )
 
 gcd_equal : (a b g : ℕ) (s : ScaledGcd a b) → 0 < b → IsGreatest (divides_both a b) b g → g ≡ s.divisor

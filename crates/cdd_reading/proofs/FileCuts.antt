@@ -7,6 +7,7 @@ use Rattle.std.specs.List.{slice_split, onto_first}
 use Rattle.std.specs.Str.Lines.{lines, lines_of_parts, strip_carriage_return}
 use Rattle.std.proofs.lemmas.List.{append-nil}
 use Rattle.std.proofs.lemmas.List.Splits.{length-slice_split}
+use Rattle.std.proofs.Math.Seq.{take-append_seam}
 use Rattle.plain_text.proofs.LineCuts.{lines_of_parts-cons}
 use Rattle.plain_text.specs.Lines.{is_feed}
 
@@ -104,12 +105,8 @@ further bytes rest behind front line c n f h l (inr e) o =
 short_length : (front rest : List ℕ) → length (front ++ rest) - length rest ≡ length front
 short_length front rest = omega (arith, length-append front rest)
 
-take_front : (front rest : List ℕ) → take (length front) (front ++ rest) ≡ front
-take_front [] rest = refl
-take_front (b ∷ front) rest = ap (λ t. b ∷ t) (take_front front rest)
-
 taken : (front rest : List ℕ) → take (length (front ++ rest) - length rest) (front ++ rest) ≡ front
-taken front rest = ap (λ n. take n (front ++ rest)) (short_length front rest) ∙ take_front front rest
+taken front rest = ap (λ n. take n (front ++ rest)) (short_length front rest) ∙ take-append_seam front rest
 
 pub ended : (bytes rest behind front line : List ℕ) (n : ℕ) → Front bytes rest n front → 0 < length rest → lines rest ≡ line ∷ lines behind → IsEnd line → IsFile bytes (lines (take (length bytes - length rest) bytes)) (lines behind) × (n ≡ length (lines (take (length bytes - length rest) bytes)) + 1)
 ended bytes rest behind front line n f h l e =

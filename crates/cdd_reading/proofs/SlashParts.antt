@@ -1,37 +1,24 @@
 -- Words without a slash.
-use Rattle.std.proofs.Common.{◌≡◌, ℕ, ◌+◌, ◌==◌, Bool, true, false, List, [], ◌∷◌, length, take, drop, refl, ◌∙◌, ap, arith, suc}
-use Rattle.std.specs.Prelude.{codes, ◌&&◌, ◌||◌}
+use Rattle.std.proofs.Common.{◌≡◌, ℕ, ◌+◌, ◌==◌, true, false, List, [], ◌∷◌, length, take, drop, refl, ◌∙◌, ap, arith, suc}
+use Rattle.std.specs.Prelude.{codes, ◌&&◌}
 use Rattle.std.specs.List.{list_all, list_any, position_or_len}
-use Rattle.std.proofs.lemmas.Bool.{cond-false}
+use Rattle.std.proofs.lemmas.Bool.{cond-false, and_parts, or_from, or_parts}
 use Rattle.std.proofs.Math.Seq.{take-length}
 use Rattle.plain_text.specs.Digits.{is_digit}
 use Rattle.plain_text.proofs.Decimals.{digit_low}
 use Rattle.cdd_reading.specs.Fractions.{is_slash, dividend, divisor}
-use Rattle.cdd_reading.proofs.BodyLaws.{and-left, and-right}
 use Rattle.cdd_reading.proofs.MarkLaws.{not_same}
-
-pub no_sign : (p q : Bool) → p ≡ false → q ≡ false → (p || q) ≡ false
-no_sign true q e f = cc
-no_sign false q e f = f
 
 digit_no_slash : (b : ℕ) → is_digit b ≡ true → is_slash b ≡ false
 digit_no_slash b e = let low = digit_low b e in not_same b 47 (λ x. omega (arith, low, x))
 
 pub digits_no_slash : (w : List ℕ) → list_all is_digit w ≡ true → list_any is_slash w ≡ false
 digits_no_slash [] e = refl
-digits_no_slash (b ∷ w) e = no_sign (is_slash b) (list_any is_slash w) (digit_no_slash b (and-left (is_digit b) (list_all is_digit w) e)) (digits_no_slash w (and-right (is_digit b) (list_all is_digit w) e))
-
-pub or-left : (p q : Bool) → (p || q) ≡ false → p ≡ false
-or-left true q e = cc
-or-left false q e = refl
-
-pub or-right : (p q : Bool) → (p || q) ≡ false → q ≡ false
-or-right true q e = cc
-or-right false q e = e
+digits_no_slash (b ∷ w) e = or_from (is_slash b) (list_any is_slash w) (digit_no_slash b (and_parts (is_digit b) (list_all is_digit w) e).0) (digits_no_slash w (and_parts (is_digit b) (list_all is_digit w) e).1)
 
 pub whole_length : (w : List ℕ) → list_any is_slash w ≡ false → position_or_len is_slash w ≡ length w
 whole_length [] e = refl
-whole_length (b ∷ w) e = rw (or-left (is_slash b) (list_any is_slash w) e) (one_more (position_or_len is_slash w) (length w) (whole_length w (or-right (is_slash b) (list_any is_slash w) e)))
+whole_length (b ∷ w) e = rw (or_parts (is_slash b) (list_any is_slash w) e).0 (one_more (position_or_len is_slash w) (length w) (whole_length w (or_parts (is_slash b) (list_any is_slash w) e).1))
   where
     one_more : (m n : ℕ) → m ≡ n → 1 + m ≡ suc n
     one_more m n e = omega arith

@@ -113,7 +113,7 @@ front_all P (x ∷ a) b h =
 pub chunk_step : (n k w : ℕ) → n ≡ suc k * w → (w ≤ n) × (n - w ≡ k * w)
 chunk_step n k w e = (omega arith, omega arith)
 
-one_more : (a b k w : ℕ) → a ≡ w → b ≡ k * w → a + b ≡ suc k * w
+pub one_more : (a b k w : ℕ) → a ≡ w → b ≡ k * w → a + b ≡ suc k * w
 one_more a b k w e f = omega arith
 
 chunk_length : (w k : ℕ) (ts : List (List ℕ)) → length ts ≡ k * w → length (flat_map integers (first_chunks w k ts)) ≡ k * w

@@ -7,6 +7,7 @@ use Rattle.plain_text.specs.Digits.{is_digit, is_nat, number}
 use Rattle.std.specs.Simd.{first_chunks}
 use Rattle.std.proofs.lemmas.List.{take-append-drop, map-append}
 use Rattle.std.proofs.lemmas.List.Elements.{All-nil, All-cons, All-head, All-tail, All-take, All-drop, All-weaker}
+use Rattle.std.proofs.lemmas.Bool.{and_parts, or_from}
 use Rattle.row_core.specs.Range.{InRange, AllInRange}
 use Rattle.cdd_reading.specs.Tokens.{has_some, is_integer, is_negative, unsigned, integer, texts, Token}
 use Rattle.cdd_reading.specs.Bodies.{is_number}
@@ -15,12 +16,11 @@ use Rattle.cdd_reading.specs.Tables.{IsTooLarge, IsIntegerErr}
 use Rattle.cdd_reading.specs.declared.format.NumberType.TheVariants.{Integer}
 use Rattle.cdd_reading.specs.declared.values.IntegerErr.{IntegerErr}
 use Rattle.cdd_reading.specs.declared.values.IntegerErr.TheVariants as value
-use Rattle.cdd_reading.proofs.BodyLaws.{and-left, and-right}
 use Rattle.cdd_reading.proofs.Divisors.{gcd_same, one_is_gcd, once}
 use Rattle.cdd_reading.proofs.ListLaws.{All-inside}
 use Rattle.cdd_reading.proofs.ValueLaws.{chunk_step}
 use Rattle.cdd_reading.proofs.MarkLaws.{not_same}
-use Rattle.cdd_reading.proofs.SlashParts.{no_sign, digits_no_slash, parts_whole}
+use Rattle.cdd_reading.proofs.SlashParts.{digits_no_slash, parts_whole}
 
 -- ---- one number
 sign_no_slash : (b : ℕ) → (b == 43 || b == 45) ≡ true → is_slash b ≡ false
@@ -31,8 +31,8 @@ integer_no_slash [] e = refl
 integer_no_slash (b ∷ w) e = by (b == 43 || b == 45) refl e
   where
     by : (s : Bool) → (b == 43 || b == 45) ≡ s → is_nat (cond s w (b ∷ w)) ≡ true → list_any is_slash (b ∷ w) ≡ false
-    by true is e = no_sign (is_slash b) (list_any is_slash w) (sign_no_slash b is) (digits_no_slash w (and-right (has_some w) (list_all is_digit w) e))
-    by false is e = digits_no_slash (b ∷ w) (and-right (has_some (b ∷ w)) (list_all is_digit (b ∷ w)) e)
+    by true is e = or_from (is_slash b) (list_any is_slash w) (sign_no_slash b is) (digits_no_slash w (and_parts (has_some w) (list_all is_digit w) e).1)
+    by false is e = digits_no_slash (b ∷ w) (and_parts (has_some (b ∷ w)) (list_all is_digit (b ∷ w)) e).1
 
 record IsWhole (t : List ℕ) : Type 0 where
   above : numerator t ≡ number (unsigned t)
@@ -120,7 +120,7 @@ chunks_low w (suc k) ts h = All-cons IsLow (take w ts) (first_chunks w k (drop w
 all_whole : (ts : List (List ℕ)) → list_all (is_number Integer) ts ≡ true → All IsWhole ts
 all_whole [] e = All-nil IsWhole
 all_whole (t ∷ ts) e =
-    All-cons IsWhole t ts (is_whole t (and-left (is_integer t) (list_all (is_number Integer) ts) e)) (all_whole ts (and-right (is_integer t) (list_all (is_number Integer) ts) e))
+    All-cons IsWhole t ts (is_whole t (and_parts (is_integer t) (list_all (is_number Integer) ts) e).0) (all_whole ts (and_parts (is_integer t) (list_all (is_number Integer) ts) e).1)
 
 all_small : (ts : List (List ℕ)) → All IsWhole ts → AllInRange (map integer ts) → All IsSmall ts
 all_small [] h r = All-nil IsSmall

@@ -15,7 +15,8 @@ type_word Integer = codes "integer"
 type_word Rational = codes "rational"
 type_word Real = codes "real"
 
--- a number of this type: an integer, or an integer, `/` and digits; those of the type `real` aren't looked at
+-- a number of this type: an integer, or an integer, `/` and digits; those of the type `real` aren't
+-- looked at
 abbrev pub is_number : NumberType → List ℕ → Bool
 is_number Integer t = is_integer t
 is_number Rational t = is_fraction t
@@ -48,7 +49,8 @@ pub record IsBody (ts : List (List ℕ)) (s : Sizes) (numbers : List (List ℕ))
 
 -- some body begins so
 abbrev pub CanBody : List (List ℕ) → Type 0
-CanBody ts = (more : List (List ℕ)) × (s : Sizes) × (numbers : List (List ℕ)) × IsBody (ts ++ more) s numbers
+CanBody ts =
+    (more : List (List ℕ)) × (s : Sizes) × (numbers : List (List ℕ)) × IsBody (ts ++ more) s numbers
 
 -- the first token that can't stand where it is stands in this line
 pub record IsWrongToken (ts : List Token) (before : List Token) (at : ℕ) : Type 0 where
@@ -56,13 +58,19 @@ pub record IsWrongToken (ts : List Token) (before : List Token) (at : ℕ) : Typ
   pub first : IsFirstWrong (λ begun. CanBody (texts begun)) ts before token
   pub line : at ≡ token.0
 
--- the first three tokens aren't sizes: the line of the first token that can't stand, or the line of `end` where one is missing
+-- the first three tokens aren't sizes: the line of the first token that can't stand, or the line of
+-- `end` where one is missing
 abbrev pub HasNoSizes : List Token → ℕ → ℕ → Type 0
-HasNoSizes ts end at = ((before : List Token) × (length before < 3) × IsWrongToken ts before at) ⊎ (CanBody (texts ts) × (length ts < 3) × (at ≡ end))
+HasNoSizes ts end at =
+    ((before : List Token) × (length before < 3) × IsWrongToken ts before at)
+    ⊎ (CanBody (texts ts) × (length ts < 3) × (at ≡ end))
 
 -- likewise of all tokens
 abbrev pub HasNoBody : List Token → ℕ → ℕ → Type 0
-HasNoBody ts end at = ((before : List Token) × IsWrongToken ts before at) ⊎ (CanBody (texts ts) × ((s : Sizes) (numbers : List (List ℕ)) → ¬ (IsBody (texts ts) s numbers)) × (at ≡ end))
+HasNoBody ts end at =
+    ((before : List Token) × IsWrongToken ts before at)
+    ⊎ (CanBody (texts ts)
+    × ((s : Sizes) (numbers : List (List ℕ)) → ¬ (IsBody (texts ts) s numbers)) × (at ≡ end))
 
 -- the sizes are right, and this is the number type
 pub record HasType (ts : List Token) (t : NumberType) : Type 0 where
@@ -76,7 +84,8 @@ pub record HasType (ts : List Token) (t : NumberType) : Type 0 where
   pub number_type : s.number_type ≡ t
 
 -- the sizes were read: m and d, for which 2^127 stands where they are greater, and what is left
-pub record AreRead (ts : List Token) (m d : ℕ) (t : NumberType) (rest : List Token) (s : Sizes) : Type 0 where
+pub record AreRead (ts : List Token) (m d : ℕ) (t : NumberType) (rest : List Token) (s : Sizes)
+    : Type 0 where
   pub first : Token
   pub second : Token
   pub third : Token
@@ -103,14 +112,18 @@ pub record IsOneWrong (t : NumberType) (ts : List Token) (most at : ℕ) : Type 
   pub line : at ≡ token.0
 
 abbrev pub ArentNumbers : NumberType → List Token → ℕ → ℕ → ℕ → Type 0
-ArentNumbers t ts most end at = IsOneWrong t ts most at ⊎ (list_all (is_number t) (texts ts) ≡ true) × (length ts < most) × (at ≡ end)
+ArentNumbers t ts most end at =
+    IsOneWrong t ts most at
+    ⊎ (list_all (is_number t) (texts ts) ≡ true) × (length ts < most) × (at ≡ end)
 
 -- why the tokens are no body of integers or fractions, in the order of the tests
 abbrev pub IsBodyFault : List Token → ℕ → BodyErr → Type 0
-IsBodyFault ts end (Wrong at) = HasNoSizes ts end at ⊎ ((t : NumberType) × HasType ts t × (t ≢ Real) × HasNoBody ts end at)
+IsBodyFault ts end (Wrong at) =
+    HasNoSizes ts end at ⊎ ((t : NumberType) × HasType ts t × (t ≢ Real) × HasNoBody ts end at)
 IsBodyFault ts end OtherType = HasType ts Real
 
--- the body that was read: d, for which 2^127 stands where it is greater, and the tokens behind the sizes
+-- the body that was read: d, for which 2^127 stands where it is greater, and the tokens behind the
+-- sizes
 pub record IsBodyRead (ts : List Token) (d : ℕ) (numbers : List Token) : Type 0 where
   pub s : Sizes
   pub body : IsBody (texts ts) s (texts numbers)

@@ -21,7 +21,8 @@ use Rattle.cdd_reading.specs.Bodies.{Sizes, IsBody}
 abbrev pub IsEnd : List ℕ → Type 0
 IsEnd line = (length line ≤ 65535) × IsOnly (codes "end") line
 
--- the lines before the first that ends the file, and those behind it; that one has the number length file + 1
+-- the lines before the first that ends the file, and those behind it; that one has the number
+-- length file + 1
 pub record IsFile (bytes : List ℕ) (file behind : List (List ℕ)) : Type 0 where
   pub last : List ℕ
   pub cut : lines bytes ≡ file ++ last ∷ behind
@@ -42,7 +43,9 @@ pub record AreContents (file : List (List ℕ)) (c : Contents) : Type 0 where
   pub body : IsBody (texts (numbered (length before + 2) behind)) c.sizes c.numbers
 
 abbrev pub IsContents : List ℕ → Contents → Type 0
-IsContents bytes c = (file : List (List ℕ)) × (behind : List (List ℕ)) × IsFile bytes file behind × AreContents file c
+IsContents bytes c =
+    (file : List (List ℕ)) × (behind : List (List ℕ)) × IsFile bytes file behind
+    × AreContents file c
 
 -- the numbers, each row times the least common multiple of its denominators
 abbrev pub values : Contents → List ℤ
@@ -56,7 +59,8 @@ indices c = unwrap_or c.heading.linearity []
 abbrev pub marks : List ℕ → ℕ → List Bool
 marks is m = map (λ i. list_any (λ k. k == i) is) (range_with_len 1 m)
 
--- the rows of the file as integers, one behind the other, each with whether the linearity line names it
+-- the rows of the file as integers, one behind the other, each with whether the linearity line
+-- names it
 pub record AreRows (c : Contents) (rows : List Row) : Type 0 where
   pub marked : map (λ (row : Row). row.1) rows ≡ marks (indices c) c.sizes.rows
   pub wide : All (λ (row : Row). length row.0 ≡ c.sizes.columns) rows
@@ -71,7 +75,8 @@ turned (b ∷ row) = row ++ b ∷ []
 abbrev pub IsRowOf : Row → Constraint → Type 0
 IsRowOf row c = IsPrimitiveOf (turned row.0) c.0 × (c.1 ≡ (if row.1 then Eq else Ge))
 
--- `t x1 .. xn` is a point with divisor t where t is positive; where t is 0 it is a ray, and a line where it is marked
+-- `t x1 .. xn` is a point with divisor t where t is positive; where t is 0 it is a ray, and a line
+-- where it is marked
 abbrev pub IsKind : Bool → ℤ → GenKind → Type 0
 IsKind marked t Point = (pos 0 <ℤ t) × (marked ≡ false)
 IsKind marked t Ray = (t ≡ pos 0) × (marked ≡ false)
@@ -91,7 +96,8 @@ origin dim = replicate dim (pos 0) ++ pos 1 ∷ []
 
 -- with the origin as a further point, where there are generators and no point
 abbrev pub with_origin : ℕ → List Generator → List Generator
-with_origin dim gs = if has_some gs && not (list_any is_point gs) then gs ++ (origin dim, Point) ∷ [] else gs
+with_origin dim gs =
+    if has_some gs && not (list_any is_point gs) then gs ++ (origin dim, Point) ∷ [] else gs
 
 -- the file holds these constraints
 pub record IsIneFile (bytes : List ℕ) (cs : Constraints) : Type 0 where
@@ -115,4 +121,6 @@ pub record IsExtFile (bytes : List ℕ) (gs : Generators) : Type 0 where
 
 -- `linearity` stands as a token behind the file
 abbrev pub HasLinearityAfter : List ℕ → Type 0
-HasLinearityAfter bytes = (file : List (List ℕ)) × (behind : List (List ℕ)) × IsFile bytes file behind × (list_any (λ t. bytes_eq t (codes "linearity")) (texts (numbered 1 behind)) ≡ true)
+HasLinearityAfter bytes =
+    (file : List (List ℕ)) × (behind : List (List ℕ)) × IsFile bytes file behind
+    × (list_any (λ t. bytes_eq t (codes "linearity")) (texts (numbered 1 behind)) ≡ true)

@@ -14,8 +14,12 @@ abbrev pub HasOneExt : Type 0
 HasOneExt = (bytes : List ℕ) (a b : Generators) → IsExtFile bytes a → IsExtFile bytes b → a ≡ b
 
 abbrev pub HasOneFault : Type 0
-HasOneFault = (want : Format) (bytes : List ℕ) (f g : Fault) → IsFirstOf (tests want bytes) f → IsFirstOf (tests want bytes) g → f ≡ g
+HasOneFault =
+    (want : Format) (bytes : List ℕ) (f g : Fault) → IsFirstOf (tests want bytes) f
+    → IsFirstOf (tests want bytes) g → f ≡ g
 
 -- a file that passes all tests has no fault
 abbrev pub PassesOrFails : Type 0
-PassesOrFails = (want : Format) (bytes : List ℕ) (f : Fault) → NoneOf (tests want bytes) → IsFirstOf (tests want bytes) f → ⊥
+PassesOrFails =
+    (want : Format) (bytes : List ℕ) (f : Fault) → NoneOf (tests want bytes)
+    → IsFirstOf (tests want bytes) f → ⊥

@@ -33,7 +33,10 @@ NoneOf (test ∷ tests) = ((g : Fault) → ¬ (test g)) × NoneOf tests
 
 -- the lines of the file, and behind its heading tokens; and the number of the line that ends it
 abbrev pub OfTokens : List ℕ → (List Token → ℕ → Type 0) → Type 0
-OfTokens bytes P = (file : List (List ℕ)) × (rest : List (List ℕ)) × IsFile bytes file rest × ((h : Heading) × (before : List (List ℕ)) × (behind : List (List ℕ)) × IsHead file h before behind × P (numbered (length before + 2) behind) (length file + 1))
+OfTokens bytes P =
+    (file : List (List ℕ)) × (rest : List (List ℕ)) × IsFile bytes file rest
+    × ((h : Heading) × (before : List (List ℕ)) × (behind : List (List ℕ))
+    × IsHead file h before behind × P (numbered (length before + 2) behind) (length file + 1))
 
 abbrev pub OfContents : List ℕ → (Contents → Type 0) → Type 0
 OfContents bytes P = (c : Contents) × IsContents bytes c × P c
@@ -53,7 +56,9 @@ line_too_long bytes f = (f ≡ fault.LineTooLong) × OfFile bytes (λ file. ¬ (
 
 -- the lines before `begin`, and the sizes
 abbrev pub no_sizes : List ℕ → Test
-no_sizes bytes f = (n : ℕ) × (f ≡ fault.CddSyntax n) × (OfFile bytes (λ file. HasNoHead file n) ⊎ OfTokens bytes (λ ts end. HasNoSizes ts end n))
+no_sizes bytes f =
+    (n : ℕ) × (f ≡ fault.CddSyntax n)
+    × (OfFile bytes (λ file. HasNoHead file n) ⊎ OfTokens bytes (λ ts end. HasNoSizes ts end n))
 
 abbrev pub number_type : List ℕ → Test
 number_type bytes f = (f ≡ fault.NumberType) × OfTokens bytes (λ ts end. HasType ts Real)
@@ -66,23 +71,27 @@ other Ine = Ext
 other Ext = Ine
 
 abbrev pub wrong_kind : Format → List ℕ → Test
-wrong_kind want bytes f = (f ≡ fault.WrongKind) × OfContents bytes (λ c. c.heading.kind ≡ Some (other want))
+wrong_kind want bytes f =
+    (f ≡ fault.WrongKind) × OfContents bytes (λ c. c.heading.kind ≡ Some (other want))
 
 abbrev pub too_many_dims : List ℕ → Test
-too_many_dims bytes f = (f ≡ fault.TooManyDims) × OfContents bytes (λ c. MAX_WIDTH < c.sizes.columns)
+too_many_dims bytes f =
+    (f ≡ fault.TooManyDims) × OfContents bytes (λ c. MAX_WIDTH < c.sizes.columns)
 
 abbrev pub zero_divisor : List ℕ → Test
 zero_divisor bytes f = (f ≡ fault.ZeroDivisor) × OfContents bytes (λ c. ¬ (AllDivide c.numbers))
 
 abbrev pub too_large : List ℕ → Test
-too_large bytes f = (f ≡ fault.NumberTooLarge) × OfContents bytes (λ c. ¬ (FitRange c.sizes.columns c.numbers))
+too_large bytes f =
+    (f ≡ fault.NumberTooLarge) × OfContents bytes (λ c. ¬ (FitRange c.sizes.columns c.numbers))
 
 -- each index names one of so many rows
 abbrev pub AllName : ℕ → List ℕ → Type 0
 AllName m is = All (λ i. (0 < i) × (i ≤ m)) is
 
 abbrev pub bad_index : List ℕ → Test
-bad_index bytes f = (f ≡ fault.LinearityIndex) × OfContents bytes (λ c. ¬ (AllName c.sizes.rows (indices c)))
+bad_index bytes f =
+    (f ≡ fault.LinearityIndex) × OfContents bytes (λ c. ¬ (AllName c.sizes.rows (indices c)))
 
 -- the faults of a row of generators
 abbrev pub IsVectorFault : Bool → List ℤ → Test
@@ -107,11 +116,14 @@ bad_row bytes f = OfContents bytes (λ c. (rows : List Row) × AreRows c rows ×
 
 -- the tests of the lines and tokens of a file
 abbrev pub form_tests : List ℕ → List Test
-form_tests bytes = truncated bytes ∷ line_too_long bytes ∷ no_sizes bytes ∷ number_type bytes ∷ no_body bytes ∷ []
+form_tests bytes =
+    truncated bytes ∷ line_too_long bytes ∷ no_sizes bytes ∷ number_type bytes ∷ no_body bytes ∷ []
 
 -- the tests of what a file says, where it is taken for one of this kind
 abbrev pub content_tests : Format → List ℕ → List Test
-content_tests want bytes = wrong_kind want bytes ∷ too_many_dims bytes ∷ zero_divisor bytes ∷ too_large bytes ∷ bad_index bytes ∷ []
+content_tests want bytes =
+    wrong_kind want bytes ∷ too_many_dims bytes ∷ zero_divisor bytes ∷ too_large bytes
+    ∷ bad_index bytes ∷ []
 
 -- those of its rows
 abbrev pub row_tests : Format → List ℕ → List Test

@@ -58,7 +58,11 @@ IsRowErr Divide Fit value.Memory = Unit {0}
 
 -- the number of a token, as it is written
 abbrev pub fraction_of : List ℕ → Numeral
-fraction_of t = record { negative = is_negative t; numerator = numerator t; denominator = denominator t }
+fraction_of t = record {
+  negative = is_negative t;
+  numerator = numerator t;
+  denominator = denominator t;
+}
 
 -- its denominator in lowest terms
 abbrev pub lowest_of : Numeral → ℕ
@@ -89,8 +93,10 @@ pub record IsOpened (bytes : List ℕ) (file rest : List (List ℕ)) (end : ℕ)
   pub short : AreShort file
   pub number : end ≡ length file + 1
 
--- the form was read: the kind, the linearity line or an empty line, d, for which 2^127 stands where it is greater, and the numbers
-pub record IsFormRead (bytes : List ℕ) (named : Option Format) (linear : List ℕ) (d : ℕ) (numbers : List Token) : Type 0 where
+-- the form was read: the kind, the linearity line or an empty line, d, for which 2^127 stands where
+-- it is greater, and the numbers
+pub record IsFormRead (bytes : List ℕ) (named : Option Format) (linear : List ℕ) (d : ℕ)
+    (numbers : List Token) : Type 0 where
   pub contents : Contents
   pub says : IsContents bytes contents
   pub kind : named ≡ contents.heading.kind
@@ -113,7 +119,8 @@ IsLimitFault want named d f = ⊥
 -- one row for each mark, cut off the numbers one behind the other
 abbrev pub rows_of : ℕ → List Bool → List ℤ → List Row
 rows_of width [] numbers = []
-rows_of width (marked ∷ more) numbers = (take width numbers, marked) ∷ rows_of width more (drop width numbers)
+rows_of width (marked ∷ more) numbers =
+    (take width numbers, marked) ∷ rows_of width more (drop width numbers)
 
 -- the marks have rows of this width, whose numbers are of the range
 pub record FitTable (width : ℕ) (marked : List Bool) (numbers : List ℤ) : Type 0 where
@@ -123,7 +130,8 @@ pub record FitTable (width : ℕ) (marked : List Bool) (numbers : List ℤ) : Ty
   pub in_range : AllInRange numbers
 
 -- the file passes the tests up to those of its rows, and its rows are these
-pub record IsTable (want : Format) (bytes : List ℕ) (width : ℕ) (marked : List Bool) (numbers : List ℤ) : Type 0 where
+pub record IsTable (want : Format) (bytes : List ℕ) (width : ℕ) (marked : List Bool)
+    (numbers : List ℤ) : Type 0 where
   pub contents : Contents
   pub says : IsContents bytes contents
   pub columns : width ≡ contents.sizes.columns
@@ -145,7 +153,8 @@ rows_in table = rows_of table.width table.marks.items table.values.items
 -- the row has no fault, and is stored as a generator
 abbrev pub IsAdded : Row → List Generator → List Generator → Type 0
 IsAdded row old new =
-    (g : Generator) × IsVectorOf row g × (new ≡ old ++ g ∷ []) × ((f : Fault) → ¬ (IsVectorFault row.1 row.0 f))
+    (g : Generator) × IsVectorOf row g × (new ≡ old ++ g ∷ [])
+    × ((f : Fault) → ¬ (IsVectorFault row.1 row.0 f))
 
 -- the rows have no fault, and are these generators
 pub record AreStored (rows : List Row) (list : List Generator) : Type 0 where

@@ -106,8 +106,8 @@ fn is_number(token: &[u8], number_type: NumberType) -> bool
     }
 }
 
-/// Whether so many tokens are left and all of them are numbers of this type; else the number of the line
-/// of the first that can't stand where it is, or `end` where one is missing.
+/// Whether so many tokens are left and all of them are numbers of this type; else the number of the
+/// line of the first that can't stand where it is, or `end` where one is missing.
 fn check_numbers(
     tokens: Tokens<'_>,
     number_type: NumberType,
@@ -128,8 +128,8 @@ fn check_numbers(
     if count < most { Err(end) } else { Ok(()) }
 }
 
-/// Takes the sizes off the tokens; else the number of the line of the first token that can't stand where
-/// it is, or `end` where one is missing.
+/// Takes the sizes off the tokens; else the number of the line of the first token that can't stand
+/// where it is, or `end` where one is missing.
 fn read_sizes(tokens: &mut Tokens<'_>, end: usize) -> Result<SizesRead, usize>
     ensures { MatchResult result
         (λ r. (s : Sizes) × AreRead tokens.old r.rows r.columns r.number_type tokens.new s)

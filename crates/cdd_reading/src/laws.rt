@@ -2,8 +2,8 @@
 ghost use Rattle.cdd_reading.specs.OneAnswer.{HasOneIne, HasOneExt, HasOneFault, PassesOrFails};
 ghost use Rattle.cdd_reading.specs.Scaling.{RowsAreScaled};
 
-/// A file is read as one list of constraints and one of generators at most, and is refused for one fault
-/// at most; and a file that passes all tests isn't refused.
+/// A file is read as one list of constraints and one of generators at most, and is refused for one
+/// fault at most; and a file that passes all tests isn't refused.
 pub fn one_answer()
     ensures constraints { HasOneIne }
     ensures generators { HasOneExt }
@@ -11,7 +11,8 @@ pub fn one_answer()
     ensures excludes { PassesOrFails }
 {}
 
-/// The integers of a row are its numbers times one positive number, the least by which all are integers.
+/// The integers of a row are its numbers times one positive number, the least by which all are
+/// integers.
 pub fn rows_are_scaled()
     ensures { RowsAreScaled }
 {}

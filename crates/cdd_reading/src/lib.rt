@@ -1,8 +1,8 @@
 //! Files of constraints and of generators in the format of cdd and lrs, as they are read.
 //!
-//! - [`read_ine`] and [`read_ext`] give the list that a file holds, or the fault for which it is refused.
-//!   [`one_answer`] is the law that no file has two answers. [`is_end`] tells the line that ends a file, and
-//!   [`linearity_after_end`] looks behind it.
+//! - [`read_ine`] and [`read_ext`] give the list that a file holds, or the fault for which it is
+//!   refused. [`one_answer`] is the law that no file has two answers. [`is_end`] tells the line
+//!   that ends a file, and [`linearity_after_end`] looks behind it.
 //! - [`rows_are_scaled`] is the law of a row of fractions, whose arithmetic is [`common_divisor`],
 //!   [`quotient`] and [`signed`].
 #![tactic(auto)]

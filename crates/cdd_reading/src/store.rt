@@ -34,8 +34,8 @@ pub fn store_constraints(alloc: Global, table: &Table) -> Result<ConsSys, Memory
     Ok(system)
 }
 
-/// The generators of the rows, the marked ones as lines; the origin is added at the end where there are
-/// rows and none is a point.
+/// The generators of the rows, the marked ones as lines; the origin is added at the end where there
+/// are rows and none is a point.
 ///
 /// # Errors
 /// The first fault of the first row that has one.

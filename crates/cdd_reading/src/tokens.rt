@@ -54,8 +54,8 @@ impl<'a> Tokens<'a> {
     }
 }
 
-/// The first token of what is left of a line and of the lines behind it; what is left of the token's
-/// line, the lines behind that, and its number.
+/// The first token of what is left of a line and of the lines behind it; what is left of the
+/// token's line, the lines behind that, and its number.
 fn first_token<'a>(
     line: &'a [u8],
     after: &'a [u8],

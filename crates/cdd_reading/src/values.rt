@@ -40,8 +40,8 @@ pub struct Numeral {
     pub denominator: u128,
 }
 
-/// The integers of rows of this width, one row behind the other: the numbers of the tokens, those of each
-/// row times the least common multiple of their denominators.
+/// The integers of rows of this width, one row behind the other: the numbers of the tokens, those
+/// of each row times the least common multiple of their denominators.
 pub fn read_values(
     alloc: Global,
     tokens: Tokens<'_>,
@@ -75,8 +75,8 @@ fn is_negative(token: &[u8]) -> bool
     matches!(token, [b'-', ..])
 }
 
-/// The multiple times what the denominator has beyond its greatest common divisor with the product, where
-/// that is in the range.
+/// The multiple times what the denominator has beyond its greatest common divisor with the product,
+/// where that is in the range.
 fn extended_multiple(multiple: u128, product: u128, denominator: u128) -> Option<u128>
     requires positive { 0 < denominator }
     requires small { multiple < 2 ^ 127 }
@@ -90,9 +90,9 @@ fn extended_multiple(multiple: u128, product: u128, denominator: u128) -> Option
     (extended < MOST).then_some(extended)
 }
 
-/// The least common multiple of this one and the number's denominator in lowest terms, where that is in
-/// the range. It is found by the product with the numerator, so that the number need not be brought to
-/// lowest terms unless the product leaves the range.
+/// The least common multiple of this one and the number's denominator in lowest terms, where that
+/// is in the range. It is found by the product with the numerator, so that the number need not be
+/// brought to lowest terms unless the product leaves the range.
 fn with_number(multiple: u128, number: &Numeral) -> Option<u128>
     requires positive { 0 < multiple }
     requires small { multiple < 2 ^ 127 }
@@ -189,8 +189,8 @@ fn push_scaled(values: &mut Vec<i128>, row: &[Numeral], multiple: u128) -> Resul
     Ok(())
 }
 
-/// The integers of the rows of fractions: the numbers of each row times the least common multiple of their
-/// denominators, which is found while they are read.
+/// The integers of the rows of fractions: the numbers of each row times the least common multiple
+/// of their denominators, which is found while they are read.
 fn read_rows(alloc: Global, tokens: Tokens<'_>, width: usize) -> Result<Vec<i128>, IntegerErr>
     requires some { 0 < width }
     requires rows { length (texts tokens) ≡ length (texts tokens) / width * width }

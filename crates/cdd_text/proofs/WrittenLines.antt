@@ -3,13 +3,12 @@ use Rattle.std.proofs.Common.{◌≡◌, ℕ, ◌+◌, ◌-◌, ◌<◌, ◌==�
 use Rattle.std.specs.Prelude.{All, ◌||◌}
 use Rattle.std.specs.List.{list_all, flat_map, join_with_byte, slice_split, filter}
 use Rattle.std.specs.Str.Lines.{lines, lines_of_parts, strip_carriage_return}
-use Rattle.std.proofs.lemmas.Bool.{cond-false, cond-true, cases_lt}
+use Rattle.std.proofs.lemmas.Bool.{cond-false, cond-true, cases_lt, and_parts}
 use Rattle.std.proofs.lemmas.List.{get_or_past, map-append}
 use Rattle.std.proofs.lemmas.List.Splits.{slice_split_none, slice_split_at, length-slice_split}
 use Rattle.std.proofs.lemmas.List.Elements.{All-nil, All-cons, All-head, All-tail, All-append, All-get_or, All-weaker}
 use Rattle.cdd_reading.specs.Tokens.{is_gap, has_some, tokens, texts, numbered, Token}
 use Rattle.cdd_text.specs.Written.{line_of}
-use Rattle.cdd_reading.proofs.BodyLaws.{and-left, and-right}
 use Rattle.plain_text.proofs.LineCuts.{lines_of_parts-cons}
 use Rattle.plain_text.specs.Lines.{is_feed}
 use Rattle.cdd_text.proofs.WrittenNumbers.{is_inner, is_plain}
@@ -26,30 +25,30 @@ last_of_three false false true e = cc
 last_of_three p q false e = refl
 
 inner_gap : (b : ℕ) → is_inner b ≡ true → is_gap b ≡ false
-inner_gap b e = not_true (is_gap b) (and-left (not (is_gap b)) (not (b == 10)) e)
+inner_gap b e = not_true (is_gap b) (and_parts (not (is_gap b)) (not (b == 10)) e).0
 
 -- no line feed and no carriage return
 abbrev IsWithin : ℕ → Type 0
 IsWithin b = ((b == 10) ≡ false) × ((b == 13) ≡ false)
 
 inner_within : (b : ℕ) → is_inner b ≡ true → IsWithin b
-inner_within b e = (not_true (b == 10) (and-right (not (is_gap b)) (not (b == 10)) e), last_of_three (b == 32) (b == 9) (b == 13) (inner_gap b e))
+inner_within b e = (not_true (b == 10) (and_parts (not (is_gap b)) (not (b == 10)) e).1, last_of_three (b == 32) (b == 9) (b == 13) (inner_gap b e))
 
 gap_free : (w : List ℕ) → list_all is_inner w ≡ true → All (λ b. is_gap b ≡ false) w
 gap_free [] e = All-nil (λ b. is_gap b ≡ false)
-gap_free (b ∷ w) e = All-cons (λ b. is_gap b ≡ false) b w (inner_gap b (and-left (is_inner b) (list_all is_inner w) e)) (gap_free w (and-right (is_inner b) (list_all is_inner w) e))
+gap_free (b ∷ w) e = All-cons (λ b. is_gap b ≡ false) b w (inner_gap b (and_parts (is_inner b) (list_all is_inner w) e).0) (gap_free w (and_parts (is_inner b) (list_all is_inner w) e).1)
 
 all_within : (w : List ℕ) → list_all is_inner w ≡ true → All IsWithin w
 all_within [] e = All-nil IsWithin
-all_within (b ∷ w) e = All-cons IsWithin b w (inner_within b (and-left (is_inner b) (list_all is_inner w) e)) (all_within w (and-right (is_inner b) (list_all is_inner w) e))
+all_within (b ∷ w) e = All-cons IsWithin b w (inner_within b (and_parts (is_inner b) (list_all is_inner w) e).0) (all_within w (and_parts (is_inner b) (list_all is_inner w) e).1)
 
 abbrev joined : List (List ℕ) → List ℕ
 joined ws = join_with_byte 32 ws
 
 word : (w : List ℕ) (ws : List (List ℕ)) → list_all is_plain (w ∷ ws) ≡ true → (has_some w ≡ true) × (list_all is_inner w ≡ true) × (list_all is_plain ws ≡ true)
 word w ws e =
-    let first = and-left (is_plain w) (list_all is_plain ws) e in
-    (and-left (has_some w) (list_all is_inner w) first, and-right (has_some w) (list_all is_inner w) first, and-right (is_plain w) (list_all is_plain ws) e)
+    let first = (and_parts (is_plain w) (list_all is_plain ws) e).0 in
+    ((and_parts (has_some w) (list_all is_inner w) first).0, (and_parts (has_some w) (list_all is_inner w) first).1, (and_parts (is_plain w) (list_all is_plain ws) e).1)
 
 -- the tokens of a written line are its words
 pub tokens-joined : (ws : List (List ℕ)) → list_all is_plain ws ≡ true → tokens (join_with_byte 32 ws) ≡ ws
@@ -95,19 +94,19 @@ all_plain wss = list_all (λ ws. list_all is_plain ws) wss
 pub lines-text : (wss : List (List (List ℕ))) → all_plain wss ≡ true → lines (flat_map line_of wss) ≡ map (join_with_byte 32) wss
 lines-text [] e = refl
 lines-text (ws ∷ wss) e =
-    lines-line_of ws (flat_map line_of wss) (and-left (list_all is_plain ws) (all_plain wss) e)
-    ∙ ap (λ (l : List (List ℕ)). joined ws ∷ l) (lines-text wss (and-right (list_all is_plain ws) (all_plain wss) e))
+    lines-line_of ws (flat_map line_of wss) (and_parts (list_all is_plain ws) (all_plain wss) e).0
+    ∙ ap (λ (l : List (List ℕ)). joined ws ∷ l) (lines-text wss (and_parts (list_all is_plain ws) (all_plain wss) e).1)
 
 -- what is gathered from the tokens of lines is gathered from their words
 pub gathered : {A : Type 0} (f : List (List ℕ) → List A) (wss : List (List (List ℕ))) → all_plain wss ≡ true → flat_map (λ line. f (tokens line)) (map (join_with_byte 32) wss) ≡ flat_map f wss
 gathered f [] e = refl
 gathered f (ws ∷ wss) e =
-    ap (λ l. f l ++ flat_map (λ line. f (tokens line)) (map (join_with_byte 32) wss)) (tokens-joined ws (and-left (list_all is_plain ws) (all_plain wss) e))
-    ∙ ap (λ l. f ws ++ l) (gathered f wss (and-right (list_all is_plain ws) (all_plain wss) e))
+    ap (λ l. f l ++ flat_map (λ line. f (tokens line)) (map (join_with_byte 32) wss)) (tokens-joined ws (and_parts (list_all is_plain ws) (all_plain wss) e).0)
+    ∙ ap (λ l. f ws ++ l) (gathered f wss (and_parts (list_all is_plain ws) (all_plain wss) e).1)
 
 pub all_lines : (P : List (List ℕ) → Type 0) (wss : List (List (List ℕ))) → all_plain wss ≡ true → All P wss → All (λ line. P (tokens line)) (map (join_with_byte 32) wss)
 all_lines P [] e h = All-nil (λ line. P (tokens line))
-all_lines P (ws ∷ wss) e h = All-cons (λ line. P (tokens line)) (joined ws) (map (join_with_byte 32) wss) (subst P (sym (tokens-joined ws (and-left (list_all is_plain ws) (all_plain wss) e))) (All-head P ws wss h)) (all_lines P wss (and-right (list_all is_plain ws) (all_plain wss) e) (All-tail P ws wss h))
+all_lines P (ws ∷ wss) e h = All-cons (λ line. P (tokens line)) (joined ws) (map (join_with_byte 32) wss) (subst P (sym (tokens-joined ws (and_parts (list_all is_plain ws) (all_plain wss) e).0)) (All-head P ws wss h)) (all_lines P wss (and_parts (list_all is_plain ws) (all_plain wss) e).1 (All-tail P ws wss h))
 
 texts-line : (n : ℕ) (ts : List (List ℕ)) → texts (map (λ t. (n, t)) ts) ≡ ts
 texts-line n [] = refl
