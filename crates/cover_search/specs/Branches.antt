@@ -13,7 +13,9 @@ choice rows j = take j rows ++ complement (constraint_at rows j) ∷ []
 -- the list begins with the first one, and goes on with one choice for each of the first k systems of inequalities, in order
 pub data IsBranch (first : List Constraint) (systems : List Constraints) : ℕ → List Constraint → Type 0 where
   begins : IsBranch first systems 0 first
-  chooses : {k : ℕ} {list : List Constraint} (rows : Constraints) (j : ℕ) → IsBranch first systems k list → slice_get systems k ≡ Some rows → j < length rows.list → IsBranch first systems (k + 1) (list ++ choice rows.list j)
+  chooses : {k : ℕ} {list : List Constraint} (rows : Constraints) (j : ℕ)
+      → IsBranch first systems k list → slice_get systems k ≡ Some rows → j < length rows.list
+      → IsBranch first systems (k + 1) (list ++ choice rows.list j)
 
 -- the conversion of the list of a branch leaves the range
 pub record LeavesOnBranch (first : Constraints) (systems : List Constraints) (over : Overflow) : Type 0 where

@@ -45,7 +45,8 @@ size plan = as_number plan.next + length plan.met.items
 
 -- the set has no point of the system with this number
 abbrev pub IsApartAt : List Constraints → Constraints → ℕ → Type 0
-IsApartAt systems region i = (rows : Constraints) → slice_get systems i ≡ Some rows → AreApart region rows
+IsApartAt systems region i = (rows : Constraints) → slice_get systems i ≡ Some rows
+    → AreApart region rows
 
 -- of the cut's system, the inequalities behind the last that is crossed hold on the set
 pub record IsCutOf (systems : List Constraints) (region : Constraints) (cut : Cut) : Type 0 where
@@ -61,18 +62,24 @@ IsNext systems region numbers (Some cut) = IsCutOf systems region cut
 
 -- each of the first k numbers is in the plan, or the set has no point of its system
 pub record IsPlan (systems : List Constraints) (region : Constraints) (numbers : List ℕ) (k : ℕ) (plan : Plan) : Type 0 where
-  pub listed : (n : ℕ) → n < k → n < length numbers → IsOpenIn plan (slice_index_or numbers n 0) ⊎ IsApartAt systems region (slice_index_or numbers n 0)
+  pub listed : (n : ℕ) → n < k → n < length numbers → IsOpenIn plan (slice_index_or numbers n 0)
+      ⊎ IsApartAt systems region (slice_index_or numbers n 0)
   pub next : IsNext systems region plan.met.items plan.next
   pub below : All (λ i. i < length systems) plan.met.items
   pub few : size plan ≤ k
 
 -- the plan has one more cut: one of the two is the next, and the other's system stays open
 abbrev pub IsTaken : Plan → Cut → Plan → Type 0
-IsTaken old cut new = MatchOption old.next ((new.next ≡ Some cut) × (new.met.items ≡ old.met.items)) (λ best. ((new.next ≡ Some cut) × (new.met.items ≡ old.met.items ++ best.system ∷ [])) ⊎ ((new.next ≡ Some best) × (new.met.items ≡ old.met.items ++ cut.system ∷ [])))
+IsTaken old cut new = MatchOption old.next ((new.next ≡ Some cut)
+    × (new.met.items ≡ old.met.items)) (λ best. ((new.next ≡ Some cut)
+    × (new.met.items ≡ old.met.items ++ best.system ∷ [])) ⊎ ((new.next ≡ Some best)
+    × (new.met.items ≡ old.met.items ++ cut.system ∷ [])))
 
 -- the set has no point of the system and the plan is as before, or the system is in it too
 abbrev pub IsMet : Constraints → Constraints → ℕ → Plan → Plan → Type 0
-IsMet region rows system old new = (AreApart region rows × (new ≡ old)) ⊎ ((cut : Cut) × (cut.system ≡ system) × (cut.last < length rows.list) × HoldFrom region rows (cut.last + 1) × IsTaken old cut new)
+IsMet region rows system old new = (AreApart region rows × (new ≡ old)) ⊎ ((cut : Cut)
+    × (cut.system ≡ system) × (cut.last < length rows.list) × HoldFrom region rows (cut.last + 1)
+    × IsTaken old cut new)
 
 -- ---- parts of a set
 -- behind other parts, the one on which an inequality of the system doesn't hold, with the same open systems
@@ -83,8 +90,11 @@ pub record IsPushed (rows : Constraints) (index : ℕ) (region : Constraints) (n
   pub joined : new ≡ old ++ part ∷ []
 
 -- what is left of a set behind one inequality: all of it where that holds on it, or else the part on which it holds
-abbrev pub IsLeft : Constraints → ℕ → Constraints → List ℕ → List Part → List Part → Constraints → Type 0
-IsLeft rows index region numbers old new rest = (HoldsOn region (constraint_at rows.list index) × (new ≡ old) × (rest ≡ region)) ⊎ (IsPushed rows index region numbers old new × (rest ≡ with_one region (constraint_at rows.list index)))
+abbrev pub IsLeft : Constraints → ℕ → Constraints → List ℕ → List Part → List Part → Constraints
+    → Type 0
+IsLeft rows index region numbers old new rest = (HoldsOn region (constraint_at rows.list index)
+    × (new ≡ old) × (rest ≡ region)) ⊎ (IsPushed rows index region numbers old new
+    × (rest ≡ with_one region (constraint_at rows.list index)))
 
 -- the point is in some of the parts
 pub record IsInSomePart (parts : List Part) (v : List ℤ) : Type 0 where
@@ -107,7 +117,8 @@ pub record IsPartedBy (rows : Constraints) (k : ℕ) (region : Constraints) (num
   pub each : All (IsOutside rows region numbers) added
   pub same_dim : rest.dim ≡ region.dim
   pub within : LiesIn rest region
-  pub told : (v : List ℤ) → IsPoint region.dim v → In region v → (In rest v × ((i : ℕ) → i < k → Satisfies v (constraint_at rows.list i))) ⊎ IsInSomePart added v
+  pub told : (v : List ℤ) → IsPoint region.dim v → In region v → (In rest v × ((i : ℕ) → i < k
+      → Satisfies v (constraint_at rows.list i))) ⊎ IsInSomePart added v
 
 -- behind other parts, those of a set outside of the system
 pub record IsParted (rows region : Constraints) (numbers : List ℕ) (old new : List Part) : Type 0 where
@@ -119,11 +130,14 @@ pub record IsParted (rows region : Constraints) (numbers : List ℕ) (old new : 
 
 -- behind other parts, those of a set outside of the cut's system
 abbrev pub IsCutBy : List Constraints → Cut → Constraints → List ℕ → List Part → List Part → Type 0
-IsCutBy systems cut region numbers old new = (rows : Constraints) × (slice_get systems cut.system ≡ Some rows) × IsParted rows region numbers old new
+IsCutBy systems cut region numbers old new = (rows : Constraints)
+    × (slice_get systems cut.system ≡ Some rows) × IsParted rows region numbers old new
 
 -- the point is given where no system comes next, and else the parts outside of that system are appended
-abbrev pub IsFollowed : List Constraints → Plan → Constraints → List ℤ → List Part → List Part → Option (List ℤ) → Type 0
-IsFollowed systems plan region point old new found = MatchOption plan.next (found ≡ Some point) (λ cut. (found ≡ None) × IsCutBy systems cut region plan.met.items old new)
+abbrev pub IsFollowed : List Constraints → Plan → Constraints → List ℤ → List Part → List Part
+    → Option (List ℤ) → Type 0
+IsFollowed systems plan region point old new found = MatchOption plan.next (found ≡ Some point) (λ cut. (found ≡ None)
+    × IsCutBy systems cut region plan.met.items old new)
 
 -- ---- a search over parts
 -- a part of the set: its open systems are some of all, and it has no point of the others
@@ -154,7 +168,8 @@ pub record IsSettled (systems : List Constraints) (part : Part) (old new : List 
   pub joined : new ≡ old ++ added
   pub few : all_to_come (all_rows systems) added < to_come (all_rows systems) (length part.met.items)
   pub each : All (IsPart part.region systems) added
-  pub told : (v : List ℤ) → IsPoint part.region.dim v → In part.region v → HoldsInSome systems v ⊎ IsInSomePart added v
+  pub told : (v : List ℤ) → IsPoint part.region.dim v → In part.region v → HoldsInSome systems v
+      ⊎ IsInSomePart added v
 
 -- a point of the part at which no system holds
 pub record IsMissed (systems : List Constraints) (region : Constraints) (v : List ℤ) : Type 0 where

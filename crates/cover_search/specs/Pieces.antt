@@ -19,14 +19,19 @@ outer_part rows piece = record { region = with_one piece.region (complement (con
 -- behind other pieces, the part on which it holds, unless that is within the system
 pub data IsInner (rows : Constraints) (piece : Piece) (old : List Piece) : List Piece → Type 0 where
   ended : piece.row + 1 ≡ length rows.list → IsInner rows piece old old
-  goes_on : piece.row + 1 < length rows.list → IsInner rows piece old (old ++ inner_part rows piece ∷ [])
+  goes_on : piece.row + 1 < length rows.list
+      → IsInner rows piece old (old ++ inner_part rows piece ∷ [])
 
 -- the parts of a piece by the next inequality that aren't within the system, without one that has no point
 pub data IsSplit (rows : Constraints) (piece : Piece) (old : List Piece) : List Piece → Type 0 where
   within : length rows.list ≡ piece.row → IsSplit rows piece old old
-  outer_alone : piece.row < length rows.list → HoldNowhere (inner_part rows piece).region → IsSplit rows piece old (old ++ outer_part rows piece ∷ [])
-  inner_alone : {new : List Piece} → piece.row < length rows.list → HoldNowhere (outer_part rows piece).region → IsInner rows piece old new → IsSplit rows piece old new
-  both : {middle : List Piece} → piece.row < length rows.list → IsInner rows piece old middle → IsSplit rows piece old (middle ++ outer_part rows piece ∷ [])
+  outer_alone : piece.row < length rows.list → HoldNowhere (inner_part rows piece).region
+      → IsSplit rows piece old (old ++ outer_part rows piece ∷ [])
+  inner_alone : {new : List Piece} → piece.row < length rows.list
+      → HoldNowhere (outer_part rows piece).region → IsInner rows piece old new
+      → IsSplit rows piece old new
+  both : {middle : List Piece} → piece.row < length rows.list → IsInner rows piece old middle
+      → IsSplit rows piece old (middle ++ outer_part rows piece ∷ [])
 
 -- ---- pieces of a set
 -- the first inequalities of a system, if there is one
@@ -70,12 +75,14 @@ all_still systems (piece ∷ pieces) = still (drop piece.passed systems) piece.r
 pub record IsWithin (systems : List Constraints) (piece : Piece) : Type 0 where
   pub passed : piece.passed ≤ length systems
   pub dims : All (λ (rows : Constraints). rows.dim ≡ piece.region.dim) systems
-  pub row : (rows : Constraints) → slice_get systems piece.passed ≡ Some rows → piece.row ≤ length rows.list
+  pub row : (rows : Constraints) → slice_get systems piece.passed ≡ Some rows
+      → piece.row ≤ length rows.list
 
 -- the list of one of the parts leaves the range
 pub record LeavesInSplit (rows : Constraints) (piece : Piece) (over : Overflow) : Type 0 where
   pub below : piece.row < length rows.list
-  pub leaves : LeavesOnList (outer_part rows piece).region over ⊎ ((piece.row + 1 < length rows.list) × LeavesOnList (inner_part rows piece).region over)
+  pub leaves : LeavesOnList (outer_part rows piece).region over
+      ⊎ ((piece.row + 1 < length rows.list) × LeavesOnList (inner_part rows piece).region over)
 
 -- some system holds at each point of the piece
 pub record LiesInSome (systems : List Constraints) (cs : Constraints) : Type 0 where
@@ -85,7 +92,9 @@ pub record LiesInSome (systems : List Constraints) (cs : Constraints) : Type 0 w
 
 -- the piece has no point, or is seen to lie in one system, or it is split by the next system
 abbrev pub IsTurn : List Constraints → Piece → List Piece → List Piece → Type 0
-IsTurn systems piece old new = ((HoldNowhere piece.region ⊎ LiesInSome systems piece.region) × (new ≡ old)) ⊎ ((rows : Constraints) × (slice_get systems piece.passed ≡ Some rows) × IsSplit rows piece old new)
+IsTurn systems piece old new = ((HoldNowhere piece.region ⊎ LiesInSome systems piece.region)
+    × (new ≡ old)) ⊎ ((rows : Constraints) × (slice_get systems piece.passed ≡ Some rows)
+    × IsSplit rows piece old new)
 
 -- a point of the piece, which is outside of all systems
 pub record IsFound (systems : List Constraints) (piece : Piece) (v : List ℤ) : Type 0 where

@@ -13,8 +13,9 @@ use row_core::{ConvErr, RowBuf, Steps};
 use std::alloc::Global;
 use std::sync::ledger::Ledger;
 
-/// A point at which the first constraints hold and none of the systems does, if there is one. The set is parted by one
-/// inequality after another; of the two parts, that on which it doesn't hold is outside of its system, and goes first.
+/// A point at which the first constraints hold and none of the systems does, if there is one. The
+/// set is parted by one inequality after another; of the two parts, that on which it doesn't hold
+/// is outside of its system, and goes first.
 fn by_branches<L: Ledger>(
     alloc: Global,
     first: &ConsSys,
@@ -44,13 +45,15 @@ fn by_branches<L: Ledger>(
     Ok(None)
 }
 
-/// A point at which the first constraints hold and none of the systems does, if there is one. The search passes by the
-/// systems that a part of the set doesn't meet; where a number leaves the range in it, one over all branches decides.
+/// A point at which the first constraints hold and none of the systems does, if there is one. The
+/// search passes by the systems that a part of the set doesn't meet; where a number leaves the
+/// range in it, one over all branches decides.
 ///
 /// # Errors
 ///
-/// An overflow is one of the conversion of the encoded list of the constraints of a branch: the first ones, and then, for
-/// each of the first systems, some of its inequalities and the complement of the next.
+/// An overflow is one of the conversion of the encoded list of the constraints of a branch: the
+/// first ones, and then, for each of the first systems, some of its inequalities and the complement
+/// of the next.
 pub fn uncovered<L: Ledger>(
     alloc: Global,
     first: &ConsSys,

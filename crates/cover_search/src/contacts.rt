@@ -17,11 +17,13 @@ pub(crate) enum Contact {
     Within,
     /// It has no point of it.
     Apart,
-    /// So many inequalities are seen neither to hold on all of it nor to fail on all of it, and this is the last of them.
+    /// So many inequalities are seen neither to hold on all of it nor to fail on all of it, and
+    /// this is the last of them.
     Across { crossed: usize, last: usize },
 }
 
-/// A system that parts a set: so many of its inequalities are crossed, and this is the last of them.
+/// A system that parts a set: so many of its inequalities are crossed, and this is the last of
+/// them.
 #[derive(Clone, Copy, Drop)]
 pub(crate) struct Cut {
     pub(crate) system: usize,
@@ -101,7 +103,8 @@ fn meet(region: &Region, walls: &Walls, system: usize, plan: &mut Plan) -> Resul
     }
 }
 
-/// Which of the systems with these numbers a set may meet. There is no plan where it is seen to lie in one of them.
+/// Which of the systems with these numbers a set may meet. There is no plan where it is seen to lie
+/// in one of them.
 pub(crate) fn plan_of(
     alloc: Global,
     systems: &[Walls],

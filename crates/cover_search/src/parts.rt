@@ -39,8 +39,8 @@ fn push_outside<L: Ledger>(
     Ok(())
 }
 
-/// What is left of a set behind an inequality of the system: all of it where that is seen to hold on it. Else the part
-/// on which it doesn't hold is appended, and the other is left.
+/// What is left of a set behind an inequality of the system: all of it where that is seen to hold
+/// on it. Else the part on which it doesn't hold is appended, and the other is left.
 fn rest_of<L: Ledger>(
     walls: &Walls,
     index: usize,
@@ -63,7 +63,8 @@ fn rest_of<L: Ledger>(
     region.inside(walls, index, steps)
 }
 
-/// Appends the parts of a set outside of the system, whose inequalities behind number `last` hold on the set.
+/// Appends the parts of a set outside of the system, whose inequalities behind number `last` hold
+/// on the set.
 fn part_by<L: Ledger>(
     walls: &Walls,
     last: usize,
@@ -108,7 +109,8 @@ fn cut_by<L: Ledger>(
     Ok(())
 }
 
-/// Follows a plan: appends the parts outside of the system that comes next. Without one the point is given.
+/// Follows a plan: appends the parts outside of the system that comes next. Without one the point
+/// is given.
 #[tactic(auto, using(crate::proofs::PartLemmas::next_cut, crate::proofs::PartLemmas::next_below))]
 fn follow<L: Ledger>(
     systems: &[Walls],
@@ -133,8 +135,9 @@ fn follow<L: Ledger>(
     }
 }
 
-/// Takes a part that has a point: gives it where the part meets no system, and else its parts outside of the one that it
-/// crosses least, behind those that are pending. A part that is seen to lie in one system has none.
+/// Takes a part that has a point: gives it where the part meets no system, and else its parts
+/// outside of the one that it crosses least, behind those that are pending. A part that is seen to
+/// lie in one system has none.
 fn settle_at<L: Ledger>(
     alloc: Global,
     systems: &[Walls],
@@ -161,7 +164,8 @@ fn settle_at<L: Ledger>(
     }
 }
 
-/// Takes a part: gives a point of it that no system has, or appends parts of it. A part without a point has none.
+/// Takes a part: gives a point of it that no system has, or appends parts of it. A part without a
+/// point has none.
 pub(crate) fn settle<L: Ledger>(
     alloc: Global,
     systems: &[Walls],

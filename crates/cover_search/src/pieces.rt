@@ -11,8 +11,8 @@ use crate::walls::Walls;
 use row_core::{ConvErr, Memory, RowBuf, Steps};
 use std::sync::ledger::Ledger;
 
-/// A part of a set that is left to be covered. It is outside of the first systems, and some inequalities of the next
-/// one hold on it.
+/// A part of a set that is left to be covered. It is outside of the first systems, and some
+/// inequalities of the next one hold on it.
 #[derive(Drop)]
 pub(crate) struct Piece {
     pub(crate) region: Region,
@@ -71,8 +71,8 @@ impl Piece {
     }
 }
 
-/// Appends the part of a piece on which the next inequality of the system holds, if it isn't the last: then the part is
-/// within the system.
+/// Appends the part of a piece on which the next inequality of the system holds, if it isn't the
+/// last: then the part is within the system.
 fn push_inner<L: Ledger>(
     walls: &Walls,
     piece: Piece,
@@ -131,8 +131,9 @@ fn push_both<L: Ledger>(
     Ok(())
 }
 
-/// Appends the parts of a piece on which the next inequality of the system holds and on which it doesn't, the latter
-/// last. A part that is within the system, or is seen to have no point, is left out.
+/// Appends the parts of a piece on which the next inequality of the system holds and on which it
+/// doesn't, the latter last. A part that is within the system, or is seen to have no point, is left
+/// out.
 fn split<L: Ledger>(
     walls: &Walls,
     piece: Piece,
@@ -160,7 +161,8 @@ fn split<L: Ledger>(
     push_both(walls, piece, pending, steps)
 }
 
-/// Whether the piece is seen to lie in one of the systems that are still to come, before any of its inequalities is taken.
+/// Whether the piece is seen to lie in one of the systems that are still to come, before any of its
+/// inequalities is taken.
 fn lies_in_some(systems: &[Walls], piece: &Piece) -> bool
     requires dims { All (λ rows. rows.dim ≡ piece.now.region.dim) systems.now }
     requires inequalities { All AreInequalities systems.now }
@@ -177,8 +179,9 @@ fn lies_in_some(systems: &[Walls], piece: &Piece) -> bool
     false
 }
 
-/// Takes a piece: gives a point of it where it is outside of all systems, and else its parts by the next system, behind
-/// the pieces that are pending. A piece without a point has none, nor has one that is seen to lie in one system.
+/// Takes a piece: gives a point of it where it is outside of all systems, and else its parts by the
+/// next system, behind the pieces that are pending. A piece without a point has none, nor has one
+/// that is seen to lie in one system.
 pub(crate) fn turn<L: Ledger>(
     systems: &[Walls],
     piece: Piece,

@@ -30,7 +30,8 @@ pub(crate) struct Region {
     cone: Cone,
 }
 
-// Written by hand, so that a function that drops a region calls this one, and doesn't free each part itself.
+// Written by hand, so that a function that drops a region calls this one, and doesn't free each
+// part itself.
 impl Drop for Region {
     fn drop(self) {
         let Region {
@@ -121,8 +122,8 @@ fn is_zero_on(row: &[i128], list: &RowList) -> bool
     true
 }
 
-/// Whether the value of the row of an inequality on a vector is at least 0 or, of a strict one, above 0 without the
-/// height, which stands in the column. A dot that leaves the range answers no.
+/// Whether the value of the row of an inequality on a vector is at least 0 or, of a strict one,
+/// above 0 without the height, which stands in the column. A dot that leaves the range answers no.
 fn is_kept(strict: bool, column: usize, row: &[i128], vector: &[i128]) -> bool
     requires wide { length row.now ≡ length vector.now }
     requires column { column < length vector.now }
@@ -153,8 +154,8 @@ fn is_kept_on(strict: bool, column: usize, row: &[i128], list: &RowList) -> bool
 }
 
 impl Region {
-    /// Whether one of the inequalities is seen to hold at all of these points. Where a number leaves the range the answer
-    /// is no.
+    /// Whether one of the inequalities is seen to hold at all of these points. Where a number
+    /// leaves the range the answer is no.
     fn keeps(&self, halfspaces: &Halfspaces, index: usize) -> bool
         requires dim { halfspaces.now.dim ≡ self.now.dim }
         requires index { index < length halfspaces.now.list }

@@ -23,8 +23,9 @@ fn numbers_below(alloc: Global, count: usize) -> Result<Vec<usize>, Memory>
     Ok(numbers)
 }
 
-/// A point at which the first constraints hold and none of the systems does, if there is one. A system that a part of
-/// the set doesn't meet is passed by. So no list need be that of a branch, and an overflow says nothing.
+/// A point at which the first constraints hold and none of the systems does, if there is one. A
+/// system that a part of the set doesn't meet is passed by. So no list need be that of a branch,
+/// and an overflow says nothing.
 pub(crate) fn search<L: Ledger>(
     alloc: Global,
     first: &ConsSys,

@@ -32,8 +32,8 @@ fn same_set(p: &Poly, q: &Poly) -> bool
     }
 }
 
-/// What the closed polyhedron `p` grows to where the points of `q` are added: the hull of both, or none where that
-/// has the points of `p` alone.
+/// What the closed polyhedron `p` grows to where the points of `q` are added: the hull of both, or
+/// none where that has the points of `p` alone.
 ///
 /// # Errors
 ///
@@ -61,7 +61,8 @@ pub fn grown<L: Ledger>(
     Ok(Some(joined))
 }
 
-/// Whether all points that the generators span are in the polyhedron, as far as no product leaves the range.
+/// Whether all points that the generators span are in the polyhedron, as far as no product leaves
+/// the range.
 fn includes_spanned(p: &Poly, gens: &GensSys) -> bool
     requires dim { gens.now.dim ≡ p.now.cons.dim }
     requires point { ¬ (LacksPoint gens.now.list) }
@@ -75,7 +76,8 @@ fn includes_spanned(p: &Poly, gens: &GensSys) -> bool
     }
 }
 
-/// The smallest polyhedron of the topology that has the points of `p` and those that the generators span.
+/// The smallest polyhedron of the topology that has the points of `p` and those that the generators
+/// span.
 fn hull_with<L: Ledger>(p: &Poly, gens: &GensSys, steps: &mut Steps<L>) -> Result<Poly, ConvErr>
     requires dim { gens.now.dim ≡ p.now.cons.dim }
     requires kinds { AreGeneratorsFor p.now.topology gens.now }
@@ -91,12 +93,14 @@ fn hull_with<L: Ledger>(p: &Poly, gens: &GensSys, steps: &mut Steps<L>) -> Resul
     Ok(made)
 }
 
-/// What the closed polyhedron `p` grows to where generators are added, of which one is a point: the smallest that has
-/// the points of both, or none where `p` has all points that these span, which is tested first.
+/// What the closed polyhedron `p` grows to where generators are added, of which one is a point: the
+/// smallest that has the points of both, or none where `p` has all points that these span, which is
+/// tested first.
 ///
 /// # Errors
 ///
-/// An overflow is one of the conversion of the list of the generators of `p` and then these, or of its second list.
+/// An overflow is one of the conversion of the list of the generators of `p` and then these, or of
+/// its second list.
 pub fn grown_by<L: Ledger>(
     _alloc: Global,
     p: &Poly,
