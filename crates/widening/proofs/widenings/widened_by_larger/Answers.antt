@@ -44,5 +44,5 @@ returns-in_ok-try_copy-in-None-clause-conversion g c = inl refl
 pub returns-in_err-kept-clause-conversion : goal.returns-in_err-kept-clause-conversion
 returns-in_err-kept-clause-conversion g c = inl refl
 
-pub returns-in_err-try_copy-clause-conversion : goal.returns-in_err-try_copy-clause-conversion
-returns-in_err-try_copy-clause-conversion g c = inl refl
+pub returns-in_err-try_copy-in-None-clause-conversion : goal.returns-in_err-try_copy-in-None-clause-conversion
+returns-in_err-try_copy-in-None-clause-conversion g c = inl refl
