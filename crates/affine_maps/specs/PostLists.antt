@@ -42,7 +42,7 @@ pub record IsStepConversion (p relation : Polyhedron) (old new : ℕ)
   pub steps : Constraints
   pub are_steps : IsStepSystem p.cons relation.cons steps
   pub conversion : IsShadowConversion (begun_cons relation steps) Closed
-    (picked (later p.cons.dim) steps.dim) p.cons.dim steps old new over
+      (picked (later p.cons.dim) steps.dim) p.cons.dim steps old new over
 
 -- the first alone
 pub record IsFirstStepConversion (p relation : Polyhedron) (old new : ℕ)

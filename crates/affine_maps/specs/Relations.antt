@@ -137,7 +137,7 @@ pub record IsRelationConversion (h : List ℤ → List ℤ) (columns : List ℕ)
   pub extended : Constraints
   pub is_extended : IsExtended h rel expr den p.cons extended
   pub conversion : IsShadowConversion (cons_work p.topology extended) p.topology
-    (picked columns extended.dim) (length columns) extended old new over
+      (picked columns extended.dim) (length columns) extended old new over
 
 -- a call that converts these, or nothing where memory runs out before the list is made
 abbrev pub ConvertsRelation : (List ℤ → List ℤ) → List ℕ → ImageRel → List ℤ → ℤ → Polyhedron → ℕ

@@ -85,7 +85,7 @@ IsSecondConversion topology f dim cs old new over =
     ((new ≡ old) × (over ≡ None)) ⊎ IsSystemConversion topology f dim cs old new over
 
 -- the conversion of the constraint list without its second list, and then that of the mapped generators
-pub record AreConversions (work : Work) (topology : Topology) (f : List ℤ → List ℤ) (dim : ℕ)
+pub record AreBothConversions (work : Work) (topology : Topology) (f : List ℤ → List ℤ) (dim : ℕ)
     (cs : Constraints) (old new : ℕ) (over : Option Overflow) : Type 0 where
   pub between : ℕ
   pub first : IsFirstConversion work old between None
@@ -95,7 +95,7 @@ pub record AreConversions (work : Work) (topology : Topology) (f : List ℤ → 
 abbrev pub IsShadowConversion : Work → Topology → (List ℤ → List ℤ) → ℕ → Constraints → ℕ → ℕ
     → Option Overflow → Type 0
 IsShadowConversion work topology f dim cs old new over =
-    IsFirstConversion work old new over ⊎ AreConversions work topology f dim cs old new over
+    IsFirstConversion work old new over ⊎ AreBothConversions work topology f dim cs old new over
 
 abbrev pub ConvertsSystem : Topology → (List ℤ → List ℤ) → ℕ → Constraints → ℕ → ℕ
     → Result Polyhedron ConvErr → Type 0

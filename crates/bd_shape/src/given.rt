@@ -98,11 +98,7 @@ fn take_difference(
 }
 
 /// Takes the bounds that constraint `k` gives, and answers whether it holds at a point at all.
-fn take_constraint(
-    bounds: &mut BoundTable,
-    cons: &ConsSys,
-    k: usize,
-) -> Result<bool, ConvErr>
+fn take_constraint(bounds: &mut BoundTable, cons: &ConsSys, k: usize) -> Result<bool, ConvErr>
     requires index { k < length cons.now.list }
     requires differences { AreDifferences cons.now }
     requires reading { IsReading cons.now k bounds.old }

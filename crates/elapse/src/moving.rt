@@ -3,8 +3,8 @@ ghost use Rattle.std.specs.Prelude.{◌≡◌, [], IfOk};
 ghost use Rattle.elapse.specs.Elapses.{IsElapse, AreStoredOfElapse, AreStoredOfList, ConvertsElapse};
 
 use crate::directions::directions;
-use poly_pair::laws::kept_is_pair;
 use poly_pair::Poly;
+use poly_pair::laws::kept_is_pair;
 use row_core::{ConvErr, Steps};
 use std::alloc::Global;
 use std::sync::ledger::Ledger;

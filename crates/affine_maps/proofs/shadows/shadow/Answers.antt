@@ -1,5 +1,6 @@
 use Rattle.std.proofs.Common.{length, Err, inl}
 use Rattle.mapped_systems.specs.Maps.{picked}
+use Rattle.poly_pair.specs.Polyhedra.{Polyhedron}
 use Rattle.poly_pair.specs.Work.{cons_work, conv_overflow, overflow_in}
 use Rattle.poly_pair.proofs.WorkLemmas.{first_of_clauses}
 use Rattle.affine_maps.proofs.ShadowSets.{both_conversions}
@@ -15,4 +16,4 @@ returns-in-Ok-clause-conversion g c =
 
 pub returns-in-Err-clause-conversion : goal.returns-in-Err-clause-conversion
 returns-in-Err-clause-conversion g c =
-    inl (first_of_clauses (cons_work c.args.topology c.args.cons.now) c.args.steps.now c.spanning_generators.new.steps (Err c.in-Err.cause) c.in-Err.ensures.overflow c.in-Err.ensures.no_fewer c.in-Err.ensures.counted c.in-Err.ensures.counted_before)
+    inl (first_of_clauses {T = Polyhedron} (cons_work c.args.topology c.args.cons.now) c.args.steps.now c.spanning_generators.new.steps (Err c.in-Err.cause) c.in-Err.ensures.overflow c.in-Err.ensures.no_fewer c.in-Err.ensures.counted c.in-Err.ensures.counted_before)

@@ -1,5 +1,6 @@
 use Rattle.std.proofs.Common.{length, Ok, Err, inl}
 use Rattle.poly_pair.specs.declared.topology.Topology.TheVariants.{Closed}
+use Rattle.poly_pair.specs.Polyhedra.{Polyhedron}
 use Rattle.poly_pair.specs.Work.{begun_cons, conv_overflow, overflow_in}
 use Rattle.mapped_systems.specs.Maps.{picked}
 use Rattle.affine_maps.proofs.ShadowSets.{both_conversions, first_begun}
@@ -18,4 +19,4 @@ returns-in-Ok-clause-conversion g c =
 pub returns-in-Err-clause-conversion : goal.returns-in-Err-clause-conversion
 returns-in-Err-clause-conversion g c =
     let first = c.in-Err.ensures in
-    inl (first_begun c.args.p.now c.args.cons.now c.args.steps.now c.spanning_generators_from.new.steps (Err c.in-Err.cause) c.requires.closed first.overflow first.no_fewer first.counted first.counted_from first.counted_before first.counted_before_from)
+    inl (first_begun {T = Polyhedron} c.args.p.now c.args.cons.now c.args.steps.now c.spanning_generators_from.new.steps (Err c.in-Err.cause) c.requires.closed first.overflow first.no_fewer first.counted first.counted_from first.counted_before first.counted_before_from)

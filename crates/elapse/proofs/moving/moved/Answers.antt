@@ -44,8 +44,8 @@ returns-in-Ok-clause-conversion g c =
     (same_followed c.in_ok-gens.gens c.args.p.now.gens c.gens-4.result.now c.in_ok-moves.moves.list c.in_ok-gens.ensures.dim c.in_ok-gens.ensures.list c.gens-4.ensures.value)
     c.args.steps.now c.from_gens_with_point.new.steps None c.in-Ok.ensures.conversion)
 
-pub returns-in-Err-clause-conversion : goal.returns-in-Err-clause-conversion
-returns-in-Err-clause-conversion g c =
+pub returns-clause-conversion : goal.returns-clause-conversion
+returns-clause-conversion g c =
     inr (joined_conversion c.args.p.now c.args.q.now c.kept_is_pair.ensures c.gens.ensures.kept c.gens-2.ensures.kept c.requires.same_dim c.requires.some c.requires.moving (subst FitDimension c.gens.ensures.value c.dim.ensures.rows) (subst FitDimension c.gens-2.ensures.value c.dim-3.ensures.rows) c.in_ok-moves.moves.list
     (same_directions c.args.p.now c.args.q.now c.gens-3.result.now c.in_ok-moves.moves.list c.gens.ensures.kept c.gens-2.ensures.kept c.requires.same_dim c.gens-3.ensures.value c.in_ok-moves.ensures.list)
     c.topology.result c.in_ok-gens.gens c.topology.ensures.value

@@ -1,4 +1,4 @@
-use Rattle.std.proofs.Common.{sym, subst}
+use Rattle.std.proofs.Common.{None, inl, refl, sym, subst}
 use Rattle.poly_pair.specs.Polyhedra.{Polyhedron, HasNoPoint}
 use Rattle.widening.specs.Widenings.{IsWidening}
 use Rattle.widening.proofs.widenings.widen.Goals as goal
@@ -11,3 +11,9 @@ returns-then-is_empty-clause-points g c =
       of_empty = λ h v point. ((λ k. k), (λ k. k));
       points = λ x w. absurd (none x w);
     })
+
+pub returns-then-is_empty-clause-conversion : goal.returns-then-is_empty-clause-conversion
+returns-then-is_empty-clause-conversion g c = record { between = c.args.steps.now; first_over = None; first = inl refl; second = inl refl }
+
+pub returns-in_err-try_copy-clause-conversion : goal.returns-in_err-try_copy-clause-conversion
+returns-in_err-try_copy-clause-conversion g c = record { between = c.args.steps.now; first_over = None; first = inl refl; second = inl refl }

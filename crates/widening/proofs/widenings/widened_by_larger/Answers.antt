@@ -1,4 +1,4 @@
-use Rattle.std.proofs.Common.{length, sym, subst}
+use Rattle.std.proofs.Common.{length, inl, inr, refl, sym, subst}
 use Rattle.std.proofs.lemmas.Result.{IfOk-weaker}
 use Rattle.cons_sys.specs.Constraints.{Constraints}
 use Rattle.stored_systems.specs.PointSets.{AreClosed}
@@ -32,3 +32,17 @@ returns-in_ok-try_copy-in-None-clause-points g c =
     let stored2 = kept_stored q c.cons.ensures.kept c.requires.second in
     let all = subst (λ (cs : Constraints). HaveZerosAmong c.args.p.now cs (length cs.list)) c.cons.ensures.value (subst (IsAmong c.args.p.now c.cons.result.now) c.in-None.is c.in_ok-kept.ensures) in
     subst (λ (r : Polyhedron). IsWidening c.args.p.now c.args.q.now r) (sym c.in_ok-try_copy-in-None.ensures) (all_among_is_widening p q stored stored2 c.requires.dim c.requires.nested (has_member p stored c.requires.some) c.requires.second all)
+
+pub returns-in-Some-clause-conversion : goal.returns-in-Some-clause-conversion
+returns-in-Some-clause-conversion g c =
+    let among = subst (λ (cs : Constraints). IsOfAmong c.args.p.now cs c.in-Some.kept) c.cons.ensures.value (subst (IsAmong c.args.p.now c.cons.result.now) c.in-Some.is c.in_ok-kept.ensures) in
+    inr (record { system = c.in-Some.kept; is_system = among; conversion = c.from_cons.ensures.conversion })
+
+pub returns-in_ok-try_copy-in-None-clause-conversion : goal.returns-in_ok-try_copy-in-None-clause-conversion
+returns-in_ok-try_copy-in-None-clause-conversion g c = inl refl
+
+pub returns-in_err-kept-clause-conversion : goal.returns-in_err-kept-clause-conversion
+returns-in_err-kept-clause-conversion g c = inl refl
+
+pub returns-in_err-try_copy-in-None-clause-conversion : goal.returns-in_err-try_copy-in-None-clause-conversion
+returns-in_err-try_copy-in-None-clause-conversion g c = inl refl
