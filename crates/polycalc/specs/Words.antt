@@ -16,4 +16,5 @@ abbrev pub IsAskedBy : List (List ℕ) → Job → Type 0
 IsAskedBy words Run = words ≡ codes "run" ∷ []
 IsAskedBy words (Convert Ine) = words ≡ codes "ine2ext" ∷ []
 IsAskedBy words (Convert Ext) = words ≡ codes "ext2ine" ∷ []
-IsAskedBy words (Sample n) = (word : List ℕ) × (words ≡ codes "sample" ∷ word ∷ []) × SpellsSize word n
+IsAskedBy words (Sample n) =
+    (word : List ℕ) × (words ≡ codes "sample" ∷ word ∷ []) × SpellsSize word n

@@ -84,13 +84,13 @@ pub fn polycalc<S: Source, W: Sink, L: Ledger>(
     // and of a sample nothing is written.
     ensures lines_before { result ≡ Status.Memory
         → ¬ (HasRisen (W.wants sink.old) (W.wants sink.new))
-        → Stops words.now (S.left source.old) (S.left source.new) (W.held sink.old) (W.held sink.new)
-        AnswersBefore }
+        → Stops words.now (S.left source.old) (S.left source.new) (W.held sink.old)
+        (W.held sink.new) AnswersBefore }
     // A front of the replies is written, whatever else went wrong.
     ensures partly { (result ≡ Status.WriteFault) ⊎ (result ≡ Status.Memory)
         ⊎ (result ≡ Status.InputTooLong)
-        → Stops words.now (S.left source.old) (S.left source.new) (W.held sink.old) (W.held sink.new)
-        WritesFront }
+        → Stops words.now (S.left source.old) (S.left source.new) (W.held sink.old)
+        (W.held sink.new) WritesFront }
 {
     runs_are_complete();
     match words.job() {

@@ -99,7 +99,8 @@ impl Words {
 
     /// What the words ask for.
     pub fn job(&self) -> Option<Job>
-        ensures { MatchOption result ((job : Job) → ¬ (IsAskedBy self.now job)) (IsAskedBy self.now) }
+        ensures { MatchOption result ((job : Job) → ¬ (IsAskedBy self.now job))
+            (IsAskedBy self.now) }
     {
         if self.is_only(b"run") {
             Some(Job::Run)
@@ -118,7 +119,8 @@ impl Words {
 
 // The number of rows that the word spells.
 fn size_of(word: &[u8]) -> Option<u32>
-    ensures { MatchOption result ((n : ℕ) → ¬ (SpellsSize word.now n)) (λ n. SpellsSize word.now n) }
+    ensures { MatchOption result ((n : ℕ) → ¬ (SpellsSize word.now n))
+        (λ n. SpellsSize word.now n) }
 {
     if word.len() > 4 || !is_nat(word) {
         return None;
