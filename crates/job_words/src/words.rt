@@ -1,11 +1,11 @@
 //! The words of a command line.
 ghost use Rattle.std.specs.Prelude.{◌≡◌, ℕ, ◌<◌, ◌↔◌, List, [], ◌∷◌, ◌++◌, length, slice_index_or, IsTrue, OnOk, OnErr, MatchOption};
-ghost use Rattle.polycalc.specs.Words.{IsAskedBy, SpellsSize};
-ghost use Rattle.polycalc.specs.declared.job.Job.{Job};
-ghost use Rattle.polycalc.specs.declared.job.Job.TheVariants.{Sample};
+ghost use Rattle.job_words.specs.Words.{IsAskedBy, SpellsSize};
+ghost use Rattle.job_words.specs.declared.job.Job.{Job};
+ghost use Rattle.job_words.specs.declared.job.Job.TheVariants.{Sample};
 
 use crate::job::Job;
-use file_poly::Format;
+use cdd_reading::Format;
 use plain_text::{is_nat, number_up_to};
 use row_core::Memory;
 use std::alloc::Global;

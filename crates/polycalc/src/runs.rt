@@ -9,7 +9,7 @@ ghost use Rattle.calc_state.specs.State.{closed};
 ghost use Rattle.calc_state.specs.Runs.{at_end};
 ghost use Rattle.polycalc.specs.Endings.{Closes};
 ghost use Rattle.polycalc.specs.Outcomes.{Outcome, GivesUp};
-ghost use Rattle.polycalc.specs.declared.job.Job.TheVariants as job;
+ghost use Rattle.job_words.specs.declared.job.Job.TheVariants as job;
 
 use crate::replies::Replies;
 use crate::status::Status;

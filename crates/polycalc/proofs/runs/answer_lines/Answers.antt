@@ -12,7 +12,7 @@ use Rattle.polycalc.specs.Replies.{Written, written}
 use Rattle.polycalc.proofs.StreamLaws.{Goes, start_reading, goes_start, goes_line, goes_written, front_of_goes, goes_end, written_at_end, ends_script, goes_failed, goes_too_long, goes_earlier, goes_unanswered, goes_before, ended_before, few_taken, size_given, match_true, risen_since}
 use Rattle.calc_state.specs.Runs.{at_end}
 use Rattle.polycalc.specs.Outcomes.{AnswersFirst, GivesUp}
-use Rattle.polycalc.specs.declared.job.Job.TheVariants as job
+use Rattle.job_words.specs.declared.job.Job.TheVariants as job
 use Rattle.polycalc.specs.declared.status.Status.TheVariants.{ReadFault, WriteFault, Memory}
 use Rattle.polycalc.proofs.EndLaws.{never_unread}
 use Rattle.polycalc.proofs.runs.answer_lines.Goals as goal
