@@ -45,19 +45,24 @@ made_poly table full (poly.OfShape s) = on_one (shape_of table s) (shape_poly fu
 
 abbrev pub made_powerset : Table → Bool → PowersetMaker → Meaning FinitePowerset
 made_powerset table full (powerset.OfPoly p) = on_one (poly_of table p) (pset full)
-made_powerset table full (powerset.OfTwo op s t) = on_two (powerset_of table s) (powerset_of table t) (of_two_powersets op full)
+made_powerset table full (powerset.OfTwo op s t) =
+    on_two (powerset_of table s) (powerset_of table t) (of_two_powersets op full)
 
 abbrev pub made_shape : Table → Bool → ShapeMaker → Meaning DifferenceShape
 made_shape table full (shape.OfPoly p) = on_one (poly_of table p) (shape_of_set full)
 made_shape table full (shape.Bounds n text) = bounds full n text
-made_shape table full (shape.OfTwo op s t) = on_two (shape_of table s) (shape_of table t) (of_two_shapes op full)
+made_shape table full (shape.OfTwo op s t) =
+    on_two (shape_of table s) (shape_of table t) (of_two_shapes op full)
 
 abbrev pub put_under : Table → List ℕ → Made → Meaning Change
 put_under table out (made.Poly by) = puts as_poly out (made_poly table (has_no_room table out) by)
 put_under table out (made.System n l) = puts as_system out (system (has_no_room table out) n l)
-put_under table out (made.Powerset by) = puts as_powerset out (made_powerset table (has_no_room table out) by)
-put_under table out (made.Shape by) = puts as_shape out (made_shape table (has_no_room table out) by)
-put_under table out (made.Hybrid s) = puts as_hybrid out (on_one (system_of table s) (hybrid (has_no_room table out)))
+put_under table out (made.Powerset by) =
+    puts as_powerset out (made_powerset table (has_no_room table out) by)
+put_under table out (made.Shape by) =
+    puts as_shape out (made_shape table (has_no_room table out) by)
+put_under table out (made.Hybrid s) =
+    puts as_hybrid out (on_one (system_of table s) (hybrid (has_no_room table out)))
 
 -- ---- what is said
 abbrev pub answered : Table → Asked → Meaning (List ℕ)
@@ -65,7 +70,8 @@ answered table (asked.OfPolyhedra question) = said as_poly table question
 answered table (asked.Psize s) = on_one (powerset_of table s) psize
 answered table (asked.Covers s t) = on_two (powerset_of table s) (powerset_of table t) covers
 answered table (asked.Ranking r) = on_one (poly_of table r) ranking
-answered table (asked.ShapeContains s t) = on_two (shape_of table s) (shape_of table t) shape_contains
+answered table (asked.ShapeContains s t) =
+    on_two (shape_of table s) (shape_of table t) shape_contains
 answered table (asked.ShapePrint s) = on_one (shape_of table s) shape_print
 
 -- ---- what is run
@@ -75,9 +81,14 @@ ran table prefix (running.Hybrid h delay) = on_one (hybrid_of table h) (reach ta
 
 -- ---- what is changed in part
 abbrev pub changed_part_of : Table → List ℕ → PartTask → Meaning Change
-changed_part_of table name (part.Initial location p) = on_one (system_of table name) (λ found. on_one (poly_of table p) (init name location found))
-changed_part_of table name (part.Transition source target r) = on_one (system_of table name) (λ found. on_one (poly_of table r) (trans name source target found))
-changed_part_of table name (part.Location of location p) = on_one (hybrid_of table name) (λ found. on_one (poly_of table p) (set_part of name location found))
+changed_part_of table name (part.Initial location p) =
+    on_one (system_of table name) (λ found. on_one (poly_of table p) (init name location found))
+changed_part_of table name (part.Transition source target r) =
+    on_one (system_of table name)
+    (λ found. on_one (poly_of table r) (trans name source target found))
+changed_part_of table name (part.Location of location p) =
+    on_one (hybrid_of table name)
+    (λ found. on_one (poly_of table p) (set_part of name location found))
 
 -- ---- tasks and commands
 abbrev pub on_table : Table → TableTask → Meaning Change

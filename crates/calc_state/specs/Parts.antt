@@ -30,9 +30,13 @@ init name location s p = record {
 -- trans S LOC LOC2 R
 abbrev pub trans : List ℕ → ℕ → ℕ → TransitionSystem → Polyhedron → Meaning Change
 trans name source target s relation = record {
-  conditions = misfits (2 * s.dim) relation ((length s.initial ≤ source) ⊎ (length s.initial ≤ target));
+  conditions =
+      misfits (2 * s.dim) relation ((length s.initial ≤ source) ⊎ (length s.initial ≤ target));
   overflows = no_overflow;
-  does = IsPutAs as_system name (λ changed. changed ≡ with_transition s (record { source = source; target = target; relation = relation }));
+  does =
+      IsPutAs as_system name
+      (λ changed. changed
+      ≡ with_transition s (record { source = source; target = target; relation = relation }));
 }
 
 -- the automaton with this invariant, or this flow, of the location

@@ -27,17 +27,20 @@ alike_unions s t others fault.DimMismatch = s.dim ≢ t.dim
 alike_unions s t others other = others other
 
 -- the overflows that a combination may show
-abbrev pub LeavesInPowersets : PowersetOperator → FinitePowerset → FinitePowerset → Overflow → Type 0
+abbrev pub LeavesInPowersets : PowersetOperator → FinitePowerset → FinitePowerset → Overflow
+    → Type 0
 LeavesInPowersets Join s t over = LeavesOnJoin s t over
 LeavesInPowersets Meet s t over = LeavesOnPairMeet s t over
 
 -- the combination of two unions
-abbrev pub IsPowersetOf : PowersetOperator → FinitePowerset → FinitePowerset → FinitePowerset → Type 0
+abbrev pub IsPowersetOf : PowersetOperator → FinitePowerset → FinitePowerset → FinitePowerset
+    → Type 0
 IsPowersetOf Join s t u = IsJoin s t u
 IsPowersetOf Meet s t u = IsPairMeet s t u
 
 -- join OUT S T, pmeet OUT S T
-abbrev pub of_two_powersets : PowersetOperator → Bool → FinitePowerset → FinitePowerset → Meaning FinitePowerset
+abbrev pub of_two_powersets : PowersetOperator → Bool → FinitePowerset → FinitePowerset
+    → Meaning FinitePowerset
 of_two_powersets op full s t = record {
   conditions = alike_unions s t (room full);
   overflows = LeavesInPowersets op s t;

@@ -62,7 +62,10 @@ pub record IsShapeOfConstraints (cs : Constraints) (s : DifferenceShape) : Type 
 -- bounds OUT N : CONS
 abbrev pub bounds : Bool → ℕ → Part → Meaning DifferenceShape
 bounds full n part = record {
-  conditions = small n (no_difference (SaysConstraints n part (λ cs. HasOther cs)) (with_text (constraints_fault Closed n part) (room full)));
+  conditions =
+      small n
+      (no_difference (SaysConstraints n part (λ cs. HasOther cs))
+      (with_text (constraints_fault Closed n part) (room full)));
   overflows = λ over. SaysConstraints n part (λ cs. LeavesInConstraints cs over);
   does = λ s. SaysConstraints n part (λ cs. IsShapeOfConstraints cs s);
 }
@@ -81,7 +84,8 @@ of_one_dim s t others fault.DimMismatch = s.dim ≢ t.dim
 of_one_dim s t others other = others other
 
 -- the points of both, or the smallest shape that includes both
-abbrev pub IsSetOfShapes : ShapeOperator → DifferenceShape → DifferenceShape → DifferenceShape → Type 0
+abbrev pub IsSetOfShapes : ShapeOperator → DifferenceShape → DifferenceShape → DifferenceShape
+    → Type 0
 IsSetOfShapes Meet s t r = IsMeet s t r
 IsSetOfShapes Hull s t r = IsHull s t r
 
@@ -96,7 +100,8 @@ pub record IsShapeBy (op : ShapeOperator) (s t r : DifferenceShape) : Type 0 whe
   pub set : IsSetOfShapes op s t r
 
 -- smeet OUT S T, shull OUT S T
-abbrev pub of_two_shapes : ShapeOperator → Bool → DifferenceShape → DifferenceShape → Meaning DifferenceShape
+abbrev pub of_two_shapes : ShapeOperator → Bool → DifferenceShape → DifferenceShape
+    → Meaning DifferenceShape
 of_two_shapes op full s t = record {
   conditions = of_one_dim s t (room full);
   overflows = LeavesInShapes op s t;

@@ -29,7 +29,8 @@ PutsProper (PutsAll prefix sets) = All IsProper sets.items
 PutsProper other = Unit {0}
 
 -- the command is accepted: it does what it means, and these are its lines and the table after it
-pub record IsAccepted (m : Meaning Change) (old : Table) (lines : List ℕ) (new : Table) : Type 0 where
+pub record IsAccepted (m : Meaning Change) (old : Table) (lines : List ℕ)
+    (new : Table) : Type 0 where
   pub passes : Passes m.conditions
   pub change : Change
   pub does : m.does change

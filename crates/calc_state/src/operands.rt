@@ -1,7 +1,4 @@
 //! What stands under the names of a line.
-//!
-//! A name that is of no use behind its look-up is taken by value: texts that are dropped in a large function make its
-//! proof long.
 ghost use Rattle.std.specs.Prelude.{◌≡◌};
 ghost use Rattle.std.specs.Option.{option_copied};
 ghost use Rattle.calc_state.specs.Table.{system_of, powerset_of, shape_of, hybrid_of};
@@ -15,7 +12,7 @@ use reply_text::Text;
 use trans_sys::System;
 
 /// The transition system under the name.
-pub fn system_under<'a>(names: &'a Names<Entry>, name: &Text) -> Option<&'a System>
+pub fn system_at<'a>(names: &'a Names<Entry>, name: &Text) -> Option<&'a System>
     ensures { option_copied result ≡ system_of names.now name.now }
 {
     match names.get(name.bytes()) {
@@ -25,7 +22,7 @@ pub fn system_under<'a>(names: &'a Names<Entry>, name: &Text) -> Option<&'a Syst
 }
 
 /// The hybrid automaton under the name.
-pub fn hybrid_under<'a>(names: &'a Names<Entry>, name: &Text) -> Option<&'a Hybrid>
+pub fn hybrid_at<'a>(names: &'a Names<Entry>, name: &Text) -> Option<&'a Hybrid>
     ensures { option_copied result ≡ hybrid_of names.now name.now }
 {
     match names.get(name.bytes()) {
@@ -34,16 +31,9 @@ pub fn hybrid_under<'a>(names: &'a Names<Entry>, name: &Text) -> Option<&'a Hybr
     }
 }
 
-/// The transition system under the name.
-pub fn system_at(names: &Names<Entry>, name: Text) -> Option<&System>
-    ensures { option_copied result ≡ system_of names.now name }
-{
-    system_under(names, &name)
-}
-
 /// The powerset under the name.
-pub fn powerset_at(names: &Names<Entry>, name: Text) -> Option<&Powerset>
-    ensures { option_copied result ≡ powerset_of names.now name }
+pub fn powerset_at<'a>(names: &'a Names<Entry>, name: &Text) -> Option<&'a Powerset>
+    ensures { option_copied result ≡ powerset_of names.now name.now }
 {
     match names.get(name.bytes()) {
         Some(Entry::Powerset(s)) => Some(s),
@@ -52,18 +42,11 @@ pub fn powerset_at(names: &Names<Entry>, name: Text) -> Option<&Powerset>
 }
 
 /// The bounded-difference shape under the name.
-pub fn shape_at(names: &Names<Entry>, name: Text) -> Option<&Shape>
-    ensures { option_copied result ≡ shape_of names.now name }
+pub fn shape_at<'a>(names: &'a Names<Entry>, name: &Text) -> Option<&'a Shape>
+    ensures { option_copied result ≡ shape_of names.now name.now }
 {
     match names.get(name.bytes()) {
         Some(Entry::Shape(s)) => Some(s),
         _ => None,
     }
-}
-
-/// The hybrid automaton under the name.
-pub fn hybrid_at(names: &Names<Entry>, name: Text) -> Option<&Hybrid>
-    ensures { option_copied result ≡ hybrid_of names.now name }
-{
-    hybrid_under(names, &name)
 }

@@ -9,7 +9,7 @@ ghost use Rattle.command_tasks.specs.Tasks.{AskedFits, PolyMakerFits, ShapeMaker
 use crate::change::{put_hybrid, put_powerset, put_shape, put_system};
 use crate::entry::Entry;
 use crate::hybrids::{hybrid, reach};
-use crate::operands::{hybrid_at, hybrid_under, powerset_at, shape_at, system_at, system_under};
+use crate::operands::{hybrid_at, powerset_at, shape_at, system_at};
 use crate::part_tests::{added_transition, replaced_initial, replaced_part};
 use crate::parts::PartChange;
 use crate::powersets::{covers, member, of_two_powersets, pset, psize};
@@ -20,7 +20,7 @@ use bd_shape::Shape;
 use command_tasks::{
     Asked, Made, PartTask, PolyMaker, PowersetMaker, Running, ShapeMaker, TableTask,
 };
-use line_values::{Change, StepErr, is_full, poly_at, poly_under, put_numbered, put_poly, say};
+use line_values::{Change, StepErr, is_full, poly_at, put_numbered, put_poly, say};
 use name_table::Names;
 use poly_commands::{add_to, ask, drop_name, make};
 use poly_pair::Poly;
@@ -46,7 +46,7 @@ pub fn change_of<L: Ledger>(
         TableTask::Asks(asked) => say(answer_to(alloc, names, asked, steps)),
         TableTask::Puts(out, made) => put_made(alloc, names, out, made, steps),
         TableTask::AddsTo(p, addition) => {
-            let made = add_to(alloc, poly_under(names, &p), addition, steps);
+            let made = add_to(alloc, poly_at(names, &p), addition, steps);
             put_poly(p, made)
         }
         TableTask::PutsAll(prefix, running) => {
@@ -73,7 +73,7 @@ fn put_made<L: Ledger>(
         Made::System(n, locations) => put_system(out, system(alloc, n, locations, full)),
         Made::Powerset(by) => put_powerset(out, make_powerset(alloc, names, by, full, steps)),
         Made::Shape(by) => put_shape(out, make_shape(alloc, names, by, full)),
-        Made::Hybrid(s) => put_hybrid(out, hybrid(alloc, system_at(names, s), full)),
+        Made::Hybrid(s) => put_hybrid(out, hybrid(alloc, system_at(names, &s), full)),
     }
 }
 
@@ -90,9 +90,9 @@ fn make_poly<L: Ledger>(
 {
     match by {
         PolyMaker::OfPolyhedra(maker) => make(alloc, names, maker, full, steps),
-        PolyMaker::Member(s, i) => member(powerset_at(names, s), i, full),
-        PolyMaker::Rank(r) => rank(alloc, poly_at(names, r), full, steps),
-        PolyMaker::OfShape(s) => shape_poly(alloc, shape_at(names, s), full, steps),
+        PolyMaker::Member(s, i) => member(powerset_at(names, &s), i, full),
+        PolyMaker::Rank(r) => rank(alloc, poly_at(names, &r), full, steps),
+        PolyMaker::OfShape(s) => shape_poly(alloc, shape_at(names, &s), full, steps),
     }
 }
 
@@ -107,10 +107,10 @@ fn make_powerset<L: Ledger>(
     ensures { IsPerformed (made_powerset names.now full by) result }
 {
     match by {
-        PowersetMaker::OfPoly(p) => pset(alloc, poly_at(names, p), full),
+        PowersetMaker::OfPoly(p) => pset(alloc, poly_at(names, &p), full),
         PowersetMaker::OfTwo(op, s, t) => {
-            let one = powerset_at(names, s);
-            of_two_powersets(alloc, op, one, powerset_at(names, t), full, steps)
+            let one = powerset_at(names, &s);
+            of_two_powersets(alloc, op, one, powerset_at(names, &t), full, steps)
         }
     }
 }
@@ -126,11 +126,11 @@ fn make_shape(
     ensures { IsPerformed (made_shape names.now full by) result }
 {
     match by {
-        ShapeMaker::OfPoly(p) => shape_of_set(alloc, poly_at(names, p), full),
+        ShapeMaker::OfPoly(p) => shape_of_set(alloc, poly_at(names, &p), full),
         ShapeMaker::Bounds(n, part) => bounds(alloc, n, &part, full),
         ShapeMaker::OfTwo(op, s, t) => {
-            let one = shape_at(names, s);
-            of_two_shapes(alloc, op, one, shape_at(names, t), full)
+            let one = shape_at(names, &s);
+            of_two_shapes(alloc, op, one, shape_at(names, &t), full)
         }
     }
 }
@@ -147,17 +147,17 @@ fn answer_to<L: Ledger>(
 {
     match asked {
         Asked::OfPolyhedra(question) => ask(alloc, names, question, steps),
-        Asked::Psize(s) => psize(alloc, powerset_at(names, s)),
+        Asked::Psize(s) => psize(alloc, powerset_at(names, &s)),
         Asked::Covers(s, t) => {
-            let one = powerset_at(names, s);
-            covers(alloc, one, powerset_at(names, t), steps)
+            let one = powerset_at(names, &s);
+            covers(alloc, one, powerset_at(names, &t), steps)
         }
-        Asked::Ranking(r) => ranking(alloc, poly_at(names, r), steps),
+        Asked::Ranking(r) => ranking(alloc, poly_at(names, &r), steps),
         Asked::ShapeContains(s, t) => {
-            let one = shape_at(names, s);
-            shape_contains(alloc, one, shape_at(names, t))
+            let one = shape_at(names, &s);
+            shape_contains(alloc, one, shape_at(names, &t))
         }
-        Asked::ShapePrint(s) => shape_print(alloc, shape_at(names, s)),
+        Asked::ShapePrint(s) => shape_print(alloc, shape_at(names, &s)),
     }
 }
 
@@ -173,9 +173,16 @@ fn run<L: Ledger>(
 {
     match running {
         Running::System(s, delay) => {
-            fixpoint(alloc, names, system_at(names, s), delay, prefix, steps)
+            fixpoint(alloc, names, system_at(names, &s), delay, prefix, steps)
         }
-        Running::Hybrid(h, delay) => reach(alloc, names, hybrid_at(names, h), delay, prefix, steps),
+        Running::Hybrid(h, delay) => reach(
+            alloc,
+            names,
+            hybrid_at(names, &h),
+            delay,
+            prefix,
+            steps,
+        ),
     }
 }
 
@@ -190,13 +197,13 @@ pub fn part_change_of(
 {
     match task {
         PartTask::Initial(location, p) => {
-            replaced_initial(system_under(names, name), location, poly_at(names, p))
+            replaced_initial(system_at(names, name), location, poly_at(names, &p))
         }
         PartTask::Transition(source, target, r) => {
-            added_transition(system_under(names, name), source, target, poly_at(names, r))
+            added_transition(system_at(names, name), source, target, poly_at(names, &r))
         }
         PartTask::Location(part, location, p) => {
-            replaced_part(part, hybrid_under(names, name), location, poly_at(names, p))
+            replaced_part(part, hybrid_at(names, name), location, poly_at(names, &p))
         }
     }
 }

@@ -1,5 +1,5 @@
 -- What each command asks of the calculator.
-use Rattle.std.specs.Prelude.{ℕ, List, Bool}
+use Rattle.std.specs.Prelude.{◌≡◌, ℕ, List, Bool}
 use Rattle.script_text.specs.declared.command.Command.{Command}
 use Rattle.script_text.specs.declared.command.Command.TheVariants as command
 use Rattle.command_tasks.specs.declared.on_polyhedra.Maker.TheVariants as maker
@@ -76,8 +76,32 @@ abbrev pub changes : List ℕ → PartTask → Task
 changes name what = task.ChangesPart name what
 
 -- ---- the task of each command
+-- on systems, powersets, shapes, automata or ranking functions; no other asks anything
+abbrev pub further_task : Command → Task
+further_task (command.System out n l) = puts out (made.System n l)
+further_task (command.Init s location p) = changes s (part.Initial location p)
+further_task (command.Trans s source target r) = changes s (part.Transition source target r)
+further_task (command.Fixpoint s delay prefix) = runs prefix (running.System s delay)
+further_task (command.Pset out p) = puts_powerset out (powerset.OfPoly p)
+further_task (command.OfTwoPowersets op out s t) = puts_powerset out (powerset.OfTwo op s t)
+further_task (command.Member out s i) = puts_poly out (poly.Member s i)
+further_task (command.Psize s) = tells (asked.Psize s)
+further_task (command.Covers s t) = tells (asked.Covers s t)
+further_task (command.Rank out r) = puts_poly out (poly.Rank r)
+further_task (command.Ranking r) = tells (asked.Ranking r)
+further_task (command.ShapeOf out p) = puts_shape out (shape.OfPoly p)
+further_task (command.Bounds out n text) = puts_shape out (shape.Bounds n text)
+further_task (command.OfTwoShapes op out s t) = puts_shape out (shape.OfTwo op s t)
+further_task (command.ShapeContains s t) = tells (asked.ShapeContains s t)
+further_task (command.ShapePrint s) = tells (asked.ShapePrint s)
+further_task (command.ShapePoly out s) = puts_poly out (poly.OfShape s)
+further_task (command.Hybrid out s) = puts out (made.Hybrid s)
+further_task (command.SetPart of h location p) = changes h (part.Location of location p)
+further_task (command.Reach h delay prefix) = runs prefix (running.Hybrid h delay)
+further_task other = task.OnTable table.Nothing
+
+-- on polyhedra, names and files, and those
 abbrev pub task_of : Command → Task
-task_of command.Nothing = task.OnTable table.Nothing
 task_of (command.Cons out top n text) = makes_alone out top n (given.Cons text)
 task_of (command.Gens out top n text) = makes_alone out top n (given.Gens text)
 task_of (command.Space space out top n) = makes_alone out top n (given.Space space)
@@ -101,26 +125,12 @@ task_of (command.Remove out p vars) = makes_of_one out p (one.Remove vars)
 task_of (command.Widen out p q) = makes_of_two out p q two.Widen
 task_of (command.Read out form) = task.Opens out form
 task_of (command.Write p form) = asks_about p (about.Write form)
-task_of (command.System out n l) = puts out (made.System n l)
-task_of (command.Init s location p) = changes s (part.Initial location p)
-task_of (command.Trans s source target r) = changes s (part.Transition source target r)
-task_of (command.Fixpoint s delay prefix) = runs prefix (running.System s delay)
-task_of (command.Pset out p) = puts_powerset out (powerset.OfPoly p)
-task_of (command.OfTwoPowersets op out s t) = puts_powerset out (powerset.OfTwo op s t)
-task_of (command.Member out s i) = puts_poly out (poly.Member s i)
-task_of (command.Psize s) = tells (asked.Psize s)
-task_of (command.Covers s t) = tells (asked.Covers s t)
-task_of (command.Rank out r) = puts_poly out (poly.Rank r)
-task_of (command.Ranking r) = tells (asked.Ranking r)
-task_of (command.ShapeOf out p) = puts_shape out (shape.OfPoly p)
-task_of (command.Bounds out n text) = puts_shape out (shape.Bounds n text)
-task_of (command.OfTwoShapes op out s t) = puts_shape out (shape.OfTwo op s t)
-task_of (command.ShapeContains s t) = tells (asked.ShapeContains s t)
-task_of (command.ShapePrint s) = tells (asked.ShapePrint s)
-task_of (command.ShapePoly out s) = puts_poly out (poly.OfShape s)
-task_of (command.Hybrid out s) = puts out (made.Hybrid s)
-task_of (command.SetPart of h location p) = changes h (part.Location of location p)
-task_of (command.Reach h delay prefix) = runs prefix (running.Hybrid h delay)
+task_of further = further_task further
+
+-- nothing is asked by a blank line alone
+abbrev pub OnlyBlankAsksNothing : Type 0
+OnlyBlankAsksNothing =
+    (x : Command) → task_of x ≡ task.OnTable table.Nothing → x ≡ command.Nothing
 
 -- ---- the parts of a task: each has the form that the reader of its value asks for
 abbrev pub AskedFits : Asked → Type 0

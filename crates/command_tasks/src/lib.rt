@@ -6,10 +6,12 @@
 //! - [`PartTask`] changes a part of an entry.
 #![tactic(auto)]
 
+mod laws;
 mod on_polyhedra;
 mod taking_apart;
 mod tasks;
 
+pub use laws::each_command_asks;
 pub use on_polyhedra::{About, Addition, Given, Maker, OfOne, OfTwo, Question};
 pub use taking_apart::task_of;
 pub use tasks::{

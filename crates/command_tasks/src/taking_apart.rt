@@ -1,6 +1,6 @@
 //! The task of each command.
 ghost use Rattle.std.specs.Prelude.{◌≡◌};
-ghost use Rattle.command_tasks.specs.Tasks.{task_of, puts, puts_poly, makes_alone, makes_of_one, makes_of_two, puts_powerset, puts_shape, adds, tells, asks, asks_about, runs, changes};
+ghost use Rattle.command_tasks.specs.Tasks.{task_of, further_task, puts, puts_poly, makes_alone, makes_of_one, makes_of_two, puts_powerset, puts_shape, adds, tells, asks, asks_about, runs, changes};
 
 use crate::on_polyhedra::{About, Addition, Given, Maker, OfOne, OfTwo, Question};
 use crate::tasks::{
@@ -14,7 +14,6 @@ pub fn task_of(command: Command) -> Task
     ensures { result ≡ task_of command }
 {
     match command {
-        Command::Nothing => Task::OnTable(TableTask::Nothing),
         Command::Cons { out, top, n, cons } => makes_alone(out, top, n, Given::Cons(cons)),
         Command::Gens { out, top, n, gens } => makes_alone(out, top, n, Given::Gens(gens)),
         Command::Space { space, out, top, n } => makes_alone(out, top, n, Given::Space(space)),
@@ -45,6 +44,15 @@ pub fn task_of(command: Command) -> Task
         Command::Widen { out, p, q } => makes_of_two(out, p, q, OfTwo::Widen),
         Command::Read { out, form } => Task::Opens(out, form),
         Command::Write { p, form } => asks_about(p, About::Write(form)),
+        further => further_task(further),
+    }
+}
+
+/// The same of a command on systems, powersets, shapes, automata or ranking functions; no other asks anything.
+fn further_task(command: Command) -> Task
+    ensures { result ≡ further_task command }
+{
+    match command {
         Command::System { out, n, l } => puts(out, Made::System(n, l)),
         Command::Init { s, loc, p } => changes(s, PartTask::Initial(loc, p)),
         Command::Trans { s, loc, loc2, r } => changes(s, PartTask::Transition(loc, loc2, r)),
@@ -68,6 +76,7 @@ pub fn task_of(command: Command) -> Task
         Command::Hybrid { out, s } => puts(out, Made::Hybrid(s)),
         Command::SetPart { part, h, loc, p } => changes(h, PartTask::Location(part, loc, p)),
         Command::Reach { h, delay, prefix } => runs(prefix, Running::Hybrid(h, delay)),
+        _ => Task::OnTable(TableTask::Nothing),
     }
 }
 

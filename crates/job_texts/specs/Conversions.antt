@@ -35,9 +35,11 @@ pub record IsOtherFile (want : Format) (bytes text : List ℕ) : Type 0 where
 
 -- what a file is answered that is taken for one of this kind
 abbrev pub ConvertsTo : Format → List ℕ → Reply → Type 0
-ConvertsTo want bytes (Answered text) = NoneOf (conversion_tests want bytes) × IsOtherFile want bytes text
+ConvertsTo want bytes (Answered text) =
+    NoneOf (conversion_tests want bytes) × IsOtherFile want bytes text
 ConvertsTo want bytes (Refused f) = IsFirstOf (conversion_tests want bytes) f
-ConvertsTo want bytes (Overflows over) = NoneOf (conversion_tests want bytes) × LeavesOnFirstOfFile want bytes over
+ConvertsTo want bytes (Overflows over) =
+    NoneOf (conversion_tests want bytes) × LeavesOnFirstOfFile want bytes over
 
 -- what was given is such a reply, or memory ran out
 abbrev pub GivesConversion : Format → List ℕ → Result (List ℕ) StepErr → Type 0

@@ -38,11 +38,14 @@ maximum_text (sup.At num den attained index) = signed_decimal num ++ codes "/" +
 
 -- the number of rows, and how many constraints and how many generators are stored
 abbrev pub counts_text : ℕ → ℕ → ℕ → List ℕ
-counts_text n constraints generators = codes "sample " ++ decimal n ++ codes " constraints " ++ decimal constraints ++ codes " generators " ++ decimal generators
+counts_text n constraints generators =
+    codes "sample " ++ decimal n ++ codes " constraints " ++ decimal constraints
+    ++ codes " generators " ++ decimal generators
 
 -- these, and the maximum
 abbrev pub sample_text : ℕ → ℕ → ℕ → Sup → List ℕ
-sample_text n constraints generators maximum = counts_text n constraints generators ++ codes " max " ++ maximum_text maximum
+sample_text n constraints generators maximum =
+    counts_text n constraints generators ++ codes " max " ++ maximum_text maximum
 
 -- the text is the line of the sample: of its polyhedron, and of the maximum of B - A on it
 pub record IsSampleLine (n : ℕ) (text : List ℕ) : Type 0 where
@@ -51,7 +54,8 @@ pub record IsSampleLine (n : ℕ) (text : List ℕ) : Type 0 where
   pub maximum : Sup
   pub answer : SupAnswer true difference polyhedron.gens (Ok maximum)
   pub true_of : IsTrueSup true difference polyhedron maximum
-  pub text_is : text ≡ line (sample_text n (length polyhedron.cons.list) (length polyhedron.gens.list) maximum)
+  pub text_is : text
+      ≡ line (sample_text n (length polyhedron.cons.list) (length polyhedron.gens.list) maximum)
 
 -- ---- overflows
 -- of the conversion of the sample's constraint list, or of its second list
@@ -64,7 +68,8 @@ pub record LeavesOnRows (n : ℕ) (over : Overflow) : Type 0 where
 pub record LeavesOnMaximum (n : ℕ) (over : Overflow) : Type 0 where
   pub polyhedron : Polyhedron
   pub of_sample : IsOfSample n polyhedron
-  pub leaves : ShowsValues (SearchLeaves true difference polyhedron.gens) difference polyhedron.gens over
+  pub leaves : ShowsValues
+      (SearchLeaves true difference polyhedron.gens) difference polyhedron.gens over
 
 -- of either
 abbrev pub LeavesOnSample : ℕ → Overflow → Type 0

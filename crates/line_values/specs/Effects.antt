@@ -16,7 +16,8 @@ IsReply Is (Says text) = Is text
 IsReply Is other = ⊥
 
 -- an entry of a kind with this property is put under the name
-abbrev pub IsPutAs : {A E : Type 0} → (Option E → Option A) → List ℕ → (A → Type 0) → Change E → Type 0
+abbrev pub IsPutAs : {A E : Type 0} → (Option E → Option A) → List ℕ → (A → Type 0) → Change E
+    → Type 0
 IsPutAs kind out Is (Puts name e) = (name ≡ out) × MatchOption (kind (Some e)) ⊥ Is
 IsPutAs kind out Is other = ⊥
 
@@ -33,7 +34,8 @@ IsTakenOut name other = ⊥
 -- ---- what a command makes or says
 -- what the command makes is put under the name, as an entry of its kind
 abbrev pub puts : {A E : Type 0} → (Option E → Option A) → List ℕ → Meaning A → Meaning (Change E)
-puts kind out m = record { conditions = m.conditions; overflows = m.overflows; does = IsPutAs kind out m.does }
+puts kind out m =
+    record { conditions = m.conditions; overflows = m.overflows; does = IsPutAs kind out m.does }
 
 -- what the command says is the reply
 abbrev pub tells : {E : Type 0} → Meaning (List ℕ) → Meaning (Change E)
@@ -45,7 +47,8 @@ placed kind out (Ok made) = Ok (Puts out (kind made))
 placed kind out (Err cause) = Err cause
 
 -- what came of making polyhedra, as a change of the table
-abbrev pub all_placed : {E : Type 0} → List ℕ → Result (Vec Polyhedron Global) StepErr → Result (Change E) StepErr
+abbrev pub all_placed : {E : Type 0} → List ℕ → Result (Vec Polyhedron Global) StepErr
+    → Result (Change E) StepErr
 all_placed prefix (Ok sets) = Ok (PutsAll prefix sets)
 all_placed prefix (Err cause) = Err cause
 
@@ -68,10 +71,13 @@ lines_of other = ok_line
 abbrev pub after : {E : Type 0} → (Polyhedron → E) → Table E → Change E → Table E
 after of_poly table (Says text) = table
 after of_poly table (Puts name e) = put table name e
-after of_poly table (PutsAll prefix sets) = put_each table (numbered_entries prefix 0 (map of_poly sets.items))
+after of_poly table (PutsAll prefix sets) =
+    put_each table (numbered_entries prefix 0 (map of_poly sets.items))
 after of_poly table (TakesOut name) = without table name
 
 -- the change is made and its lines are given, or memory ran out and the table is as before
-abbrev pub Shows : {E : Type 0} → (Polyhedron → E) → Table E → Change E → Result (List ℕ) Memory → Table E → Type 0
-Shows of_poly old change (Ok lines) new = (lines ≡ lines_of change) × (new ≡ after of_poly old change)
+abbrev pub Shows : {E : Type 0} → (Polyhedron → E) → Table E → Change E → Result (List ℕ) Memory
+    → Table E → Type 0
+Shows of_poly old change (Ok lines) new =
+    (lines ≡ lines_of change) × (new ≡ after of_poly old change)
 Shows of_poly old change (Err memory) new = new ≡ old

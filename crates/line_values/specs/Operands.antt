@@ -25,5 +25,6 @@ topology_of false = Closed
 topology_of true = Nnc
 
 -- the polyhedron under the name, in a table of which some entries are polyhedra
-abbrev pub poly_of : {E : Type 0} → (Option E → Option Polyhedron) → Table E → List ℕ → Option Polyhedron
+abbrev pub poly_of : {E : Type 0} → (Option E → Option Polyhedron) → Table E → List ℕ
+    → Option Polyhedron
 poly_of as_poly table name = as_poly (entry_of table name)

@@ -8,8 +8,10 @@ use Rattle.poly_pair.specs.declared.topology.Topology.{Topology}
 
 -- the overflow shows a number outside the range in the conversion of the topology's constraint list, or of its second list
 abbrev pub LeavesOnConstraints : Topology → Constraints → Overflow → Type 0
-LeavesOnConstraints topology cs over = LeavesOn (list_width topology cs.dim) cs.dim (constraints_of topology cs) over
+LeavesOnConstraints topology cs over =
+    LeavesOn (list_width topology cs.dim) cs.dim (constraints_of topology cs) over
 
 -- in that of the topology's generator list, or of its second list
 abbrev pub LeavesOnGenerators : Topology → Generators → Overflow → Type 0
-LeavesOnGenerators topology gs over = LeavesOn (list_width topology gs.dim) gs.dim (generators_of topology gs) over
+LeavesOnGenerators topology gs over =
+    LeavesOn (list_width topology gs.dim) gs.dim (generators_of topology gs) over

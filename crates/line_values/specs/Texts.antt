@@ -40,7 +40,8 @@ constraints_fault topology dim part other = ⊥
 -- of a text of generators
 abbrev pub generators_fault : Topology → ℕ → Part → Conditions
 generators_fault topology dim part fault.OutOfRange = IsGensFault dim part.text fault.OutOfRange
-generators_fault topology dim part fault.NumberTooLarge = IsGensFault dim part.text fault.NumberTooLarge
+generators_fault topology dim part fault.NumberTooLarge =
+    IsGensFault dim part.text fault.NumberTooLarge
 generators_fault topology dim part fault.ZeroDivisor = IsGensFault dim part.text fault.ZeroDivisor
 generators_fault topology dim part fault.StrictInClosed = IsStrictIn topology part
 generators_fault topology dim part fault.ZeroVector = IsGensFault dim part.text fault.ZeroVector
@@ -76,9 +77,12 @@ IsStrictFor topology rel = ⊥
 
 -- of a variable of a set, a relation, and the text of the expression with a divisor to which the variable stands so
 abbrev pub fraction_fault : Topology → ℕ → ℕ → Rel → Part → Conditions
-fraction_fault topology dim v rel part fault.OutOfRange = (dim ≤ v) ⊎ IsFracFault dim part.text value.OutOfRange
-fraction_fault topology dim v rel part fault.NumberTooLarge = IsFracFault dim part.text value.TooLarge
-fraction_fault topology dim v rel part fault.ZeroDivisor = IsFracFault dim part.text value.ZeroDivisor
+fraction_fault topology dim v rel part fault.OutOfRange =
+    (dim ≤ v) ⊎ IsFracFault dim part.text value.OutOfRange
+fraction_fault topology dim v rel part fault.NumberTooLarge =
+    IsFracFault dim part.text value.TooLarge
+fraction_fault topology dim v rel part fault.ZeroDivisor =
+    IsFracFault dim part.text value.ZeroDivisor
 fraction_fault topology dim v rel part fault.StrictInClosed = IsStrictFor topology rel
 fraction_fault topology dim v rel part other = ⊥
 
@@ -95,7 +99,9 @@ with_text text others other = others other
 -- ---- what came of a text
 -- the order of the tests of a text
 abbrev pub text_order : List Fault
-text_order = fault.OutOfRange ∷ fault.NumberTooLarge ∷ fault.ZeroDivisor ∷ fault.StrictInClosed ∷ fault.NotDifference ∷ fault.ZeroVector ∷ []
+text_order =
+    fault.OutOfRange ∷ fault.NumberTooLarge ∷ fault.ZeroDivisor ∷ fault.StrictInClosed
+    ∷ fault.NotDifference ∷ fault.ZeroVector ∷ []
 
 -- the text is refused for the first of its faults, or memory ran out
 abbrev pub IsTextRefusal : Conditions → StepErr → Type 0
@@ -109,13 +115,15 @@ refusal_of_unread (unread.Input fault.ZeroVector) true = err.Input fault.StrictI
 refusal_of_unread cause strict = refusal_of_reading cause
 
 -- the part's text has no fault for the topology, and says this system of constraints
-pub record ReadsConstraints (topology : Topology) (dim : ℕ) (part : Part) (system : Constraints) : Type 0 where
+pub record ReadsConstraints (topology : Topology) (dim : ℕ) (part : Part)
+    (system : Constraints) : Type 0 where
   pub faultless : NoneOf text_order (constraints_fault topology dim part)
   pub read : IsCons dim part.text system
   pub kinds : AreConstraintsFor topology system
 
 -- the same of generators
-pub record ReadsGenerators (topology : Topology) (dim : ℕ) (part : Part) (system : Generators) : Type 0 where
+pub record ReadsGenerators (topology : Topology) (dim : ℕ) (part : Part)
+    (system : Generators) : Type 0 where
   pub faultless : NoneOf text_order (generators_fault topology dim part)
   pub read : IsGens dim part.text system
   pub kinds : AreGeneratorsFor topology system
@@ -139,7 +147,8 @@ pub record ReadsExpression (dim : ℕ) (part : Part) (row : List ℤ) : Type 0 w
   pub wide : length row ≡ dim + 1
 
 -- the variable is below the dimension, and the text has no fault and says this expression with this divisor
-pub record ReadsFraction (topology : Topology) (dim v : ℕ) (rel : Rel) (part : Part) (expr : List ℤ) (divisor : ℤ) : Type 0 where
+pub record ReadsFraction (topology : Topology) (dim v : ℕ) (rel : Rel) (part : Part) (expr : List ℤ)
+    (divisor : ℤ) : Type 0 where
   pub faultless : NoneOf text_order (fraction_fault topology dim v rel part)
   pub within : v < dim
   pub read : IsFrac dim part.text expr divisor

@@ -18,7 +18,8 @@ use std::alloc::Global;
 
 /// The line `yes` or `no`.
 pub fn answer(alloc: Global, holds: bool) -> Result<Text, StepErr>
-    ensures { MatchResult result (λ text. text ≡ answer_line holds) (λ cause. cause ≡ refusal.Memory) }
+    ensures { MatchResult result (λ text. text ≡ answer_line holds)
+        (λ cause. cause ≡ refusal.Memory) }
 {
     let mut text = Text::new(alloc);
     text.push(if holds { b"yes\n" } else { b"no\n" })?;

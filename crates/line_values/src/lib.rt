@@ -4,7 +4,7 @@
 //! - [`constraints_of`], [`generators_of`], [`point_of`], [`constraint_of`], [`expression_of`] and
 //!   [`fraction_of`] read the part of a line, or give its first fault.
 //! - [`Change`] is what an accepted command does, over entries of which some are polyhedra ([`PolyEntry`]).
-//! - [`poly_at`] and [`poly_under`] look a polyhedron up, and [`is_full`] tells whether there is no room for a name.
+//! - [`poly_at`] looks a polyhedron up, and [`is_full`] tells whether there is no room for a name.
 //! - [`answer`] and [`no_with_point`] are lines that answer a question.
 #![tactic(auto)]
 
@@ -19,7 +19,7 @@ mod texts;
 pub use answers::{answer, no_with_point};
 pub use change::{Change, as_line, ok, put_entry, put_numbered, put_poly, say};
 pub use entry::PolyEntry;
-pub use operands::{format_of, is_full, is_max, poly_at, poly_under, topology_of};
+pub use operands::{format_of, is_full, is_max, poly_at, topology_of};
 pub use proper::is_proper;
 pub use refusal::StepErr;
 pub use texts::{

@@ -1,7 +1,4 @@
 //! The polyhedra under the names of a line, and what its words say.
-//!
-//! A name that is of no use behind its look-up is taken by value: texts that are dropped in a large function make its
-//! proof long.
 ghost use Rattle.std.specs.Prelude.{◌≡◌};
 ghost use Rattle.std.specs.Option.{option_copied};
 ghost use Rattle.name_table.specs.Table.{has_no_room};
@@ -46,18 +43,11 @@ pub fn is_full<E: PolyEntry>(names: &Names<E>, name: &Text) -> bool
 }
 
 /// The polyhedron under the name.
-pub fn poly_under<'a, E: PolyEntry>(names: &'a Names<E>, name: &Text) -> Option<&'a Poly>
+pub fn poly_at<'a, E: PolyEntry>(names: &'a Names<E>, name: &Text) -> Option<&'a Poly>
     ensures { option_copied result ≡ poly_of E.as_poly names.now name.now }
 {
     match names.get(name.bytes()) {
         Some(entry) => entry.as_poly(),
         None => None,
     }
-}
-
-/// The polyhedron under the name.
-pub fn poly_at<E: PolyEntry>(names: &Names<E>, name: Text) -> Option<&Poly>
-    ensures { option_copied result ≡ poly_of E.as_poly names.now name }
-{
-    poly_under(names, &name)
 }

@@ -38,7 +38,8 @@ pub fn constraints_of(
     requires narrow { dim ≤ MAX_DIM }
     requires form { Matches (alone cons_cases) part.now.text }
     requires told { part.now.strict ≡ is_strict part.now.text }
-    ensures { MatchResult result (ReadsConstraints topology dim part.now) (IsTextRefusal (constraints_fault topology dim part.now)) }
+    ensures { MatchResult result (ReadsConstraints topology dim part.now)
+        (IsTextRefusal (constraints_fault topology dim part.now)) }
 {
     one_answer();
     let strict = is_strict_in(topology, part);
@@ -59,7 +60,8 @@ pub fn generators_of(
     requires narrow { dim ≤ MAX_DIM }
     requires form { Matches (alone gens_cases) part.now.text }
     requires told { part.now.strict ≡ is_strict part.now.text }
-    ensures { MatchResult result (ReadsGenerators topology dim part.now) (IsTextRefusal (generators_fault topology dim part.now)) }
+    ensures { MatchResult result (ReadsGenerators topology dim part.now)
+        (IsTextRefusal (generators_fault topology dim part.now)) }
 {
     one_answer();
     let strict = is_strict_in(topology, part);
@@ -85,7 +87,8 @@ fn unread_refusal(cause: ReadErr, strict: bool) -> StepErr
 pub fn point_of(alloc: Global, part: &Part, dim: usize) -> Result<RowBuf, StepErr>
     requires narrow { dim ≤ MAX_DIM }
     requires form { Matches (alone point_cases) part.now.text }
-    ensures { MatchResult result (ReadsPoint dim part.now) (IsTextRefusal (point_fault dim part.now)) }
+    ensures { MatchResult result (ReadsPoint dim part.now)
+        (IsTextRefusal (point_fault dim part.now)) }
 {
     one_answer();
     match term_text::point_of(alloc, dim, part.text.bytes()) {
@@ -98,7 +101,8 @@ pub fn point_of(alloc: Global, part: &Part, dim: usize) -> Result<RowBuf, StepEr
 pub fn constraint_of(alloc: Global, part: &Part, dim: usize) -> Result<OneCon, StepErr>
     requires narrow { dim ≤ MAX_DIM }
     requires form { Matches (alone con_cases) part.now.text }
-    ensures { MatchResult result (λ con. ReadsConstraint dim part.now con.row con.kind) (IsTextRefusal (constraint_fault dim part.now)) }
+    ensures { MatchResult result (λ con. ReadsConstraint dim part.now con.row con.kind)
+        (IsTextRefusal (constraint_fault dim part.now)) }
 {
     one_answer();
     match con_of(alloc, dim, part.text.bytes()) {
@@ -111,7 +115,8 @@ pub fn constraint_of(alloc: Global, part: &Part, dim: usize) -> Result<OneCon, S
 pub fn expression_of(alloc: Global, part: &Part, dim: usize) -> Result<RowBuf, StepErr>
     requires narrow { dim ≤ MAX_DIM }
     requires form { Matches (alone expr_cases) part.now.text }
-    ensures { MatchResult result (ReadsExpression dim part.now) (IsTextRefusal (expression_fault dim part.now)) }
+    ensures { MatchResult result (ReadsExpression dim part.now)
+        (IsTextRefusal (expression_fault dim part.now)) }
 {
     one_answer();
     match expr_of(alloc, dim, part.text.bytes()) {
@@ -134,7 +139,9 @@ fn is_strict_for(topology: Topology, rel: Rel) -> bool
 /// The expression and the divisor that the part says, for a variable of the set that stands so to them.
 pub fn fraction_of(alloc: Global, p: &Poly, v: u64, rel: Rel, part: &Part) -> Result<Frac, StepErr>
     requires form { Matches (alone frac_cases) part.now.text }
-    ensures { MatchResult result (λ frac. ReadsFraction p.now.topology p.now.cons.dim v rel part.now frac.expr frac.den) (IsTextRefusal (fraction_fault p.now.topology p.now.cons.dim v rel part.now)) }
+    ensures { MatchResult result
+        (λ frac. ReadsFraction p.now.topology p.now.cons.dim v rel part.now frac.expr frac.den)
+        (IsTextRefusal (fraction_fault p.now.topology p.now.cons.dim v rel part.now)) }
 {
     one_answer();
     let strict = is_strict_for(p.topology(), rel);

@@ -73,7 +73,8 @@ pub record LeavesInLastRound (l : WhileLoop) (start : Polyhedron) (over : Overfl
   pub leaves : LeavesInRound l invariant over ⊎ LeavesOnHull l invariant start over
 
 abbrev pub LeavesInHead : WhileLoop → Polyhedron → Overflow → Type 0
-LeavesInHead l start over = LeavesInRun (turns_of l) (start ∷ []) DELAY over ⊎ LeavesInLastRound l start over
+LeavesInHead l start over =
+    LeavesInRun (turns_of l) (start ∷ []) DELAY over ⊎ LeavesInLastRound l start over
 
 pub record LeavesOutside (l : WhileLoop) (head : Polyhedron) (over : Overflow) : Type 0 where
   pub opened : Polyhedron
@@ -81,7 +82,9 @@ pub record LeavesOutside (l : WhileLoop) (head : Polyhedron) (over : Overflow) :
   pub leaves : LeavesInDifference opened l.guard over
 
 abbrev pub LeavesBehind : WhileLoop → Polyhedron → Overflow → Type 0
-LeavesBehind l head over = LeavesOn (list_width Nnc head.cons.dim) head.cons.dim (constraints_of Nnc head.cons) over ⊎ LeavesOutside l head over
+LeavesBehind l head over =
+    LeavesOn (list_width Nnc head.cons.dim) head.cons.dim (constraints_of Nnc head.cons) over
+    ⊎ LeavesOutside l head over
 
 -- one behind the start, the head or both
 pub record LeavesAfterHead (l : WhileLoop) (start : Polyhedron) (over : Overflow) : Type 0 where
@@ -99,7 +102,8 @@ pub record LeavesAfterBehind (l : WhileLoop) (start : Polyhedron) (over : Overfl
 pub record LeavesAfterStart (l : WhileLoop) (over : Overflow) : Type 0 where
   pub start : Polyhedron
   pub is_start : IsStart l start
-  pub leaves : LeavesInHead l start over ⊎ (LeavesAfterHead l start over ⊎ LeavesAfterBehind l start over)
+  pub leaves : LeavesInHead l start over
+      ⊎ (LeavesAfterHead l start over ⊎ LeavesAfterBehind l start over)
 
 -- one of the conversion of the start, of the run or the last round, of what is behind, or of the search for a bound
 abbrev pub LeavesInAnalysis : WhileLoop → Overflow → Type 0

@@ -32,4 +32,5 @@ pub record IsLoop (l : WhileLoop) : Type 0 where
 
 -- the loop with one more assignment at the end of its body
 abbrev pub with_assignment : WhileLoop → Assignment → WhileLoop
-with_assignment l a = record { dim = l.dim; start = l.start; guard = l.guard; body = l.body ++ a ∷ [] }
+with_assignment l a =
+    record { dim = l.dim; start = l.start; guard = l.guard; body = l.body ++ a ∷ [] }

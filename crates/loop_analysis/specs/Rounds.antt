@@ -22,7 +22,8 @@ pub record IsImageOf (a : Assignment) (set made : Polyhedron) : Type 0 where
 -- by assignments, one after the other
 abbrev pub AreImages : List Assignment → Polyhedron → Polyhedron → Type 0
 AreImages [] set made = set ≡ made
-AreImages (a ∷ more) set made = (between : Polyhedron) × IsImageOf a set between × AreImages more between made
+AreImages (a ∷ more) set made =
+    (between : Polyhedron) × IsImageOf a set between × AreImages more between made
 
 -- what those at which the guard holds become by the body
 pub record IsRound (l : WhileLoop) (set made : Polyhedron) : Type 0 where
@@ -44,7 +45,8 @@ abbrev pub LeavesInImage : Assignment → Polyhedron → Overflow → Type 0
 LeavesInImage a set over = LeavesInImageBy Eq a.variable a.value.expr a.value.den set over
 
 -- one of an assignment to what the assignments before it made
-pub record LeavesInBody (body : List Assignment) (guarded : Polyhedron) (over : Overflow) : Type 0 where
+pub record LeavesInBody (body : List Assignment) (guarded : Polyhedron)
+    (over : Overflow) : Type 0 where
   pub index : ℕ
   pub a : Assignment
   pub at : slice_get body index ≡ Some a
@@ -60,7 +62,9 @@ pub record LeavesInAssignments (l : WhileLoop) (set : Polyhedron) (over : Overfl
   pub leaves : LeavesInBody l.body guarded over
 
 abbrev pub LeavesInRound : WhileLoop → Polyhedron → Overflow → Type 0
-LeavesInRound l set over = LeavesOnClosed set.cons.dim (constraint_list (with_constraints set l.guard)) over ⊎ LeavesInAssignments l set over
+LeavesInRound l set over =
+    LeavesOnClosed set.cons.dim (constraint_list (with_constraints set l.guard)) over
+    ⊎ LeavesInAssignments l set over
 
 -- one of the conversion for the hull of a set and a round
 pub record LeavesOnHull (l : WhileLoop) (set old : Polyhedron) (over : Overflow) : Type 0 where

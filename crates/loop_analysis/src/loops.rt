@@ -31,9 +31,19 @@ impl Model for Loop {
 
     ghost Value = { WhileLoop };
 
-    ghost view = { λ l. record { dim = l.start.dim; start = l.start; guard = l.guard; body = l.body.items } };
+    ghost view = { λ l. record {
+      dim = l.start.dim;
+      start = l.start;
+      guard = l.guard;
+      body = l.body.items;
+    } };
 
-    ghost invariant = { λ l. IsLoop (record { dim = l.start.dim; start = l.start; guard = l.guard; body = l.body.items }) };
+    ghost invariant = { λ l. IsLoop (record {
+      dim = l.start.dim;
+      start = l.start;
+      guard = l.guard;
+      body = l.body.items;
+    }) };
 }
 
 impl Loop {

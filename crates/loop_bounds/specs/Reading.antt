@@ -56,14 +56,21 @@ pub record IsValue (dim variable : ℕ) (a : Assignment) (part : List ℕ) : Typ
   pub fraction : IsFrac dim part a.value.expr a.value.den
 
 abbrev pub IsAssignmentLine : ℕ → List ℕ → Assignment → Type 0
-IsAssignmentLine dim line a = (variable : ℕ) × IsBehind (assignment_word variable) line (IsValue dim variable a)
+IsAssignmentLine dim line a =
+    (variable : ℕ) × IsBehind (assignment_word variable) line (IsValue dim variable a)
 
 -- a line that isn't silent adds to what the lines before say: the number of variables, the constraints of the start, those of the guard, and then an assignment
 abbrev pub Adds : Draft → List ℕ → Draft → Type 0
-Adds Nothing line new = (dim : ℕ) × IsBehind (codes "variables ") line (IsDimension dim) × (new ≡ Dimension dim)
-Adds (Dimension dim) line new = (start : Constraints) × IsBehind (codes "start ") line (IsClosedCons dim start) × (new ≡ Started start)
-Adds (Started start) line new = (guard : Constraints) × IsBehind (codes "while ") line (IsClosedCons start.dim guard) × (new ≡ Whole (record { dim = start.dim; start = start; guard = guard; body = [] }))
-Adds (Whole l) line new = (a : Assignment) × IsAssignmentLine l.dim line a × (new ≡ Whole (with_assignment l a))
+Adds Nothing line new =
+    (dim : ℕ) × IsBehind (codes "variables ") line (IsDimension dim) × (new ≡ Dimension dim)
+Adds (Dimension dim) line new =
+    (start : Constraints) × IsBehind (codes "start ") line (IsClosedCons dim start)
+    × (new ≡ Started start)
+Adds (Started start) line new =
+    (guard : Constraints) × IsBehind (codes "while ") line (IsClosedCons start.dim guard)
+    × (new ≡ Whole (record { dim = start.dim; start = start; guard = guard; body = [] }))
+Adds (Whole l) line new =
+    (a : Assignment) × IsAssignmentLine l.dim line a × (new ≡ Whole (with_assignment l a))
 
 abbrev pub Says : Draft → List ℕ → Draft → Type 0
 Says old line new = (IsSilent line × (new ≡ old)) ⊎ ((¬ (IsSilent line)) × Adds old line new)
@@ -86,7 +93,8 @@ refused_behind n (Input fault) = Input (behind_word n fault)
 refused_behind n Memory = Memory
 
 -- what stands behind the word has a fault, which is shown at its column in the line
-pub record IsPartFault (word line : List ℕ) (P : List ℕ → Fault → Type 0) (fault : Fault) : Type 0 where
+pub record IsPartFault (word line : List ℕ) (P : List ℕ → Fault → Type 0)
+    (fault : Fault) : Type 0 where
   pub part : List ℕ
   pub behind : line ≡ word ++ part
   pub cause : Fault
@@ -95,7 +103,8 @@ pub record IsPartFault (word line : List ℕ) (P : List ℕ → Fault → Type 0
 
 -- the line doesn't begin with the word, or what stands behind it has a fault
 abbrev pub IsLineFault : List ℕ → List ℕ → (List ℕ → Fault → Type 0) → Fault → Type 0
-IsLineFault word line P fault = ((¬ (HasPart word line)) × (fault ≡ Syntax 1)) ⊎ IsPartFault word line P fault
+IsLineFault word line P fault =
+    ((¬ (HasPart word line)) × (fault ≡ Syntax 1)) ⊎ IsPartFault word line P fault
 
 -- a number that is no dimension
 pub record IsWrongNumber (part : List ℕ) : Type 0 where
@@ -104,7 +113,9 @@ pub record IsWrongNumber (part : List ℕ) : Type 0 where
   pub outside : (value <ℤ pos 0) ⊎ (pos MAX_DIM <ℤ value)
 
 abbrev pub IsDimensionFault : List ℕ → Fault → Type 0
-IsDimensionFault part fault = IsTextFault expr_cases part (IsValueFault (IsExprFault 0 part)) fault ⊎ (IsWrongNumber part × (fault ≡ TooManyDims))
+IsDimensionFault part fault =
+    IsTextFault expr_cases part (IsValueFault (IsExprFault 0 part)) fault
+    ⊎ (IsWrongNumber part × (fault ≡ TooManyDims))
 
 -- constraints of which one is strict
 pub record AreStrict (dim : ℕ) (part : List ℕ) : Type 0 where
@@ -113,22 +124,29 @@ pub record AreStrict (dim : ℕ) (part : List ℕ) : Type 0 where
   pub strict : ¬ (AreClosed cs)
 
 abbrev pub IsConstraintFault : ℕ → List ℕ → Fault → Type 0
-IsConstraintFault dim part fault = IsTextFault cons_cases part (IsValueFault (IsConsFault dim part)) fault ⊎ (AreStrict dim part × (fault ≡ StrictInClosed))
+IsConstraintFault dim part fault =
+    IsTextFault cons_cases part (IsValueFault (IsConsFault dim part)) fault
+    ⊎ (AreStrict dim part × (fault ≡ StrictInClosed))
 
 -- the loop doesn't have the variable, or its fraction has a fault
 abbrev pub IsVariableFault : ℕ → ℕ → List ℕ → Fault → Type 0
-IsVariableFault dim variable part fault = ((dim ≤ variable) × (fault ≡ OutOfRange)) ⊎ ((variable < dim) × IsTextFault frac_cases part (IsValueFault (IsFracFault dim part)) fault)
+IsVariableFault dim variable part fault =
+    ((dim ≤ variable) × (fault ≡ OutOfRange))
+    ⊎ ((variable < dim) × IsTextFault frac_cases part (IsValueFault (IsFracFault dim part)) fault)
 
 -- no variable begins the line, or one does and what stands behind it has a fault
 abbrev pub IsAssignmentFault : ℕ → List ℕ → Fault → Type 0
-IsAssignmentFault dim line fault = (((j : ℕ) → j < MAX_DIM → ¬ (HasPart (assignment_word j) line)) × (fault ≡ Syntax 1))
+IsAssignmentFault dim line fault =
+    (((j : ℕ) → j < MAX_DIM → ¬ (HasPart (assignment_word j) line)) × (fault ≡ Syntax 1))
     ⊎ ((j : ℕ) × (j < MAX_DIM) × IsPartFault (assignment_word j) line (IsVariableFault dim j) fault)
 
 -- the fault of a line that isn't silent, behind lines that say so much
 abbrev pub HasFault : Draft → List ℕ → Fault → Type 0
 HasFault Nothing line fault = IsLineFault (codes "variables ") line IsDimensionFault fault
-HasFault (Dimension dim) line fault = IsLineFault (codes "start ") line (IsConstraintFault dim) fault
-HasFault (Started start) line fault = IsLineFault (codes "while ") line (IsConstraintFault start.dim) fault
+HasFault (Dimension dim) line fault =
+    IsLineFault (codes "start ") line (IsConstraintFault dim) fault
+HasFault (Started start) line fault =
+    IsLineFault (codes "while ") line (IsConstraintFault start.dim) fault
 HasFault (Whole l) line fault = IsAssignmentFault l.dim line fault
 
 -- a refusal is for such a fault; want of memory needs no cause
@@ -185,4 +203,5 @@ pub record IsCutOff (text : List ℕ) (number : ℕ) (fault : Fault) : Type 0 wh
 
 -- why a text spells no loop: a line is refused, or lines are missing
 abbrev pub IsTextRefused : List ℕ → LoopErr → Type 0
-IsTextRefused text e = IsRefusedFor (λ fault. IsRefusedLine text e.line fault ⊎ IsCutOff text e.line fault) e.cause
+IsTextRefused text e =
+    IsRefusedFor (λ fault. IsRefusedLine text e.line fault ⊎ IsCutOff text e.line fault) e.cause

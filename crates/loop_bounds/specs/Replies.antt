@@ -1,5 +1,5 @@
 -- Replies, and what a call of the program comes to.
-use Rattle.std.specs.Prelude.{◌≡◌, ◌⊎◌, ◌↔◌, ℕ, ◌^◌, ◌<◌, ◌≤◌, List, ◌++◌, length, take, codes, decimal, Option, Bool, true, false}
+use Rattle.std.specs.Prelude.{◌≡◌, ◌⊎◌, ◌↔◌, ℕ, ◌<◌, ◌≤◌, List, ◌++◌, length, take, codes, decimal, Option, Bool, true, false}
 use Rattle.std.specs.Io.KnownBytes.{append_known, IsAtEnd}
 use Rattle.row_core.specs.declared.errors.Overflow.{Overflow}
 use Rattle.cons_sys.specs.Constraints.{Constraints}
@@ -9,6 +9,7 @@ use Rattle.reply_text.specs.Faults.{fault_text}
 use Rattle.reply_text.specs.Overflows.{overflow_text}
 use Rattle.term_text.specs.Systems.{IsCons}
 use Rattle.expr_text.specs.Printed.{constraints_text}
+use Rattle.poly_io.specs.declared.line_reader.TheConstants.{INPUT_LIMIT}
 use Rattle.loop_bounds.specs.declared.status.Status.{Status}
 use Rattle.loop_bounds.specs.declared.status.Status.TheVariants.{Done, Refused, ReadFault, WriteFault, Memory, InputTooLong}
 use Rattle.loop_bounds.specs.declared.reading.LoopErr.{LoopErr}
@@ -19,11 +20,15 @@ use Rattle.loop_bounds.specs.Reading.{Spells, IsTextRefused}
 
 -- ---- texts
 abbrev pub report_text : Constraints → Constraints → List ℕ
-report_text head behind = codes "head " ++ constraints_text head ++ codes "\nbehind " ++ constraints_text behind ++ codes "\n"
+report_text head behind =
+    codes "head " ++ constraints_text head ++ codes "\nbehind " ++ constraints_text behind
+    ++ codes "\n"
 
 -- the number of the line and its fault
 abbrev pub IsRefusalText : LoopErr → List ℕ → Type 0
-IsRefusalText refused text = (fault : Fault) × (refused.cause ≡ Input fault) × (text ≡ codes "line " ++ decimal refused.line ++ codes " " ++ fault_text fault ++ codes "\n")
+IsRefusalText refused text =
+    (fault : Fault) × (refused.cause ≡ Input fault)
+    × (text ≡ codes "line " ++ decimal refused.line ++ codes " " ++ fault_text fault ++ codes "\n")
 
 abbrev pub overflow_line : Overflow → List ℕ
 overflow_line over = overflow_text over ++ codes "\n"
@@ -82,9 +87,12 @@ pub record WritesFront (text : List ℕ) (old new : Option (List ℕ)) : Type 0 
 
 -- what a call comes to, after the source gave these bytes and now has those left
 abbrev pub Outcome : List ℕ → Option (List ℕ) → Option (List ℕ) → Option (List ℕ) → Status → Type 0
-Outcome given left old new Done = (length given ≤ 2 ^ 26) × IsAtEnd left × Writes given true old new
-Outcome given left old new Refused = (length given ≤ 2 ^ 26) × IsAtEnd left × Writes given false old new
-Outcome given left old new ReadFault = (length given ≤ 2 ^ 26) × (new ≡ old)
-Outcome given left old new WriteFault = (length given ≤ 2 ^ 26) × WritesFront given old new
-Outcome given left old new Memory = (length given ≤ 2 ^ 26) × ((new ≡ old) ⊎ WritesFront given old new)
-Outcome given left old new InputTooLong = (2 ^ 26 < length given) × (new ≡ old)
+Outcome given left old new Done =
+    (length given ≤ INPUT_LIMIT) × IsAtEnd left × Writes given true old new
+Outcome given left old new Refused =
+    (length given ≤ INPUT_LIMIT) × IsAtEnd left × Writes given false old new
+Outcome given left old new ReadFault = (length given ≤ INPUT_LIMIT) × (new ≡ old)
+Outcome given left old new WriteFault = (length given ≤ INPUT_LIMIT) × WritesFront given old new
+Outcome given left old new Memory =
+    (length given ≤ INPUT_LIMIT) × ((new ≡ old) ⊎ WritesFront given old new)
+Outcome given left old new InputTooLong = (INPUT_LIMIT < length given) × (new ≡ old)

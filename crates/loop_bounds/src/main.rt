@@ -7,8 +7,9 @@ mod report;
 mod status;
 mod top;
 
-ghost use Rattle.std.specs.Prelude.{◌≡◌, ◌<◌};
+ghost use Rattle.std.specs.Prelude.{◌≡◌, ℕ, ◌<◌, List, None};
 ghost use Rattle.poly_io.specs.Counts.{HasRisen};
+ghost use Rattle.loop_bounds.specs.Replies.{Outcome};
 
 use poly_io::{StdSink, StdSource};
 use row_core::Steps;
@@ -36,6 +37,8 @@ fn status_of<L: Ledger>(
     requires name { blank.name ≡ L.name }
     requires parts { blank.parts ≡ L.parts }
     requires shared { 0 < blank.parts }
+    // No contract knows the bytes of the system's streams: it ends as a call over some text does.
+    ensures outcome { (given : List ℕ) × Outcome given None None None result }
     ensures read_fault { result ≡ Status.ReadFault → HasRisen source.old.1 source.new.1 }
     ensures write_fault { result ≡ Status.WriteFault → HasRisen sink.old.1 sink.new.1 }
 {

@@ -45,7 +45,8 @@ fn is_silent(line: &[u8]) -> bool
 
 /// What stands behind the word with which a line begins.
 fn part_of<'a>(line: &'a [u8], word: &[u8]) -> Result<&'a [u8], ReadErr>
-    ensures { MatchResult result (λ part. line.now ≡ word.now ++ part.now) (λ cause. (¬ (HasPart word.now line.now)) × (cause ≡ Input (Syntax 1))) }
+    ensures { MatchResult result (λ part. line.now ≡ word.now ++ part.now)
+        (λ cause. (¬ (HasPart word.now line.now)) × (cause ≡ Input (Syntax 1))) }
 {
     line.strip_prefix(word)
         .ok_or(ReadErr::Input(Fault::Syntax(1)))
@@ -53,7 +54,8 @@ fn part_of<'a>(line: &'a [u8], word: &[u8]) -> Result<&'a [u8], ReadErr>
 
 /// What was read of the part behind a word, where a fault is shown at its column in the line.
 fn read_behind<T>(word: &[u8], read: Result<T, ReadErr>) -> Result<T, ReadErr>
-    ensures { MatchResult read (λ x. result ≡ Ok x) (λ cause. result ≡ Err (refused_behind (length word.now) cause)) }
+    ensures { MatchResult read (λ x. result ≡ Ok x)
+        (λ cause. result ≡ Err (refused_behind (length word.now) cause)) }
 {
     read.map_err(|cause| match cause {
         ReadErr::Input(Fault::Syntax(column)) => {
@@ -66,7 +68,8 @@ fn read_behind<T>(word: &[u8], read: Result<T, ReadErr>) -> Result<T, ReadErr>
 /// The number of variables.
 #[tactic(auto, using(crate::proofs::ReadingLemmas::number_wide, crate::proofs::ReadingLemmas::dimension_read, crate::proofs::ReadingLemmas::wrong_number, crate::proofs::ReadingLemmas::no_number))]
 fn dimension_of(alloc: Global, part: &[u8]) -> Result<usize, ReadErr>
-    ensures { MatchResult result (λ dim. IsDimension dim part.now) (IsRefusedFor (IsDimensionFault part.now)) }
+    ensures { MatchResult result (λ dim. IsDimension dim part.now)
+        (IsRefusedFor (IsDimensionFault part.now)) }
 {
     let row = read_expr(alloc, 0, part)?;
     match usize::try_from(row.cells()[0]) {
@@ -78,7 +81,8 @@ fn dimension_of(alloc: Global, part: &[u8]) -> Result<usize, ReadErr>
 /// The number of variables behind its word.
 #[tactic(auto, using(crate::proofs::ReadingLemmas::no_word))]
 fn read_dimension(alloc: Global, line: &[u8]) -> Result<usize, ReadErr>
-    ensures { MatchResult result (λ dim. IsBehind (codes "variables ") line.now (IsDimension dim)) (IsRefusedFor (IsLineFault (codes "variables ") line.now IsDimensionFault)) }
+    ensures { MatchResult result (λ dim. IsBehind (codes "variables ") line.now (IsDimension dim))
+        (IsRefusedFor (IsLineFault (codes "variables ") line.now IsDimensionFault)) }
 {
     let word = b"variables ";
     read_behind(word, dimension_of(alloc, part_of(line, word)?))
@@ -95,7 +99,8 @@ fn are_closed(cons: &ConsSys) -> bool
 #[tactic(auto, using(crate::proofs::ReadingLemmas::no_constraints, crate::proofs::ReadingLemmas::strict_constraints, crate::proofs::ReadingLemmas::closed_constraints))]
 fn constraints_of(alloc: Global, dim: usize, part: &[u8]) -> Result<ConsSys, ReadErr>
     requires { dim ≤ MAX_DIM }
-    ensures { MatchResult result (λ cs. IsClosedCons dim cs part.now) (IsRefusedFor (IsConstraintFault dim part.now)) }
+    ensures { MatchResult result (λ cs. IsClosedCons dim cs part.now)
+        (IsRefusedFor (IsConstraintFault dim part.now)) }
 {
     let cons = read_cons(alloc, dim, part)?;
     if !are_closed(&cons) {
@@ -108,7 +113,8 @@ fn constraints_of(alloc: Global, dim: usize, part: &[u8]) -> Result<ConsSys, Rea
 #[tactic(auto, using(crate::proofs::ReadingLemmas::no_word))]
 fn read_constraints(alloc: Global, word: &[u8], dim: usize, line: &[u8]) -> Result<ConsSys, ReadErr>
     requires { dim ≤ MAX_DIM }
-    ensures { MatchResult result (λ cs. IsBehind word.now line.now (IsClosedCons dim cs)) (IsRefusedFor (IsLineFault word.now line.now (IsConstraintFault dim))) }
+    ensures { MatchResult result (λ cs. IsBehind word.now line.now (IsClosedCons dim cs))
+        (IsRefusedFor (IsLineFault word.now line.now (IsConstraintFault dim))) }
 {
     read_behind(word, constraints_of(alloc, dim, part_of(line, word)?))
 }
@@ -135,7 +141,8 @@ fn assignment_of(
     part: &[u8],
 ) -> Result<Assignment, ReadErr>
     requires { dim ≤ MAX_DIM }
-    ensures { MatchResult result (λ a. IsValue dim variable a part.now × IsAssignment dim a) (IsRefusedFor (IsVariableFault dim variable part.now)) }
+    ensures { MatchResult result (λ a. IsValue dim variable a part.now × IsAssignment dim a)
+        (IsRefusedFor (IsVariableFault dim variable part.now)) }
 {
     if variable >= dim {
         return Err(ReadErr::Input(Fault::OutOfRange));
@@ -148,7 +155,8 @@ fn assignment_of(
 /// An assignment of the body.
 fn read_assignment(alloc: Global, dim: usize, line: &[u8]) -> Result<Assignment, ReadErr>
     requires { dim ≤ MAX_DIM }
-    ensures { MatchResult result (λ a. IsAssignmentLine dim line.now a × IsAssignment dim a) (IsRefusedFor (IsAssignmentFault dim line.now)) }
+    ensures { MatchResult result (λ a. IsAssignmentLine dim line.now a × IsAssignment dim a)
+        (IsRefusedFor (IsAssignmentFault dim line.now)) }
 {
     for variable in 0..MAX_DIM {
         let word = assignment_word(alloc, variable)?;

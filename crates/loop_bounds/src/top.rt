@@ -9,13 +9,10 @@ use crate::report::{overflow, refusal, report};
 use crate::status::Status;
 use expr_text::{Text, constraints_are_read_back};
 use loop_analysis::find_bounds;
-use poly_io::{ReadAllErr, Sink, Source, WriteAllErr, read_all, write_all};
+use poly_io::{INPUT_LIMIT, ReadAllErr, Sink, Source, WriteAllErr, read_all, write_all};
 use row_core::{ConvErr, Memory, Steps};
 use std::alloc::Global;
 use std::sync::ledger::Ledger;
-
-/// The most bytes that a source may give, 2^26.
-const INPUT_LIMIT: usize = 67_108_864;
 
 /// A reply, and whether it gives bounds.
 #[derive(Drop)]
@@ -58,10 +55,13 @@ pub fn loop_bounds<S: Source, W: Sink, L: Ledger>(
     sink: &mut W,
     steps: &mut Steps<L>,
 ) -> Status
-    ensures outcome { (given : List ℕ) × (S.left source.old ≡ prepend_known given (S.left source.new))
+    ensures outcome { (given : List ℕ)
+        × (S.left source.old ≡ prepend_known given (S.left source.new))
         × Outcome given (S.left source.new) (W.held sink.old) (W.held sink.new) result }
-    ensures read_fault { result ≡ Status.ReadFault → HasRisen (S.faults source.old) (S.faults source.new) }
-    ensures write_fault { result ≡ Status.WriteFault → HasRisen (W.faults sink.old) (W.faults sink.new) }
+    ensures read_fault { result ≡ Status.ReadFault
+        → HasRisen (S.faults source.old) (S.faults source.new) }
+    ensures write_fault { result ≡ Status.WriteFault
+        → HasRisen (W.faults sink.old) (W.faults sink.new) }
 {
     let text = match read_all(alloc, source, INPUT_LIMIT) {
         Ok(text) => text,

@@ -41,7 +41,8 @@ numbered prefix n = prefix ++ decimal n
 -- the entries, each under the prefix with its number, which begin with this one
 abbrev pub numbered_entries : {E : Type 0} → List ℕ → ℕ → List E → Table E
 numbered_entries prefix n [] = []
-numbered_entries prefix n (e ∷ entries) = (numbered prefix n, e) ∷ numbered_entries prefix (n + 1) entries
+numbered_entries prefix n (e ∷ entries) =
+    (numbered prefix n, e) ∷ numbered_entries prefix (n + 1) entries
 
 -- ---- room
 -- how many names there are once this one is there
@@ -59,7 +60,9 @@ HasNoRoom table name = IsTrue (has_no_room table name)
 -- how many of the first numbered names aren't there
 abbrev pub missing : {E : Type 0} → Table E → List ℕ → ℕ → ℕ
 missing table prefix zero = 0
-missing table prefix (suc n) = if is_some (entry_of table (numbered prefix n)) then missing table prefix n else missing table prefix n + 1
+missing table prefix (suc n) =
+    if is_some (entry_of table (numbered prefix n)) then missing table prefix n
+    else missing table prefix n + 1
 
 -- with so many numbered names there would be more than 1,000 names
 abbrev pub HasNoRoomForAll : {E : Type 0} → Table E → List ℕ → ℕ → Type 0

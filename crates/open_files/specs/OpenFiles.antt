@@ -18,7 +18,8 @@ pub record OpenFile : Type 0 where
 
 -- with one line more; of a line over the limit the first 65,536 bytes are kept, which tell that it is too long
 abbrev pub with_line : OpenFile → List ℕ → OpenFile
-with_line file line = record { name = file.name; ext = file.ext; text = file.text ++ take 65536 line ++ 13 ∷ 10 ∷ [] }
+with_line file line =
+    record { name = file.name; ext = file.ext; text = file.text ++ take 65536 line ++ 13 ∷ 10 ∷ [] }
 
 -- there is no room for the name
 abbrev pub no_room : Bool → Test
@@ -30,7 +31,9 @@ whole_tests full file = tests (format_of file.ext) file.text ++ no_room full ∷
 
 -- what came of a whole file
 abbrev pub IsFileRead : Bool → OpenFile → Result Polyhedron StepErr → Type 0
-IsFileRead full file (Ok p) = NoneOf (whole_tests full file) × IsOfFile (format_of file.ext) file.text p × IsProper p
+IsFileRead full file (Ok p) =
+    NoneOf (whole_tests full file) × IsOfFile (format_of file.ext) file.text p × IsProper p
 IsFileRead full file (Err (err.Input f)) = IsFirstOf (whole_tests full file) f
-IsFileRead full file (Err (err.Overflow over)) = NoneOf (whole_tests full file) × LeavesOnFile (format_of file.ext) file.text over
+IsFileRead full file (Err (err.Overflow over)) =
+    NoneOf (whole_tests full file) × LeavesOnFile (format_of file.ext) file.text over
 IsFileRead full file (Err err.Memory) = Unit {0}

@@ -102,7 +102,10 @@ impl OpenFile {
 
     // Its list.
     fn read(&self, alloc: Global) -> Result<Listed, ReadErr>
-        ensures read { MatchResult result (λ list. IsListOf (named_format self.now.ext) self.now.text list × NoneOf (tests (named_format self.now.ext) self.now.text)) (IsRefusal (tests (named_format self.now.ext) self.now.text)) }
+        ensures read { MatchResult result
+            (λ list. IsListOf (named_format self.now.ext) self.now.text list
+            × NoneOf (tests (named_format self.now.ext) self.now.text))
+            (IsRefusal (tests (named_format self.now.ext) self.now.text)) }
         ensures fit { IfOk result IsFit }
     {
         read_file(alloc, format_of(self.ext), self.text.as_slice())

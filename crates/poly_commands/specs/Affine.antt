@@ -29,13 +29,16 @@ variables_fault dim vars other = ⊥
 
 -- its points without these variables, stored of the list of its generators without their columns
 abbrev pub IsRemoved : List ℕ → Polyhedron → Polyhedron → Type 0
-IsRemoved vars p = IsResult (IsImage (remaining p.cons.dim vars) (length (kept_variables p.cons.dim vars)) p) (IsStoredOfMapped (remaining p.cons.dim vars) (length (kept_variables p.cons.dim vars)) p)
+IsRemoved vars p =
+    IsResult (IsImage (remaining p.cons.dim vars) (length (kept_variables p.cons.dim vars)) p)
+    (IsStoredOfMapped (remaining p.cons.dim vars) (length (kept_variables p.cons.dim vars)) p)
 
 -- remove OUT P : VARS
 abbrev pub remove : Bool → List ℕ → Polyhedron → Meaning Polyhedron
 remove full vars p = record {
   conditions = with_text (variables_fault p.cons.dim vars) (room full);
-  overflows = LeavesOnMapped (remaining p.cons.dim vars) (length (kept_variables p.cons.dim vars)) p;
+  overflows =
+      LeavesOnMapped (remaining p.cons.dim vars) (length (kept_variables p.cons.dim vars)) p;
   does = IsRemoved vars p;
 }
 
@@ -73,16 +76,20 @@ LeavesInMap Preimage rel v expr den p = LeavesInPreimageBy rel v expr den p
 
 -- a result of the mapping
 abbrev pub IsMapped : Mapping → ImageRel → ℕ → List ℤ → ℤ → Polyhedron → Polyhedron → Type 0
-IsMapped op rel v expr den p = IsResult (IsSetOfMap op rel v expr den p) (IsStoredOfMap op rel v expr den p)
+IsMapped op rel v expr den p =
+    IsResult (IsSetOfMap op rel v expr den p) (IsStoredOfMap op rel v expr den p)
 
 -- where the text says the expression and its divisor
 abbrev pub IsMappedBy : Mapping → ℕ → Rel → Part → Polyhedron → Polyhedron → Type 0
-IsMappedBy op v rel part p r = SaysReplacement p.cons.dim v part (λ expr den. IsMapped op (image_rel rel) v expr den p r)
+IsMappedBy op v rel part p r =
+    SaysReplacement p.cons.dim v part (λ expr den. IsMapped op (image_rel rel) v expr den p r)
 
 -- image OUT P V REL FRAC, preimage OUT P V REL FRAC
 abbrev pub mapped_by : Mapping → Bool → ℕ → Rel → Part → Polyhedron → Meaning Polyhedron
 mapped_by op full v rel part p = record {
   conditions = with_text (fraction_fault p.topology p.cons.dim v rel part) (room full);
-  overflows = λ over. SaysReplacement p.cons.dim v part (λ expr den. LeavesInMap op (image_rel rel) v expr den p over);
+  overflows =
+      λ over. SaysReplacement p.cons.dim v part
+      (λ expr den. LeavesInMap op (image_rel rel) v expr den p over);
   does = IsMappedBy op v rel part p;
 }

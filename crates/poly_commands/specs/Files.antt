@@ -19,4 +19,8 @@ unwritten p other = ⊥
 
 -- write P FORM
 abbrev pub write : Bool → Polyhedron → Meaning (List ℕ)
-write ext p = record { conditions = unwritten p; overflows = no_overflow; does = λ text. text ≡ file_of ext p }
+write ext p = record {
+  conditions = unwritten p;
+  overflows = no_overflow;
+  does = λ text. text ≡ file_of ext p;
+}

@@ -28,13 +28,20 @@ closure full p = record {
 
 -- ---- questions
 -- a test of pairs of rows in order tells whether the statement is true, and this is said
-pub record IsTested (Answer : Result Bool PairOver → Type 0) (Statement : Type 0) (text : List ℕ) : Type 0 where
+pub record IsTested (Answer : Result Bool PairOver → Type 0) (Statement : Type 0)
+    (text : List ℕ) : Type 0 where
   pub told : IsTold Statement text
   pub tested : Answer (Ok told.holds)
 
 -- the constraint and the generator of a pair
 abbrev pub shown_rows : Constraints → Generators → PairOver → Overflow
-shown_rows cs gs pair = record { kind = pair.kind; step = 0; left = row_at cs.list pair.left; right = vector_at gs.list pair.right; column = pair.column }
+shown_rows cs gs pair = record {
+  kind = pair.kind;
+  step = 0;
+  left = row_at cs.list pair.left;
+  right = vector_at gs.list pair.right;
+  column = pair.column;
+}
 
 -- the refusal shows the rows of a pair, or memory ran out
 abbrev pub IsRefusalOfPair : Constraints → Generators → PairOver → StepErr → Type 0
@@ -48,7 +55,8 @@ shown_on false p q pair = shown_rows p.cons q.gens pair
 shown_on true p q pair = shown_rows q.cons p.gens pair
 
 -- the test comes to a pair that leaves the range, and its rows are shown
-pub record ShowsRows (Answer : Result Bool PairOver → Type 0) (p q : Polyhedron) (over : Overflow) : Type 0 where
+pub record ShowsRows (Answer : Result Bool PairOver → Type 0) (p q : Polyhedron)
+    (over : Overflow) : Type 0 where
   pub pair : PairOver
   pub leaves : Answer (Err pair)
   pub shown : over ≡ shown_on pair.turned p q pair

@@ -41,7 +41,10 @@ cons full topology n part = record {
 -- gens OUT TOP N : GENS
 abbrev pub gens : Bool → Topology → ℕ → Part → Meaning Polyhedron
 gens full topology n part = record {
-  conditions = small n (with_text (generators_fault topology n part) (no_point (SaysGenerators n part (λ gs. LacksPoint gs.list)) (room full)));
+  conditions =
+      small n
+      (with_text (generators_fault topology n part)
+      (no_point (SaysGenerators n part (λ gs. LacksPoint gs.list)) (room full)));
   overflows = λ over. SaysGenerators n part (λ gs. LeavesOnGenerators topology gs over);
   does = λ r. SaysGenerators n part (λ gs. IsResultOfGenerators topology gs r);
 }
@@ -53,7 +56,11 @@ IsSpace Empty topology n = IsEmpty topology n
 
 -- universe or empty OUT TOP N
 abbrev pub space_of : Space → Bool → Topology → ℕ → Meaning Polyhedron
-space_of space full topology n = record { conditions = small n (room full); overflows = no_overflow; does = IsSpace space topology n }
+space_of space full topology n = record {
+  conditions = small n (room full);
+  overflows = no_overflow;
+  does = IsSpace space topology n;
+}
 
 -- copy OUT P
 abbrev pub copy : Bool → Polyhedron → Meaning Polyhedron
@@ -63,14 +70,25 @@ copy full p = record { conditions = room full; overflows = no_overflow; does = �
 abbrev pub add : Part → Polyhedron → Meaning Polyhedron
 add part p = record {
   conditions = with_text (constraints_fault p.topology p.cons.dim part) no_fault;
-  overflows = λ over. SaysConstraints p.cons.dim part (λ cs. LeavesOnConstraints p.topology (more_constraints p.cons cs) over);
-  does = λ r. SaysConstraints p.cons.dim part (λ cs. IsResultOfConstraints p.topology (more_constraints p.cons cs) r);
+  overflows =
+      λ over. SaysConstraints p.cons.dim part
+      (λ cs. LeavesOnConstraints p.topology (more_constraints p.cons cs) over);
+  does =
+      λ r. SaysConstraints p.cons.dim part
+      (λ cs. IsResultOfConstraints p.topology (more_constraints p.cons cs) r);
 }
 
 -- addgen P : GENS
 abbrev pub addgen : Part → Polyhedron → Meaning Polyhedron
 addgen part p = record {
-  conditions = with_text (generators_fault p.topology p.gens.dim part) (no_point (SaysGenerators p.gens.dim part (λ gs. LacksPoint (p.gens.list ++ gs.list))) no_fault);
-  overflows = λ over. SaysGenerators p.gens.dim part (λ gs. LeavesOnGenerators p.topology (more_generators p.gens gs) over);
-  does = λ r. SaysGenerators p.gens.dim part (λ gs. IsResultOfGenerators p.topology (more_generators p.gens gs) r);
+  conditions =
+      with_text (generators_fault p.topology p.gens.dim part)
+      (no_point
+      (SaysGenerators p.gens.dim part (λ gs. LacksPoint (p.gens.list ++ gs.list))) no_fault);
+  overflows =
+      λ over. SaysGenerators p.gens.dim part
+      (λ gs. LeavesOnGenerators p.topology (more_generators p.gens gs) over);
+  does =
+      λ r. SaysGenerators p.gens.dim part
+      (λ gs. IsResultOfGenerators p.topology (more_generators p.gens gs) r);
 }

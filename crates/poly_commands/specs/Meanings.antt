@@ -72,7 +72,9 @@ said_of_one (about.Bound extremum part) = bound (is_max extremum) part
 said_of_one (about.Write form) = write form
 
 -- what is said in a table of which some entries are polyhedra
-abbrev pub said : {E : Type 0} → (Option E → Option Polyhedron) → Table E → Question → Meaning (List ℕ)
+abbrev pub said : {E : Type 0} → (Option E → Option Polyhedron) → Table E → Question
+    → Meaning (List ℕ)
 said as_poly table (question.OfOne p of) = on_one (poly_of as_poly table p) (said_of_one of)
-said as_poly table (question.Compare by p q) = on_two (poly_of as_poly table p) (poly_of as_poly table q) (compared by)
+said as_poly table (question.Compare by p q) =
+    on_two (poly_of as_poly table p) (poly_of as_poly table q) (compared by)
 said as_poly table question.Names = names table

@@ -13,4 +13,5 @@ names table = says (line (names_text table))
 -- drop NAME
 abbrev pub drop_of : {E : Type 0} → List ℕ → Option E → Meaning (Change E)
 drop_of name None = unknown
-drop_of name (Some e) = record { conditions = no_fault; overflows = no_overflow; does = IsTakenOut name }
+drop_of name (Some e) =
+    record { conditions = no_fault; overflows = no_overflow; does = IsTakenOut name }

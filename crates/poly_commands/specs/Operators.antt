@@ -74,7 +74,9 @@ IsMadeBy op p q = IsResult (IsSetBy op p q) (IsStoredBy op p q)
 -- the overflow shows a number outside the range in the conversion of the operator's list, or of its second list
 abbrev pub LeavesBy : Operator → Polyhedron → Polyhedron → Overflow → Type 0
 LeavesBy Meet p q = LeavesOn (list_width p.topology p.cons.dim) p.cons.dim (meet_list p q)
-LeavesBy Hull p q = LeavesOn (list_width p.topology p.cons.dim) p.cons.dim (generators_of p.topology (both_generators p q))
+LeavesBy Hull p q =
+    LeavesOn (list_width p.topology p.cons.dim) p.cons.dim
+    (generators_of p.topology (both_generators p q))
 LeavesBy Concat p q = LeavesOnJoined p q
 LeavesBy Elapse p q = LeavesOnElapse p q
 

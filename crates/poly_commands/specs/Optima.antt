@@ -41,7 +41,8 @@ abbrev pub SearchLeaves : Bool → List ℤ → Generators → PairOver → Type
 SearchLeaves up row gs over = FitDimension gs × SeekLeaves up row gs.dim gs.list over
 
 -- such a pair, whose rows are shown
-pub record ShowsValues (Leaves : PairOver → Type 0) (row : List ℤ) (gs : Generators) (over : Overflow) : Type 0 where
+pub record ShowsValues (Leaves : PairOver → Type 0) (row : List ℤ) (gs : Generators)
+    (over : Overflow) : Type 0 where
   pub pair : PairOver
   pub leaves : Leaves pair
   pub shown : over ≡ shown_values row gs pair
@@ -55,10 +56,15 @@ with_word (c ∷ cs) word true = (c ∷ cs) ++ codes " " ++ word
 
 -- the words that hold, in order
 abbrev pub relation_text : Relation → List ℕ
-relation_text r = with_word (with_word (with_word (with_word [] (codes "disjoint") r.disjoint) (codes "intersects") r.intersects) (codes "included") r.included) (codes "saturates") r.saturates
+relation_text r =
+    with_word
+    (with_word
+    (with_word (with_word [] (codes "disjoint") r.disjoint) (codes "intersects") r.intersects)
+    (codes "included") r.included) (codes "saturates") r.saturates
 
 -- how the polyhedron lies to the constraint is said
-pub record SaysRelation (p : Polyhedron) (text : List ℕ) (row : List ℤ) (kind : ConKind) : Type 0 where
+pub record SaysRelation (p : Polyhedron) (text : List ℕ) (row : List ℤ)
+    (kind : ConKind) : Type 0 where
   pub flags : Relation
   pub answer : RelationAnswer row kind p (Ok flags)
   pub said : text ≡ line (relation_text flags)
@@ -67,7 +73,9 @@ pub record SaysRelation (p : Polyhedron) (text : List ℕ) (row : List ℤ) (kin
 abbrev pub relation : Part → Polyhedron → Meaning (List ℕ)
 relation part p = record {
   conditions = constraint_fault p.cons.dim part;
-  overflows = λ over. SaysConstraint p.cons.dim part (λ row kind. ShowsValues (RowLeaves row p.gens.list) row p.gens over);
+  overflows =
+      λ over. SaysConstraint p.cons.dim part
+      (λ row kind. ShowsValues (RowLeaves row p.gens.list) row p.gens over);
   does = λ text. SaysConstraint p.cons.dim part (SaysRelation p text);
 }
 
@@ -80,7 +88,9 @@ attained_text false = codes " not attained "
 abbrev pub bound_text : Generators → Sup → List ℕ
 bound_text gs sup.Empty = codes "empty"
 bound_text gs sup.Unbounded = codes "unbounded"
-bound_text gs (sup.At num den attained index) = signed_decimal num ++ codes "/" ++ signed_decimal den ++ attained_text attained ++ generator_text gs.dim (generator_at gs.list index)
+bound_text gs (sup.At num den attained index) =
+    signed_decimal num ++ codes "/" ++ signed_decimal den ++ attained_text attained
+    ++ generator_text gs.dim (generator_at gs.list index)
 
 -- the generator that a bound numbers is there
 abbrev pub HasGenerator : Generators → Sup → Type 0
@@ -100,6 +110,8 @@ pub record SaysBound (up : Bool) (p : Polyhedron) (text : List ℕ) (row : List 
 abbrev pub bound : Bool → Part → Polyhedron → Meaning (List ℕ)
 bound up part p = record {
   conditions = expression_fault p.cons.dim part;
-  overflows = λ over. SaysExpression p.cons.dim part (λ row. ShowsValues (SearchLeaves up row p.gens) row p.gens over);
+  overflows =
+      λ over. SaysExpression p.cons.dim part
+      (λ row. ShowsValues (SearchLeaves up row p.gens) row p.gens over);
   does = λ text. SaysExpression p.cons.dim part (SaysBound up p text);
 }

@@ -24,11 +24,21 @@ pub record Tells (cs : Constraints) (text : List ℕ) (point : List ℤ) : Type 
   pub true_of_point : IsTrue holds ↔ In cs point
   pub said : text ≡ answer_line holds
 
+-- the overflow that shows the constraint of a pair and a point
+abbrev pub shown_at : Constraints → List ℤ → PairOver → Overflow
+shown_at cs point pair = record {
+  kind = pair.kind;
+  step = 0;
+  left = row_at cs.list pair.left;
+  right = point;
+  column = pair.column;
+}
+
 -- the test comes to a constraint whose value at the point can't be computed within the range, and these two rows are shown
 pub record ShowsPair (cs : Constraints) (over : Overflow) (point : List ℤ) : Type 0 where
   pub pair : PairOver
   pub leaves : LeavesRange cs.list point pair
-  pub shown : over ≡ record { kind = pair.kind; step = 0; left = row_at cs.list pair.left; right = point; column = pair.column }
+  pub shown : over ≡ shown_at cs point pair
 
 -- has P : POINT
 abbrev pub has : Part → Polyhedron → Meaning (List ℕ)
@@ -40,7 +50,9 @@ has part p = record {
 
 -- dim N constraints C generators G
 abbrev pub size_text : Polyhedron → List ℕ
-size_text p = codes "dim " ++ decimal p.cons.dim ++ codes " constraints " ++ decimal (length p.cons.list) ++ codes " generators " ++ decimal (length p.gens.list)
+size_text p =
+    codes "dim " ++ decimal p.cons.dim ++ codes " constraints " ++ decimal (length p.cons.list)
+    ++ codes " generators " ++ decimal (length p.gens.list)
 
 -- size P
 abbrev pub size : Polyhedron → Meaning (List ℕ)

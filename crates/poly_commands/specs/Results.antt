@@ -14,12 +14,16 @@ pub record IsResult (IsSet IsStored : Polyhedron → Type 0) (r : Polyhedron) : 
 
 -- the points at which the constraints hold, stored of their list
 abbrev pub IsResultOfConstraints : Topology → Constraints → Polyhedron → Type 0
-IsResultOfConstraints topology cs = IsResult (IsOfConstraints topology cs) (AreStoredOfRows topology cs.dim (constraints_of topology cs))
+IsResultOfConstraints topology cs =
+    IsResult (IsOfConstraints topology cs)
+    (AreStoredOfRows topology cs.dim (constraints_of topology cs))
 
 -- the points that the generators generate, stored of their list
 abbrev pub IsResultOfGenerators : Topology → Generators → Polyhedron → Type 0
-IsResultOfGenerators topology gs = IsResult (IsOfGenerators topology gs) (AreStoredOfGenerators topology gs)
+IsResultOfGenerators topology gs =
+    IsResult (IsOfGenerators topology gs) (AreStoredOfGenerators topology gs)
 
 -- the closure, stored of the list of the constraints that aren't strict
 abbrev pub IsResultOfClosure : Polyhedron → Polyhedron → Type 0
-IsResultOfClosure p = IsResult (IsClosure p) (AreStoredOfRows p.topology p.cons.dim (closure_list p))
+IsResultOfClosure p =
+    IsResult (IsClosure p) (AreStoredOfRows p.topology p.cons.dim (closure_list p))

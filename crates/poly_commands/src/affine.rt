@@ -1,7 +1,7 @@
 //! The commands that map polyhedra, and those that change the dimension.
 ghost use Rattle.std.specs.Prelude.{◌≡◌, ℕ, ◌+◌, ◌<◌, length, pos, ◌<ℤ◌, All, IfOk, IfErr, MatchResult};
 ghost use Rattle.std.specs.Option.{option_copied};
-ghost use Rattle.row_core.specs.Range.{InRange, AllInRange};
+ghost use Rattle.row_core.specs.Range.{InRange};
 ghost use Rattle.row_core.specs.Refusals.{IsOverflowIn};
 ghost use Rattle.affine_maps.specs.Relations.{IsRelationFor};
 ghost use Rattle.grammar.specs.Form.{Matches};
@@ -20,6 +20,7 @@ use row_core::{ConvErr, Steps};
 use script_text::{Mapping, Part, Rel, VarList};
 use std::alloc::Global;
 use std::sync::ledger::Ledger;
+use term_text::Frac;
 
 /// The relation of a line, as one of images.
 fn image_rel(rel: Rel) -> ImageRel
@@ -34,68 +35,67 @@ fn image_rel(rel: Rel) -> ImageRel
     }
 }
 
+/// Which variable is mapped, which way, and how it stands to its fraction.
+#[derive(Clone, Copy, Debug, PartialEq, Eq)]
+pub struct VariableMap {
+    pub by: Mapping,
+    pub v: u64,
+    pub rel: Rel,
+}
+
 /// The image or the preimage.
-fn map<L: Ledger>(
+fn image_of<L: Ledger>(
     alloc: Global,
-    op: Mapping,
+    map: VariableMap,
     p: &Poly,
-    var: usize,
-    rel: ImageRel,
-    expr: &[i128],
-    den: i128,
+    frac: &Frac,
     steps: &mut Steps<L>,
 ) -> Result<Poly, ConvErr>
-    requires var { var < p.now.cons.dim }
-    requires rel { IsRelationFor p.now.topology rel }
-    requires wide { length expr.now ≡ p.now.cons.dim + 1 }
-    requires in_range { AllInRange expr.now }
-    requires den_in_range { InRange den }
-    requires positive { pos 0 <ℤ den }
-    ensures points { IfOk result (IsSetOfMap op rel var expr.now den p.now) }
-    ensures stored { IfOk result (IsStoredOfMap op rel var expr.now den p.now) }
-    ensures overflow { IfErr result (IsOverflowIn (LeavesInMap op rel var expr.now den p.now)) }
+    requires var { map.v < p.now.cons.dim }
+    requires rel { IsRelationFor p.now.topology (image_rel map.rel) }
+    requires wide { length frac.now.expr ≡ p.now.cons.dim + 1 }
+    requires den_in_range { InRange frac.now.den }
+    requires positive { pos 0 <ℤ frac.now.den }
+    ensures points { IfOk result
+        (IsSetOfMap map.by (image_rel map.rel) map.v frac.now.expr frac.now.den p.now) }
+    ensures stored { IfOk result
+        (IsStoredOfMap map.by (image_rel map.rel) map.v frac.now.expr frac.now.den p.now) }
+    ensures overflow { IfErr result (IsOverflowIn
+        (LeavesInMap map.by (image_rel map.rel) map.v frac.now.expr frac.now.den p.now)) }
 {
-    match op {
-        Mapping::Image => affine_maps::image(alloc, p, var, rel, expr, den, steps),
-        Mapping::Preimage => affine_maps::preimage(alloc, p, var, rel, expr, den, steps),
+    let rel = image_rel(map.rel);
+    let expr = frac.expr.cells();
+    let var = map.v as usize;
+    match map.by {
+        Mapping::Image => affine_maps::image(alloc, p, var, rel, expr, frac.den, steps),
+        Mapping::Preimage => affine_maps::preimage(alloc, p, var, rel, expr, frac.den, steps),
     }
 }
 
 /// The image or the preimage of the polyhedron by the relation between the variable and the fraction.
 pub fn mapped_by<L: Ledger>(
     alloc: Global,
-    op: Mapping,
+    map: VariableMap,
     p: Option<&Poly>,
-    v: u64,
-    rel: Rel,
     part: &Part,
     full: bool,
     steps: &mut Steps<L>,
 ) -> Result<Poly, StepErr>
     requires form { Matches (alone frac_cases) part.now.text }
-    ensures { IsPerformed (on_one (option_copied p.entry) (make_mapped op full v rel part.now)) result }
+    ensures { IsPerformed (on_one (option_copied p.entry)
+        (make_mapped map.by full map.v map.rel part.now)) result }
 {
     let Some(p) = p else {
         return Err(StepErr::Input(Fault::UnknownName));
     };
-    let frac = match fraction_of(alloc, p, v, rel, part) {
+    let frac = match fraction_of(alloc, p, map.v, map.rel, part) {
         Ok(frac) => frac,
         Err(cause) => return Err(cause),
     };
     if full {
         return Err(StepErr::Input(Fault::TooManyNames));
     }
-    let expr = frac.expr.cells();
-    match map(
-        alloc,
-        op,
-        p,
-        v as usize,
-        image_rel(rel),
-        expr,
-        frac.den,
-        steps,
-    ) {
+    match image_of(alloc, map, p, &frac, steps) {
         Ok(made) => Ok(made),
         Err(cause) => Err(StepErr::from(cause)),
     }
@@ -103,7 +103,9 @@ pub fn mapped_by<L: Ledger>(
 
 /// The variables of a list as columns, each of them below the dimension.
 fn columns_of(alloc: Global, dim: usize, vars: &VarList) -> Result<Vec<usize>, StepErr>
-    ensures { MatchResult result (λ columns. (columns.items ≡ vars.now) × All (λ (i : ℕ). i < dim) vars.now) (IsTextRefusal (variables_fault dim vars.now)) }
+    ensures { MatchResult result
+        (λ columns. (columns.items ≡ vars.now) × All (λ (i : ℕ). i < dim) vars.now)
+        (IsTextRefusal (variables_fault dim vars.now)) }
 {
     let mut columns = Vec::new(alloc);
     for index in 0..vars.len() {

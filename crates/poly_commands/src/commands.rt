@@ -6,7 +6,7 @@ ghost use Rattle.line_values.specs.Performed.{IsPerformed};
 ghost use Rattle.poly_commands.specs.Meanings.{made_alone, made_of_one, made_of_two, made, added, said_of_one, said};
 ghost use Rattle.command_tasks.specs.Parts.{GivenFits, OfOneFits, MakerFits, AdditionFits, AboutFits, QuestionFits};
 
-use crate::affine::{mapped_by, remove};
+use crate::affine::{VariableMap, mapped_by, remove};
 use crate::files::write;
 use crate::lattice::{closure, compare, isempty};
 use crate::makers::{add, addgen, cons, copy, gens, space};
@@ -37,10 +37,10 @@ pub fn make<E: PolyEntry, L: Ledger>(
 {
     match maker {
         Maker::Given { top, n, by } => make_alone(alloc, by, topology_of(top), n, full, steps),
-        Maker::OfOne { p, by } => make_of_one(alloc, by, poly_at(names, p), full, steps),
+        Maker::OfOne { p, by } => make_of_one(alloc, by, poly_at(names, &p), full, steps),
         Maker::OfTwo { p, q, by } => {
-            let one = poly_at(names, p);
-            make_of_two(alloc, by, one, poly_at(names, q), full, steps)
+            let one = poly_at(names, &p);
+            make_of_two(alloc, by, one, poly_at(names, &q), full, steps)
         }
     }
 }
@@ -78,7 +78,10 @@ fn make_of_one<L: Ledger>(
     match by {
         OfOne::Copy => copy(p, full),
         OfOne::Closure => closure(alloc, p, full, steps),
-        OfOne::Map { by, v, rel, frac } => mapped_by(alloc, by, p, v, rel, &frac, full, steps),
+        OfOne::Map { by, v, rel, frac } => {
+            let map = VariableMap { by, v, rel };
+            mapped_by(alloc, map, p, &frac, full, steps)
+        }
         OfOne::Extend { by, n } => extend(alloc, by, p, n, full, steps),
         OfOne::Remove(vars) => remove(alloc, p, &vars, full, steps),
     }
@@ -93,7 +96,8 @@ fn make_of_two<L: Ledger>(
     full: bool,
     steps: &mut Steps<L>,
 ) -> Result<Poly, StepErr>
-    ensures { IsPerformed (on_two (option_copied p.entry) (option_copied q.entry) (made_of_two by full)) result }
+    ensures { IsPerformed
+        (on_two (option_copied p.entry) (option_copied q.entry) (made_of_two by full)) result }
 {
     match by {
         OfTwo::Operate(op) => of_two(alloc, op, p, q, full, steps),
@@ -128,10 +132,10 @@ pub fn ask<E: PolyEntry, L: Ledger>(
     ensures { IsPerformed (said E.as_poly names.now question) result }
 {
     match question {
-        Question::OfOne { p, about } => ask_of_one(alloc, about, poly_at(names, p)),
+        Question::OfOne { p, about } => ask_of_one(alloc, about, poly_at(names, &p)),
         Question::Compare { by, p, q } => {
-            let one = poly_at(names, p);
-            compare(alloc, by, one, poly_at(names, q), steps)
+            let one = poly_at(names, &p);
+            compare(alloc, by, one, poly_at(names, &q), steps)
         }
         Question::Names => name_list(names),
     }

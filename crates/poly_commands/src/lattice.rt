@@ -10,7 +10,7 @@ use gens_sys::GensSys;
 use line_values::{StepErr, answer};
 use poly_pair::Poly;
 use reply_text::{Fault, Text};
-use row_core::{Memory, Overflow, PairOver, RowBuf, Steps};
+use row_core::{Memory, Overflow, PairOver, Steps};
 use script_text::Comparison;
 use std::alloc::Global;
 use std::sync::ledger::Ledger;
@@ -38,7 +38,8 @@ pub fn closure<L: Ledger>(
 
 /// Whether each point of the second is in the first.
 fn contains(alloc: Global, p: Option<&Poly>, q: Option<&Poly>) -> Result<Text, StepErr>
-    ensures { IsPerformed (on_two (option_copied p.entry) (option_copied q.entry) ask_contains) result }
+    ensures { IsPerformed
+        (on_two (option_copied p.entry) (option_copied q.entry) ask_contains) result }
 {
     let (Some(p), Some(q)) = (p, q) else {
         return Err(StepErr::Input(Fault::UnknownName));
@@ -57,7 +58,8 @@ fn contains(alloc: Global, p: Option<&Poly>, q: Option<&Poly>) -> Result<Text, S
 
 /// Whether both have the same points.
 fn equal(alloc: Global, p: Option<&Poly>, q: Option<&Poly>) -> Result<Text, StepErr>
-    ensures { IsPerformed (on_two (option_copied p.entry) (option_copied q.entry) ask_equal) result }
+    ensures { IsPerformed
+        (on_two (option_copied p.entry) (option_copied q.entry) ask_equal) result }
 {
     let (Some(p), Some(q)) = (p, q) else {
         return Err(StepErr::Input(Fault::UnknownName));
@@ -98,15 +100,8 @@ fn shown(alloc: Global, cons: &ConsSys, gens: &GensSys, pair: PairOver) -> Resul
     requires right { pair.right < length gens.now.list }
     ensures { IfOk result (λ over. over ≡ shown_rows cons.now gens.now pair) }
 {
-    let left = RowBuf::new(alloc, cons.row(pair.left))?;
-    let right = RowBuf::new(alloc, gens.row(pair.right))?;
-    Ok(Overflow {
-        kind: pair.kind,
-        step: 0,
-        left,
-        right,
-        column: pair.column,
-    })
+    let (left, right) = (cons.row(pair.left), gens.row(pair.right));
+    Overflow::of_rows(alloc, pair.kind, left, right, pair.column)
 }
 
 /// Whether no point is in both.
@@ -116,7 +111,8 @@ fn disjoint<L: Ledger>(
     q: Option<&Poly>,
     steps: &mut Steps<L>,
 ) -> Result<Text, StepErr>
-    ensures { IsPerformed (on_two (option_copied p.entry) (option_copied q.entry) ask_disjoint) result }
+    ensures { IsPerformed
+        (on_two (option_copied p.entry) (option_copied q.entry) ask_disjoint) result }
 {
     let (Some(p), Some(q)) = (p, q) else {
         return Err(StepErr::Input(Fault::UnknownName));
@@ -141,7 +137,8 @@ pub fn compare<L: Ledger>(
     q: Option<&Poly>,
     steps: &mut Steps<L>,
 ) -> Result<Text, StepErr>
-    ensures { IsPerformed (on_two (option_copied p.entry) (option_copied q.entry) (compared by)) result }
+    ensures { IsPerformed
+        (on_two (option_copied p.entry) (option_copied q.entry) (compared by)) result }
 {
     match by {
         Comparison::Contains => contains(alloc, p, q),

@@ -25,7 +25,8 @@ pub fn of_two<L: Ledger>(
     full: bool,
     steps: &mut Steps<L>,
 ) -> Result<Poly, StepErr>
-    ensures { IsPerformed (on_two (option_copied p.entry) (option_copied q.entry) (operated op full)) result }
+    ensures { IsPerformed
+        (on_two (option_copied p.entry) (option_copied q.entry) (operated op full)) result }
 {
     let (Some(p), Some(q)) = (p, q) else {
         return Err(StepErr::Input(Fault::UnknownName));
@@ -44,7 +45,8 @@ pub fn of_two<L: Ledger>(
 
 /// The first fault of two operands, if they don't fit the operator.
 fn misfit(op: Operator, p: &Poly, q: &Poly) -> Option<Fault>
-    ensures { MatchOption result (Fits op p.now q.now) (λ fault. (full : Bool) → IsFirst (fitting op p.now q.now (room full)) fault) }
+    ensures { MatchOption result (Fits op p.now q.now)
+        (λ fault. (full : Bool) → IsFirst (fitting op p.now q.now (room full)) fault) }
 {
     if p.topology() != q.topology() {
         return Some(Fault::TopologyMismatch);
@@ -88,7 +90,8 @@ fn operate<L: Ledger>(
 /// The number of further variables, where the dimension with them is within the limit.
 fn more_dims(dim: usize, n: u64) -> Option<usize>
     requires { dim ≤ MAX_DIM }
-    ensures { MatchOption result (MAX_DIM < dim + n) (λ count. (count ≡ n) × (dim + count ≤ MAX_DIM)) }
+    ensures { MatchOption result (MAX_DIM < dim + n)
+        (λ count. (count ≡ n) × (dim + count ≤ MAX_DIM)) }
 {
     if n > (MAX_DIM - dim) as u64 {
         return None;

@@ -134,7 +134,8 @@ fn push_generator(
     index: usize,
 ) -> Result<(), Memory>
     requires { index < length gens.now.list }
-    ensures { OnOk result (text.new ≡ text.old ++ generator_text gens.now.dim (generator_at gens.now.list index)) }
+    ensures { OnOk result
+        (text.new ≡ text.old ++ generator_text gens.now.dim (generator_at gens.now.list index)) }
 {
     let shown = print_gen(alloc, gens, index)?;
     text.push(shown.bytes())
@@ -142,7 +143,8 @@ fn push_generator(
 
 /// Appends a fraction.
 fn push_fraction(text: &mut Text, num: i128, den: i128) -> Result<(), Memory>
-    ensures { OnOk result (text.new ≡ text.old ++ signed_decimal num ++ codes "/" ++ signed_decimal den) }
+    ensures { OnOk result
+        (text.new ≡ text.old ++ signed_decimal num ++ codes "/" ++ signed_decimal den) }
 {
     text.push_signed(num)?;
     text.push(b"/")?;

@@ -4,9 +4,8 @@ ghost use Rattle.std.specs.Option.{option_copied};
 ghost use Rattle.grammar.specs.Form.{Matches};
 ghost use Rattle.grammar.specs.Grammar.{alone};
 ghost use Rattle.grammar.specs.Cases.{point_cases};
-ghost use Rattle.cons_sys.specs.Constraints.{row_at};
 ghost use Rattle.line_values.specs.Meaning.{on_one};
-ghost use Rattle.poly_commands.specs.Questions.{has as ask_point, size as tell_size, print as tell_side, size_text, side_text};
+ghost use Rattle.poly_commands.specs.Questions.{has as ask_point, size as tell_size, print as tell_side, size_text, side_text, shown_at};
 ghost use Rattle.line_values.specs.Performed.{IsPerformed};
 
 use cons_sys::ConsSys;
@@ -80,26 +79,25 @@ pub fn has(alloc: Global, p: Option<&Poly>, part: &Part) -> Result<Text, StepErr
     };
     match p.cons().holds_at(point.cells()) {
         Ok(holds) => answer(alloc, holds),
-        Err(pair) => Err(StepErr::Overflow(overflow(alloc, p.cons(), point, pair)?)),
+        Err(pair) => Err(StepErr::Overflow(overflow(alloc, p.cons(), &point, pair)?)),
     }
 }
 
-/// The rows of a pair that leaves the range.
+/// The constraint and the point of a pair that leaves the range.
 fn overflow(
     alloc: Global,
     cons: &ConsSys,
-    point: RowBuf,
+    point: &RowBuf,
     pair: PairOver,
 ) -> Result<Overflow, Memory>
     requires { pair.left < length cons.now.list }
-    ensures { IfOk result (λ over. over ≡ record { kind = pair.kind; step = 0; left = row_at cons.now.list pair.left; right = point; column = pair.column }) }
+    ensures { IfOk result (λ over. over ≡ shown_at cons.now point.now pair) }
 {
-    let left = RowBuf::new(alloc, cons.row(pair.left))?;
-    Ok(Overflow {
-        kind: pair.kind,
-        step: 0,
-        left,
-        right: point,
-        column: pair.column,
-    })
+    Overflow::of_rows(
+        alloc,
+        pair.kind,
+        cons.row(pair.left),
+        point.cells(),
+        pair.column,
+    )
 }

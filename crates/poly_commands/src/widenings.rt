@@ -23,7 +23,8 @@ pub fn widen<L: Ledger>(
     full: bool,
     steps: &mut Steps<L>,
 ) -> Result<Poly, StepErr>
-    ensures { IsPerformed (on_two (option_copied p.entry) (option_copied q.entry) (make_widening full)) result }
+    ensures { IsPerformed
+        (on_two (option_copied p.entry) (option_copied q.entry) (make_widening full)) result }
 {
     let (Some(p), Some(q)) = (p, q) else {
         return Err(StepErr::Input(Fault::UnknownName));

@@ -8,7 +8,8 @@ use Rattle.poly_io.specs.declared.writing.WriteAns.TheVariants.{Took, Failed, Me
 -- a sink that doesn't tell its bytes goes on not telling them
 abbrev pub Writes : Option (List ℕ) → Option (List ℕ) → List ℕ → WriteAns → Type 0
 -- the first bytes are appended to what was held, one at least
-Writes old new bytes (Took n) = (1 ≤ n) × (n ≤ length bytes) × (new ≡ append_known old (take n bytes))
+Writes old new bytes (Took n) =
+    (1 ≤ n) × (n ≤ length bytes) × (new ≡ append_known old (take n bytes))
 -- a failure, or want of memory, appends nothing
 Writes old new bytes Failed = new ≡ old
 Writes old new bytes Memory = new ≡ old

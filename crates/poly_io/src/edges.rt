@@ -84,7 +84,8 @@ impl<R: Read + Drop> Source for StdSource<R> {
 // Writes, and flushes what was taken: an error of either is one of both.
 fn write_through<W: Write>(writer: &mut W, buf: &[u8]) -> io::Result<usize>
     ensures bound { IfOk result (λ count. count ≤ length buf.now) }
-    ensures sent { IfOk result (λ count. Appends (W.contents writer.old) (W.contents writer.new) (take count buf.now)) }
+    ensures sent { IfOk result
+        (λ count. Appends (W.contents writer.old) (W.contents writer.new) (take count buf.now)) }
 {
     let count = writer.write(buf)?;
     writer.flush()?;

@@ -59,7 +59,8 @@ impl Sink for SafeSink {
     fn write(&mut self, buf: &[u8]) -> WriteAns
         requires { 0 < length buf.now }
         ensures appended { Writes (Some self.old.held) (Some self.new.held) buf.now result }
-        ensures exact { (result ≡ WriteAns.Memory) ⊎ (result ≡ WriteAns.Took (min (length buf.now) self.old.piece)) }
+        ensures exact { (result ≡ WriteAns.Memory)
+            ⊎ (result ≡ WriteAns.Took (min (length buf.now) self.old.piece)) }
         ensures memory_by_want { result ≡ WriteAns.Memory → HasRisen self.old.wants self.new.wants }
         ensures wants_counted { self.old.wants ≤ self.new.wants }
         ensures wanted { self.new.wants ≡ wants_after self.old.wants result }
@@ -96,7 +97,8 @@ impl MemSink {
     /// numbers, counted from 1, stand in `fails`.
     pub fn new(alloc: Global, piece: usize, fails: &[u64]) -> Result<MemSink, AllocError>
         requires { 1 ≤ piece }
-        ensures bytes { IfOk result (λ s. s.store ≡ record { held = []; piece = piece; wants = 0 }) }
+        ensures bytes { IfOk result
+            (λ s. s.store ≡ record { held = []; piece = piece; wants = 0 }) }
         ensures faults { IfOk result (λ s. s.faults ≡ at_start fails.now) }
     {
         Ok(MemSink {
@@ -122,13 +124,20 @@ impl Sink for MemSink {
 
     fn write(&mut self, buf: &[u8]) -> WriteAns
         requires { 0 < length buf.now }
-        ensures appended { Writes (Some self.old.store.held) (Some self.new.store.held) buf.now result }
-        ensures failed_by_fault { result ≡ WriteAns.Failed → HasRisen self.old.faults.count self.new.faults.count }
+        ensures appended { Writes (Some self.old.store.held)
+            (Some self.new.store.held) buf.now result }
+        ensures failed_by_fault { result ≡ WriteAns.Failed
+            → HasRisen self.old.faults.count self.new.faults.count }
         ensures counted { self.old.faults.count ≤ self.new.faults.count }
         ensures fails { (result ≡ WriteAns.Failed) ↔ FailsNext self.old.faults }
-        ensures failure { result ≡ WriteAns.Failed → self.new ≡ record { store = self.old.store; faults = after_failure self.old.faults } }
-        ensures success { result ≢ WriteAns.Failed → ((result ≡ WriteAns.Memory) ⊎ (result ≡ WriteAns.Took (min (length buf.now) self.old.store.piece))) × (self.new.faults ≡ after_success self.old.faults) }
-        ensures memory_by_want { result ≡ WriteAns.Memory → HasRisen self.old.store.wants self.new.store.wants }
+        ensures failure { result ≡ WriteAns.Failed
+            → self.new ≡ record { store = self.old.store; faults = after_failure self.old.faults } }
+        ensures success { result ≢ WriteAns.Failed
+            → ((result ≡ WriteAns.Memory)
+            ⊎ (result ≡ WriteAns.Took (min (length buf.now) self.old.store.piece)))
+            × (self.new.faults ≡ after_success self.old.faults) }
+        ensures memory_by_want { result ≡ WriteAns.Memory
+            → HasRisen self.old.store.wants self.new.store.wants }
         ensures wants_counted { self.old.store.wants ≤ self.new.store.wants }
         ensures wanted { self.new.store.wants ≡ wants_after self.old.store.wants result }
         ensures piece { self.new.store.piece ≡ self.old.store.piece }

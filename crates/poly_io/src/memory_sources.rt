@@ -117,11 +117,15 @@ impl Source for MemSource {
     fn read(&mut self, buf: &mut [u8]) -> ReadAns
         requires { 0 < length buf.old }
         ensures moved { Reads (Some self.old.stock.left) (Some self.new.stock.left) buf.new result }
-        ensures failed_by_fault { result ≡ ReadAns.Failed → HasRisen self.old.faults.count self.new.faults.count }
+        ensures failed_by_fault { result ≡ ReadAns.Failed
+            → HasRisen self.old.faults.count self.new.faults.count }
         ensures counted { self.old.faults.count ≤ self.new.faults.count }
         ensures fails { (result ≡ ReadAns.Failed) ↔ FailsNext self.old.faults }
-        ensures failure { result ≡ ReadAns.Failed → self.new ≡ record { stock = self.old.stock; faults = after_failure self.old.faults } }
-        ensures success { result ≢ ReadAns.Failed → (result ≡ answer_from self.old.stock (length buf.old)) × (self.new.faults ≡ after_success self.old.faults) }
+        ensures failure { result ≡ ReadAns.Failed
+            → self.new ≡ record { stock = self.old.stock; faults = after_failure self.old.faults } }
+        ensures success { result ≢ ReadAns.Failed
+            → (result ≡ answer_from self.old.stock (length buf.old))
+            × (self.new.faults ≡ after_success self.old.faults) }
         ensures piece { self.new.stock.piece ≡ self.old.stock.piece }
     {
         if self.timetable.fails_now() {

@@ -26,6 +26,7 @@ pub trait Source {
     fn read(&mut self, buf: &mut [u8]) -> ReadAns
         requires { 0 < length buf.old }
         ensures moved { Reads (left self.old) (left self.new) buf.new result }
-        ensures failed_by_fault { result ≡ ReadAns.Failed → HasRisen (faults self.old) (faults self.new) }
+        ensures failed_by_fault { result ≡ ReadAns.Failed
+            → HasRisen (faults self.old) (faults self.new) }
         ensures counted { faults self.old ≤ faults self.new };
 }

@@ -37,7 +37,8 @@ impl Timetable {
     pub fn fails_now(&mut self) -> bool
         ensures exact { IsTrue result ↔ FailsNext self.old }
         ensures never_falls { self.old.count ≤ self.new.count }
-        ensures counted { self.new ≡ (if result then after_failure self.old else after_success self.old) }
+        ensures counted { self.new
+            ≡ (if result then after_failure self.old else after_success self.old) }
     {
         self.calls = self.calls.saturating_add(1);
         let fails = self.fails.contains(&self.calls);

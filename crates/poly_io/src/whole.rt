@@ -1,7 +1,8 @@
 //! Reading all of a source, and writing all of some bytes.
 ghost use Rattle.std.specs.Prelude.{◌≡◌, ℕ, ◌^◌, ◌<◌, ◌≤◌, ◌↔◌, List, length, take, vec_len, IfOk, OnOk, OnErr, IsErrOf};
-ghost use Rattle.std.specs.Io.KnownBytes.{prepend_known, append_known, IsAtEnd};
+ghost use Rattle.std.specs.Io.KnownBytes.{append_known, IsAtEnd};
 ghost use Rattle.poly_io.specs.Counts.{HasRisen};
+ghost use Rattle.poly_io.specs.Reads.{Gave};
 ghost use Rattle.poly_io.specs.Whole.{AnswersGiven};
 ghost use Rattle.poly_io.specs.declared.whole.ReadAllErr.TheVariants.{Memory as ReadMemory};
 
@@ -46,9 +47,11 @@ pub fn read_all<S: Source>(
     source: &mut S,
     limit: usize,
 ) -> Result<Vec<u8>, ReadAllErr>
-    ensures given { (given : List ℕ) × (S.left source.old ≡ prepend_known given (S.left source.new)) × AnswersGiven given limit (2 ^ 16) result }
+    ensures given { Gave (S.left source.old) (S.left source.new)
+        (λ given. AnswersGiven given limit (2 ^ 16) result) }
     ensures end { OnOk result (IsAtEnd (S.left source.new)) }
-    ensures failed_by_fault { IsErrOf result ReadAllErr.Failed → HasRisen (S.faults source.old) (S.faults source.new) }
+    ensures failed_by_fault { IsErrOf result ReadAllErr.Failed
+        → HasRisen (S.faults source.old) (S.faults source.new) }
     ensures counted { S.faults source.old ≤ S.faults source.new }
 {
     let mut buf = room_of(alloc, ROOM)?;
@@ -70,9 +73,11 @@ fn gather<S: Source>(
     limit: usize,
 ) -> Result<Vec<u8>, ReadAllErr>
     requires { 0 < length buf.old }
-    ensures given { (given : List ℕ) × (S.left source.old ≡ prepend_known given (S.left source.new)) × AnswersGiven given limit (length buf.old) result }
+    ensures given { Gave (S.left source.old) (S.left source.new)
+        (λ given. AnswersGiven given limit (length buf.old) result) }
     ensures end { OnOk result (IsAtEnd (S.left source.new)) }
-    ensures failed_by_fault { IsErrOf result ReadAllErr.Failed → HasRisen (S.faults source.old) (S.faults source.new) }
+    ensures failed_by_fault { IsErrOf result ReadAllErr.Failed
+        → HasRisen (S.faults source.old) (S.faults source.new) }
     ensures counted { S.faults source.old ≤ S.faults source.new }
 {
     let mut bytes = Vec::new(alloc);
@@ -94,10 +99,13 @@ fn gather<S: Source>(
 #[tactic(auto, using(crate::proofs::Known::write_steps))]
 pub fn write_all<W: Sink>(sink: &mut W, bytes: &[u8]) -> Result<(), WriteAllErr>
     ensures written { OnOk result (W.held sink.new ≡ append_known (W.held sink.old) bytes.now) }
-    ensures partly { (count : ℕ) × (W.held sink.new ≡ append_known (W.held sink.old) (take count bytes.now)) }
-    ensures failed_by_fault { IsErrOf result WriteAllErr.Failed → HasRisen (W.faults sink.old) (W.faults sink.new) }
+    ensures partly { (count : ℕ)
+        × (W.held sink.new ≡ append_known (W.held sink.old) (take count bytes.now)) }
+    ensures failed_by_fault { IsErrOf result WriteAllErr.Failed
+        → HasRisen (W.faults sink.old) (W.faults sink.new) }
     ensures counted { W.faults sink.old ≤ W.faults sink.new }
-    ensures memory_by_want { IsErrOf result WriteAllErr.Memory → HasRisen (W.wants sink.old) (W.wants sink.new) }
+    ensures memory_by_want { IsErrOf result WriteAllErr.Memory
+        → HasRisen (W.wants sink.old) (W.wants sink.new) }
     ensures wants_counted { W.wants sink.old ≤ W.wants sink.new }
 {
     let mut at = 0;

@@ -29,8 +29,10 @@ pub trait Sink {
     fn write(&mut self, buf: &[u8]) -> WriteAns
         requires { 0 < length buf.now }
         ensures appended { Writes (held self.old) (held self.new) buf.now result }
-        ensures failed_by_fault { result ≡ WriteAns.Failed → HasRisen (faults self.old) (faults self.new) }
+        ensures failed_by_fault { result ≡ WriteAns.Failed
+            → HasRisen (faults self.old) (faults self.new) }
         ensures counted { faults self.old ≤ faults self.new }
-        ensures memory_by_want { result ≡ WriteAns.Memory → HasRisen (wants self.old) (wants self.new) }
+        ensures memory_by_want { result ≡ WriteAns.Memory
+            → HasRisen (wants self.old) (wants self.new) }
         ensures wants_counted { wants self.old ≤ wants self.new };
 }

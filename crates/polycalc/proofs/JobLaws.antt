@@ -8,16 +8,16 @@ use Rattle.cdd_reading.specs.declared.format.Format.TheVariants.{Ine, Ext}
 use Rattle.calc_state.specs.State.{closed}
 use Rattle.plain_text.specs.Digits.{number}
 use Rattle.cdd_reading.specs.declared.format.Format.{Format}
-use Rattle.polycalc.specs.Words.{IsAskedBy, SpellsSize}
+use Rattle.job_words.specs.Words.{IsAskedBy, SpellsSize}
 use Rattle.calc_state.specs.Runs.{RunsAreComplete}
 use Rattle.polycalc.specs.Outcomes.{Completes, Converts, Samples, IsReadOut, Finishes, WritesFront, AnswersRead, AnswersFront, Outcome, Ends, Stops, IsRunAnswered, IsFileAnswered, IsSampleAnswered, IsAnswered}
-use Rattle.polycalc.specs.declared.job.Job.{Job}
-use Rattle.polycalc.specs.declared.job.Job.TheVariants as job
+use Rattle.job_words.specs.declared.job.Job.{Job}
+use Rattle.job_words.specs.declared.job.Job.TheVariants as job
 use Rattle.polycalc.specs.declared.status.Status.{Status}
 use Rattle.polycalc.specs.declared.status.Status.TheVariants.{Done, Refused, Usage, ReadFault, WriteFault, Memory, InputTooLong}
 use Rattle.job_texts.proofs.ConversionLaws.{must_convert}
 use Rattle.job_texts.proofs.SampleLaws.{must_sample}
-use Rattle.polycalc.proofs.SampleWords.{second}
+use Rattle.job_words.proofs.SampleWords.{second}
 
 abbrev first_byte : List (List ℕ) → ℕ
 first_byte ((b ∷ word) ∷ words) = b

@@ -1,4 +1,3 @@
-pub mod OneWord
 pub mod RunLaws
 pub mod CompleteRuns
 pub mod CutRuns
@@ -7,5 +6,4 @@ pub mod EndLaws
 pub mod FirstLines
 pub mod WriteLaws
 pub mod GivenReplies
-pub mod SampleWords
 pub mod JobLaws

@@ -22,7 +22,7 @@ use Rattle.calc_state.specs.Runs.{Run, at_end}
 use Rattle.poly_io.specs.Counts.{HasRisen}
 use Rattle.polycalc.specs.Outcomes.{Completes, WritesPrefix, AnswersWhole, AnswersEarlier, AnswersFirst, Outcome}
 use Rattle.polycalc.specs.Endings.{Closes, done, refused, unwritten, unmade}
-use Rattle.polycalc.specs.declared.job.Job.TheVariants as job
+use Rattle.job_words.specs.declared.job.Job.TheVariants as job
 use Rattle.polycalc.specs.declared.status.Status.{Status}
 use Rattle.polycalc.specs.declared.status.Status.TheVariants.{Done, Refused, Usage, ReadFault, WriteFault, Memory, InputTooLong}
 use Rattle.polycalc.proofs.RunLaws.{Run-then, written-more}

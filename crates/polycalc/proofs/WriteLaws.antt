@@ -9,7 +9,7 @@ use Rattle.job_texts.specs.Conversions.{ConvertsTo}
 use Rattle.job_texts.specs.Samples.{SamplesTo}
 use Rattle.polycalc.specs.Endings.{Writes}
 use Rattle.polycalc.specs.Outcomes.{Outcome}
-use Rattle.polycalc.specs.declared.job.Job.TheVariants as job
+use Rattle.job_words.specs.declared.job.Job.TheVariants as job
 use Rattle.polycalc.specs.declared.status.Status.{Status}
 use Rattle.polycalc.specs.declared.status.Status.TheVariants.{Done, Refused, Usage, ReadFault, WriteFault, Memory, InputTooLong}
 

@@ -7,11 +7,16 @@ use Rattle.polycalc.specs.declared.status.Status.{Status}
 use Rattle.polycalc.specs.declared.status.Status.TheVariants.{Done, Refused, Usage, ReadFault, WriteFault, Memory, InputTooLong}
 
 -- the reply to the end of a script is written, or a front of it
-pub data Closes (further : List Reply) (clean : Bool) (now later : Option (List ℕ)) : Status → Type 0 where
-  done : (clean && is_clean further) ≡ true → later ≡ append_known now (replies_bytes further) → Closes further clean now later Done
-  refused : (clean && is_clean further) ≡ false → later ≡ append_known now (replies_bytes further) → Closes further clean now later Refused
-  unwritten : (n : ℕ) → later ≡ append_known now (take n (replies_bytes further)) → Closes further clean now later WriteFault
-  unmade : (n : ℕ) → later ≡ append_known now (take n (replies_bytes further)) → Closes further clean now later Memory
+pub data Closes (further : List Reply) (clean : Bool) (now later : Option (List ℕ)) : Status
+    → Type 0 where
+  done : (clean && is_clean further) ≡ true → later ≡ append_known now (replies_bytes further)
+      → Closes further clean now later Done
+  refused : (clean && is_clean further) ≡ false → later ≡ append_known now (replies_bytes further)
+      → Closes further clean now later Refused
+  unwritten : (n : ℕ) → later ≡ append_known now (take n (replies_bytes further))
+      → Closes further clean now later WriteFault
+  unmade : (n : ℕ) → later ≡ append_known now (take n (replies_bytes further))
+      → Closes further clean now later Memory
 
 -- what was held, and behind it the gathered replies, or a front of them; whether they are clean is told
 abbrev pub Writes : Written → Option (List ℕ) → Option (List ℕ) → Status → Type 0

@@ -4,13 +4,14 @@ use Rattle.std.specs.Str.Lines.{lines}
 use Rattle.calc_state.specs.State.{State, closed}
 use Rattle.line_values.specs.Replies.{Reply, is_answer}
 use Rattle.cdd_reading.specs.declared.format.Format.{Format}
-use Rattle.polycalc.specs.Words.{IsAskedBy}
+use Rattle.poly_io.specs.declared.line_reader.TheConstants.{INPUT_LIMIT}
+use Rattle.job_words.specs.Words.{IsAskedBy}
 use Rattle.polycalc.specs.Replies.{reply_bytes, replies_bytes, is_clean}
 use Rattle.job_texts.specs.Conversions.{ConvertsTo, MustConvert}
 use Rattle.job_texts.specs.Samples.{SamplesTo, MustSample}
 use Rattle.calc_state.specs.Runs.{Run, IsComplete, at_end}
-use Rattle.polycalc.specs.declared.job.Job.{Job}
-use Rattle.polycalc.specs.declared.job.Job.TheVariants as job
+use Rattle.job_words.specs.declared.job.Job.{Job}
+use Rattle.job_words.specs.declared.job.Job.TheVariants as job
 use Rattle.polycalc.specs.declared.status.Status.{Status}
 use Rattle.polycalc.specs.declared.status.Status.TheVariants.{Done, Refused, Usage, ReadFault, WriteFault, Memory, InputTooLong}
 
@@ -29,13 +30,15 @@ pub record AreWholeLines (script : List ℕ) (answered : List (List ℕ)) : Type
   pub cut : lines (script ++ 10 ∷ []) ≡ answered ++ next ∷ others
 
 -- the first lines of what a source gave, and the others: where it isn't at its end, the first are whole lines
-pub record AreFirstLines (given : List ℕ) (left : Option (List ℕ)) (answered others : List (List ℕ)) : Type 0 where
+pub record AreFirstLines (given : List ℕ) (left : Option (List ℕ))
+    (answered others : List (List ℕ)) : Type 0 where
   pub cut : lines given ≡ answered ++ others
   pub whole : IsAtEnd left ⊎ AreWholeLines given answered
 
 -- no reply, or after the last line of a source that is at its end that to the end of the script
 abbrev pub IsEndReply : Option (List ℕ) → List (List ℕ) → State → List Reply → Type 0
-IsEndReply left others state further = (further ≡ []) ⊎ (IsAtEnd left × (others ≡ []) × (further ≡ at_end state))
+IsEndReply left others state further =
+    (further ≡ []) ⊎ (IsAtEnd left × (others ≡ []) × (further ≡ at_end state))
 
 -- what was held, and behind it a front of the replies of a run over the first lines of the script, or over all and to its end
 pub record WritesPrefix (script : List ℕ) (left old new : Option (List ℕ)) : Type 0 where
@@ -81,7 +84,8 @@ pub record AnswersFirst (script : List ℕ) (left old new : Option (List ℕ)) :
 
 -- ---- files that are converted
 -- what was held, and behind it the reply to the file; whether it is no fault and no overflow is told
-pub record Converts (want : Format) (file : List ℕ) (clean : Bool) (old new : Option (List ℕ)) : Type 0 where
+pub record Converts (want : Format) (file : List ℕ) (clean : Bool)
+    (old new : Option (List ℕ)) : Type 0 where
   pub reply : Reply
   pub converts : ConvertsTo want file reply
   pub held : new ≡ append_known old (reply_bytes reply)
@@ -125,7 +129,8 @@ Finishes (job.Sample n) given clean old new = Samples n clean old new
 -- a front of them is written, or none, where the source gave these bytes and has those left; of a file none before its end
 abbrev pub WritesFront : Job → List ℕ → Option (List ℕ) → Option (List ℕ) → Option (List ℕ) → Type 0
 WritesFront job.Run script left old new = WritesPrefix script left old new
-WritesFront (job.Convert want) file left old new = (new ≡ old) ⊎ (IsAtEnd left × ConvertsPrefix want file old new)
+WritesFront (job.Convert want) file left old new =
+    (new ≡ old) ⊎ (IsAtEnd left × ConvertsPrefix want file old new)
 WritesFront (job.Sample n) given left old new = (new ≡ old) ⊎ SamplesPrefix n old new
 
 -- what is written where the source gave these bytes and not its last: the replies to whole lines, and of a file nothing; for a
@@ -136,35 +141,50 @@ AnswersRead (job.Convert want) file left old new = new ≡ old
 AnswersRead (job.Sample n) given left old new = ⊥
 
 -- likewise, but for the bytes of one read
-abbrev pub AnswersFront : Job → List ℕ → Option (List ℕ) → Option (List ℕ) → Option (List ℕ) → Type 0
+abbrev pub AnswersFront : Job → List ℕ → Option (List ℕ) → Option (List ℕ) → Option (List ℕ)
+    → Type 0
 AnswersFront job.Run script left old new = AnswersEarlier script old new
 AnswersFront (job.Convert want) file left old new = new ≡ old
 AnswersFront (job.Sample n) given left old new = ⊥
 
 -- what is written where memory was wanted elsewhere than at the sink: the replies to the lines before, and of a file or a
 -- sample nothing
-abbrev pub AnswersBefore : Job → List ℕ → Option (List ℕ) → Option (List ℕ) → Option (List ℕ) → Type 0
+abbrev pub AnswersBefore : Job → List ℕ → Option (List ℕ) → Option (List ℕ) → Option (List ℕ)
+    → Type 0
 AnswersBefore job.Run script left old new = AnswersFirst script left old new
 AnswersBefore (job.Convert want) file left old new = new ≡ old
 AnswersBefore (job.Sample n) given left old new = new ≡ old
 
 -- the source gave some bytes, and that is written
-abbrev pub GivesUp : Job → Option (List ℕ) → Option (List ℕ) → Option (List ℕ) → Option (List ℕ) → Type 0
-GivesUp task left left_now old new = (given : List ℕ) × (left ≡ prepend_known given left_now) × AnswersBefore task given left_now old new
+abbrev pub GivesUp : Job → Option (List ℕ) → Option (List ℕ) → Option (List ℕ) → Option (List ℕ)
+    → Type 0
+GivesUp task left left_now old new =
+    (given : List ℕ) × (left ≡ prepend_known given left_now)
+    × AnswersBefore task given left_now old new
 
 -- what came of a job, after the source gave these bytes and now has those left
-abbrev pub Outcome : Job → List ℕ → Option (List ℕ) → Option (List ℕ) → Option (List ℕ) → Status → Type 0
-Outcome task given left old new Done = (length given ≤ 2 ^ 26) × IsReadOut task given left × Finishes task given true old new
-Outcome task given left old new Refused = (length given ≤ 2 ^ 26) × IsReadOut task given left × Finishes task given false old new
-Outcome task given left old new ReadFault = (length given ≤ 2 ^ 26) × AnswersRead task given left old new
-Outcome task given left old new WriteFault = (length given ≤ 2 ^ 26) × WritesFront task given left old new
-Outcome task given left old new Memory = (length given ≤ 2 ^ 26) × WritesFront task given left old new
-Outcome task given left old new InputTooLong = (2 ^ 26 < length given) × (length given ≤ 2 ^ 26 + 2 ^ 16) × WritesFront task given left old new × AnswersFront task given left old new
+abbrev pub Outcome : Job → List ℕ → Option (List ℕ) → Option (List ℕ) → Option (List ℕ) → Status
+    → Type 0
+Outcome task given left old new Done =
+    (length given ≤ INPUT_LIMIT) × IsReadOut task given left × Finishes task given true old new
+Outcome task given left old new Refused =
+    (length given ≤ INPUT_LIMIT) × IsReadOut task given left × Finishes task given false old new
+Outcome task given left old new ReadFault =
+    (length given ≤ INPUT_LIMIT) × AnswersRead task given left old new
+Outcome task given left old new WriteFault =
+    (length given ≤ INPUT_LIMIT) × WritesFront task given left old new
+Outcome task given left old new Memory =
+    (length given ≤ INPUT_LIMIT) × WritesFront task given left old new
+Outcome task given left old new InputTooLong =
+    (INPUT_LIMIT < length given) × (length given ≤ INPUT_LIMIT + 2 ^ 16)
+    × WritesFront task given left old new
+    × AnswersFront task given left old new
 Outcome task given left old new Usage = ⊥
 
 -- ---- what the top call promises of the job that the words ask for
 -- the source gave all that the job reads, and all replies are written
-pub record Ends (words : List (List ℕ)) (left left_now old new : Option (List ℕ)) (clean : Bool) : Type 0 where
+pub record Ends (words : List (List ℕ)) (left left_now old new : Option (List ℕ))
+    (clean : Bool) : Type 0 where
   pub job : Job
   pub asked : IsAskedBy words job
   pub given : List ℕ
@@ -173,7 +193,9 @@ pub record Ends (words : List (List ℕ)) (left left_now old new : Option (List 
   pub finishes : Finishes job given clean old new
 
 -- the source gave some bytes, and this is written
-pub record Stops (words : List (List ℕ)) (left left_now old new : Option (List ℕ)) (Writes : Job → List ℕ → Option (List ℕ) → Option (List ℕ) → Option (List ℕ) → Type 0) : Type 0 where
+pub record Stops (words : List (List ℕ)) (left left_now old new : Option (List ℕ))
+    (Writes : Job → List ℕ → Option (List ℕ) → Option (List ℕ) → Option (List ℕ)
+    → Type 0) : Type 0 where
   pub job : Job
   pub asked : IsAskedBy words job
   pub given : List ℕ
@@ -182,7 +204,8 @@ pub record Stops (words : List (List ℕ)) (left left_now old new : Option (List
 
 -- the script is answered: behind what was held stand the replies of a run over its lines, from the state without names and
 -- without a file, and that to its end; each line that must succeed is answered, and the status tells whether some reply is a fault or an overflow
-pub record IsRunAnswered (script before : List ℕ) (held : Option (List ℕ)) (status : Status) : Type 0 where
+pub record IsRunAnswered (script before : List ℕ) (held : Option (List ℕ))
+    (status : Status) : Type 0 where
   pub state : State
   pub replies : List Reply
   pub run : Run (closed []) (lines script) replies state
@@ -192,7 +215,8 @@ pub record IsRunAnswered (script before : List ℕ) (held : Option (List ℕ)) (
 
 -- the file is answered: behind what was held stands the reply to it, which is the other file where the file must be
 -- converted, and the status tells whether the reply is a fault or an overflow
-pub record IsFileAnswered (want : Format) (file before : List ℕ) (held : Option (List ℕ)) (status : Status) : Type 0 where
+pub record IsFileAnswered (want : Format) (file before : List ℕ) (held : Option (List ℕ))
+    (status : Status) : Type 0 where
   pub reply : Reply
   pub converts : ConvertsTo want file reply
   pub complete : MustConvert want file → is_answer reply ≡ true
@@ -201,7 +225,8 @@ pub record IsFileAnswered (want : Format) (file before : List ℕ) (held : Optio
 
 -- the number of a sample is answered: behind what was held stands its line, where neither the conversion nor the maximum has an
 -- overflow, and the status tells whether the reply is an overflow
-pub record IsSampleAnswered (n : ℕ) (before : List ℕ) (held : Option (List ℕ)) (status : Status) : Type 0 where
+pub record IsSampleAnswered (n : ℕ) (before : List ℕ) (held : Option (List ℕ))
+    (status : Status) : Type 0 where
   pub reply : Reply
   pub samples : SamplesTo n reply
   pub complete : MustSample n → is_answer reply ≡ true

@@ -30,7 +30,8 @@ written replies = record { bytes = replies_bytes replies; clean = is_clean repli
 
 -- with one reply more
 abbrev pub with_reply : Written → Reply → Written
-with_reply w reply = record { bytes = w.bytes ++ reply_bytes reply; clean = w.clean && is_answer reply }
+with_reply w reply =
+    record { bytes = w.bytes ++ reply_bytes reply; clean = w.clean && is_answer reply }
 
 -- the reply that was given is added; where memory ran out there is none
 abbrev pub Adds : Result (List ℕ) StepErr → Written → Written → Type 0

@@ -1,6 +1,6 @@
 //! The program's arguments as words.
 use crate::status::Status;
-use crate::vocabulary::Words;
+use job_words::Words;
 use row_core::Memory;
 use std::alloc::Global;
 use std::env;

@@ -4,20 +4,19 @@
 
 ghost use Rattle.std.specs.Prelude.{◌≡◌, ◌<◌, ◌↔◌};
 ghost use Rattle.poly_io.specs.Counts.{HasRisen};
-ghost use Rattle.polycalc.specs.Words.{IsAskedBy};
-ghost use Rattle.polycalc.specs.declared.job.Job.{Job as AnyJob};
+ghost use Rattle.job_words.specs.Words.{IsAskedBy};
+ghost use Rattle.job_words.specs.declared.job.Job.{Job as AnyJob};
 
 mod arguments;
 mod completeness;
 mod conversions;
-mod job;
 mod replies;
 mod runs;
 mod samples;
 mod status;
 mod top;
-mod vocabulary;
 
+use job_words::Words;
 use poly_io::{StdSink, StdSource};
 use row_core::Steps;
 use status::{Status, exit_code};
@@ -28,7 +27,6 @@ use std::process::ExitCode;
 use std::sync::ledger::{Blank, Ledger};
 use top::polycalc;
 use usage_text::usage;
-use vocabulary::Words;
 
 fn main(rt: HostRuntime) -> ExitCode {
     let mut source = StdSource::new(rt.stdin());

@@ -9,7 +9,7 @@ ghost use Rattle.calc_state.specs.State.{closed};
 ghost use Rattle.calc_state.specs.Runs.{at_end};
 ghost use Rattle.polycalc.specs.Endings.{Closes};
 ghost use Rattle.polycalc.specs.Outcomes.{Outcome, GivesUp};
-ghost use Rattle.polycalc.specs.declared.job.Job.TheVariants as job;
+ghost use Rattle.job_words.specs.declared.job.Job.TheVariants as job;
 
 use crate::replies::Replies;
 use crate::status::Status;
@@ -37,7 +37,8 @@ pub fn run_lines<S: Source, W: Sink, L: Ledger>(
         → HasRisen (W.faults sink.old) (W.faults sink.new) }
     ensures lines_before { result ≡ Status.Memory
         → ¬ (HasRisen (W.wants sink.old) (W.wants sink.new))
-        → GivesUp job.Run (S.left source.old) (S.left source.new) (W.held sink.old) (W.held sink.new) }
+        → GivesUp job.Run (S.left source.old) (S.left source.new) (W.held sink.old)
+        (W.held sink.new) }
 {
     let Ok(mut reader) = LineReader::new(alloc) else {
         return Status::Memory;
@@ -68,7 +69,8 @@ fn answer_lines<S: Source, W: Sink, L: Ledger>(
         → HasRisen (W.faults sink.old) (W.faults sink.new) }
     ensures lines_before { result ≡ Status.Memory
         → ¬ (HasRisen (W.wants sink.old) (W.wants sink.new))
-        → GivesUp job.Run (S.left source.old) (S.left source.new) (W.held sink.old) (W.held sink.new) }
+        → GivesUp job.Run (S.left source.old) (S.left source.new) (W.held sink.old)
+        (W.held sink.new) }
 {
     loop {
         match reader.next(source) {

@@ -2,7 +2,7 @@
 ghost use Rattle.std.specs.Prelude.{◌≡◌, List, ℕ, [], Option};
 ghost use Rattle.poly_io.specs.Counts.{HasRisen};
 ghost use Rattle.polycalc.specs.Outcomes.{Outcome};
-ghost use Rattle.polycalc.specs.declared.job.Job.TheVariants as job;
+ghost use Rattle.job_words.specs.declared.job.Job.TheVariants as job;
 
 use crate::replies::Replies;
 use crate::status::Status;

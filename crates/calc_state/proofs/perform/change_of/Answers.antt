@@ -22,4 +22,4 @@ pub returns-in-Puts : goal.returns-in-Puts
 returns-in-Puts g c = performed_as (on_table c.args.names.now) c.args.task _ c.put_made.result c.in-Puts.is c.put_made.ensures
 
 pub returns-in-AddsTo : goal.returns-in-AddsTo
-returns-in-AddsTo g c = performed_as (on_table c.args.names.now) c.args.task _ c.put_poly.result c.in-AddsTo.is (put_found entry.Poly as_poly (λ x. refl) c.in-AddsTo.p (added c.in-AddsTo.addition) c.add_to-made.result c.poly_under.ensures c.put_poly.ensures c.add_to-made.ensures)
+returns-in-AddsTo g c = performed_as (on_table c.args.names.now) c.args.task _ c.put_poly.result c.in-AddsTo.is (put_found entry.Poly as_poly (λ x. refl) c.in-AddsTo.p (added c.in-AddsTo.addition) c.add_to-made.result c.poly_at.ensures c.put_poly.ensures c.add_to-made.ensures)

@@ -12,7 +12,7 @@ use Rattle.polycalc.specs.Replies.{Written, written}
 use Rattle.polycalc.proofs.StreamLaws.{Goes, start_reading, goes_start, goes_line, goes_written, front_of_goes, goes_end, written_at_end, ends_script, goes_failed, goes_too_long, goes_earlier, goes_unanswered, goes_before, ended_before, few_taken, size_given, match_true, risen_since}
 use Rattle.calc_state.specs.Runs.{at_end}
 use Rattle.polycalc.specs.Outcomes.{AnswersFirst, GivesUp}
-use Rattle.polycalc.specs.declared.job.Job.TheVariants as job
+use Rattle.job_words.specs.declared.job.Job.TheVariants as job
 use Rattle.polycalc.specs.declared.status.Status.TheVariants.{ReadFault, WriteFault, Memory}
 use Rattle.polycalc.proofs.EndLaws.{never_unread}
 use Rattle.polycalc.proofs.runs.answer_lines.Goals as goal
@@ -36,7 +36,7 @@ loop-calc-init g c =
     )
 
 pub end_script-requires : goal.end_script-requires
-end_script-requires g c = (let h = c.loop-calc.invariant in written_at_end c.in-End.ensures.given.0 c.loop-calc.reader c.next.new.self c.loop-calc.replies h.3 c.in-End.ensures.given.3)
+end_script-requires g c = (let h = c.loop-calc.invariant in written_at_end c.in-End.ensures.given.0 c.loop-calc.reader c.next.new.self c.loop-calc.replies h.3 c.in-End.ensures.given.2.says)
 
 pub returns-in-End-clause-outcome : goal.returns-in-End-clause-outcome
 returns-in-End-clause-outcome g c =
@@ -46,11 +46,11 @@ returns-in-End-clause-outcome g c =
     let left = g.S.Source.left in
     let held = g.W.Sink.held in
     let few = few_taken (End ≡ TooLong) c.next.new.self.taken e.too_long (λ (i : End ≡ TooLong). cc) in
-    let size = size_given h.0 a.0 c.loop-calc.reader c.next.new.self h.2.size a.2 in (
+    let size = size_given h.0 a.0 c.loop-calc.reader c.next.new.self h.2.size a.2.taken in (
       h.0 ++ a.0,
       prepend_known-then h.0 a.0 (left c.args.source.now) (left c.loop-calc.source) (left c.next.new.source) h.1 a.1,
-      ends_script (h.0 ++ a.0) (left c.next.new.source) (held c.args.sink.now) (held c.loop-calc.sink) (held c.end_script.new.sink) c.loop-calc.calc c.loop-calc.replies c.end_script.result (omega (arith, few, size)) (e.ended a.3.0)
-          (goes_end h.0 a.0 (held c.args.sink.now) (held c.loop-calc.sink) c.loop-calc.calc c.loop-calc.reader c.next.new.self c.loop-calc.replies h.2 h.3 a.2 e.still a.3) c.end_script.ensures.closes,
+      ends_script (h.0 ++ a.0) (left c.next.new.source) (held c.args.sink.now) (held c.loop-calc.sink) (held c.end_script.new.sink) c.loop-calc.calc c.loop-calc.replies c.end_script.result (omega (arith, few, size)) (e.ended a.2.says.0)
+          (goes_end h.0 a.0 (held c.args.sink.now) (held c.loop-calc.sink) c.loop-calc.calc c.loop-calc.reader c.next.new.self c.loop-calc.replies h.2 h.3 a.2.taken e.still a.2.says) c.end_script.ensures.closes,
     )
 
 pub returns-in-Failed-clause-outcome : goal.returns-in-Failed-clause-outcome
@@ -61,13 +61,13 @@ returns-in-Failed-clause-outcome g c =
     let left = g.S.Source.left in
     let held = g.W.Sink.held in
     let few = few_taken (Failed ≡ TooLong) c.next.new.self.taken e.too_long (λ (i : Failed ≡ TooLong). cc) in
-    let size = size_given h.0 a.0 c.loop-calc.reader c.next.new.self h.2.size a.2 in
+    let size = size_given h.0 a.0 c.loop-calc.reader c.next.new.self h.2.size a.2.taken in
     let written : c.loop-calc.replies.bytes ≡ [] = (elim h.3 [ inl x ↦ x | inr y ↦ (let no : Failed ≡ Line = (e.unread h.7 y).0 in cc) ]) in (
       h.0 ++ a.0,
       prepend_known-then h.0 a.0 (left c.args.source.now) (left c.loop-calc.source) (left c.next.new.source) h.1 a.1,
       (
         omega (arith, few, size),
-        goes_failed h.0 a.0 (held c.args.sink.now) (held c.loop-calc.sink) c.loop-calc.calc c.loop-calc.reader c.next.new.self c.loop-calc.replies h.2 written a.2 e.still (e.going refl) a.3,
+        goes_failed h.0 a.0 (held c.args.sink.now) (held c.loop-calc.sink) c.loop-calc.calc c.loop-calc.reader c.next.new.self c.loop-calc.replies h.2 written a.2.taken e.still (e.going refl) a.2.says,
       ),
     )
 
@@ -82,15 +82,15 @@ returns-in-TooLong-clause-outcome g c =
     let no_line : Contains c.loop-calc.reader.pending 10 → ⊥ = λ (y : Contains c.loop-calc.reader.pending 10). (let no : TooLong ≡ Line = (e.unread h.7 y).0 in cc) in
     let going : c.loop-calc.reader.ended ≡ true → ⊥ = λ (t : c.loop-calc.reader.ended ≡ true). (let same = (e.still t).1 in omega (arith, same, many, h.7)) in
     let written : c.loop-calc.replies.bytes ≡ [] = (elim h.3 [ inl x ↦ x | inr y ↦ absurd (no_line y) ]) in
-    let size = size_given h.0 a.0 c.loop-calc.reader c.next.new.self h.2.size a.2 in (
+    let size = size_given h.0 a.0 c.loop-calc.reader c.next.new.self h.2.size a.2.taken in (
       h.0 ++ a.0,
       prepend_known-then h.0 a.0 (left c.args.source.now) (left c.loop-calc.source) (left c.next.new.source) h.1 a.1,
       (
         omega (arith, many, size),
         omega (arith, e.bounded, size),
-        goes_too_long h.0 a.0 (left c.next.new.source) (held c.args.sink.now) (held c.loop-calc.sink) c.loop-calc.calc c.loop-calc.reader c.next.new.self c.loop-calc.replies (λ t. e.ended (e.still t).0) h.2 a.2 e.still a.3,
+        goes_too_long h.0 a.0 (left c.next.new.source) (held c.args.sink.now) (held c.loop-calc.sink) c.loop-calc.calc c.loop-calc.reader c.next.new.self c.loop-calc.replies (λ t. e.ended (e.still t).0) h.2 a.2.taken e.still a.2.says,
         goes_earlier h.0 a.0 (held c.args.sink.now) (held c.loop-calc.sink) c.loop-calc.calc c.loop-calc.reader c.loop-calc.replies h.2 written going
-            (lacks_unless c.loop-calc.reader.pending no_line) a.3.1,
+            (lacks_unless c.loop-calc.reader.pending no_line) a.2.says.1,
       ),
     )
 
@@ -102,13 +102,13 @@ returns-in_default-clause-outcome g c =
     let left = g.S.Source.left in
     let held = g.W.Sink.held in
     let few = few_taken (Line ≡ TooLong) c.next.new.self.taken e.too_long (λ (i : Line ≡ TooLong). cc) in
-    let size = size_given h.0 a.0 c.loop-calc.reader c.next.new.self h.2.size a.2 in
+    let size = size_given h.0 a.0 c.loop-calc.reader c.next.new.self h.2.size a.2.taken in
     let p = c.give_up.ensures.partly in
     let same : c.reply_to.new.replies ≡ c.loop-calc.replies = c.in_default.ensures.wanting in (
       h.0 ++ a.0,
       prepend_known-then h.0 a.0 (left c.args.source.now) (left c.loop-calc.source) (left c.next.new.source) h.1 a.1,
       goes_unanswered h.0 a.0 (left c.next.new.source) (held c.args.sink.now) (held c.loop-calc.sink) (held c.give_up.new.sink) c.loop-calc.calc c.loop-calc.reader c.next.new.self c.loop-calc.replies p.0 c.give_up.result
-          (omega (arith, few, size)) (λ t. e.ended (e.still t).0) h.2 a.2 e.still a.3 (p.1 ∙ ap (λ (w : Written). append_known (held c.loop-calc.sink) (take p.0 w.bytes)) same) c.give_up.ensures.status,
+          (omega (arith, few, size)) (λ t. e.ended (e.still t).0) h.2 a.2.taken e.still a.2.says (p.1 ∙ ap (λ (w : Written). append_known (held c.loop-calc.sink) (take p.0 w.bytes)) same) c.give_up.ensures.status,
     )
 
 pub loop-calc-preserved-in-Ok-write_all : goal.loop-calc-preserved-in-Ok-write_all
@@ -121,10 +121,10 @@ loop-calc-preserved-in-Ok-write_all g c =
     let new = c.next.new.self in
     let s = c.in-Ok.ensures.answered in
     let few = few_taken (Line ≡ TooLong) new.taken e.too_long (λ (i : Line ≡ TooLong). cc) in
-    let size = size_given h.0 a.0 c.loop-calc.reader new h.2.size a.2 in
+    let size = size_given h.0 a.0 c.loop-calc.reader new h.2.size a.2.taken in
     let step : Step c.loop-calc.calc new.line s.0 c.reply_to.new.calc = subst (λ (x : List ℕ). Step c.loop-calc.calc x s.0 c.reply_to.new.calc) c.line.ensures s.1 in
     let more = goes_line h.0 a.0 (held c.args.sink.now) (held c.loop-calc.sink) c.loop-calc.calc c.reply_to.new.calc c.loop-calc.reader new c.loop-calc.replies c.reply_to.new.replies s.0
-    h.2 a.2 e.still a.3 step s.2 in
+    h.2 a.2.taken e.still a.2.says step s.2 in
     let given : left c.args.source.now ≡ prepend_known (h.0 ++ a.0) (left c.next.new.source) =
     prepend_known-then h.0 a.0 (left c.args.source.now) (left c.loop-calc.source) (left c.next.new.source) h.1 a.1 in
     let none : c.clear.new.self.bytes ≡ [] = ap (λ (w : Written). w.bytes) c.clear.ensures in (
@@ -150,10 +150,10 @@ returns-in-Err-Failed-clause-outcome g c =
     let new = c.next.new.self in
     let s = c.in-Ok.ensures.answered in
     let few = few_taken (Line ≡ TooLong) new.taken e.too_long (λ (i : Line ≡ TooLong). cc) in
-    let size = size_given h.0 a.0 c.loop-calc.reader new h.2.size a.2 in
+    let size = size_given h.0 a.0 c.loop-calc.reader new h.2.size a.2.taken in
     let step : Step c.loop-calc.calc new.line s.0 c.reply_to.new.calc = subst (λ (x : List ℕ). Step c.loop-calc.calc x s.0 c.reply_to.new.calc) c.line.ensures s.1 in
     let more = goes_line h.0 a.0 (held c.args.sink.now) (held c.loop-calc.sink) c.loop-calc.calc c.reply_to.new.calc c.loop-calc.reader new c.loop-calc.replies c.reply_to.new.replies s.0
-    h.2 a.2 e.still a.3 step s.2 in
+    h.2 a.2.taken e.still a.2.says step s.2 in
     let given : left c.args.source.now ≡ prepend_known (h.0 ++ a.0) (left c.next.new.source) =
     prepend_known-then h.0 a.0 (left c.args.source.now) (left c.loop-calc.source) (left c.next.new.source) h.1 a.1 in
     let p = c.in-Err-Failed.ensures.partly in (
@@ -176,10 +176,10 @@ returns-in-Err-Memory-clause-outcome g c =
     let new = c.next.new.self in
     let s = c.in-Ok.ensures.answered in
     let few = few_taken (Line ≡ TooLong) new.taken e.too_long (λ (i : Line ≡ TooLong). cc) in
-    let size = size_given h.0 a.0 c.loop-calc.reader new h.2.size a.2 in
+    let size = size_given h.0 a.0 c.loop-calc.reader new h.2.size a.2.taken in
     let step : Step c.loop-calc.calc new.line s.0 c.reply_to.new.calc = subst (λ (x : List ℕ). Step c.loop-calc.calc x s.0 c.reply_to.new.calc) c.line.ensures s.1 in
     let more = goes_line h.0 a.0 (held c.args.sink.now) (held c.loop-calc.sink) c.loop-calc.calc c.reply_to.new.calc c.loop-calc.reader new c.loop-calc.replies c.reply_to.new.replies s.0
-    h.2 a.2 e.still a.3 step s.2 in
+    h.2 a.2.taken e.still a.2.says step s.2 in
     let given : left c.args.source.now ≡ prepend_known (h.0 ++ a.0) (left c.next.new.source) =
     prepend_known-then h.0 a.0 (left c.args.source.now) (left c.loop-calc.source) (left c.next.new.source) h.1 a.1 in
     let p = c.in-Err-Memory.ensures.partly in (
@@ -202,10 +202,10 @@ loop-calc-preserved g c =
     let new = c.next.new.self in
     let s = c.in-Ok.ensures.answered in
     let few = few_taken (Line ≡ TooLong) new.taken e.too_long (λ (i : Line ≡ TooLong). cc) in
-    let size = size_given h.0 a.0 c.loop-calc.reader new h.2.size a.2 in
+    let size = size_given h.0 a.0 c.loop-calc.reader new h.2.size a.2.taken in
     let step : Step c.loop-calc.calc new.line s.0 c.reply_to.new.calc = subst (λ (x : List ℕ). Step c.loop-calc.calc x s.0 c.reply_to.new.calc) c.line.ensures s.1 in
     let more = goes_line h.0 a.0 (held c.args.sink.now) (held c.loop-calc.sink) c.loop-calc.calc c.reply_to.new.calc c.loop-calc.reader new c.loop-calc.replies c.reply_to.new.replies s.0
-    h.2 a.2 e.still a.3 step s.2 in
+    h.2 a.2.taken e.still a.2.says step s.2 in
     let given : left c.args.source.now ≡ prepend_known (h.0 ++ a.0) (left c.next.new.source) =
     prepend_known-then h.0 a.0 (left c.args.source.now) (left c.loop-calc.source) (left c.next.new.source) h.1 a.1 in (
       h.0 ++ a.0,
@@ -242,8 +242,8 @@ returns-in-End-clause-lines_before g c = λ memory calm.
       h.0 ++ a.0,
       prepend_known-then h.0 a.0 (left c.args.source.now) (left c.loop-calc.source) (left c.next.new.source) h.1 a.1,
       subst (λ later. AnswersFirst (h.0 ++ a.0) (left c.next.new.source) (held c.args.sink.now) later) (sym same)
-          (ended_before (h.0 ++ a.0) (left c.next.new.source) (held c.args.sink.now) (held c.loop-calc.sink) c.loop-calc.calc c.loop-calc.replies (e.ended a.3.0)
-          (goes_end h.0 a.0 (held c.args.sink.now) (held c.loop-calc.sink) c.loop-calc.calc c.loop-calc.reader c.next.new.self c.loop-calc.replies h.2 h.3 a.2 e.still a.3)),
+          (ended_before (h.0 ++ a.0) (left c.next.new.source) (held c.args.sink.now) (held c.loop-calc.sink) c.loop-calc.calc c.loop-calc.replies (e.ended a.2.says.0)
+          (goes_end h.0 a.0 (held c.args.sink.now) (held c.loop-calc.sink) c.loop-calc.calc c.loop-calc.reader c.next.new.self c.loop-calc.replies h.2 h.3 a.2.taken e.still a.2.says)),
     )
 
 pub returns-in_default-clause-lines_before : goal.returns-in_default-clause-lines_before
@@ -259,7 +259,7 @@ returns-in_default-clause-lines_before g c = λ memory calm.
       h.0 ++ a.0,
       prepend_known-then h.0 a.0 (left c.args.source.now) (left c.loop-calc.source) (left c.next.new.source) h.1 a.1,
       goes_before h.0 a.0 (left c.next.new.source) (held c.args.sink.now) (held c.loop-calc.sink) (held c.give_up.new.sink) c.loop-calc.calc c.loop-calc.reader c.next.new.self c.loop-calc.replies
-          (λ t. e.ended (e.still t).0) h.2 a.2 e.still a.3 (whole ∙ ap (λ (w : Written). append_known (held c.loop-calc.sink) w.bytes) same),
+          (λ t. e.ended (e.still t).0) h.2 a.2.taken e.still a.2.says (whole ∙ ap (λ (w : Written). append_known (held c.loop-calc.sink) w.bytes) same),
     )
 
 pub returns-in-Err-Memory-clause-lines_before : goal.returns-in-Err-Memory-clause-lines_before

@@ -1,7 +1,7 @@
 use Rattle.std.proofs.Common.{[], sym, subst}
 use Rattle.poly_io.proofs.Known.{prepend_known-nil}
 use Rattle.polycalc.specs.Outcomes.{Outcome, GivesUp}
-use Rattle.polycalc.specs.declared.job.Job.{Job}
+use Rattle.job_words.specs.declared.job.Job.{Job}
 use Rattle.polycalc.proofs.JobLaws.{never_reads}
 use Rattle.polycalc.proofs.top.do_job.Goals as goal
 

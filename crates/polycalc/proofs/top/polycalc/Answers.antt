@@ -1,8 +1,8 @@
 use Rattle.std.proofs.Common.{◌≡◌, ◌∙◌, sym, subst, List, ℕ}
 use Rattle.std.specs.Prelude.{Option, Some}
 use Rattle.polycalc.specs.Outcomes.{Outcome, IsAnswered}
-use Rattle.polycalc.specs.declared.job.Job.TheVariants as job
-use Rattle.polycalc.specs.declared.job.Job.{Job}
+use Rattle.job_words.specs.declared.job.Job.TheVariants as job
+use Rattle.job_words.specs.declared.job.Job.{Job}
 use Rattle.polycalc.proofs.JobLaws.{one_job, answered, sampled, when_done, when_refused, when_unread, when_too_long, when_cut, never_usage, size_told}
 use Rattle.polycalc.proofs.top.polycalc.Goals as goal
 

@@ -20,7 +20,7 @@ loop-self-init g c =
 pub returns-then-self-gt-INPUT_LIMIT-clause-given : goal.returns-then-self-gt-INPUT_LIMIT-clause-given
 returns-then-self-gt-INPUT_LIMIT-clause-given g c =
     let h = c.loop-self.invariant in
-    (h.0, h.1, h.2.taken, too_long_given h.0 c.args.self.now c.loop-self.self h.2)
+    (h.0, h.1, record { taken = h.2.taken; says = too_long_given h.0 c.args.self.now c.loop-self.self h.2 })
 
 pub returns-in-Some-clause-given : goal.returns-in-Some-clause-given
 returns-in-Some-clause-given g c =
@@ -28,8 +28,10 @@ returns-in-Some-clause-given g c =
     let new = c.take_line.new.self in (
       h.0,
       h.1,
-      c.take_line.ensures.taken ∙ h.2.taken,
-      line_given h.0 c.args.self.now c.loop-self.self new c.in-Some.at h.2 c.in-Some.ensures c.take_line.ensures.line c.take_line.ensures.pending,
+      record {
+        taken = c.take_line.ensures.taken ∙ h.2.taken;
+        says = line_given h.0 c.args.self.now c.loop-self.self new c.in-Some.at h.2 c.in-Some.ensures c.take_line.ensures.line c.take_line.ensures.pending;
+      },
     )
 
 pub returns-then-self-clause-given : goal.returns-then-self-clause-given
@@ -44,8 +46,10 @@ returns-then-self-clause-given g c =
     omega (arith, ap length pending, length-take (s.end - s.start) (drop s.start s.bytes.items), length-drop s.start s.bytes.items, c.self.invariant, s.bytes.ok, c.if-self-2.false) in (
       h.0,
       h.1,
-      c.take_rest.ensures.taken ∙ h.2.taken,
-      rest_given h.0 c.args.self.now mid new h.2 (lacks_found mid.pending c.in_default.ensures) some (c.take_rest.ensures.ended ∙ ended) c.take_rest.ensures.line c.take_rest.ensures.pending,
+      record {
+        taken = c.take_rest.ensures.taken ∙ h.2.taken;
+        says = rest_given h.0 c.args.self.now mid new h.2 (lacks_found mid.pending c.in_default.ensures) some (c.take_rest.ensures.ended ∙ ended) c.take_rest.ensures.line c.take_rest.ensures.pending;
+      },
     )
 
 pub returns-in-Failed-clause-given : goal.returns-in-Failed-clause-given
@@ -58,8 +62,10 @@ returns-in-Failed-clause-given g c =
     let lacks : LacksFeed mid.pending = lacks_found mid.pending c.in_default.ensures in (
       h.0 ++ f.0,
       prepend_known-then h.0 f.0 (left c.args.source.now) (left c.loop-self.source) (left c.fill.new.source) h.1 f.1,
-      (follows_fill h.0 f.0 c.args.self.now mid c.fill.new.self _ h.2 lacks going f.2).taken,
-      failed_given h.0 f.0 c.args.self.now mid c.fill.new.self h.2 lacks going f.2,
+      record {
+        taken = (follows_fill h.0 f.0 c.args.self.now mid c.fill.new.self _ h.2 lacks going f.2).taken;
+        says = failed_given h.0 f.0 c.args.self.now mid c.fill.new.self h.2 lacks going f.2;
+      },
     )
 
 pub returns-in-Failed-clause-unread : goal.returns-in-Failed-clause-unread
@@ -101,7 +107,7 @@ returns-in-Some-clause-cuts g c =
     let h = returns-in-Some-clause-given g c in
     let left = g.S.Source.left in
     let new = c.take_line.new.self in
-    cuts_told h.0 c.args.self.now new (left c.args.source.now) (left c.loop-self.source) Line h.1 h.3
+    cuts_told h.0 c.args.self.now new (left c.args.source.now) (left c.loop-self.source) Line h.1 h.2.says
     (λ (e : new.ended ≡ true). c.loop-self.invariant.3 (sym c.take_line.ensures.ended ∙ e))
 
 pub returns-then-self-clause-cuts : goal.returns-then-self-clause-cuts
@@ -109,7 +115,7 @@ returns-then-self-clause-cuts g c =
     let h = returns-then-self-clause-given g c in
     let left = g.S.Source.left in
     let new = c.take_rest.new.self in
-    cuts_told h.0 c.args.self.now new (left c.args.source.now) (left c.loop-self.source) Line h.1 h.3
+    cuts_told h.0 c.args.self.now new (left c.args.source.now) (left c.loop-self.source) Line h.1 h.2.says
     (λ (e : new.ended ≡ true). c.loop-self.invariant.3 (sym c.take_rest.ensures.ended ∙ e))
 
 pub returns-in-Failed-clause-cuts : goal.returns-in-Failed-clause-cuts
@@ -119,14 +125,14 @@ returns-in-Failed-clause-cuts g c =
     let mid = c.loop-self.self in
     let new = c.fill.new.self in
     let going : mid.ended ≡ false = ap (λ (r : Reading). r.ended) (sym c.self.view_is) ∙ c.if-self.false in
-    cuts_told h.0 c.args.self.now new (left c.args.source.now) (left c.fill.new.source) Failed h.1 h.3
+    cuts_told h.0 c.args.self.now new (left c.args.source.now) (left c.fill.new.source) Failed h.1 h.2.says
     (ended_more mid.ended new.ended ReadFailed (IsAtEnd (left c.fill.new.source)) c.in-Failed.ensures.filled.2.ended going c.in-Failed.ensures.ended)
 
 pub returns-then-self-gt-INPUT_LIMIT-clause-cuts : goal.returns-then-self-gt-INPUT_LIMIT-clause-cuts
 returns-then-self-gt-INPUT_LIMIT-clause-cuts g c =
     let h = returns-then-self-gt-INPUT_LIMIT-clause-given g c in
     let left = g.S.Source.left in
-    cuts_told h.0 c.args.self.now c.loop-self.self (left c.args.source.now) (left c.loop-self.source) TooLong h.1 h.3 c.loop-self.invariant.3
+    cuts_told h.0 c.args.self.now c.loop-self.self (left c.args.source.now) (left c.loop-self.source) TooLong h.1 h.2.says c.loop-self.invariant.3
 
 pub returns-then-self-gt-INPUT_LIMIT-clause-stopped : goal.returns-then-self-gt-INPUT_LIMIT-clause-stopped
 returns-then-self-gt-INPUT_LIMIT-clause-stopped g c = first_stopped c.args.self.now c.loop-self.self _ _ c.loop-self.invariant.5
@@ -153,13 +159,13 @@ returns-then-self-2-clause-given g c =
     let s = c.self.inside in
     let mid = c.loop-self.self in
     let pending : take (s.end - s.start) (drop s.start s.bytes.items) ≡ mid.pending = ap (λ (r : Reading). r.pending) c.self.view_is in
-    (h.0, h.1, h.2.taken, end_given h.0 c.args.self.now mid h.2 (ap (λ (r : Reading). r.ended) (sym c.self.view_is) ∙ c.if-self.true) (none_between s.start s.end (drop s.start s.bytes.items) mid.pending pending c.if-self-2.true))
+    (h.0, h.1, record { taken = h.2.taken; says = end_given h.0 c.args.self.now mid h.2 (ap (λ (r : Reading). r.ended) (sym c.self.view_is) ∙ c.if-self.true) (none_between s.start s.end (drop s.start s.bytes.items) mid.pending pending c.if-self-2.true) })
 
 pub returns-then-self-2-clause-cuts : goal.returns-then-self-2-clause-cuts
 returns-then-self-2-clause-cuts g c =
     let h = returns-then-self-2-clause-given g c in
     let left = g.S.Source.left in
-    cuts_told h.0 c.args.self.now c.loop-self.self (left c.args.source.now) (left c.loop-self.source) End h.1 h.3 c.loop-self.invariant.3
+    cuts_told h.0 c.args.self.now c.loop-self.self (left c.args.source.now) (left c.loop-self.source) End h.1 h.2.says c.loop-self.invariant.3
 
 pub returns-then-self-2-clause-stopped : goal.returns-then-self-2-clause-stopped
 returns-then-self-2-clause-stopped g c = first_stopped c.args.self.now c.loop-self.self _ _ c.loop-self.invariant.5

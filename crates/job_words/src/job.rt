@@ -1,5 +1,5 @@
-//! What the words of a command line ask for.
-use file_poly::Format;
+//! What can be asked for.
+use cdd_reading::Format;
 
 /// What the words ask for.
 #[derive(Clone, Copy, Debug, PartialEq, Eq)]

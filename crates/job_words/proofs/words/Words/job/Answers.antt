@@ -1,8 +1,8 @@
 use Rattle.cdd_reading.specs.declared.format.Format.TheVariants.{Ine, Ext}
-use Rattle.polycalc.specs.Words.{IsAskedBy}
-use Rattle.polycalc.specs.declared.job.Job.TheVariants as job
-use Rattle.polycalc.proofs.SampleWords.{not_so, no_job}
-use Rattle.polycalc.proofs.vocabulary.Words.job.Goals as goal
+use Rattle.job_words.specs.Words.{IsAskedBy}
+use Rattle.job_words.specs.declared.job.Job.TheVariants as job
+use Rattle.job_words.proofs.SampleWords.{not_so, no_job}
+use Rattle.job_words.proofs.words.Words.job.Goals as goal
 
 pub returns-in-None : goal.returns-in-None
 returns-in-None c =

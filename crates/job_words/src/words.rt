@@ -1,11 +1,11 @@
 //! The words of a command line.
 ghost use Rattle.std.specs.Prelude.{◌≡◌, ℕ, ◌<◌, ◌↔◌, List, [], ◌∷◌, ◌++◌, length, slice_index_or, IsTrue, OnOk, OnErr, MatchOption};
-ghost use Rattle.polycalc.specs.Words.{IsAskedBy, SpellsSize};
-ghost use Rattle.polycalc.specs.declared.job.Job.{Job};
-ghost use Rattle.polycalc.specs.declared.job.Job.TheVariants.{Sample};
+ghost use Rattle.job_words.specs.Words.{IsAskedBy, SpellsSize};
+ghost use Rattle.job_words.specs.declared.job.Job.{Job};
+ghost use Rattle.job_words.specs.declared.job.Job.TheVariants.{Sample};
 
 use crate::job::Job;
-use file_poly::Format;
+use cdd_reading::Format;
 use plain_text::{is_nat, number_up_to};
 use row_core::Memory;
 use std::alloc::Global;
@@ -99,7 +99,8 @@ impl Words {
 
     /// What the words ask for.
     pub fn job(&self) -> Option<Job>
-        ensures { MatchOption result ((job : Job) → ¬ (IsAskedBy self.now job)) (IsAskedBy self.now) }
+        ensures { MatchOption result ((job : Job) → ¬ (IsAskedBy self.now job))
+            (IsAskedBy self.now) }
     {
         if self.is_only(b"run") {
             Some(Job::Run)
@@ -118,7 +119,8 @@ impl Words {
 
 // The number of rows that the word spells.
 fn size_of(word: &[u8]) -> Option<u32>
-    ensures { MatchOption result ((n : ℕ) → ¬ (SpellsSize word.now n)) (λ n. SpellsSize word.now n) }
+    ensures { MatchOption result ((n : ℕ) → ¬ (SpellsSize word.now n))
+        (λ n. SpellsSize word.now n) }
 {
     if word.len() > 4 || !is_nat(word) {
         return None;

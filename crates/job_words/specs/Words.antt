@@ -1,8 +1,8 @@
 use Rattle.std.specs.Prelude.{◌≡◌, ℕ, ◌≤◌, List, [], ◌∷◌, length, true, codes}
 use Rattle.plain_text.specs.Digits.{is_nat, number}
 use Rattle.cdd_reading.specs.declared.format.Format.TheVariants.{Ine, Ext}
-use Rattle.polycalc.specs.declared.job.Job.{Job}
-use Rattle.polycalc.specs.declared.job.Job.TheVariants.{Run, Convert, Sample}
+use Rattle.job_words.specs.declared.job.Job.{Job}
+use Rattle.job_words.specs.declared.job.Job.TheVariants.{Run, Convert, Sample}
 
 -- the word is one to four decimal digits, and spells this number, at most 1,000
 pub record SpellsSize (word : List ℕ) (n : ℕ) : Type 0 where
@@ -16,4 +16,5 @@ abbrev pub IsAskedBy : List (List ℕ) → Job → Type 0
 IsAskedBy words Run = words ≡ codes "run" ∷ []
 IsAskedBy words (Convert Ine) = words ≡ codes "ine2ext" ∷ []
 IsAskedBy words (Convert Ext) = words ≡ codes "ext2ine" ∷ []
-IsAskedBy words (Sample n) = (word : List ℕ) × (words ≡ codes "sample" ∷ word ∷ []) × SpellsSize word n
+IsAskedBy words (Sample n) =
+    (word : List ℕ) × (words ≡ codes "sample" ∷ word ∷ []) × SpellsSize word n

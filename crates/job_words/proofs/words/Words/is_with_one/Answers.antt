@@ -1,8 +1,8 @@
 use Rattle.std.proofs.Common.{◌∙◌, sym}
 use Rattle.std.proofs.lemmas.Slice.Eq.{slice_eq-Decides}
 use Rattle.std.proofs.lemmas.Bool.Decides.{Decides-eqb}
-use Rattle.polycalc.proofs.SampleWords.{first_of_two}
-use Rattle.polycalc.proofs.vocabulary.Words.is_with_one.Goals as goal
+use Rattle.job_words.proofs.SampleWords.{first_of_two}
+use Rattle.job_words.proofs.words.Words.is_with_one.Goals as goal
 
 pub returns-then-len-eq2 : goal.returns-then-len-eq2
 returns-then-len-eq2 c =

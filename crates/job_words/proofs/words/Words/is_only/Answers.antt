@@ -1,8 +1,8 @@
 use Rattle.std.proofs.Common.{◌∙◌, sym}
 use Rattle.std.proofs.lemmas.Slice.Eq.{slice_eq-Decides}
 use Rattle.std.proofs.lemmas.Bool.Decides.{Decides-eqb}
-use Rattle.polycalc.proofs.OneWord.{only_word}
-use Rattle.polycalc.proofs.vocabulary.Words.is_only.Goals as goal
+use Rattle.job_words.proofs.OneWord.{only_word}
+use Rattle.job_words.proofs.words.Words.is_only.Goals as goal
 
 pub returns-then-len-eq1 : goal.returns-then-len-eq1
 returns-then-len-eq1 c =

@@ -3,9 +3,9 @@ use Rattle.std.proofs.Common.{◌≡◌, ℕ, List, [], ◌∷◌, length, ap, s
 use Rattle.std.specs.Prelude.{Option, None, Some, MatchOption, IsTrue, ◌↔◌, slice_index_or, codes}
 use Rattle.std.specs.Bool.{Decides}
 use Rattle.cdd_reading.specs.declared.format.Format.TheVariants.{Ine, Ext}
-use Rattle.polycalc.specs.Words.{SpellsSize, IsAskedBy}
-use Rattle.polycalc.specs.declared.job.Job.{Job}
-use Rattle.polycalc.specs.declared.job.Job.TheVariants as job
+use Rattle.job_words.specs.Words.{SpellsSize, IsAskedBy}
+use Rattle.job_words.specs.declared.job.Job.{Job}
+use Rattle.job_words.specs.declared.job.Job.TheVariants as job
 
 abbrev pub second : List (List ℕ) → List ℕ
 second (word ∷ other ∷ words) = other
