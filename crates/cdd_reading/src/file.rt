@@ -77,8 +77,7 @@ pub fn are_short(file: &[u8]) -> bool
     true
 }
 
-/// Whether a line of the bytes ends a file, and `linearity` stands as a token behind it. It takes
-/// no memory.
+/// Whether a line of the bytes ends a file, and `linearity` is a token behind it. Takes no memory.
 pub fn linearity_after_end(bytes: &[u8]) -> bool
     ensures { IsTrue result ↔ HasLinearityAfter bytes.now }
 {

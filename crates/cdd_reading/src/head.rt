@@ -45,8 +45,7 @@ pub struct Head<'a> {
 /// Reads the lines before `begin`.
 ///
 /// # Errors
-/// The number of the first line that can't stand where it is; that is the line behind all where
-/// `begin` is missing.
+/// The number of the first line that can't stand where it is; without a `begin`, that behind all.
 pub fn read_head(file: &[u8]) -> Result<Head<'_>, usize>
     ensures head { MatchResult result
         (λ h. IsHeadRead (lines file.now) h.said.kind h.said.linearity.now (lines h.behind.now)

@@ -11,8 +11,7 @@ pub fn one_answer()
     ensures excludes { PassesOrFails }
 {}
 
-/// The integers of a row are its numbers times one positive number, the least by which all are
-/// integers.
+/// The integers of a row are its numbers times the least positive number by which all are integers.
 pub fn rows_are_scaled()
     ensures { RowsAreScaled }
 {}

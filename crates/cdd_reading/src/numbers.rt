@@ -34,8 +34,7 @@ pub fn is_integer(token: &[u8]) -> bool
     }
 }
 
-/// What stands before the first `/` of a number, and what stands behind it; all of it and 1 where
-/// there is none.
+/// What stands before the first `/` of a number and behind it; all of it and 1 where there is none.
 pub fn split_slash(token: &[u8]) -> (&[u8], &[u8])
     ensures dividend { result.0.now ≡ dividend token.now }
     ensures divisor { result.1.now ≡ divisor token.now }

@@ -12,10 +12,9 @@ use gens_sys::GensSys;
 use reply_text::ReadErr;
 use std::alloc::Global;
 
-/// The constraints of a file, over d - 1 variables: the row `b a1 .. an` is
-/// `a1*x1 + .. + an*xn + b >= 0`, or an equality where the linearity line names it. A row of
-/// fractions stands for its multiple by the least common multiple of their denominators. Each row
-/// is made primitive.
+/// The constraints of a file, over d - 1 variables: `b a1 .. an` is `a1*x1 + .. + an*xn + b >= 0`,
+/// or an equality where the linearity line names it. A row of fractions stands for its multiple by
+/// the least common multiple of their denominators. Each row is made primitive.
 ///
 /// # Errors
 /// The first of these that holds: `Truncated` where no line ends the file; `LineTooLong` where a

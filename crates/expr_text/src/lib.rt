@@ -1,12 +1,12 @@
 //! Expressions, constraints and generators as text.
 //!
-//! - [`read_expr`], [`read_frac`], [`read_con`], [`read_cons`], [`read_gens`] and [`read_point`] give the
-//!   value of a text, or the fault for which it is refused. [`one_answer`] is the law that no text has two.
-//!   [`gens_of`] is `read_gens` for a text that is known to have its form.
-//! - [`print_cons`], [`print_gens`] and [`print_gen`] give the printed form of a system of constraints,
-//!   of a system of generators, and of one generator.
-//! - [`constraints_are_read_back`] and [`generators_are_read_back`] are the laws that what is printed is
-//!   read as the same system and as no other.
+//! - [`read_expr`], [`read_frac`], [`read_con`], [`read_cons`], [`read_gens`] and [`read_point`]
+//!   give the value of a text, or the fault for which it is refused. [`one_answer`] is the law that
+//!   no text has two. [`gens_of`] is `read_gens` for a text that is known to have its form.
+//! - [`print_cons`], [`print_gens`] and [`print_gen`] give the printed form of a system of
+//!   constraints, of a system of generators, and of one generator.
+//! - [`constraints_are_read_back`] and [`generators_are_read_back`] are the laws that what is
+//!   printed is read as the same system and as no other.
 #![tactic(auto)]
 
 mod print_constraints;

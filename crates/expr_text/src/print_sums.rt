@@ -24,7 +24,8 @@ pub(crate) fn push_expression(text: &mut Text, coefficients: &[i128]) -> Result<
     Ok(())
 }
 
-/// Appends the sum of the variables in order and then the number, or the number alone where there is no variable.
+/// Appends the sum of the variables in order and then the number, or the number alone where there
+/// is no variable.
 pub(crate) fn push_affine(
     text: &mut Text,
     coefficients: &[i128],

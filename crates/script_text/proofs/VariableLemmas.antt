@@ -5,18 +5,12 @@ use Rattle.std.specs.List.{take_while}
 use Rattle.std.proofs.lemmas.Bool.Decides.{nat_tests}
 use Rattle.grammar.specs.Form.{Matches, Times}
 use Rattle.grammar.specs.Grammar.{◌·◌, ◌⋯◌, symbol, blanks, digit, var, vars}
-use Rattle.term_text.specs.Numbers.{number_after}
-use Rattle.term_text.specs.Reading.{is_digit, is_upper}
+use Rattle.plain_text.specs.Digits.{is_digit, is_upper, number_after}
+use Rattle.plain_text.proofs.Decimals.{digit_is, letter_is}
 use Rattle.line_forms.specs.Words.{is_blank}
 use Rattle.script_text.specs.Variables.{variable_of, variables_of, further_variables_by, variables_by}
 use Rattle.line_forms.proofs.WordLemmas.{Each, Stops, take_while-append}
 use Rattle.line_forms.proofs.RestLaws.{Each-times, Each-blanks}
-
-a_digit : (b : ℕ) → 48 ≤ b → b ≤ 57 → is_digit b ≡ true
-a_digit b h k = grind (arith, nat_tests)
-
-a_letter : (b : ℕ) → 65 ≤ b → b ≤ 90 → is_upper b ≡ true
-a_letter b h k = grind (arith, nat_tests)
 
 digit_no_letter : (b : ℕ) → is_digit b ≡ true → is_upper b ≡ false
 digit_no_letter b h = grind (arith, nat_tests)
@@ -42,16 +36,16 @@ record IsVariable (u : List ℕ) : Type 0 where
   each : Each is_digit digits
 
 one_digit : (u : List ℕ) → Matches digit u → Each is_digit u
-one_digit u (b, low, high, e) = subst (Each is_digit) (sym e) (a_digit b low high, tt)
+one_digit u (b, low, high, e) = subst (Each is_digit) (sym e) (digit_is b low high, tt)
 
 variable_cut : (u : List ℕ) → Matches var u → IsVariable u
-variable_cut u (inl (b, low, high, e)) = record { letter = b; digits = []; is = e; upper = a_letter b low high; each = tt }
+variable_cut u (inl (b, low, high, e)) = record { letter = b; digits = []; is = e; upper = letter_is b low high; each = tt }
 variable_cut u (inr (a, r, e, (b, low, high, f), (d, more, g, (c, from, to, h), (n, times)))) = record {
   letter = b;
   digits = c ∷ more;
   is = e ∙ (ap (λ (x : List ℕ). x ++ r) f ∙ ap (λ (x : List ℕ). b ∷ x) (g ∙ ap (λ (x : List ℕ). x ++ more) h));
-  upper = a_letter b low high;
-  each = (a_digit c (omega arith) to, Each-times is_digit (Matches digit) one_digit n more times);
+  upper = letter_is b low high;
+  each = (digit_is c (omega arith) to, Each-times is_digit (Matches digit) one_digit n more times);
 }
 
 pass : (c : Bool) (v : ℕ) (vs : List ℕ) → c ≡ false → (if c then v ∷ vs else vs) ≡ vs

@@ -24,7 +24,8 @@ pub record Spells (line : List ℕ) (c : Command) : Type 0 where
 -- why the line gave no command: it is too long, or else it has no form, or memory ran out
 abbrev pub IsUnread : List ℕ → ReadErr → Type 0
 IsUnread line (Input fault.LineTooLong) = 65535 < length line
-IsUnread line (Input (fault.Syntax column)) = (length line ≤ 65535) × IsColumnOfAny line_forms line column
+IsUnread line (Input (fault.Syntax column)) =
+    (length line ≤ 65535) × IsColumnOfAny line_forms line column
 IsUnread line (Input other) = ⊥
 IsUnread line Memory = Unit {0}
 
@@ -60,5 +61,7 @@ SpellsOne = (line : List ℕ) (c d : Command) → Spells line c → Spells line 
 
 -- a line that spells a command isn't refused, and a refused line has one fault
 pub record ReadsOnce : Type 0 where
-  pub spelled : (line : List ℕ) (c : Command) (f : Fault) → Spells line c → ¬ (IsUnread line (Input f))
-  pub unread : (line : List ℕ) (f g : Fault) → IsUnread line (Input f) → IsUnread line (Input g) → f ≡ g
+  pub spelled :
+      (line : List ℕ) (c : Command) (f : Fault) → Spells line c → ¬ (IsUnread line (Input f))
+  pub unread :
+      (line : List ℕ) (f g : Fault) → IsUnread line (Input f) → IsUnread line (Input g) → f ≡ g

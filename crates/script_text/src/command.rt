@@ -12,7 +12,7 @@ pub struct Part {
 }
 
 /// How the new value of an image's variable stands to the fraction.
-#[derive(Clone, Copy, Debug, Drop, PartialEq, Eq)]
+#[derive(Clone, Copy, Debug, Drop)]
 pub enum Rel {
     /// `=`, or a colon.
     Eq,
@@ -27,7 +27,7 @@ pub enum Rel {
 }
 
 /// A polyhedron that its dimension alone determines.
-#[derive(Clone, Copy, Debug, Drop, PartialEq, Eq)]
+#[derive(Clone, Copy, Debug, Drop)]
 pub enum Space {
     /// `universe`: all points.
     Universe,
@@ -49,7 +49,7 @@ pub enum Operator {
 }
 
 /// How two polyhedra may lie.
-#[derive(Clone, Copy, Debug, Drop, PartialEq, Eq)]
+#[derive(Clone, Copy, Debug, Drop)]
 pub enum Comparison {
     /// `contains`
     Contains,
@@ -60,7 +60,7 @@ pub enum Comparison {
 }
 
 /// Which extreme value of an expression.
-#[derive(Clone, Copy, Debug, Drop, PartialEq, Eq)]
+#[derive(Clone, Copy, Debug, Drop)]
 pub enum Extremum {
     /// `max`
     Max,
@@ -69,7 +69,7 @@ pub enum Extremum {
 }
 
 /// Which way an affine map is applied.
-#[derive(Clone, Copy, Debug, Drop, PartialEq, Eq)]
+#[derive(Clone, Copy, Debug, Drop)]
 pub enum Mapping {
     /// `image`
     Image,
@@ -78,7 +78,7 @@ pub enum Mapping {
 }
 
 /// How dimensions are added.
-#[derive(Clone, Copy, Debug, Drop, PartialEq, Eq)]
+#[derive(Clone, Copy, Debug, Drop)]
 pub enum Extension {
     /// `embed`
     Embed,
@@ -87,7 +87,7 @@ pub enum Extension {
 }
 
 /// What is made of two powersets.
-#[derive(Clone, Copy, Debug, Drop, PartialEq, Eq)]
+#[derive(Clone, Copy, Debug, Drop)]
 pub enum PowersetOperator {
     /// `join`
     Join,
@@ -96,7 +96,7 @@ pub enum PowersetOperator {
 }
 
 /// What is made of two shapes.
-#[derive(Clone, Copy, Debug, Drop, PartialEq, Eq)]
+#[derive(Clone, Copy, Debug, Drop)]
 pub enum ShapeOperator {
     /// `smeet`
     Meet,
@@ -105,7 +105,7 @@ pub enum ShapeOperator {
 }
 
 /// A part of a location of a hybrid automaton.
-#[derive(Clone, Copy, Debug, Drop, PartialEq, Eq)]
+#[derive(Clone, Copy, Debug, Drop)]
 pub enum LocationPart {
     /// `inv`
     Invariant,
@@ -114,7 +114,7 @@ pub enum LocationPart {
 }
 
 /// A line, read. A number above `u64::MAX` is `u64::MAX`.
-#[derive(Debug, Drop)]
+#[derive(Drop)]
 pub enum Command {
     /// A blank line, or a comment alone.
     Nothing,

@@ -1,6 +1,6 @@
 //! The command of a form and its fields.
 ghost use Rattle.std.specs.Prelude.{◌≡◌, ℕ, List, ◌∷◌, IfOk};
-ghost use Rattle.term_text.specs.Reading.{is_upper};
+ghost use Rattle.plain_text.specs.Digits.{is_upper};
 ghost use Rattle.script_text.specs.Commands.{number_of, is_strict, begins_strict, part_from};
 ghost use Rattle.script_text.specs.Commands.{relation_of, IsMade};
 ghost use Rattle.line_forms.specs.Words.{nth_word, part_of};

@@ -9,6 +9,7 @@ use Rattle.term_text.specs.declared.scan.Place.{Place}
 use Rattle.term_text.specs.Numbers.{number_after, size_of}
 use Rattle.term_text.specs.Reading.{next_number, with_digit, with_letter, is_digit, is_upper, after, ends_term, ended, begun}
 use Rattle.term_text.proofs.Passes.{Reads, reads_on}
+use Rattle.plain_text.proofs.Decimals.{digit_is, letter_is}
 
 -- the cap after a digit is the same with or without a cap before it
 next-min : (most m d : ℕ) → next_number most (min m most) d ≡ min (10 * m + d) most
@@ -20,14 +21,8 @@ first-min b high = grind arith
 pub index-min : (m p : ℕ) → min (26 * min m (2 ^ 32) + p) (2 ^ 32) ≡ min (26 * m + p) (2 ^ 32)
 index-min m p = grind arith
 
-is_digit-true : (b : ℕ) → 48 ≤ b → b ≤ 57 → is_digit b ≡ true
-is_digit-true b low high = grind arith
-
 is_digit-upper : (b : ℕ) → 65 ≤ b → b ≤ 90 → is_digit b ≡ false
 is_digit-upper b low high = grind arith
-
-is_upper-true : (b : ℕ) → 65 ≤ b → b ≤ 90 → is_upper b ≡ true
-is_upper-true b low high = grind arith
 
 -- the term so far and more digits
 abbrev pub with_digits : Part → List ℕ → Part
@@ -61,13 +56,13 @@ after-upper s b e f = rw (e, f) refl
 pub digit_reads : (s : State) (b : ℕ) → 48 ≤ b → b ≤ 57 → Reads s (b ∷ []) [] (record s { part = with_digit s.part (b - 48) })
 digit_reads s b low high = record {
   terms = rw (ended-no s b (ends_term-digit b low high)) refl;
-  state = after-digit s b (is_digit-true b low high);
+  state = after-digit s b (digit_is b low high);
 }
 
 pub upper_reads : (s : State) (b : ℕ) → 65 ≤ b → b ≤ 90 → Reads s (b ∷ []) [] (record s { part = with_letter s.part (b - 65) })
 upper_reads s b low high = record {
   terms = rw (ended-no s b (ends_term-upper b low high)) refl;
-  state = after-upper s b (is_digit-upper b low high) (is_upper-true b low high);
+  state = after-upper s b (is_digit-upper b low high) (letter_is b low high);
 }
 
 -- n digits

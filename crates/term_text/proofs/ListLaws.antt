@@ -8,6 +8,8 @@ use Rattle.std.proofs.lemmas.Bool.Decides.{eqb_tells}
 use Rattle.grammar.specs.Avoids.{avoids}
 use Rattle.grammar.proofs.AvoidedByte.{avoids_sound}
 use Rattle.std.proofs.lemmas.List.Splits.{slice_split_none, slice_split_at}
+use Rattle.std.proofs.lemmas.Bool.{or_parts}
+use Rattle.std.proofs.Math.Bool.{or-false}
 use Rattle.grammar.specs.Form.{Form, Matches, Times}
 use Rattle.grammar.specs.Grammar.{◌·◌, ◌⋯◌, symbol, blank, blanks, list_of, alone}
 use Rattle.grammar.specs.Cases.{con_cases, cons_cases}
@@ -31,19 +33,10 @@ has_none c (b ∷ w) none = ⊎_elim (λ same. absurd (none (0, omega arith, sam
 pub text_avoids : (c : ℕ) (f : Form) → avoids f c ≡ true → (w : List ℕ) → Matches f w → has c w ≡ false
 text_avoids c f a w m = has_none c w (avoids_sound f c w a m)
 
-or-left : (a b : Bool) → (a || b) ≡ false → a ≡ false
-or-left true b e = e
-or-left false b e = refl
-
-or-right : (a b : Bool) → (a || b) ≡ false → b ≡ false
-or-right true true e = e
-or-right true false e = refl
-or-right false b e = e
-
 -- the same, element by element
 all_other : (c : ℕ) (w : List ℕ) → has c w ≡ false → All (λ b. eqb b c ≡ false) w
 all_other c [] e = All-nil (λ b. eqb b c ≡ false)
-all_other c (b ∷ w) e = All-cons (λ x. eqb x c ≡ false) b w (or-left (eqb b c) (has c w) e) (all_other c w (or-right (eqb b c) (has c w) e))
+all_other c (b ∷ w) e = All-cons (λ x. eqb x c ≡ false) b w (or_parts (eqb b c) (has c w) e).0 (all_other c w (or_parts (eqb b c) (has c w) e).1)
 
 -- the parts between commas
 abbrev pub parts : List ℕ → List (List ℕ)
@@ -66,7 +59,7 @@ one_con b con between m = record {
   value = λ c behind. con_read-same ((b ++ con) ++ c) con (same_alone ((b ++ con) ++ c) b (con ++ c) c con (append_assoc b con c) refl between behind) ∙ con_law con m;
 }
 
-regroup : (x b c con v z : List ℕ) → x ++ (((b ++ (44 ∷ (c ++ con))) ++ v) ++ z) ≡ (x ++ b) ++ 44 ∷ ((c ++ con) ++ (v ++ z))
+pub regroup : (x b c con v z : List ℕ) → x ++ (((b ++ (44 ∷ (c ++ con))) ++ v) ++ z) ≡ (x ++ b) ++ 44 ∷ ((c ++ con) ++ (v ++ z))
 regroup x b c con v z = simp append_assoc
 
 -- a constraint, then n times a comma and a constraint, then blanks
@@ -80,10 +73,6 @@ further_law (suc n) w (u, v, e, (b, w1, e1, blanks1, (comma, w2, e2, is_comma, (
     let front : has 44 (x ++ b) ≡ false = has-append 44 (x ++ b) x b refl one.whole (text_avoids 44 blanks refl b blanks1) in
     let next : IsOne (d ++ con) (con_by con is_con) = one_con d con blanks2 is_con in
     ap (λ y. map con_read (parts y)) text ∙ ap (map con_read) (parts-comma (x ++ b) ((d ++ con) ++ (v ++ z)) front) ∙ ap (λ y. y ∷ map con_read (parts ((d ++ con) ++ (v ++ z)))) (one.value b blanks1) ∙ ap (λ ys. c ∷ ys) (further_law n v others (d ++ con) (con_by con is_con) next z behind)
-
-or-false : (a : Bool) → (a || false) ≡ a
-or-false true = refl
-or-false false = refl
 
 -- what stands between blanks
 pub has_between : (c : ℕ) (w b x v z : List ℕ) → w ≡ b ++ x → x ≡ v ++ z → has c b ≡ false → has c z ≡ false → has c w ≡ has c v
@@ -108,12 +97,12 @@ other_mark_cases c b w false here rest = here
 -- a byte that doesn't stand in the text isn't its first one
 other_mark : (c : ℕ) (w : List ℕ) → eqb 0 c ≡ false → has c w ≡ false → eqb (first_mark w) c ≡ false
 other_mark c [] none e = none
-other_mark c (b ∷ w) none e = other_mark_cases c b w (is_blank b) (or-left (eqb b c) (has c w) e) (other_mark c w none (or-right (eqb b c) (has c w) e))
+other_mark c (b ∷ w) none e = other_mark_cases c b w (is_blank b) (or_parts (eqb b c) (has c w) e).0 (other_mark c w none (or_parts (eqb b c) (has c w) e).1)
 
 chosen : (w : List ℕ) (t f : Bool) → eqb (first_mark w) 116 ≡ t → eqb (first_mark w) 102 ≡ f → cons_read w ≡ (if t then [] else (if f then never ∷ [] else map con_read (parts w)))
 chosen w t f first second = ap (λ x. if x then [] else (if eqb (first_mark w) 102 then never ∷ [] else map con_read (parts w))) first ∙ ap (λ x. if t then [] else (if x then never ∷ [] else map con_read (parts w))) second
 
-regroup_first : (b first rest z : List ℕ) → b ++ ((first ++ rest) ++ z) ≡ (b ++ first) ++ (rest ++ z)
+pub regroup_first : (b first rest z : List ℕ) → b ++ ((first ++ rest) ++ z) ≡ (b ++ first) ++ (rest ++ z)
 regroup_first b first rest z = simp append_assoc
 
 -- a list of constraints with blanks around it

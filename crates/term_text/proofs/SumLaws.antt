@@ -150,7 +150,7 @@ nat_terms w m = record {
 nat_turns : Turns nat nat_by
 nat_turns w m n = refl
 
-zero_is_nat : Matches nat (48 ∷ [])
+pub zero_is_nat : Matches nat (48 ∷ [])
 zero_is_nat = (48 ∷ [], [], refl, (48, lit≤ tt, lit≤ tt, refl), (0, refl))
 
 -- an expression of variables alone

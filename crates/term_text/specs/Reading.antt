@@ -1,5 +1,5 @@
 -- What one pass over a text knows after some of its bytes.
-use Rattle.std.specs.Prelude.{ℕ, ◌+◌, ◌-◌, ◌*◌, ◌^◌, ◌==◌, if◌then◌else◌, List, [], ◌∷◌, ◌++◌, Bool, true, false, not, ◌&&◌, ◌||◌, nat_le, Option, Some, None, option_to_list, min, map}
+use Rattle.std.specs.Prelude.{ℕ, ◌+◌, ◌-◌, ◌*◌, ◌^◌, ◌==◌, if◌then◌else◌, List, [], ◌∷◌, ◌++◌, Bool, true, false, not, ◌||◌, Option, Some, None, option_to_list, min, map}
 use Rattle.term_text.specs.declared.terms.Term.{Term}
 use Rattle.term_text.specs.declared.terms.Relation.{Relation}
 use Rattle.term_text.specs.declared.terms.Relation.TheVariants.{Equal, AtLeast, AtMost, Above, Below}
@@ -9,7 +9,7 @@ use Rattle.term_text.specs.declared.scan.Place.{Place}
 use Rattle.term_text.specs.declared.scan.Place.TheVariants.{Left, Right, Divisor}
 use Rattle.term_text.specs.declared.scan.State.{State}
 use Rattle.std.specs.List.{slice_split}
-pub use Rattle.plain_text.specs.Digits.{is_digit, next_number}
+pub use Rattle.plain_text.specs.Digits.{is_digit, is_upper, next_number}
 use Rattle.term_text.specs.Values.{Comparison, Ratio, never}
 
 -- the term so far and one more digit
@@ -33,9 +33,6 @@ with_equals (Right AtMost) = Right Equal
 with_equals (Right Above) = Right AtLeast
 with_equals (Right Below) = Right AtMost
 with_equals Divisor = Right Equal
-
-abbrev pub is_upper : ℕ → Bool
-is_upper b = nat_le 65 b && nat_le b 90
 
 -- before the first byte of a term
 abbrev pub begun : Place → Bool → State
@@ -62,7 +59,8 @@ after s b =
 abbrev pub part_term : Bool → Part → Option Term
 part_term negative Nothing = None
 part_term negative (Number n) = Some (record { negative = negative; size = n; variable = None })
-part_term negative (Letter f p n) = Some (record { negative = negative; size = f; variable = Some (min (26 * n + p) (2 ^ 32)) })
+part_term negative (Letter f p n) =
+    Some (record { negative = negative; size = f; variable = Some (min (26 * n + p) (2 ^ 32)) })
 
 -- the term that was read at this place; behind a relation its sign is turned
 abbrev pub term_at : Place → Bool → Part → Option Term
@@ -115,7 +113,10 @@ con_read w = record { terms = terms_read start w; relation = relation_at (final 
 
 -- a text read as an expression with its divisor
 abbrev pub ratio_read : List ℕ → Ratio
-ratio_read w = record { terms = terms_read start w; divisor = divisor_at (final start w).place (final start w).part }
+ratio_read w = record {
+  terms = terms_read start w;
+  divisor = divisor_at (final start w).place (final start w).part;
+}
 
 -- a space or a tab
 abbrev pub is_blank : ℕ → Bool
@@ -126,7 +127,8 @@ abbrev pub first_mark : List ℕ → ℕ
 first_mark [] = 0
 first_mark (b ∷ w) = if is_blank b then first_mark w else b
 
--- a text read as a list of constraints: of its forms only `true` begins with t, and only `false` with f
+-- a text read as a list of constraints: of its forms only `true` begins with t, and only `false`
+-- with f
 abbrev pub cons_read : List ℕ → List Comparison
 cons_read w =
     if first_mark w == 116 then []

@@ -82,7 +82,9 @@ IsConsFault dim text fault = Says cons_cases cons_by text (λ cs. IsConsOfFault 
 
 -- what one more constraint does: it is stored, or its row leaves the range
 abbrev pub Adds : ℕ → List Constraint → List Constraint → Comparison → Bool → Type 0
-Adds dim old new c true = AreWithin dim c.terms × Stay dim c.terms × ((r : Constraint) × IsStored dim c r × (new ≡ old ++ r ∷ []))
+Adds dim old new c true =
+    AreWithin dim c.terms × Stay dim c.terms
+    × ((r : Constraint) × IsStored dim c r × (new ≡ old ++ r ∷ []))
 Adds dim old new c false = AreWithin dim c.terms × ¬ (Stay dim c.terms)
 
 -- why a constraint was not read to its end
@@ -92,8 +94,10 @@ StopsAt dim c TooLarge = ⊥
 StopsAt dim c ZeroDivisor = ⊥
 StopsAt dim c Memory = Unit {0}
 
--- after these constraints each variable is below the dimension, and either all are stored or one leaves the range
-pub record HaveRead (dim : ℕ) (cs : List Comparison) (list : List Constraint) (fits : Bool) : Type 0 where
+-- after these constraints each variable is below the dimension, and either all are stored or one
+-- leaves the range
+pub record HaveRead (dim : ℕ) (cs : List Comparison) (list : List Constraint) (fits : Bool)
+    : Type 0 where
   pub within : AllWithin dim cs
   pub stored : fits ≡ true → AllStay dim cs × AreStored dim cs list
   pub leaves : fits ≡ false → ¬ (AllStay dim cs)

@@ -14,7 +14,8 @@ use Rattle.term_text.specs.Terms.{AreWithin, total, Stay, IsRow}
 use Rattle.term_text.specs.Values.{Ratio, Comparison, expr_by, frac_by, point_by, alone_by}
 
 -- the text has the form, with blanks around it, and P holds of what it says
-pub record Says {A : Type 0} (f : Form) (by : (w : List ℕ) → Matches f w → A) (text : List ℕ) (P : A → Type 0) : Type 0 where
+pub record Says {A : Type 0} (f : Form) (by : (w : List ℕ) → Matches f w → A) (text : List ℕ)
+    (P : A → Type 0) : Type 0 where
   pub form : Matches (alone f) text
   pub holds : P (alone_by f by text form)
 

@@ -87,7 +87,8 @@ impl Model for RowSum {
         × (s.dim < 2 ^ 32 - 2) };
 }
 
-/// Zeros, with room for as many again: a list that takes them over as its first row has room for a second.
+/// Zeros, with room for as many again: a list that takes them over as its first row has room for a
+/// second.
 fn zeros(alloc: Global, width: usize) -> Result<Vec<i128>, AllocError>
     requires { width < 2 ^ 32 }
     ensures { IfOk result (λ v. v.items ≡ replicate width (pos 0)) }

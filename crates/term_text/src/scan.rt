@@ -18,7 +18,8 @@ pub enum Part {
     Nothing,
     /// A number.
     Number(u128),
-    /// A variable: its factor, its letter's place in the alphabet, and the number behind the letter.
+    /// A variable: its factor, its letter's place in the alphabet, and the number behind the
+    /// letter.
     Letter(u128, u64, u64),
 }
 

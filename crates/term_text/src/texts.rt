@@ -63,8 +63,8 @@ fn divisor_of(number: u128) -> Result<i128, ValueErr>
     Ok(divisor)
 }
 
-/// The row of a text, in each column the sum of its terms, in their order, and its divisor, which is 1
-/// without a division; 2^127 stands for all greater ones too.
+/// The row of a text, in each column the sum of its terms, in their order, and its divisor, which
+/// is 1 without a division; 2^127 stands for all greater ones too.
 ///
 /// # Errors
 /// `OutOfRange` exactly where a variable isn't below `dim`, and otherwise `TooLarge` exactly where

@@ -1,11 +1,8 @@
-use Rattle.std.proofs.Common.{◌≡◌, ℕ, ◌+◌, ◌-◌, ◌<◌, Bool, true, false, ◌||◌, List, [], ◌∷◌, length, get_or, drop, refl, ap, sym, ◌∙◌, subst, arith}
+use Rattle.std.proofs.Common.{◌≡◌, ℕ, ◌+◌, ◌-◌, ◌<◌, Bool, ◌||◌, List, [], ◌∷◌, length, get_or, drop, refl, ap, sym, ◌∙◌, subst, arith}
 use Rattle.std.proofs.lemmas.List.{drop_more, drop_all}
+use Rattle.std.proofs.Math.Bool.{or-false, or_assoc}
 use Rattle.script_text.specs.Commands.{is_strict, begins_strict}
 use Rattle.script_text.proofs.making.is_strict.Goals as goal
-
-or_assoc : (x y z : Bool) → ((x || y) || z) ≡ (x || (y || z))
-or_assoc true y z = refl
-or_assoc false y z = refl
 
 step_at : (text : List ℕ) (k : ℕ) (found b : Bool) → k + 1 < length text → ((behind : List ℕ) → b ≡ begins_strict (get_or text k 0) (get_or text (k + 1) 0 ∷ behind)) →
     (found || is_strict (drop k text)) ≡ is_strict text → ((found || b) || is_strict (drop (k + 1) text)) ≡ is_strict text
@@ -21,15 +18,11 @@ step text k i j found b e f h is before =
     subst (λ x. ((found || b) || is_strict (drop x text)) ≡ is_strict text) (sym f)
     (step_at text k found b (omega (arith, e, h)) (subst (λ x. (behind : List ℕ) → b ≡ begins_strict (get_or text k 0) (get_or text x 0 ∷ behind)) e is) before)
 
-or_none : (x : Bool) → (x || false) ≡ x
-or_none true = refl
-or_none false = refl
-
 -- behind the last byte
 last : (text : List ℕ) (k n : ℕ) (found b : Bool) → n ≡ length text → n ≡ k + 1 → ((behind : List ℕ) → b ≡ begins_strict (get_or text k 0) (0 ∷ behind)) → (found || is_strict (drop k text)) ≡ is_strict text → (found || b) ≡ is_strict text
 last text k n found b whole e is before =
     let rest : drop (k + 1) text ≡ [] = drop_all (k + 1) text (omega (arith, whole, e)) in
-    let here : is_strict (drop k text) ≡ b = ap is_strict (drop_more text k 0 (omega (arith, whole, e)) ∙ ap (λ (x : List ℕ). get_or text k 0 ∷ x) rest) ∙ or_none (begins_strict (get_or text k 0) []) ∙ sym (is []) in
+    let here : is_strict (drop k text) ≡ b = ap is_strict (drop_more text k 0 (omega (arith, whole, e)) ∙ ap (λ (x : List ℕ). get_or text k 0 ∷ x) rest) ∙ or-false (begins_strict (get_or text k 0) []) ∙ sym (is []) in
     ap (λ (x : Bool). found || x) (sym here) ∙ before
 
 pub loop-index-preserved : goal.loop-index-preserved
