@@ -1,0 +1,11 @@
+pub mod Points
+pub mod Texts
+pub mod Values
+pub mod Sets
+pub mod Answers
+pub mod Unions
+pub mod Shapes
+pub mod Systems
+pub mod Files
+pub mod Commands
+pub mod Replies
