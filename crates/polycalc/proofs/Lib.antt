@@ -9,3 +9,8 @@ pub mod WriteLaws
 pub mod GivenReplies
 pub mod SampleWords
 pub mod JobLaws
+pub mod RefusalLines
+pub mod SoundValues
+pub mod SoundParts
+pub mod SoundCommands
+pub mod SoundRuns

@@ -16,6 +16,7 @@ mod runs;
 mod samples;
 mod status;
 mod top;
+mod truth;
 mod vocabulary;
 
 use poly_io::{StdSink, StdSource};

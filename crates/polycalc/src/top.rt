@@ -4,6 +4,7 @@ ghost use Rattle.std.specs.Io.KnownBytes.{prepend_known};
 ghost use Rattle.poly_io.specs.Counts.{HasRisen};
 ghost use Rattle.polycalc.specs.Words.{IsAskedBy};
 ghost use Rattle.polycalc.specs.Outcomes.{Outcome, Ends, Stops, IsAnswered, IsSampleAnswered, WritesFront, AnswersRead, AnswersFront, AnswersBefore, GivesUp};
+ghost use Rattle.polycalc.specs.Sound.{IsSound};
 ghost use Rattle.polycalc.specs.declared.job.Job.{Job as AnyJob};
 ghost use Rattle.polycalc.specs.declared.job.Job.TheVariants.{Sample};
 
@@ -13,6 +14,7 @@ use crate::job::Job;
 use crate::runs::run_lines;
 use crate::samples::write_sample;
 use crate::status::Status;
+use crate::truth::answers_are_sound;
 use crate::vocabulary::Words;
 use poly_io::{Sink, Source};
 use row_core::Steps;
@@ -46,6 +48,15 @@ pub fn polycalc<S: Source, W: Sink, L: Ledger>(
         → length script ≤ 2 ^ 26 → ¬ (HasRisen (S.faults source.old) (S.faults source.new))
         → ¬ (HasRisen (W.faults sink.old) (W.faults sink.new))
         → result ≢ Status.Memory → IsAnswered job script before (W.held sink.new) result }
+    // With the same premises it holds what it held and then, line by line, the replies to the lines of the
+    // script: a line whose reply begins with `fault ` or `overflow ` changes nothing, and each other one
+    // spells a command, or ends a file, whose reply is true of the points for which the names stand and
+    // which makes of them what it says; or to a file a refusal, or the other file of the same points.
+    ensures sound { (job : AnyJob) (script before : List ℕ) → IsAskedBy words.now job
+        → S.left source.old ≡ Some script → W.held sink.old ≡ Some before
+        → length script ≤ 2 ^ 26 → ¬ (HasRisen (S.faults source.old) (S.faults source.new))
+        → ¬ (HasRisen (W.faults sink.old) (W.faults sink.new))
+        → result ≢ Status.Memory → IsSound job script before (W.held sink.new) }
     // A sample asks only of the sink: it holds what it held and then the line of the sample, where it must
     // be answered, and nothing is read.
     ensures sampled { (n : ℕ) (before : List ℕ) → IsAskedBy words.now (Sample n)
@@ -93,6 +104,7 @@ pub fn polycalc<S: Source, W: Sink, L: Ledger>(
         WritesFront }
 {
     runs_are_complete();
+    answers_are_sound();
     match words.job() {
         Some(job) => do_job(alloc, job, source, sink, steps),
         None => Status::Usage,

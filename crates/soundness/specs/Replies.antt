@@ -1,6 +1,6 @@
 -- What is written to a script and to a file.
-use Rattle.std.specs.Prelude.{◌≡◌, ◌⊎◌, ℕ, List, [], ◌∷◌, ◌++◌, Option, None, Some, Bool, not, codes, take}
-use Rattle.std.specs.List.{concat}
+use Rattle.std.specs.Prelude.{◌≡◌, ◌⊎◌, ℕ, List, [], ◌∷◌, ◌++◌, Option, None, Some, Bool, true, not, ◌==◌, codes, take}
+use Rattle.std.specs.List.{concat, list_all}
 use Rattle.std.specs.Str.Lines.{lines}
 use Rattle.cdd_reading.specs.Files.{IsEnd}
 use Rattle.name_table.specs.Table.{put}
@@ -29,9 +29,14 @@ abbrev pub empty_state : State
 empty_state = record { names = []; file = None }
 
 -- ---- one line
--- a line that begins with `fault ` or with `overflow `
+-- a byte that isn't a line feed
+abbrev pub is_text : ℕ → Bool
+is_text b = not (b == 10)
+
+-- one line, which begins with `fault ` or with `overflow `
 pub record IsRefusal (reply : List ℕ) : Type 0 where
   pub rest : List ℕ
+  pub one_line : list_all is_text rest ≡ true
   pub said : (reply ≡ line (codes "fault " ++ rest)) ⊎ (reply ≡ line (codes "overflow " ++ rest))
 
 -- a refused line changes nothing; no file is open after it
