@@ -6,6 +6,7 @@ use optimum::laws::generator_is_witness;
 use poly_pair::laws::{kept_is_empty, kept_is_pair};
 use powerset::laws::{join_is_union, pair_meet_is_intersection};
 use ranking::laws::printed_function_ranks;
+use script_text::variables_are_listed;
 use widening::laws::widening_includes;
 
 /// What is answered is true of the points for which the names stand.
@@ -21,4 +22,5 @@ pub fn answers_are_sound()
     join_is_union();
     pair_meet_is_intersection();
     printed_function_ranks();
+    variables_are_listed();
 }

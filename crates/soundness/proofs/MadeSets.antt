@@ -39,7 +39,7 @@ use Rattle.poly_commands.specs.Operators as operators
 use Rattle.poly_commands.specs.Affine as affine
 use Rattle.soundness.specs.Points.{PointSet, IsSetOf, HasNoPoint, IsInSmallest}
 use Rattle.soundness.specs.Sets.{constraints, generators, IsOfConstraints, IsOfGenerators, IsSpace, IsCopy, IsAdded, Generate, IsJoined, IsClosure, IsOfTwo, IsFrontIn, IsExtended, IsRemoved, Stands, IsImage, IsPreimage, IsSetOfMap, IsMapped}
-use Rattle.soundness.specs.Texts.{GeneratorsText}
+use Rattle.soundness.specs.TextsSystems.{GeneratorsText}
 use Rattle.soundness.proofs.PointLaws.{TextLaws, via, turn, is_nnc, set_of, set_is, moved, within, smallest}
 
 -- ---- given

@@ -19,7 +19,9 @@ use Rattle.term_text.specs.Systems.{IsCon, IsCons}
 use Rattle.expr_text.specs.GeneratorSystems.{IsGens}
 use Rattle.soundness.specs.Points.{PointSet, IsSetOf, HasNoPoint, IsKindFor, IsConstraintFor, IsInSmallest}
 use Rattle.soundness.specs.Sets.{constraints, generators}
-use Rattle.soundness.specs.Texts.{ExpressionText, FractionText, ConstraintText, ConstraintsText, PointText, GeneratorsText, Spelled}
+use Rattle.soundness.specs.TextsExpressions.{ExpressionText, FractionText}
+use Rattle.soundness.specs.TextsSystems.{ConstraintText, ConstraintsText, PointText, GeneratorsText}
+use Rattle.soundness.specs.TextsLines.{Spelled}
 
 -- ---- texts
 -- the text of constraints, which hold at the points of the system

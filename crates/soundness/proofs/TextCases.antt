@@ -1,57 +1,25 @@
--- What texts say by the tables is what they say by the definitions of soundness.
-use Rattle.std.proofs.Common.{◌≡◌, ℕ, ◌<◌, List, [], ◌++◌, refl, sym, subst, ℤ, pos, ◌<ℤ◌, arith}
-use Rattle.std.proofs.lemmas.Int.{ints}
-use Rattle.row_core.specs.Vectors.{cell}
-use Rattle.row_core.specs.Points.{IsPoint as IsPointRow}
-use Rattle.cons_sys.specs.Constraints.{Constraints}
-use Rattle.gens_sys.specs.Generators.{Generators}
-use Rattle.term_text.specs.Texts.{IsFrac, IsPoint}
-use Rattle.term_text.specs.Systems.{IsCons}
-use Rattle.expr_text.specs.GeneratorSystems.{IsGens}
-use Rattle.soundness.specs.Sets.{constraints, generators}
-use Rattle.soundness.proofs.PointLaws.{SaysConstraints, SaysGenerators, SaysFraction, TextLaws}
-
-constraints_said : (dim : ℕ) (text : List ℕ) (system : Constraints) → IsCons dim text system → SaysConstraints dim text system
-constraints_said dim text system h = record {
-  list = system.list;
-  is_text = subst (λ (n : ℕ). IsCons dim text (constraints n system.list)) h.holds.over h;
-  same = λ v. (λ x. x, λ x. x);
-}
-
-generators_said : (dim : ℕ) (text : List ℕ) (system : Generators) → IsGens dim text system → SaysGenerators dim text system
-generators_said dim text system h = record {
-  list = system.list;
-  is_text = subst (λ (n : ℕ). IsGens dim text (generators n system.list)) h.holds.over h;
-  same = λ own v. (λ x. x, λ x. x);
-}
+-- What lines and texts say by the tables is what they say by the cases.
+use Rattle.std.proofs.Common.{ℕ, List, ℤ}
+use Rattle.term_text.specs.Texts.{IsFrac}
+use Rattle.script_text.specs.Variables.{VariablesAreListed}
+use Rattle.soundness.proofs.PointLaws.{SaysFraction, TextLaws}
+use Rattle.soundness.proofs.TextValues.{expression_text, fraction_text, point_text, constraint_text}
+use Rattle.soundness.proofs.TextLists.{constraints_text}
+use Rattle.soundness.proofs.TextGenerators.{generators_text}
+use Rattle.soundness.proofs.TextLines.{spelled}
 
 fraction_said : (dim : ℕ) (text : List ℕ) (row : List ℤ) (divisor : ℤ) → IsFrac dim text row divisor → SaysFraction dim text row divisor
-fraction_said dim text row divisor h = record {
-  below = (fraction_of h).0;
-  positive = (fraction_of h).1;
-  same = (fraction_of h).2;
-  is_text = subst (λ (d : ℤ). IsFrac dim text row d) (fraction_of h).2 h;
-}
-  where
-    fraction_of : IsFrac dim text row divisor → (n : ℕ) × (0 < n) × (divisor ≡ pos n)
-    fraction_of h = (_, h.holds.positive, h.holds.same)
+fraction_said dim text row divisor h =
+    let f = fraction_text dim text row divisor h in
+    record { below = f.0; positive = f.3; same = f.2; is_text = f.1 }
 
-point_row : (dim : ℕ) (text : List ℕ) (row : List ℤ) → IsPoint dim text row → IsPointRow dim row
-point_row dim text row h = record { wide = h.holds.wide; positive = positive_last _ (cell row dim) h.holds.positive h.holds.last }
-  where
-    positive_last : (n : ℕ) (z : ℤ) → 0 < n → z ≡ pos n → pos 0 <ℤ z
-    positive_last n z h e = subst (λ (x : ℤ). pos 0 <ℤ x) (sym e) (pos-positive n h)
-
-    pos-positive : (n : ℕ) → 0 < n → pos 0 <ℤ pos n
-    pos-positive n h = omega (arith, ints)
-
-pub text_laws : TextLaws
-text_laws = record {
-  spelled = λ line c h. h;
-  expression = λ dim text row h. h;
+pub text_laws : VariablesAreListed → TextLaws
+text_laws listed = record {
+  spelled = spelled listed;
+  expression = expression_text;
   fraction = fraction_said;
-  point = λ dim text row h. (h, point_row dim text row h);
-  constraint = λ dim text row kind h. h;
-  constraints = constraints_said;
-  generators = generators_said;
+  point = point_text;
+  constraint = constraint_text;
+  constraints = constraints_text;
+  generators = generators_text;
 }

@@ -43,7 +43,7 @@ use Rattle.soundness.specs.Sets.{constraints, generators, IsWidening}
 use Rattle.soundness.specs.Answers.{line, Tells, TellsWhether, LieSo, TellsRelation, is_max, attained_text, IsWitness, TellsBound, TellsExtremeOf, TellsExtreme, AreOf, AreGensOf, TellsConstraints, TellsGenerators, TellsSide, TellsSize}
 use Rattle.soundness.specs.Files as files
 use Rattle.soundness.specs.Files.{TellsFile}
-use Rattle.soundness.specs.Texts.{ConstraintsText, GeneratorsText}
+use Rattle.soundness.specs.TextsSystems.{ConstraintsText, GeneratorsText}
 use Rattle.soundness.proofs.PointLaws.{TextLaws, via, turn, is_nnc, set_of, moved, for_from}
 use Rattle.soundness.proofs.Operands.{one_topology, one_number}
 

@@ -21,7 +21,8 @@ use Rattle.script_text.specs.declared.command.Extremum.{Extremum}
 use Rattle.script_text.specs.declared.command.Extremum.TheVariants.{Max, Min}
 use Rattle.soundness.specs.Points.{PointSet, IsSetOf, HasNoPoint, Includes, HaveSamePoints, AreDisjoint, IsInSmallest}
 use Rattle.soundness.specs.Sets.{constraints, generators}
-use Rattle.soundness.specs.Texts.{ExpressionText, ConstraintText, ConstraintsText, PointText, GeneratorsText}
+use Rattle.soundness.specs.TextsExpressions.{ExpressionText}
+use Rattle.soundness.specs.TextsSystems.{ConstraintText, ConstraintsText, PointText, GeneratorsText}
 
 -- ---- replies
 -- one line

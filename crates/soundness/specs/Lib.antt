@@ -1,5 +1,8 @@
 pub mod Points
-pub mod Texts
+pub mod TextsNumbers
+pub mod TextsExpressions
+pub mod TextsSystems
+pub mod TextsLines
 pub mod Values
 pub mod Sets
 pub mod Answers

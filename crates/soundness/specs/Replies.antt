@@ -11,7 +11,7 @@ use Rattle.soundness.specs.Values.{Polyhedron, Names}
 use Rattle.soundness.specs.Answers.{line, ok}
 use Rattle.soundness.specs.Files.{IsOfFile}
 use Rattle.soundness.specs.Commands.{Makes, Does}
-use Rattle.soundness.specs.Texts.{Spelled}
+use Rattle.soundness.specs.TextsLines.{Spelled}
 
 -- a file that `read` has begun: the name of its set, whether it lists generators, and its lines so far
 pub record OpenFile : Type 0 where

@@ -22,7 +22,8 @@ use Rattle.script_text.specs.declared.command.Mapping.TheVariants.{Image, Preima
 use Rattle.script_text.specs.declared.command.Rel.{Rel}
 use Rattle.script_text.specs.declared.command.Rel.TheVariants as rel
 use Rattle.soundness.specs.Points.{PointSet, IsSetOf, AreAlike, HasNoPoint, Includes, HaveSamePoints, IsInSmallest}
-use Rattle.soundness.specs.Texts.{FractionText, ConstraintsText, GeneratorsText}
+use Rattle.soundness.specs.TextsExpressions.{FractionText}
+use Rattle.soundness.specs.TextsSystems.{ConstraintsText, GeneratorsText}
 
 -- ---- systems
 -- constraints, over so many variables

@@ -14,7 +14,7 @@ use Rattle.script_text.specs.declared.command.ShapeOperator.TheVariants.{Meet, H
 use Rattle.soundness.specs.Points.{PointSet, IsSetOf, HasNoPoint}
 use Rattle.soundness.specs.Sets.{constraints}
 use Rattle.soundness.specs.Answers.{line, Tells}
-use Rattle.soundness.specs.Texts.{ConstraintsText}
+use Rattle.soundness.specs.TextsSystems.{ConstraintsText}
 
 -- the bound is the greatest difference of two places on the set, or none where the difference has no bound
 abbrev pub IsSupremumOf : PointSet → ℕ → ℕ → Bound → Type 0

@@ -11,7 +11,7 @@ use Rattle.script_text.specs.declared.command.PowersetOperator.TheVariants.{Join
 use Rattle.soundness.specs.Points.{PointSet, IsSetOf, HasNoPoint}
 use Rattle.soundness.specs.Values.{Powerset}
 use Rattle.soundness.specs.Answers.{line}
-use Rattle.soundness.specs.Texts.{FractionText}
+use Rattle.soundness.specs.TextsExpressions.{FractionText}
 
 -- ---- powersets
 -- the point is in a member
