@@ -1,7 +1,6 @@
 -- What texts say by the tables is what they say by the definitions of soundness.
 use Rattle.std.proofs.Common.{◌≡◌, ℕ, ◌<◌, List, [], ◌++◌, refl, sym, subst, ℤ, pos, ◌<ℤ◌, arith}
 use Rattle.std.proofs.lemmas.Int.{ints}
-use Rattle.row_core.specs.Vectors.{cell}
 use Rattle.row_core.specs.Points.{IsPoint as IsPointRow}
 use Rattle.cons_sys.specs.Constraints.{Constraints}
 use Rattle.gens_sys.specs.Generators.{Generators}
@@ -36,14 +35,11 @@ fraction_said dim text row divisor h = record {
     fraction_of : IsFrac dim text row divisor → (n : ℕ) × (0 < n) × (divisor ≡ pos n)
     fraction_of h = (_, h.holds.positive, h.holds.same)
 
-point_row : (dim : ℕ) (text : List ℕ) (row : List ℤ) → IsPoint dim text row → IsPointRow dim row
-point_row dim text row h = record { wide = h.holds.wide; positive = positive_last _ (cell row dim) h.holds.positive h.holds.last }
-  where
-    positive_last : (n : ℕ) (z : ℤ) → 0 < n → z ≡ pos n → pos 0 <ℤ z
-    positive_last n z h e = subst (λ (x : ℤ). pos 0 <ℤ x) (sym e) (pos-positive n h)
+positive_number : (n : ℕ) → 0 < n → pos 0 <ℤ pos n
+positive_number n h = omega (arith, ints)
 
-    pos-positive : (n : ℕ) → 0 < n → pos 0 <ℤ pos n
-    pos-positive n h = omega (arith, ints)
+point_row : (dim : ℕ) (text : List ℕ) (row : List ℤ) → IsPoint dim text row → IsPointRow dim row
+point_row dim text row h = record { wide = h.holds.wide; positive = subst (λ (z : ℤ). pos 0 <ℤ z) (sym h.holds.last) (positive_number _ h.holds.positive) }
 
 pub text_laws : TextLaws
 text_laws = record {
