@@ -62,8 +62,8 @@ place_plain (Some n) = decimal_plain n
 
 pub fault_plain : (f : Fault) → IsPlain (decimal (fault_number f) ++ codes " " ++ fault_name f ++ place_text (fault_place f))
 fault_plain f =
-    both (decimal (fault_number f)) (codes " " ++ fault_name f ++ place_text (fault_place f)) (decimal_plain (fault_number f))
-    (both (fault_name f) (place_text (fault_place f)) (name_plain f) (place_plain (fault_place f)))
+    both (decimal (fault_number f) ++ codes " " ++ fault_name f) (place_text (fault_place f))
+    (both (decimal (fault_number f) ++ codes " ") (fault_name f) (both (decimal (fault_number f)) (codes " ") (decimal_plain (fault_number f)) refl) (name_plain f)) (place_plain (fault_place f))
 
 kind_plain : (k : OverKind) → IsPlain (kind_name k)
 kind_plain Dot = refl
@@ -71,13 +71,16 @@ kind_plain Combine = refl
 kind_plain Scale = refl
 kind_plain Compare = refl
 
-rows_plain : (left right : List ℤ) → IsPlain (codes " left " ++ row_text left ++ codes " right " ++ row_text right)
-rows_plain left right = both (row_text left) (codes " right " ++ row_text right) (row_plain left) (row_plain right)
+-- the words before the rows
+head_plain : (kind : OverKind) (step column : ℕ) → IsPlain (kind_name kind ++ codes " step " ++ decimal step ++ codes " column " ++ decimal column ++ codes " left ")
+head_plain kind step column =
+    both (kind_name kind ++ codes " step " ++ decimal step ++ codes " column " ++ decimal column) (codes " left ")
+    (both (kind_name kind ++ codes " step " ++ decimal step ++ codes " column ") (decimal column)
+      (both (kind_name kind ++ codes " step " ++ decimal step) (codes " column ") (both (kind_name kind ++ codes " step ") (decimal step) (both (kind_name kind) (codes " step ") (kind_plain kind) refl) (decimal_plain step)) refl)
+      (decimal_plain column)) refl
 
-column_plain : (column : ℕ) (left right : List ℤ) → IsPlain (codes " column " ++ decimal column ++ codes " left " ++ row_text left ++ codes " right " ++ row_text right)
-column_plain column left right = both (decimal column) (codes " left " ++ row_text left ++ codes " right " ++ row_text right) (decimal_plain column) (rows_plain left right)
+rows_plain : (head : List ℕ) (left right : List ℤ) → IsPlain head → IsPlain (head ++ row_text left ++ codes " right " ++ row_text right)
+rows_plain head left right h = both (head ++ row_text left ++ codes " right ") (row_text right) (both (head ++ row_text left) (codes " right ") (both head (row_text left) h (row_plain left)) refl) (row_plain right)
 
 pub overflow_plain : (over : Overflow) → IsPlain (kind_name over.kind ++ codes " step " ++ decimal over.step ++ codes " column " ++ decimal (over.column + 1) ++ codes " left " ++ row_text over.left ++ codes " right " ++ row_text over.right)
-overflow_plain over =
-    both (kind_name over.kind) (codes " step " ++ decimal over.step ++ codes " column " ++ decimal (over.column + 1) ++ codes " left " ++ row_text over.left ++ codes " right " ++ row_text over.right) (kind_plain over.kind)
-    (both (decimal over.step) (codes " column " ++ decimal (over.column + 1) ++ codes " left " ++ row_text over.left ++ codes " right " ++ row_text over.right) (decimal_plain over.step) (column_plain (over.column + 1) over.left over.right))
+overflow_plain over = rows_plain (kind_name over.kind ++ codes " step " ++ decimal over.step ++ codes " column " ++ decimal (over.column + 1) ++ codes " left ") over.left over.right (head_plain over.kind over.step (over.column + 1))

@@ -277,7 +277,7 @@ listed_from members s (k, below, e) =
 in_union : (u : FinitePowerset) (v : List ℤ) → powersets.IsInPowerset u.members v ↔ unions.IsInUnion (powerset_of u) v
 in_union u v = (
   λ h. record { member = set_of h.member; listed = listed_to u.members h.member h.listed; within = h.holds },
-  λ h. (let m = listed_from u.members h.member h.listed in record { member = m.0; listed = m.1; holds = subst (λ (y : PointSet). In y.cons v) m.2 h.within }),
+  λ h. (let m = listed_from u.members h.member h.listed in record { member = m.0; listed = m.1; holds = subst (λ (y : PointSet). In y.cons v) (sym m.2) h.within }),
 )
 
 pub pset_made : (p : Polyhedron) (u : FinitePowerset) → powersets.IsPowersetOfOne p u → unions.IsOfOne (set_of p) (powerset_of u)

@@ -41,7 +41,7 @@ use Rattle.polycalc.specs.declared.job.Job.{Job}
 use Rattle.polycalc.specs.declared.job.Job.TheVariants as job
 use Rattle.polycalc.specs.declared.status.Status.{Status}
 use Rattle.soundness.specs.Files.{IsOfFile}
-use Rattle.soundness.specs.Replies.{OpenFile, State, IsRefusal, file_begun, IsAnswered, IsReply, IsEndReply, AreReplies, IsWrittenTo, IsConverted}
+use Rattle.soundness.specs.Replies.{OpenFile, State, IsRefusal, file_begun, IsReply, IsEndReply, AreReplies, IsWrittenTo, IsConverted}
 use Rattle.soundness.proofs.PointLaws.{turn, set_of, set_is}
 use Rattle.polycalc.proofs.SoundValues.{named, named_put, AreKept, put_kept, after_kept}
 use Rattle.polycalc.proofs.SoundCommands.{Laws, accepted_does}
