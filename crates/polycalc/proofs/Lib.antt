@@ -7,3 +7,8 @@ pub mod FirstLines
 pub mod WriteLaws
 pub mod GivenReplies
 pub mod JobLaws
+pub mod RefusalLines
+pub mod SoundValues
+pub mod SoundParts
+pub mod SoundCommands
+pub mod SoundRuns

@@ -15,6 +15,7 @@ mod runs;
 mod samples;
 mod status;
 mod top;
+mod truth;
 
 use job_words::Words;
 use poly_io::{StdSink, StdSource};

@@ -4,6 +4,7 @@ ghost use Rattle.std.specs.Io.KnownBytes.{prepend_known};
 ghost use Rattle.poly_io.specs.Counts.{HasRisen};
 ghost use Rattle.job_words.specs.Words.{IsAskedBy};
 ghost use Rattle.polycalc.specs.Outcomes.{Outcome, Ends, Stops, IsAnswered, IsSampleAnswered, WritesFront, AnswersRead, AnswersFront, AnswersBefore, GivesUp};
+ghost use Rattle.polycalc.specs.Sound.{IsSound};
 ghost use Rattle.job_words.specs.declared.job.Job.{Job as AnyJob};
 ghost use Rattle.job_words.specs.declared.job.Job.TheVariants.{Sample};
 
@@ -12,6 +13,7 @@ use crate::conversions::convert_file;
 use crate::runs::run_lines;
 use crate::samples::write_sample;
 use crate::status::Status;
+use crate::truth::answers_are_sound;
 use job_words::{Job, Words};
 use poly_io::{Sink, Source};
 use row_core::Steps;
@@ -36,6 +38,10 @@ use std::sync::ledger::Ledger;
 ///   sink holds what it held and then the replies: of a run over the lines of all bytes, in which each
 ///   line that must succeed is answered, or to the file that all bytes are, which is converted where it
 ///   must be.
+/// - `sound`: where the same holds, it holds what it held and then, line by line, the replies to the lines
+///   of the script: a line whose reply begins with `fault ` or `overflow ` changes nothing, and each other
+///   one spells a command, or ends a file, whose reply is true of the points for which the names stand and
+///   which makes of them what it says; or to a file a refusal, or the other file of the same points.
 /// - `sampled`, `unread`: a sample asks only of the sink, which holds what it held and then the line of
 ///   the sample, where it must be answered, and nothing is read.
 /// - `done`, `refused`: what the job reads was read to its end and all replies were written; whether one
@@ -59,6 +65,11 @@ pub fn polycalc<S: Source, W: Sink, L: Ledger>(
         → ¬ (HasRisen (S.faults source.old) (S.faults source.new))
         → ¬ (HasRisen (W.faults sink.old) (W.faults sink.new)) → result ≢ Status.Memory
         → IsAnswered job script before (W.held sink.new) result }
+    ensures sound { (job : AnyJob) (script before : List ℕ) → IsAskedBy words.now job
+        → S.left source.old ≡ Some script → W.held sink.old ≡ Some before → length script ≤ 2 ^ 26
+        → ¬ (HasRisen (S.faults source.old) (S.faults source.new))
+        → ¬ (HasRisen (W.faults sink.old) (W.faults sink.new)) → result ≢ Status.Memory
+        → IsSound job script before (W.held sink.new) }
     ensures sampled { (n : ℕ) (before : List ℕ) → IsAskedBy words.now (Sample n)
         → W.held sink.old ≡ Some before → ¬ (HasRisen (W.faults sink.old) (W.faults sink.new))
         → result ≢ Status.Memory → IsSampleAnswered n before (W.held sink.new) result }
@@ -89,6 +100,7 @@ pub fn polycalc<S: Source, W: Sink, L: Ledger>(
         (S.left source.new) (W.held sink.old) (W.held sink.new) WritesFront }
 {
     runs_are_complete();
+    answers_are_sound();
     match words.job() {
         Some(job) => do_job(alloc, job, source, sink, steps),
         None => Status::Usage,

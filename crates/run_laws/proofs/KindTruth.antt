@@ -15,7 +15,7 @@ use Rattle.line_values.specs.Meaning.{line}
 use Rattle.calc_state.specs.Powersets.{IsCoverTold}
 use Rattle.calc_state.specs.Rankings.{IsRankingTold}
 use Rattle.run_laws.specs.Truth.{SaysCover, SaysRanking, SaysBounds}
-use Rattle.run_laws.proofs.ShapeRows.{shape_fits}
+use Rattle.soundness.proofs.ShapeRows.{shape_fits}
 
 -- whether the one union covers the other
 pub cover_says : (s t : FinitePowerset) (text : List ℕ) → IsCoverTold s t text → SaysCover text s t

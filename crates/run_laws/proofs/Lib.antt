@@ -11,7 +11,6 @@ pub mod OneHybrid
 pub mod OneSet
 pub mod EntryKinds
 pub mod Operands
-pub mod ShapeRows
 pub mod AcceptedRuns
 pub mod NumberedLaws
 pub mod SetLaws

@@ -16,6 +16,17 @@ returns-in-Some-clause-answered g c = λ task script before words left held few 
     (answered c.runs_are_complete.ensures c.in-Some.job script before o.0 now new c.do_job.result (sym left ∙ o.1) few
     (subst (λ (h : Option (List ℕ)). Outcome c.in-Some.job o.0 now h new c.do_job.result) held o.2) (λ e. read (c.do_job.ensures.read_fault e)) (λ e. write (c.do_job.ensures.write_fault e)) memory)
 
+pub returns-in-Some-clause-sound : goal.returns-in-Some-clause-sound
+returns-in-Some-clause-sound g c = λ task script before words left held few read write memory.
+    let o = c.do_job.ensures.outcome in
+    let now = g.S.Source.left c.do_job.new.source in
+    let new = g.W.Sink.held c.do_job.new.sink in
+    let same : c.in-Some.job ≡ task = one_job c.args.words.now c.in-Some.job task c.in-Some.ensures words in
+    c.answers_are_sound.ensures task script before new c.do_job.result
+    (subst (λ (t : Job). IsAnswered t script before new c.do_job.result) same
+    (answered c.runs_are_complete.ensures c.in-Some.job script before o.0 now new c.do_job.result (sym left ∙ o.1) few
+    (subst (λ (h : Option (List ℕ)). Outcome c.in-Some.job o.0 now h new c.do_job.result) held o.2) (λ e. read (c.do_job.ensures.read_fault e)) (λ e. write (c.do_job.ensures.write_fault e)) memory))
+
 pub returns-in-Some-clause-sampled : goal.returns-in-Some-clause-sampled
 returns-in-Some-clause-sampled g c = λ n before words held write memory.
     let o = c.do_job.ensures.outcome in

@@ -1,0 +1,421 @@
+-- Systems, automata, powersets, shapes and ranking functions are those that are said.
+use Rattle.std.proofs.Common.{◌≡◌, ◌≢◌, ◌⊎◌, inl, inr, ◌↔◌, ℕ, ◌+◌, ◌-◌, ◌*◌, ◌/◌, ◌%◌, ◌<◌, ◌≤◌, List, [], ◌∷◌, ◌++◌, map, length, take, refl, ap, sym, ◌∙◌, subst, slice_get, slice_set, All, Contains, IfSome, ℤ, codes, arith}
+use Rattle.std.specs.Prelude.{Option, None, Some, decimal}
+use Rattle.std.specs.Option.{option_map}
+use Rattle.std.proofs.lemmas.Bool.{cases_lt}
+use Rattle.std.proofs.lemmas.Option.{slice_get-map, slice_get_within, get_or_from_slice_get}
+use Rattle.std.proofs.lemmas.List.Elements.{All-map, All-weaker}
+use Rattle.std.proofs.lemmas.List.{length-map, map-set, get_or-map}
+use Rattle.row_core.specs.Vectors.{cell}
+use Rattle.row_core.specs.Points.{IsPoint}
+use Rattle.cons_sys.specs.Constraints.{In}
+use Rattle.stored_systems.specs.PointSets.{IsWithin}
+use Rattle.poly_pair.specs.declared.topology.Topology.TheVariants.{Closed}
+use Rattle.poly_pair.specs.Polyhedra as poly
+use Rattle.poly_pair.specs.Polyhedra.{Polyhedron}
+use Rattle.poly_pair.specs.ClosedPolyhedra as closed
+use Rattle.trans_sys.specs.Systems as trans
+use Rattle.fixpoint.specs.RunLaws as fixpoint
+use Rattle.hybrid.specs.Reaches as reaches
+use Rattle.hybrid.specs.Turns.{turns_of}
+use Rattle.hybrid.proofs.HybridTurns.{proper, initial_sets}
+use Rattle.widening.specs.RunLaws.{AreSetsOf}
+use Rattle.widening.proofs.RoundLemmas.{start_table, rounds_table}
+use Rattle.trans_sys.specs.declared.transition.Transition as declared
+use Rattle.widening.proofs.Places.{all_at, has_at}
+use Rattle.affine_maps.specs.Posts.{IsStepTo}
+use Rattle.powerset.specs.Powersets as powersets
+use Rattle.powerset.specs.Powersets.{FinitePowerset, IsKeptPowerset}
+use Rattle.powerset.specs.PowersetLaws.{JoinIsUnion, PairMeetIsIntersection}
+use Rattle.powerset.specs.declared.covering.Cover.{Cover}
+use Rattle.powerset.specs.declared.covering.Cover.TheVariants.{Yes, No}
+use Rattle.expr_text.specs.Printed.{constraints_text}
+use Rattle.expr_text.specs.ReadBack.{ConstraintsAreReadBack}
+use Rattle.ranking.specs.Laws as ranking
+use Rattle.ranking.specs.Laws.{PrintedFunctionRanks}
+use Rattle.bd_shape.specs.Shapes.{DifferenceShape, Includes, IsShape}
+use Rattle.bd_shape.specs.Rows.{shape_constraints}
+use Rattle.bd_shape.proofs.RowLists.{list_points}
+use Rattle.bd_shape.specs.Suprema as suprema
+use Rattle.difference_bounds.specs.Walks.{Bound}
+use Rattle.difference_bounds.specs.Tables.{Table, bounds_of}
+use Rattle.powerset.specs.Covers as covers
+use Rattle.ranking.specs.Rankings as rankings
+use Rattle.ranking.specs.Functions as functions
+use Rattle.hybrid.specs.Systems as hybrid
+use Rattle.script_text.specs.declared.command.Part.{Part}
+use Rattle.script_text.specs.declared.command.LocationPart.{LocationPart}
+use Rattle.script_text.specs.declared.command.LocationPart.TheVariants.{Invariant, Flow}
+use Rattle.script_text.specs.declared.command.PowersetOperator.{PowersetOperator}
+use Rattle.script_text.specs.declared.command.PowersetOperator.TheVariants.{Join, Meet}
+use Rattle.script_text.specs.declared.command.ShapeOperator.{ShapeOperator}
+use Rattle.script_text.specs.declared.command.ShapeOperator.TheVariants as shape_operator
+use Rattle.line_values.specs.Texts as texts
+use Rattle.line_values.specs.Meaning.{IsTold}
+use Rattle.line_values.specs.Order.{Conditions, Passes}
+use Rattle.calc_state.specs.Systems as made
+use Rattle.calc_state.specs.Hybrids as made_automata
+use Rattle.calc_state.specs.Parts as parts
+use Rattle.calc_state.specs.Powersets as made_powersets
+use Rattle.calc_state.specs.Rankings as made_rankings
+use Rattle.calc_state.specs.Shapes as made_shapes
+use Rattle.soundness.specs.Points.{PointSet, HasNoPoint}
+use Rattle.soundness.specs.Values.{Transition, TransitionSystem, HybridAutomaton}
+use Rattle.soundness.specs.Answers.{line}
+use Rattle.soundness.specs.Unions as unions
+use Rattle.soundness.specs.Shapes as shapes
+use Rattle.soundness.specs.Systems.{IsClosedOver, IsEmptySystem, IsWithInitial, IsWithTransition, IsStill, with_part, IsWithPart, IncludeInitial, AreClosedUnder, AreInvariant, IncludeInitialWithin, AreClosedUnderFlow, AreClosedUnderJumps, AreReached}
+use Rattle.soundness.proofs.PointLaws.{TextLaws, via, turn, is_nnc, set_of, set_is, moved, within}
+use Rattle.soundness.proofs.Operands.{one_topology, one_number, below}
+use Rattle.soundness.proofs.TrueAnswers.{told_so}
+use Rattle.soundness.proofs.ShapeRows.{shape_fits}
+use Rattle.polycalc.proofs.SoundValues.{transition_of, system_of, automaton_of, powerset_of}
+
+-- ---- places of a list
+-- at a place of a mapped list stands what the map gives of what stands there
+record Mapped {A B : Type 0} (f : A → B) (xs : List A) (i : ℕ) (b : B) : Type 0 where
+  source : A
+  at : slice_get xs i ≡ Some source
+  is : f source ≡ b
+
+some_mapped : {A B : Type 0} (f : A → B) (b : B) (o : Option A) → option_map f o ≡ Some b → (a : A) × (o ≡ Some a) × (f a ≡ b)
+some_mapped f b None h = cc
+some_mapped f b (Some a) h = (a, refl, cc)
+
+mapped : {A B : Type 0} (f : A → B) (xs : List A) (i : ℕ) (b : B) → slice_get (map f xs) i ≡ Some b → Mapped f xs i b
+mapped f xs i b h = let m = some_mapped f b (slice_get xs i) (sym (slice_get-map f xs i) ∙ h) in record { source = m.0; at = m.1; is = m.2 }
+
+set_map : {A B : Type 0} (f : A → B) (xs : List A) (i : ℕ) (a : A) → map f (slice_set xs i a) ≡ slice_set (map f xs) i (f a)
+set_map f xs i a = map-set f xs i a
+
+push_map : {A B : Type 0} (f : A → B) (xs : List A) (a : A) → map f (xs ++ a ∷ []) ≡ map f xs ++ f a ∷ []
+push_map f [] a = refl
+push_map f (x ∷ xs) a = ap (λ (l : List _). f x ∷ l) (push_map f xs a)
+
+-- ---- closed sets
+closed_over : (dim : ℕ) (p : Polyhedron) → p.topology ≡ Closed → p.cons.dim ≡ dim → IsClosedOver dim (set_of p)
+closed_over dim p c d = record { closed = ap is_nnc c; variables = d }
+
+all_closed : (dim : ℕ) (sets : List Polyhedron) → All (closed.IsClosedOver dim) sets → All (IsClosedOver dim) (map set_of sets)
+all_closed dim sets each = All-map (IsClosedOver dim) set_of sets (All-weaker (closed.IsClosedOver dim) (λ p. IsClosedOver dim (set_of p)) (λ p h. closed_over dim p h.over.same_topology h.over.same_dim) sets each)
+
+-- ---- systems
+abbrev system_from : ℕ → List Transition → List PointSet → TransitionSystem
+system_from dim transitions initial = record { dim = dim; initial = initial; transitions = transitions }
+
+abbrev automaton_from : TransitionSystem → List PointSet → List PointSet → HybridAutomaton
+automaton_from system invariants flows = record { system = system; invariants = invariants; flows = flows }
+
+pub system_made : (n locations : ℕ) (s : trans.TransitionSystem) → made.IsEmptySystem n locations s → IsEmptySystem n locations (system_of s)
+system_made n locations s h = record {
+  dim = h.dim;
+  as_many = length-map s.initial set_of ∙ h.as_many;
+  over = All-map (IsClosedOver n) set_of s.initial (All-weaker (poly.IsEmpty Closed n) (λ p. IsClosedOver n (set_of p)) (λ p e. closed_over n p e.over.same_topology e.over.same_dim) s.initial h.initial);
+  initial = All-map HasNoPoint set_of s.initial (All-weaker (poly.IsEmpty Closed n) (λ p. HasNoPoint (set_of p)) (λ p e. e.points) s.initial h.initial);
+  transitions = ap (map transition_of) h.transitions;
+}
+
+pub init_made : (location : ℕ) (s : trans.TransitionSystem) (p : Polyhedron) (r : trans.TransitionSystem) → Passes (parts.misfits s.dim p (length s.initial ≤ location)) → r ≡ trans.with_initial s location p → IsWithInitial location (system_of s) (set_of p) (system_of r)
+init_made location s p r passes h = record {
+  there = subst (λ (n : ℕ). location < n) (sym (length-map s.initial set_of)) (below (length s.initial) location passes.1.1.1.1.1.0);
+  over = closed_over s.dim p (one_topology p.topology Closed passes.1.1.0) (one_number p.cons.dim s.dim passes.1.1.1.0);
+  is = ap system_of h ∙ ap (system_from s.dim (map transition_of s.transitions)) (set_map set_of s.initial location p);
+}
+
+pub trans_made : (source target : ℕ) (s : trans.TransitionSystem) (p : Polyhedron) (r : trans.TransitionSystem) → Passes (parts.misfits (2 * s.dim) p ((length s.initial ≤ source) ⊎ (length s.initial ≤ target))) →
+    r ≡ trans.with_transition s (record { source = source; target = target; relation = p }) → IsWithTransition source target (system_of s) (set_of p) (system_of r)
+trans_made source target s p r passes h = record {
+  source_there = subst (λ (n : ℕ). source < n) (sym (length-map s.initial set_of)) (below (length s.initial) source (λ x. passes.1.1.1.1.1.0 (inl x)));
+  target_there = subst (λ (n : ℕ). target < n) (sym (length-map s.initial set_of)) (below (length s.initial) target (λ x. passes.1.1.1.1.1.0 (inr x)));
+  over = closed_over (2 * s.dim) p (one_topology p.topology Closed passes.1.1.0) (one_number p.cons.dim (2 * s.dim) passes.1.1.1.0);
+  is = ap system_of h ∙ ap (λ (x : List Transition). system_from s.dim x (map set_of s.initial)) (push_map transition_of s.transitions (record { source = source; target = target; relation = p }));
+}
+
+dim_at : (dim : ℕ) (sets : List Polyhedron) (i : ℕ) (p : Polyhedron) → All (closed.IsClosedOver dim) sets → slice_get sets i ≡ Some p → p.cons.dim ≡ dim
+dim_at dim sets i p each at = (all_at (closed.IsClosedOver dim) sets i p each at).over.same_dim
+
+initial_included : (s : trans.TransitionSystem) (sets : List Polyhedron) → All (closed.IsClosedOver s.dim) s.initial → fixpoint.IncludeInitial s sets → IncludeInitial (system_of s) (map set_of sets)
+initial_included s sets each h l initial set at_initial at_set v is holds =
+    let i = mapped set_of s.initial l initial at_initial in
+    let x = mapped set_of sets l set at_set in
+    let holds_i : In i.source.cons v = subst (λ (y : PointSet). In y.cons v) (sym i.is) holds in
+    subst (λ (y : PointSet). In y.cons v) x.is (h l i.source x.source i.at x.at v (moved s.dim i.source.cons.dim v (sym (dim_at s.dim s.initial l i.source each i.at)) is) holds_i)
+
+transitions_closed : (s : trans.TransitionSystem) (sets : List Polyhedron) → All (closed.IsClosedOver s.dim) sets → fixpoint.AreClosedUnder s.transitions sets → AreClosedUnder (system_of s) (map set_of sets)
+transitions_closed s sets each h k t source target at_t at_source at_target v is step =
+    let m = mapped transition_of s.transitions k t at_t in
+    let x = mapped set_of sets m.source.source source (subst (λ (y : Transition). slice_get (map set_of sets) y.source ≡ Some source) (sym m.is) at_source) in
+    let z = mapped set_of sets m.source.target target (subst (λ (y : Transition). slice_get (map set_of sets) y.target ≡ Some target) (sym m.is) at_target) in
+    let step_m : IsStepTo source.cons m.source.relation.cons v = subst (λ (y : Transition). IsStepTo source.cons y.relation.cons v) (sym m.is) step in
+    let step_x : IsStepTo x.source.cons m.source.relation.cons v = subst (λ (y : PointSet). IsStepTo y.cons m.source.relation.cons v) (sym x.is) step_m in
+    subst (λ (y : PointSet). In y.cons v) z.is
+    (h k m.source x.source z.source m.at x.at z.at v (moved s.dim x.source.cons.dim v (sym (dim_at s.dim sets m.source.source x.source each x.at)) is) step_x)
+
+pub fixpoint_made : (s : trans.TransitionSystem) (delay : ℕ) (sets : List Polyhedron) → trans.IsKeptSystem s → made.AreReached s delay sets → AreInvariant (system_of s) (map set_of sets)
+fixpoint_made s delay sets kept h = record {
+  are = record { as_many = length-map sets set_of ∙ h.closed.as_many ∙ sym (length-map s.initial set_of); over = all_closed s.dim sets h.closed.each };
+  initial = initial_included s sets kept.initial h.initial;
+  transitions = transitions_closed s sets h.closed.each h.successors;
+}
+
+-- ---- automata
+pub still_made : (s : trans.TransitionSystem) (h : hybrid.HybridAutomaton) → made_automata.IsStill s h → IsStill (system_of s) (automaton_of h)
+still_made s h i = record {
+  system = ap system_of i.system;
+  invariants = length-map h.invariants set_of ∙ i.invariant_count ∙ sym (length-map s.initial set_of);
+  flows = length-map h.flows set_of ∙ i.flow_count ∙ sym (length-map s.initial set_of);
+  invariants_over = All-map (IsClosedOver s.dim) set_of h.invariants (All-weaker (poly.IsUniverse Closed s.dim) (λ p. IsClosedOver s.dim (set_of p)) (λ p e. closed_over s.dim p e.over.same_topology e.over.same_dim) h.invariants i.invariants);
+  flows_over = All-map (IsClosedOver s.dim) set_of h.flows (All-weaker (poly.IsEmpty Closed s.dim) (λ p. IsClosedOver s.dim (set_of p)) (λ p e. closed_over s.dim p e.over.same_topology e.over.same_dim) h.flows i.flows);
+  everywhere = All-map (λ (p : PointSet). (v : List ℤ) → IsPoint s.dim v → In p.cons v) set_of h.invariants (All-weaker (poly.IsUniverse Closed s.dim) (λ p. (v : List ℤ) → IsPoint s.dim v → In p.cons v) (λ p e. e.points) h.invariants i.invariants);
+  still = All-map HasNoPoint set_of h.flows (All-weaker (poly.IsEmpty Closed s.dim) (λ p. HasNoPoint (set_of p)) (λ p e. e.points) h.flows i.flows);
+}
+
+part_map : (part : LocationPart) (h : hybrid.HybridAutomaton) (location : ℕ) (p : Polyhedron) → automaton_of (parts.with_part part h location p) ≡ with_part part (automaton_of h) location (set_of p)
+part_map Invariant h location p = ap (λ (x : List PointSet). automaton_from (system_of h.system) x (map set_of h.flows)) (set_map set_of h.invariants location p)
+part_map Flow h location p = ap (automaton_from (system_of h.system) (map set_of h.invariants)) (set_map set_of h.flows location p)
+
+pub part_made : (part : LocationPart) (location : ℕ) (h : hybrid.HybridAutomaton) (p : Polyhedron) (r : hybrid.HybridAutomaton) → Passes (parts.misfits h.system.dim p (length h.system.initial ≤ location)) → r ≡ parts.with_part part h location p →
+    IsWithPart part location (automaton_of h) (set_of p) (automaton_of r)
+part_made part location h p r passes e = record {
+  there = subst (λ (n : ℕ). location < n) (sym (length-map h.system.initial set_of)) (below (length h.system.initial) location passes.1.1.1.1.1.0);
+  over = closed_over h.system.dim p (one_topology p.topology Closed passes.1.1.0) (one_number p.cons.dim h.system.dim passes.1.1.1.0);
+  is = ap automaton_of e ∙ part_map part h location p;
+}
+
+-- the parts of a reach, closed and over the system's variables
+record ArePartsOver (h : hybrid.HybridAutomaton) (sets : List Polyhedron) : Type 0 where
+  as_many : length sets ≡ length h.system.initial
+  over : All (IsClosedOver h.system.dim) (map set_of sets)
+  dims : (l : ℕ) (p : Polyhedron) → slice_get sets l ≡ Some p → p.cons.dim ≡ h.system.dim
+  within : (l : ℕ) (invariant set : Polyhedron) → slice_get h.invariants l ≡ Some invariant → slice_get sets l ≡ Some set → (v : List ℤ) → IsPoint h.system.dim v → In set.cons v → In invariant.cons v
+
+parts_over : (h : hybrid.HybridAutomaton) (delay : ℕ) (sets : List Polyhedron) → hybrid.IsKeptHybrid h → reaches.AreReached h delay sets → ArePartsOver h sets
+parts_over h delay sets kept r = record {
+  as_many = r.of_limit.as_many ∙ limit.as_many;
+  over = All-map (IsClosedOver h.system.dim) set_of sets (λ k d l. (let a = has_at sets k l in
+    subst (λ (p : Polyhedron). IsClosedOver h.system.dim (set_of p)) (sym (get_or_from_slice_get sets k a.0 d a.1)) (let o = part_at k a.0 a.1 in closed_over h.system.dim a.0 o.0 o.1)));
+  dims = λ l p at. (part_at l p at).1;
+  within = λ l invariant set at_invariant at_set v is holds.
+    let b = has_at r.sets l (limit_below l set at_set) in
+    let o = all_at (closed.IsClosedOver h.system.dim) r.sets l b.0 limit.each b.1 in
+    (((r.of_limit.each l set at_set invariant b.0 at_invariant b.1).is_meet.points v (moved h.system.dim b.0.cons.dim v (sym o.over.same_dim) is)).0 holds).1;
+}
+  where
+    limit : AreSetsOf h.system.dim (length h.system.initial) r.sets
+    limit = (rounds_table (turns_of h) (proper h kept) (start_table (turns_of h) h.system.initial delay (initial_sets h kept)) r.limit.limit.rounds).sets
+
+    limit_below : (l : ℕ) (p : Polyhedron) → slice_get sets l ≡ Some p → l < length r.sets
+    limit_below l p at = subst (λ (n : ℕ). l < n) r.of_limit.as_many (slice_get_within sets l p at)
+
+    part_at : (l : ℕ) (p : Polyhedron) → slice_get sets l ≡ Some p → (p.topology ≡ Closed) × (p.cons.dim ≡ h.system.dim)
+    part_at l p at =
+        let b = has_at r.sets l (limit_below l p at) in
+        let c = has_at h.invariants l (subst (λ (n : ℕ). l < n) (limit.as_many ∙ sym kept.invariants.as_many) (limit_below l p at)) in
+        let o = all_at (closed.IsClosedOver h.system.dim) r.sets l b.0 limit.each b.1 in
+        let m = (r.of_limit.each l p at c.0 b.0 c.1 b.1).is_meet.over in
+        (m.same_topology ∙ o.over.same_topology, m.same_dim ∙ o.over.same_dim)
+
+initial_reached : (h : hybrid.HybridAutomaton) (sets : List Polyhedron) → reaches.IncludeInitial h sets → IncludeInitialWithin (automaton_of h) (map set_of sets)
+initial_reached h sets each l initial invariant set at_initial at_invariant at_set v is holds stays =
+    let i = mapped set_of h.system.initial l initial at_initial in
+    let j = mapped set_of h.invariants l invariant at_invariant in
+    let x = mapped set_of sets l set at_set in
+    subst (λ (y : PointSet). In y.cons v) x.is
+    (each l i.source j.source x.source i.at j.at x.at v is (subst (λ (y : PointSet). In y.cons v) (sym i.is) holds) (subst (λ (y : PointSet). In y.cons v) (sym j.is) stays))
+
+flow_reached : (h : hybrid.HybridAutomaton) (sets : List Polyhedron) → reaches.AreClosedUnderFlow h sets → AreClosedUnderFlow (automaton_of h) (map set_of sets)
+flow_reached h sets each l invariant flow set at_invariant at_flow at_set x y v on_set on_flow moves stays =
+    let j = mapped set_of h.invariants l invariant at_invariant in
+    let f = mapped set_of h.flows l flow at_flow in
+    let z = mapped set_of sets l set at_set in
+    subst (λ (w : PointSet). In w.cons v) z.is
+    (each l j.source f.source z.source j.at f.at z.at x y v (subst (λ (w : PointSet). IsWithin w.cons x) (sym z.is) on_set) (subst (λ (w : PointSet). IsWithin w.cons y) (sym f.is) on_flow) moves (subst (λ (w : PointSet). In w.cons v) (sym j.is) stays))
+
+jumps_reached : (h : hybrid.HybridAutomaton) (sets : List Polyhedron) → reaches.AreClosedUnderJumps h sets → AreClosedUnderJumps (automaton_of h) (map set_of sets)
+jumps_reached h sets each k t source target invariant at_t at_source at_target at_invariant v is step stays =
+    let m = mapped transition_of h.system.transitions k t at_t in
+    let x = mapped set_of sets m.source.source source (subst (λ (y : Transition). slice_get (map set_of sets) y.source ≡ Some source) (sym m.is) at_source) in
+    let z = mapped set_of sets m.source.target target (subst (λ (y : Transition). slice_get (map set_of sets) y.target ≡ Some target) (sym m.is) at_target) in
+    let j = mapped set_of h.invariants m.source.target invariant (subst (λ (y : Transition). slice_get (map set_of h.invariants) y.target ≡ Some invariant) (sym m.is) at_invariant) in
+    let step_m : IsStepTo source.cons m.source.relation.cons v = subst (λ (y : Transition). IsStepTo source.cons y.relation.cons v) (sym m.is) step in
+    let step_x : IsStepTo x.source.cons m.source.relation.cons v = subst (λ (y : PointSet). IsStepTo y.cons m.source.relation.cons v) (sym x.is) step_m in
+    subst (λ (y : PointSet). In y.cons v) z.is
+    (each k m.source x.source z.source j.source m.at x.at z.at j.at v is step_x (subst (λ (y : PointSet). In y.cons v) (sym j.is) stays))
+
+within_reached : (h : hybrid.HybridAutomaton) (sets : List Polyhedron) → ArePartsOver h sets → (l : ℕ) (invariant set : PointSet) → slice_get (map set_of h.invariants) l ≡ Some invariant → slice_get (map set_of sets) l ≡ Some set → (v : List ℤ) → IsPoint h.system.dim v → In set.cons v → In invariant.cons v
+within_reached h sets parts l invariant set at_invariant at_set v is holds =
+    let j = mapped set_of h.invariants l invariant at_invariant in
+    let x = mapped set_of sets l set at_set in
+    subst (λ (y : PointSet). In y.cons v) j.is (parts.within l j.source x.source j.at x.at v is (subst (λ (y : PointSet). In y.cons v) (sym x.is) holds))
+
+pub reach_made : (h : hybrid.HybridAutomaton) (delay : ℕ) (sets : List Polyhedron) → hybrid.IsKeptHybrid h → made_automata.AreReachedParts h delay sets → AreReached (automaton_of h) (map set_of sets)
+reach_made h delay sets kept r =
+    let parts = parts_over h delay sets kept r.reached in
+    record {
+      are = record { as_many = length-map sets set_of ∙ parts.as_many ∙ sym (length-map h.system.initial set_of); over = parts.over };
+      within = within_reached h sets parts;
+      initial = initial_reached h sets r.initial;
+      flow = flow_reached h sets r.flow;
+      jumps = jumps_reached h sets r.jumps;
+    }
+
+-- ---- powersets
+abbrev Members : Type 0
+Members = List Polyhedron
+
+listed_to : (members : Members) (p : Polyhedron) → Contains members p → Contains (map set_of members) (set_of p)
+listed_to members p (k, below, e) = (k, subst (λ (n : ℕ). k < n) (sym (length-map members set_of)) below, get_or-map set_of members k p (set_of p) below ∙ ap set_of e)
+
+listed_from : (members : Members) (s : PointSet) → Contains (map set_of members) s → (p : Polyhedron) × Contains members p × (set_of p ≡ s)
+listed_from members s (k, below, e) =
+    let l : k < length members = subst (λ (n : ℕ). k < n) (length-map members set_of) below in
+    let a = has_at members k l in
+    let same = get_or_from_slice_get members k a.0 a.0 a.1 in
+    (a.0, (k, l, same), ap set_of (sym same) ∙ (sym (get_or-map set_of members k a.0 s l) ∙ e))
+
+-- the points of a powerset
+in_union : (u : FinitePowerset) (v : List ℤ) → powersets.IsInPowerset u.members v ↔ unions.IsInUnion (powerset_of u) v
+in_union u v = (
+  λ h. record { member = set_of h.member; listed = listed_to u.members h.member h.listed; within = h.holds },
+  λ h. (let m = listed_from u.members h.member h.listed in record { member = m.0; listed = m.1; holds = subst (λ (y : PointSet). In y.cons v) (sym m.2) h.within }),
+)
+
+pub pset_made : (p : Polyhedron) (u : FinitePowerset) → powersets.IsPowersetOfOne p u → unions.IsOfOne (set_of p) (powerset_of u)
+pset_made p u h = record {
+  kind = ap is_nnc h.same_topology;
+  variables = h.same_dim;
+  members = single u.members h.members;
+}
+  where
+    single : (members : Members) → powersets.IsSingle p members → (HasNoPoint (set_of p) × (map set_of members ≡ [])) ⊎ ((¬ (HasNoPoint (set_of p))) × (map set_of members ≡ set_of p ∷ []))
+    single members (inl e) = inl (e.0, ap (map set_of) e.1)
+    single members (inr e) = inr (e.0, ap (map set_of) e.1)
+
+pub unions_alike : (s t : FinitePowerset) (others : Conditions) → Passes (made_powersets.alike_unions s t others) → unions.AreAlike (powerset_of s) (powerset_of t)
+unions_alike s t others passes = record { kind = ap is_nnc (one_topology s.topology t.topology passes.1.0); variables = one_number s.dim t.dim passes.1.1.1.0 }
+
+-- the laws of powersets that are cited
+pub record UnionLaws : Type 0 where
+  pub join : JoinIsUnion
+  pub meet : PairMeetIsIntersection
+
+same_way : (A : Type 0) → A ↔ A
+same_way A = (λ x. x, λ x. x)
+
+both_ways : {A B C D : Type 0} → A ↔ B → C ↔ D → (A × C) ↔ (B × D)
+both_ways f g = (λ x. (f.0 x.0, g.0 x.1), λ y. (f.1 y.0, g.1 y.1))
+
+either_way : {A B C D : Type 0} → A ↔ B → C ↔ D → (A ⊎ C) ↔ (B ⊎ D)
+either_way f g = (
+  λ x. elim x [
+    | inl a ↦ inl (f.0 a)
+    | inr c ↦ inr (g.0 c)
+  ],
+  λ y. elim y [
+    | inl b ↦ inl (f.1 b)
+    | inr d ↦ inr (g.1 d)
+  ],
+)
+
+pub combined_made : UnionLaws → (op : PowersetOperator) (s t u : FinitePowerset) (others : Conditions) → IsKeptPowerset s → IsKeptPowerset t → Passes (made_powersets.alike_unions s t others) → made_powersets.IsPowersetOf op s t u →
+    unions.IsCombined op (powerset_of s) (powerset_of t) (powerset_of u)
+combined_made laws Join s t u others kept_s kept_t passes h =
+    let alike = unions_alike s t others passes in
+    record {
+      operands = alike;
+      kind = ap is_nnc h.same_topology;
+      variables = h.same_dim;
+      points = λ v is. via (turn (in_union u v)) (via (laws.join s t u kept_s kept_t alike.variables h v is) (either_way (in_union s v) (in_union t v)));
+    }
+combined_made laws Meet s t u others kept_s kept_t passes h =
+    let alike = unions_alike s t others passes in
+    record {
+      operands = alike;
+      kind = ap is_nnc h.same_topology;
+      variables = h.same_dim;
+      points = λ v is. via (turn (in_union u v)) (via (laws.meet s t u kept_s kept_t alike.variables h v is) (both_ways (in_union s v) (in_union t v)));
+    }
+
+pub member_made : (i : ℕ) (s : FinitePowerset) (r : Polyhedron) (others : Conditions) → Passes (made_powersets.misses_member (length s.members) i others) → slice_get s.members (i - 1) ≡ Some r → unions.IsMember i (powerset_of s) (set_of r)
+member_made i s r others passes h = (counted, slice_get-map set_of s.members (i - 1) ∙ ap (option_map set_of) h)
+  where
+    counted : 0 < i
+    counted = elim (cases_lt 0 i) [
+      | inl more ↦ more
+      | inr most ↦ absurd (passes.1.1.1.1.1.0 (inl (omega (arith, most))))
+    ]
+
+pub psize_true : (s : FinitePowerset) (reply : List ℕ) → reply ≡ line (made_powersets.members_text s) → unions.TellsMembers (powerset_of s) reply
+psize_true s reply h = h ∙ ap (λ (n : ℕ). line (codes "members " ++ decimal n)) (sym (length-map s.members set_of))
+
+cover_cases : (s t : FinitePowerset) (reply : List ℕ) (c : Cover) → covers.IsCover s t c → reply ≡ made_powersets.cover_line s.dim c →
+    (((v : List ℤ) → IsPoint s.dim v → unions.IsInUnion (powerset_of t) v → unions.IsInUnion (powerset_of s) v) × (reply ≡ line (codes "yes"))) ⊎ unions.TellsMissing (powerset_of s) (powerset_of t) reply
+cover_cases s t reply Yes h said = inl (λ v is on_t. (in_union s v).0 (h v is ((in_union t v).1 on_t)), said)
+cover_cases s t reply (No v) h said = inr (record { point = v; is_point = h.point; within = (in_union t v).0 h.within; outside = λ on_s. h.outside ((in_union s v).1 on_s); said = said })
+
+pub cover_true : (s t : FinitePowerset) (reply : List ℕ) (others : Conditions) → Passes (made_powersets.alike_unions s t others) → made_powersets.IsCoverTold s t reply → unions.TellsCover (powerset_of s) (powerset_of t) reply
+cover_true s t reply others passes h = record { operands = unions_alike s t others passes; tells = cover_cases s t reply h.answer h.true_of h.said }
+
+-- ---- ranking functions
+pub relates : (r : Polyhedron) (others : Conditions) → Passes (made_rankings.relates_states r others) → unions.IsRelation (set_of r)
+relates r others passes = record { closed = ap is_nnc (one_topology r.topology Closed passes.1.1.0); even = one_number (r.cons.dim % 2) 0 passes.1.1.1.0 }
+
+pub rank_made : (r s : Polyhedron) (others : Conditions) → Passes (made_rankings.relates_states r others) → rankings.IsRankingSet (r.cons.dim / 2) r s → unions.AreRankings (set_of r) (set_of s)
+rank_made r s others passes h = record { relation = relates r others passes; set = set_is Closed (r.cons.dim / 2 + 1) (functions.IsRanking (r.cons.dim / 2) r.cons) s h.over h.points }
+
+function_cases : TextLaws → (r : Polyhedron) (text reply : List ℕ) → reply ≡ line text → ranking.IsWithoutRanking (r.cons.dim / 2) r.cons text ⊎ ranking.IsOfRanking (r.cons.dim / 2) r.cons text →
+    unions.TellsFunction (set_of r) reply ⊎ (((f : List ℤ) → IsPoint (r.cons.dim / 2 + 1) f → ¬ (functions.IsRanking (r.cons.dim / 2) r.cons f)) × (reply ≡ line (codes "none")))
+function_cases laws r text reply said (inl h) = inr (h.none, said ∙ ap line h.told)
+function_cases laws r text reply said (inr h) =
+    let says = laws.fraction (r.cons.dim / 2) text (take (r.cons.dim / 2 + 1) h.function) (cell h.function (r.cons.dim / 2 + 1)) ((h.read (take (r.cons.dim / 2 + 1) h.function, cell h.function (r.cons.dim / 2 + 1))).1 refl) in
+    inl (record { function = h.function; point = h.point; ranks = h.ranks; text = text; divisor = says.below; last = says.same; is_text = says.is_text; said = said })
+
+pub ranking_true : TextLaws → PrintedFunctionRanks → (r : Polyhedron) (reply : List ℕ) (others : Conditions) → Passes (made_rankings.relates_states r others) → made_rankings.IsRankingTold r reply → unions.TellsRanking (set_of r) reply
+ranking_true laws law r reply others passes h = record { relation = relates r others passes; tells = function_cases laws r h.text reply h.said (law (r.cons.dim / 2) r h.functions h.text h.is h.told) }
+
+-- ---- shapes
+pub shape_made : (p : Polyhedron) (s : DifferenceShape) (others : Conditions) → Passes (made_shapes.closed p others) → made_shapes.IsShapeOfSet p s → shapes.IsSmallestShape (set_of p) s
+shape_made p s others passes h = record {
+  closed = ap is_nnc (one_topology p.topology Closed passes.1.1.0);
+  variables = h.dim;
+  includes = h.smallest.includes;
+  least = h.smallest.least;
+  empty = h.empty;
+  suprema = suprema_of s.bounds h.suprema;
+}
+  where
+    supremum : (i j : ℕ) (b : Bound) → suprema.IsSupremumOf p i j b → shapes.IsSupremumOf (set_of p) i j b
+    supremum i j None x = x
+    supremum i j (Some f) x = x
+    suprema_of : (o : Option Table) → IfSome o (λ t. suprema.AreSuprema p (bounds_of t)) → IfSome o (λ t. (i j : ℕ) → i < p.cons.dim + 1 → j < p.cons.dim + 1 → i ≢ j → shapes.IsSupremumOf (set_of p) i j (bounds_of t i j))
+    suprema_of None x = x
+    suprema_of (Some t) x = λ i j a b c. supremum i j (bounds_of t i j) (x i j a b c)
+
+pub bounds_made : TextLaws → (n : ℕ) (part : Part) (s : DifferenceShape) → texts.SaysConstraints n part (λ cs. made_shapes.IsShapeOfConstraints cs s) → shapes.IsShapeOf n part s
+bounds_made laws n part s h =
+    let says = laws.constraints n part.text h.system h.read in
+    let same : h.system.dim ≡ n = h.read.holds.over in
+    record {
+      list = says.list;
+      text = says.is_text;
+      variables = h.holds.dim ∙ same;
+      points = λ v. (let is_point : IsPoint h.system.dim v ↔ IsPoint n v = (moved h.system.dim n v same, moved n h.system.dim v (sym same)) in via (h.holds.points v) (both_ways is_point (says.same v)));
+    }
+
+shape_set : (op : ShapeOperator) (s t r : DifferenceShape) → made_shapes.IsSetOfShapes op s t r → shapes.IsShapeBy op s t r
+shape_set shape_operator.Meet s t r h = h
+shape_set shape_operator.Hull s t r h = h
+
+pub shapes_made : (op : ShapeOperator) (s t r : DifferenceShape) (others : Conditions) → Passes (made_shapes.of_one_dim s t others) → made_shapes.IsShapeBy op s t r → shapes.IsCombined op s t r
+shapes_made op s t r others passes h = record { operands = one_number s.dim t.dim passes.1.1.1.0; variables = h.dim; set = shape_set op s t r h.set }
+
+pub spoly_made : (s : DifferenceShape) (p : Polyhedron) → made_shapes.IsPolyOfShape s p → shapes.IsSetOfShape s (set_of p)
+spoly_made s p h = record { closed = ap is_nnc h.topology; variables = h.dim; points = h.points }
+
+pub inclusion_true : (s t : DifferenceShape) (reply : List ℕ) (others : Conditions) → Passes (made_shapes.of_one_dim s t others) → IsTold (Includes s t) reply → shapes.TellsInclusion s t reply
+inclusion_true s t reply others passes h = record { operands = one_number s.dim t.dim passes.1.1.1.0; tells = told_so (Includes s t) reply h }
+
+pub sprint_true : TextLaws → ConstraintsAreReadBack → (s : DifferenceShape) (reply : List ℕ) → IsShape s → reply ≡ line (constraints_text (shape_constraints s)) → shapes.TellsBounds s reply
+sprint_true laws law s reply is h =
+    let says = laws.constraints s.dim (constraints_text (shape_constraints s)) (shape_constraints s) ((law (shape_constraints s) (shape_constraints s) (shape_fits s is)).1 refl) in
+    record { text = constraints_text (shape_constraints s); said = h; list = says.list; is_text = says.is_text; points = λ v. via (both_ways (same_way (IsPoint s.dim v)) (turn (says.same v))) (list_points s is v) }

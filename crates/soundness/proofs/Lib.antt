@@ -1,0 +1,16 @@
+pub mod PointLaws
+pub mod Operands
+pub mod MadeSets
+pub mod TrueAnswers
+pub mod ShapeRows
+pub mod TextCases
+pub mod TextTokens
+pub mod TextNumbers
+pub mod TextRows
+pub mod TextSums
+pub mod TextValues
+pub mod TextLists
+pub mod ScaledGenerators
+pub mod TextGenerators
+pub mod TextLines
+pub mod OnlySo

@@ -1,0 +1,62 @@
+-- What the tests of a command say of its operands.
+use Rattle.std.proofs.Common.{◌≡◌, ◌≢◌, ℕ, ◌+◌, ◌<◌, ◌≤◌, Bool, true, false, refl, ap, inl, inr, arith}
+use Rattle.std.proofs.lemmas.Bool.{cases_lt}
+use Rattle.poly_pair.specs.Polyhedra.{Polyhedron}
+use Rattle.poly_pair.specs.declared.topology.Topology.{Topology}
+use Rattle.poly_pair.specs.declared.topology.Topology.TheVariants.{Closed, Nnc}
+use Rattle.script_text.specs.declared.command.Operator.{Operator}
+use Rattle.script_text.specs.declared.command.Operator.TheVariants.{Meet, Hull, Concat, Elapse}
+use Rattle.line_values.specs.Order.{Conditions, Passes}
+use Rattle.line_values.specs.Meaning.{alike}
+use Rattle.poly_commands.specs.Operators.{adds_dims, fitting_by, fitting, FitDimsBy, Fits}
+use Rattle.soundness.specs.Points.{AreAlike}
+use Rattle.soundness.specs.Sets.{AreFor}
+use Rattle.soundness.proofs.PointLaws.{is_nnc, set_of}
+
+pub one_topology : (s t : Topology) → ¬ (s ≢ t) → s ≡ t
+one_topology Closed Closed h = refl
+one_topology Nnc Nnc h = refl
+one_topology Closed Nnc h = absurd (h (λ e. cc))
+one_topology Nnc Closed h = absurd (h (λ e. cc))
+
+pub at_most : (m n : ℕ) → ¬ (m < n) → n ≤ m
+at_most m n h =
+    elim (cases_lt m n) [
+      | inl less ↦ absurd (h less)
+      | inr least ↦ omega (arith, least)
+    ]
+
+pub below : (m n : ℕ) → ¬ (m ≤ n) → n < m
+below m n h =
+    elim (cases_lt n m) [
+      | inl less ↦ less
+      | inr least ↦ absurd (h (omega (arith, least)))
+    ]
+
+pub one_number : (m n : ℕ) → ¬ (m ≢ n) → m ≡ n
+one_number m n h =
+    elim (cases_lt m n) [
+      | inl less ↦ absurd (h (λ e. omega (arith, less, e)))
+      | inr least ↦ elim (cases_lt n m) [
+        | inl more ↦ absurd (h (λ e. omega (arith, more, e)))
+        | inr most ↦ omega (arith, least, most)
+      ]
+    ]
+
+-- two polyhedra
+pub are_alike : (p q : Polyhedron) (others : Conditions) → Passes (alike p q others) → AreAlike (set_of p) (set_of q)
+are_alike p q others passes = record { kind = ap is_nnc (one_topology p.topology q.topology passes.1.0); variables = one_number p.cons.dim q.cons.dim passes.1.1.1.0 }
+
+-- those of an operator
+fit_by : (adds : Bool) (p q : Polyhedron) (others : Conditions) → Passes (fitting_by adds p q others) → (p.topology ≡ q.topology) × FitDimsBy adds p q
+fit_by true p q others passes = (one_topology p.topology q.topology passes.1.0, at_most _ (p.cons.dim + q.cons.dim) passes.1.1.1.1.0)
+fit_by false p q others passes = (one_topology p.topology q.topology passes.1.0, one_number p.cons.dim q.cons.dim passes.1.1.1.0)
+
+pub fit_operator : (op : Operator) (p q : Polyhedron) (others : Conditions) → Passes (fitting op p q others) → Fits op p q
+fit_operator op p q others passes = fit_by (adds_dims op) p q others passes
+
+pub fit_for : (op : Operator) (p q : Polyhedron) → Fits op p q → AreFor op (set_of p) (set_of q)
+fit_for Concat p q fits = ap is_nnc fits.0
+fit_for Meet p q fits = record { kind = ap is_nnc fits.0; variables = fits.1 }
+fit_for Hull p q fits = record { kind = ap is_nnc fits.0; variables = fits.1 }
+fit_for Elapse p q fits = record { kind = ap is_nnc fits.0; variables = fits.1 }

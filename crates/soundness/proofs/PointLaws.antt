@@ -1,0 +1,105 @@
+-- The points of polyhedra, and what their texts say.
+use Rattle.std.proofs.Common.{◌≡◌, ◌⊎◌, inl, inr, ◌↔◌, ℕ, ◌+◌, ◌<◌, List, [], ◌∷◌, ◌++◌, length, refl, ap, sym, ◌∙◌, subst, Bool, true, false, ℤ, pos, ◌<ℤ◌, IsTrue}
+use Rattle.row_core.specs.Points.{IsPoint}
+use Rattle.cons_sys.specs.declared.kind.ConKind.{ConKind}
+use Rattle.cons_sys.specs.declared.kind.ConKind.TheVariants.{Eq, Ge, Gt}
+use Rattle.cons_sys.specs.Constraints.{Constraint, Constraints, In, Satisfies}
+use Rattle.gens_sys.specs.Generators.{Generator, Generators}
+use Rattle.gens_sys.specs.Spans.{Span}
+use Rattle.stored_systems.specs.PointSets.{IsWithin}
+use Rattle.poly_pair.specs.declared.topology.Topology.{Topology}
+use Rattle.poly_pair.specs.declared.topology.Topology.TheVariants.{Closed, Nnc}
+use Rattle.poly_pair.specs.Polyhedra as poly
+use Rattle.poly_pair.specs.Polyhedra.{Polyhedron, IsOver}
+use Rattle.poly_pair.specs.TopologyConstraints as topology
+use Rattle.script_text.specs.Line.{Spells}
+use Rattle.script_text.specs.declared.command.Command.{Command}
+use Rattle.term_text.specs.Texts.{IsExpr, IsFrac, IsPoint as IsPointOfText}
+use Rattle.term_text.specs.Systems.{IsCon, IsCons}
+use Rattle.expr_text.specs.GeneratorSystems.{IsGens}
+use Rattle.soundness.specs.Points.{PointSet, IsSetOf, HasNoPoint, IsKindFor, IsConstraintFor, IsInSmallest}
+use Rattle.soundness.specs.Sets.{constraints, generators}
+use Rattle.soundness.specs.TextsExpressions.{ExpressionText, FractionText}
+use Rattle.soundness.specs.TextsSystems.{ConstraintText, ConstraintsText, PointText, GeneratorsText}
+use Rattle.soundness.specs.TextsLines.{Spelled}
+
+-- ---- texts
+-- the text of constraints, which hold at the points of the system
+pub record SaysConstraints (dim : ℕ) (text : List ℕ) (system : Constraints) : Type 0 where
+  pub list : List Constraint
+  pub is_text : ConstraintsText dim text list
+  pub same : (v : List ℤ) → In system v ↔ In (constraints dim list) v
+
+-- the text of generators, which generate the points of the system, behind any others
+pub record SaysGenerators (dim : ℕ) (text : List ℕ) (system : Generators) : Type 0 where
+  pub list : List Generator
+  pub is_text : GeneratorsText dim text list
+  pub same : (own : List Generator) (v : List ℤ) → Span (generators dim (own ++ system.list)) v ↔ Span (generators dim (own ++ list)) v
+
+-- the text of a fraction with the divisor
+pub record SaysFraction (dim : ℕ) (text : List ℕ) (row : List ℤ) (divisor : ℤ) : Type 0 where
+  pub below : ℕ
+  pub positive : 0 < below
+  pub same : divisor ≡ pos below
+  pub is_text : FractionText dim text row below
+
+-- what a line or a text spells by the tables is spelled by the cases
+pub record TextLaws : Type 0 where
+  pub spelled : (line : List ℕ) (c : Command) → Spells line c → Spelled line c
+  pub expression : (dim : ℕ) (text : List ℕ) (row : List ℤ) → IsExpr dim text row → ExpressionText dim text row
+  pub fraction : (dim : ℕ) (text : List ℕ) (row : List ℤ) (divisor : ℤ) → IsFrac dim text row divisor → SaysFraction dim text row divisor
+  pub point : (dim : ℕ) (text : List ℕ) (row : List ℤ) → IsPointOfText dim text row → PointText dim text row × IsPoint dim row
+  pub constraint : (dim : ℕ) (text : List ℕ) (row : List ℤ) (kind : ConKind) → IsCon dim text row kind → ConstraintText dim text (row, kind)
+  pub constraints : (dim : ℕ) (text : List ℕ) (system : Constraints) → IsCons dim text system → SaysConstraints dim text system
+  pub generators : (dim : ℕ) (text : List ℕ) (system : Generators) → IsGens dim text system → SaysGenerators dim text system
+
+-- ---- equivalences
+pub via : {A B C : Type 0} → A ↔ B → B ↔ C → A ↔ C
+via f g = (λ a. g.0 (f.0 a), λ c. f.1 (g.1 c))
+
+pub turn : {A B : Type 0} → A ↔ B → B ↔ A
+turn f = (f.1, f.0)
+
+-- ---- the set of a polyhedron
+abbrev pub is_nnc : Topology → Bool
+is_nnc Closed = false
+is_nnc Nnc = true
+
+abbrev pub set_of : Polyhedron → PointSet
+set_of p = record { nnc = is_nnc p.topology; cons = p.cons }
+
+pub set_is : (t : Topology) (dim : ℕ) (Has : List ℤ → Type 0) (p : Polyhedron) → IsOver t dim p → ((v : List ℤ) → IsPoint dim v → In p.cons v ↔ Has v) → IsSetOf (is_nnc t) dim Has (set_of p)
+set_is t dim Has p over points = record { kind = ap is_nnc over.same_topology; variables = over.same_dim; points = points }
+
+pub moved : (m n : ℕ) (v : List ℤ) → m ≡ n → IsPoint m v → IsPoint n v
+moved m n v e is = subst (λ (k : ℕ). IsPoint k v) e is
+
+pub within : (n : ℕ) (cs : Constraints) (v : List ℤ) → cs.dim ≡ n → IsPoint n v → In cs v → IsWithin cs v
+within n cs v e is holds = record { point = moved n cs.dim v (sym e) is; holds = holds }
+
+-- ---- the smallest set
+kind_to : (t : Topology) (kind : ConKind) → topology.IsKindFor t kind → IsKindFor (is_nnc t) kind
+kind_to Closed Eq h = h
+kind_to Closed Ge h = h
+kind_to Closed Gt h = h
+kind_to Nnc kind h = h
+
+kind_from : (t : Topology) (kind : ConKind) → IsKindFor (is_nnc t) kind → topology.IsKindFor t kind
+kind_from Closed Eq h = h
+kind_from Closed Ge h = h
+kind_from Closed Gt h = h
+kind_from Nnc kind h = h
+
+pub for_to : (t : Topology) (dim : ℕ) (c : Constraint) → topology.IsConstraintFor t dim c → IsConstraintFor (is_nnc t) dim c
+for_to t dim c h = record { wide = h.wide; kind = kind_to t c.1 h.kind }
+
+pub for_from : (t : Topology) (dim : ℕ) (c : Constraint) → IsConstraintFor (is_nnc t) dim c → topology.IsConstraintFor t dim c
+for_from t dim c h = record { wide = h.wide; kind = kind_from t c.1 h.kind }
+
+-- the points at which each constraint holds that holds at all of some
+pub smallest : (t : Topology) (dim : ℕ) (Has : List ℤ → Type 0) (Valid : Constraint → Type 0) → ((c : Constraint) → Valid c ↔ ((u : List ℤ) → Has u → Satisfies u c)) → (v : List ℤ) →
+    ((c : Constraint) → topology.IsConstraintFor t dim c → Valid c → Satisfies v c) ↔ IsInSmallest (is_nnc t) dim Has v
+smallest t dim Has Valid same v = (
+  λ each. λ c for valid. each c (for_from t dim c for) ((same c).1 valid),
+  λ least. λ c for valid. least c (for_to t dim c for) ((same c).0 valid),
+)

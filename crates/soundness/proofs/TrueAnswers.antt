@@ -1,0 +1,183 @@
+-- The answers to questions about polyhedra are true of their points.
+use Rattle.std.proofs.Common.{◌≡◌, ◌≢◌, ◌⊎◌, inl, inr, ◌↔◌, ℕ, ◌+◌, List, [], ◌∷◌, ◌++◌, length, refl, ap, sym, ◌∙◌, subst, Bool, true, false, IsTrue, ℤ, Ok, codes}
+use Rattle.std.specs.Fmt.{signed_decimal}
+use Rattle.cdd_text.specs.Written.{ext_text}
+use Rattle.row_core.specs.Points.{IsPoint}
+use Rattle.cons_sys.specs.Constraints.{Constraint, Constraints, In, Satisfies}
+use Rattle.gens_sys.specs.Generators.{Generator, Generators, generator_at, row_at}
+use Rattle.gens_sys.specs.Spans.{Span}
+use Rattle.stored_systems.specs.PointSets.{IsWithin}
+use Rattle.stored_systems.specs.StoredLaws.{IsPair}
+use Rattle.poly_pair.specs.declared.topology.Topology.{Topology}
+use Rattle.poly_pair.specs.declared.topology.Topology.TheVariants.{Closed, Nnc}
+use Rattle.poly_pair.specs.ClosedPolyhedra.{IsClosedOver}
+use Rattle.poly_pair.specs.KeptLaws.{KeptIsPair, KeptIsEmpty}
+use Rattle.poly_pair.specs.Polyhedra as poly
+use Rattle.poly_pair.specs.Polyhedra.{Polyhedron, IsStoredAs}
+use Rattle.expr_text.specs.Printed.{constraints_text, generators_text, generator_text}
+use Rattle.expr_text.specs.ReadBack.{ConstraintsAreReadBack, GeneratorsAreReadBack}
+use Rattle.expr_text.specs.GeneratorSystems.{IsGens}
+use Rattle.optimum.specs.Laws as optimum
+use Rattle.optimum.specs.Laws.{GeneratorIsWitness}
+use Rattle.optimum.specs.Suprema.{SupAnswer, IsTrueSup}
+use Rattle.optimum.specs.declared.outcome.Sup.{Sup}
+use Rattle.optimum.specs.declared.outcome.Sup.TheVariants as sup
+use Rattle.widening.specs.WideningLaws.{WideningIncludes}
+use Rattle.script_text.specs.declared.command.Part.{Part}
+use Rattle.script_text.specs.declared.command.Comparison.{Comparison}
+use Rattle.script_text.specs.declared.command.Comparison.TheVariants.{Contains, Equal, Disjoint}
+use Rattle.script_text.specs.declared.command.Extremum.{Extremum}
+use Rattle.script_text.specs.declared.command.Extremum.TheVariants.{Max, Min}
+use Rattle.line_values.specs.Proper.{IsProper}
+use Rattle.line_values.specs.Meaning.{IsTold, answer_line}
+use Rattle.line_values.specs.Operands as operands
+use Rattle.line_values.specs.Order.{Conditions, Passes}
+use Rattle.poly_commands.specs.Questions as questions
+use Rattle.poly_commands.specs.Optima as optima
+use Rattle.poly_commands.specs.Lattice.{compared}
+use Rattle.poly_commands.specs.Files.{file_of}
+use Rattle.poly_commands.specs.Widening.{nested, IsWidened}
+use Rattle.line_values.specs.Meaning as meaning
+use Rattle.soundness.specs.Points.{PointSet, AreAlike, Includes, HasNoPoint, IsKindFor, IsConstraintFor, IsInSmallest}
+use Rattle.soundness.specs.Sets.{constraints, generators, IsWidening}
+use Rattle.soundness.specs.Answers.{line, Tells, TellsWhether, LieSo, TellsRelation, is_max, attained_text, IsWitness, TellsBound, TellsExtremeOf, TellsExtreme, AreOf, AreGensOf, TellsConstraints, TellsGenerators, TellsSide, TellsSize}
+use Rattle.soundness.specs.Files as files
+use Rattle.soundness.specs.Files.{TellsFile}
+use Rattle.soundness.specs.TextsSystems.{ConstraintsText, GeneratorsText}
+use Rattle.soundness.proofs.PointLaws.{TextLaws, via, turn, is_nnc, set_of, moved, for_from}
+use Rattle.soundness.proofs.Operands.{one_topology, one_number}
+
+-- the laws that are cited: both stored systems hold the same points, and there is no generator where there is none; what is printed is read back; the generator of a bound shows it; a widening includes the larger set
+pub record PolyLaws : Type 0 where
+  pub pair : KeptIsPair
+  pub empty : KeptIsEmpty
+  pub cons : ConstraintsAreReadBack
+  pub gens : GeneratorsAreReadBack
+  pub witness : GeneratorIsWitness
+  pub widening : WideningIncludes
+
+-- ---- what each polyhedron keeps
+stored_dims : (t : Topology) (p : Polyhedron) → IsStoredAs t p.cons p.gens → p.gens.dim ≡ p.cons.dim
+stored_dims Closed p (inl e) = e.same_dim
+stored_dims Closed p (inr f) = f.same_dim
+stored_dims Nnc p (inl e) = e.same_dim
+stored_dims Nnc p (inr f) = f.same_dim
+
+pub same_dims : (p : Polyhedron) → IsProper p → p.gens.dim ≡ p.cons.dim
+same_dims p a = stored_dims p.topology p a.kept.stored
+
+-- ---- yes and no
+never : false ≡ true → ⊥
+never e = cc
+
+pub told : (Statement : Type 0) (reply : List ℕ) (holds : Bool) → IsTrue holds ↔ Statement → reply ≡ answer_line holds → Tells Statement reply
+told Statement reply true same said = inl (same.0 refl, said)
+told Statement reply false same said = inr (λ s. never (same.1 s), said)
+
+pub told_so : (Statement : Type 0) (reply : List ℕ) → IsTold Statement reply → Tells Statement reply
+told_so Statement reply h = told Statement reply h.holds h.true_of h.said
+
+pub has_true : TextLaws → (part : Part) (p : Polyhedron) (reply : List ℕ) → questions.SaysPoint p.cons.dim part (questions.Tells p.cons reply) → TellsWhether part (set_of p) reply
+has_true laws part p reply h =
+    let text = laws.point p.cons.dim part.text h.point h.read in
+    record { point = h.point; text = text.0; is_point = text.1; tells = told (In p.cons h.point) reply h.holds.holds h.holds.true_of_point h.holds.said }
+
+included : (p q : Polyhedron) (reply : List ℕ) → AreAlike (set_of p) (set_of q) → IsTold ((v : List ℤ) → IsPoint q.cons.dim v → In q.cons v → In p.cons v) reply → Tells (Includes (set_of p) (set_of q)) reply
+included p q reply alike h =
+    told (Includes (set_of p) (set_of q)) reply h.holds
+    (via h.true_of (λ x. λ v is. x v (moved p.cons.dim q.cons.dim v alike.variables is), λ x. λ v is. x v (moved q.cons.dim p.cons.dim v (sym alike.variables) is))) h.said
+
+pub compared_true : (by : Comparison) (p q : Polyhedron) (reply : List ℕ) → AreAlike (set_of p) (set_of q) → (compared by p q).does reply → Tells (LieSo by (set_of p) (set_of q)) reply
+compared_true Contains p q reply alike h = included p q reply alike h.told
+compared_true Equal p q reply alike h = told_so (LieSo Equal (set_of p) (set_of q)) reply h.told
+compared_true Disjoint p q reply alike h = told_so (LieSo Disjoint (set_of p) (set_of q)) reply h
+
+-- ---- a constraint
+pub relation_true : TextLaws → (part : Part) (p : Polyhedron) (reply : List ℕ) → optima.SaysConstraint p.cons.dim part (optima.SaysRelation p reply) → TellsRelation part (set_of p) reply
+relation_true laws part p reply h = record {
+  constraint = (h.row, h.kind);
+  text = laws.constraint p.cons.dim part.text h.row h.kind h.read;
+  disjoint = h.holds.flags.disjoint;
+  intersects = h.holds.flags.intersects;
+  included = h.holds.flags.included;
+  saturates = h.holds.flags.saturates;
+  said = h.holds.said;
+  nowhere = h.holds.answer.1.disjoint;
+  divided = h.holds.answer.1.intersects;
+  throughout = h.holds.answer.1.included;
+  equal = h.holds.answer.1.saturates;
+}
+
+-- ---- extreme values
+shows : PolyLaws → (up : Bool) (row : List ℤ) (p : Polyhedron) (num den : ℤ) (attained : Bool) (index : ℕ) → IsProper p → SupAnswer up row p.gens (Ok (sup.At num den attained index)) → IsWitness row (set_of p) num den attained (generator_at p.gens.list index).0
+shows laws up row p num den attained index proper answer =
+    let w = laws.witness up row p num den attained index proper.kept proper.gens answer in
+    record { point = w.point; near = λ c for valid. w.closure c (for_from Closed p.cons.dim c for).kind valid; inside = w.inside; value = w.value }
+
+bound_true : PolyLaws → (up : Bool) (row : List ℤ) (p : Polyhedron) (reply : List ℕ) (b : Sup) → IsProper p → SupAnswer up row p.gens (Ok b) → IsTrueSup up row p b → reply ≡ line (optima.bound_text p.gens b) → TellsExtremeOf up row (set_of p) reply
+bound_true laws up row p reply sup.Empty proper answer true_of said = inl (true_of, said)
+bound_true laws up row p reply sup.Unbounded proper answer true_of said = inr (inl (true_of, said))
+bound_true laws up row p reply (sup.At num den attained index) proper answer true_of said = inr (inr (record {
+  num = num;
+  den = den;
+  attained = attained;
+  bound = true_of;
+  witness = generator_at p.gens.list index;
+  is_witness = shows laws up row p num den attained index proper answer;
+  said = said ∙ ap (λ (n : ℕ). line (signed_decimal num ++ codes "/" ++ signed_decimal den ++ attained_text attained ++ generator_text n (generator_at p.gens.list index))) (same_dims p proper);
+}))
+
+max_same : (extremum : Extremum) → operands.is_max extremum ≡ is_max extremum
+max_same Max = refl
+max_same Min = refl
+
+pub extreme_true : TextLaws → PolyLaws → (extremum : Extremum) (part : Part) (p : Polyhedron) (reply : List ℕ) → IsProper p → optima.SaysExpression p.cons.dim part (optima.SaysBound (operands.is_max extremum) p reply) → TellsExtreme extremum part (set_of p) reply
+extreme_true texts laws extremum part p reply proper h = record {
+  row = h.row;
+  text = texts.expression p.cons.dim part.text h.row h.read;
+  tells = subst (λ (up : Bool). TellsExtremeOf up h.row (set_of p) reply) (max_same extremum) (bound_true laws (operands.is_max extremum) h.row p reply h.holds.bound proper h.holds.answer h.holds.true_of h.holds.said);
+}
+
+-- ---- systems
+own_gens : PolyLaws → (p : Polyhedron) → IsProper p → AreGensOf p.gens.list (set_of p)
+own_gens laws p proper v is =
+    turn (via (laws.pair p proper.kept v is) (subst (λ (n : ℕ). Span p.gens v ↔ Span (generators n p.gens.list) v) (same_dims p proper) (λ x. x, λ x. x)))
+
+pub size_true : PolyLaws → (p : Polyhedron) (reply : List ℕ) → IsProper p → reply ≡ line (questions.size_text p) → TellsSize (set_of p) reply
+size_true laws p reply proper said = record { constraints_are = p.cons.list; generators_are = p.gens.list; hold = λ v is. (λ x. x, λ x. x); generate = own_gens laws p proper; said = said }
+
+pub side_true : TextLaws → PolyLaws → (side : Bool) (p : Polyhedron) (reply : List ℕ) → IsProper p → reply ≡ line (questions.side_text side p) → TellsSide side (set_of p) reply
+side_true texts laws false p reply proper said =
+    let says = texts.constraints p.cons.dim (constraints_text p.cons) p.cons ((laws.cons p.cons p.cons proper.cons).1 refl) in
+    record { text = constraints_text p.cons; said = said; list = says.list; is_text = says.is_text; are = λ v is. turn (says.same v) }
+side_true texts laws true p reply proper said =
+    let read = subst (λ (n : ℕ). IsGens n (generators_text p.gens) p.gens) (same_dims p proper) ((laws.gens p.gens p.gens proper.gens).1 refl) in
+    let says = texts.generators p.cons.dim (generators_text p.gens) p.gens read in
+    record { text = generators_text p.gens; said = said; list = says.list; is_text = says.is_text; are = λ v is. via (turn (says.same [] v)) (own_gens laws p proper v is) }
+
+-- ---- files
+file_side : PolyLaws → (ext : Bool) (p : Polyhedron) (reply : List ℕ) → IsProper p → reply ≡ file_of ext p → files.TellsSide ext (set_of p) reply
+file_side laws false p reply proper said = (p.cons.list, λ v is. (λ x. x, λ x. x), said)
+file_side laws true p reply proper said = (p.gens.list, own_gens laws p proper, said ∙ ap (λ (n : ℕ). ext_text (generators n p.gens.list)) (same_dims p proper))
+
+pub file_true : PolyLaws → (ext : Bool) (p : Polyhedron) (reply : List ℕ) → IsProper p → p.topology ≡ Closed → reply ≡ file_of ext p → TellsFile ext (set_of p) reply
+file_true laws ext p reply proper closed said = record { closed = ap is_nnc closed; tells = file_side laws ext p reply proper said }
+
+-- ---- a widening
+pub widen_made : PolyLaws → (p q r : Polyhedron) (others : Conditions) → IsProper p → IsProper q → Passes (nested p q others) → IsWidened p q r → IsWidening (set_of p) (set_of q) (set_of r)
+widen_made laws p q r others proper_p proper_q passes h =
+    let same : p.topology ≡ q.topology = one_topology p.topology q.topology passes.1.0 in
+    let closed : p.topology ≡ Closed = one_topology p.topology Closed passes.1.1.0 in
+    let dims : p.cons.dim ≡ q.cons.dim = one_number p.cons.dim q.cons.dim passes.1.1.1.0 in
+    let closed_p : IsClosedOver p.cons.dim p = record { kept = proper_p.kept; over = record { same_topology = closed; same_dim = refl } } in
+    let closed_q : IsClosedOver p.cons.dim q = record { kept = proper_q.kept; over = record { same_topology = sym same ∙ closed; same_dim = sym dims } } in
+    let over = h.widening.over in
+    let second = laws.widening p q r closed_p closed_q h.nested h.widening in
+    record {
+      alike = record { kind = ap is_nnc same; variables = dims };
+      closed = ap is_nnc closed;
+      nested = λ v is holds. h.nested v (moved q.cons.dim p.cons.dim v (sym dims) is) holds;
+      same = record { kind = ap is_nnc (closed ∙ sym over.same_topology); variables = sym over.same_dim };
+      first = λ v is holds. (let on_p = moved r.cons.dim p.cons.dim v over.same_dim is in second v (moved p.cons.dim q.cons.dim v dims on_p) (h.nested v on_p holds));
+      second = λ v is holds. second v (moved r.cons.dim q.cons.dim v (over.same_dim ∙ dims) is) holds;
+    }

@@ -1,0 +1,152 @@
+-- Answers to questions about sets: each is true of the points.
+use Rattle.std.specs.Prelude.{◌≡◌, ◌≢◌, ◌⊎◌, ◌↔◌, ◌<◌, ℕ, List, [], ◌∷◌, ◌++◌, length, ℤ, pos, ◌<ℤ◌, Bool, true, false, IsTrue, codes, decimal}
+use Rattle.std.proofs.Math.IntN.{◌*ℤ◌}
+use Rattle.std.specs.Fmt.{signed_decimal}
+use Rattle.row_core.specs.Vectors.{cell, dot}
+use Rattle.row_core.specs.Points.{IsPoint}
+use Rattle.cons_sys.specs.declared.kind.ConKind.TheVariants.{Eq}
+use Rattle.cons_sys.specs.Constraints.{Constraint, Constraints, In, Satisfies}
+use Rattle.gens_sys.specs.declared.kind.GenKind.{GenKind}
+use Rattle.gens_sys.specs.Generators.{Generator, Generators}
+use Rattle.gens_sys.specs.Spans.{Span}
+use Rattle.expr_text.specs.Printed.{generator_text}
+use Rattle.stored_systems.specs.PointSets.{IsWithin}
+use Rattle.optimum.specs.Relations.{HoldsThroughout, HoldsNowhere, HoldsSomewhere, FailsSomewhere}
+use Rattle.optimum.specs.Search.{IsAtMost}
+use Rattle.optimum.specs.Suprema.{ExceedsAll, IsSupremum}
+use Rattle.script_text.specs.declared.command.Part.{Part}
+use Rattle.script_text.specs.declared.command.Comparison.{Comparison}
+use Rattle.script_text.specs.declared.command.Comparison.TheVariants.{Contains, Equal, Disjoint}
+use Rattle.script_text.specs.declared.command.Extremum.{Extremum}
+use Rattle.script_text.specs.declared.command.Extremum.TheVariants.{Max, Min}
+use Rattle.soundness.specs.Points.{PointSet, IsSetOf, HasNoPoint, Includes, HaveSamePoints, AreDisjoint, IsInSmallest}
+use Rattle.soundness.specs.Sets.{constraints, generators}
+use Rattle.soundness.specs.TextsExpressions.{ExpressionText}
+use Rattle.soundness.specs.TextsSystems.{ConstraintText, ConstraintsText, PointText, GeneratorsText}
+
+-- ---- replies
+-- one line
+abbrev pub line : List ℕ → List ℕ
+line text = text ++ 10 ∷ []
+
+-- the reply to a command that makes or changes something
+abbrev pub ok : List ℕ
+ok = line (codes "ok")
+
+-- the reply is `yes` where the statement is true, and else `no`
+abbrev pub Tells : Type 0 → List ℕ → Type 0
+Tells Statement reply = (Statement × (reply ≡ line (codes "yes"))) ⊎ (¬ Statement × (reply ≡ line (codes "no")))
+
+-- ---- points, and how sets lie
+-- whether the point of the text is in the set
+pub record TellsWhether (part : Part) (s : PointSet) (reply : List ℕ) : Type 0 where
+  pub point : List ℤ
+  pub text : PointText s.cons.dim part.text point
+  pub is_point : IsPoint s.cons.dim point
+  pub tells : Tells (In s.cons point) reply
+
+-- each point of the second is in the first; both have the same points; no point is in both
+abbrev pub LieSo : Comparison → PointSet → PointSet → Type 0
+LieSo Contains s t = Includes s t
+LieSo Equal s t = HaveSamePoints s t
+LieSo Disjoint s t = AreDisjoint s t
+
+-- the text with a further word, where it holds
+abbrev pub with_word : List ℕ → List ℕ → Bool → List ℕ
+with_word text word false = text
+with_word [] word true = word
+with_word (c ∷ cs) word true = (c ∷ cs) ++ codes " " ++ word
+
+-- those of the four words that hold
+abbrev pub words : Bool → Bool → Bool → Bool → List ℕ
+words disjoint intersects included saturates = with_word (with_word (with_word (with_word [] (codes "disjoint") disjoint) (codes "intersects") intersects) (codes "included") included) (codes "saturates") saturates
+
+-- the words that hold of the set and the constraint of the text: no point satisfies it, some point does and some doesn't, each does, both sides are equal at each
+pub record TellsRelation (part : Part) (s : PointSet) (reply : List ℕ) : Type 0 where
+  pub constraint : Constraint
+  pub text : ConstraintText s.cons.dim part.text constraint
+  pub disjoint : Bool
+  pub intersects : Bool
+  pub included : Bool
+  pub saturates : Bool
+  pub said : reply ≡ line (words disjoint intersects included saturates)
+  pub nowhere : IsTrue disjoint ↔ HoldsNowhere s.cons constraint
+  pub divided : IsTrue intersects ↔ HoldsSomewhere s.cons constraint × FailsSomewhere s.cons constraint
+  pub throughout : IsTrue included ↔ HoldsThroughout s.cons constraint
+  pub equal : IsTrue saturates ↔ HoldsThroughout s.cons (constraint.0, Eq)
+
+-- ---- the extreme values of an expression
+-- whether the greatest value is asked for
+abbrev pub is_max : Extremum → Bool
+is_max Max = true
+is_max Min = false
+
+-- whether the bound is a value
+abbrev pub attained_text : Bool → List ℕ
+attained_text true = codes " attained "
+attained_text false = codes " not attained "
+
+-- the witness of a bound: a point of the smallest closed set that includes the set, of the set exactly where the bound is attained, with the bound as its value
+pub record IsWitness (row : List ℤ) (s : PointSet) (num den : ℤ) (attained : Bool) (v : List ℤ) : Type 0 where
+  pub point : IsPoint s.cons.dim v
+  pub near : IsInSmallest false s.cons.dim (IsWithin s.cons) v
+  pub inside : IsTrue attained ↔ IsWithin s.cons v
+  pub value : den *ℤ dot row v ≡ num *ℤ cell v s.cons.dim
+
+-- the bound, whether it is attained, and a witness
+pub record TellsBound (up : Bool) (row : List ℤ) (s : PointSet) (reply : List ℕ) : Type 0 where
+  pub num : ℤ
+  pub den : ℤ
+  pub attained : Bool
+  pub bound : IsSupremum up row s.cons.dim (IsWithin s.cons) num den attained
+  pub witness : Generator
+  pub is_witness : IsWitness row s num den attained witness.0
+  pub said : reply ≡ line (signed_decimal num ++ codes "/" ++ signed_decimal den ++ attained_text attained ++ generator_text s.cons.dim witness)
+
+-- there is no point; or the values have no bound; or the least upper (or the greatest lower) bound
+abbrev pub TellsExtremeOf : Bool → List ℤ → PointSet → List ℕ → Type 0
+TellsExtremeOf up row s reply = (HasNoPoint s × (reply ≡ line (codes "empty"))) ⊎ (ExceedsAll up row s.cons.dim (IsWithin s.cons) × (reply ≡ line (codes "unbounded"))) ⊎ TellsBound up row s reply
+
+-- where the text is the expression
+pub record TellsExtreme (extremum : Extremum) (part : Part) (s : PointSet) (reply : List ℕ) : Type 0 where
+  pub row : List ℤ
+  pub text : ExpressionText s.cons.dim part.text row
+  pub tells : TellsExtremeOf (is_max extremum) row s reply
+
+-- ---- systems
+-- the constraints hold at the points of the set and at no others
+abbrev pub AreOf : List Constraint → PointSet → Type 0
+AreOf list s = (v : List ℤ) → IsPoint s.cons.dim v → In (constraints s.cons.dim list) v ↔ In s.cons v
+
+-- the generators generate these points and no others
+abbrev pub AreGensOf : List Generator → PointSet → Type 0
+AreGensOf list s = (v : List ℤ) → IsPoint s.cons.dim v → Span (generators s.cons.dim list) v ↔ In s.cons v
+
+-- the text of such constraints
+pub record TellsConstraints (s : PointSet) (reply : List ℕ) : Type 0 where
+  pub text : List ℕ
+  pub said : reply ≡ line text
+  pub list : List Constraint
+  pub is_text : ConstraintsText s.cons.dim text list
+  pub are : AreOf list s
+
+-- the text of such generators
+pub record TellsGenerators (s : PointSet) (reply : List ℕ) : Type 0 where
+  pub text : List ℕ
+  pub said : reply ≡ line text
+  pub list : List Generator
+  pub is_text : GeneratorsText s.cons.dim text list
+  pub are : AreGensOf list s
+
+-- constraints, or generators
+abbrev pub TellsSide : Bool → PointSet → List ℕ → Type 0
+TellsSide false s reply = TellsConstraints s reply
+TellsSide true s reply = TellsGenerators s reply
+
+-- the dimension, and how many constraints, and how many generators, stand for the points
+pub record TellsSize (s : PointSet) (reply : List ℕ) : Type 0 where
+  pub constraints_are : List Constraint
+  pub generators_are : List Generator
+  pub hold : AreOf constraints_are s
+  pub generate : AreGensOf generators_are s
+  pub said : reply ≡ line (codes "dim " ++ decimal s.cons.dim ++ codes " constraints " ++ decimal (length constraints_are) ++ codes " generators " ++ decimal (length generators_are))

@@ -1,0 +1,14 @@
+pub mod Points
+pub mod TextsNumbers
+pub mod TextsExpressions
+pub mod TextsSystems
+pub mod TextsLines
+pub mod Values
+pub mod Sets
+pub mod Answers
+pub mod Unions
+pub mod Shapes
+pub mod Systems
+pub mod Files
+pub mod Commands
+pub mod Replies
