@@ -2,7 +2,7 @@
 use cdd_reading::Format;
 
 /// What the words ask for.
-#[derive(Clone, Copy, Debug, PartialEq, Eq)]
+#[derive(Clone, Copy, PartialEq, Eq)]
 pub enum Job {
     /// A script is run.
     Run,

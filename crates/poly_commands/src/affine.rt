@@ -36,7 +36,7 @@ fn image_rel(rel: Rel) -> ImageRel
 }
 
 /// Which variable is mapped, which way, and how it stands to its fraction.
-#[derive(Clone, Copy, Debug, PartialEq, Eq)]
+#[derive(Clone, Copy, Debug)]
 pub struct VariableMap {
     pub by: Mapping,
     pub v: u64,
