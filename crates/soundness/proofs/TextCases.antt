@@ -1,5 +1,5 @@
 -- What texts say by the tables is what they say by the definitions of soundness.
-use Rattle.std.proofs.Common.{◌≡◌, ℕ, ◌<◌, List, [], ◌++◌, refl, sym, subst, ℤ, pos, ◌<ℤ◌, arith}
+use Rattle.std.proofs.Common.{◌≡◌, ℕ, ◌<◌, List, sym, subst, ℤ, pos, ◌<ℤ◌, arith}
 use Rattle.std.proofs.lemmas.Int.{ints}
 use Rattle.row_core.specs.Points.{IsPoint as IsPointRow}
 use Rattle.cons_sys.specs.Constraints.{Constraints}
