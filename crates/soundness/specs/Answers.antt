@@ -1,25 +1,23 @@
 -- Answers to questions about sets: each is true of the points.
-use Rattle.std.specs.Prelude.{◌≡◌, ◌≢◌, ◌⊎◌, ◌↔◌, ◌<◌, ℕ, List, [], ◌∷◌, ◌++◌, length, ℤ, pos, ◌<ℤ◌, Bool, true, false, IsTrue, codes, decimal}
+use Rattle.std.specs.Prelude.{◌≡◌, ◌⊎◌, ◌↔◌, ℕ, List, [], ◌∷◌, ◌++◌, length, ℤ, Bool, true, false, IsTrue, codes, decimal}
 use Rattle.std.proofs.Math.IntN.{◌*ℤ◌}
 use Rattle.std.specs.Fmt.{signed_decimal}
 use Rattle.row_core.specs.Vectors.{cell, dot}
 use Rattle.row_core.specs.Points.{IsPoint}
 use Rattle.cons_sys.specs.declared.kind.ConKind.TheVariants.{Eq}
-use Rattle.cons_sys.specs.Constraints.{Constraint, Constraints, In, Satisfies}
-use Rattle.gens_sys.specs.declared.kind.GenKind.{GenKind}
-use Rattle.gens_sys.specs.Generators.{Generator, Generators}
+use Rattle.cons_sys.specs.Constraints.{Constraint, In}
+use Rattle.gens_sys.specs.Generators.{Generator}
 use Rattle.gens_sys.specs.Spans.{Span}
 use Rattle.expr_text.specs.Printed.{generator_text}
 use Rattle.stored_systems.specs.PointSets.{IsWithin}
 use Rattle.optimum.specs.Relations.{HoldsThroughout, HoldsNowhere, HoldsSomewhere, FailsSomewhere}
-use Rattle.optimum.specs.Search.{IsAtMost}
 use Rattle.optimum.specs.Suprema.{ExceedsAll, IsSupremum}
 use Rattle.script_text.specs.declared.command.Part.{Part}
 use Rattle.script_text.specs.declared.command.Comparison.{Comparison}
 use Rattle.script_text.specs.declared.command.Comparison.TheVariants.{Contains, Equal, Disjoint}
 use Rattle.script_text.specs.declared.command.Extremum.{Extremum}
 use Rattle.script_text.specs.declared.command.Extremum.TheVariants.{Max, Min}
-use Rattle.soundness.specs.Points.{PointSet, IsSetOf, HasNoPoint, Includes, HaveSamePoints, AreDisjoint, IsInSmallest}
+use Rattle.soundness.specs.Points.{PointSet, HasNoPoint, Includes, HaveSamePoints, AreDisjoint, IsInSmallest}
 use Rattle.soundness.specs.Sets.{constraints, generators}
 use Rattle.soundness.specs.TextsExpressions.{ExpressionText}
 use Rattle.soundness.specs.TextsSystems.{ConstraintText, ConstraintsText, PointText, GeneratorsText}

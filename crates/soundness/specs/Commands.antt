@@ -1,7 +1,6 @@
 -- What each command makes, changes or answers.
-use Rattle.std.specs.Prelude.{◌≡◌, ℕ, List, [], ◌++◌, length, map, Option, Some, Bool, codes, decimal}
+use Rattle.std.specs.Prelude.{◌≡◌, ℕ, List, [], ◌++◌, length, map, Some, codes, decimal}
 use Rattle.std.specs.Map.{keys_of}
-use Rattle.bd_shape.specs.Shapes.{DifferenceShape}
 use Rattle.name_table.specs.Table.{entry_of, put, put_each, without, numbered_entries}
 use Rattle.name_table.specs.Listing.{spaced}
 use Rattle.script_text.specs.declared.command.Command.{Command}

@@ -1,5 +1,5 @@
 -- Files of constraints and of generators, in the format of cdd and lrs.
-use Rattle.std.specs.Prelude.{◌≡◌, ◌⊎◌, ℕ, List, [], ◌∷◌, ◌++◌, Bool, true, false}
+use Rattle.std.specs.Prelude.{◌≡◌, ℕ, List, Bool, true, false}
 use Rattle.cdd_reading.specs.Files.{IsIneFile, IsExtFile}
 use Rattle.cdd_text.specs.Written.{ine_text, ext_text}
 use Rattle.cons_sys.specs.Constraints.{Constraint, Constraints, In}

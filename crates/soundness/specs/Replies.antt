@@ -3,12 +3,11 @@ use Rattle.std.specs.Prelude.{◌≡◌, ◌⊎◌, ℕ, List, [], ◌∷◌, �
 use Rattle.std.specs.List.{concat, list_all}
 use Rattle.std.specs.Str.Lines.{lines}
 use Rattle.cdd_reading.specs.Files.{IsEnd}
-use Rattle.name_table.specs.Table.{put}
 use Rattle.script_text.specs.declared.command.Command.{Command}
 use Rattle.script_text.specs.declared.command.Command.TheVariants.{Read}
 use Rattle.soundness.specs.Points.{PointSet}
 use Rattle.soundness.specs.Values.{Polyhedron, Names}
-use Rattle.soundness.specs.Answers.{line, ok}
+use Rattle.soundness.specs.Answers.{line}
 use Rattle.soundness.specs.Files.{IsOfFile}
 use Rattle.soundness.specs.Commands.{Makes, Does}
 use Rattle.soundness.specs.TextsLines.{Spelled}

@@ -1,5 +1,5 @@
 -- The sets that commands make, by their points.
-use Rattle.std.specs.Prelude.{◌≡◌, ◌≢◌, ◌≤◌, ◌<◌, ◌⊎◌, ◌+◌, ℕ, List, [], ◌++◌, length, drop, slice_set, ℤ, pos, ◌≤ℤ◌, ◌<ℤ◌, Bool, true, false}
+use Rattle.std.specs.Prelude.{◌≡◌, ◌≢◌, ◌≤◌, ◌<◌, ◌⊎◌, ◌+◌, ℕ, List, [], ◌++◌, length, drop, slice_set, ℤ, pos, ◌≤ℤ◌, ◌<ℤ◌, Bool, false}
 use Rattle.std.proofs.Math.IntN.{◌*ℤ◌}
 use Rattle.row_core.specs.Vectors.{cell, dot, scale}
 use Rattle.row_core.specs.Points.{IsPoint}
@@ -21,7 +21,7 @@ use Rattle.script_text.specs.declared.command.Mapping.{Mapping}
 use Rattle.script_text.specs.declared.command.Mapping.TheVariants.{Image, Preimage}
 use Rattle.script_text.specs.declared.command.Rel.{Rel}
 use Rattle.script_text.specs.declared.command.Rel.TheVariants as rel
-use Rattle.soundness.specs.Points.{PointSet, IsSetOf, AreAlike, HasNoPoint, Includes, HaveSamePoints, IsInSmallest}
+use Rattle.soundness.specs.Points.{PointSet, IsSetOf, AreAlike, HasNoPoint, Includes, IsInSmallest}
 use Rattle.soundness.specs.TextsExpressions.{FractionText}
 use Rattle.soundness.specs.TextsSystems.{ConstraintsText, GeneratorsText}
 

@@ -1,5 +1,5 @@
 -- Shapes: bounds of variables and of differences of two.
-use Rattle.std.specs.Prelude.{◌≡◌, ◌≢◌, ◌↔◌, ◌<◌, ◌+◌, ℕ, List, ℤ, Bool, true, false, Some, None, IfSome}
+use Rattle.std.specs.Prelude.{◌≡◌, ◌≢◌, ◌↔◌, ◌<◌, ◌+◌, ℕ, List, ℤ, true, false, Some, None, IfSome}
 use Rattle.row_core.specs.Points.{IsPoint}
 use Rattle.cons_sys.specs.Constraints.{Constraint, In}
 use Rattle.stored_systems.specs.PointSets.{IsWithin}
@@ -11,7 +11,7 @@ use Rattle.optimum.specs.Suprema.{ExceedsAll, IsSupremum}
 use Rattle.script_text.specs.declared.command.Part.{Part}
 use Rattle.script_text.specs.declared.command.ShapeOperator.{ShapeOperator}
 use Rattle.script_text.specs.declared.command.ShapeOperator.TheVariants.{Meet, Hull}
-use Rattle.soundness.specs.Points.{PointSet, IsSetOf, HasNoPoint}
+use Rattle.soundness.specs.Points.{PointSet, HasNoPoint}
 use Rattle.soundness.specs.Sets.{constraints}
 use Rattle.soundness.specs.Answers.{line, Tells}
 use Rattle.soundness.specs.TextsSystems.{ConstraintsText}

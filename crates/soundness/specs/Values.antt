@@ -1,5 +1,5 @@
 -- What names stand for.
-use Rattle.std.specs.Prelude.{ℕ, ◌+◌, List, ◌∷◌, [], ◌++◌, slice_set, Bool}
+use Rattle.std.specs.Prelude.{ℕ, List, ◌∷◌, [], ◌++◌, slice_set, Bool}
 use Rattle.bd_shape.specs.Shapes.{DifferenceShape}
 use Rattle.name_table.specs.Table.{Table}
 use Rattle.soundness.specs.Points.{PointSet}
