@@ -6,6 +6,8 @@ use Rattle.row_core.specs.Vectors.{cell, dot}
 use Rattle.row_core.specs.Points.{IsPoint}
 use Rattle.cons_sys.specs.declared.kind.ConKind.TheVariants.{Eq}
 use Rattle.cons_sys.specs.Constraints.{Constraint, In}
+use Rattle.gens_sys.specs.declared.kind.GenKind.{GenKind}
+use Rattle.gens_sys.specs.declared.kind.GenKind.TheVariants.{Point, ClosurePoint}
 use Rattle.gens_sys.specs.Generators.{Generator}
 use Rattle.gens_sys.specs.Spans.{Span}
 use Rattle.expr_text.specs.Printed.{generator_text}
@@ -91,15 +93,26 @@ pub record IsWitness (row : List ℤ) (s : PointSet) (num den : ℤ) (attained :
   pub inside : IsTrue attained ↔ IsWithin s.cons v
   pub value : den *ℤ dot row v ≡ num *ℤ cell v s.cons.dim
 
--- the bound, whether it is attained, and a witness
+-- a bound is shown by a point of the set where it is attained, and else by a point of its closure
+abbrev pub witness_kind : Bool → GenKind
+witness_kind true = Point
+witness_kind false = ClosurePoint
+
+-- the bound as a fraction, whether it is attained, and a witness
+abbrev pub bound_text : ℕ → ℤ → ℤ → Bool → List ℤ → List ℕ
+bound_text dim num den attained witness =
+    signed_decimal num ++ codes "/" ++ signed_decimal den ++ attained_text attained
+    ++ generator_text dim (witness, witness_kind attained)
+
+-- the bound, whether it is attained, and a witness, as a generator of that kind
 pub record TellsBound (up : Bool) (row : List ℤ) (s : PointSet) (reply : List ℕ) : Type 0 where
   pub num : ℤ
   pub den : ℤ
   pub attained : Bool
   pub bound : IsSupremum up row s.cons.dim (IsWithin s.cons) num den attained
-  pub witness : Generator
-  pub is_witness : IsWitness row s num den attained witness.0
-  pub said : reply ≡ line (signed_decimal num ++ codes "/" ++ signed_decimal den ++ attained_text attained ++ generator_text s.cons.dim witness)
+  pub witness : List ℤ
+  pub is_witness : IsWitness row s num den attained witness
+  pub said : reply ≡ line (bound_text s.cons.dim num den attained witness)
 
 -- there is no point; or the values have no bound; or the least upper (or the greatest lower) bound
 abbrev pub TellsExtremeOf : Bool → List ℤ → PointSet → List ℕ → Type 0
