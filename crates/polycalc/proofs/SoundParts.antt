@@ -53,6 +53,7 @@ use Rattle.script_text.specs.declared.command.ShapeOperator.TheVariants as shape
 use Rattle.line_values.specs.Texts as texts
 use Rattle.line_values.specs.Meaning.{IsTold}
 use Rattle.line_values.specs.Order.{Conditions, Passes}
+use Rattle.line_values.specs.Proper.{IsProper}
 use Rattle.calc_state.specs.Systems as made
 use Rattle.calc_state.specs.Hybrids as made_automata
 use Rattle.calc_state.specs.Parts as parts
@@ -360,8 +361,8 @@ cover_true s t reply others passes h = record { operands = unions_alike s t othe
 pub relates : (r : Polyhedron) (others : Conditions) → Passes (made_rankings.relates_states r others) → unions.IsRelation (set_of r)
 relates r others passes = record { closed = ap is_nnc (one_topology r.topology Closed passes.1.1.0); even = one_number (r.cons.dim % 2) 0 passes.1.1.1.0 }
 
-pub rank_made : (r s : Polyhedron) (others : Conditions) → Passes (made_rankings.relates_states r others) → rankings.IsRankingSet (r.cons.dim / 2) r s → unions.AreRankings (set_of r) (set_of s)
-rank_made r s others passes h = record { relation = relates r others passes; set = set_is Closed (r.cons.dim / 2 + 1) (functions.IsRanking (r.cons.dim / 2) r.cons) s h.over h.points }
+pub rank_made : (r s : Polyhedron) (others : Conditions) → IsProper s → Passes (made_rankings.relates_states r others) → rankings.IsRankingSet (r.cons.dim / 2) r s → unions.AreRankings (set_of r) (set_of s)
+rank_made r s others fit passes h = record { relation = relates r others passes; set = set_is Closed (r.cons.dim / 2 + 1) (functions.IsRanking (r.cons.dim / 2) r.cons) s fit h.over h.points }
 
 function_cases : TextLaws → (r : Polyhedron) (text reply : List ℕ) → reply ≡ line text → ranking.IsWithoutRanking (r.cons.dim / 2) r.cons text ⊎ ranking.IsOfRanking (r.cons.dim / 2) r.cons text →
     unions.TellsFunction (set_of r) reply ⊎ (((f : List ℤ) → IsPoint (r.cons.dim / 2 + 1) f → ¬ (functions.IsRanking (r.cons.dim / 2) r.cons f)) × (reply ≡ line (codes "none")))
