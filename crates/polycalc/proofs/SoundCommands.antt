@@ -346,11 +346,11 @@ module _ (old new : Table) (text : List ℕ) (kept : AreKept old) where
       (put_one as_poly entry.Poly poly_there out (operators.extended by (has_no_room old out) n) (poly_of old p) h)
   accepted_does laws (command.Remove out p vars) h =
       of_poly p _ (λ x. Makes values.Polyhedron out (IsRemoved vars x) (named old) text (named new))
-      (λ q proper a. makes_poly out (remove (has_no_room old out) vars q) (IsRemoved vars (set_of q)) (λ r kept_r passes d. remove_made vars q r kept_r d) a)
+      (λ q proper a. makes_poly out (remove (has_no_room old out) vars q) (IsRemoved vars (set_of q)) (λ r kept_r passes d. remove_made vars q r kept_r passes.1.1.1.1.1.0 d) a)
       (put_one as_poly entry.Poly poly_there out (remove (has_no_room old out) vars) (poly_of old p) h)
   accepted_does laws (command.Widen out p q) h =
       of_polys p q _ (λ x y. Makes values.Polyhedron out (IsWidening x y) (named old) text (named new))
-      (λ x y proper_x proper_y a. makes_poly out (widen (has_no_room old out) x y) (IsWidening (set_of x) (set_of y)) (λ r kept_r passes d. widen_made laws.poly x y r (room (has_no_room old out)) proper_x proper_y passes d) a)
+      (λ x y proper_x proper_y a. makes_poly out (widen (has_no_room old out) x y) (IsWidening (set_of x) (set_of y)) (λ r kept_r passes d. widen_made laws.poly x y r (room (has_no_room old out)) proper_x proper_y kept_r passes d) a)
       (put_two as_poly entry.Poly poly_there out (widen (has_no_room old out)) (poly_of old p) (poly_of old q) h)
   accepted_does laws (command.Read out ext) h = asks (says []) (text ≡ []) (λ passes e. e) h
   accepted_does laws (command.Write p ext) h =
@@ -379,11 +379,11 @@ module _ (old new : Table) (text : List ℕ) (kept : AreKept old) where
       (put_one as_powerset entry.Powerset powerset_there out (powersets.pset (has_no_room old out)) (poly_of old p) h)
   accepted_does laws (command.OfTwoPowersets op out s t) h =
       of_powersets s t _ (λ x y. Makes values.Union out (unions.IsCombined op x y) (named old) text (named new))
-      (λ x y kept_x kept_y a. makes_powerset out (powersets.of_two_powersets op (has_no_room old out) x y) (unions.IsCombined op (said_powerset x) (said_powerset y)) (λ u kept_u passes d. combined_made laws.unions op x y u (room (has_no_room old out)) kept_x kept_y passes d) a)
+      (λ x y kept_x kept_y a. makes_powerset out (powersets.of_two_powersets op (has_no_room old out) x y) (unions.IsCombined op (said_powerset x) (said_powerset y)) (λ u kept_u passes d. combined_made laws.unions op x y u (room (has_no_room old out)) kept_x kept_y kept_u passes d) a)
       (put_two as_powerset entry.Powerset powerset_there out (powersets.of_two_powersets op (has_no_room old out)) (powerset_of old s) (powerset_of old t) h)
   accepted_does laws (command.Member out s i) h =
       of_powerset s _ (λ x. Makes values.Polyhedron out (unions.IsMember i x) (named old) text (named new))
-      (λ x kept_x a. makes_poly out (powersets.member (has_no_room old out) i x) (unions.IsMember i (said_powerset x)) (λ r kept_r passes d. member_made i x r (room (has_no_room old out)) passes d) a)
+      (λ x kept_x a. makes_poly out (powersets.member (has_no_room old out) i x) (unions.IsMember i (said_powerset x)) (λ r kept_r passes d. member_made i x r (room (has_no_room old out)) kept_x kept_r passes d) a)
       (put_one as_poly entry.Poly poly_there out (powersets.member (has_no_room old out) i) (powerset_of old s) h)
   accepted_does laws (command.Psize s) h =
       of_powerset s _ (λ x. Asks (named old) (named new) (unions.TellsMembers x text)) (λ x kept_x a. asks (powersets.psize x) (unions.TellsMembers (said_powerset x) text) (λ passes d. psize_true x text d) a) (tell_one powersets.psize (powerset_of old s) h)
@@ -416,7 +416,7 @@ module _ (old new : Table) (text : List ℕ) (kept : AreKept old) where
       (tell_one shapes.shape_print (shape_of old s) h)
   accepted_does laws (command.ShapePoly out s) h =
       of_shape s _ (λ x. Makes values.Polyhedron out (said_shapes.IsSetOfShape x) (named old) text (named new))
-      (λ x kept_x a. makes_poly out (shapes.shape_poly (has_no_room old out) x) (said_shapes.IsSetOfShape x) (λ p kept_p passes d. spoly_made x p d) a)
+      (λ x kept_x a. makes_poly out (shapes.shape_poly (has_no_room old out) x) (said_shapes.IsSetOfShape x) (λ p kept_p passes d. spoly_made x p kept_p d) a)
       (put_one as_poly entry.Poly poly_there out (shapes.shape_poly (has_no_room old out)) (shape_of old s) h)
   accepted_does laws (command.Hybrid out s) h =
       of_system s _ (λ x. Makes values.Automaton out (said_systems.IsStill x) (named old) text (named new))

@@ -1,5 +1,6 @@
 -- The sets that commands on polyhedra make are those that are said.
 use Rattle.std.proofs.Common.{◌≡◌, ◌⊎◌, inl, inr, ◌↔◌, ℕ, ◌+◌, ◌<◌, ◌≤◌, List, [], ◌++◌, length, drop, refl, ap, sym, ◌∙◌, subst, Bool, true, false, ℤ, pos}
+use Rattle.std.specs.Prelude.{All, slice_index_or}
 use Rattle.std.proofs.lemmas.List.Elements.{All-append}
 use Rattle.stored_systems.proofs.ListLemmas.{All-left, All-right}
 use Rattle.row_core.specs.Vectors.{cell}
@@ -38,8 +39,9 @@ use Rattle.poly_commands.specs.Results as results
 use Rattle.poly_commands.specs.Operators as operators
 use Rattle.poly_commands.specs.Affine as affine
 use Rattle.soundness.specs.Points.{IsInSmallest}
-use Rattle.soundness.specs.Sets.{constraints, generators, IsOfConstraints, IsOfGenerators, IsSpace, IsCopy, IsAdded, Generate, IsJoined, IsClosure, IsOfTwo, IsFrontIn, IsExtended, IsRemoved, Stands, IsImage, IsPreimage, IsSetOfMap, IsMapped}
+use Rattle.soundness.specs.Sets.{constraints, generators, IsOfConstraints, IsOfGenerators, IsSpace, IsCopy, IsAdded, IsGeneratorFor, Generate, IsJoined, IsClosure, IsOfTwo, IsFrontIn, IsExtended, IsRemoved, Stands, IsImage, IsPreimage, IsSetOfMap, IsMapped}
 use Rattle.soundness.specs.TextsSystems.{GeneratorsText}
+use Rattle.soundness.proofs.Operands.{all_below}
 use Rattle.soundness.proofs.PointLaws.{TextLaws, via, turn, is_nnc, set_of, is_over, set_is, moved, within, smallest}
 
 -- ---- given
@@ -108,6 +110,7 @@ add_made laws part p r fit h =
 -- the generators that are stored
 own_generate : (p : Polyhedron) → IsProper p → p.gens.dim ≡ p.cons.dim → IsPair p.cons p.gens → (poly.HasNoPoint p → p.gens.list ≡ []) → Generate p.gens.list (set_of p)
 own_generate p own same pair none = record {
+  each = λ i d h. subst (λ (n : ℕ). IsGeneratorFor n (slice_index_or p.gens.list i d)) same (record { wide = (own.gens.each i d h).wide; divisor = (own.gens.each i d h).divisor });
   set = set_is p.topology p.cons.dim (Span (generators p.cons.dim p.gens.list)) p own (record { same_topology = refl; same_dim = refl }) (λ v is. via (pair v is) (span_over p.gens.dim p.cons.dim p.gens.list v same));
   none = none;
 }
@@ -175,8 +178,11 @@ extension_made Project n p r fit h =
     set_is p.topology (p.cons.dim + n) (λ v. IsFrontIn (set_of p) n v × ((j : ℕ) → p.cons.dim ≤ j → j < p.cons.dim + n → cell v j ≡ pos 0)) r fit h.set.over
     (λ v is. via (h.set.points v is) (λ x. (x.within, x.zero), λ y. record { zero = y.1; within = y.0 }))
 
-pub remove_made : (vars : List ℕ) (p r : Polyhedron) → IsProper r → affine.IsRemoved vars p r → IsRemoved vars (set_of p) (set_of r)
-remove_made vars p r fit h = set_is p.topology (length (kept_variables p.cons.dim vars)) (HasSource (remaining p.cons.dim vars) p.cons) r fit h.set.over h.set.points
+pub remove_made : (vars : List ℕ) (p r : Polyhedron) → IsProper r → ¬ (¬ (All (λ (i : ℕ). i < p.cons.dim) vars)) → affine.IsRemoved vars p r → IsRemoved vars (set_of p) (set_of r)
+remove_made vars p r fit passes h = record {
+  below = all_below p.cons.dim vars passes;
+  set = set_is p.topology (length (kept_variables p.cons.dim vars)) (HasSource (remaining p.cons.dim vars) p.cons) r fit h.set.over h.set.points;
+}
 
 -- ---- assignments
 stands_to : (rel : Rel) (x y : ℤ) → relations.Stands (affine.image_rel rel) x y ↔ Stands rel x y

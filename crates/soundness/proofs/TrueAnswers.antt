@@ -41,7 +41,7 @@ use Rattle.soundness.specs.Sets.{generators, IsWidening}
 use Rattle.soundness.specs.Answers.{line, Tells, TellsWhether, LieSo, TellsRelation, is_max, attained_text, witness_kind, IsWitness, TellsExtremeOf, TellsExtreme, AreGensOf, TellsSide, TellsSize}
 use Rattle.soundness.specs.Files as files
 use Rattle.soundness.specs.Files.{TellsFile}
-use Rattle.soundness.proofs.PointLaws.{TextLaws, via, turn, is_nnc, set_of, moved, for_from}
+use Rattle.soundness.proofs.PointLaws.{TextLaws, via, turn, is_nnc, set_of, is_over, moved, for_from}
 use Rattle.soundness.proofs.Operands.{one_topology, one_number}
 
 -- the laws that are cited: both stored systems hold the same points, and there is no generator where there is none; what is printed is read back; the generator of a bound shows it; a widening includes the larger set
@@ -175,8 +175,8 @@ pub file_true : PolyLaws → (ext : Bool) (p : Polyhedron) (reply : List ℕ) �
 file_true laws ext p reply proper closed said = record { closed = ap is_nnc closed; tells = file_side laws ext p reply proper said }
 
 -- ---- a widening
-pub widen_made : PolyLaws → (p q r : Polyhedron) (others : Conditions) → IsProper p → IsProper q → Passes (nested p q others) → IsWidened p q r → IsWidening (set_of p) (set_of q) (set_of r)
-widen_made laws p q r others proper_p proper_q passes h =
+pub widen_made : PolyLaws → (p q r : Polyhedron) (others : Conditions) → IsProper p → IsProper q → IsProper r → Passes (nested p q others) → IsWidened p q r → IsWidening (set_of p) (set_of q) (set_of r)
+widen_made laws p q r others proper_p proper_q fit passes h =
     let same : p.topology ≡ q.topology = one_topology p.topology q.topology passes.1.0 in
     let closed : p.topology ≡ Closed = one_topology p.topology Closed passes.1.1.0 in
     let dims : p.cons.dim ≡ q.cons.dim = one_number p.cons.dim q.cons.dim passes.1.1.1.0 in
@@ -188,7 +188,7 @@ widen_made laws p q r others proper_p proper_q passes h =
       alike = record { kind = ap is_nnc same; variables = dims };
       closed = ap is_nnc closed;
       nested = λ v is holds. h.nested v (moved q.cons.dim p.cons.dim v (sym dims) is) holds;
-      same = record { kind = ap is_nnc (closed ∙ sym over.same_topology); variables = sym over.same_dim };
+      same = is_over p.topology p.cons.dim r fit (record { same_topology = over.same_topology ∙ sym closed; same_dim = over.same_dim });
       first = λ v is holds. (let on_p = moved r.cons.dim p.cons.dim v over.same_dim is in second v (moved p.cons.dim q.cons.dim v dims on_p) (h.nested v on_p holds));
       second = λ v is holds. second v (moved r.cons.dim q.cons.dim v (over.same_dim ∙ dims) is) holds;
     }

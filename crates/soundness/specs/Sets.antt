@@ -1,10 +1,11 @@
 -- The sets that commands make, by their points.
-use Rattle.std.specs.Prelude.{◌≡◌, ◌≢◌, ◌≤◌, ◌<◌, ◌⊎◌, ◌+◌, ℕ, List, [], ◌++◌, length, drop, slice_set, ℤ, pos, ◌≤ℤ◌, ◌<ℤ◌, Bool, false}
+use Rattle.std.specs.Prelude.{◌≡◌, ◌≢◌, ◌≤◌, ◌<◌, ◌⊎◌, ◌+◌, ℕ, List, [], ◌++◌, length, drop, slice_set, ℤ, pos, ◌≤ℤ◌, ◌<ℤ◌, Bool, false, All}
 use Rattle.std.proofs.Math.IntN.{◌*ℤ◌}
 use Rattle.row_core.specs.Vectors.{cell, dot, scale}
 use Rattle.row_core.specs.Points.{IsPoint}
 use Rattle.cons_sys.specs.Constraints.{Constraint, Constraints, In}
 use Rattle.gens_sys.specs.Generators.{Generator, Generators}
+use Rattle.gens_sys.specs.Kinds.{HasBadDivisor}
 use Rattle.gens_sys.specs.Spans.{Span}
 use Rattle.stored_systems.specs.PointSets.{IsWithin}
 use Rattle.elapse.specs.ElapsedPoints.{IsElapsed}
@@ -21,7 +22,7 @@ use Rattle.script_text.specs.declared.command.Mapping.{Mapping}
 use Rattle.script_text.specs.declared.command.Mapping.TheVariants.{Image, Preimage}
 use Rattle.script_text.specs.declared.command.Rel.{Rel}
 use Rattle.script_text.specs.declared.command.Rel.TheVariants as rel
-use Rattle.soundness.specs.Points.{PointSet, IsSetOf, AreAlike, HasNoPoint, Includes, IsInSmallest}
+use Rattle.soundness.specs.Points.{PointSet, IsOver, IsSetOf, AreAlike, HasNoPoint, Includes, IsInSmallest}
 use Rattle.soundness.specs.TextsExpressions.{FractionText}
 use Rattle.soundness.specs.TextsSystems.{ConstraintsText, GeneratorsText}
 
@@ -40,7 +41,7 @@ pub record IsOfConstraints (nnc : Bool) (dim : ℕ) (part : Part) (s : PointSet)
   pub text : ConstraintsText dim part.text list
   pub set : IsSetOf nnc dim (In (constraints dim list)) s
 
--- the points that the generators of the text generate
+-- the points that the generators of the text generate; where no point is among them there is none
 pub record IsOfGenerators (nnc : Bool) (dim : ℕ) (part : Part) (s : PointSet) : Type 0 where
   pub list : List Generator
   pub text : GeneratorsText dim part.text list
@@ -62,8 +63,15 @@ pub record IsAdded (part : Part) (p s : PointSet) : Type 0 where
   pub text : ConstraintsText p.cons.dim part.text list
   pub set : IsSetOf p.nnc p.cons.dim (λ v. In p.cons v × In (constraints p.cons.dim list) v) s
 
--- the generators generate the points of the set; where it has no point there is none
+-- a vector over so many variables, whose last entry fits its kind
+pub record IsGeneratorFor (dim : ℕ) (g : Generator) : Type 0 where
+  pub wide : length g.0 ≡ dim + 1
+  pub divisor : ¬ (HasBadDivisor g.1 (cell g.0 dim))
+
+-- the generators generate the points of the set. Where it has no point there is none: rays alone
+-- generate no point, but they would generate some with a point of the text
 pub record Generate (list : List Generator) (p : PointSet) : Type 0 where
+  pub each : All (IsGeneratorFor p.cons.dim) list
   pub set : IsSetOf p.nnc p.cons.dim (Span (generators p.cons.dim list)) p
   pub none : HasNoPoint p → list ≡ []
 
@@ -97,7 +105,7 @@ pub record IsWidening (p q s : PointSet) : Type 0 where
   pub alike : AreAlike p q
   pub closed : p.nnc ≡ false
   pub nested : Includes q p
-  pub same : AreAlike p s
+  pub same : IsOver p.nnc p.cons.dim s
   pub first : Includes s p
   pub second : Includes s q
 
@@ -111,9 +119,10 @@ abbrev pub IsExtended : Extension → ℕ → PointSet → PointSet → Type 0
 IsExtended Embed n p s = IsSetOf p.nnc (p.cons.dim + n) (IsFrontIn p n) s
 IsExtended Project n p s = IsSetOf p.nnc (p.cons.dim + n) (λ v. IsFrontIn p n v × ((j : ℕ) → p.cons.dim ≤ j → j < p.cons.dim + n → cell v j ≡ pos 0)) s
 
--- the points of the operand without the variables
-abbrev pub IsRemoved : List ℕ → PointSet → PointSet → Type 0
-IsRemoved vars p s = IsSetOf p.nnc (length (kept_variables p.cons.dim vars)) (HasSource (remaining p.cons.dim vars) p.cons) s
+-- the points of the operand without some of its variables
+pub record IsRemoved (vars : List ℕ) (p s : PointSet) : Type 0 where
+  pub below : All (λ v. v < p.cons.dim) vars
+  pub set : IsSetOf p.nnc (length (kept_variables p.cons.dim vars)) (HasSource (remaining p.cons.dim vars) p.cons) s
 
 -- ---- assignments
 -- the one number stands in the relation to the other

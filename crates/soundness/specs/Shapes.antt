@@ -11,7 +11,7 @@ use Rattle.optimum.specs.Suprema.{ExceedsAll, IsSupremum}
 use Rattle.script_text.specs.declared.command.Part.{Part}
 use Rattle.script_text.specs.declared.command.ShapeOperator.{ShapeOperator}
 use Rattle.script_text.specs.declared.command.ShapeOperator.TheVariants.{Meet, Hull}
-use Rattle.soundness.specs.Points.{PointSet, HasNoPoint}
+use Rattle.soundness.specs.Points.{PointSet, IsOver, HasNoPoint}
 use Rattle.soundness.specs.Sets.{constraints}
 use Rattle.soundness.specs.Answers.{line, Tells}
 use Rattle.soundness.specs.TextsSystems.{ConstraintsText}
@@ -21,7 +21,8 @@ abbrev pub IsSupremumOf : PointSet → ℕ → ℕ → Bound → Type 0
 IsSupremumOf p i j None = ExceedsAll true (difference p.cons.dim i j) p.cons.dim (IsWithin p.cons)
 IsSupremumOf p i j (Some f) = IsSupremum true (difference p.cons.dim i j) p.cons.dim (IsWithin p.cons) f.num f.den true
 
--- the smallest shape that includes the closed set; each of its bounds is a supremum, and it has no bounds where the set has no point
+-- the smallest shape that includes the closed set, of those whose bounds are fractions of numbers below 2^127; each of
+-- its bounds is a supremum, so that it is the smallest of all, and it has no bounds where the set has no point
 pub record IsSmallestShape (p : PointSet) (s : DifferenceShape) : Type 0 where
   pub closed : p.nnc ≡ false
   pub variables : s.dim ≡ p.cons.dim
@@ -50,8 +51,7 @@ pub record IsCombined (op : ShapeOperator) (s t r : DifferenceShape) : Type 0 wh
 
 -- the closed set of the points of the shape
 pub record IsSetOfShape (s : DifferenceShape) (p : PointSet) : Type 0 where
-  pub closed : p.nnc ≡ false
-  pub variables : p.cons.dim ≡ s.dim
+  pub over : IsOver false s.dim p
   pub points : (v : List ℤ) → IsWithin p.cons v ↔ IsIn s v
 
 -- whether each point of the second is in the first
