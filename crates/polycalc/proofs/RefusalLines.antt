@@ -76,8 +76,8 @@ head_plain : (kind : OverKind) (step column : ℕ) → IsPlain (kind_name kind +
 head_plain kind step column =
     both (kind_name kind ++ codes " step " ++ decimal step ++ codes " column " ++ decimal column) (codes " left ")
     (both (kind_name kind ++ codes " step " ++ decimal step ++ codes " column ") (decimal column)
-      (both (kind_name kind ++ codes " step " ++ decimal step) (codes " column ") (both (kind_name kind ++ codes " step ") (decimal step) (both (kind_name kind) (codes " step ") (kind_plain kind) refl) (decimal_plain step)) refl)
-      (decimal_plain column)) refl
+    (both (kind_name kind ++ codes " step " ++ decimal step) (codes " column ") (both (kind_name kind ++ codes " step ") (decimal step) (both (kind_name kind) (codes " step ") (kind_plain kind) refl) (decimal_plain step)) refl)
+    (decimal_plain column)) refl
 
 rows_plain : (head : List ℕ) (left right : List ℤ) → IsPlain head → IsPlain (head ++ row_text left ++ codes " right " ++ row_text right)
 rows_plain head left right h = both (head ++ row_text left ++ codes " right ") (row_text right) (both (head ++ row_text left) (codes " right ") (both head (row_text left) h (row_plain left)) refl) (row_plain right)

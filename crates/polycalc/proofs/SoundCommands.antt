@@ -289,7 +289,6 @@ module _ (old new : Table) (text : List ℕ) (kept : AreKept old) where
   drops name None there h = absurd h.does
   drops name (Some e) there h = taken_made name e old text new h.change there h.does h.lines_are h.table
 
-
   lists : text ≡ line (names_text old) → TellsNames (named old) text
   lists e = e ∙ (ap (λ (n : ℕ). names_line n (keys_of old)) (sym (named_length old)) ∙ ap (names_line (length (named old))) (sym (named_keys old)))
 
@@ -320,7 +319,7 @@ module _ (old new : Table) (text : List ℕ) (kept : AreKept old) where
   accepted_does laws (command.OfTwo op out p q) h =
       of_polys p q _ (λ x y. AreFor op x y × Makes values.Polyhedron out (IsOfTwo op x y) (named old) text (named new))
       (λ x y proper_x proper_y a. (let fits = fit_operator op x y (room (has_no_room old out)) a.passes in
-        (fit_for op x y fits, makes_poly out (operators.operated op (has_no_room old out) x y) (IsOfTwo op (set_of x) (set_of y)) (λ r kept_r passes d. two_made op x y r fits d) a)))
+      (fit_for op x y fits, makes_poly out (operators.operated op (has_no_room old out) x y) (IsOfTwo op (set_of x) (set_of y)) (λ r kept_r passes d. two_made op x y r fits d) a)))
       (put_two as_poly entry.Poly poly_there out (operators.operated op (has_no_room old out)) (poly_of old p) (poly_of old q) h)
   accepted_does laws (command.Closure out p) h =
       of_poly p _ (λ x. Makes values.Polyhedron out (IsClosure x) (named old) text (named new)) (λ q proper a. makes_poly out (closure (has_no_room old out) q) (IsClosure (set_of q)) (λ r kept_r passes d. closure_made q r d) a)
@@ -362,14 +361,14 @@ module _ (old new : Table) (text : List ℕ) (kept : AreKept old) where
   accepted_does laws (command.Init s location p) h =
       of_system s _ (λ x. OfOne values.Polyhedron (named old) p (λ y. Makes values.System s (said_systems.IsWithInitial location x y) (named old) text (named new)))
       (λ x kept_x b. of_poly p _ (λ y. Makes values.System s (said_systems.IsWithInitial location (said_system x) y) (named old) text (named new))
-        (λ q proper a. makes_system s (init_meaning location x q) (said_systems.IsWithInitial location (said_system x) (set_of q)) (λ r kept_r passes d. init_made location x q r passes d) a)
-        (accepted_one (parts.init s location x) (poly_of old p) b))
+      (λ q proper a. makes_system s (init_meaning location x q) (said_systems.IsWithInitial location (said_system x) (set_of q)) (λ r kept_r passes d. init_made location x q r passes d) a)
+      (accepted_one (parts.init s location x) (poly_of old p) b))
       (accepted_one (λ x. on_one (poly_of old p) (parts.init s location x)) (system_of old s) h)
   accepted_does laws (command.Trans s source target p) h =
       of_system s _ (λ x. OfOne values.Polyhedron (named old) p (λ y. Makes values.System s (said_systems.IsWithTransition source target x y) (named old) text (named new)))
       (λ x kept_x b. of_poly p _ (λ y. Makes values.System s (said_systems.IsWithTransition source target (said_system x) y) (named old) text (named new))
-        (λ q proper a. makes_system s (trans_meaning source target x q) (said_systems.IsWithTransition source target (said_system x) (set_of q)) (λ r kept_r passes d. trans_made source target x q r passes d) a)
-        (accepted_one (parts.trans s source target x) (poly_of old p) b))
+      (λ q proper a. makes_system s (trans_meaning source target x q) (said_systems.IsWithTransition source target (said_system x) (set_of q)) (λ r kept_r passes d. trans_made source target x q r passes d) a)
+      (accepted_one (parts.trans s source target x) (poly_of old p) b))
       (accepted_one (λ x. on_one (poly_of old p) (parts.trans s source target x)) (system_of old s) h)
   accepted_does laws (command.Fixpoint s delay prefix) h =
       of_system s _ (λ x. MakesEach prefix (said_systems.AreInvariant x) (named old) text (named new))
@@ -426,8 +425,8 @@ module _ (old new : Table) (text : List ℕ) (kept : AreKept old) where
   accepted_does laws (command.SetPart part name location p) h =
       of_hybrid name _ (λ x. OfOne values.Polyhedron (named old) p (λ y. Makes values.Automaton name (said_systems.IsWithPart part location x y) (named old) text (named new)))
       (λ x kept_x b. of_poly p _ (λ y. Makes values.Automaton name (said_systems.IsWithPart part location (automaton_of x) y) (named old) text (named new))
-        (λ q proper a. makes_hybrid name (part_meaning part location x q) (said_systems.IsWithPart part location (automaton_of x) (set_of q)) (λ r kept_r passes d. part_made part location x q r passes d) a)
-        (accepted_one (parts.set_part part name location x) (poly_of old p) b))
+      (λ q proper a. makes_hybrid name (part_meaning part location x q) (said_systems.IsWithPart part location (automaton_of x) (set_of q)) (λ r kept_r passes d. part_made part location x q r passes d) a)
+      (accepted_one (parts.set_part part name location x) (poly_of old p) b))
       (accepted_one (λ x. on_one (poly_of old p) (parts.set_part part name location x)) (hybrid_of old name) h)
   accepted_does laws (command.Reach k delay prefix) h =
       of_hybrid k _ (λ x. MakesEach prefix (said_systems.AreReached x) (named old) text (named new))

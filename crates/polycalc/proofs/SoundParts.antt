@@ -193,12 +193,12 @@ parts_over : (h : hybrid.HybridAutomaton) (delay : ℕ) (sets : List Polyhedron)
 parts_over h delay sets kept r = record {
   as_many = r.of_limit.as_many ∙ limit.as_many;
   over = All-map (IsClosedOver h.system.dim) set_of sets (λ k d l. (let a = has_at sets k l in
-    subst (λ (p : Polyhedron). IsClosedOver h.system.dim (set_of p)) (sym (get_or_from_slice_get sets k a.0 d a.1)) (let o = part_at k a.0 a.1 in closed_over h.system.dim a.0 o.0 o.1)));
+      subst (λ (p : Polyhedron). IsClosedOver h.system.dim (set_of p)) (sym (get_or_from_slice_get sets k a.0 d a.1)) (let o = part_at k a.0 a.1 in closed_over h.system.dim a.0 o.0 o.1)));
   dims = λ l p at. (part_at l p at).1;
   within = λ l invariant set at_invariant at_set v is holds.
-    let b = has_at r.sets l (limit_below l set at_set) in
-    let o = all_at (closed.IsClosedOver h.system.dim) r.sets l b.0 limit.each b.1 in
-    (((r.of_limit.each l set at_set invariant b.0 at_invariant b.1).is_meet.points v (moved h.system.dim b.0.cons.dim v (sym o.over.same_dim) is)).0 holds).1;
+      let b = has_at r.sets l (limit_below l set at_set) in
+      let o = all_at (closed.IsClosedOver h.system.dim) r.sets l b.0 limit.each b.1 in
+      (((r.of_limit.each l set at_set invariant b.0 at_invariant b.1).is_meet.points v (moved h.system.dim b.0.cons.dim v (sym o.over.same_dim) is)).0 holds).1;
 }
   where
     limit : AreSetsOf h.system.dim (length h.system.initial) r.sets
@@ -387,6 +387,7 @@ shape_made p s others passes h = record {
     supremum : (i j : ℕ) (b : Bound) → suprema.IsSupremumOf p i j b → shapes.IsSupremumOf (set_of p) i j b
     supremum i j None x = x
     supremum i j (Some f) x = x
+
     suprema_of : (o : Option Table) → IfSome o (λ t. suprema.AreSuprema p (bounds_of t)) → IfSome o (λ t. (i j : ℕ) → i < p.cons.dim + 1 → j < p.cons.dim + 1 → i ≢ j → shapes.IsSupremumOf (set_of p) i j (bounds_of t i j))
     suprema_of None x = x
     suprema_of (Some t) x = λ i j a b c. supremum i j (bounds_of t i j) (x i j a b c)

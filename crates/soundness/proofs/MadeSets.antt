@@ -1,16 +1,16 @@
 -- The sets that commands on polyhedra make are those that are said.
-use Rattle.std.proofs.Common.{◌≡◌, ◌≢◌, ◌⊎◌, inl, inr, ◌↔◌, ℕ, ◌+◌, ◌<◌, ◌≤◌, List, [], ◌∷◌, ◌++◌, length, drop, refl, ap, sym, ◌∙◌, subst, Bool, true, false, ℤ, pos, ◌≤ℤ◌, ◌<ℤ◌}
+use Rattle.std.proofs.Common.{◌≡◌, ◌⊎◌, inl, inr, ◌↔◌, ℕ, ◌+◌, ◌<◌, ◌≤◌, List, [], ◌++◌, length, drop, refl, ap, sym, ◌∙◌, subst, Bool, true, false, ℤ, pos}
 use Rattle.std.proofs.lemmas.List.Elements.{All-append}
 use Rattle.stored_systems.proofs.ListLemmas.{All-left, All-right}
 use Rattle.row_core.specs.Vectors.{cell}
 use Rattle.row_core.specs.Points.{IsPoint}
 use Rattle.cons_sys.specs.Constraints.{Constraint, Constraints, In, Satisfies}
-use Rattle.gens_sys.specs.Generators.{Generator, Generators}
+use Rattle.gens_sys.specs.Generators.{Generator}
 use Rattle.gens_sys.specs.Spans.{Span}
 use Rattle.stored_systems.specs.PointSets.{IsWithin}
 use Rattle.stored_systems.specs.StoredLaws.{IsPair}
 use Rattle.poly_pair.specs.declared.topology.Topology.{Topology}
-use Rattle.poly_pair.specs.declared.topology.Topology.TheVariants.{Closed, Nnc}
+use Rattle.poly_pair.specs.declared.topology.Topology.TheVariants.{Closed}
 use Rattle.poly_pair.specs.TopologyConstraints as topology
 use Rattle.poly_pair.specs.Polyhedra as poly
 use Rattle.poly_pair.specs.Polyhedra.{Polyhedron, IsOver}
@@ -19,7 +19,6 @@ use Rattle.mapped_systems.specs.Maps.{without, kept_variables, remaining}
 use Rattle.mapped_systems.specs.Sources.{HasSource}
 use Rattle.lattice_ops.specs.Sets as lattice
 use Rattle.affine_maps.specs.Relations as relations
-use Rattle.affine_maps.specs.declared.relations.ImageRel.{ImageRel}
 use Rattle.script_text.specs.declared.command.Part.{Part}
 use Rattle.script_text.specs.declared.command.Space.{Space}
 use Rattle.script_text.specs.declared.command.Space.TheVariants.{Universe, Empty}
@@ -37,7 +36,7 @@ use Rattle.poly_commands.specs.Makers as makers
 use Rattle.poly_commands.specs.Results as results
 use Rattle.poly_commands.specs.Operators as operators
 use Rattle.poly_commands.specs.Affine as affine
-use Rattle.soundness.specs.Points.{PointSet, IsSetOf, HasNoPoint, IsInSmallest}
+use Rattle.soundness.specs.Points.{IsInSmallest}
 use Rattle.soundness.specs.Sets.{constraints, generators, IsOfConstraints, IsOfGenerators, IsSpace, IsCopy, IsAdded, Generate, IsJoined, IsClosure, IsOfTwo, IsFrontIn, IsExtended, IsRemoved, Stands, IsImage, IsPreimage, IsSetOfMap, IsMapped}
 use Rattle.soundness.specs.TextsSystems.{GeneratorsText}
 use Rattle.soundness.proofs.PointLaws.{TextLaws, via, turn, is_nnc, set_of, set_is, moved, within, smallest}
@@ -127,8 +126,8 @@ addgen_made laws part p r same pair none h =
         kind = ap is_nnc h.holds.set.over.same_topology;
         variables = h.holds.set.over.same_dim ∙ same;
         points = λ v is.
-          via (turn (h.holds.set.points v (moved p.cons.dim p.gens.dim v (sym same) is)))
-          (via (says.same p.gens.list v) (span_over p.gens.dim p.cons.dim (p.gens.list ++ says.list) v same));
+            via (turn (h.holds.set.points v (moved p.cons.dim p.gens.dim v (sym same) is)))
+            (via (says.same p.gens.list v) (span_over p.gens.dim p.cons.dim (p.gens.list ++ says.list) v same));
       };
     }
 

@@ -1,5 +1,5 @@
 -- The points of polyhedra, and what their texts say.
-use Rattle.std.proofs.Common.{◌≡◌, ◌⊎◌, inl, inr, ◌↔◌, ℕ, ◌+◌, ◌<◌, List, [], ◌∷◌, ◌++◌, length, refl, ap, sym, ◌∙◌, subst, Bool, true, false, ℤ, pos, ◌<ℤ◌, IsTrue}
+use Rattle.std.proofs.Common.{◌≡◌, ◌↔◌, ℕ, ◌<◌, List, ◌++◌, ap, sym, subst, Bool, true, false, ℤ, pos}
 use Rattle.row_core.specs.Points.{IsPoint}
 use Rattle.cons_sys.specs.declared.kind.ConKind.{ConKind}
 use Rattle.cons_sys.specs.declared.kind.ConKind.TheVariants.{Eq, Ge, Gt}
@@ -9,7 +9,6 @@ use Rattle.gens_sys.specs.Spans.{Span}
 use Rattle.stored_systems.specs.PointSets.{IsWithin}
 use Rattle.poly_pair.specs.declared.topology.Topology.{Topology}
 use Rattle.poly_pair.specs.declared.topology.Topology.TheVariants.{Closed, Nnc}
-use Rattle.poly_pair.specs.Polyhedra as poly
 use Rattle.poly_pair.specs.Polyhedra.{Polyhedron, IsOver}
 use Rattle.poly_pair.specs.TopologyConstraints as topology
 use Rattle.script_text.specs.Line.{Spells}
@@ -17,7 +16,7 @@ use Rattle.script_text.specs.declared.command.Command.{Command}
 use Rattle.term_text.specs.Texts.{IsExpr, IsFrac, IsPoint as IsPointOfText}
 use Rattle.term_text.specs.Systems.{IsCon, IsCons}
 use Rattle.expr_text.specs.GeneratorSystems.{IsGens}
-use Rattle.soundness.specs.Points.{PointSet, IsSetOf, HasNoPoint, IsKindFor, IsConstraintFor, IsInSmallest}
+use Rattle.soundness.specs.Points.{PointSet, IsSetOf, IsKindFor, IsConstraintFor, IsInSmallest}
 use Rattle.soundness.specs.Sets.{constraints, generators}
 use Rattle.soundness.specs.TextsExpressions.{ExpressionText, FractionText}
 use Rattle.soundness.specs.TextsSystems.{ConstraintText, ConstraintsText, PointText, GeneratorsText}

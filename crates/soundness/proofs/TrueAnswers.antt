@@ -1,23 +1,19 @@
 -- The answers to questions about polyhedra are true of their points.
-use Rattle.std.proofs.Common.{◌≡◌, ◌≢◌, ◌⊎◌, inl, inr, ◌↔◌, ℕ, ◌+◌, List, [], ◌∷◌, ◌++◌, length, refl, ap, sym, ◌∙◌, subst, Bool, true, false, IsTrue, ℤ, Ok, codes}
+use Rattle.std.proofs.Common.{◌≡◌, inl, inr, ◌↔◌, ℕ, List, [], ◌++◌, refl, ap, sym, ◌∙◌, subst, Bool, true, false, IsTrue, ℤ, Ok, codes}
 use Rattle.std.specs.Fmt.{signed_decimal}
 use Rattle.cdd_text.specs.Written.{ext_text}
 use Rattle.row_core.specs.Points.{IsPoint}
-use Rattle.cons_sys.specs.Constraints.{Constraint, Constraints, In, Satisfies}
-use Rattle.gens_sys.specs.Generators.{Generator, Generators, generator_at, row_at}
+use Rattle.cons_sys.specs.Constraints.{In}
+use Rattle.gens_sys.specs.Generators.{generator_at}
 use Rattle.gens_sys.specs.Spans.{Span}
-use Rattle.stored_systems.specs.PointSets.{IsWithin}
-use Rattle.stored_systems.specs.StoredLaws.{IsPair}
 use Rattle.poly_pair.specs.declared.topology.Topology.{Topology}
 use Rattle.poly_pair.specs.declared.topology.Topology.TheVariants.{Closed, Nnc}
 use Rattle.poly_pair.specs.ClosedPolyhedra.{IsClosedOver}
 use Rattle.poly_pair.specs.KeptLaws.{KeptIsPair, KeptIsEmpty}
-use Rattle.poly_pair.specs.Polyhedra as poly
 use Rattle.poly_pair.specs.Polyhedra.{Polyhedron, IsStoredAs}
 use Rattle.expr_text.specs.Printed.{constraints_text, generators_text, generator_text}
 use Rattle.expr_text.specs.ReadBack.{ConstraintsAreReadBack, GeneratorsAreReadBack}
 use Rattle.expr_text.specs.GeneratorSystems.{IsGens}
-use Rattle.optimum.specs.Laws as optimum
 use Rattle.optimum.specs.Laws.{GeneratorIsWitness}
 use Rattle.optimum.specs.Suprema.{SupAnswer, IsTrueSup}
 use Rattle.optimum.specs.declared.outcome.Sup.{Sup}
@@ -37,13 +33,11 @@ use Rattle.poly_commands.specs.Optima as optima
 use Rattle.poly_commands.specs.Lattice.{compared}
 use Rattle.poly_commands.specs.Files.{file_of}
 use Rattle.poly_commands.specs.Widening.{nested, IsWidened}
-use Rattle.line_values.specs.Meaning as meaning
-use Rattle.soundness.specs.Points.{PointSet, AreAlike, Includes, HasNoPoint, IsKindFor, IsConstraintFor, IsInSmallest}
-use Rattle.soundness.specs.Sets.{constraints, generators, IsWidening}
-use Rattle.soundness.specs.Answers.{line, Tells, TellsWhether, LieSo, TellsRelation, is_max, attained_text, IsWitness, TellsBound, TellsExtremeOf, TellsExtreme, AreOf, AreGensOf, TellsConstraints, TellsGenerators, TellsSide, TellsSize}
+use Rattle.soundness.specs.Points.{AreAlike, Includes}
+use Rattle.soundness.specs.Sets.{generators, IsWidening}
+use Rattle.soundness.specs.Answers.{line, Tells, TellsWhether, LieSo, TellsRelation, is_max, attained_text, IsWitness, TellsExtremeOf, TellsExtreme, AreGensOf, TellsSide, TellsSize}
 use Rattle.soundness.specs.Files as files
 use Rattle.soundness.specs.Files.{TellsFile}
-use Rattle.soundness.specs.TextsSystems.{ConstraintsText, GeneratorsText}
 use Rattle.soundness.proofs.PointLaws.{TextLaws, via, turn, is_nnc, set_of, moved, for_from}
 use Rattle.soundness.proofs.Operands.{one_topology, one_number}
 
