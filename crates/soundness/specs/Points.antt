@@ -1,4 +1,5 @@
--- Sets of points. A point of n variables is a vector of n + 1 integers `(x1, .., xn, d)` with a positive d, and stands for `(x1/d, .., xn/d)`.
+-- Sets of points. A point of n variables is a vector of n + 1 integers `(x1, .., xn, d)` with a
+-- positive d, and stands for `(x1/d, .., xn/d)`.
 use Rattle.std.specs.Prelude.{◌≡◌, ◌↔◌, ◌+◌, ℕ, List, length, ℤ, Bool, true, false, All, ⊤}
 use Rattle.row_core.specs.Points.{IsPoint}
 use Rattle.cons_sys.specs.declared.kind.ConKind.{ConKind}
@@ -6,7 +7,8 @@ use Rattle.cons_sys.specs.declared.kind.ConKind.TheVariants.{Eq, Ge, Gt}
 use Rattle.cons_sys.specs.Constraints.{Constraint, Constraints, In, Satisfies}
 use Rattle.stored_systems.specs.PointSets.{IsWithin}
 
--- a set of points: whether it needn't be closed (`nnc`), and constraints, over its variables, that hold at its points and at no others
+-- a set of points: whether it needn't be closed (`nnc`), and constraints, over its variables, that
+-- hold at its points and at no others
 pub record PointSet : Type 0 where
   pub nnc : Bool
   pub cons : Constraints
@@ -62,4 +64,5 @@ AreDisjoint s t = (v : List ℤ) → IsPoint s.cons.dim v → ¬ (In s.cons v ×
 -- at all of these holds at it: a polyhedron is the set of the points at which some constraints hold, and one constraint
 -- alone makes such a set too
 abbrev pub IsInSmallest : Bool → ℕ → (List ℤ → Type 0) → List ℤ → Type 0
-IsInSmallest nnc dim Has v = (c : Constraint) → IsConstraintFor nnc dim c → ((u : List ℤ) → Has u → Satisfies u c) → Satisfies v c
+IsInSmallest nnc dim Has v = (c : Constraint) → IsConstraintFor nnc dim c →
+    ((u : List ℤ) → Has u → Satisfies u c) → Satisfies v c

@@ -88,12 +88,18 @@ abbrev pub IsClosure : PointSet → PointSet → Type 0
 IsClosure p s = IsSetOf p.nnc p.cons.dim (IsInSmallest false p.cons.dim (IsWithin p.cons)) s
 
 -- ---- two operands
--- of the points that are in both; the smallest set that includes both; the points whose first variables are in the one and whose others are in the other; the smallest set that includes all x + t*y with x in the one, y in the other and t at least 0
+-- of the points that are in both; the smallest set that includes both; the points whose first
+-- variables are in the one and whose others are in the other; the smallest set that includes all x
+-- + t*y with x in the one, y in the other and t at least 0
 abbrev pub IsOfTwo : Operator → PointSet → PointSet → PointSet → Type 0
 IsOfTwo Meet p q s = IsSetOf p.nnc p.cons.dim (λ v. In p.cons v × In q.cons v) s
-IsOfTwo Hull p q s = IsSetOf p.nnc p.cons.dim (IsInSmallest p.nnc p.cons.dim (λ v. IsWithin p.cons v ⊎ IsWithin q.cons v)) s
-IsOfTwo Concat p q s = IsSetOf p.nnc (p.cons.dim + q.cons.dim) (λ v. In p.cons (without p.cons.dim (p.cons.dim + q.cons.dim) v) × In q.cons (drop p.cons.dim v)) s
-IsOfTwo Elapse p q s = IsSetOf p.nnc p.cons.dim (IsInSmallest p.nnc p.cons.dim (IsElapsed p.cons q.cons)) s
+IsOfTwo Hull p q s = IsSetOf p.nnc p.cons.dim (IsInSmallest p.nnc p.cons.dim
+    (λ v. IsWithin p.cons v ⊎ IsWithin q.cons v)) s
+IsOfTwo Concat p q s = IsSetOf p.nnc (p.cons.dim + q.cons.dim)
+    (λ v. In p.cons (without p.cons.dim (p.cons.dim + q.cons.dim) v) × In q.cons
+    (drop p.cons.dim v)) s
+IsOfTwo Elapse p q s =
+    IsSetOf p.nnc p.cons.dim (IsInSmallest p.nnc p.cons.dim (IsElapsed p.cons q.cons)) s
 
 -- the operands are of one kind, and but for concat over the same variables
 abbrev pub AreFor : Operator → PointSet → PointSet → Type 0
@@ -117,12 +123,14 @@ IsFrontIn p n v = In p.cons (without p.cons.dim (p.cons.dim + n) v)
 -- the operand with n variables more, which are free, or are all 0
 abbrev pub IsExtended : Extension → ℕ → PointSet → PointSet → Type 0
 IsExtended Embed n p s = IsSetOf p.nnc (p.cons.dim + n) (IsFrontIn p n) s
-IsExtended Project n p s = IsSetOf p.nnc (p.cons.dim + n) (λ v. IsFrontIn p n v × ((j : ℕ) → p.cons.dim ≤ j → j < p.cons.dim + n → cell v j ≡ pos 0)) s
+IsExtended Project n p s = IsSetOf p.nnc (p.cons.dim + n)
+    (λ v. IsFrontIn p n v × ((j : ℕ) → p.cons.dim ≤ j → j < p.cons.dim + n → cell v j ≡ pos 0)) s
 
 -- the points of the operand without some of its variables
 pub record IsRemoved (vars : List ℕ) (p s : PointSet) : Type 0 where
   pub below : All (λ v. v < p.cons.dim) vars
-  pub set : IsSetOf p.nnc (length (kept_variables p.cons.dim vars)) (HasSource (remaining p.cons.dim vars) p.cons) s
+  pub set : IsSetOf p.nnc (length (kept_variables p.cons.dim vars))
+    (HasSource (remaining p.cons.dim vars) p.cons) s
 
 -- ---- assignments
 -- the one number stands in the relation to the other
@@ -133,15 +141,22 @@ Stands rel.Le x y = x ≤ℤ y
 Stands rel.Gt x y = y <ℤ x
 Stands rel.Lt x y = x <ℤ y
 
--- some point of the set has the values of all other variables, and the variable's value stands in the relation to that of the expression over the divisor at this point; all is multiplied out by the divisors
-pub record IsImage (rel : Rel) (var : ℕ) (expr : List ℤ) (divisor : ℤ) (cs : Constraints) (v : List ℤ) : Type 0 where
+-- some point of the set has the values of all other variables, and the variable's value stands in
+-- the relation to that of the expression over the divisor at this point; all is multiplied out by
+-- the divisors
+pub record IsImage (rel : Rel) (var : ℕ) (expr : List ℤ) (divisor : ℤ) (cs : Constraints)
+    (v : List ℤ) : Type 0 where
   pub source : List ℤ
   pub within : IsWithin cs source
-  pub others : (j : ℕ) → j < cs.dim → j ≢ var → cell v j *ℤ cell source cs.dim ≡ cell source j *ℤ cell v cs.dim
-  pub stands : Stands rel (cell v var *ℤ (divisor *ℤ cell source cs.dim)) (dot expr source *ℤ cell v cs.dim)
+  pub others : (j : ℕ) → j < cs.dim → j ≢ var →
+      cell v j *ℤ cell source cs.dim ≡ cell source j *ℤ cell v cs.dim
+  pub stands : Stands rel (cell v var *ℤ (divisor *ℤ cell source cs.dim))
+      (dot expr source *ℤ cell v cs.dim)
 
--- with some fraction as the variable's value, which stands in the relation to that of the expression over the divisor at the point, the point is in the set
-pub record IsPreimage (rel : Rel) (var : ℕ) (expr : List ℤ) (divisor : ℤ) (cs : Constraints) (v : List ℤ) : Type 0 where
+-- with some fraction as the variable's value, which stands in the relation to that of the
+-- expression over the divisor at the point, the point is in the set
+pub record IsPreimage (rel : Rel) (var : ℕ) (expr : List ℤ) (divisor : ℤ) (cs : Constraints)
+    (v : List ℤ) : Type 0 where
   pub num : ℤ
   pub den : ℤ
   pub positive : pos 0 <ℤ den
@@ -150,11 +165,14 @@ pub record IsPreimage (rel : Rel) (var : ℕ) (expr : List ℤ) (divisor : ℤ) 
 
 -- the points that come of the operand's by the assignment, or by which a point of it comes
 abbrev pub IsSetOfMap : Mapping → Rel → ℕ → List ℤ → ℤ → PointSet → PointSet → Type 0
-IsSetOfMap Image rel var expr divisor p s = IsSetOf p.nnc p.cons.dim (IsImage rel var expr divisor p.cons) s
-IsSetOfMap Preimage rel var expr divisor p s = IsSetOf p.nnc p.cons.dim (IsPreimage rel var expr divisor p.cons) s
+IsSetOfMap Image rel var expr divisor p s =
+    IsSetOf p.nnc p.cons.dim (IsImage rel var expr divisor p.cons) s
+IsSetOfMap Preimage rel var expr divisor p s =
+    IsSetOf p.nnc p.cons.dim (IsPreimage rel var expr divisor p.cons) s
 
 -- where the text is the fraction, and the variable one of the operand's
-pub record IsMapped (by : Mapping) (var : ℕ) (rel : Rel) (part : Part) (p s : PointSet) : Type 0 where
+pub record IsMapped (by : Mapping) (var : ℕ) (rel : Rel) (part : Part)
+    (p s : PointSet) : Type 0 where
   pub below : var < p.cons.dim
   pub expr : List ℤ
   pub divisor : ℕ

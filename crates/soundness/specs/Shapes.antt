@@ -16,10 +16,12 @@ use Rattle.soundness.specs.Sets.{constraints}
 use Rattle.soundness.specs.Answers.{line, Tells}
 use Rattle.soundness.specs.TextsSystems.{ConstraintsText}
 
--- the bound is the greatest difference of two places on the set, or none where the difference has no bound
+-- the bound is the greatest difference of two places on the set, or none where the difference has
+-- no bound
 abbrev pub IsSupremumOf : PointSet → ℕ → ℕ → Bound → Type 0
 IsSupremumOf p i j None = ExceedsAll true (difference p.cons.dim i j) p.cons.dim (IsWithin p.cons)
-IsSupremumOf p i j (Some f) = IsSupremum true (difference p.cons.dim i j) p.cons.dim (IsWithin p.cons) f.num f.den true
+IsSupremumOf p i j (Some f) =
+    IsSupremum true (difference p.cons.dim i j) p.cons.dim (IsWithin p.cons) f.num f.den true
 
 -- the smallest shape that includes the closed set, of those whose bounds are fractions of numbers below 2^127; each of
 -- its bounds is a supremum, so that it is the smallest of all, and it has no bounds where the set has no point
@@ -27,9 +29,11 @@ pub record IsSmallestShape (p : PointSet) (s : DifferenceShape) : Type 0 where
   pub closed : p.nnc ≡ false
   pub variables : s.dim ≡ p.cons.dim
   pub includes : (v : List ℤ) → IsWithin p.cons v → IsIn s v
-  pub least : (u : DifferenceShape) → u.dim ≡ p.cons.dim → IfSome u.bounds IsTable → ((v : List ℤ) → IsWithin p.cons v → IsIn u v) → Includes u s
+  pub least : (u : DifferenceShape) → u.dim ≡ p.cons.dim → IfSome u.bounds IsTable →
+      ((v : List ℤ) → IsWithin p.cons v → IsIn u v) → Includes u s
   pub empty : (s.bounds ≡ None) ↔ HasNoPoint p
-  pub suprema : IfSome s.bounds (λ t. (i j : ℕ) → i < p.cons.dim + 1 → j < p.cons.dim + 1 → i ≢ j → IsSupremumOf p i j (bounds_of t i j))
+  pub suprema : IfSome s.bounds (λ t. (i j : ℕ) → i < p.cons.dim + 1 → j < p.cons.dim + 1 → i ≢ j →
+      IsSupremumOf p i j (bounds_of t i j))
 
 -- the points at which the constraints of the text hold
 pub record IsShapeOf (n : ℕ) (part : Part) (s : DifferenceShape) : Type 0 where

@@ -70,7 +70,8 @@ pub record TellsMissing (s t : Powerset) (reply : List ℕ) : Type 0 where
 -- whether each point of the second is in the first, or else a point of it that isn't
 pub record TellsCover (s t : Powerset) (reply : List ℕ) : Type 0 where
   pub operands : AreAlike s t
-  pub tells : (((v : List ℤ) → IsPoint s.dim v → IsInUnion t v → IsInUnion s v) × (reply ≡ line (codes "yes"))) ⊎ TellsMissing s t reply
+  pub tells : (((v : List ℤ) → IsPoint s.dim v → IsInUnion t v → IsInUnion s v)
+      × (reply ≡ line (codes "yes"))) ⊎ TellsMissing s t reply
 
 -- ---- ranking functions
 -- a closed relation between states and their successors, of as many variables each
@@ -78,7 +79,8 @@ pub record IsRelation (r : PointSet) : Type 0 where
   pub closed : r.nnc ≡ false
   pub even : r.cons.dim % 2 ≡ 0
 
--- the functions that rank the relation: at each pair of it they are at least 0 at the state, and at least 1 less at the successor
+-- the functions that rank the relation: at each pair of it they are at least 0 at the state, and at
+-- least 1 less at the successor
 pub record AreRankings (r s : PointSet) : Type 0 where
   pub relation : IsRelation r
   pub set : IsSetOf false (r.cons.dim / 2 + 1) (IsRanking (r.cons.dim / 2) r.cons) s
@@ -97,4 +99,5 @@ pub record TellsFunction (r : PointSet) (reply : List ℕ) : Type 0 where
 -- or that there is none
 pub record TellsRanking (r : PointSet) (reply : List ℕ) : Type 0 where
   pub relation : IsRelation r
-  pub tells : TellsFunction r reply ⊎ (((f : List ℤ) → IsPoint (r.cons.dim / 2 + 1) f → ¬ (IsRanking (r.cons.dim / 2) r.cons f)) × (reply ≡ line (codes "none")))
+  pub tells : TellsFunction r reply ⊎ (((f : List ℤ) → IsPoint (r.cons.dim / 2 + 1) f → ¬
+      (IsRanking (r.cons.dim / 2) r.cons f)) × (reply ≡ line (codes "none")))
