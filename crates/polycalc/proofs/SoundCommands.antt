@@ -295,19 +295,19 @@ module _ (old new : Table) (text : List ℕ) (kept : AreKept old) where
   -- ---- each command
   pub accepted_does : Laws → (c : Command) → IsAccepted (meaning old c) old text new → Does (named old) c text (named new)
   accepted_does laws command.Nothing h = asks (says []) (text ≡ []) (λ passes e. e) h
-  accepted_does laws (command.Cons out top n part) h = makes_poly out (makers.cons (has_no_room old out) (topology_of top) n part) (IsOfConstraints top n part) (λ r proper passes d. cons_made laws.texts top n part r d) h
-  accepted_does laws (command.Gens out top n part) h = makes_poly out (makers.gens (has_no_room old out) (topology_of top) n part) (IsOfGenerators top n part) (λ r proper passes d. gens_made laws.texts top n part r d) h
-  accepted_does laws (command.Space space out top n) h = makes_poly out (makers.space_of space (has_no_room old out) (topology_of top) n) (IsSpace space top n) (λ r proper passes d. space_made space top n r d) h
+  accepted_does laws (command.Cons out top n part) h = makes_poly out (makers.cons (has_no_room old out) (topology_of top) n part) (IsOfConstraints top n part) (λ r proper passes d. cons_made laws.texts top n part r proper d) h
+  accepted_does laws (command.Gens out top n part) h = makes_poly out (makers.gens (has_no_room old out) (topology_of top) n part) (IsOfGenerators top n part) (λ r proper passes d. gens_made laws.texts top n part r proper d) h
+  accepted_does laws (command.Space space out top n) h = makes_poly out (makers.space_of space (has_no_room old out) (topology_of top) n) (IsSpace space top n) (λ r proper passes d. space_made space top n r proper d) h
   accepted_does laws (command.Copy out p) h =
-      of_poly p _ (λ x. Makes values.Polyhedron out (IsCopy x) (named old) text (named new)) (λ q proper a. makes_poly out (makers.copy (has_no_room old out) q) (IsCopy (set_of q)) (λ r kept_r passes d. copy_made q r d) a)
+      of_poly p _ (λ x. Makes values.Polyhedron out (IsCopy x) (named old) text (named new)) (λ q proper a. makes_poly out (makers.copy (has_no_room old out) q) (IsCopy (set_of q)) (λ r kept_r passes d. copy_made q r proper d) a)
       (put_one as_poly entry.Poly poly_there out (makers.copy (has_no_room old out)) (poly_of old p) h)
   accepted_does laws (command.Drop name) h = drops name (entry_of old name) refl h
   accepted_does laws (command.Add p part) h =
-      of_poly p _ (λ x. Makes values.Polyhedron p (IsAdded part x) (named old) text (named new)) (λ q proper a. makes_poly p (makers.add part q) (IsAdded part (set_of q)) (λ r kept_r passes d. add_made laws.texts part q r d) a)
+      of_poly p _ (λ x. Makes values.Polyhedron p (IsAdded part x) (named old) text (named new)) (λ q proper a. makes_poly p (makers.add part q) (IsAdded part (set_of q)) (λ r kept_r passes d. add_made laws.texts part q r kept_r d) a)
       (put_one as_poly entry.Poly poly_there p (makers.add part) (poly_of old p) h)
   accepted_does laws (command.Addgen p part) h =
       of_poly p _ (λ x. Makes values.Polyhedron p (IsJoined part x) (named old) text (named new))
-      (λ q proper a. makes_poly p (makers.addgen part q) (IsJoined part (set_of q)) (λ r kept_r passes d. addgen_made laws.texts part q r (same_dims q proper) (laws.poly.pair q proper.kept) (laws.poly.empty q proper.kept).1 d) a)
+      (λ q proper a. makes_poly p (makers.addgen part q) (IsJoined part (set_of q)) (λ r kept_r passes d. addgen_made laws.texts part q r proper kept_r (same_dims q proper) (laws.poly.pair q proper.kept) (laws.poly.empty q proper.kept).1 d) a)
       (put_one as_poly entry.Poly poly_there p (makers.addgen part) (poly_of old p) h)
   accepted_does laws (command.Has p part) h =
       of_poly p _ (λ x. Asks (named old) (named new) (answers.TellsWhether part x text)) (λ q proper a. asks (has part q) (answers.TellsWhether part (set_of q) text) (λ passes d. has_true laws.texts part q text d) a) (tell_one (has part) (poly_of old p) h)
@@ -319,10 +319,10 @@ module _ (old new : Table) (text : List ℕ) (kept : AreKept old) where
   accepted_does laws (command.OfTwo op out p q) h =
       of_polys p q _ (λ x y. AreFor op x y × Makes values.Polyhedron out (IsOfTwo op x y) (named old) text (named new))
       (λ x y proper_x proper_y a. (let fits = fit_operator op x y (room (has_no_room old out)) a.passes in
-      (fit_for op x y fits, makes_poly out (operators.operated op (has_no_room old out) x y) (IsOfTwo op (set_of x) (set_of y)) (λ r kept_r passes d. two_made op x y r fits d) a)))
+      (fit_for op x y fits, makes_poly out (operators.operated op (has_no_room old out) x y) (IsOfTwo op (set_of x) (set_of y)) (λ r kept_r passes d. two_made op x y r kept_r fits d) a)))
       (put_two as_poly entry.Poly poly_there out (operators.operated op (has_no_room old out)) (poly_of old p) (poly_of old q) h)
   accepted_does laws (command.Closure out p) h =
-      of_poly p _ (λ x. Makes values.Polyhedron out (IsClosure x) (named old) text (named new)) (λ q proper a. makes_poly out (closure (has_no_room old out) q) (IsClosure (set_of q)) (λ r kept_r passes d. closure_made q r d) a)
+      of_poly p _ (λ x. Makes values.Polyhedron out (IsClosure x) (named old) text (named new)) (λ q proper a. makes_poly out (closure (has_no_room old out) q) (IsClosure (set_of q)) (λ r kept_r passes d. closure_made q r kept_r d) a)
       (put_one as_poly entry.Poly poly_there out (closure (has_no_room old out)) (poly_of old p) h)
   accepted_does laws (command.Compare by p q) h =
       of_polys p q _ (λ x y. AreAlike x y × Asks (named old) (named new) (answers.Tells (answers.LieSo by x y) text))
@@ -338,19 +338,19 @@ module _ (old new : Table) (text : List ℕ) (kept : AreKept old) where
       (tell_one (bound (is_max extremum) part) (poly_of old p) h)
   accepted_does laws (command.Map by out p v rel part) h =
       of_poly p _ (λ x. Makes values.Polyhedron out (IsMapped by v rel part x) (named old) text (named new))
-      (λ q proper a. makes_poly out (mapped_by by (has_no_room old out) v rel part q) (IsMapped by v rel part (set_of q)) (λ r kept_r passes d. map_made laws.texts by v rel part q r d) a)
+      (λ q proper a. makes_poly out (mapped_by by (has_no_room old out) v rel part q) (IsMapped by v rel part (set_of q)) (λ r kept_r passes d. map_made laws.texts by v rel part q r kept_r d) a)
       (put_one as_poly entry.Poly poly_there out (mapped_by by (has_no_room old out) v rel part) (poly_of old p) h)
   accepted_does laws (command.Extend by out p n) h =
       of_poly p _ (λ x. Makes values.Polyhedron out (IsExtended by n x) (named old) text (named new))
-      (λ q proper a. makes_poly out (operators.extended by (has_no_room old out) n q) (IsExtended by n (set_of q)) (λ r kept_r passes d. extension_made by n q r d) a)
+      (λ q proper a. makes_poly out (operators.extended by (has_no_room old out) n q) (IsExtended by n (set_of q)) (λ r kept_r passes d. extension_made by n q r kept_r d) a)
       (put_one as_poly entry.Poly poly_there out (operators.extended by (has_no_room old out) n) (poly_of old p) h)
   accepted_does laws (command.Remove out p vars) h =
       of_poly p _ (λ x. Makes values.Polyhedron out (IsRemoved vars x) (named old) text (named new))
-      (λ q proper a. makes_poly out (remove (has_no_room old out) vars q) (IsRemoved vars (set_of q)) (λ r kept_r passes d. remove_made vars q r d) a)
+      (λ q proper a. makes_poly out (remove (has_no_room old out) vars q) (IsRemoved vars (set_of q)) (λ r kept_r passes d. remove_made vars q r kept_r passes.1.1.1.1.1.0 d) a)
       (put_one as_poly entry.Poly poly_there out (remove (has_no_room old out) vars) (poly_of old p) h)
   accepted_does laws (command.Widen out p q) h =
       of_polys p q _ (λ x y. Makes values.Polyhedron out (IsWidening x y) (named old) text (named new))
-      (λ x y proper_x proper_y a. makes_poly out (widen (has_no_room old out) x y) (IsWidening (set_of x) (set_of y)) (λ r kept_r passes d. widen_made laws.poly x y r (room (has_no_room old out)) proper_x proper_y passes d) a)
+      (λ x y proper_x proper_y a. makes_poly out (widen (has_no_room old out) x y) (IsWidening (set_of x) (set_of y)) (λ r kept_r passes d. widen_made laws.poly x y r (room (has_no_room old out)) proper_x proper_y kept_r passes d) a)
       (put_two as_poly entry.Poly poly_there out (widen (has_no_room old out)) (poly_of old p) (poly_of old q) h)
   accepted_does laws (command.Read out ext) h = asks (says []) (text ≡ []) (λ passes e. e) h
   accepted_does laws (command.Write p ext) h =
@@ -379,11 +379,11 @@ module _ (old new : Table) (text : List ℕ) (kept : AreKept old) where
       (put_one as_powerset entry.Powerset powerset_there out (powersets.pset (has_no_room old out)) (poly_of old p) h)
   accepted_does laws (command.OfTwoPowersets op out s t) h =
       of_powersets s t _ (λ x y. Makes values.Union out (unions.IsCombined op x y) (named old) text (named new))
-      (λ x y kept_x kept_y a. makes_powerset out (powersets.of_two_powersets op (has_no_room old out) x y) (unions.IsCombined op (said_powerset x) (said_powerset y)) (λ u kept_u passes d. combined_made laws.unions op x y u (room (has_no_room old out)) kept_x kept_y passes d) a)
+      (λ x y kept_x kept_y a. makes_powerset out (powersets.of_two_powersets op (has_no_room old out) x y) (unions.IsCombined op (said_powerset x) (said_powerset y)) (λ u kept_u passes d. combined_made laws.unions op x y u (room (has_no_room old out)) kept_x kept_y kept_u passes d) a)
       (put_two as_powerset entry.Powerset powerset_there out (powersets.of_two_powersets op (has_no_room old out)) (powerset_of old s) (powerset_of old t) h)
   accepted_does laws (command.Member out s i) h =
       of_powerset s _ (λ x. Makes values.Polyhedron out (unions.IsMember i x) (named old) text (named new))
-      (λ x kept_x a. makes_poly out (powersets.member (has_no_room old out) i x) (unions.IsMember i (said_powerset x)) (λ r kept_r passes d. member_made i x r (room (has_no_room old out)) passes d) a)
+      (λ x kept_x a. makes_poly out (powersets.member (has_no_room old out) i x) (unions.IsMember i (said_powerset x)) (λ r kept_r passes d. member_made i x r (room (has_no_room old out)) kept_x kept_r passes d) a)
       (put_one as_poly entry.Poly poly_there out (powersets.member (has_no_room old out) i) (powerset_of old s) h)
   accepted_does laws (command.Psize s) h =
       of_powerset s _ (λ x. Asks (named old) (named new) (unions.TellsMembers x text)) (λ x kept_x a. asks (powersets.psize x) (unions.TellsMembers (said_powerset x) text) (λ passes d. psize_true x text d) a) (tell_one powersets.psize (powerset_of old s) h)
@@ -393,7 +393,7 @@ module _ (old new : Table) (text : List ℕ) (kept : AreKept old) where
       (tell_two powersets.covers (powerset_of old s) (powerset_of old t) h)
   accepted_does laws (command.Rank out r) h =
       of_poly r _ (λ x. Makes values.Polyhedron out (unions.AreRankings x) (named old) text (named new))
-      (λ q proper a. makes_poly out (rankings.rank (has_no_room old out) q) (unions.AreRankings (set_of q)) (λ s kept_s passes d. rank_made q s (room (has_no_room old out)) passes d) a)
+      (λ q proper a. makes_poly out (rankings.rank (has_no_room old out) q) (unions.AreRankings (set_of q)) (λ s kept_s passes d. rank_made q s (room (has_no_room old out)) kept_s passes d) a)
       (put_one as_poly entry.Poly poly_there out (rankings.rank (has_no_room old out)) (poly_of old r) h)
   accepted_does laws (command.Ranking r) h =
       of_poly r _ (λ x. Asks (named old) (named new) (unions.TellsRanking x text)) (λ q proper a. asks (rankings.ranking q) (unions.TellsRanking (set_of q) text) (λ passes d. ranking_true laws.texts laws.ranking q text no_fault passes d) a)
@@ -416,7 +416,7 @@ module _ (old new : Table) (text : List ℕ) (kept : AreKept old) where
       (tell_one shapes.shape_print (shape_of old s) h)
   accepted_does laws (command.ShapePoly out s) h =
       of_shape s _ (λ x. Makes values.Polyhedron out (said_shapes.IsSetOfShape x) (named old) text (named new))
-      (λ x kept_x a. makes_poly out (shapes.shape_poly (has_no_room old out) x) (said_shapes.IsSetOfShape x) (λ p kept_p passes d. spoly_made x p d) a)
+      (λ x kept_x a. makes_poly out (shapes.shape_poly (has_no_room old out) x) (said_shapes.IsSetOfShape x) (λ p kept_p passes d. spoly_made x p kept_p d) a)
       (put_one as_poly entry.Poly poly_there out (shapes.shape_poly (has_no_room old out)) (shape_of old s) h)
   accepted_does laws (command.Hybrid out s) h =
       of_system s _ (λ x. Makes values.Automaton out (said_systems.IsStill x) (named old) text (named new))

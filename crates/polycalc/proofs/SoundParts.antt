@@ -53,6 +53,7 @@ use Rattle.script_text.specs.declared.command.ShapeOperator.TheVariants as shape
 use Rattle.line_values.specs.Texts as texts
 use Rattle.line_values.specs.Meaning.{IsTold}
 use Rattle.line_values.specs.Order.{Conditions, Passes}
+use Rattle.line_values.specs.Proper.{IsProper}
 use Rattle.calc_state.specs.Systems as made
 use Rattle.calc_state.specs.Hybrids as made_automata
 use Rattle.calc_state.specs.Parts as parts
@@ -65,7 +66,7 @@ use Rattle.soundness.specs.Answers.{line}
 use Rattle.soundness.specs.Unions as unions
 use Rattle.soundness.specs.Shapes as shapes
 use Rattle.soundness.specs.Systems.{IsClosedOver, IsEmptySystem, IsWithInitial, IsWithTransition, IsStill, with_part, IsWithPart, IncludeInitial, AreClosedUnder, AreInvariant, IncludeInitialWithin, AreClosedUnderFlow, AreClosedUnderJumps, AreReached}
-use Rattle.soundness.proofs.PointLaws.{TextLaws, via, turn, is_nnc, set_of, set_is, moved, within}
+use Rattle.soundness.proofs.PointLaws.{TextLaws, via, turn, is_nnc, set_of, is_over, set_is, moved, within}
 use Rattle.soundness.proofs.Operands.{one_topology, one_number, below}
 use Rattle.soundness.proofs.TrueAnswers.{told_so}
 use Rattle.soundness.proofs.ShapeRows.{shape_fits}
@@ -317,27 +318,36 @@ either_way f g = (
   ],
 )
 
-pub combined_made : UnionLaws → (op : PowersetOperator) (s t u : FinitePowerset) (others : Conditions) → IsKeptPowerset s → IsKeptPowerset t → Passes (made_powersets.alike_unions s t others) → made_powersets.IsPowersetOf op s t u →
+members_alike : (u : FinitePowerset) → IsKeptPowerset u → All (unions.IsMemberOf (powerset_of u)) (map set_of u.members)
+members_alike u kept = All-map (unions.IsMemberOf (powerset_of u)) set_of u.members (λ i d l. record { kind = ap is_nnc (kept.each i d l).over.same_topology; variables = (kept.each i d l).over.same_dim })
+
+pub combined_made : UnionLaws → (op : PowersetOperator) (s t u : FinitePowerset) (others : Conditions) → IsKeptPowerset s → IsKeptPowerset t → IsKeptPowerset u → Passes (made_powersets.alike_unions s t others) → made_powersets.IsPowersetOf op s t u →
     unions.IsCombined op (powerset_of s) (powerset_of t) (powerset_of u)
-combined_made laws Join s t u others kept_s kept_t passes h =
+combined_made laws Join s t u others kept_s kept_t kept_u passes h =
     let alike = unions_alike s t others passes in
     record {
       operands = alike;
       kind = ap is_nnc h.same_topology;
       variables = h.same_dim;
+      members = members_alike u kept_u;
       points = λ v is. via (turn (in_union u v)) (via (laws.join s t u kept_s kept_t alike.variables h v is) (either_way (in_union s v) (in_union t v)));
     }
-combined_made laws Meet s t u others kept_s kept_t passes h =
+combined_made laws Meet s t u others kept_s kept_t kept_u passes h =
     let alike = unions_alike s t others passes in
     record {
       operands = alike;
       kind = ap is_nnc h.same_topology;
       variables = h.same_dim;
+      members = members_alike u kept_u;
       points = λ v is. via (turn (in_union u v)) (via (laws.meet s t u kept_s kept_t alike.variables h v is) (both_ways (in_union s v) (in_union t v)));
     }
 
-pub member_made : (i : ℕ) (s : FinitePowerset) (r : Polyhedron) (others : Conditions) → Passes (made_powersets.misses_member (length s.members) i others) → slice_get s.members (i - 1) ≡ Some r → unions.IsMember i (powerset_of s) (set_of r)
-member_made i s r others passes h = (counted, slice_get-map set_of s.members (i - 1) ∙ ap (option_map set_of) h)
+pub member_made : (i : ℕ) (s : FinitePowerset) (r : Polyhedron) (others : Conditions) → IsKeptPowerset s → IsProper r → Passes (made_powersets.misses_member (length s.members) i others) → slice_get s.members (i - 1) ≡ Some r → unions.IsMember i (powerset_of s) (set_of r)
+member_made i s r others kept fit passes h = record {
+  counted = counted;
+  is = slice_get-map set_of s.members (i - 1) ∙ ap (option_map set_of) h;
+  over = is_over s.topology s.dim r fit (all_at (powersets.IsMember s.topology s.dim) s.members (i - 1) r kept.each h).over;
+}
   where
     counted : 0 < i
     counted = elim (cases_lt 0 i) [
@@ -360,8 +370,8 @@ cover_true s t reply others passes h = record { operands = unions_alike s t othe
 pub relates : (r : Polyhedron) (others : Conditions) → Passes (made_rankings.relates_states r others) → unions.IsRelation (set_of r)
 relates r others passes = record { closed = ap is_nnc (one_topology r.topology Closed passes.1.1.0); even = one_number (r.cons.dim % 2) 0 passes.1.1.1.0 }
 
-pub rank_made : (r s : Polyhedron) (others : Conditions) → Passes (made_rankings.relates_states r others) → rankings.IsRankingSet (r.cons.dim / 2) r s → unions.AreRankings (set_of r) (set_of s)
-rank_made r s others passes h = record { relation = relates r others passes; set = set_is Closed (r.cons.dim / 2 + 1) (functions.IsRanking (r.cons.dim / 2) r.cons) s h.over h.points }
+pub rank_made : (r s : Polyhedron) (others : Conditions) → IsProper s → Passes (made_rankings.relates_states r others) → rankings.IsRankingSet (r.cons.dim / 2) r s → unions.AreRankings (set_of r) (set_of s)
+rank_made r s others fit passes h = record { relation = relates r others passes; set = set_is Closed (r.cons.dim / 2 + 1) (functions.IsRanking (r.cons.dim / 2) r.cons) s fit h.over h.points }
 
 function_cases : TextLaws → (r : Polyhedron) (text reply : List ℕ) → reply ≡ line text → ranking.IsWithoutRanking (r.cons.dim / 2) r.cons text ⊎ ranking.IsOfRanking (r.cons.dim / 2) r.cons text →
     unions.TellsFunction (set_of r) reply ⊎ (((f : List ℤ) → IsPoint (r.cons.dim / 2 + 1) f → ¬ (functions.IsRanking (r.cons.dim / 2) r.cons f)) × (reply ≡ line (codes "none")))
@@ -410,8 +420,8 @@ shape_set shape_operator.Hull s t r h = h
 pub shapes_made : (op : ShapeOperator) (s t r : DifferenceShape) (others : Conditions) → Passes (made_shapes.of_one_dim s t others) → made_shapes.IsShapeBy op s t r → shapes.IsCombined op s t r
 shapes_made op s t r others passes h = record { operands = one_number s.dim t.dim passes.1.1.1.0; variables = h.dim; set = shape_set op s t r h.set }
 
-pub spoly_made : (s : DifferenceShape) (p : Polyhedron) → made_shapes.IsPolyOfShape s p → shapes.IsSetOfShape s (set_of p)
-spoly_made s p h = record { closed = ap is_nnc h.topology; variables = h.dim; points = h.points }
+pub spoly_made : (s : DifferenceShape) (p : Polyhedron) → IsProper p → made_shapes.IsPolyOfShape s p → shapes.IsSetOfShape s (set_of p)
+spoly_made s p fit h = record { over = is_over Closed s.dim p fit (record { same_topology = h.topology; same_dim = h.dim }); points = h.points }
 
 pub inclusion_true : (s t : DifferenceShape) (reply : List ℕ) (others : Conditions) → Passes (made_shapes.of_one_dim s t others) → IsTold (Includes s t) reply → shapes.TellsInclusion s t reply
 inclusion_true s t reply others passes h = record { operands = one_number s.dim t.dim passes.1.1.1.0; tells = told_so (Includes s t) reply h }

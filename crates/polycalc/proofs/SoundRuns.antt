@@ -10,7 +10,7 @@ use Rattle.reply_text.specs.Overflows.{kind_name, row_text}
 use Rattle.reply_text.specs.declared.faults.Fault.{Fault}
 use Rattle.reply_text.specs.declared.faults.Fault.TheVariants as fault
 use Rattle.cons_sys.specs.Constraints.{In}
-use Rattle.poly_pair.specs.Polyhedra.{Polyhedron}
+use Rattle.poly_pair.specs.Polyhedra.{Polyhedron, IsKept}
 use Rattle.cdd_reading.specs.declared.format.Format.{Format}
 use Rattle.cdd_reading.specs.declared.format.Format.TheVariants.{Ine, Ext}
 use Rattle.cdd_reading.specs.Refusals.{other}
@@ -42,7 +42,7 @@ use Rattle.job_words.specs.declared.job.Job.TheVariants as job
 use Rattle.polycalc.specs.declared.status.Status.{Status}
 use Rattle.soundness.specs.Files.{IsOfFile}
 use Rattle.soundness.specs.Replies.{OpenFile, State, IsRefusal, file_begun, IsReply, IsEndReply, AreReplies, IsWrittenTo, IsConverted}
-use Rattle.soundness.proofs.PointLaws.{turn, set_of, set_is}
+use Rattle.soundness.proofs.PointLaws.{turn, set_of, closed_is_over}
 use Rattle.polycalc.proofs.SoundValues.{named, named_put, AreKept, put_kept, after_kept}
 use Rattle.polycalc.proofs.SoundCommands.{Laws, accepted_does}
 use Rattle.polycalc.proofs.RefusalLines.{fault_plain, overflow_plain}
@@ -74,14 +74,14 @@ overflown over = record {
 }
 
 -- ---- files
-file_is : (ext : Bool) (bytes : List ℕ) (p : Polyhedron) (list : Listed) → poly_files.IsListOf (format_of ext) bytes list → poly_files.IsOfList list p → IsOfFile ext bytes (set_of p)
-file_is false bytes p (Cons cs) read set = record { system = cs; file = read; set = set_is _ cs.dim (In cs) p set.over (λ v is. turn (set.points v is)) }
-file_is false bytes p (Gens gs) read set = absurd read
-file_is true bytes p (Cons cs) read set = absurd read
-file_is true bytes p (Gens gs) read set = record { system = gs; file = read; set = set_is _ gs.dim (Span gs) p set.over (λ v is. turn (set.points v is)) }
+file_is : (ext : Bool) (bytes : List ℕ) (p : Polyhedron) (list : Listed) → IsKept p → poly_files.IsListOf (format_of ext) bytes list → poly_files.IsOfList list p → IsOfFile ext bytes (set_of p)
+file_is false bytes p (Cons cs) kept read set = record { system = cs; file = read; set = record { over = closed_is_over cs.dim p kept set.over; points = λ v is. turn (set.points v is) } }
+file_is false bytes p (Gens gs) kept read set = absurd read
+file_is true bytes p (Cons cs) kept read set = absurd read
+file_is true bytes p (Gens gs) kept read set = record { system = gs; file = read; set = record { over = closed_is_over gs.dim p kept set.over; points = λ v is. turn (set.points v is) } }
 
-of_file : (ext : Bool) (bytes : List ℕ) (p : Polyhedron) → poly_files.IsOfFile (format_of ext) bytes p → IsOfFile ext bytes (set_of p)
-of_file ext bytes p h = file_is ext bytes p h.list h.read h.set
+of_file : (ext : Bool) (bytes : List ℕ) (p : Polyhedron) → IsKept p → poly_files.IsOfFile (format_of ext) bytes p → IsOfFile ext bytes (set_of p)
+of_file ext bytes p kept h = file_is ext bytes p h.list kept h.read h.set
 
 -- ---- a line
 -- the reply to a line, and what is kept
@@ -110,7 +110,7 @@ ended table file text new (Answered lines) kept ends r shut = record {
     ends = ends;
     makes = record {
       made = set_of r.polyhedron;
-      is = of_file file.ext (open_files.with_line file text).text r.polyhedron r.set;
+      is = of_file file.ext (open_files.with_line file text).text r.polyhedron r.proper.kept r.set;
       names = ap named r.table ∙ named_put table file.name (entry.Poly r.polyhedron);
       said = r.lines_are;
     };
@@ -152,12 +152,12 @@ pub script_sound : Laws → (script : List ℕ) (replies : List Reply) (new : ca
 script_sound laws script replies new run = record { replies = map reply_bytes (replies ++ at_end new); are = run_sound laws (closed []) (lines script) replies new tt run; all = all_bytes (replies ++ at_end new) }
 
 -- ---- a file that is converted
-converted : (want : Format) (bytes text : List ℕ) (p : Polyhedron) → poly_files.IsOfFile want bytes p → poly_files.IsOfFile (other want) text p → IsConverted (is_ext want) bytes text
-converted Ine bytes text p h k = inr (set_of p, of_file false bytes p h, of_file true text p k)
-converted Ext bytes text p h k = inr (set_of p, of_file true bytes p h, of_file false text p k)
+converted : (want : Format) (bytes text : List ℕ) (p : Polyhedron) → IsKept p → poly_files.IsOfFile want bytes p → poly_files.IsOfFile (other want) text p → IsConverted (is_ext want) bytes text
+converted Ine bytes text p kept h k = inr (set_of p, of_file false bytes p kept h, of_file true text p kept k)
+converted Ext bytes text p kept h k = inr (set_of p, of_file true bytes p kept h, of_file false text p kept k)
 
 pub file_sound : (want : Format) (bytes : List ℕ) (reply : Reply) → ConvertsTo want bytes reply → IsConverted (is_ext want) bytes (reply_bytes reply)
-file_sound want bytes (Answered text) h = converted want bytes text h.1.polyhedron h.1.of_file.set h.1.same_points
+file_sound want bytes (Answered text) h = converted want bytes text h.1.polyhedron h.1.of_file.kept h.1.of_file.set h.1.same_points
 file_sound want bytes (Refused f) h = inl (refused f)
 file_sound want bytes (Overflows over) h = inl (overflown over)
 

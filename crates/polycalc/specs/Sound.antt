@@ -13,7 +13,8 @@ abbrev pub is_ext : Format → Bool
 is_ext Ine = false
 is_ext Ext = true
 
--- what is written to a script is the replies to its lines; to a file a refusal, or the other file of the same points; nothing is said of a sample
+-- what is written to a script is the replies to its lines; to a file a refusal, or the other file
+-- of the same points; nothing is said of a sample
 abbrev pub IsTrueOf : Job → List ℕ → List ℕ → Type 0
 IsTrueOf job.Run script written = IsWrittenTo script written
 IsTrueOf (job.Convert want) file written = IsConverted (is_ext want) file written
@@ -27,4 +28,5 @@ pub record IsSound (task : Job) (script before : List ℕ) (held : Option (List 
 
 -- what is answered is true of points
 abbrev pub AnswersAreSound : Type 0
-AnswersAreSound = (task : Job) (script before : List ℕ) (held : Option (List ℕ)) (status : Status) → IsAnswered task script before held status → IsSound task script before held
+AnswersAreSound = (task : Job) (script before : List ℕ) (held : Option (List ℕ)) (status : Status) →
+    IsAnswered task script before held status → IsSound task script before held

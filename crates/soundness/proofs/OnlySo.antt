@@ -214,7 +214,7 @@ vexpr_form dim ts row (expressions.sum us u is) w h = widened (sum_of vterm) vex
 -- what may stand over a number
 over_form : (f : Form) (Means : Tokens → List ℤ → Type 0) → ((ts : Tokens) (row : List ℤ) → Means ts row → (w : List ℕ) → AreTokens ts w → Matches (alone f) w) → (ts : Tokens) (q : List ℤ × ℕ) → IsOver Means ts q → (w : List ℕ) → AreTokens ts w → Matches (alone (over_nat f)) w
 over_form f Means law ts q (expressions.whole us u m) w h = widened f (over_nat f) (λ x k. inl k) w (law us u m w h)
-over_form f Means law ts q (expressions.divided us t u n m is) w h =
+over_form f Means law ts q (expressions.divided us t u n m is positive) w h =
     widened (symbol 40 ⋯ f ⋯ symbol 41 ⋯ symbol 47 ⋯ nat) (over_nat f) (λ x k. inr k) w
       (token_then (symbol 40) (f ⋯ symbol 41 ⋯ symbol 47 ⋯ nat) (codes "(") (us ++ codes ")" ∷ codes "/" ∷ t ∷ []) w (the_symbol 40)
         (λ v k. tokens_then f (symbol 41 ⋯ symbol 47 ⋯ nat) us (codes ")" ∷ codes "/" ∷ t ∷ []) v (law us u m)

@@ -1,5 +1,6 @@
 -- What the tests of a command say of its operands.
-use Rattle.std.proofs.Common.{◌≡◌, ◌≢◌, ℕ, ◌+◌, ◌<◌, ◌≤◌, Bool, true, false, refl, ap, inl, inr, arith}
+use Rattle.std.proofs.Common.{◌≡◌, ◌≢◌, ℕ, ◌+◌, ◌<◌, ◌≤◌, List, [], ◌∷◌, All, Bool, true, false, refl, ap, inl, inr, arith}
+use Rattle.std.proofs.lemmas.List.Elements.{All-nil, All-cons, All-head, All-tail}
 use Rattle.std.proofs.lemmas.Bool.{cases_lt}
 use Rattle.poly_pair.specs.Polyhedra.{Polyhedron}
 use Rattle.poly_pair.specs.declared.topology.Topology.{Topology}
@@ -33,6 +34,9 @@ below m n h =
       | inr least ↦ absurd (h (omega (arith, least)))
     ]
 
+no_less : (m n : ℕ) → m ≤ n → n < m → ⊥
+no_less m n most less = omega (arith, most, less)
+
 pub one_number : (m n : ℕ) → ¬ (m ≢ n) → m ≡ n
 one_number m n h =
     elim (cases_lt m n) [
@@ -42,6 +46,14 @@ one_number m n h =
         | inr most ↦ omega (arith, least, most)
       ]
     ]
+
+-- numbers of which none is too large
+pub all_below : (dim : ℕ) (vars : List ℕ) → ¬ (¬ (All (λ (i : ℕ). i < dim) vars)) → All (λ (i : ℕ). i < dim) vars
+all_below dim [] h = All-nil (λ (i : ℕ). i < dim)
+all_below dim (v ∷ vars) h =
+    All-cons (λ (i : ℕ). i < dim) v vars
+      (below dim v (λ most. h (λ all. no_less dim v most (All-head (λ (i : ℕ). i < dim) v vars all))))
+      (all_below dim vars (λ n. h (λ all. n (All-tail (λ (i : ℕ). i < dim) v vars all))))
 
 -- two polyhedra
 pub are_alike : (p q : Polyhedron) (others : Conditions) → Passes (alike p q others) → AreAlike (set_of p) (set_of q)

@@ -1,22 +1,31 @@
 -- The points of polyhedra, and what their texts say.
-use Rattle.std.proofs.Common.{◌≡◌, ◌↔◌, ℕ, ◌<◌, List, ◌++◌, ap, sym, subst, Bool, true, false, ℤ, pos}
+use Rattle.std.proofs.Common.{◌≡◌, ◌↔◌, inl, inr, ℕ, ◌+◌, ◌<◌, List, [], ◌∷◌, ◌++◌, length, ap, sym, ◌∙◌, subst, Bool, true, false, ℤ, pos, All}
+use Rattle.std.specs.Prelude.{slice_index_or}
 use Rattle.row_core.specs.Points.{IsPoint}
 use Rattle.cons_sys.specs.declared.kind.ConKind.{ConKind}
 use Rattle.cons_sys.specs.declared.kind.ConKind.TheVariants.{Eq, Ge, Gt}
-use Rattle.cons_sys.specs.Constraints.{Constraint, Constraints, In, Satisfies}
+use Rattle.cons_sys.specs.Constraints.{Constraint, Constraints, In, Satisfies, FitDimension}
 use Rattle.gens_sys.specs.Generators.{Generator, Generators}
 use Rattle.gens_sys.specs.Spans.{Span}
-use Rattle.stored_systems.specs.PointSets.{IsWithin}
+use Rattle.stored_systems.specs.PointSets.{IsWithin, AreWide}
+use Rattle.stored_systems.specs.StoredForms.{IsStored, false_row}
+use Rattle.stored_systems.proofs.StoredPair.{pair_wide}
+use Rattle.stored_systems.proofs.Stored.{stored_is_closed}
+use Rattle.elapse.proofs.ElapseLaws.{false_for}
+use Rattle.std.proofs.lemmas.List.Elements.{All-nil, All-cons}
 use Rattle.poly_pair.specs.declared.topology.Topology.{Topology}
 use Rattle.poly_pair.specs.declared.topology.Topology.TheVariants.{Closed, Nnc}
-use Rattle.poly_pair.specs.Polyhedra.{Polyhedron, IsOver}
+use Rattle.poly_pair.specs.Polyhedra as poly
+use Rattle.poly_pair.specs.Polyhedra.{Polyhedron, IsKept}
+use Rattle.lattice_ops.proofs.KeptSets.{constraint_for}
+use Rattle.line_values.specs.Proper.{IsProper}
 use Rattle.poly_pair.specs.TopologyConstraints as topology
 use Rattle.script_text.specs.Line.{Spells}
 use Rattle.script_text.specs.declared.command.Command.{Command}
 use Rattle.term_text.specs.Texts.{IsExpr, IsFrac, IsPoint as IsPointOfText}
 use Rattle.term_text.specs.Systems.{IsCon, IsCons}
 use Rattle.expr_text.specs.GeneratorSystems.{IsGens}
-use Rattle.soundness.specs.Points.{PointSet, IsSetOf, IsKindFor, IsConstraintFor, IsInSmallest}
+use Rattle.soundness.specs.Points.{PointSet, IsOver, IsSetOf, IsKindFor, IsConstraintFor, IsInSmallest}
 use Rattle.soundness.specs.Sets.{constraints, generators}
 use Rattle.soundness.specs.TextsExpressions.{ExpressionText, FractionText}
 use Rattle.soundness.specs.TextsSystems.{ConstraintText, ConstraintsText, PointText, GeneratorsText}
@@ -67,16 +76,13 @@ is_nnc Nnc = true
 abbrev pub set_of : Polyhedron → PointSet
 set_of p = record { nnc = is_nnc p.topology; cons = p.cons }
 
-pub set_is : (t : Topology) (dim : ℕ) (Has : List ℤ → Type 0) (p : Polyhedron) → IsOver t dim p → ((v : List ℤ) → IsPoint dim v → In p.cons v ↔ Has v) → IsSetOf (is_nnc t) dim Has (set_of p)
-set_is t dim Has p over points = record { kind = ap is_nnc over.same_topology; variables = over.same_dim; points = points }
-
 pub moved : (m n : ℕ) (v : List ℤ) → m ≡ n → IsPoint m v → IsPoint n v
 moved m n v e is = subst (λ (k : ℕ). IsPoint k v) e is
 
 pub within : (n : ℕ) (cs : Constraints) (v : List ℤ) → cs.dim ≡ n → IsPoint n v → In cs v → IsWithin cs v
 within n cs v e is holds = record { point = moved n cs.dim v (sym e) is; holds = holds }
 
--- ---- the smallest set
+-- ---- constraints of a kind
 kind_to : (t : Topology) (kind : ConKind) → topology.IsKindFor t kind → IsKindFor (is_nnc t) kind
 kind_to Closed Eq h = h
 kind_to Closed Ge h = h
@@ -95,6 +101,39 @@ for_to t dim c h = record { wide = h.wide; kind = kind_to t c.1 h.kind }
 pub for_from : (t : Topology) (dim : ℕ) (c : Constraint) → IsConstraintFor (is_nnc t) dim c → topology.IsConstraintFor t dim c
 for_from t dim c h = record { wide = h.wide; kind = kind_from t c.1 h.kind }
 
+-- a stored polyhedron has only constraints that its set may have
+pub is_over : (t : Topology) (dim : ℕ) (p : Polyhedron) → IsProper p → poly.IsOver t dim p → IsOver (is_nnc t) dim (set_of p)
+is_over t dim p proper over = record {
+  kind = ap is_nnc over.same_topology;
+  variables = over.same_dim;
+  rows = λ i d h. for_to t dim (slice_index_or p.cons.list i d) (constraint_for t dim p over proper.kept proper.cons i d h);
+}
+
+-- the stored constraints of a closed set have a column for each variable and one more
+stored_wide : (cs : Constraints) (gs : Generators) → IsStored cs gs → AreWide cs
+stored_wide cs gs (inl e) =
+    subst (λ (xs : List Constraint). All (λ c. length c.0 ≡ cs.dim + 1) xs) (sym e.cons)
+    (All-cons (λ (c : Constraint). length c.0 ≡ cs.dim + 1) (false_row cs.dim, Ge) [] (false_for Closed cs.dim).wide (All-nil (λ (c : Constraint). length c.0 ≡ cs.dim + 1)))
+stored_wide cs gs (inr f) =
+    subst (λ (xs : List Constraint). All (λ c. length c.0 ≡ cs.dim + 1) xs) (sym f.cons) (pair_wide cs.dim f.lines f.rays f.equalities f.inequalities f.systems)
+
+-- so a closed polyhedron needs no more than what it keeps
+pub closed_is_over : (dim : ℕ) (p : Polyhedron) → IsKept p → poly.IsOver Closed dim p → IsOver false dim (set_of p)
+closed_is_over dim p kept over =
+    let stored : IsStored p.cons p.gens = subst (λ (t : Topology). poly.IsStoredAs t p.cons p.gens) over.same_topology kept.stored in
+    record {
+      kind = ap is_nnc over.same_topology;
+      variables = over.same_dim;
+      rows = λ i d h. for_to Closed dim (slice_index_or p.cons.list i d) (record {
+        wide = stored_wide p.cons p.gens stored i d h ∙ ap (λ (n : ℕ). n + 1) over.same_dim;
+        kind = (stored_is_closed p.cons p.gens stored).cons i d h;
+      });
+    }
+
+pub set_is : (t : Topology) (dim : ℕ) (Has : List ℤ → Type 0) (p : Polyhedron) → IsProper p → poly.IsOver t dim p → ((v : List ℤ) → IsPoint dim v → In p.cons v ↔ Has v) → IsSetOf (is_nnc t) dim Has (set_of p)
+set_is t dim Has p proper over points = record { over = is_over t dim p proper over; points = points }
+
+-- ---- the smallest set
 -- the points at which each constraint holds that holds at all of some
 pub smallest : (t : Topology) (dim : ℕ) (Has : List ℤ → Type 0) (Valid : Constraint → Type 0) → ((c : Constraint) → Valid c ↔ ((u : List ℤ) → Has u → Satisfies u c)) → (v : List ℤ) →
     ((c : Constraint) → topology.IsConstraintFor t dim c → Valid c → Satisfies v c) ↔ IsInSmallest (is_nnc t) dim Has v

@@ -10,7 +10,7 @@ use Rattle.gens_sys.specs.declared.kind.GenKind.TheVariants.{Line, Ray, ClosureP
 use Rattle.term_text.specs.Terms.{AreWithin}
 use Rattle.term_text.specs.Values.{alone_by}
 use Rattle.expr_text.specs.Generators.{GeneratorTerms, gen_by, gens_by, further_gens_by}
-use Rattle.expr_text.specs.GeneratorSystems.{VectorStays, IsVector, IsGensOf, IsGens}
+use Rattle.expr_text.specs.GeneratorSystems.{VectorStays, IsVector, HasDivisor, IsGensOf, IsGens}
 use Rattle.expr_text.specs.GeneratorSystems as stored_gens
 use Rattle.soundness.specs.TextsSystems as systems
 use Rattle.soundness.specs.TextsSystems.{IsGenerator, AreListed, AreGenerators}
@@ -26,37 +26,39 @@ pub record IsGood (dim : ℕ) (g : GeneratorTerms) (stored : Generator) : Type 0
   pub within : AreWithin dim g.terms
   pub short : All IsShort g.terms
   pub low : g.last < 2 ^ 127
+  pub positive : HasDivisor g.kind g.last
   pub is : stored_gens.IsStored dim g stored
 
-good_gens : (dim : ℕ) (gs : List GeneratorTerms) (stored : List Generator) → stored_gens.AllWithin dim gs → stored_gens.AllStay dim gs → stored_gens.AreStored dim gs stored → AreRelated (IsGood dim) gs stored
-good_gens dim [] [] within stay h = tt
-good_gens dim [] (r ∷ rs) within stay h = absurd h
-good_gens dim (g ∷ gs) [] within stay h = absurd h
-good_gens dim (g ∷ gs) (r ∷ rs) within stay h =
+good_gens : (dim : ℕ) (gs : List GeneratorTerms) (stored : List Generator) → stored_gens.AllWithin dim gs → stored_gens.AllStay dim gs → stored_gens.AllHaveDivisors gs → stored_gens.AreStored dim gs stored → AreRelated (IsGood dim) gs stored
+good_gens dim [] [] within stay divisors h = tt
+good_gens dim [] (r ∷ rs) within stay divisors h = absurd h
+good_gens dim (g ∷ gs) [] within stay divisors h = absurd h
+good_gens dim (g ∷ gs) (r ∷ rs) within stay divisors h =
     let here : VectorStays dim g.terms g.last = All-head (λ (g : GeneratorTerms). VectorStays dim g.terms g.last) g gs stay in
     (record {
       within = All-head (λ (g : GeneratorTerms). AreWithin dim g.terms) g gs within;
       short = here.terms.numbers;
       low = here.last_entry;
+      positive = All-head (λ (g : GeneratorTerms). HasDivisor g.kind g.last) g gs divisors;
       is = h.0;
     },
-      good_gens dim gs rs (All-tail (λ (g : GeneratorTerms). AreWithin dim g.terms) g gs within) (All-tail (λ (g : GeneratorTerms). VectorStays dim g.terms g.last) g gs stay) h.1)
+      good_gens dim gs rs (All-tail (λ (g : GeneratorTerms). AreWithin dim g.terms) g gs within) (All-tail (λ (g : GeneratorTerms). VectorStays dim g.terms g.last) g gs stay) (All-tail (λ (g : GeneratorTerms). HasDivisor g.kind g.last) g gs divisors) h.1)
 
 further_same : (n : ℕ) (w : List ℕ) (m : Times (Matches (blanks · (symbol 44 ⋯ gen_cases))) n w) → further_gens_by n w m ≡ further_of gen_cases gen_by n w m
 further_same zero w none = refl
 further_same (suc n) w (u, v, e, (b1, w1, e1, blanks1, (comma, w2, e2, is_comma, (b2, x, e3, blanks2, is))), others) = ap (λ (gs : List GeneratorTerms). gen_by x is ∷ gs) (further_same n v others)
 
 module _ (dim : ℕ) where
-  gen_is : (w : List ℕ) (m : Matches gen_cases w) (row : List ℤ) → AreWithin dim (gen_by w m).terms → All IsShort (gen_by w m).terms → (gen_by w m).last < 2 ^ 127 → IsVector dim (gen_by w m).terms (gen_by w m).last row → Is (IsGenerator dim) w (row, (gen_by w m).kind)
-  gen_is w (inl point) row within short low v = point_law dim w point row within short low v.wide v.coordinates v.last_cell
-  gen_is w (inr (inl closure_point)) row within short low v = enclosed_over dim (codes "c(") ClosurePoint systems.closure_point w closure_point row within short low v.wide v.coordinates v.last_cell
-  gen_is w (inr (inr (inl ray))) row within short low v = enclosed_direction dim (codes "r(") Ray systems.ray w ray row within short v.wide v.coordinates v.last_cell
-  gen_is w (inr (inr (inr line_text))) row within short low v = enclosed_direction dim (codes "l(") Line systems.straight w line_text row within short v.wide v.coordinates v.last_cell
+  gen_is : (w : List ℕ) (m : Matches gen_cases w) (row : List ℤ) → AreWithin dim (gen_by w m).terms → All IsShort (gen_by w m).terms → (gen_by w m).last < 2 ^ 127 → HasDivisor (gen_by w m).kind (gen_by w m).last → IsVector dim (gen_by w m).terms (gen_by w m).last row → Is (IsGenerator dim) w (row, (gen_by w m).kind)
+  gen_is w (inl point) row within short low positive v = point_law dim w point row within short low positive v.wide v.coordinates v.last_cell
+  gen_is w (inr (inl closure_point)) row within short low positive v = enclosed_over dim (codes "c(") ClosurePoint systems.closure_point w closure_point row within short low positive v.wide v.coordinates v.last_cell
+  gen_is w (inr (inr (inl ray))) row within short low positive v = enclosed_direction dim (codes "r(") Ray systems.ray w ray row within short v.wide v.coordinates v.last_cell
+  gen_is w (inr (inr (inr line_text))) row within short low positive v = enclosed_direction dim (codes "l(") Line systems.straight w line_text row within short v.wide v.coordinates v.last_cell
 
   gen_element : (w : List ℕ) (m : Matches gen_cases w) (stored : Generator) → IsGood dim (gen_by w m) stored → HasRelated (IsGenerator dim) IsScaled w stored
   gen_element w m stored g = record {
     element = (g.is.row, (gen_by w m).kind);
-    is = gen_is w m g.is.row g.within g.short g.low g.is.sums;
+    is = gen_is w m g.is.row g.within g.short g.low g.positive g.is.sums;
     related = record { multiple = g.is.primitive.multiple; kind = g.is.kind };
   }
 
@@ -74,7 +76,7 @@ module _ (dim : ℕ) where
 
 gens_alone : (dim : ℕ) (text : List ℕ) (system : Generators) (m : Matches (alone gens_cases) text) → IsGensOf dim (alone_by gens_cases gens_by text m) system → SaysGenerators dim text system
 gens_alone dim text system (b1, w1, e1, before, (x, b2, e2, is, behind)) h =
-    let q : HaveRelated (AreGenerators dim) IsScaled x system.list = gens_law dim x is system.list (good_gens dim (gens_by x is) system.list h.within h.stay h.stored) in
+    let q : HaveRelated (AreGenerators dim) IsScaled x system.list = gens_law dim x is system.list (good_gens dim (gens_by x is) system.list h.within h.stay h.divisors h.stored) in
     record {
       list = q.elements;
       is_text = record { tokens = q.are.tokens; split = alone_tokens q.are.tokens text b1 w1 x b2 e1 before e2 behind q.are.split; means = q.are.means };

@@ -236,11 +236,11 @@ pub record ReadsOver (Means : Tokens → List ℤ → Type 0) (dim : ℕ) (w : L
   pub cells : (j : ℕ) → j ≤ dim → cell row j ≡ s j
 
 -- a form's texts, perhaps over a divisor
-pub over_law : (dim : ℕ) (f : Form) (by : (w : List ℕ) → Matches f w → List Term) (Means : Tokens → List ℤ → Type 0) → ((w : List ℕ) (m : Matches f w) → AreWithin dim (by w m) → All IsShort (by w m) → Reads Means dim w (total dim (by w m))) → (w : List ℕ) (m : Matches (over_nat f) w) → AreWithin dim (ratio_by f by w m).terms → All IsShort (ratio_by f by w m).terms → (ratio_by f by w m).divisor < 2 ^ 127 → ReadsOver Means dim w (total dim (ratio_by f by w m).terms) (ratio_by f by w m).divisor
-over_law dim f by Means law w (inl is) within short low =
+pub over_law : (dim : ℕ) (f : Form) (by : (w : List ℕ) → Matches f w → List Term) (Means : Tokens → List ℤ → Type 0) → ((w : List ℕ) (m : Matches f w) → AreWithin dim (by w m) → All IsShort (by w m) → Reads Means dim w (total dim (by w m))) → (w : List ℕ) (m : Matches (over_nat f) w) → AreWithin dim (ratio_by f by w m).terms → All IsShort (ratio_by f by w m).terms → (ratio_by f by w m).divisor < 2 ^ 127 → 0 < (ratio_by f by w m).divisor → ReadsOver Means dim w (total dim (ratio_by f by w m).terms) (ratio_by f by w m).divisor
+over_law dim f by Means law w (inl is) within short low positive =
     let r = law w is within short in
     record { tokens = r.tokens; row = r.row; split = r.split; means = expressions.whole r.tokens r.row r.means; wide = r.wide; cells = r.cells }
-over_law dim f by Means law w (inr (opening, w1, e1, is_opening, (b1, w2, e2, blanks1, (expr, w3, e3, is_expr, (b2, w4, e4, blanks2, (closing, w5, e5, is_closing, (b3, w6, e6, blanks3, (slash, w7, e7, is_slash, (b4, digits, e8, blanks4, is_digits))))))))) within short low =
+over_law dim f by Means law w (inr (opening, w1, e1, is_opening, (b1, w2, e2, blanks1, (expr, w3, e3, is_expr, (b2, w4, e4, blanks2, (closing, w5, e5, is_closing, (b3, w6, e6, blanks3, (slash, w7, e7, is_slash, (b4, digits, e8, blanks4, is_digits))))))))) within short low positive =
     let r = law expr is_expr within short in
     let last : AreTokens (codes ")" ∷ codes "/" ∷ digits ∷ []) w4 =
         token_before (codes ")") (codes "/" ∷ digits ∷ []) w4 closing w5 e5 (symbol_is 41 closing is_closing)
@@ -254,7 +254,7 @@ over_law dim f by Means law w (inr (opening, w1, e1, is_opening, (b1, w2, e2, bl
         (behind_blanks (r.tokens ++ codes ")" ∷ codes "/" ∷ digits ∷ []) w1 b1 w2 e2 blanks1
           (tokens_of r.tokens (codes ")" ∷ codes "/" ∷ digits ∷ []) w2 expr w3 e3 r.split (behind_blanks (codes ")" ∷ codes "/" ∷ digits ∷ []) w3 b2 w4 e4 blanks2 last)));
       means = subst (λ (n : ℕ). IsOver Means (codes "(" ∷ r.tokens ++ codes ")" ∷ codes "/" ∷ digits ∷ []) (r.row, n)) (sym (small_size digits (size_of digits) refl low))
-        (expressions.divided r.tokens digits r.row (number digits) r.means (nat_is digits is_digits));
+        (expressions.divided r.tokens digits r.row (number digits) r.means (nat_is digits is_digits) (subst (λ (n : ℕ). 0 < n) (small_size digits (size_of digits) refl low) positive));
       wide = r.wide;
       cells = r.cells;
     }

@@ -46,7 +46,7 @@ module _ (dim : ℕ) where
 
   fraction_alone : (text : List ℕ) (row : List ℤ) (divisor : ℤ) (m : Matches (alone frac_cases) text) → IsFracOf dim (alone_by frac_cases frac_by text m) row divisor → (n : ℕ) × FractionText dim text row n × (divisor ≡ pos n) × (0 < n)
   fraction_alone text row divisor (b1, w1, e1, before, (x, b2, e2, is, behind)) h =
-    let r = over_law dim expr_cases expr_by (IsExpression dim) (expression_law dim) x is h.within h.stay.terms.numbers h.stay.divisor in
+    let r = over_law dim expr_cases expr_by (IsExpression dim) (expression_law dim) x is h.within h.stay.terms.numbers h.stay.divisor h.positive in
     let same : r.row ≡ row = same_rows dim r.row row r.wide h.sums.wide (λ j le. r.cells j le ∙ sym (h.sums.cells j le)) in
     let n : ℕ = (frac_by x is).divisor in
     (n,
@@ -86,7 +86,7 @@ coordinates_end dim ts row (expressions.sum us u h) = sum_end dim us u h
 
 pub over_end : (dim : ℕ) (ts : Tokens) (row : List ℤ) (n : ℕ) → IsOver (AreCoordinates dim) ts (row, n) → cell row dim ≡ pos 0
 over_end dim ts row n (expressions.whole us u h) = coordinates_end dim us u h
-over_end dim ts row n (expressions.divided us w u m h is) = coordinates_end dim us u h
+over_end dim ts row n (expressions.divided us w u m h is positive) = coordinates_end dim us u h
 
 -- ---- points
 plus_zero : (z : ℤ) → z +ℤ pos 0 ≡ z
@@ -137,13 +137,13 @@ pub record Is {A : Type 0} (Means : Tokens → A → Type 0) (w : List ℕ) (a :
 
 module _ (dim : ℕ) where
   -- a point of either kind, whose coordinates and divisor were read
-  pub vfrac_law : (w : List ℕ) (m : Matches vfrac_cases w) → AreWithin dim (ratio_by vexpr_cases vexpr_by w m).terms → All IsShort (ratio_by vexpr_cases vexpr_by w m).terms → (ratio_by vexpr_cases vexpr_by w m).divisor < 2 ^ 127 → ReadsOver (AreCoordinates dim) dim w (total dim (ratio_by vexpr_cases vexpr_by w m).terms) (ratio_by vexpr_cases vexpr_by w m).divisor
-  vfrac_law w m within short low = over_law dim vexpr_cases vexpr_by (AreCoordinates dim) (coordinates_law dim) w m within short low
+  pub vfrac_law : (w : List ℕ) (m : Matches vfrac_cases w) → AreWithin dim (ratio_by vexpr_cases vexpr_by w m).terms → All IsShort (ratio_by vexpr_cases vexpr_by w m).terms → (ratio_by vexpr_cases vexpr_by w m).divisor < 2 ^ 127 → 0 < (ratio_by vexpr_cases vexpr_by w m).divisor → ReadsOver (AreCoordinates dim) dim w (total dim (ratio_by vexpr_cases vexpr_by w m).terms) (ratio_by vexpr_cases vexpr_by w m).divisor
+  vfrac_law w m within short low positive = over_law dim vexpr_cases vexpr_by (AreCoordinates dim) (coordinates_law dim) w m within short low positive
 
   -- a point of the kind, in its opening word and a closing bracket
-  pub enclosed_over : (cs : List ℕ) (kind : GenKind) → ((ts : Tokens) (u : List ℤ) (n : ℕ) → IsOver (AreCoordinates dim) ts (u, n) → IsGenerator dim (cs ∷ ts ++ codes ")" ∷ []) (over dim u n, kind)) → (w : List ℕ) (m : Matches (word cs ⋯ vfrac_cases ⋯ symbol 41) w) (row : List ℤ) → AreWithin dim (enclosed_by cs vfrac_cases vfrac_by w m).terms → All IsShort (enclosed_by cs vfrac_cases vfrac_by w m).terms → (enclosed_by cs vfrac_cases vfrac_by w m).divisor < 2 ^ 127 → length row ≡ dim + 1 → ((j : ℕ) → j < dim → cell row j ≡ total dim (enclosed_by cs vfrac_cases vfrac_by w m).terms j) → cell row dim ≡ pos (enclosed_by cs vfrac_cases vfrac_by w m).divisor → Is (IsGenerator dim) w (row, kind)
-  enclosed_over cs kind case w (opening, w1, e1, is_opening, (b1, w2, e2, blanks1, (frac, w3, e3, is_frac, (b2, close, e4, blanks2, is_close)))) row within short low wide cells last =
-    let r = vfrac_law frac is_frac within short low in
+  pub enclosed_over : (cs : List ℕ) (kind : GenKind) → ((ts : Tokens) (u : List ℤ) (n : ℕ) → IsOver (AreCoordinates dim) ts (u, n) → IsGenerator dim (cs ∷ ts ++ codes ")" ∷ []) (over dim u n, kind)) → (w : List ℕ) (m : Matches (word cs ⋯ vfrac_cases ⋯ symbol 41) w) (row : List ℤ) → AreWithin dim (enclosed_by cs vfrac_cases vfrac_by w m).terms → All IsShort (enclosed_by cs vfrac_cases vfrac_by w m).terms → (enclosed_by cs vfrac_cases vfrac_by w m).divisor < 2 ^ 127 → 0 < (enclosed_by cs vfrac_cases vfrac_by w m).divisor → length row ≡ dim + 1 → ((j : ℕ) → j < dim → cell row j ≡ total dim (enclosed_by cs vfrac_cases vfrac_by w m).terms j) → cell row dim ≡ pos (enclosed_by cs vfrac_cases vfrac_by w m).divisor → Is (IsGenerator dim) w (row, kind)
+  enclosed_over cs kind case w (opening, w1, e1, is_opening, (b1, w2, e2, blanks1, (frac, w3, e3, is_frac, (b2, close, e4, blanks2, is_close)))) row within short low positive wide cells last =
+    let r = vfrac_law frac is_frac within short low positive in
     let ratio : Ratio = ratio_by vexpr_cases vexpr_by frac is_frac in
     let same : over dim r.row ratio.divisor ≡ row = point_row dim ratio.divisor r.row row (total dim ratio.terms) r.wide (over_end dim r.tokens r.row ratio.divisor r.means) r.cells wide cells last in
     record {
@@ -163,16 +163,16 @@ module _ (dim : ℕ) where
       means = subst (λ (v : List ℤ). IsGenerator dim (cs ∷ r.tokens ++ codes ")" ∷ []) (v, kind)) same (case r.tokens r.row r.means);
     }
 
-  pub point_law : (w : List ℕ) (m : Matches point_cases w) (row : List ℤ) → AreWithin dim (point_by w m).terms → All IsShort (point_by w m).terms → (point_by w m).divisor < 2 ^ 127 → length row ≡ dim + 1 → ((j : ℕ) → j < dim → cell row j ≡ total dim (point_by w m).terms j) → cell row dim ≡ pos (point_by w m).divisor → Is (IsGenerator dim) w (row, Point)
-  point_law w (p, w1, e1, is_p, (b1, w2, e2, blanks1, (frac, w3, e3, is_frac, (b2, close, e4, blanks2, is_close)))) row within short low wide cells last =
-    enclosed_over (codes "p(") Point systems.point w (p, w1, e1, is_p, (b1, w2, e2, blanks1, (frac, w3, e3, is_frac, (b2, close, e4, blanks2, is_close)))) row within short low wide cells last
+  pub point_law : (w : List ℕ) (m : Matches point_cases w) (row : List ℤ) → AreWithin dim (point_by w m).terms → All IsShort (point_by w m).terms → (point_by w m).divisor < 2 ^ 127 → 0 < (point_by w m).divisor → length row ≡ dim + 1 → ((j : ℕ) → j < dim → cell row j ≡ total dim (point_by w m).terms j) → cell row dim ≡ pos (point_by w m).divisor → Is (IsGenerator dim) w (row, Point)
+  point_law w (p, w1, e1, is_p, (b1, w2, e2, blanks1, (frac, w3, e3, is_frac, (b2, close, e4, blanks2, is_close)))) row within short low positive wide cells last =
+    enclosed_over (codes "p(") Point systems.point w (p, w1, e1, is_p, (b1, w2, e2, blanks1, (frac, w3, e3, is_frac, (b2, close, e4, blanks2, is_close)))) row within short low positive wide cells last
 
   above : (z : ℤ) (n : ℕ) → z ≡ pos n → 0 < n → pos 0 <ℤ z
   above z n e h = omega (arith, ints, e)
 
   point_alone : (text : List ℕ) (row : List ℤ) (m : Matches (alone point_cases) text) → IsPointOf dim (alone_by point_cases point_by text m) row → PointText dim text row × IsPointVector dim row
   point_alone text row (b1, w1, e1, before, (x, b2, e2, is, behind)) h =
-    let r = point_law x is row h.within h.stay.terms.numbers h.stay.divisor h.wide h.coordinates h.last in
+    let r = point_law x is row h.within h.stay.terms.numbers h.stay.divisor h.positive h.wide h.coordinates h.last in
     (record { tokens = r.tokens; split = alone_tokens r.tokens text b1 w1 x b2 e1 before e2 behind r.split; means = r.means },
       record { wide = h.wide; positive = above (cell row dim) (point_by x is).divisor h.last h.positive })
 

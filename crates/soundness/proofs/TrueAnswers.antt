@@ -4,7 +4,9 @@ use Rattle.std.specs.Fmt.{signed_decimal}
 use Rattle.cdd_text.specs.Written.{ext_text}
 use Rattle.row_core.specs.Points.{IsPoint}
 use Rattle.cons_sys.specs.Constraints.{In}
-use Rattle.gens_sys.specs.Generators.{generator_at}
+use Rattle.gens_sys.specs.Generators.{generator_at, row_at, kind_at}
+use Rattle.gens_sys.specs.declared.kind.GenKind.{GenKind}
+use Rattle.gens_sys.specs.declared.kind.GenKind.TheVariants.{Line, Ray, Point, ClosurePoint}
 use Rattle.gens_sys.specs.Spans.{Span}
 use Rattle.poly_pair.specs.declared.topology.Topology.{Topology}
 use Rattle.poly_pair.specs.declared.topology.Topology.TheVariants.{Closed, Nnc}
@@ -15,6 +17,7 @@ use Rattle.expr_text.specs.Printed.{constraints_text, generators_text, generator
 use Rattle.expr_text.specs.ReadBack.{ConstraintsAreReadBack, GeneratorsAreReadBack}
 use Rattle.expr_text.specs.GeneratorSystems.{IsGens}
 use Rattle.optimum.specs.Laws.{GeneratorIsWitness}
+use Rattle.optimum.specs.Search.{IsPointKind}
 use Rattle.optimum.specs.Suprema.{SupAnswer, IsTrueSup}
 use Rattle.optimum.specs.declared.outcome.Sup.{Sup}
 use Rattle.optimum.specs.declared.outcome.Sup.TheVariants as sup
@@ -35,10 +38,10 @@ use Rattle.poly_commands.specs.Files.{file_of}
 use Rattle.poly_commands.specs.Widening.{nested, IsWidened}
 use Rattle.soundness.specs.Points.{AreAlike, Includes}
 use Rattle.soundness.specs.Sets.{generators, IsWidening}
-use Rattle.soundness.specs.Answers.{line, Tells, TellsWhether, LieSo, TellsRelation, is_max, attained_text, IsWitness, TellsExtremeOf, TellsExtreme, AreGensOf, TellsSide, TellsSize}
+use Rattle.soundness.specs.Answers.{line, Tells, TellsWhether, LieSo, TellsRelation, is_max, attained_text, witness_kind, IsWitness, TellsExtremeOf, TellsExtreme, AreGensOf, TellsSide, TellsSize}
 use Rattle.soundness.specs.Files as files
 use Rattle.soundness.specs.Files.{TellsFile}
-use Rattle.soundness.proofs.PointLaws.{TextLaws, via, turn, is_nnc, set_of, moved, for_from}
+use Rattle.soundness.proofs.PointLaws.{TextLaws, via, turn, is_nnc, set_of, is_over, moved, for_from}
 use Rattle.soundness.proofs.Operands.{one_topology, one_number}
 
 -- the laws that are cited: both stored systems hold the same points, and there is no generator where there is none; what is printed is read back; the generator of a bound shows it; a widening includes the larger set
@@ -108,18 +111,32 @@ shows laws up row p num den attained index proper answer =
     let w = laws.witness up row p num den attained index proper.kept proper.gens answer in
     record { point = w.point; near = λ c for valid. w.closure c (for_from Closed p.cons.dim c for).kind valid; inside = w.inside; value = w.value }
 
+-- the generator of a bound is a point of the set where the bound is attained, and else a closure point
+kind_shown : (attained : Bool) (kind : GenKind) → IsTrue attained ↔ kind ≡ Point → IsPointKind kind → kind ≡ witness_kind attained
+kind_shown true kind same is = same.0 refl
+kind_shown false Line same is = absurd is
+kind_shown false Ray same is = absurd is
+kind_shown false Point same is = absurd (never (same.1 refl))
+kind_shown false ClosurePoint same is = refl
+
 bound_true : PolyLaws → (up : Bool) (row : List ℤ) (p : Polyhedron) (reply : List ℕ) (b : Sup) → IsProper p → SupAnswer up row p.gens (Ok b) → IsTrueSup up row p b → reply ≡ line (optima.bound_text p.gens b) → TellsExtremeOf up row (set_of p) reply
 bound_true laws up row p reply sup.Empty proper answer true_of said = inl (true_of, said)
 bound_true laws up row p reply sup.Unbounded proper answer true_of said = inr (inl (true_of, said))
-bound_true laws up row p reply (sup.At num den attained index) proper answer true_of said = inr (inr (record {
-  num = num;
-  den = den;
-  attained = attained;
-  bound = true_of;
-  witness = generator_at p.gens.list index;
-  is_witness = shows laws up row p num den attained index proper answer;
-  said = said ∙ ap (λ (n : ℕ). line (signed_decimal num ++ codes "/" ++ signed_decimal den ++ attained_text attained ++ generator_text n (generator_at p.gens.list index))) (same_dims p proper);
-}))
+bound_true laws up row p reply (sup.At num den attained index) proper answer true_of said =
+    let v = row_at p.gens.list index in
+    let kind : kind_at p.gens.list index ≡ witness_kind attained = kind_shown attained (kind_at p.gens.list index) answer.point answer.best.kind in
+    inr (inr (record {
+      num = num;
+      den = den;
+      attained = attained;
+      bound = true_of;
+      witness = v;
+      is_witness = shows laws up row p num den attained index proper answer;
+      said = said ∙ (ap (λ (n : ℕ). text_of n (kind_at p.gens.list index)) (same_dims p proper) ∙ ap (λ (k : GenKind). text_of p.cons.dim k) kind);
+    }))
+  where
+    text_of : ℕ → GenKind → List ℕ
+    text_of n k = line (signed_decimal num ++ codes "/" ++ signed_decimal den ++ attained_text attained ++ generator_text n (row_at p.gens.list index, k))
 
 max_same : (extremum : Extremum) → operands.is_max extremum ≡ is_max extremum
 max_same Max = refl
@@ -158,8 +175,8 @@ pub file_true : PolyLaws → (ext : Bool) (p : Polyhedron) (reply : List ℕ) �
 file_true laws ext p reply proper closed said = record { closed = ap is_nnc closed; tells = file_side laws ext p reply proper said }
 
 -- ---- a widening
-pub widen_made : PolyLaws → (p q r : Polyhedron) (others : Conditions) → IsProper p → IsProper q → Passes (nested p q others) → IsWidened p q r → IsWidening (set_of p) (set_of q) (set_of r)
-widen_made laws p q r others proper_p proper_q passes h =
+pub widen_made : PolyLaws → (p q r : Polyhedron) (others : Conditions) → IsProper p → IsProper q → IsProper r → Passes (nested p q others) → IsWidened p q r → IsWidening (set_of p) (set_of q) (set_of r)
+widen_made laws p q r others proper_p proper_q fit passes h =
     let same : p.topology ≡ q.topology = one_topology p.topology q.topology passes.1.0 in
     let closed : p.topology ≡ Closed = one_topology p.topology Closed passes.1.1.0 in
     let dims : p.cons.dim ≡ q.cons.dim = one_number p.cons.dim q.cons.dim passes.1.1.1.0 in
@@ -171,7 +188,7 @@ widen_made laws p q r others proper_p proper_q passes h =
       alike = record { kind = ap is_nnc same; variables = dims };
       closed = ap is_nnc closed;
       nested = λ v is holds. h.nested v (moved q.cons.dim p.cons.dim v (sym dims) is) holds;
-      same = record { kind = ap is_nnc (closed ∙ sym over.same_topology); variables = sym over.same_dim };
+      same = is_over p.topology p.cons.dim r fit (record { same_topology = over.same_topology ∙ sym closed; same_dim = over.same_dim });
       first = λ v is holds. (let on_p = moved r.cons.dim p.cons.dim v over.same_dim is in second v (moved p.cons.dim q.cons.dim v dims on_p) (h.nested v on_p holds));
       second = λ v is holds. second v (moved r.cons.dim q.cons.dim v (over.same_dim ∙ dims) is) holds;
     }

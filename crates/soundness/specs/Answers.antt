@@ -6,6 +6,8 @@ use Rattle.row_core.specs.Vectors.{cell, dot}
 use Rattle.row_core.specs.Points.{IsPoint}
 use Rattle.cons_sys.specs.declared.kind.ConKind.TheVariants.{Eq}
 use Rattle.cons_sys.specs.Constraints.{Constraint, In}
+use Rattle.gens_sys.specs.declared.kind.GenKind.{GenKind}
+use Rattle.gens_sys.specs.declared.kind.GenKind.TheVariants.{Point, ClosurePoint}
 use Rattle.gens_sys.specs.Generators.{Generator}
 use Rattle.gens_sys.specs.Spans.{Span}
 use Rattle.expr_text.specs.Printed.{generator_text}
@@ -33,7 +35,8 @@ ok = line (codes "ok")
 
 -- the reply is `yes` where the statement is true, and else `no`
 abbrev pub Tells : Type 0 → List ℕ → Type 0
-Tells Statement reply = (Statement × (reply ≡ line (codes "yes"))) ⊎ (¬ Statement × (reply ≡ line (codes "no")))
+Tells Statement reply =
+    (Statement × (reply ≡ line (codes "yes"))) ⊎ (¬ Statement × (reply ≡ line (codes "no")))
 
 -- ---- points, and how sets lie
 -- whether the point of the text is in the set
@@ -57,9 +60,12 @@ with_word (c ∷ cs) word true = (c ∷ cs) ++ codes " " ++ word
 
 -- those of the four words that hold
 abbrev pub words : Bool → Bool → Bool → Bool → List ℕ
-words disjoint intersects included saturates = with_word (with_word (with_word (with_word [] (codes "disjoint") disjoint) (codes "intersects") intersects) (codes "included") included) (codes "saturates") saturates
+words disjoint intersects included saturates = with_word
+    (with_word (with_word (with_word [] (codes "disjoint") disjoint)
+    (codes "intersects") intersects) (codes "included") included) (codes "saturates") saturates
 
--- the words that hold of the set and the constraint of the text: no point satisfies it, some point does and some doesn't, each does, both sides are equal at each
+-- the words that hold of the set and the constraint of the text: no point satisfies it, some point
+-- does and some doesn't, each does, both sides are equal at each
 pub record TellsRelation (part : Part) (s : PointSet) (reply : List ℕ) : Type 0 where
   pub constraint : Constraint
   pub text : ConstraintText s.cons.dim part.text constraint
@@ -69,7 +75,8 @@ pub record TellsRelation (part : Part) (s : PointSet) (reply : List ℕ) : Type 
   pub saturates : Bool
   pub said : reply ≡ line (words disjoint intersects included saturates)
   pub nowhere : IsTrue disjoint ↔ HoldsNowhere s.cons constraint
-  pub divided : IsTrue intersects ↔ HoldsSomewhere s.cons constraint × FailsSomewhere s.cons constraint
+  pub divided : IsTrue intersects ↔ HoldsSomewhere s.cons constraint
+      × FailsSomewhere s.cons constraint
   pub throughout : IsTrue included ↔ HoldsThroughout s.cons constraint
   pub equal : IsTrue saturates ↔ HoldsThroughout s.cons (constraint.0, Eq)
 
@@ -84,29 +91,45 @@ abbrev pub attained_text : Bool → List ℕ
 attained_text true = codes " attained "
 attained_text false = codes " not attained "
 
--- the witness of a bound: a point of the smallest closed set that includes the set, of the set exactly where the bound is attained, with the bound as its value
-pub record IsWitness (row : List ℤ) (s : PointSet) (num den : ℤ) (attained : Bool) (v : List ℤ) : Type 0 where
+-- the witness of a bound: a point of the smallest closed set that includes the set, of the set
+-- exactly where the bound is attained, with the bound as its value
+pub record IsWitness (row : List ℤ) (s : PointSet) (num den : ℤ) (attained : Bool)
+    (v : List ℤ) : Type 0 where
   pub point : IsPoint s.cons.dim v
   pub near : IsInSmallest false s.cons.dim (IsWithin s.cons) v
   pub inside : IsTrue attained ↔ IsWithin s.cons v
   pub value : den *ℤ dot row v ≡ num *ℤ cell v s.cons.dim
 
--- the bound, whether it is attained, and a witness
+-- a bound is shown by a point of the set where it is attained, and else by a point of its closure
+abbrev pub witness_kind : Bool → GenKind
+witness_kind true = Point
+witness_kind false = ClosurePoint
+
+-- the bound as a fraction, whether it is attained, and a witness
+abbrev pub bound_text : ℕ → ℤ → ℤ → Bool → List ℤ → List ℕ
+bound_text dim num den attained witness =
+    signed_decimal num ++ codes "/" ++ signed_decimal den ++ attained_text attained
+    ++ generator_text dim (witness, witness_kind attained)
+
+-- the bound, whether it is attained, and a witness, as a generator of that kind
 pub record TellsBound (up : Bool) (row : List ℤ) (s : PointSet) (reply : List ℕ) : Type 0 where
   pub num : ℤ
   pub den : ℤ
   pub attained : Bool
   pub bound : IsSupremum up row s.cons.dim (IsWithin s.cons) num den attained
-  pub witness : Generator
-  pub is_witness : IsWitness row s num den attained witness.0
-  pub said : reply ≡ line (signed_decimal num ++ codes "/" ++ signed_decimal den ++ attained_text attained ++ generator_text s.cons.dim witness)
+  pub witness : List ℤ
+  pub is_witness : IsWitness row s num den attained witness
+  pub said : reply ≡ line (bound_text s.cons.dim num den attained witness)
 
 -- there is no point; or the values have no bound; or the least upper (or the greatest lower) bound
 abbrev pub TellsExtremeOf : Bool → List ℤ → PointSet → List ℕ → Type 0
-TellsExtremeOf up row s reply = (HasNoPoint s × (reply ≡ line (codes "empty"))) ⊎ (ExceedsAll up row s.cons.dim (IsWithin s.cons) × (reply ≡ line (codes "unbounded"))) ⊎ TellsBound up row s reply
+TellsExtremeOf up row s reply = (HasNoPoint s × (reply ≡ line (codes "empty")))
+    ⊎ (ExceedsAll up row s.cons.dim (IsWithin s.cons) × (reply ≡ line (codes "unbounded")))
+    ⊎ TellsBound up row s reply
 
 -- where the text is the expression
-pub record TellsExtreme (extremum : Extremum) (part : Part) (s : PointSet) (reply : List ℕ) : Type 0 where
+pub record TellsExtreme (extremum : Extremum) (part : Part) (s : PointSet)
+    (reply : List ℕ) : Type 0 where
   pub row : List ℤ
   pub text : ExpressionText s.cons.dim part.text row
   pub tells : TellsExtremeOf (is_max extremum) row s reply
@@ -114,11 +137,13 @@ pub record TellsExtreme (extremum : Extremum) (part : Part) (s : PointSet) (repl
 -- ---- systems
 -- the constraints hold at the points of the set and at no others
 abbrev pub AreOf : List Constraint → PointSet → Type 0
-AreOf list s = (v : List ℤ) → IsPoint s.cons.dim v → In (constraints s.cons.dim list) v ↔ In s.cons v
+AreOf list s =
+    (v : List ℤ) → IsPoint s.cons.dim v → In (constraints s.cons.dim list) v ↔ In s.cons v
 
 -- the generators generate these points and no others
 abbrev pub AreGensOf : List Generator → PointSet → Type 0
-AreGensOf list s = (v : List ℤ) → IsPoint s.cons.dim v → Span (generators s.cons.dim list) v ↔ In s.cons v
+AreGensOf list s =
+    (v : List ℤ) → IsPoint s.cons.dim v → Span (generators s.cons.dim list) v ↔ In s.cons v
 
 -- the text of such constraints
 pub record TellsConstraints (s : PointSet) (reply : List ℕ) : Type 0 where
@@ -141,10 +166,12 @@ abbrev pub TellsSide : Bool → PointSet → List ℕ → Type 0
 TellsSide false s reply = TellsConstraints s reply
 TellsSide true s reply = TellsGenerators s reply
 
--- the dimension, and how many constraints, and how many generators, stand for the points
+-- the dimension, and how many constraints, and how many generators, stand for the points: those of some lists that do,
+-- so that any number passes from the least on
 pub record TellsSize (s : PointSet) (reply : List ℕ) : Type 0 where
   pub constraints_are : List Constraint
   pub generators_are : List Generator
   pub hold : AreOf constraints_are s
   pub generate : AreGensOf generators_are s
-  pub said : reply ≡ line (codes "dim " ++ decimal s.cons.dim ++ codes " constraints " ++ decimal (length constraints_are) ++ codes " generators " ++ decimal (length generators_are))
+  pub said : reply ≡ line (codes "dim " ++ decimal s.cons.dim ++ codes " constraints " ++ decimal
+      (length constraints_are) ++ codes " generators " ++ decimal (length generators_are))

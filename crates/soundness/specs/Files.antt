@@ -26,10 +26,13 @@ abbrev pub IsOfFile : Bool → List ℕ → PointSet → Type 0
 IsOfFile false bytes s = IsOfIne bytes s
 IsOfFile true bytes s = IsOfExt bytes s
 
--- constraints that hold at the points of a closed set and at no others are written, or generators that generate these points and no others
+-- constraints that hold at the points of a closed set and at no others are written, or generators
+-- that generate these points and no others
 abbrev pub TellsSide : Bool → PointSet → List ℕ → Type 0
-TellsSide false s reply = (list : List Constraint) × AreOf list s × (reply ≡ ine_text (constraints s.cons.dim list))
-TellsSide true s reply = (list : List Generator) × AreGensOf list s × (reply ≡ ext_text (generators s.cons.dim list))
+TellsSide false s reply =
+    (list : List Constraint) × AreOf list s × (reply ≡ ine_text (constraints s.cons.dim list))
+TellsSide true s reply =
+    (list : List Generator) × AreGensOf list s × (reply ≡ ext_text (generators s.cons.dim list))
 
 -- a closed set is written as a file
 pub record TellsFile (ext : Bool) (s : PointSet) (reply : List ℕ) : Type 0 where

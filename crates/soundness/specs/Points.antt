@@ -1,20 +1,40 @@
--- Sets of points. A point of n variables is a vector of n + 1 integers `(x1, .., xn, d)` with a positive d, and stands for `(x1/d, .., xn/d)`.
-use Rattle.std.specs.Prelude.{◌≡◌, ◌↔◌, ◌+◌, ℕ, List, length, ℤ, Bool, true, false, ⊤}
+-- Sets of points. A point of n variables is a vector of n + 1 integers `(x1, .., xn, d)` with a
+-- positive d, and stands for `(x1/d, .., xn/d)`.
+use Rattle.std.specs.Prelude.{◌≡◌, ◌↔◌, ◌+◌, ℕ, List, length, ℤ, Bool, true, false, All, ⊤}
 use Rattle.row_core.specs.Points.{IsPoint}
 use Rattle.cons_sys.specs.declared.kind.ConKind.{ConKind}
 use Rattle.cons_sys.specs.declared.kind.ConKind.TheVariants.{Eq, Ge, Gt}
 use Rattle.cons_sys.specs.Constraints.{Constraint, Constraints, In, Satisfies}
 use Rattle.stored_systems.specs.PointSets.{IsWithin}
 
--- a set of points: whether it needn't be closed (`nnc`), and constraints, over its variables, that hold at its points and at no others
+-- a set of points: whether it needn't be closed (`nnc`), and constraints, over its variables, that
+-- hold at its points and at no others
 pub record PointSet : Type 0 where
   pub nnc : Bool
   pub cons : Constraints
 
--- the set is of the kind, has that many variables, and its points are those that have the property
-pub record IsSetOf (nnc : Bool) (dim : ℕ) (Has : List ℤ → Type 0) (s : PointSet) : Type 0 where
+-- ---- constraints of a kind
+-- a closed set has no strict constraint
+abbrev pub IsKindFor : Bool → ConKind → Type 0
+IsKindFor true kind = ⊤
+IsKindFor false Eq = ⊤
+IsKindFor false Ge = ⊤
+IsKindFor false Gt = ⊥
+
+-- a constraint over so many variables that a set of the kind may have
+pub record IsConstraintFor (nnc : Bool) (dim : ℕ) (c : Constraint) : Type 0 where
+  pub wide : length c.0 ≡ dim + 1
+  pub kind : IsKindFor nnc c.1
+
+-- the set is of the kind, has that many variables, and only constraints that such a set may have
+pub record IsOver (nnc : Bool) (dim : ℕ) (s : PointSet) : Type 0 where
   pub kind : s.nnc ≡ nnc
   pub variables : s.cons.dim ≡ dim
+  pub rows : All (IsConstraintFor nnc dim) s.cons.list
+
+-- it is such a set, and its points are those that have the property
+pub record IsSetOf (nnc : Bool) (dim : ℕ) (Has : List ℤ → Type 0) (s : PointSet) : Type 0 where
+  pub over : IsOver nnc dim s
   pub points : (v : List ℤ) → IsPoint dim v → In s.cons v ↔ Has v
 
 -- ---- how two sets lie
@@ -40,18 +60,9 @@ abbrev pub AreDisjoint : PointSet → PointSet → Type 0
 AreDisjoint s t = (v : List ℤ) → IsPoint s.cons.dim v → ¬ (In s.cons v × In t.cons v)
 
 -- ---- the smallest set
--- a closed set has no strict constraint
-abbrev pub IsKindFor : Bool → ConKind → Type 0
-IsKindFor true kind = ⊤
-IsKindFor false Eq = ⊤
-IsKindFor false Ge = ⊤
-IsKindFor false Gt = ⊥
-
--- a constraint over so many variables that a set of the kind may have
-pub record IsConstraintFor (nnc : Bool) (dim : ℕ) (c : Constraint) : Type 0 where
-  pub wide : length c.0 ≡ dim + 1
-  pub kind : IsKindFor nnc c.1
-
--- the point is in each polyhedron of the kind that includes all points with the property: each constraint that holds at all of these holds at it
+-- the point is in each polyhedron of the kind that includes all points with the property. Each constraint that holds
+-- at all of these holds at it: a polyhedron is the set of the points at which some constraints hold, and one constraint
+-- alone makes such a set too
 abbrev pub IsInSmallest : Bool → ℕ → (List ℤ → Type 0) → List ℤ → Type 0
-IsInSmallest nnc dim Has v = (c : Constraint) → IsConstraintFor nnc dim c → ((u : List ℤ) → Has u → Satisfies u c) → Satisfies v c
+IsInSmallest nnc dim Has v = (c : Constraint) → IsConstraintFor nnc dim c →
+    ((u : List ℤ) → Has u → Satisfies u c) → Satisfies v c

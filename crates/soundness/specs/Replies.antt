@@ -12,7 +12,8 @@ use Rattle.soundness.specs.Files.{IsOfFile}
 use Rattle.soundness.specs.Commands.{Makes, Does}
 use Rattle.soundness.specs.TextsLines.{Spelled}
 
--- a file that `read` has begun: the name of its set, whether it lists generators, and its lines so far
+-- a file that `read` has begun: the name of its set, whether it lists generators, and its lines so
+-- far
 pub record OpenFile : Type 0 where
   pub name : List ℕ
   pub ext : Bool
@@ -54,26 +55,32 @@ pub record IsPerformed (old : Names) (words : List ℕ) (reply : List ℕ) (new 
   pub does : Does old command reply new.names
   pub file : new.file ≡ file_begun command
 
--- the file with one line more, which ends with CR LF (of a line above the limit the first 65,536 bytes)
+-- the file with one line more, which ends with CR LF (of a line above the limit the first 65,536
+-- bytes)
 abbrev pub with_line : OpenFile → List ℕ → OpenFile
-with_line file text = record { name = file.name; ext = file.ext; text = file.text ++ take 65536 text ++ 13 ∷ 10 ∷ [] }
+with_line file text =
+    record { name = file.name; ext = file.ext; text = file.text ++ take 65536 text ++ 13 ∷ 10 ∷ [] }
 
 -- the line isn't the last of the open file: it has no reply
-pub record IsLineOfFile (old : Names) (file : OpenFile) (text reply : List ℕ) (new : State) : Type 0 where
+pub record IsLineOfFile (old : Names) (file : OpenFile) (text reply : List ℕ)
+    (new : State) : Type 0 where
   pub unended : ¬ (IsEnd text)
   pub said : reply ≡ []
   pub state : new ≡ record { names = old; file = Some (with_line file text) }
 
 -- the line is its last: the set of the file is put under its name
-pub record IsEndOfFile (old : Names) (file : OpenFile) (text reply : List ℕ) (new : State) : Type 0 where
+pub record IsEndOfFile (old : Names) (file : OpenFile) (text reply : List ℕ)
+    (new : State) : Type 0 where
   pub ends : IsEnd text
-  pub makes : Makes Polyhedron file.name (IsOfFile file.ext (with_line file text).text) old reply new.names
+  pub makes : Makes Polyhedron file.name (IsOfFile file.ext
+      (with_line file text).text) old reply new.names
   pub shut : new.file ≡ None
 
 -- what is replied to a line that isn't refused, where no file is open, or where one is
 abbrev pub IsAnswered : Names → Option OpenFile → List ℕ → List ℕ → State → Type 0
 IsAnswered old None text reply new = IsPerformed old text reply new
-IsAnswered old (Some file) text reply new = IsLineOfFile old file text reply new ⊎ IsEndOfFile old file text reply new
+IsAnswered old (Some file) text reply new =
+    IsLineOfFile old file text reply new ⊎ IsEndOfFile old file text reply new
 
 -- the reply to a line, and the state after it
 abbrev pub IsReply : State → List ℕ → List ℕ → State → Type 0
@@ -89,7 +96,8 @@ IsEndReply (Some file) replies = (reply : List ℕ) × (replies ≡ reply ∷ []
 abbrev pub AreReplies : State → List (List ℕ) → List (List ℕ) → Type 0
 AreReplies old [] replies = IsEndReply old.file replies
 AreReplies old (text ∷ texts) [] = ⊥
-AreReplies old (text ∷ texts) (reply ∷ replies) = (new : State) × IsReply old text reply new × AreReplies new texts replies
+AreReplies old (text ∷ texts) (reply ∷ replies) =
+    (new : State) × IsReply old text reply new × AreReplies new texts replies
 
 -- what is written to a script: the replies to its lines, from no names on
 pub record IsWrittenTo (script : List ℕ) (written : List ℕ) : Type 0 where
@@ -99,4 +107,5 @@ pub record IsWrittenTo (script : List ℕ) (written : List ℕ) : Type 0 where
 
 -- what is written to a file: a refusal, or the other file of the same points
 abbrev pub IsConverted : Bool → List ℕ → List ℕ → Type 0
-IsConverted ext bytes written = IsRefusal written ⊎ ((s : PointSet) × IsOfFile ext bytes s × IsOfFile (not ext) written s)
+IsConverted ext bytes written =
+    IsRefusal written ⊎ ((s : PointSet) × IsOfFile ext bytes s × IsOfFile (not ext) written s)

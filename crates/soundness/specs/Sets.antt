@@ -1,10 +1,11 @@
 -- The sets that commands make, by their points.
-use Rattle.std.specs.Prelude.{◌≡◌, ◌≢◌, ◌≤◌, ◌<◌, ◌⊎◌, ◌+◌, ℕ, List, [], ◌++◌, length, drop, slice_set, ℤ, pos, ◌≤ℤ◌, ◌<ℤ◌, Bool, false}
+use Rattle.std.specs.Prelude.{◌≡◌, ◌≢◌, ◌≤◌, ◌<◌, ◌⊎◌, ◌+◌, ℕ, List, [], ◌++◌, length, drop, slice_set, ℤ, pos, ◌≤ℤ◌, ◌<ℤ◌, Bool, false, All}
 use Rattle.std.proofs.Math.IntN.{◌*ℤ◌}
 use Rattle.row_core.specs.Vectors.{cell, dot, scale}
 use Rattle.row_core.specs.Points.{IsPoint}
 use Rattle.cons_sys.specs.Constraints.{Constraint, Constraints, In}
 use Rattle.gens_sys.specs.Generators.{Generator, Generators}
+use Rattle.gens_sys.specs.Kinds.{HasBadDivisor}
 use Rattle.gens_sys.specs.Spans.{Span}
 use Rattle.stored_systems.specs.PointSets.{IsWithin}
 use Rattle.elapse.specs.ElapsedPoints.{IsElapsed}
@@ -21,7 +22,7 @@ use Rattle.script_text.specs.declared.command.Mapping.{Mapping}
 use Rattle.script_text.specs.declared.command.Mapping.TheVariants.{Image, Preimage}
 use Rattle.script_text.specs.declared.command.Rel.{Rel}
 use Rattle.script_text.specs.declared.command.Rel.TheVariants as rel
-use Rattle.soundness.specs.Points.{PointSet, IsSetOf, AreAlike, HasNoPoint, Includes, IsInSmallest}
+use Rattle.soundness.specs.Points.{PointSet, IsOver, IsSetOf, AreAlike, HasNoPoint, Includes, IsInSmallest}
 use Rattle.soundness.specs.TextsExpressions.{FractionText}
 use Rattle.soundness.specs.TextsSystems.{ConstraintsText, GeneratorsText}
 
@@ -40,7 +41,7 @@ pub record IsOfConstraints (nnc : Bool) (dim : ℕ) (part : Part) (s : PointSet)
   pub text : ConstraintsText dim part.text list
   pub set : IsSetOf nnc dim (In (constraints dim list)) s
 
--- the points that the generators of the text generate
+-- the points that the generators of the text generate; where no point is among them there is none
 pub record IsOfGenerators (nnc : Bool) (dim : ℕ) (part : Part) (s : PointSet) : Type 0 where
   pub list : List Generator
   pub text : GeneratorsText dim part.text list
@@ -62,8 +63,15 @@ pub record IsAdded (part : Part) (p s : PointSet) : Type 0 where
   pub text : ConstraintsText p.cons.dim part.text list
   pub set : IsSetOf p.nnc p.cons.dim (λ v. In p.cons v × In (constraints p.cons.dim list) v) s
 
--- the generators generate the points of the set; where it has no point there is none
+-- a vector over so many variables, whose last entry fits its kind
+pub record IsGeneratorFor (dim : ℕ) (g : Generator) : Type 0 where
+  pub wide : length g.0 ≡ dim + 1
+  pub divisor : ¬ (HasBadDivisor g.1 (cell g.0 dim))
+
+-- the generators generate the points of the set. Where it has no point there is none: rays alone
+-- generate no point, but they would generate some with a point of the text
 pub record Generate (list : List Generator) (p : PointSet) : Type 0 where
+  pub each : All (IsGeneratorFor p.cons.dim) list
   pub set : IsSetOf p.nnc p.cons.dim (Span (generators p.cons.dim list)) p
   pub none : HasNoPoint p → list ≡ []
 
@@ -80,12 +88,18 @@ abbrev pub IsClosure : PointSet → PointSet → Type 0
 IsClosure p s = IsSetOf p.nnc p.cons.dim (IsInSmallest false p.cons.dim (IsWithin p.cons)) s
 
 -- ---- two operands
--- of the points that are in both; the smallest set that includes both; the points whose first variables are in the one and whose others are in the other; the smallest set that includes all x + t*y with x in the one, y in the other and t at least 0
+-- of the points that are in both; the smallest set that includes both; the points whose first
+-- variables are in the one and whose others are in the other; the smallest set that includes all x
+-- + t*y with x in the one, y in the other and t at least 0
 abbrev pub IsOfTwo : Operator → PointSet → PointSet → PointSet → Type 0
 IsOfTwo Meet p q s = IsSetOf p.nnc p.cons.dim (λ v. In p.cons v × In q.cons v) s
-IsOfTwo Hull p q s = IsSetOf p.nnc p.cons.dim (IsInSmallest p.nnc p.cons.dim (λ v. IsWithin p.cons v ⊎ IsWithin q.cons v)) s
-IsOfTwo Concat p q s = IsSetOf p.nnc (p.cons.dim + q.cons.dim) (λ v. In p.cons (without p.cons.dim (p.cons.dim + q.cons.dim) v) × In q.cons (drop p.cons.dim v)) s
-IsOfTwo Elapse p q s = IsSetOf p.nnc p.cons.dim (IsInSmallest p.nnc p.cons.dim (IsElapsed p.cons q.cons)) s
+IsOfTwo Hull p q s = IsSetOf p.nnc p.cons.dim (IsInSmallest p.nnc p.cons.dim
+    (λ v. IsWithin p.cons v ⊎ IsWithin q.cons v)) s
+IsOfTwo Concat p q s = IsSetOf p.nnc (p.cons.dim + q.cons.dim)
+    (λ v. In p.cons (without p.cons.dim (p.cons.dim + q.cons.dim) v) × In q.cons
+    (drop p.cons.dim v)) s
+IsOfTwo Elapse p q s =
+    IsSetOf p.nnc p.cons.dim (IsInSmallest p.nnc p.cons.dim (IsElapsed p.cons q.cons)) s
 
 -- the operands are of one kind, and but for concat over the same variables
 abbrev pub AreFor : Operator → PointSet → PointSet → Type 0
@@ -97,7 +111,7 @@ pub record IsWidening (p q s : PointSet) : Type 0 where
   pub alike : AreAlike p q
   pub closed : p.nnc ≡ false
   pub nested : Includes q p
-  pub same : AreAlike p s
+  pub same : IsOver p.nnc p.cons.dim s
   pub first : Includes s p
   pub second : Includes s q
 
@@ -109,11 +123,14 @@ IsFrontIn p n v = In p.cons (without p.cons.dim (p.cons.dim + n) v)
 -- the operand with n variables more, which are free, or are all 0
 abbrev pub IsExtended : Extension → ℕ → PointSet → PointSet → Type 0
 IsExtended Embed n p s = IsSetOf p.nnc (p.cons.dim + n) (IsFrontIn p n) s
-IsExtended Project n p s = IsSetOf p.nnc (p.cons.dim + n) (λ v. IsFrontIn p n v × ((j : ℕ) → p.cons.dim ≤ j → j < p.cons.dim + n → cell v j ≡ pos 0)) s
+IsExtended Project n p s = IsSetOf p.nnc (p.cons.dim + n)
+    (λ v. IsFrontIn p n v × ((j : ℕ) → p.cons.dim ≤ j → j < p.cons.dim + n → cell v j ≡ pos 0)) s
 
--- the points of the operand without the variables
-abbrev pub IsRemoved : List ℕ → PointSet → PointSet → Type 0
-IsRemoved vars p s = IsSetOf p.nnc (length (kept_variables p.cons.dim vars)) (HasSource (remaining p.cons.dim vars) p.cons) s
+-- the points of the operand without some of its variables
+pub record IsRemoved (vars : List ℕ) (p s : PointSet) : Type 0 where
+  pub below : All (λ v. v < p.cons.dim) vars
+  pub set : IsSetOf p.nnc (length (kept_variables p.cons.dim vars))
+    (HasSource (remaining p.cons.dim vars) p.cons) s
 
 -- ---- assignments
 -- the one number stands in the relation to the other
@@ -124,15 +141,22 @@ Stands rel.Le x y = x ≤ℤ y
 Stands rel.Gt x y = y <ℤ x
 Stands rel.Lt x y = x <ℤ y
 
--- some point of the set has the values of all other variables, and the variable's value stands in the relation to that of the expression over the divisor at this point; all is multiplied out by the divisors
-pub record IsImage (rel : Rel) (var : ℕ) (expr : List ℤ) (divisor : ℤ) (cs : Constraints) (v : List ℤ) : Type 0 where
+-- some point of the set has the values of all other variables, and the variable's value stands in
+-- the relation to that of the expression over the divisor at this point; all is multiplied out by
+-- the divisors
+pub record IsImage (rel : Rel) (var : ℕ) (expr : List ℤ) (divisor : ℤ) (cs : Constraints)
+    (v : List ℤ) : Type 0 where
   pub source : List ℤ
   pub within : IsWithin cs source
-  pub others : (j : ℕ) → j < cs.dim → j ≢ var → cell v j *ℤ cell source cs.dim ≡ cell source j *ℤ cell v cs.dim
-  pub stands : Stands rel (cell v var *ℤ (divisor *ℤ cell source cs.dim)) (dot expr source *ℤ cell v cs.dim)
+  pub others : (j : ℕ) → j < cs.dim → j ≢ var →
+      cell v j *ℤ cell source cs.dim ≡ cell source j *ℤ cell v cs.dim
+  pub stands : Stands rel (cell v var *ℤ (divisor *ℤ cell source cs.dim))
+      (dot expr source *ℤ cell v cs.dim)
 
--- with some fraction as the variable's value, which stands in the relation to that of the expression over the divisor at the point, the point is in the set
-pub record IsPreimage (rel : Rel) (var : ℕ) (expr : List ℤ) (divisor : ℤ) (cs : Constraints) (v : List ℤ) : Type 0 where
+-- with some fraction as the variable's value, which stands in the relation to that of the
+-- expression over the divisor at the point, the point is in the set
+pub record IsPreimage (rel : Rel) (var : ℕ) (expr : List ℤ) (divisor : ℤ) (cs : Constraints)
+    (v : List ℤ) : Type 0 where
   pub num : ℤ
   pub den : ℤ
   pub positive : pos 0 <ℤ den
@@ -141,11 +165,14 @@ pub record IsPreimage (rel : Rel) (var : ℕ) (expr : List ℤ) (divisor : ℤ) 
 
 -- the points that come of the operand's by the assignment, or by which a point of it comes
 abbrev pub IsSetOfMap : Mapping → Rel → ℕ → List ℤ → ℤ → PointSet → PointSet → Type 0
-IsSetOfMap Image rel var expr divisor p s = IsSetOf p.nnc p.cons.dim (IsImage rel var expr divisor p.cons) s
-IsSetOfMap Preimage rel var expr divisor p s = IsSetOf p.nnc p.cons.dim (IsPreimage rel var expr divisor p.cons) s
+IsSetOfMap Image rel var expr divisor p s =
+    IsSetOf p.nnc p.cons.dim (IsImage rel var expr divisor p.cons) s
+IsSetOfMap Preimage rel var expr divisor p s =
+    IsSetOf p.nnc p.cons.dim (IsPreimage rel var expr divisor p.cons) s
 
 -- where the text is the fraction, and the variable one of the operand's
-pub record IsMapped (by : Mapping) (var : ℕ) (rel : Rel) (part : Part) (p s : PointSet) : Type 0 where
+pub record IsMapped (by : Mapping) (var : ℕ) (rel : Rel) (part : Part)
+    (p s : PointSet) : Type 0 where
   pub below : var < p.cons.dim
   pub expr : List ℤ
   pub divisor : ℕ

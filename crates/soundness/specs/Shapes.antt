@@ -11,24 +11,29 @@ use Rattle.optimum.specs.Suprema.{ExceedsAll, IsSupremum}
 use Rattle.script_text.specs.declared.command.Part.{Part}
 use Rattle.script_text.specs.declared.command.ShapeOperator.{ShapeOperator}
 use Rattle.script_text.specs.declared.command.ShapeOperator.TheVariants.{Meet, Hull}
-use Rattle.soundness.specs.Points.{PointSet, HasNoPoint}
+use Rattle.soundness.specs.Points.{PointSet, IsOver, HasNoPoint}
 use Rattle.soundness.specs.Sets.{constraints}
 use Rattle.soundness.specs.Answers.{line, Tells}
 use Rattle.soundness.specs.TextsSystems.{ConstraintsText}
 
--- the bound is the greatest difference of two places on the set, or none where the difference has no bound
+-- the bound is the greatest difference of two places on the set, or none where the difference has
+-- no bound
 abbrev pub IsSupremumOf : PointSet → ℕ → ℕ → Bound → Type 0
 IsSupremumOf p i j None = ExceedsAll true (difference p.cons.dim i j) p.cons.dim (IsWithin p.cons)
-IsSupremumOf p i j (Some f) = IsSupremum true (difference p.cons.dim i j) p.cons.dim (IsWithin p.cons) f.num f.den true
+IsSupremumOf p i j (Some f) =
+    IsSupremum true (difference p.cons.dim i j) p.cons.dim (IsWithin p.cons) f.num f.den true
 
--- the smallest shape that includes the closed set; each of its bounds is a supremum, and it has no bounds where the set has no point
+-- the smallest shape that includes the closed set, of those whose bounds are fractions of numbers below 2^127; each of
+-- its bounds is a supremum, so that it is the smallest of all, and it has no bounds where the set has no point
 pub record IsSmallestShape (p : PointSet) (s : DifferenceShape) : Type 0 where
   pub closed : p.nnc ≡ false
   pub variables : s.dim ≡ p.cons.dim
   pub includes : (v : List ℤ) → IsWithin p.cons v → IsIn s v
-  pub least : (u : DifferenceShape) → u.dim ≡ p.cons.dim → IfSome u.bounds IsTable → ((v : List ℤ) → IsWithin p.cons v → IsIn u v) → Includes u s
+  pub least : (u : DifferenceShape) → u.dim ≡ p.cons.dim → IfSome u.bounds IsTable →
+      ((v : List ℤ) → IsWithin p.cons v → IsIn u v) → Includes u s
   pub empty : (s.bounds ≡ None) ↔ HasNoPoint p
-  pub suprema : IfSome s.bounds (λ t. (i j : ℕ) → i < p.cons.dim + 1 → j < p.cons.dim + 1 → i ≢ j → IsSupremumOf p i j (bounds_of t i j))
+  pub suprema : IfSome s.bounds (λ t. (i j : ℕ) → i < p.cons.dim + 1 → j < p.cons.dim + 1 → i ≢ j →
+      IsSupremumOf p i j (bounds_of t i j))
 
 -- the points at which the constraints of the text hold
 pub record IsShapeOf (n : ℕ) (part : Part) (s : DifferenceShape) : Type 0 where
@@ -50,8 +55,7 @@ pub record IsCombined (op : ShapeOperator) (s t r : DifferenceShape) : Type 0 wh
 
 -- the closed set of the points of the shape
 pub record IsSetOfShape (s : DifferenceShape) (p : PointSet) : Type 0 where
-  pub closed : p.nnc ≡ false
-  pub variables : p.cons.dim ≡ s.dim
+  pub over : IsOver false s.dim p
   pub points : (v : List ℤ) → IsWithin p.cons v ↔ IsIn s v
 
 -- whether each point of the second is in the first

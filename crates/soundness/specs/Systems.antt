@@ -25,19 +25,22 @@ pub record IsEmptySystem (n locations : ℕ) (s : TransitionSystem) : Type 0 whe
   pub transitions : s.transitions ≡ []
 
 -- a system with these initial states at one of its locations
-pub record IsWithInitial (location : ℕ) (s : TransitionSystem) (p : PointSet) (r : TransitionSystem) : Type 0 where
+pub record IsWithInitial (location : ℕ) (s : TransitionSystem) (p : PointSet)
+    (r : TransitionSystem) : Type 0 where
   pub there : location < length s.initial
   pub over : IsClosedOver s.dim p
   pub is : r ≡ with_initial s location p
 
 -- a system with one more transition between two of its locations
-pub record IsWithTransition (source target : ℕ) (s : TransitionSystem) (p : PointSet) (r : TransitionSystem) : Type 0 where
+pub record IsWithTransition (source target : ℕ) (s : TransitionSystem) (p : PointSet)
+    (r : TransitionSystem) : Type 0 where
   pub source_there : source < length s.initial
   pub target_there : target < length s.initial
   pub over : IsClosedOver (2 * s.dim) p
   pub is : r ≡ with_transition s (record { source = source; target = target; relation = p })
 
--- the automaton of a system in which no time passes: each invariant holds everywhere, and no location has a velocity
+-- the automaton of a system in which no time passes: each invariant holds everywhere, and no
+-- location has a velocity
 pub record IsStill (s : TransitionSystem) (h : HybridAutomaton) : Type 0 where
   pub system : h.system ≡ s
   pub invariants : length h.invariants ≡ length s.initial
@@ -53,7 +56,8 @@ with_part Invariant h location p = with_invariant h location p
 with_part Flow h location p = with_flow h location p
 
 -- an automaton with this part of one of its locations
-pub record IsWithPart (part : LocationPart) (location : ℕ) (h : HybridAutomaton) (p : PointSet) (r : HybridAutomaton) : Type 0 where
+pub record IsWithPart (part : LocationPart) (location : ℕ) (h : HybridAutomaton) (p : PointSet)
+    (r : HybridAutomaton) : Type 0 where
   pub there : location < length h.system.initial
   pub over : IsClosedOver h.system.dim p
   pub is : r ≡ with_part part h location p
@@ -66,11 +70,15 @@ pub record AreOfLocations (s : TransitionSystem) (sets : List PointSet) : Type 0
 
 -- each initial state is in the set of its location
 abbrev pub IncludeInitial : TransitionSystem → List PointSet → Type 0
-IncludeInitial s sets = (l : ℕ) (initial set : PointSet) → slice_get s.initial l ≡ Some initial → slice_get sets l ≡ Some set → (v : List ℤ) → IsPoint s.dim v → In initial.cons v → In set.cons v
+IncludeInitial s sets = (l : ℕ) (initial set : PointSet) → slice_get s.initial l ≡ Some initial →
+    slice_get sets l ≡ Some set → (v : List ℤ) → IsPoint s.dim v → In initial.cons v → In set.cons v
 
 -- each transition leads from the set of its source into that of its target
 abbrev pub AreClosedUnder : TransitionSystem → List PointSet → Type 0
-AreClosedUnder s sets = (k : ℕ) (t : Transition) (source target : PointSet) → slice_get s.transitions k ≡ Some t → slice_get sets t.source ≡ Some source → slice_get sets t.target ≡ Some target → (v : List ℤ) → IsPoint s.dim v → IsStepTo source.cons t.relation.cons v → In target.cons v
+AreClosedUnder s sets = (k : ℕ) (t : Transition) (source target : PointSet) →
+    slice_get s.transitions k ≡ Some t → slice_get sets t.source ≡ Some source →
+    slice_get sets t.target ≡ Some target → (v : List ℤ) → IsPoint s.dim v →
+    IsStepTo source.cons t.relation.cons v → In target.cons v
 
 -- an invariant of the system
 pub record AreInvariant (s : TransitionSystem) (sets : List PointSet) : Type 0 where
@@ -80,20 +88,34 @@ pub record AreInvariant (s : TransitionSystem) (sets : List PointSet) : Type 0 w
 
 -- each initial state that is in the invariant of its location is in the set of it
 abbrev pub IncludeInitialWithin : HybridAutomaton → List PointSet → Type 0
-IncludeInitialWithin h sets = (l : ℕ) (initial invariant set : PointSet) → slice_get h.system.initial l ≡ Some initial → slice_get h.invariants l ≡ Some invariant → slice_get sets l ≡ Some set → (v : List ℤ) → IsPoint h.system.dim v → In initial.cons v → In invariant.cons v → In set.cons v
+IncludeInitialWithin h sets = (l : ℕ) (initial invariant set : PointSet) →
+    slice_get h.system.initial l ≡ Some initial → slice_get h.invariants l ≡ Some invariant →
+    slice_get sets l ≡ Some set → (v : List ℤ) → IsPoint h.system.dim v → In initial.cons v →
+    In invariant.cons v → In set.cons v
 
--- so is each state of the invariant that a state of the set comes to as time passes with a velocity of the flow
+-- so is each state of the invariant that a state of the set comes to as time passes with a velocity
+-- of the flow
 abbrev pub AreClosedUnderFlow : HybridAutomaton → List PointSet → Type 0
-AreClosedUnderFlow h sets = (l : ℕ) (invariant flow set : PointSet) → slice_get h.invariants l ≡ Some invariant → slice_get h.flows l ≡ Some flow → slice_get sets l ≡ Some set → (x y v : List ℤ) → IsWithin set.cons x → IsWithin flow.cons y → IsMoved h.system.dim x y v → In invariant.cons v → In set.cons v
+AreClosedUnderFlow h sets = (l : ℕ) (invariant flow set : PointSet) →
+    slice_get h.invariants l ≡ Some invariant → slice_get h.flows l ≡ Some flow →
+    slice_get sets l ≡ Some set → (x y v : List ℤ) → IsWithin set.cons x → IsWithin flow.cons y →
+    IsMoved h.system.dim x y v → In invariant.cons v → In set.cons v
 
--- each transition leads from the set of its source into that of its target, or out of the target's invariant
+-- each transition leads from the set of its source into that of its target, or out of the target's
+-- invariant
 abbrev pub AreClosedUnderJumps : HybridAutomaton → List PointSet → Type 0
-AreClosedUnderJumps h sets = (k : ℕ) (t : Transition) (source target invariant : PointSet) → slice_get h.system.transitions k ≡ Some t → slice_get sets t.source ≡ Some source → slice_get sets t.target ≡ Some target → slice_get h.invariants t.target ≡ Some invariant → (v : List ℤ) → IsPoint h.system.dim v → IsStepTo source.cons t.relation.cons v → In invariant.cons v → In target.cons v
+AreClosedUnderJumps h sets = (k : ℕ) (t : Transition) (source target invariant : PointSet) →
+    slice_get h.system.transitions k ≡ Some t → slice_get sets t.source ≡ Some source →
+    slice_get sets t.target ≡ Some target → slice_get h.invariants t.target ≡ Some invariant →
+    (v : List ℤ) → IsPoint h.system.dim v → IsStepTo source.cons t.relation.cons v →
+    In invariant.cons v → In target.cons v
 
 -- an invariant of the automaton, within the invariants of its locations
 pub record AreReached (h : HybridAutomaton) (sets : List PointSet) : Type 0 where
   pub are : AreOfLocations h.system sets
-  pub within : (l : ℕ) (invariant set : PointSet) → slice_get h.invariants l ≡ Some invariant → slice_get sets l ≡ Some set → (v : List ℤ) → IsPoint h.system.dim v → In set.cons v → In invariant.cons v
+  pub within : (l : ℕ) (invariant set : PointSet) → slice_get h.invariants l ≡ Some invariant →
+      slice_get sets l ≡ Some set → (v : List ℤ) → IsPoint h.system.dim v → In set.cons v →
+      In invariant.cons v
   pub initial : IncludeInitialWithin h sets
   pub flow : AreClosedUnderFlow h sets
   pub jumps : AreClosedUnderJumps h sets

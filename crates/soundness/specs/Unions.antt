@@ -1,5 +1,5 @@
 -- Powersets and ranking functions.
-use Rattle.std.specs.Prelude.{◌≡◌, ◌⊎◌, ◌↔◌, ◌<◌, ◌+◌, ◌-◌, ◌/◌, ◌%◌, ℕ, List, [], ◌∷◌, ◌++◌, length, take, slice_get, Some, Contains, ℤ, pos, false, codes, decimal}
+use Rattle.std.specs.Prelude.{◌≡◌, ◌⊎◌, ◌↔◌, ◌<◌, ◌+◌, ◌-◌, ◌/◌, ◌%◌, ℕ, List, [], ◌∷◌, ◌++◌, length, take, slice_get, Some, Contains, ℤ, pos, false, All, codes, decimal}
 use Rattle.row_core.specs.Vectors.{cell}
 use Rattle.row_core.specs.Points.{IsPoint}
 use Rattle.cons_sys.specs.Constraints.{In}
@@ -8,7 +8,7 @@ use Rattle.expr_text.specs.Printed.{generator_text}
 use Rattle.ranking.specs.Functions.{IsRanking}
 use Rattle.script_text.specs.declared.command.PowersetOperator.{PowersetOperator}
 use Rattle.script_text.specs.declared.command.PowersetOperator.TheVariants.{Join, Meet}
-use Rattle.soundness.specs.Points.{PointSet, IsSetOf, HasNoPoint}
+use Rattle.soundness.specs.Points.{PointSet, IsOver, IsSetOf, HasNoPoint}
 use Rattle.soundness.specs.Values.{Powerset}
 use Rattle.soundness.specs.Answers.{line}
 use Rattle.soundness.specs.TextsExpressions.{FractionText}
@@ -36,16 +36,24 @@ abbrev pub IsInBy : PowersetOperator → Powerset → Powerset → List ℤ → 
 IsInBy Join s t v = IsInUnion s v ⊎ IsInUnion t v
 IsInBy Meet s t v = IsInUnion s v × IsInUnion t v
 
+-- a set of the powerset's kind and over its variables
+pub record IsMemberOf (u : Powerset) (p : PointSet) : Type 0 where
+  pub kind : p.nnc ≡ u.nnc
+  pub variables : p.cons.dim ≡ u.dim
+
 -- the union of two powersets, or their intersection
 pub record IsCombined (op : PowersetOperator) (s t u : Powerset) : Type 0 where
   pub operands : AreAlike s t
   pub kind : u.nnc ≡ s.nnc
   pub variables : u.dim ≡ s.dim
+  pub members : All (IsMemberOf u) u.members
   pub points : (v : List ℤ) → IsPoint s.dim v → IsInUnion u v ↔ IsInBy op s t v
 
 -- the member with the number, where the first is member 1
-abbrev pub IsMember : ℕ → Powerset → PointSet → Type 0
-IsMember i u p = (0 < i) × (slice_get u.members (i - 1) ≡ Some p)
+pub record IsMember (i : ℕ) (u : Powerset) (p : PointSet) : Type 0 where
+  pub counted : 0 < i
+  pub is : slice_get u.members (i - 1) ≡ Some p
+  pub over : IsOver u.nnc u.dim p
 
 -- how many members there are
 abbrev pub TellsMembers : Powerset → List ℕ → Type 0
@@ -62,7 +70,8 @@ pub record TellsMissing (s t : Powerset) (reply : List ℕ) : Type 0 where
 -- whether each point of the second is in the first, or else a point of it that isn't
 pub record TellsCover (s t : Powerset) (reply : List ℕ) : Type 0 where
   pub operands : AreAlike s t
-  pub tells : (((v : List ℤ) → IsPoint s.dim v → IsInUnion t v → IsInUnion s v) × (reply ≡ line (codes "yes"))) ⊎ TellsMissing s t reply
+  pub tells : (((v : List ℤ) → IsPoint s.dim v → IsInUnion t v → IsInUnion s v)
+      × (reply ≡ line (codes "yes"))) ⊎ TellsMissing s t reply
 
 -- ---- ranking functions
 -- a closed relation between states and their successors, of as many variables each
@@ -70,7 +79,8 @@ pub record IsRelation (r : PointSet) : Type 0 where
   pub closed : r.nnc ≡ false
   pub even : r.cons.dim % 2 ≡ 0
 
--- the functions that rank the relation: at each pair of it they are at least 0 at the state, and at least 1 less at the successor
+-- the functions that rank the relation: at each pair of it they are at least 0 at the state, and at
+-- least 1 less at the successor
 pub record AreRankings (r s : PointSet) : Type 0 where
   pub relation : IsRelation r
   pub set : IsSetOf false (r.cons.dim / 2 + 1) (IsRanking (r.cons.dim / 2) r.cons) s
@@ -89,4 +99,5 @@ pub record TellsFunction (r : PointSet) (reply : List ℕ) : Type 0 where
 -- or that there is none
 pub record TellsRanking (r : PointSet) (reply : List ℕ) : Type 0 where
   pub relation : IsRelation r
-  pub tells : TellsFunction r reply ⊎ (((f : List ℤ) → IsPoint (r.cons.dim / 2 + 1) f → ¬ (IsRanking (r.cons.dim / 2) r.cons f)) × (reply ≡ line (codes "none")))
+  pub tells : TellsFunction r reply ⊎ (((f : List ℤ) → IsPoint (r.cons.dim / 2 + 1) f → ¬
+      (IsRanking (r.cons.dim / 2) r.cons f)) × (reply ≡ line (codes "none")))

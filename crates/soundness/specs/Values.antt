@@ -4,25 +4,29 @@ use Rattle.bd_shape.specs.Shapes.{DifferenceShape}
 use Rattle.name_table.specs.Table.{Table}
 use Rattle.soundness.specs.Points.{PointSet}
 
--- a transition between two locations: its relation has the variables of a state, and then those of its successor
+-- a transition between two locations: its relation has the variables of a state, and then those of
+-- its successor
 pub record Transition : Type 0 where
   pub source : ℕ
   pub target : ℕ
   pub relation : PointSet
 
--- a transition system: the number of variables of a state, the initial states of each location, and transitions
+-- a transition system: the number of variables of a state, the initial states of each location, and
+-- transitions
 pub record TransitionSystem : Type 0 where
   pub dim : ℕ
   pub initial : List PointSet
   pub transitions : List Transition
 
--- a hybrid automaton: a transition system, and for each location the states in which it may stay, and the velocities with which a state moves there
+-- a hybrid automaton: a transition system, and for each location the states in which it may stay,
+-- and the velocities with which a state moves there
 pub record HybridAutomaton : Type 0 where
   pub system : TransitionSystem
   pub invariants : List PointSet
   pub flows : List PointSet
 
--- a powerset, the union of its members: whether they need be closed, the number of their variables, and the members
+-- a powerset, the union of its members: whether they need be closed, the number of their variables,
+-- and the members
 pub record Powerset : Type 0 where
   pub nnc : Bool
   pub dim : ℕ
@@ -43,16 +47,20 @@ Names = Table Value
 -- ---- changes of a part
 -- the system with these initial states at the location
 abbrev pub with_initial : TransitionSystem → ℕ → PointSet → TransitionSystem
-with_initial s location p = record { dim = s.dim; initial = slice_set s.initial location p; transitions = s.transitions }
+with_initial s location p =
+    record { dim = s.dim; initial = slice_set s.initial location p; transitions = s.transitions }
 
 -- the system with one more transition
 abbrev pub with_transition : TransitionSystem → Transition → TransitionSystem
-with_transition s t = record { dim = s.dim; initial = s.initial; transitions = s.transitions ++ t ∷ [] }
+with_transition s t =
+    record { dim = s.dim; initial = s.initial; transitions = s.transitions ++ t ∷ [] }
 
 -- the automaton with this invariant of the location
 abbrev pub with_invariant : HybridAutomaton → ℕ → PointSet → HybridAutomaton
-with_invariant h location p = record { system = h.system; invariants = slice_set h.invariants location p; flows = h.flows }
+with_invariant h location p =
+    record { system = h.system; invariants = slice_set h.invariants location p; flows = h.flows }
 
 -- the automaton with these velocities at the location
 abbrev pub with_flow : HybridAutomaton → ℕ → PointSet → HybridAutomaton
-with_flow h location p = record { system = h.system; invariants = h.invariants; flows = slice_set h.flows location p }
+with_flow h location p =
+    record { system = h.system; invariants = h.invariants; flows = slice_set h.flows location p }
