@@ -85,7 +85,7 @@ record Joined (f g : Form) (w : List ℕ) : Type 0 where
 laid : (b x d c y e : List ℕ) → (b ++ (x ++ d)) ++ (c ++ (y ++ e)) ≡ b ++ ((x ++ ((d ++ c) ++ y)) ++ e)
 laid b x d c y e =
     append_assoc b (x ++ d) (c ++ (y ++ e)) ∙ ap (λ (z : List ℕ). b ++ z)
-      (append_assoc x d (c ++ (y ++ e)) ∙ (ap (λ (z : List ℕ). x ++ z) (sym (append_assoc d c (y ++ e)) ∙ sym (append_assoc (d ++ c) y e)) ∙ sym (append_assoc x ((d ++ c) ++ y) e)))
+    (append_assoc x d (c ++ (y ++ e)) ∙ (ap (λ (z : List ℕ). x ++ z) (sym (append_assoc d c (y ++ e)) ∙ sym (append_assoc (d ++ c) y e)) ∙ sym (append_assoc x ((d ++ c) ++ y) e)))
 
 joined : (f g : Form) (w u v : List ℕ) → w ≡ u ++ v → Matches (alone f) u → Matches (alone g) v → Joined f g w
 joined f g w u v e h k =
@@ -108,9 +108,13 @@ joined f g w u v e h k =
 -- the one, blanks, and the other
 both : (f g : Form) (w u v : List ℕ) → w ≡ u ++ v → Matches (alone f) u → Matches (alone g) v → Matches (alone (f ⋯ g)) w
 both f g w u v e h k =
-    let j : Joined f g w = joined f g w u v e h k in
-    (j.before, (j.first ++ (j.between ++ j.second)) ++ j.behind, j.is, j.blank_before,
-      (j.first ++ (j.between ++ j.second), j.behind, refl, (j.first, j.between ++ j.second, refl, j.matches, (j.between, j.second, refl, j.blank_between, j.others)), j.blank_behind))
+    let j : Joined f g w = joined f g w u v e h k in (
+      j.before,
+      (j.first ++ (j.between ++ j.second)) ++ j.behind,
+      j.is,
+      j.blank_before,
+      (j.first ++ (j.between ++ j.second), j.behind, refl, (j.first, j.between ++ j.second, refl, j.matches, (j.between, j.second, refl, j.blank_between, j.others)), j.blank_behind),
+    )
 
 -- a token, and tokens behind it
 token_then : (f g : Form) (t : List ℕ) (ts : Tokens) (w : List ℕ) → Matches f t → ((v : List ℕ) → AreTokens ts v → Matches (alone g) v) → AreTokens (t ∷ ts) w → Matches (alone (f ⋯ g)) w
@@ -163,8 +167,8 @@ multiple_form : (dim : ℕ) (ts : Tokens) (row : List ℤ) → IsMultiple dim ts
 multiple_form dim ts row (expressions.variable t j is below) w h = one_token vterm t w (inr (var_form t j is)) h
 multiple_form dim ts row (expressions.product t u n j number is below) w h =
     widened (nat ⋯ symbol 42 ⋯ var) vterm (λ x m. inl m) w
-      (token_then nat (symbol 42 ⋯ var) t (codes "*" ∷ u ∷ []) w (nat_form t n number)
-        (λ v k. token_then (symbol 42) var (codes "*") (u ∷ []) v (the_symbol 42) (λ y l. one_token var u y (var_form u j is) l) k) h)
+    (token_then nat (symbol 42 ⋯ var) t (codes "*" ∷ u ∷ []) w (nat_form t n number)
+    (λ v k. token_then (symbol 42) var (codes "*") (u ∷ []) v (the_symbol 42) (λ y l. one_token var u y (var_form u j is) l) k) h)
 
 vterm_term : (x : List ℕ) → Matches vterm x → Matches term x
 vterm_term x (inl m) = inl m
@@ -183,13 +187,22 @@ module _ (f : Form) (Means : Tokens → List ℤ → Type 0) (law : (ts : Tokens
   longer w u v e h k = put (joined (sum_of f) ((symbol 43 ⋯ f) ∣ (symbol 45 ⋯ f)) w u v e h k)
     where
       grown : (x y z : List ℕ) → Matches (sum_of f) x → Matches blanks y → Matches ((symbol 43 ⋯ f) ∣ (symbol 45 ⋯ f)) z → Matches (sum_of f) (x ++ (y ++ z))
-      grown x y z (p, q, is, first, (n, times)) between m =
-        (p, q ++ (y ++ z), ap (λ (t : List ℕ). t ++ (y ++ z)) is ∙ append_assoc p q (y ++ z), first,
-          (suc n, times_push (Matches (blanks · ((symbol 43 ⋯ f) ∣ (symbol 45 ⋯ f)))) n q (y ++ z) times (y, z, refl, between, m)))
+      grown x y z (p, q, is, first, (n, times)) between m = (
+        p,
+        q ++ (y ++ z),
+        ap (λ (t : List ℕ). t ++ (y ++ z)) is ∙ append_assoc p q (y ++ z),
+        first,
+        (suc n, times_push (Matches (blanks · ((symbol 43 ⋯ f) ∣ (symbol 45 ⋯ f)))) n q (y ++ z) times (y, z, refl, between, m)),
+      )
 
       put : Joined (sum_of f) ((symbol 43 ⋯ f) ∣ (symbol 45 ⋯ f)) w → Matches (alone (sum_of f)) w
-      put j = (j.before, (j.first ++ (j.between ++ j.second)) ++ j.behind, j.is, j.blank_before,
-        (j.first ++ (j.between ++ j.second), j.behind, refl, grown j.first j.between j.second j.matches j.blank_between j.others, j.blank_behind))
+      put j = (
+        j.before,
+        (j.first ++ (j.between ++ j.second)) ++ j.behind,
+        j.is,
+        j.blank_before,
+        (j.first ++ (j.between ++ j.second), j.behind, refl, grown j.first j.between j.second j.matches j.blank_between j.others, j.blank_behind),
+      )
 
   signed_form : (c : ℕ) (ts : Tokens) (row : List ℤ) → Means ts row → (w : List ℕ) → AreTokens ((c ∷ []) ∷ ts) w → Matches (alone (symbol c ⋯ f)) w
   signed_form c ts row m w h = token_then (symbol c) f (c ∷ []) ts w (the_symbol c) (law ts row m) h
@@ -198,11 +211,11 @@ module _ (f : Form) (Means : Tokens → List ℤ → Type 0) (law : (ts : Tokens
   sum_form ts row (expressions.one us u m) w h = widened f (sum_of f) (λ x k. alone_sum x (inl k)) w (law us u m w h)
   sum_form ts row (expressions.minus_one us u m) w h = widened (symbol 45 ⋯ f) (sum_of f) (λ x k. alone_sum x (inr k)) w (signed_form 45 us u m w h)
   sum_form ts row (expressions.plus ss us u v s m) w h =
-    let c : Cut ss (codes "+" ∷ us) w = cut ss (codes "+" ∷ us) w h in
-    longer w c.front c.back c.is (sum_form ss u s c.front c.first) (widened (symbol 43 ⋯ f) ((symbol 43 ⋯ f) ∣ (symbol 45 ⋯ f)) (λ x k. inl k) c.back (signed_form 43 us v m c.back c.others))
+      let c : Cut ss (codes "+" ∷ us) w = cut ss (codes "+" ∷ us) w h in
+      longer w c.front c.back c.is (sum_form ss u s c.front c.first) (widened (symbol 43 ⋯ f) ((symbol 43 ⋯ f) ∣ (symbol 45 ⋯ f)) (λ x k. inl k) c.back (signed_form 43 us v m c.back c.others))
   sum_form ts row (expressions.minus ss us u v s m) w h =
-    let c : Cut ss (codes "-" ∷ us) w = cut ss (codes "-" ∷ us) w h in
-    longer w c.front c.back c.is (sum_form ss u s c.front c.first) (widened (symbol 45 ⋯ f) ((symbol 43 ⋯ f) ∣ (symbol 45 ⋯ f)) (λ x k. inr k) c.back (signed_form 45 us v m c.back c.others))
+      let c : Cut ss (codes "-" ∷ us) w = cut ss (codes "-" ∷ us) w h in
+      longer w c.front c.back c.is (sum_form ss u s c.front c.first) (widened (symbol 45 ⋯ f) ((symbol 43 ⋯ f) ∣ (symbol 45 ⋯ f)) (λ x k. inr k) c.back (signed_form 45 us v m c.back c.others))
 
 expr_form : (dim : ℕ) (ts : Tokens) (row : List ℤ) → IsExpression dim ts row → (w : List ℕ) → AreTokens ts w → Matches (alone expr_cases) w
 expr_form dim ts row is w h = sum_form term (IsTerm dim) (term_form dim) ts row is w h
@@ -216,10 +229,10 @@ over_form : (f : Form) (Means : Tokens → List ℤ → Type 0) → ((ts : Token
 over_form f Means law ts q (expressions.whole us u m) w h = widened f (over_nat f) (λ x k. inl k) w (law us u m w h)
 over_form f Means law ts q (expressions.divided us t u n m is positive) w h =
     widened (symbol 40 ⋯ f ⋯ symbol 41 ⋯ symbol 47 ⋯ nat) (over_nat f) (λ x k. inr k) w
-      (token_then (symbol 40) (f ⋯ symbol 41 ⋯ symbol 47 ⋯ nat) (codes "(") (us ++ codes ")" ∷ codes "/" ∷ t ∷ []) w (the_symbol 40)
-        (λ v k. tokens_then f (symbol 41 ⋯ symbol 47 ⋯ nat) us (codes ")" ∷ codes "/" ∷ t ∷ []) v (law us u m)
-          (λ y l. token_then (symbol 41) (symbol 47 ⋯ nat) (codes ")") (codes "/" ∷ t ∷ []) y (the_symbol 41)
-            (λ z o. token_then (symbol 47) nat (codes "/") (t ∷ []) z (the_symbol 47) (λ a p. one_token nat t a (nat_form t n is) p) o) l) k) h)
+    (token_then (symbol 40) (f ⋯ symbol 41 ⋯ symbol 47 ⋯ nat) (codes "(") (us ++ codes ")" ∷ codes "/" ∷ t ∷ []) w (the_symbol 40)
+    (λ v k. tokens_then f (symbol 41 ⋯ symbol 47 ⋯ nat) us (codes ")" ∷ codes "/" ∷ t ∷ []) v (law us u m)
+    (λ y l. token_then (symbol 41) (symbol 47 ⋯ nat) (codes ")") (codes "/" ∷ t ∷ []) y (the_symbol 41)
+    (λ z o. token_then (symbol 47) nat (codes "/") (t ∷ []) z (the_symbol 47) (λ a p. one_token nat t a (nat_form t n is) p) o) l) k) h)
 
 -- ---- constraints, generators and lists
 related_form : (dim : ℕ) (sign : List ℕ) → Matches rel sign → (ss ts : Tokens) (u v : List ℤ) → IsExpression dim ss u → IsExpression dim ts v → (w : List ℕ) → AreTokens (ss ++ sign ∷ ts) w → Matches (alone con_cases) w
@@ -242,21 +255,37 @@ module _ {A : Type 0} (f : Form) (Means : Tokens → A → Type 0) (law : (ts : 
       regrouped comma b p q = ap (λ (t : List ℕ). comma ++ t) (sym (append_assoc b p q)) ∙ sym (append_assoc comma (b ++ p) q)
 
       grown : (x y z : List ℕ) → Matches f x → Matches blanks y → Matches (symbol 44 ⋯ list_of f) z → Matches (list_of f) (x ++ (y ++ z))
-      grown x y z m between (comma, r, e1, is_comma, (b, s, e2, behind, (p, q, e3, first, (n, times)))) =
-        (x, y ++ z, refl, m,
-          (suc n, (y ++ (comma ++ (b ++ p)), q,
+      grown x y z m between (comma, r, e1, is_comma, (b, s, e2, behind, (p, q, e3, first, (n, times)))) = (
+        x,
+        y ++ z,
+        refl,
+        m,
+        (
+          suc n,
+          (
+            y ++ (comma ++ (b ++ p)),
+            q,
             ap (λ (t : List ℕ). y ++ t) (e1 ∙ (ap (λ (t : List ℕ). comma ++ t) (e2 ∙ ap (λ (t : List ℕ). b ++ t) e3) ∙ regrouped comma b p q)) ∙ sym (append_assoc y (comma ++ (b ++ p)) q),
-            (y, comma ++ (b ++ p), refl, between, (comma, b ++ p, refl, is_comma, (b, p, refl, behind, first))), times)))
+            (y, comma ++ (b ++ p), refl, between, (comma, b ++ p, refl, is_comma, (b, p, refl, behind, first))),
+            times,
+          ),
+        ),
+      )
 
       put : Joined f (symbol 44 ⋯ list_of f) w → Matches (alone (list_of f)) w
-      put j = (j.before, (j.first ++ (j.between ++ j.second)) ++ j.behind, j.is, j.blank_before,
-        (j.first ++ (j.between ++ j.second), j.behind, refl, grown j.first j.between j.second j.matches j.blank_between j.others, j.blank_behind))
+      put j = (
+        j.before,
+        (j.first ++ (j.between ++ j.second)) ++ j.behind,
+        j.is,
+        j.blank_before,
+        (j.first ++ (j.between ++ j.second), j.behind, refl, grown j.first j.between j.second j.matches j.blank_between j.others, j.blank_behind),
+      )
 
   list_form : (ts : Tokens) (as_read : List A) → AreListed Means ts as_read → (w : List ℕ) → AreTokens ts w → Matches (alone (list_of f)) w
   list_form ts as_read (systems.last us a m) w h = widened f (list_of f) (λ x k. (x, [], sym (append-nil x), k, (0, refl))) w (law us a m w h)
   list_form ts as_read (systems.next ss us a others m rest) w h =
-    let c : Cut ss (codes "," ∷ us) w = cut ss (codes "," ∷ us) w h in
-    before_list w c.front c.back c.is (law ss a m c.front c.first)
+      let c : Cut ss (codes "," ∷ us) w = cut ss (codes "," ∷ us) w h in
+      before_list w c.front c.back c.is (law ss a m c.front c.first)
       (token_then (symbol 44) (list_of f) (codes ",") us c.back (the_symbol 44) (list_form us others rest) c.others)
 
 cons_form : (dim : ℕ) (ts : Tokens) (cs : List Constraint) → AreConstraints dim ts cs → (w : List ℕ) → AreTokens ts w → Matches (alone cons_cases) w
@@ -267,7 +296,7 @@ cons_form dim ts cs (systems.constraints us ds is) w h = widened (list_of con_ca
 enclosed_form : (cs : List ℕ) (f : Form) (ts : Tokens) → ((w : List ℕ) → AreTokens ts w → Matches (alone f) w) → (w : List ℕ) → AreTokens (cs ∷ ts ++ codes ")" ∷ []) w → Matches (alone (word cs ⋯ f ⋯ symbol 41)) w
 enclosed_form cs f ts law w h =
     token_then (word cs) (f ⋯ symbol 41) cs (ts ++ codes ")" ∷ []) w refl
-      (λ v k. tokens_then f (symbol 41) ts (codes ")" ∷ []) v law (λ y l. one_token (symbol 41) (codes ")") y (the_symbol 41) l) k) h
+    (λ v k. tokens_then f (symbol 41) ts (codes ")" ∷ []) v law (λ y l. one_token (symbol 41) (codes ")") y (the_symbol 41) l) k) h
 
 gen_form : (dim : ℕ) (ts : Tokens) (g : Generator) → IsGenerator dim ts g → (w : List ℕ) → AreTokens ts w → Matches (alone gen_cases) w
 gen_form dim ts g (systems.point us u n is) w h = widened point_cases gen_cases (λ x m. inl m) w (enclosed_form (codes "p(") vfrac_cases us (over_form vexpr_cases (AreCoordinates dim) (vexpr_form dim) us (u, n) is) w h)

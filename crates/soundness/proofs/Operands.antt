@@ -52,8 +52,8 @@ pub all_below : (dim : ℕ) (vars : List ℕ) → ¬ (¬ (All (λ (i : ℕ). i <
 all_below dim [] h = All-nil (λ (i : ℕ). i < dim)
 all_below dim (v ∷ vars) h =
     All-cons (λ (i : ℕ). i < dim) v vars
-      (below dim v (λ most. h (λ all. no_less dim v most (All-head (λ (i : ℕ). i < dim) v vars all))))
-      (all_below dim vars (λ n. h (λ all. n (All-tail (λ (i : ℕ). i < dim) v vars all))))
+    (below dim v (λ most. h (λ all. no_less dim v most (All-head (λ (i : ℕ). i < dim) v vars all))))
+    (all_below dim vars (λ n. h (λ all. n (All-tail (λ (i : ℕ). i < dim) v vars all))))
 
 -- two polyhedra
 pub are_alike : (p q : Polyhedron) (others : Conditions) → Passes (alike p q others) → AreAlike (set_of p) (set_of q)

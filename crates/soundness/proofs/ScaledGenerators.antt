@@ -107,29 +107,29 @@ times_again m t p s y e g =
 module _ (gs ds : Generators) (a : AreRelated IsScaled gs.list ds.list) (v : List ℤ) where
   to_stored : Span gs v → Span ds v
   to_stored s =
-    let r : Goes gs.list ds.list s.factors = goes gs.list ds.list a s.factors (weights_of gs.list s.factors s.one_each s.allowed) in
-    record {
-      times = s.times;
-      positive = s.positive;
-      factors = r.factors;
-      one_each = weights_length ds.list r.factors r.weights;
-      allowed = weights_allowed ds.list r.factors r.weights;
-      point = point_factor ds.list r.factors (r.point (point_weight gs.list s.factors s.point.index s.one_each s.point.within s.point.kind s.point.positive));
-      sum = λ j. s.sum j ∙ sym (r.sum j);
-    }
+      let r : Goes gs.list ds.list s.factors = goes gs.list ds.list a s.factors (weights_of gs.list s.factors s.one_each s.allowed) in
+      record {
+        times = s.times;
+        positive = s.positive;
+        factors = r.factors;
+        one_each = weights_length ds.list r.factors r.weights;
+        allowed = weights_allowed ds.list r.factors r.weights;
+        point = point_factor ds.list r.factors (r.point (point_weight gs.list s.factors s.point.index s.one_each s.point.within s.point.kind s.point.positive));
+        sum = λ j. s.sum j ∙ sym (r.sum j);
+      }
 
   to_written : Span ds v → Span gs v
   to_written s =
-    let r : Comes gs.list ds.list s.factors = comes gs.list ds.list a s.factors (weights_of ds.list s.factors s.one_each s.allowed) in
-    record {
-      times = r.times *ℤ s.times;
-      positive = mul-positive r.times s.times r.positive s.positive;
-      factors = r.factors;
-      one_each = weights_length gs.list r.factors r.weights;
-      allowed = weights_allowed gs.list r.factors r.weights;
-      point = point_factor gs.list r.factors (r.point (point_weight ds.list s.factors s.point.index s.one_each s.point.within s.point.kind s.point.positive));
-      sum = λ j. times_again r.times s.times (cell v j) (combined s.factors (rows_of ds.list) j) (combined r.factors (rows_of gs.list) j) (s.sum j) (r.sum j);
-    }
+      let r : Comes gs.list ds.list s.factors = comes gs.list ds.list a s.factors (weights_of ds.list s.factors s.one_each s.allowed) in
+      record {
+        times = r.times *ℤ s.times;
+        positive = mul-positive r.times s.times r.positive s.positive;
+        factors = r.factors;
+        one_each = weights_length gs.list r.factors r.weights;
+        allowed = weights_allowed gs.list r.factors r.weights;
+        point = point_factor gs.list r.factors (r.point (point_weight ds.list s.factors s.point.index s.one_each s.point.within s.point.kind s.point.positive));
+        sum = λ j. times_again r.times s.times (cell v j) (combined s.factors (rows_of ds.list) j) (combined r.factors (rows_of gs.list) j) (s.sum j) (r.sum j);
+      }
 
   pub scaled_span : Span ds v ↔ Span gs v
   scaled_span = (to_written, to_stored)

@@ -34,15 +34,16 @@ good_gens dim [] [] within stay divisors h = tt
 good_gens dim [] (r ∷ rs) within stay divisors h = absurd h
 good_gens dim (g ∷ gs) [] within stay divisors h = absurd h
 good_gens dim (g ∷ gs) (r ∷ rs) within stay divisors h =
-    let here : VectorStays dim g.terms g.last = All-head (λ (g : GeneratorTerms). VectorStays dim g.terms g.last) g gs stay in
-    (record {
-      within = All-head (λ (g : GeneratorTerms). AreWithin dim g.terms) g gs within;
-      short = here.terms.numbers;
-      low = here.last_entry;
-      positive = All-head (λ (g : GeneratorTerms). HasDivisor g.kind g.last) g gs divisors;
-      is = h.0;
-    },
-      good_gens dim gs rs (All-tail (λ (g : GeneratorTerms). AreWithin dim g.terms) g gs within) (All-tail (λ (g : GeneratorTerms). VectorStays dim g.terms g.last) g gs stay) (All-tail (λ (g : GeneratorTerms). HasDivisor g.kind g.last) g gs divisors) h.1)
+    let here : VectorStays dim g.terms g.last = All-head (λ (g : GeneratorTerms). VectorStays dim g.terms g.last) g gs stay in (
+      record {
+        within = All-head (λ (g : GeneratorTerms). AreWithin dim g.terms) g gs within;
+        short = here.terms.numbers;
+        low = here.last_entry;
+        positive = All-head (λ (g : GeneratorTerms). HasDivisor g.kind g.last) g gs divisors;
+        is = h.0;
+      },
+      good_gens dim gs rs (All-tail (λ (g : GeneratorTerms). AreWithin dim g.terms) g gs within) (All-tail (λ (g : GeneratorTerms). VectorStays dim g.terms g.last) g gs stay) (All-tail (λ (g : GeneratorTerms). HasDivisor g.kind g.last) g gs divisors) h.1,
+    )
 
 further_same : (n : ℕ) (w : List ℕ) (m : Times (Matches (blanks · (symbol 44 ⋯ gen_cases))) n w) → further_gens_by n w m ≡ further_of gen_cases gen_by n w m
 further_same zero w none = refl
@@ -70,9 +71,9 @@ module _ (dim : ℕ) where
   }
   gens_law w (inl no_generator) (r ∷ rs) good = absurd good
   gens_law w (inr (first, v, e, is_first, (n, others))) stored good =
-    let h : HaveRelated (AreListed (IsGenerator dim)) IsScaled w stored = listed_law gen_cases gen_by (IsGenerator dim) IsScaled (IsGood dim) gen_element n w first v is_first others e stored
-          (subst (λ (gs : List GeneratorTerms). AreRelated (IsGood dim) (gen_by first is_first ∷ gs) stored) (further_same n v others) good) in
-    record { elements = h.elements; are = record { tokens = h.are.tokens; split = h.are.split; means = systems.generators h.are.tokens h.elements h.are.means }; related = h.related }
+      let h : HaveRelated (AreListed (IsGenerator dim)) IsScaled w stored = listed_law gen_cases gen_by (IsGenerator dim) IsScaled (IsGood dim) gen_element n w first v is_first others e stored
+      (subst (λ (gs : List GeneratorTerms). AreRelated (IsGood dim) (gen_by first is_first ∷ gs) stored) (further_same n v others) good) in
+      record { elements = h.elements; are = record { tokens = h.are.tokens; split = h.are.split; means = systems.generators h.are.tokens h.elements h.are.means }; related = h.related }
 
 gens_alone : (dim : ℕ) (text : List ℕ) (system : Generators) (m : Matches (alone gens_cases) text) → IsGensOf dim (alone_by gens_cases gens_by text m) system → SaysGenerators dim text system
 gens_alone dim text system (b1, w1, e1, before, (x, b2, e2, is, behind)) h =

@@ -110,11 +110,18 @@ comment_is w (inr (u, v, e, mark, more)) = subst IsComment (sym (e ∙ ap (λ (t
 
 -- a part behind one of the signs
 part_tail : (f : Form) (signs_of : List (List ℕ)) (t b x sign y c z text d : List ℕ) → t ≡ b ++ x → Matches blanks b → x ≡ sign ++ y → Contains signs_of sign → y ≡ c ++ z → Matches blanks c → z ≡ text ++ d → Matches blanks d → IsTail (Part signs_of text) t
-part_tail f signs_of t b x sign y c z text d e before e2 is e3 behind e4 end =
-    (b, sign, c, d,
-      e ∙ (ap (λ (u : List ℕ). b ++ u) (e2 ∙ ap (λ (u : List ℕ). sign ++ u) (e3 ∙ ap (λ (u : List ℕ). c ++ u) e4))
-        ∙ (sym (append_assoc b sign (c ++ (text ++ d))) ∙ (sym (append_assoc (b ++ sign) c (text ++ d)) ∙ sym (append_assoc ((b ++ sign) ++ c) text d)))),
-      is, blanks_are b before, blanks_are c behind, blanks_are d end)
+part_tail f signs_of t b x sign y c z text d e before e2 is e3 behind e4 end = (
+  b,
+  sign,
+  c,
+  d,
+  e ∙ (ap (λ (u : List ℕ). b ++ u) (e2 ∙ ap (λ (u : List ℕ). sign ++ u) (e3 ∙ ap (λ (u : List ℕ). c ++ u) e4))
+      ∙ (sym (append_assoc b sign (c ++ (text ++ d))) ∙ (sym (append_assoc (b ++ sign) c (text ++ d)) ∙ sym (append_assoc ((b ++ sign) ++ c) text d)))),
+  is,
+  blanks_are b before,
+  blanks_are c behind,
+  blanks_are d end,
+)
 
 colon_in : (sign : List ℕ) → Matches (symbol 58) sign → Contains (codes ":" ∷ []) sign
 colon_in sign m = (0, omega arith, sym (symbol_is 58 sign m))
@@ -191,7 +198,7 @@ line_law layout xs reads k same tail_is line (b, x, e, before, (command, rest, e
   tail = t;
   comment = c;
   same = e ∙ (ap (λ (u : List ℕ). b ++ u) (e2 ∙ (ap (λ (u : List ℕ). u ++ rest) (is ∙ same) ∙ ap (λ (u : List ℕ). k ++ u) (e3 ∙ ap (λ (u : List ℕ). ws ++ u) e4)))
-    ∙ (sym (append_assoc b k (ws ++ (t ++ c))) ∙ (sym (append_assoc (b ++ k) ws (t ++ c)) ∙ sym (append_assoc ((b ++ k) ++ ws) t c))));
+      ∙ (sym (append_assoc b k (ws ++ (t ++ c))) ∙ (sym (append_assoc (b ++ k) ws (t ++ c)) ∙ sym (append_assoc ((b ++ k) ++ ws) t c))));
   blank = blanks_are b before;
   are_words = words_law layout.words xs reads ws words;
   is_tail = told;
@@ -206,24 +213,27 @@ plain_line command fs xs reads k same line m = line_law (plain command fs) xs re
 part_line : (command : List ℕ) (fs : List Form) (f : Form) (xs : List (List ℕ → Word)) → AreRead fs xs → (k : List ℕ) → command ≡ k → (line : List ℕ) (m : LineOf (with_part command fs f) line) → IsSpelled (record { first = k; words = made xs (words_in (with_part command fs f) line m); tail = Part (codes ":" ∷ []) (fields_by (with_part command fs f) line m).part }) line
 part_line command fs f xs reads k same line (b, x, e, before, (command_text, rest, e2, is, (ws, y, e3, words, (t, c, e4, (b2, x2, f1, before2, (colon, y2, f2, is_colon, (c2, z2, f3, behind2, (text, d2, f4, is_text, end2)))), commented)))) =
     line_law (with_part command fs f) xs reads k same (Part (codes ":" ∷ []) text) line (b, x, e, before, (command_text, rest, e2, is, (ws, y, e3, words, (t, c, e4, (b2, x2, f1, before2, (colon, y2, f2, is_colon, (c2, z2, f3, behind2, (text, d2, f4, is_text, end2)))), commented))))
-      (part_tail f (codes ":" ∷ []) t b2 x2 colon y2 c2 z2 text d2 f1 before2 f2 (colon_in colon is_colon) f3 behind2 f4 end2)
+    (part_tail f (codes ":" ∷ []) t b2 x2 colon y2 c2 z2 text d2 f1 before2 f2 (colon_in colon is_colon) f3 behind2 f4 end2)
 
 -- a command with a part behind a colon or a relation
 related_line : (command : List ℕ) (fs : List Form) (f : Form) (xs : List (List ℕ → Word)) → AreRead fs xs → (k : List ℕ) → command ≡ k → (line : List ℕ) (m : LineOf (with_relation command fs f) line) → IsSpelled (record { first = k; words = made xs (words_in (with_relation command fs f) line m); tail = Part (signs (relation_of (fields_by (with_relation command fs f) line m).sign)) (fields_by (with_relation command fs f) line m).part }) line
 related_line command fs f xs reads k same line (b, x, e, before, (command_text, rest, e2, is, (ws, y, e3, words, (t, c, e4, (b2, x2, f1, before2, (sign, y2, f2, is_sign, (c2, z2, f3, behind2, (text, d2, f4, is_text, end2)))), commented)))) =
     line_law (with_relation command fs f) xs reads k same (Part (signs (relation_of sign)) text) line (b, x, e, before, (command_text, rest, e2, is, (ws, y, e3, words, (t, c, e4, (b2, x2, f1, before2, (sign, y2, f2, is_sign, (c2, z2, f3, behind2, (text, d2, f4, is_text, end2)))), commented))))
-      (part_tail f (signs (relation_of sign)) t b2 x2 sign y2 c2 z2 text d2 f1 before2 f2 (sign_in sign is_sign) f3 behind2 f4 end2)
+    (part_tail f (signs (relation_of sign)) t b2 x2 sign y2 c2 z2 text d2 f1 before2 f2 (sign_in sign is_sign) f3 behind2 f4 end2)
 
 -- a command with variables behind a colon
 variables_line : VariablesAreListed → (command : List ℕ) (fs : List Form) (xs : List (List ℕ → Word)) → AreRead fs xs → (k : List ℕ) → command ≡ k → (line : List ℕ) (m : LineOf (with_part command fs vars) line) → IsSpelled (record { first = k; words = made xs (words_in (with_part command fs vars) line m); tail = Variables (variables_of (fields_by (with_part command fs vars) line m).part) }) line
 variables_line variables_listed command fs xs reads k same line (b, x, e, before, (command_text, rest, e2, is, (ws, y, e3, words, (t, c, e4, (b2, x2, f1, before2, (colon, y2, f2, is_colon, (c2, z2, f3, behind2, (text, d2, f4, is_text, end2)))), commented)))) =
     let h = vars_law variables_listed text is_text in
-    line_law (with_part command fs vars) xs reads k same (Variables (variables_of text)) line (b, x, e, before, (command_text, rest, e2, is, (ws, y, e3, words, (t, c, e4, (b2, x2, f1, before2, (colon, y2, f2, is_colon, (c2, z2, f3, behind2, (text, d2, f4, is_text, end2)))), commented))))
-      (b2, y2, h.variables,
-        f1 ∙ (ap (λ (u : List ℕ). b2 ++ u) (f2 ∙ ap (λ (u : List ℕ). u ++ y2) (symbol_is 58 colon is_colon)) ∙ sym (append_assoc b2 (codes ":") y2)),
-        blanks_are b2 before2,
-        record { tokens = h.is.tokens; split = alone_tokens h.is.tokens y2 c2 z2 text d2 f3 behind2 f4 end2 h.is.split; means = h.is.means },
-        h.are_kept)
+    line_law (with_part command fs vars) xs reads k same (Variables (variables_of text)) line (b, x, e, before, (command_text, rest, e2, is, (ws, y, e3, words, (t, c, e4, (b2, x2, f1, before2, (colon, y2, f2, is_colon, (c2, z2, f3, behind2, (text, d2, f4, is_text, end2)))), commented)))) (
+      b2,
+      y2,
+      h.variables,
+      f1 ∙ (ap (λ (u : List ℕ). b2 ++ u) (f2 ∙ ap (λ (u : List ℕ). u ++ y2) (symbol_is 58 colon is_colon)) ∙ sym (append_assoc b2 (codes ":") y2)),
+      blanks_are b2 before2,
+      record { tokens = h.is.tokens; split = alone_tokens h.is.tokens y2 c2 z2 text d2 f3 behind2 f4 end2 h.is.split; means = h.is.means },
+      h.are_kept,
+    )
 
 -- a blank line, or a comment alone
 nothing_line : (line : List ℕ) → Matches (blanks · perhaps comment) line → IsSpelled (lines.words [] []) line

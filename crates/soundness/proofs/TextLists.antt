@@ -58,34 +58,34 @@ module _ {T A B : Type 0} (f : Form) (by : (w : List ℕ) → Matches f w → T)
   pub listed_law : (n : ℕ) (w u v : List ℕ) (m : Matches f u) (others : Times (Matches (blanks · (symbol 44 ⋯ f))) n v) → w ≡ u ++ v → (bs : List B) → AreRelated Good (by u m ∷ further_of f by n v others) bs → HaveRelated (AreListed Means) R w bs
   listed_law zero w u v m none e [] good = absurd good
   listed_law zero w u v m none e (b ∷ []) good =
-    let h : HasRelated Means R u b = law u m b good.0 in
-    record {
-      elements = h.element ∷ [];
-      are = record {
-        tokens = h.is.tokens ++ [];
-        split = tokens_of h.is.tokens [] w u v e h.is.split (subst (AreTokens []) (sym none) no_blanks);
-        means = subst (λ (ts : Tokens). AreListed Means ts (h.element ∷ [])) (sym (append-nil h.is.tokens)) (systems.last h.is.tokens h.element h.is.means);
-      };
-      related = (h.related, tt);
-    }
+      let h : HasRelated Means R u b = law u m b good.0 in
+      record {
+        elements = h.element ∷ [];
+        are = record {
+          tokens = h.is.tokens ++ [];
+          split = tokens_of h.is.tokens [] w u v e h.is.split (subst (AreTokens []) (sym none) no_blanks);
+          means = subst (λ (ts : Tokens). AreListed Means ts (h.element ∷ [])) (sym (append-nil h.is.tokens)) (systems.last h.is.tokens h.element h.is.means);
+        };
+        related = (h.related, tt);
+      }
   listed_law zero w u v m none e (b ∷ c ∷ bs) good = absurd good.1
   listed_law (suc n) w u v m others e [] good = absurd good
   listed_law (suc n) w u v m (x, y, e0, (b1, w1, e1, blanks1, (comma, w2, e2, is_comma, (b2, z, e3, blanks2, is))), others) e (b ∷ bs) good =
-    let h : HasRelated Means R u b = law u m b good.0 in
-    let q : HaveRelated (AreListed Means) R (z ++ y) bs = listed_law n (z ++ y) z y is others refl bs good.1 in
-    let w3 : List ℕ = b2 ++ (z ++ y) in
-    record {
-      elements = h.element ∷ q.elements;
-      are = record {
-        tokens = h.is.tokens ++ codes "," ∷ q.are.tokens;
-        split = tokens_of h.is.tokens (codes "," ∷ q.are.tokens) w u v e h.is.split
-          (behind_blanks (codes "," ∷ q.are.tokens) v b1 (w1 ++ y) (e0 ∙ (ap (λ (t : List ℕ). t ++ y) e1 ∙ append_assoc b1 w1 y)) blanks1
-            (token_before (codes ",") q.are.tokens (w1 ++ y) comma (w2 ++ y) (ap (λ (t : List ℕ). t ++ y) e2 ∙ append_assoc comma w2 y) (symbol_is 44 comma is_comma)
+      let h : HasRelated Means R u b = law u m b good.0 in
+      let q : HaveRelated (AreListed Means) R (z ++ y) bs = listed_law n (z ++ y) z y is others refl bs good.1 in
+      let w3 : List ℕ = b2 ++ (z ++ y) in
+      record {
+        elements = h.element ∷ q.elements;
+        are = record {
+          tokens = h.is.tokens ++ codes "," ∷ q.are.tokens;
+          split = tokens_of h.is.tokens (codes "," ∷ q.are.tokens) w u v e h.is.split
+              (behind_blanks (codes "," ∷ q.are.tokens) v b1 (w1 ++ y) (e0 ∙ (ap (λ (t : List ℕ). t ++ y) e1 ∙ append_assoc b1 w1 y)) blanks1
+              (token_before (codes ",") q.are.tokens (w1 ++ y) comma (w2 ++ y) (ap (λ (t : List ℕ). t ++ y) e2 ∙ append_assoc comma w2 y) (symbol_is 44 comma is_comma)
               (behind_blanks q.are.tokens (w2 ++ y) b2 (z ++ y) (ap (λ (t : List ℕ). t ++ y) e3 ∙ append_assoc b2 z y) blanks2 q.are.split)));
-        means = systems.next h.is.tokens q.are.tokens h.element q.elements h.is.means q.are.means;
-      };
-      related = (h.related, q.related);
-    }
+          means = systems.next h.is.tokens q.are.tokens h.element q.elements h.is.means q.are.means;
+        };
+        related = (h.related, q.related);
+      }
 
 -- ---- constraints
 -- the row of the one is a positive multiple of that of the other, and the kinds are the same
@@ -103,9 +103,10 @@ good_cons : (dim : ℕ) (cs : List Comparison) (stored : List Constraint) → st
 good_cons dim [] [] within stay h = tt
 good_cons dim [] (r ∷ rs) within stay h = absurd h
 good_cons dim (c ∷ cs) [] within stay h = absurd h
-good_cons dim (c ∷ cs) (r ∷ rs) within stay h =
-    (record { within = All-head (λ (c : Comparison). AreWithin dim c.terms) c cs within; short = (All-head (λ (c : Comparison). Stay dim c.terms) c cs stay).numbers; is = h.0 },
-      good_cons dim cs rs (All-tail (λ (c : Comparison). AreWithin dim c.terms) c cs within) (All-tail (λ (c : Comparison). Stay dim c.terms) c cs stay) h.1)
+good_cons dim (c ∷ cs) (r ∷ rs) within stay h = (
+  record { within = All-head (λ (c : Comparison). AreWithin dim c.terms) c cs within; short = (All-head (λ (c : Comparison). Stay dim c.terms) c cs stay).numbers; is = h.0 },
+  good_cons dim cs rs (All-tail (λ (c : Comparison). AreWithin dim c.terms) c cs within) (All-tail (λ (c : Comparison). Stay dim c.terms) c cs stay) h.1,
+)
 
 further_same : (n : ℕ) (w : List ℕ) (m : Times (Matches (blanks · (symbol 44 ⋯ con_cases))) n w) → further_cons_by n w m ≡ further_of con_cases con_by n w m
 further_same zero w none = refl
@@ -137,16 +138,19 @@ module _ (dim : ℕ) where
   cons_law w (inr (inl empty)) (r ∷ []) good = record {
     elements = (at_column dim dim (negsuc 0), Ge) ∷ [];
     are = record { tokens = codes "false" ∷ []; split = token_is w (codes "false") empty; means = systems.never };
-    related = (record {
-      multiple = subst (λ (v : List ℤ). IsPrimitiveOf v r.0) (sym (never_row dim good.0.is.row good.0.is.sums)) good.0.is.primitive;
-      kind = good.0.is.kind;
-    }, tt);
+    related = (
+      record {
+        multiple = subst (λ (v : List ℤ). IsPrimitiveOf v r.0) (sym (never_row dim good.0.is.row good.0.is.sums)) good.0.is.primitive;
+        kind = good.0.is.kind;
+      },
+      tt,
+    );
   }
   cons_law w (inr (inl empty)) (r ∷ s ∷ rs) good = absurd good.1
   cons_law w (inr (inr (first, v, e, is_first, (n, others)))) stored good =
-    let h : HaveRelated (AreListed (IsConstraint dim)) IsWritten w stored = listed_law con_cases con_by (IsConstraint dim) IsWritten (IsGoodCon dim) con_element n w first v is_first others e stored
-          (subst (λ (cs : List Comparison). AreRelated (IsGoodCon dim) (con_by first is_first ∷ cs) stored) (further_same n v others) good) in
-    record { elements = h.elements; are = record { tokens = h.are.tokens; split = h.are.split; means = systems.constraints h.are.tokens h.elements h.are.means }; related = h.related }
+      let h : HaveRelated (AreListed (IsConstraint dim)) IsWritten w stored = listed_law con_cases con_by (IsConstraint dim) IsWritten (IsGoodCon dim) con_element n w first v is_first others e stored
+      (subst (λ (cs : List Comparison). AreRelated (IsGoodCon dim) (con_by first is_first ∷ cs) stored) (further_same n v others) good) in
+      record { elements = h.elements; are = record { tokens = h.are.tokens; split = h.are.split; means = systems.constraints h.are.tokens h.elements h.are.means }; related = h.related }
 
 -- ---- the points of both lists
 positive_times : (n : ℕ) → 0 < n → pos 0 <ℤ pos n
@@ -169,9 +173,10 @@ module _ (row stored v : List ℤ) (p : IsPrimitiveOf row stored) where
   written_sign = same_sign (pos p.multiple.times) (pos 1) (dot stored v) (dot row v) (positive_times p.multiple.times p.multiple.positive) (omega (arith, ints)) (times_one (dot row v) (pos p.multiple.times *ℤ dot stored v) value)
 
 satisfied : (v : List ℤ) (c d : Constraint) → IsWritten c d → Satisfies v c ↔ Satisfies v d
-satisfied v c d is =
-    (λ h. subst (λ (k : ConKind). Allows k (dot d.0 v)) (sym is.kind) (Allows-same_sign c.1 (dot c.0 v) (dot d.0 v) (stored_sign c.0 d.0 v is.multiple) h),
-      λ h. Allows-same_sign c.1 (dot d.0 v) (dot c.0 v) (written_sign c.0 d.0 v is.multiple) (subst (λ (k : ConKind). Allows k (dot d.0 v)) is.kind h))
+satisfied v c d is = (
+  λ h. subst (λ (k : ConKind). Allows k (dot d.0 v)) (sym is.kind) (Allows-same_sign c.1 (dot c.0 v) (dot d.0 v) (stored_sign c.0 d.0 v is.multiple) h),
+  λ h. Allows-same_sign c.1 (dot d.0 v) (dot c.0 v) (written_sign c.0 d.0 v is.multiple) (subst (λ (k : ConKind). Allows k (dot d.0 v)) is.kind h),
+)
 
 all_satisfied : (v : List ℤ) (cs ds : List Constraint) → AreRelated IsWritten cs ds → All (Satisfies v) ds ↔ All (Satisfies v) cs
 all_satisfied v [] [] h = (λ a. a, λ a. a)
@@ -179,9 +184,10 @@ all_satisfied v [] (d ∷ ds) h = absurd h
 all_satisfied v (c ∷ cs) [] h = absurd h
 all_satisfied v (c ∷ cs) (d ∷ ds) h =
     let one = satisfied v c d h.0 in
-    let rest = all_satisfied v cs ds h.1 in
-    (λ a. All-cons (Satisfies v) c cs (one.1 (All-head (Satisfies v) d ds a)) (rest.0 (All-tail (Satisfies v) d ds a)),
-      λ a. All-cons (Satisfies v) d ds (one.0 (All-head (Satisfies v) c cs a)) (rest.1 (All-tail (Satisfies v) c cs a)))
+    let rest = all_satisfied v cs ds h.1 in (
+      λ a. All-cons (Satisfies v) c cs (one.1 (All-head (Satisfies v) d ds a)) (rest.0 (All-tail (Satisfies v) d ds a)),
+      λ a. All-cons (Satisfies v) d ds (one.0 (All-head (Satisfies v) c cs a)) (rest.1 (All-tail (Satisfies v) c cs a)),
+    )
 
 cons_alone : (dim : ℕ) (text : List ℕ) (system : Constraints) (m : Matches (alone cons_cases) text) → IsConsOf dim (alone_by cons_cases cons_by text m) system → SaysConstraints dim text system
 cons_alone dim text system (b1, w1, e1, before, (x, b2, e2, is, behind)) h =

@@ -71,11 +71,11 @@ var_is w (inr (u, v, e, (b, low, high, f), (x, y, g, (d, first, last, h), (n, ti
     record {
       variable = 26 * number (d ∷ y) + (b - 65);
       is = subst (λ (t : List ℕ). IsVariable t (26 * number (d ∷ y) + (b - 65))) (sym whole)
-        (numbered b d y (number (d ∷ y)) (low, high) (omega arith)
+          (numbered b d y (number (d ∷ y)) (low, high) (omega arith)
           (record { digits = All-cons IsDigit d y (omega arith, last) others; some = omega arith; value = refl }));
       index = ap index_of whole;
       number_kept = ap variable_of whole ∙ ap (λ (t : List ℕ). min (26 * number_after 0 t + (b - 65)) (2 ^ 64 - 1))
-        (taken (d ∷ y) (a_digit d (omega arith) last, Each-times is_digit (Matches digit) each_digit n y times));
+          (taken (d ∷ y) (a_digit d (omega arith) last, Each-times is_digit (Matches digit) each_digit n y times));
     }
 
 in_name_is : (u : List ℕ) → Matches (byte 97 122 ∣ digit ∣ symbol 95) u → All IsInName u × (length u ≡ 1)
@@ -90,6 +90,8 @@ times_length Q one (suc n) w (u, v, e, h, more) = ap length e ∙ (length-append
 
 pub name_is : (most : ℕ) (w : List ℕ) → Matches (name_of most) w → IsName (suc most) w
 name_is most w (u, v, e, (b, low, high, f), (n, le, times)) =
-    subst (IsName (suc most)) (sym (e ∙ byte_append u v b f))
-      ((low, high), all_times IsInName (Matches (byte 97 122 ∣ digit ∣ symbol 95)) (λ t m. (in_name_is t m).0) n v times,
-        omega (arith, times_length (Matches (byte 97 122 ∣ digit ∣ symbol 95)) (λ t m. (in_name_is t m).1) n v times))
+    subst (IsName (suc most)) (sym (e ∙ byte_append u v b f)) (
+      (low, high),
+      all_times IsInName (Matches (byte 97 122 ∣ digit ∣ symbol 95)) (λ t m. (in_name_is t m).0) n v times,
+      omega (arith, times_length (Matches (byte 97 122 ∣ digit ∣ symbol 95)) (λ t m. (in_name_is t m).1) n v times),
+    )

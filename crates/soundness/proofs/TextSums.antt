@@ -77,21 +77,21 @@ module _ (dim : ℕ) where
 
   product_law : (negative : Bool) (w : List ℕ) (m : Matches (nat ⋯ symbol 42 ⋯ var) w) → IsWithin dim (product_by negative w m) → IsShort (product_by negative w m) → ReadsSigned (IsMultiple dim) dim w negative (part dim (product_by negative w m))
   product_law negative w (factor, x, e, is_factor, (b, y, f, between, (star, z, g, is_star, (c, variable, h, behind, is_variable)))) within short =
-    let v : HasVariable variable = var_is variable is_variable in
-    let below : column v.variable < dim = subst (λ (i : ℕ). i < dim) v.index within in
-    multiple_row negative w (factor ∷ codes "*" ∷ variable ∷ []) (number factor) (size_of factor) (column v.variable) (index_of variable)
+      let v : HasVariable variable = var_is variable is_variable in
+      let below : column v.variable < dim = subst (λ (i : ℕ). i < dim) v.index within in
+      multiple_row negative w (factor ∷ codes "*" ∷ variable ∷ []) (number factor) (size_of factor) (column v.variable) (index_of variable)
       (small_size factor (size_of factor) refl short) v.index below
       (token_before factor (codes "*" ∷ variable ∷ []) w factor x e refl
-        (behind_blanks (codes "*" ∷ variable ∷ []) x b y f between
-          (token_before (codes "*") (variable ∷ []) y star z g (symbol_is 42 star is_star)
-            (behind_blanks (variable ∷ []) z c variable h behind (token variable)))))
+      (behind_blanks (codes "*" ∷ variable ∷ []) x b y f between
+      (token_before (codes "*") (variable ∷ []) y star z g (symbol_is 42 star is_star)
+      (behind_blanks (variable ∷ []) z c variable h behind (token variable)))))
       (expressions.product factor variable (number factor) v.variable (nat_is factor is_factor) v.is below)
 
   variable_law : (negative : Bool) (w : List ℕ) (m : Matches var w) → IsWithin dim (variable_term negative 1 (index_of w)) → ReadsSigned (IsMultiple dim) dim w negative (part dim (variable_term negative 1 (index_of w)))
   variable_law negative w m within =
-    let v : HasVariable w = var_is w m in
-    let below : column v.variable < dim = subst (λ (i : ℕ). i < dim) v.index within in
-    multiple_row negative w (w ∷ []) 1 1 (column v.variable) (index_of w) refl v.index below (token w)
+      let v : HasVariable w = var_is w m in
+      let below : column v.variable < dim = subst (λ (i : ℕ). i < dim) v.index within in
+      multiple_row negative w (w ∷ []) 1 1 (column v.variable) (index_of w) refl v.index below (token w)
       (expressions.variable w v.variable v.is below)
 
   pub vterm_law : MeansTerm dim vterm vterm_by (IsMultiple dim)
@@ -134,40 +134,40 @@ plus_assoc x y z = omega (arith, ints)
 module _ (dim : ℕ) (f : Form) (by : TermBy f) (Means : Tokens → List ℤ → Type 0) (law : MeansTerm dim f by Means) where
   first_law : (w : List ℕ) (m : Matches (f ∣ (symbol 45 ⋯ f)) w) → IsWithin dim (first_by f by w m) → IsShort (first_by f by w m) → Reads (IsSum Means) dim w (part dim (first_by f by w m))
   first_law w (inl is) within short =
-    let r = law false w is within short in
-    record { tokens = r.tokens; row = r.row; split = r.split; means = expressions.one r.tokens r.row r.means; wide = r.wide; cells = r.cells }
+      let r = law false w is within short in
+      record { tokens = r.tokens; row = r.row; split = r.split; means = expressions.one r.tokens r.row r.means; wide = r.wide; cells = r.cells }
   first_law w (inr (minus, x, e, is_minus, (b, t, g, between, is))) within short =
-    let r = law true t is within short in
-    record {
-      tokens = codes "-" ∷ r.tokens;
-      row = opposite r.row;
-      split = token_before (codes "-") r.tokens w minus x e (symbol_is 45 minus is_minus) (behind_blanks r.tokens x b t g between r.split);
-      means = expressions.minus_one r.tokens r.row r.means;
-      wide = opposite_wide r.row ∙ r.wide;
-      cells = r.cells;
-    }
+      let r = law true t is within short in
+      record {
+        tokens = codes "-" ∷ r.tokens;
+        row = opposite r.row;
+        split = token_before (codes "-") r.tokens w minus x e (symbol_is 45 minus is_minus) (behind_blanks r.tokens x b t g between r.split);
+        means = expressions.minus_one r.tokens r.row r.means;
+        wide = opposite_wide r.row ∙ r.wide;
+        cells = r.cells;
+      }
 
   signed_law : (before : Tokens) (old : List ℤ) → IsSum Means before old → length old ≡ dim + 1 → (w : List ℕ) (m : Matches ((symbol 43 ⋯ f) ∣ (symbol 45 ⋯ f)) w) → IsWithin dim (signed_by f by w m) → IsShort (signed_by f by w m) → GoesOn (IsSum Means) dim before old w (part dim (signed_by f by w m))
   signed_law before old so_far wide w (inl (plus, x, e, is_plus, (b, t, g, between, is))) within short =
-    let r = law false t is within short in
-    record {
-      tokens = codes "+" ∷ r.tokens;
-      row = add old r.row;
-      split = token_before (codes "+") r.tokens w plus x e (symbol_is 43 plus is_plus) (behind_blanks r.tokens x b t g between r.split);
-      means = expressions.plus before r.tokens old r.row so_far r.means;
-      wide = add_wide (dim + 1) old r.row wide r.wide;
-      cells = λ j le. cell-add old r.row j ∙ ap (λ (z : ℤ). cell old j +ℤ z) (r.cells j le);
-    }
+      let r = law false t is within short in
+      record {
+        tokens = codes "+" ∷ r.tokens;
+        row = add old r.row;
+        split = token_before (codes "+") r.tokens w plus x e (symbol_is 43 plus is_plus) (behind_blanks r.tokens x b t g between r.split);
+        means = expressions.plus before r.tokens old r.row so_far r.means;
+        wide = add_wide (dim + 1) old r.row wide r.wide;
+        cells = λ j le. cell-add old r.row j ∙ ap (λ (z : ℤ). cell old j +ℤ z) (r.cells j le);
+      }
   signed_law before old so_far wide w (inr (minus, x, e, is_minus, (b, t, g, between, is))) within short =
-    let r = law true t is within short in
-    record {
-      tokens = codes "-" ∷ r.tokens;
-      row = difference old r.row;
-      split = token_before (codes "-") r.tokens w minus x e (symbol_is 45 minus is_minus) (behind_blanks r.tokens x b t g between r.split);
-      means = expressions.minus before r.tokens old r.row so_far r.means;
-      wide = difference_wide (dim + 1) old r.row wide r.wide;
-      cells = λ j le. cell-add old (opposite r.row) j ∙ ap (λ (z : ℤ). cell old j +ℤ z) (r.cells j le);
-    }
+      let r = law true t is within short in
+      record {
+        tokens = codes "-" ∷ r.tokens;
+        row = difference old r.row;
+        split = token_before (codes "-") r.tokens w minus x e (symbol_is 45 minus is_minus) (behind_blanks r.tokens x b t g between r.split);
+        means = expressions.minus before r.tokens old r.row so_far r.means;
+        wide = difference_wide (dim + 1) old r.row wide r.wide;
+        cells = λ j le. cell-add old (opposite r.row) j ∙ ap (λ (z : ℤ). cell old j +ℤ z) (r.cells j le);
+      }
 
   further_law : (n : ℕ) (before : Tokens) (old : List ℤ) → IsSum Means before old → length old ≡ dim + 1 → (w : List ℕ) (m : Times (Matches (blanks · ((symbol 43 ⋯ f) ∣ (symbol 45 ⋯ f)))) n w) → AreWithin dim (further_by f by n w m) → All IsShort (further_by f by n w m) → GoesOn (IsSum Means) dim before old w (total dim (further_by f by n w m))
   further_law zero before old so_far wide w none within short = record {
@@ -179,33 +179,33 @@ module _ (dim : ℕ) (f : Form) (by : TermBy f) (Means : Tokens → List ℤ →
     cells = λ j le. plus_zero (cell old j);
   }
   further_law (suc n) before old so_far wide w (u, v, e, (b, x, g, between, signed_text), others) within short =
-    let t : Term = signed_by f by x signed_text in
-    let ts : List Term = further_by f by n v others in
-    let r = signed_law before old so_far wide x signed_text (All-head (IsWithin dim) t ts within) (All-head IsShort t ts short) in
-    let q = further_law n (before ++ r.tokens) r.row r.means r.wide v others (All-tail (IsWithin dim) t ts within) (All-tail IsShort t ts short) in
-    record {
-      tokens = r.tokens ++ q.tokens;
-      row = q.row;
-      split = tokens_of r.tokens q.tokens w u v e (behind_blanks r.tokens u b x g between r.split) q.split;
-      means = subst (λ (us : Tokens). IsSum Means us q.row) (append_assoc before r.tokens q.tokens) q.means;
-      wide = q.wide;
-      cells = λ j le. q.cells j le ∙ (ap (λ (z : ℤ). z +ℤ total dim ts j) (r.cells j le) ∙ plus_assoc (cell old j) (part dim t j) (total dim ts j));
-    }
+      let t : Term = signed_by f by x signed_text in
+      let ts : List Term = further_by f by n v others in
+      let r = signed_law before old so_far wide x signed_text (All-head (IsWithin dim) t ts within) (All-head IsShort t ts short) in
+      let q = further_law n (before ++ r.tokens) r.row r.means r.wide v others (All-tail (IsWithin dim) t ts within) (All-tail IsShort t ts short) in
+      record {
+        tokens = r.tokens ++ q.tokens;
+        row = q.row;
+        split = tokens_of r.tokens q.tokens w u v e (behind_blanks r.tokens u b x g between r.split) q.split;
+        means = subst (λ (us : Tokens). IsSum Means us q.row) (append_assoc before r.tokens q.tokens) q.means;
+        wide = q.wide;
+        cells = λ j le. q.cells j le ∙ (ap (λ (z : ℤ). z +ℤ total dim ts j) (r.cells j le) ∙ plus_assoc (cell old j) (part dim t j) (total dim ts j));
+      }
 
   pub sum_law : (w : List ℕ) (m : Matches (sum_of f) w) → AreWithin dim (sum_by f by w m) → All IsShort (sum_by f by w m) → Reads (IsSum Means) dim w (total dim (sum_by f by w m))
   sum_law w (u, v, e, first, (n, others)) within short =
-    let t : Term = first_by f by u first in
-    let ts : List Term = further_by f by n v others in
-    let r = first_law u first (All-head (IsWithin dim) t ts within) (All-head IsShort t ts short) in
-    let q = further_law n r.tokens r.row r.means r.wide v others (All-tail (IsWithin dim) t ts within) (All-tail IsShort t ts short) in
-    record {
-      tokens = r.tokens ++ q.tokens;
-      row = q.row;
-      split = tokens_of r.tokens q.tokens w u v e r.split q.split;
-      means = q.means;
-      wide = q.wide;
-      cells = λ j le. q.cells j le ∙ ap (λ (z : ℤ). z +ℤ total dim ts j) (r.cells j le);
-    }
+      let t : Term = first_by f by u first in
+      let ts : List Term = further_by f by n v others in
+      let r = first_law u first (All-head (IsWithin dim) t ts within) (All-head IsShort t ts short) in
+      let q = further_law n r.tokens r.row r.means r.wide v others (All-tail (IsWithin dim) t ts within) (All-tail IsShort t ts short) in
+      record {
+        tokens = r.tokens ++ q.tokens;
+        row = q.row;
+        split = tokens_of r.tokens q.tokens w u v e r.split q.split;
+        means = q.means;
+        wide = q.wide;
+        cells = λ j le. q.cells j le ∙ ap (λ (z : ℤ). z +ℤ total dim ts j) (r.cells j le);
+      }
 
 module _ (dim : ℕ) where
   -- an expression
@@ -223,8 +223,8 @@ module _ (dim : ℕ) where
     cells = λ j le. column_cell dim dim j (pos 0) ∙ plus_zero (if dim == j then pos 0 else pos 0);
   }
   coordinates_law w (inr m) within short =
-    let r = sum_law dim vterm vterm_by (IsMultiple dim) (vterm_law dim) w m within short in
-    record { tokens = r.tokens; row = r.row; split = r.split; means = expressions.sum r.tokens r.row r.means; wide = r.wide; cells = r.cells }
+      let r = sum_law dim vterm vterm_by (IsMultiple dim) (vterm_law dim) w m within short in
+      record { tokens = r.tokens; row = r.row; split = r.split; means = expressions.sum r.tokens r.row r.means; wide = r.wide; cells = r.cells }
 
 -- the text is tokens that mean a row with these cells over this divisor
 pub record ReadsOver (Means : Tokens → List ℤ → Type 0) (dim : ℕ) (w : List ℕ) (s : ℕ → ℤ) (divisor : ℕ) : Type 0 where
@@ -243,18 +243,18 @@ over_law dim f by Means law w (inl is) within short low positive =
 over_law dim f by Means law w (inr (opening, w1, e1, is_opening, (b1, w2, e2, blanks1, (expr, w3, e3, is_expr, (b2, w4, e4, blanks2, (closing, w5, e5, is_closing, (b3, w6, e6, blanks3, (slash, w7, e7, is_slash, (b4, digits, e8, blanks4, is_digits))))))))) within short low positive =
     let r = law expr is_expr within short in
     let last : AreTokens (codes ")" ∷ codes "/" ∷ digits ∷ []) w4 =
-        token_before (codes ")") (codes "/" ∷ digits ∷ []) w4 closing w5 e5 (symbol_is 41 closing is_closing)
-          (behind_blanks (codes "/" ∷ digits ∷ []) w5 b3 w6 e6 blanks3
-            (token_before (codes "/") (digits ∷ []) w6 slash w7 e7 (symbol_is 47 slash is_slash)
-              (behind_blanks (digits ∷ []) w7 b4 digits e8 blanks4 (token digits)))) in
+    token_before (codes ")") (codes "/" ∷ digits ∷ []) w4 closing w5 e5 (symbol_is 41 closing is_closing)
+    (behind_blanks (codes "/" ∷ digits ∷ []) w5 b3 w6 e6 blanks3
+    (token_before (codes "/") (digits ∷ []) w6 slash w7 e7 (symbol_is 47 slash is_slash)
+    (behind_blanks (digits ∷ []) w7 b4 digits e8 blanks4 (token digits)))) in
     record {
       tokens = codes "(" ∷ r.tokens ++ codes ")" ∷ codes "/" ∷ digits ∷ [];
       row = r.row;
       split = token_before (codes "(") (r.tokens ++ codes ")" ∷ codes "/" ∷ digits ∷ []) w opening w1 e1 (symbol_is 40 opening is_opening)
-        (behind_blanks (r.tokens ++ codes ")" ∷ codes "/" ∷ digits ∷ []) w1 b1 w2 e2 blanks1
+          (behind_blanks (r.tokens ++ codes ")" ∷ codes "/" ∷ digits ∷ []) w1 b1 w2 e2 blanks1
           (tokens_of r.tokens (codes ")" ∷ codes "/" ∷ digits ∷ []) w2 expr w3 e3 r.split (behind_blanks (codes ")" ∷ codes "/" ∷ digits ∷ []) w3 b2 w4 e4 blanks2 last)));
       means = subst (λ (n : ℕ). IsOver Means (codes "(" ∷ r.tokens ++ codes ")" ∷ codes "/" ∷ digits ∷ []) (r.row, n)) (sym (small_size digits (size_of digits) refl low))
-        (expressions.divided r.tokens digits r.row (number digits) r.means (nat_is digits is_digits) (subst (λ (n : ℕ). 0 < n) (small_size digits (size_of digits) refl low) positive));
+          (expressions.divided r.tokens digits r.row (number digits) r.means (nat_is digits is_digits) (subst (λ (n : ℕ). 0 < n) (small_size digits (size_of digits) refl low) positive));
       wide = r.wide;
       cells = r.cells;
     }

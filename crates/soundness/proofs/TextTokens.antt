@@ -35,9 +35,10 @@ blank_length w (inr m) = subst (λ (x : List ℕ). 0 < length x) (sym (symbol_is
 
 -- one or more blanks
 pub gap_is : (w : List ℕ) → Matches gap w → AreBlanks w × (0 < length w)
-gap_is w (u, v, e, one, more) =
-    (subst AreBlanks (sym e) (All-append IsBlank u v (blank_is u one) (blanks_are v more)),
-      subst (λ (x : List ℕ). 0 < length x) (sym e) (omega (arith, length-append u v, blank_length u one)))
+gap_is w (u, v, e, one, more) = (
+  subst AreBlanks (sym e) (All-append IsBlank u v (blank_is u one) (blanks_are v more)),
+  subst (λ (x : List ℕ). 0 < length x) (sym e) (omega (arith, length-append u v, blank_length u one)),
+)
 
 -- one token
 pub token : (w : List ℕ) → AreTokens (w ∷ []) w

@@ -33,29 +33,31 @@ use Rattle.soundness.proofs.TextSums.{IsShort, Reads, ReadsOver, expression_law,
 module _ (dim : ℕ) where
   expression_alone : (text : List ℕ) (row : List ℤ) (m : Matches (alone expr_cases) text) → IsRowOf dim (alone_by expr_cases expr_by text m) row → ExpressionText dim text row
   expression_alone text row (b1, w1, e1, before, (x, b2, e2, is, behind)) h =
-    let r = expression_law dim x is h.within h.stay.numbers in
-    let same : r.row ≡ row = same_rows dim r.row row r.wide h.sums.wide (λ j le. r.cells j le ∙ sym (h.sums.cells j le)) in
-    record {
-      tokens = r.tokens;
-      split = alone_tokens r.tokens text b1 w1 x b2 e1 before e2 behind r.split;
-      means = subst (IsExpression dim r.tokens) same r.means;
-    }
+      let r = expression_law dim x is h.within h.stay.numbers in
+      let same : r.row ≡ row = same_rows dim r.row row r.wide h.sums.wide (λ j le. r.cells j le ∙ sym (h.sums.cells j le)) in
+      record {
+        tokens = r.tokens;
+        split = alone_tokens r.tokens text b1 w1 x b2 e1 before e2 behind r.split;
+        means = subst (IsExpression dim r.tokens) same r.means;
+      }
 
   pub expression_text : (text : List ℕ) (row : List ℤ) → IsExpr dim text row → ExpressionText dim text row
   expression_text text row s = expression_alone text row s.form s.holds
 
   fraction_alone : (text : List ℕ) (row : List ℤ) (divisor : ℤ) (m : Matches (alone frac_cases) text) → IsFracOf dim (alone_by frac_cases frac_by text m) row divisor → (n : ℕ) × FractionText dim text row n × (divisor ≡ pos n) × (0 < n)
   fraction_alone text row divisor (b1, w1, e1, before, (x, b2, e2, is, behind)) h =
-    let r = over_law dim expr_cases expr_by (IsExpression dim) (expression_law dim) x is h.within h.stay.terms.numbers h.stay.divisor h.positive in
-    let same : r.row ≡ row = same_rows dim r.row row r.wide h.sums.wide (λ j le. r.cells j le ∙ sym (h.sums.cells j le)) in
-    let n : ℕ = (frac_by x is).divisor in
-    (n,
-      record {
-        tokens = r.tokens;
-        split = alone_tokens r.tokens text b1 w1 x b2 e1 before e2 behind r.split;
-        means = subst (λ (v : List ℤ). IsOver (IsExpression dim) r.tokens (v, n)) same r.means;
-      },
-      h.same, h.positive)
+      let r = over_law dim expr_cases expr_by (IsExpression dim) (expression_law dim) x is h.within h.stay.terms.numbers h.stay.divisor h.positive in
+      let same : r.row ≡ row = same_rows dim r.row row r.wide h.sums.wide (λ j le. r.cells j le ∙ sym (h.sums.cells j le)) in
+      let n : ℕ = (frac_by x is).divisor in (
+        n,
+        record {
+          tokens = r.tokens;
+          split = alone_tokens r.tokens text b1 w1 x b2 e1 before e2 behind r.split;
+          means = subst (λ (v : List ℤ). IsOver (IsExpression dim) r.tokens (v, n)) same r.means;
+        },
+        h.same,
+        h.positive,
+      )
 
   pub fraction_text : (text : List ℕ) (row : List ℤ) (divisor : ℤ) → IsFrac dim text row divisor → (n : ℕ) × FractionText dim text row n × (divisor ≡ pos n) × (0 < n)
   fraction_text text row divisor s = fraction_alone text row divisor s.form s.holds
@@ -102,14 +104,15 @@ point_row dim n u row s wide end cells row_wide row_cells last =
   where
     at_end : (j : ℕ) → j ≤ dim → (j < dim) ⊎ (j ≡ dim)
     at_end j le = elim (cases_lt j dim) [ inl h ↦ inl h | inr h ↦ inr (omega arith) ]
+
     by_place : (j : ℕ) → j ≤ dim → (j < dim) ⊎ (j ≡ dim) → cell (over dim u n) j ≡ cell row j
     by_place j le (inl h) =
-      cell-add u (at_column dim dim (pos n)) j
-      ∙ (ap (λ (z : ℤ). cell u j +ℤ z) (beside dim j (dim - dim) (pos n) (λ e. differs j dim h (sym e)))
+        cell-add u (at_column dim dim (pos n)) j
+        ∙ (ap (λ (z : ℤ). cell u j +ℤ z) (beside dim j (dim - dim) (pos n) (λ e. differs j dim h (sym e)))
         ∙ (plus_zero (cell u j) ∙ (cells j le ∙ sym (row_cells j h))))
     by_place j le (inr e) = subst (λ (i : ℕ). cell (over dim u n) i ≡ cell row i) (sym e)
-      (cell-add u (at_column dim dim (pos n)) dim
-      ∙ (ap (λ (z : ℤ). cell u dim +ℤ z) (column_same dim dim (pos n)) ∙ (zero_plus (cell u dim) (pos n) end ∙ sym last)))
+        (cell-add u (at_column dim dim (pos n)) dim
+        ∙ (ap (λ (z : ℤ). cell u dim +ℤ z) (column_same dim dim (pos n)) ∙ (zero_plus (cell u dim) (pos n) end ∙ sym last)))
 
 -- the vector of coordinates without a divisor
 pub direction_row : (dim : ℕ) (u row : List ℤ) (s : ℕ → ℤ) → length u ≡ dim + 1 → cell u dim ≡ pos 0 → ((j : ℕ) → j ≤ dim → cell u j ≡ s j) → length row ≡ dim + 1 → ((j : ℕ) → j < dim → cell row j ≡ s j) → cell row dim ≡ pos 0 → u ≡ row
@@ -117,6 +120,7 @@ direction_row dim u row s wide end cells row_wide row_cells last = same_rows dim
   where
     at_end : (j : ℕ) → j ≤ dim → (j < dim) ⊎ (j ≡ dim)
     at_end j le = elim (cases_lt j dim) [ inl h ↦ inl h | inr h ↦ inr (omega arith) ]
+
     by_place : (j : ℕ) → j ≤ dim → (j < dim) ⊎ (j ≡ dim) → cell u j ≡ cell row j
     by_place j le (inl h) = cells j le ∙ sym (row_cells j h)
     by_place j le (inr e) = subst (λ (i : ℕ). cell u i ≡ cell row i) (sym e) (end ∙ sym last)
@@ -125,9 +129,9 @@ direction_row dim u row s wide end cells row_wide row_cells last = same_rows dim
 pub enclosed_tokens : (cs : List ℕ) (ts : Tokens) (w opening w1 b1 w2 x w3 b2 closing : List ℕ) → w ≡ opening ++ w1 → opening ≡ cs → w1 ≡ b1 ++ w2 → Matches blanks b1 → w2 ≡ x ++ w3 → w3 ≡ b2 ++ closing → Matches blanks b2 → Matches (symbol 41) closing → AreTokens ts x → AreTokens (cs ∷ ts ++ codes ")" ∷ []) w
 enclosed_tokens cs ts w opening w1 b1 w2 x w3 b2 closing e1 is_opening e2 blanks1 e3 e4 blanks2 is_closing h =
     token_before cs (ts ++ codes ")" ∷ []) w opening w1 e1 is_opening
-      (behind_blanks (ts ++ codes ")" ∷ []) w1 b1 w2 e2 blanks1
-        (tokens_of ts (codes ")" ∷ []) w2 x w3 e3 h
-          (behind_blanks (codes ")" ∷ []) w3 b2 closing e4 blanks2 (token_is closing (codes ")") (symbol_is 41 closing is_closing)))))
+    (behind_blanks (ts ++ codes ")" ∷ []) w1 b1 w2 e2 blanks1
+    (tokens_of ts (codes ")" ∷ []) w2 x w3 e3 h
+    (behind_blanks (codes ")" ∷ []) w3 b2 closing e4 blanks2 (token_is closing (codes ")") (symbol_is 41 closing is_closing)))))
 
 -- the text is tokens that mean this
 pub record Is {A : Type 0} (Means : Tokens → A → Type 0) (w : List ℕ) (a : A) : Type 0 where
@@ -143,38 +147,39 @@ module _ (dim : ℕ) where
   -- a point of the kind, in its opening word and a closing bracket
   pub enclosed_over : (cs : List ℕ) (kind : GenKind) → ((ts : Tokens) (u : List ℤ) (n : ℕ) → IsOver (AreCoordinates dim) ts (u, n) → IsGenerator dim (cs ∷ ts ++ codes ")" ∷ []) (over dim u n, kind)) → (w : List ℕ) (m : Matches (word cs ⋯ vfrac_cases ⋯ symbol 41) w) (row : List ℤ) → AreWithin dim (enclosed_by cs vfrac_cases vfrac_by w m).terms → All IsShort (enclosed_by cs vfrac_cases vfrac_by w m).terms → (enclosed_by cs vfrac_cases vfrac_by w m).divisor < 2 ^ 127 → 0 < (enclosed_by cs vfrac_cases vfrac_by w m).divisor → length row ≡ dim + 1 → ((j : ℕ) → j < dim → cell row j ≡ total dim (enclosed_by cs vfrac_cases vfrac_by w m).terms j) → cell row dim ≡ pos (enclosed_by cs vfrac_cases vfrac_by w m).divisor → Is (IsGenerator dim) w (row, kind)
   enclosed_over cs kind case w (opening, w1, e1, is_opening, (b1, w2, e2, blanks1, (frac, w3, e3, is_frac, (b2, close, e4, blanks2, is_close)))) row within short low positive wide cells last =
-    let r = vfrac_law frac is_frac within short low positive in
-    let ratio : Ratio = ratio_by vexpr_cases vexpr_by frac is_frac in
-    let same : over dim r.row ratio.divisor ≡ row = point_row dim ratio.divisor r.row row (total dim ratio.terms) r.wide (over_end dim r.tokens r.row ratio.divisor r.means) r.cells wide cells last in
-    record {
-      tokens = cs ∷ r.tokens ++ codes ")" ∷ [];
-      split = enclosed_tokens cs r.tokens w opening w1 b1 w2 frac w3 b2 close e1 is_opening e2 blanks1 e3 e4 blanks2 is_close r.split;
-      means = subst (λ (v : List ℤ). IsGenerator dim (cs ∷ r.tokens ++ codes ")" ∷ []) (v, kind)) same (case r.tokens r.row ratio.divisor r.means);
-    }
+      let r = vfrac_law frac is_frac within short low positive in
+      let ratio : Ratio = ratio_by vexpr_cases vexpr_by frac is_frac in
+      let same : over dim r.row ratio.divisor ≡ row = point_row dim ratio.divisor r.row row (total dim ratio.terms) r.wide (over_end dim r.tokens r.row ratio.divisor r.means) r.cells wide cells last in
+      record {
+        tokens = cs ∷ r.tokens ++ codes ")" ∷ [];
+        split = enclosed_tokens cs r.tokens w opening w1 b1 w2 frac w3 b2 close e1 is_opening e2 blanks1 e3 e4 blanks2 is_close r.split;
+        means = subst (λ (v : List ℤ). IsGenerator dim (cs ∷ r.tokens ++ codes ")" ∷ []) (v, kind)) same (case r.tokens r.row ratio.divisor r.means);
+      }
 
   -- a ray or a line, in its opening word and a closing bracket
   pub enclosed_direction : (cs : List ℕ) (kind : GenKind) → ((ts : Tokens) (u : List ℤ) → AreCoordinates dim ts u → IsGenerator dim (cs ∷ ts ++ codes ")" ∷ []) (u, kind)) → (w : List ℕ) (m : Matches (word cs ⋯ vexpr_cases ⋯ symbol 41) w) (row : List ℤ) → AreWithin dim (enclosed_by cs vexpr_cases vexpr_by w m) → All IsShort (enclosed_by cs vexpr_cases vexpr_by w m) → length row ≡ dim + 1 → ((j : ℕ) → j < dim → cell row j ≡ total dim (enclosed_by cs vexpr_cases vexpr_by w m) j) → cell row dim ≡ pos 0 → Is (IsGenerator dim) w (row, kind)
   enclosed_direction cs kind case w (opening, w1, e1, is_opening, (b1, w2, e2, blanks1, (x, w3, e3, is, (b2, close, e4, blanks2, is_close)))) row within short wide cells last =
-    let r = coordinates_law dim x is within short in
-    let same : r.row ≡ row = direction_row dim r.row row (total dim (vexpr_by x is)) r.wide (coordinates_end dim r.tokens r.row r.means) r.cells wide cells last in
-    record {
-      tokens = cs ∷ r.tokens ++ codes ")" ∷ [];
-      split = enclosed_tokens cs r.tokens w opening w1 b1 w2 x w3 b2 close e1 is_opening e2 blanks1 e3 e4 blanks2 is_close r.split;
-      means = subst (λ (v : List ℤ). IsGenerator dim (cs ∷ r.tokens ++ codes ")" ∷ []) (v, kind)) same (case r.tokens r.row r.means);
-    }
+      let r = coordinates_law dim x is within short in
+      let same : r.row ≡ row = direction_row dim r.row row (total dim (vexpr_by x is)) r.wide (coordinates_end dim r.tokens r.row r.means) r.cells wide cells last in
+      record {
+        tokens = cs ∷ r.tokens ++ codes ")" ∷ [];
+        split = enclosed_tokens cs r.tokens w opening w1 b1 w2 x w3 b2 close e1 is_opening e2 blanks1 e3 e4 blanks2 is_close r.split;
+        means = subst (λ (v : List ℤ). IsGenerator dim (cs ∷ r.tokens ++ codes ")" ∷ []) (v, kind)) same (case r.tokens r.row r.means);
+      }
 
   pub point_law : (w : List ℕ) (m : Matches point_cases w) (row : List ℤ) → AreWithin dim (point_by w m).terms → All IsShort (point_by w m).terms → (point_by w m).divisor < 2 ^ 127 → 0 < (point_by w m).divisor → length row ≡ dim + 1 → ((j : ℕ) → j < dim → cell row j ≡ total dim (point_by w m).terms j) → cell row dim ≡ pos (point_by w m).divisor → Is (IsGenerator dim) w (row, Point)
   point_law w (p, w1, e1, is_p, (b1, w2, e2, blanks1, (frac, w3, e3, is_frac, (b2, close, e4, blanks2, is_close)))) row within short low positive wide cells last =
-    enclosed_over (codes "p(") Point systems.point w (p, w1, e1, is_p, (b1, w2, e2, blanks1, (frac, w3, e3, is_frac, (b2, close, e4, blanks2, is_close)))) row within short low positive wide cells last
+      enclosed_over (codes "p(") Point systems.point w (p, w1, e1, is_p, (b1, w2, e2, blanks1, (frac, w3, e3, is_frac, (b2, close, e4, blanks2, is_close)))) row within short low positive wide cells last
 
   above : (z : ℤ) (n : ℕ) → z ≡ pos n → 0 < n → pos 0 <ℤ z
   above z n e h = omega (arith, ints, e)
 
   point_alone : (text : List ℕ) (row : List ℤ) (m : Matches (alone point_cases) text) → IsPointOf dim (alone_by point_cases point_by text m) row → PointText dim text row × IsPointVector dim row
   point_alone text row (b1, w1, e1, before, (x, b2, e2, is, behind)) h =
-    let r = point_law x is row h.within h.stay.terms.numbers h.stay.divisor h.positive h.wide h.coordinates h.last in
-    (record { tokens = r.tokens; split = alone_tokens r.tokens text b1 w1 x b2 e1 before e2 behind r.split; means = r.means },
-      record { wide = h.wide; positive = above (cell row dim) (point_by x is).divisor h.last h.positive })
+      let r = point_law x is row h.within h.stay.terms.numbers h.stay.divisor h.positive h.wide h.coordinates h.last in (
+        record { tokens = r.tokens; split = alone_tokens r.tokens text b1 w1 x b2 e1 before e2 behind r.split; means = r.means },
+        record { wide = h.wide; positive = above (cell row dim) (point_by x is).divisor h.last h.positive },
+      )
 
   -- a point that a text means
   pub point_text : (text : List ℕ) (row : List ℤ) → IsPoint dim text row → PointText dim text row × IsPointVector dim row
@@ -239,7 +244,7 @@ module _ (dim : ℕ) where
   -- the tokens of both sides and of the relation between them
   related : (sign : List ℕ) (ss ts : Tokens) (w left w1 b1 w2 between w3 b2 right : List ℕ) → w ≡ left ++ w1 → w1 ≡ b1 ++ w2 → Matches blanks b1 → w2 ≡ between ++ w3 → between ≡ sign → w3 ≡ b2 ++ right → Matches blanks b2 → AreTokens ss left → AreTokens ts right → AreTokens (ss ++ sign ∷ ts) w
   related sign ss ts w left w1 b1 w2 between w3 b2 right e1 e2 blanks1 e3 is e4 blanks2 h k =
-    tokens_of ss (sign ∷ ts) w left w1 e1 h (behind_blanks (sign ∷ ts) w1 b1 w2 e2 blanks1 (token_before sign ts w2 between w3 e3 is (behind_blanks ts w3 b2 right e4 blanks2 k)))
+      tokens_of ss (sign ∷ ts) w left w1 e1 h (behind_blanks (sign ∷ ts) w1 b1 w2 e2 blanks1 (token_before sign ts w2 between w3 e3 is (behind_blanks ts w3 b2 right e4 blanks2 k)))
 
   compared : (w left w1 b1 w2 between w3 b2 right : List ℕ) (is_left : Matches expr_cases left) (is_between : Matches rel between) (is_right : Matches expr_cases right) → w ≡ left ++ w1 → w1 ≡ b1 ++ w2 → Matches blanks b1 → w2 ≡ between ++ w3 → w3 ≡ b2 ++ right → Matches blanks b2 → Reads (IsExpression dim) dim left (total dim (expr_by left is_left)) → Reads (IsExpression dim) dim right (total dim (expr_by right is_right)) → (row : List ℤ) → IsConRow dim (record { terms = expr_by left is_left ++ map turned (expr_by right is_right); relation = relation_by between is_between }) row → Is (IsConstraint dim) w (row, kind_of (relation_by between is_between))
   compared w left w1 b1 w2 between w3 b2 right is_left (inl equal) is_right e1 e2 blanks1 e3 e4 blanks2 l r row is = record {
@@ -270,21 +275,21 @@ module _ (dim : ℕ) where
 
   pub con_law : (w : List ℕ) (m : Matches con_cases w) (row : List ℤ) → AreWithin dim (con_by w m).terms → All IsShort (con_by w m).terms → IsConRow dim (con_by w m) row → Is (IsConstraint dim) w (row, kind_of (con_by w m).relation)
   con_law w (left, w1, e1, is_left, (b1, w2, e2, blanks1, (between, w3, e3, is_between, (b2, right, e4, blanks2, is_right)))) row within short is =
-    let ls : List Term = expr_by left is_left in
-    let rs : List Term = expr_by right is_right in
-    compared w left w1 b1 w2 between w3 b2 right is_left is_between is_right e1 e2 blanks1 e3 e4 blanks2
+      let ls : List Term = expr_by left is_left in
+      let rs : List Term = expr_by right is_right in
+      compared w left w1 b1 w2 between w3 b2 right is_left is_between is_right e1 e2 blanks1 e3 e4 blanks2
       (expression_law dim left is_left (all_left (IsWithin dim) ls (map turned rs) within) (all_left IsShort ls (map turned rs) short))
       (expression_law dim right is_right (all_turned (IsWithin dim) (λ t h. h) rs (all_right (IsWithin dim) ls (map turned rs) within)) (all_turned IsShort (λ t h. h) rs (all_right IsShort ls (map turned rs) short)))
       row is
 
   constraint_alone : (text : List ℕ) (row : List ℤ) (kind : ConKind) (m : Matches (alone con_cases) text) → IsConOf dim (alone_by con_cases con_by text m) row kind → ConstraintText dim text (row, kind)
   constraint_alone text row kind (b1, w1, e1, before, (x, b2, e2, is, behind)) h =
-    let r = con_law x is row h.within h.stay.numbers h.sums in
-    record {
-      tokens = r.tokens;
-      split = alone_tokens r.tokens text b1 w1 x b2 e1 before e2 behind r.split;
-      means = subst (λ (k : ConKind). IsConstraint dim r.tokens (row, k)) (sym h.same) r.means;
-    }
+      let r = con_law x is row h.within h.stay.numbers h.sums in
+      record {
+        tokens = r.tokens;
+        split = alone_tokens r.tokens text b1 w1 x b2 e1 before e2 behind r.split;
+        means = subst (λ (k : ConKind). IsConstraint dim r.tokens (row, k)) (sym h.same) r.means;
+      }
 
   -- a constraint that a text means
   pub constraint_text : (text : List ℕ) (row : List ℤ) (kind : ConKind) → IsCon dim text row kind → ConstraintText dim text (row, kind)

@@ -130,7 +130,7 @@ IsExtended Project n p s = IsSetOf p.nnc (p.cons.dim + n)
 pub record IsRemoved (vars : List ℕ) (p s : PointSet) : Type 0 where
   pub below : All (λ v. v < p.cons.dim) vars
   pub set : IsSetOf p.nnc (length (kept_variables p.cons.dim vars))
-    (HasSource (remaining p.cons.dim vars) p.cons) s
+      (HasSource (remaining p.cons.dim vars) p.cons) s
 
 -- ---- assignments
 -- the one number stands in the relation to the other

@@ -22,9 +22,9 @@ difference u v = add u (opposite v)
 -- a variable, or a number times a variable: `A`, `3*A`
 pub data IsMultiple (dim : ℕ) : Tokens → List ℤ → Type 0 where
   variable : (w : List ℕ) (j : ℕ) → IsVariable w j → column j < dim →
-    IsMultiple dim (w ∷ []) (at_column dim (column j) (pos 1))
+      IsMultiple dim (w ∷ []) (at_column dim (column j) (pos 1))
   product : (w u : List ℕ) (n j : ℕ) → IsNumber w n → IsVariable u j → column j < dim →
-    IsMultiple dim (w ∷ codes "*" ∷ u ∷ []) (at_column dim (column j) (pos n))
+      IsMultiple dim (w ∷ codes "*" ∷ u ∷ []) (at_column dim (column j) (pos n))
 
 -- such a multiple, or a number
 pub data IsTerm (dim : ℕ) : Tokens → List ℤ → Type 0 where
@@ -36,9 +36,9 @@ pub data IsSum (Means : Tokens → List ℤ → Type 0) : Tokens → List ℤ �
   one : (ts : Tokens) (u : List ℤ) → Means ts u → IsSum Means ts u
   minus_one : (ts : Tokens) (u : List ℤ) → Means ts u → IsSum Means (codes "-" ∷ ts) (opposite u)
   plus : (ss ts : Tokens) (u v : List ℤ) → IsSum Means ss u → Means ts v →
-    IsSum Means (ss ++ codes "+" ∷ ts) (add u v)
+      IsSum Means (ss ++ codes "+" ∷ ts) (add u v)
   minus : (ss ts : Tokens) (u v : List ℤ) → IsSum Means ss u → Means ts v →
-    IsSum Means (ss ++ codes "-" ∷ ts) (difference u v)
+      IsSum Means (ss ++ codes "-" ∷ ts) (difference u v)
 
 -- an expression is a sum of terms
 abbrev pub IsExpression : ℕ → Tokens → List ℤ → Type 0
@@ -53,7 +53,7 @@ pub data AreCoordinates (dim : ℕ) : Tokens → List ℤ → Type 0 where
 pub data IsOver (Means : Tokens → List ℤ → Type 0) : Tokens → List ℤ × ℕ → Type 0 where
   whole : (ts : Tokens) (row : List ℤ) → Means ts row → IsOver Means ts (row, 1)
   divided : (ts : Tokens) (w : List ℕ) (row : List ℤ) (n : ℕ) → Means ts row → IsNumber w n → 0 < n →
-    IsOver Means (codes "(" ∷ ts ++ codes ")" ∷ codes "/" ∷ w ∷ []) (row, n)
+      IsOver Means (codes "(" ∷ ts ++ codes ")" ∷ codes "/" ∷ w ∷ []) (row, n)
 
 -- the text is an expression, and this is its row
 abbrev pub ExpressionText : ℕ → List ℕ → List ℤ → Type 0

@@ -32,7 +32,7 @@ pub record IsNumber (w : List ℕ) (n : ℕ) : Type 0 where
 pub data IsVariable : List ℕ → ℕ → Type 0 where
   letter : (b : ℕ) → IsCapital b → IsVariable (b ∷ []) (b - 65)
   numbered : (b d : ℕ) (ds : List ℕ) (n : ℕ) → IsCapital b → 48 < d → IsNumber (d ∷ ds) n →
-    IsVariable (b ∷ d ∷ ds) (26 * n + (b - 65))
+      IsVariable (b ∷ d ∷ ds) (26 * n + (b - 65))
 
 -- what may stand in a name behind its first letter
 abbrev pub IsInName : ℕ → Type 0

@@ -11,28 +11,28 @@ use Rattle.soundness.specs.TextsExpressions.{at_column, difference, IsExpression
 -- that the difference of two sides, the greater one first, is 0, is at least 0, or is above 0
 pub data IsConstraint (dim : ℕ) : Tokens → Constraint → Type 0 where
   equal : (ss ts : Tokens) (u v : List ℤ) → IsExpression dim ss u → IsExpression dim ts v →
-    IsConstraint dim (ss ++ codes "=" ∷ ts) (difference u v, Eq)
+      IsConstraint dim (ss ++ codes "=" ∷ ts) (difference u v, Eq)
   at_least : (ss ts : Tokens) (u v : List ℤ) → IsExpression dim ss u → IsExpression dim ts v →
-    IsConstraint dim (ss ++ codes ">=" ∷ ts) (difference u v, Ge)
+      IsConstraint dim (ss ++ codes ">=" ∷ ts) (difference u v, Ge)
   at_most : (ss ts : Tokens) (u v : List ℤ) → IsExpression dim ss u → IsExpression dim ts v →
-    IsConstraint dim (ss ++ codes "<=" ∷ ts) (difference v u, Ge)
+      IsConstraint dim (ss ++ codes "<=" ∷ ts) (difference v u, Ge)
   above : (ss ts : Tokens) (u v : List ℤ) → IsExpression dim ss u → IsExpression dim ts v →
-    IsConstraint dim (ss ++ codes ">" ∷ ts) (difference u v, Gt)
+      IsConstraint dim (ss ++ codes ">" ∷ ts) (difference u v, Gt)
   below : (ss ts : Tokens) (u v : List ℤ) → IsExpression dim ss u → IsExpression dim ts v →
-    IsConstraint dim (ss ++ codes "<" ∷ ts) (difference v u, Gt)
+      IsConstraint dim (ss ++ codes "<" ∷ ts) (difference v u, Gt)
 
 -- one or more, with commas between
 pub data AreListed {A : Type 0} (Means : Tokens → A → Type 0) : Tokens → List A → Type 0 where
   last : (ts : Tokens) (a : A) → Means ts a → AreListed Means ts (a ∷ [])
   next : (ts us : Tokens) (a : A) (others : List A) → Means ts a → AreListed Means us others →
-    AreListed Means (ts ++ codes "," ∷ us) (a ∷ others)
+      AreListed Means (ts ++ codes "," ∷ us) (a ∷ others)
 
 -- `true` for no constraint, `false` for -1 >= 0, or constraints with commas between
 pub data AreConstraints (dim : ℕ) : Tokens → List Constraint → Type 0 where
   always : AreConstraints dim (codes "true" ∷ []) []
   never : AreConstraints dim (codes "false" ∷ []) ((at_column dim dim (negsuc 0), Ge) ∷ [])
   constraints : (ts : Tokens) (cs : List Constraint) → AreListed (IsConstraint dim) ts cs →
-    AreConstraints dim ts cs
+      AreConstraints dim ts cs
 
 -- the coordinates, and the divisor last
 abbrev pub over : ℕ → List ℤ → ℕ → List ℤ
@@ -41,19 +41,19 @@ over dim coordinates divisor = add coordinates (at_column dim dim (pos divisor))
 -- a point, a closure point, a ray or a line; last stands the divisor of a point, 0 of a direction
 pub data IsGenerator (dim : ℕ) : Tokens → Generator → Type 0 where
   point : (ts : Tokens) (u : List ℤ) (n : ℕ) → IsOver (AreCoordinates dim) ts (u, n) →
-    IsGenerator dim (codes "p(" ∷ ts ++ codes ")" ∷ []) (over dim u n, Point)
+      IsGenerator dim (codes "p(" ∷ ts ++ codes ")" ∷ []) (over dim u n, Point)
   closure_point : (ts : Tokens) (u : List ℤ) (n : ℕ) → IsOver (AreCoordinates dim) ts (u, n) →
-    IsGenerator dim (codes "c(" ∷ ts ++ codes ")" ∷ []) (over dim u n, ClosurePoint)
+      IsGenerator dim (codes "c(" ∷ ts ++ codes ")" ∷ []) (over dim u n, ClosurePoint)
   ray : (ts : Tokens) (u : List ℤ) → AreCoordinates dim ts u →
-    IsGenerator dim (codes "r(" ∷ ts ++ codes ")" ∷ []) (u, Ray)
+      IsGenerator dim (codes "r(" ∷ ts ++ codes ")" ∷ []) (u, Ray)
   straight : (ts : Tokens) (u : List ℤ) → AreCoordinates dim ts u →
-    IsGenerator dim (codes "l(" ∷ ts ++ codes ")" ∷ []) (u, Line)
+      IsGenerator dim (codes "l(" ∷ ts ++ codes ")" ∷ []) (u, Line)
 
 -- `none`, or generators with commas between
 pub data AreGenerators (dim : ℕ) : Tokens → List Generator → Type 0 where
   no_generator : AreGenerators dim (codes "none" ∷ []) []
   generators : (ts : Tokens) (gs : List Generator) → AreListed (IsGenerator dim) ts gs →
-    AreGenerators dim ts gs
+      AreGenerators dim ts gs
 
 -- one token, a variable
 pub data IsOneVariable : Tokens → ℕ → Type 0 where

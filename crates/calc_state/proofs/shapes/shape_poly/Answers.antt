@@ -12,8 +12,8 @@ use Rattle.calc_state.proofs.shapes.shape_poly.Goals as goal
 pub returns-in-Ok : goal.returns-in-Ok
 returns-in-Ok g c = rw c.in-Some.is (room_passes c.args.full c.if-full.false, record { topology = c.in-Ok.ensures.topology; dim = c.in-Ok.ensures.dim; points = c.in-Ok.ensures.points })
 
-pub returns : goal.returns
-returns g c = rw c.in-Some.is (rw c.from.ensures (leaves (shape_poly c.args.full c.in-Some.s.now) c.in-Err.cause (room_passes c.args.full c.if-full.false) (by c.in-Err.cause c.in-Err.ensures.conversion)))
+pub returns-in-Err : goal.returns-in-Err
+returns-in-Err g c = rw c.in-Some.is (rw c.from.ensures (leaves (shape_poly c.args.full c.in-Some.s.now) c.in-Err.cause (room_passes c.args.full c.if-full.false) (by c.in-Err.cause c.in-Err.ensures.conversion)))
   where
     by : (e : ConvErr) → IsConversion (cons_work Closed (shape_constraints c.in-Some.s.now)) c.args.steps.now c.shape_poly.new.steps (conv_overflow e) → IsOverflowIn (LeavesOnConstraints Closed (shape_constraints c.in-Some.s.now)) e
     by (conversion.Overflow over) h = h.overflow
