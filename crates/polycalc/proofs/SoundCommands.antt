@@ -1,6 +1,6 @@
 -- What an accepted command does is what it says.
 use Rattle.std.proofs.Common.{◌≡◌, ◌⊎◌, ℕ, ◌+◌, ◌*◌, ◌≤◌, List, [], ◌++◌, map, length, refl, ap, sym, ◌∙◌, subst, MatchOption, codes}
-use Rattle.std.specs.Prelude.{Option, None, Some, decimal}
+use Rattle.std.specs.Prelude.{Option, None, Some, All, decimal}
 use Rattle.std.specs.Map.{keys_of}
 use Rattle.poly_pair.specs.Polyhedra.{Polyhedron, HasNoPoint}
 use Rattle.ranking.specs.Laws.{PrintedFunctionRanks}
@@ -135,15 +135,16 @@ said_table old Is (TakesOut name) h = absurd h
 -- the polyhedra of a run are put under the numbered names
 record IsMadeEach (prefix : List ℕ) (Are : List Polyhedron → Type 0) (old : Table) (text : List ℕ) (new : Table) : Type 0 where
   sets : List Polyhedron
+  kept : All IsProper sets
   are : Are sets
   table : new ≡ put_each old (numbered_sets prefix 0 sets)
   said : text ≡ ok_line
 
-put_each_made : (prefix : List ℕ) (Are : List Polyhedron → Type 0) (old : Table) (text : List ℕ) (new : Table) (change : Change) → AreAllPut prefix Are change → text ≡ lines_of change → new ≡ after old change → IsMadeEach prefix Are old text new
-put_each_made prefix Are old text new (PutsAll out xs) h said table = record { sets = xs.items; are = h.1; table = table ∙ ap (λ (x : List ℕ). put_each old (numbered_sets x 0 xs.items)) h.0; said = said }
-put_each_made prefix Are old text new (Says t) h said table = absurd h
-put_each_made prefix Are old text new (Puts name e) h said table = absurd h
-put_each_made prefix Are old text new (TakesOut name) h said table = absurd h
+put_each_made : (prefix : List ℕ) (Are : List Polyhedron → Type 0) (old : Table) (text : List ℕ) (new : Table) (change : Change) → AreAllPut prefix Are change → PutsProper change → text ≡ lines_of change → new ≡ after old change → IsMadeEach prefix Are old text new
+put_each_made prefix Are old text new (PutsAll out xs) h proper said table = record { sets = xs.items; kept = proper; are = h.1; table = table ∙ ap (λ (x : List ℕ). put_each old (numbered_sets x 0 xs.items)) h.0; said = said }
+put_each_made prefix Are old text new (Says t) h proper said table = absurd h
+put_each_made prefix Are old text new (Puts name e) h proper said table = absurd h
+put_each_made prefix Are old text new (TakesOut name) h proper said table = absurd h
 
 taken_made : (name : List ℕ) (e : Entry) (old : Table) (text : List ℕ) (new : Table) (change : Change) → entry_of old name ≡ Some e → IsTakenOut name change → text ≡ lines_of change → new ≡ after old change → TakesOutOf name (named old) text (named new)
 taken_made name e old text new (TakesOut taken) there h said table =
@@ -275,12 +276,12 @@ module _ (old new : Table) (text : List ℕ) (kept : AreKept old) where
   of_hybrid name C Is gives f = of_one as_hybrid entry.Hybrid hybrid_there values.Automaton automaton_of (λ p. refl) name C Is gives f
 
   -- each set that a run puts under a numbered name
-  makes_each : (prefix : List ℕ) (Are : List Polyhedron → Type 0) (AreSaid : List PointSet → Type 0) (m : Meaning Change) → ((sets : List Polyhedron) → Are sets → AreSaid (map set_of sets)) → ((change : Change) → m.does change → AreAllPut prefix Are change) → IsAccepted m old text new → MakesEach prefix AreSaid (named old) text (named new)
+  makes_each : (prefix : List ℕ) (Are : List Polyhedron → Type 0) (AreSaid : List PointSet → Type 0) (m : Meaning Change) → ((sets : List Polyhedron) → All IsProper sets → Are sets → AreSaid (map set_of sets)) → ((change : Change) → m.does change → AreAllPut prefix Are change) → IsAccepted m old text new → MakesEach prefix AreSaid (named old) text (named new)
   makes_each prefix Are AreSaid m gives does h =
-      let p = put_each_made prefix Are old text new h.change (does h.change h.does) h.lines_are h.table in
+      let p = put_each_made prefix Are old text new h.change (does h.change h.does) h.proper h.lines_are h.table in
       record {
         sets = map set_of p.sets;
-        are = gives p.sets p.are;
+        are = gives p.sets p.kept p.are;
         names = ap named p.table ∙ (named_put_each old (numbered_sets prefix 0 p.sets) ∙ ap (put_each (named old)) (named_numbered prefix 0 p.sets));
         said = p.said;
       }
@@ -357,22 +358,22 @@ module _ (old new : Table) (text : List ℕ) (kept : AreKept old) where
       of_poly p _ (λ x. Asks (named old) (named new) (files.TellsFile ext x text))
       (λ q proper a. asks (write ext q) (files.TellsFile ext (set_of q) text) (λ passes d. file_true laws.poly ext q text proper (one_topology q.topology Closed passes.1.1.0) d) a)
       (tell_one (write ext) (poly_of old p) h)
-  accepted_does laws (command.System out n locations) h = makes_system out (systems.system (has_no_room old out) n locations) (said_systems.IsEmptySystem n locations) (λ s kept_s passes d. system_made n locations s d) h
+  accepted_does laws (command.System out n locations) h = makes_system out (systems.system (has_no_room old out) n locations) (said_systems.IsEmptySystem n locations) (λ s kept_s passes d. system_made n locations s kept_s d) h
   accepted_does laws (command.Init s location p) h =
       of_system s _ (λ x. OfOne values.Polyhedron (named old) p (λ y. Makes values.System s (said_systems.IsWithInitial location x y) (named old) text (named new)))
       (λ x kept_x b. of_poly p _ (λ y. Makes values.System s (said_systems.IsWithInitial location (said_system x) y) (named old) text (named new))
-      (λ q proper a. makes_system s (init_meaning location x q) (said_systems.IsWithInitial location (said_system x) (set_of q)) (λ r kept_r passes d. init_made location x q r passes d) a)
+      (λ q proper a. makes_system s (init_meaning location x q) (said_systems.IsWithInitial location (said_system x) (set_of q)) (λ r kept_r passes d. init_made location x q r proper passes d) a)
       (accepted_one (parts.init s location x) (poly_of old p) b))
       (accepted_one (λ x. on_one (poly_of old p) (parts.init s location x)) (system_of old s) h)
   accepted_does laws (command.Trans s source target p) h =
       of_system s _ (λ x. OfOne values.Polyhedron (named old) p (λ y. Makes values.System s (said_systems.IsWithTransition source target x y) (named old) text (named new)))
       (λ x kept_x b. of_poly p _ (λ y. Makes values.System s (said_systems.IsWithTransition source target (said_system x) y) (named old) text (named new))
-      (λ q proper a. makes_system s (trans_meaning source target x q) (said_systems.IsWithTransition source target (said_system x) (set_of q)) (λ r kept_r passes d. trans_made source target x q r passes d) a)
+      (λ q proper a. makes_system s (trans_meaning source target x q) (said_systems.IsWithTransition source target (said_system x) (set_of q)) (λ r kept_r passes d. trans_made source target x q r proper passes d) a)
       (accepted_one (parts.trans s source target x) (poly_of old p) b))
       (accepted_one (λ x. on_one (poly_of old p) (parts.trans s source target x)) (system_of old s) h)
   accepted_does laws (command.Fixpoint s delay prefix) h =
       of_system s _ (λ x. MakesEach prefix (said_systems.AreInvariant x) (named old) text (named new))
-      (λ x kept_x a. makes_each prefix (systems.AreReached x delay) (said_systems.AreInvariant (said_system x)) (systems.fixpoint old delay prefix x) (λ sets r. fixpoint_made x delay sets kept_x r) (λ change d. d) a)
+      (λ x kept_x a. makes_each prefix (systems.AreReached x delay) (said_systems.AreInvariant (said_system x)) (systems.fixpoint old delay prefix x) (λ sets kept_sets r. fixpoint_made x delay sets kept_x r) (λ change d. d) a)
       (accepted_one (systems.fixpoint old delay prefix) (system_of old s) h)
   accepted_does laws (command.Pset out p) h =
       of_poly p _ (λ x. Makes values.Union out (unions.IsOfOne x) (named old) text (named new)) (λ q proper a. makes_powerset out (powersets.pset (has_no_room old out) q) (unions.IsOfOne (set_of q)) (λ u kept_u passes d. pset_made q u d) a)
@@ -420,15 +421,15 @@ module _ (old new : Table) (text : List ℕ) (kept : AreKept old) where
       (put_one as_poly entry.Poly poly_there out (shapes.shape_poly (has_no_room old out)) (shape_of old s) h)
   accepted_does laws (command.Hybrid out s) h =
       of_system s _ (λ x. Makes values.Automaton out (said_systems.IsStill x) (named old) text (named new))
-      (λ x kept_x a. makes_hybrid out (hybrids.hybrid (has_no_room old out) x) (said_systems.IsStill (said_system x)) (λ k kept_k passes d. still_made x k d) a)
+      (λ x kept_x a. makes_hybrid out (hybrids.hybrid (has_no_room old out) x) (said_systems.IsStill (said_system x)) (λ k kept_k passes d. still_made x k kept_k d) a)
       (put_one as_hybrid entry.Hybrid hybrid_there out (hybrids.hybrid (has_no_room old out)) (system_of old s) h)
   accepted_does laws (command.SetPart part name location p) h =
       of_hybrid name _ (λ x. OfOne values.Polyhedron (named old) p (λ y. Makes values.Automaton name (said_systems.IsWithPart part location x y) (named old) text (named new)))
       (λ x kept_x b. of_poly p _ (λ y. Makes values.Automaton name (said_systems.IsWithPart part location (automaton_of x) y) (named old) text (named new))
-      (λ q proper a. makes_hybrid name (part_meaning part location x q) (said_systems.IsWithPart part location (automaton_of x) (set_of q)) (λ r kept_r passes d. part_made part location x q r passes d) a)
+      (λ q proper a. makes_hybrid name (part_meaning part location x q) (said_systems.IsWithPart part location (automaton_of x) (set_of q)) (λ r kept_r passes d. part_made part location x q r proper passes d) a)
       (accepted_one (parts.set_part part name location x) (poly_of old p) b))
       (accepted_one (λ x. on_one (poly_of old p) (parts.set_part part name location x)) (hybrid_of old name) h)
   accepted_does laws (command.Reach k delay prefix) h =
       of_hybrid k _ (λ x. MakesEach prefix (said_systems.AreReached x) (named old) text (named new))
-      (λ x kept_x a. makes_each prefix (hybrids.AreReachedParts x delay) (said_systems.AreReached (automaton_of x)) (hybrids.reach old delay prefix x) (λ sets r. reach_made x delay sets kept_x r) (λ change d. d) a)
+      (λ x kept_x a. makes_each prefix (hybrids.AreReachedParts x delay) (said_systems.AreReached (automaton_of x)) (hybrids.reach old delay prefix x) (λ sets kept_sets r. reach_made x delay sets kept_x kept_sets r) (λ change d. d) a)
       (accepted_one (hybrids.reach old delay prefix) (hybrid_of old k) h)

@@ -1,6 +1,6 @@
 -- Systems, automata, powersets, shapes and ranking functions are those that are said.
 use Rattle.std.proofs.Common.{◌≡◌, ◌≢◌, ◌⊎◌, inl, inr, ◌↔◌, ℕ, ◌+◌, ◌-◌, ◌*◌, ◌/◌, ◌%◌, ◌<◌, ◌≤◌, List, [], ◌∷◌, ◌++◌, map, length, take, refl, ap, sym, ◌∙◌, subst, slice_get, slice_set, All, Contains, IfSome, ℤ, codes, arith}
-use Rattle.std.specs.Prelude.{Option, None, Some, decimal}
+use Rattle.std.specs.Prelude.{Option, None, Some, decimal, slice_index_or}
 use Rattle.std.specs.Option.{option_map}
 use Rattle.std.proofs.lemmas.Bool.{cases_lt}
 use Rattle.std.proofs.lemmas.Option.{slice_get-map, slice_get_within, get_or_from_slice_get}
@@ -66,7 +66,7 @@ use Rattle.soundness.specs.Answers.{line}
 use Rattle.soundness.specs.Unions as unions
 use Rattle.soundness.specs.Shapes as shapes
 use Rattle.soundness.specs.Systems.{IsClosedOver, IsEmptySystem, IsWithInitial, IsWithTransition, IsStill, with_part, IsWithPart, IncludeInitial, AreClosedUnder, AreInvariant, IncludeInitialWithin, AreClosedUnderFlow, AreClosedUnderJumps, AreReached}
-use Rattle.soundness.proofs.PointLaws.{TextLaws, via, turn, is_nnc, set_of, is_over, set_is, moved, within}
+use Rattle.soundness.proofs.PointLaws.{TextLaws, via, turn, is_nnc, set_of, is_over, closed_is_over, set_is, moved, within}
 use Rattle.soundness.proofs.Operands.{one_topology, one_number, below}
 use Rattle.soundness.proofs.TrueAnswers.{told_so}
 use Rattle.soundness.proofs.ShapeRows.{shape_fits}
@@ -94,11 +94,11 @@ push_map f [] a = refl
 push_map f (x ∷ xs) a = ap (λ (l : List _). f x ∷ l) (push_map f xs a)
 
 -- ---- closed sets
-closed_over : (dim : ℕ) (p : Polyhedron) → p.topology ≡ Closed → p.cons.dim ≡ dim → IsClosedOver dim (set_of p)
-closed_over dim p c d = record { closed = ap is_nnc c; variables = d }
+closed_over : (dim : ℕ) (p : Polyhedron) → poly.IsKept p → p.topology ≡ Closed → p.cons.dim ≡ dim → IsClosedOver dim (set_of p)
+closed_over dim p kept c d = closed_is_over dim p kept (record { same_topology = c; same_dim = d })
 
 all_closed : (dim : ℕ) (sets : List Polyhedron) → All (closed.IsClosedOver dim) sets → All (IsClosedOver dim) (map set_of sets)
-all_closed dim sets each = All-map (IsClosedOver dim) set_of sets (All-weaker (closed.IsClosedOver dim) (λ p. IsClosedOver dim (set_of p)) (λ p h. closed_over dim p h.over.same_topology h.over.same_dim) sets each)
+all_closed dim sets each = All-map (IsClosedOver dim) set_of sets (All-weaker (closed.IsClosedOver dim) (λ p. IsClosedOver dim (set_of p)) (λ p h. closed_is_over dim p h.kept h.over) sets each)
 
 -- ---- systems
 abbrev system_from : ℕ → List Transition → List PointSet → TransitionSystem
@@ -107,28 +107,28 @@ system_from dim transitions initial = record { dim = dim; initial = initial; tra
 abbrev automaton_from : TransitionSystem → List PointSet → List PointSet → HybridAutomaton
 automaton_from system invariants flows = record { system = system; invariants = invariants; flows = flows }
 
-pub system_made : (n locations : ℕ) (s : trans.TransitionSystem) → made.IsEmptySystem n locations s → IsEmptySystem n locations (system_of s)
-system_made n locations s h = record {
+pub system_made : (n locations : ℕ) (s : trans.TransitionSystem) → trans.IsKeptSystem s → made.IsEmptySystem n locations s → IsEmptySystem n locations (system_of s)
+system_made n locations s kept h = record {
   dim = h.dim;
   as_many = length-map s.initial set_of ∙ h.as_many;
-  over = All-map (IsClosedOver n) set_of s.initial (All-weaker (poly.IsEmpty Closed n) (λ p. IsClosedOver n (set_of p)) (λ p e. closed_over n p e.over.same_topology e.over.same_dim) s.initial h.initial);
+  over = All-map (IsClosedOver n) set_of s.initial (λ i d l. closed_is_over n (slice_index_or s.initial i d) (kept.initial i d l).kept (h.initial i d l).over);
   initial = All-map HasNoPoint set_of s.initial (All-weaker (poly.IsEmpty Closed n) (λ p. HasNoPoint (set_of p)) (λ p e. e.points) s.initial h.initial);
   transitions = ap (map transition_of) h.transitions;
 }
 
-pub init_made : (location : ℕ) (s : trans.TransitionSystem) (p : Polyhedron) (r : trans.TransitionSystem) → Passes (parts.misfits s.dim p (length s.initial ≤ location)) → r ≡ trans.with_initial s location p → IsWithInitial location (system_of s) (set_of p) (system_of r)
-init_made location s p r passes h = record {
+pub init_made : (location : ℕ) (s : trans.TransitionSystem) (p : Polyhedron) (r : trans.TransitionSystem) → IsProper p → Passes (parts.misfits s.dim p (length s.initial ≤ location)) → r ≡ trans.with_initial s location p → IsWithInitial location (system_of s) (set_of p) (system_of r)
+init_made location s p r fit passes h = record {
   there = subst (λ (n : ℕ). location < n) (sym (length-map s.initial set_of)) (below (length s.initial) location passes.1.1.1.1.1.0);
-  over = closed_over s.dim p (one_topology p.topology Closed passes.1.1.0) (one_number p.cons.dim s.dim passes.1.1.1.0);
+  over = closed_over s.dim p fit.kept (one_topology p.topology Closed passes.1.1.0) (one_number p.cons.dim s.dim passes.1.1.1.0);
   is = ap system_of h ∙ ap (system_from s.dim (map transition_of s.transitions)) (set_map set_of s.initial location p);
 }
 
-pub trans_made : (source target : ℕ) (s : trans.TransitionSystem) (p : Polyhedron) (r : trans.TransitionSystem) → Passes (parts.misfits (2 * s.dim) p ((length s.initial ≤ source) ⊎ (length s.initial ≤ target))) →
+pub trans_made : (source target : ℕ) (s : trans.TransitionSystem) (p : Polyhedron) (r : trans.TransitionSystem) → IsProper p → Passes (parts.misfits (2 * s.dim) p ((length s.initial ≤ source) ⊎ (length s.initial ≤ target))) →
     r ≡ trans.with_transition s (record { source = source; target = target; relation = p }) → IsWithTransition source target (system_of s) (set_of p) (system_of r)
-trans_made source target s p r passes h = record {
+trans_made source target s p r fit passes h = record {
   source_there = subst (λ (n : ℕ). source < n) (sym (length-map s.initial set_of)) (below (length s.initial) source (λ x. passes.1.1.1.1.1.0 (inl x)));
   target_there = subst (λ (n : ℕ). target < n) (sym (length-map s.initial set_of)) (below (length s.initial) target (λ x. passes.1.1.1.1.1.0 (inr x)));
-  over = closed_over (2 * s.dim) p (one_topology p.topology Closed passes.1.1.0) (one_number p.cons.dim (2 * s.dim) passes.1.1.1.0);
+  over = closed_over (2 * s.dim) p fit.kept (one_topology p.topology Closed passes.1.1.0) (one_number p.cons.dim (2 * s.dim) passes.1.1.1.0);
   is = ap system_of h ∙ ap (λ (x : List Transition). system_from s.dim x (map set_of s.initial)) (push_map transition_of s.transitions (record { source = source; target = target; relation = p }));
 }
 
@@ -160,13 +160,13 @@ fixpoint_made s delay sets kept h = record {
 }
 
 -- ---- automata
-pub still_made : (s : trans.TransitionSystem) (h : hybrid.HybridAutomaton) → made_automata.IsStill s h → IsStill (system_of s) (automaton_of h)
-still_made s h i = record {
+pub still_made : (s : trans.TransitionSystem) (h : hybrid.HybridAutomaton) → hybrid.IsKeptHybrid h → made_automata.IsStill s h → IsStill (system_of s) (automaton_of h)
+still_made s h kept i = record {
   system = ap system_of i.system;
   invariants = length-map h.invariants set_of ∙ i.invariant_count ∙ sym (length-map s.initial set_of);
   flows = length-map h.flows set_of ∙ i.flow_count ∙ sym (length-map s.initial set_of);
-  invariants_over = All-map (IsClosedOver s.dim) set_of h.invariants (All-weaker (poly.IsUniverse Closed s.dim) (λ p. IsClosedOver s.dim (set_of p)) (λ p e. closed_over s.dim p e.over.same_topology e.over.same_dim) h.invariants i.invariants);
-  flows_over = All-map (IsClosedOver s.dim) set_of h.flows (All-weaker (poly.IsEmpty Closed s.dim) (λ p. IsClosedOver s.dim (set_of p)) (λ p e. closed_over s.dim p e.over.same_topology e.over.same_dim) h.flows i.flows);
+  invariants_over = All-map (IsClosedOver s.dim) set_of h.invariants (λ k d l. closed_is_over s.dim (slice_index_or h.invariants k d) (kept.invariants.each k d l).kept (i.invariants k d l).over);
+  flows_over = All-map (IsClosedOver s.dim) set_of h.flows (λ k d l. closed_is_over s.dim (slice_index_or h.flows k d) (kept.flows.each k d l).kept (i.flows k d l).over);
   everywhere = All-map (λ (p : PointSet). (v : List ℤ) → IsPoint s.dim v → In p.cons v) set_of h.invariants (All-weaker (poly.IsUniverse Closed s.dim) (λ p. (v : List ℤ) → IsPoint s.dim v → In p.cons v) (λ p e. e.points) h.invariants i.invariants);
   still = All-map HasNoPoint set_of h.flows (All-weaker (poly.IsEmpty Closed s.dim) (λ p. HasNoPoint (set_of p)) (λ p e. e.points) h.flows i.flows);
 }
@@ -175,11 +175,11 @@ part_map : (part : LocationPart) (h : hybrid.HybridAutomaton) (location : ℕ) (
 part_map Invariant h location p = ap (λ (x : List PointSet). automaton_from (system_of h.system) x (map set_of h.flows)) (set_map set_of h.invariants location p)
 part_map Flow h location p = ap (automaton_from (system_of h.system) (map set_of h.invariants)) (set_map set_of h.flows location p)
 
-pub part_made : (part : LocationPart) (location : ℕ) (h : hybrid.HybridAutomaton) (p : Polyhedron) (r : hybrid.HybridAutomaton) → Passes (parts.misfits h.system.dim p (length h.system.initial ≤ location)) → r ≡ parts.with_part part h location p →
+pub part_made : (part : LocationPart) (location : ℕ) (h : hybrid.HybridAutomaton) (p : Polyhedron) (r : hybrid.HybridAutomaton) → IsProper p → Passes (parts.misfits h.system.dim p (length h.system.initial ≤ location)) → r ≡ parts.with_part part h location p →
     IsWithPart part location (automaton_of h) (set_of p) (automaton_of r)
-part_made part location h p r passes e = record {
+part_made part location h p r fit passes e = record {
   there = subst (λ (n : ℕ). location < n) (sym (length-map h.system.initial set_of)) (below (length h.system.initial) location passes.1.1.1.1.1.0);
-  over = closed_over h.system.dim p (one_topology p.topology Closed passes.1.1.0) (one_number p.cons.dim h.system.dim passes.1.1.1.0);
+  over = closed_over h.system.dim p fit.kept (one_topology p.topology Closed passes.1.1.0) (one_number p.cons.dim h.system.dim passes.1.1.1.0);
   is = ap automaton_of e ∙ part_map part h location p;
 }
 
@@ -190,11 +190,11 @@ record ArePartsOver (h : hybrid.HybridAutomaton) (sets : List Polyhedron) : Type
   dims : (l : ℕ) (p : Polyhedron) → slice_get sets l ≡ Some p → p.cons.dim ≡ h.system.dim
   within : (l : ℕ) (invariant set : Polyhedron) → slice_get h.invariants l ≡ Some invariant → slice_get sets l ≡ Some set → (v : List ℤ) → IsPoint h.system.dim v → In set.cons v → In invariant.cons v
 
-parts_over : (h : hybrid.HybridAutomaton) (delay : ℕ) (sets : List Polyhedron) → hybrid.IsKeptHybrid h → reaches.AreReached h delay sets → ArePartsOver h sets
-parts_over h delay sets kept r = record {
+parts_over : (h : hybrid.HybridAutomaton) (delay : ℕ) (sets : List Polyhedron) → hybrid.IsKeptHybrid h → All IsProper sets → reaches.AreReached h delay sets → ArePartsOver h sets
+parts_over h delay sets kept fits r = record {
   as_many = r.of_limit.as_many ∙ limit.as_many;
   over = All-map (IsClosedOver h.system.dim) set_of sets (λ k d l. (let a = has_at sets k l in
-      subst (λ (p : Polyhedron). IsClosedOver h.system.dim (set_of p)) (sym (get_or_from_slice_get sets k a.0 d a.1)) (let o = part_at k a.0 a.1 in closed_over h.system.dim a.0 o.0 o.1)));
+      subst (λ (p : Polyhedron). IsProper p → IsClosedOver h.system.dim (set_of p)) (sym (get_or_from_slice_get sets k a.0 d a.1)) (λ fit. (let o = part_at k a.0 a.1 in closed_over h.system.dim a.0 fit.kept o.0 o.1)) (fits k d l)));
   dims = λ l p at. (part_at l p at).1;
   within = λ l invariant set at_invariant at_set v is holds.
       let b = has_at r.sets l (limit_below l set at_set) in
@@ -249,9 +249,9 @@ within_reached h sets parts l invariant set at_invariant at_set v is holds =
     let x = mapped set_of sets l set at_set in
     subst (λ (y : PointSet). In y.cons v) j.is (parts.within l j.source x.source j.at x.at v is (subst (λ (y : PointSet). In y.cons v) (sym x.is) holds))
 
-pub reach_made : (h : hybrid.HybridAutomaton) (delay : ℕ) (sets : List Polyhedron) → hybrid.IsKeptHybrid h → made_automata.AreReachedParts h delay sets → AreReached (automaton_of h) (map set_of sets)
-reach_made h delay sets kept r =
-    let parts = parts_over h delay sets kept r.reached in
+pub reach_made : (h : hybrid.HybridAutomaton) (delay : ℕ) (sets : List Polyhedron) → hybrid.IsKeptHybrid h → All IsProper sets → made_automata.AreReachedParts h delay sets → AreReached (automaton_of h) (map set_of sets)
+reach_made h delay sets kept fits r =
+    let parts = parts_over h delay sets kept fits r.reached in
     record {
       are = record { as_many = length-map sets set_of ∙ parts.as_many ∙ sym (length-map h.system.initial set_of); over = parts.over };
       within = within_reached h sets parts;

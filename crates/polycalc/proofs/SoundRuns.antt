@@ -9,15 +9,16 @@ use Rattle.reply_text.specs.Faults.{fault_number, fault_name, fault_place, place
 use Rattle.reply_text.specs.Overflows.{kind_name, row_text}
 use Rattle.reply_text.specs.declared.faults.Fault.{Fault}
 use Rattle.reply_text.specs.declared.faults.Fault.TheVariants as fault
-use Rattle.cons_sys.specs.Constraints.{In}
 use Rattle.poly_pair.specs.Polyhedra.{Polyhedron, IsKept}
+use Rattle.poly_pair.specs.declared.topology.Topology.TheVariants.{Closed}
+use Rattle.name_table.specs.Table.{has_no_room}
 use Rattle.cdd_reading.specs.declared.format.Format.{Format}
 use Rattle.cdd_reading.specs.declared.format.Format.TheVariants.{Ine, Ext}
-use Rattle.cdd_reading.specs.Refusals.{other}
+use Rattle.cdd_reading.specs.Refusals.{Test, tests, NoneOf}
 use Rattle.file_poly.specs.Files as poly_files
 use Rattle.file_poly.specs.declared.listed.Listed.{Listed}
 use Rattle.file_poly.specs.declared.listed.Listed.TheVariants.{Cons, Gens}
-use Rattle.job_texts.specs.Conversions.{ConvertsTo}
+use Rattle.job_texts.specs.Conversions.{linearity_behind, conversion_tests, IsOtherFile, ConvertsTo}
 use Rattle.script_text.specs.declared.command.Command.{Command}
 use Rattle.script_text.specs.declared.command.Command.TheVariants.{Read}
 use Rattle.line_values.specs.Operands.{format_of}
@@ -31,7 +32,6 @@ use Rattle.calc_state.specs.Reading.{Reads}
 use Rattle.calc_state.specs.Step.{Performs}
 use Rattle.script_text.specs.Line.{Spells}
 use Rattle.cdd_reading.specs.Files.{IsEnd}
-use Rattle.gens_sys.specs.Spans.{Span}
 use Rattle.calc_state.specs.Line.{file_after, StepFrom}
 use Rattle.calc_state.specs.Runs.{Run, cut_off, at_end}
 use Rattle.polycalc.specs.Replies.{reply_bytes, replies_bytes}
@@ -40,9 +40,10 @@ use Rattle.polycalc.specs.Sound.{is_ext, IsSound}
 use Rattle.job_words.specs.declared.job.Job.{Job}
 use Rattle.job_words.specs.declared.job.Job.TheVariants as job
 use Rattle.polycalc.specs.declared.status.Status.{Status}
-use Rattle.soundness.specs.Files.{IsOfFile}
-use Rattle.soundness.specs.Replies.{OpenFile, State, IsRefusal, file_begun, IsReply, IsEndReply, AreReplies, IsWrittenTo, IsConverted}
+use Rattle.soundness.specs.Files.{IsOfFile, IsRead}
+use Rattle.soundness.specs.Replies.{OpenFile, State, MayBeRefused, IsRefusal, file_begun, IsReply, IsEndReply, AreReplies, IsWrittenTo, IsConverted}
 use Rattle.soundness.proofs.PointLaws.{turn, set_of, closed_is_over}
+use Rattle.soundness.proofs.TrueAnswers.{PolyLaws, ine_side, ext_side}
 use Rattle.polycalc.proofs.SoundValues.{named, named_put, AreKept, put_kept, after_kept}
 use Rattle.polycalc.proofs.SoundCommands.{Laws, accepted_does}
 use Rattle.polycalc.proofs.RefusalLines.{fault_plain, overflow_plain}
@@ -83,14 +84,33 @@ file_is true bytes p (Gens gs) kept read set = record { system = gs; file = read
 of_file : (ext : Bool) (bytes : List ℕ) (p : Polyhedron) → IsKept p → poly_files.IsOfFile (format_of ext) bytes p → IsOfFile ext bytes (set_of p)
 of_file ext bytes p kept h = file_is ext bytes p h.list kept h.read h.set
 
+closed_list : (list : Listed) (p : Polyhedron) → poly_files.IsOfList list p → p.topology ≡ Closed
+closed_list (Cons cs) p set = set.over.same_topology
+closed_list (Gens gs) p set = set.over.same_topology
+
+closed_file : (want : Format) (bytes : List ℕ) (p : Polyhedron) → poly_files.IsOfFile want bytes p → p.topology ≡ Closed
+closed_file want bytes p h = closed_list h.list p h.set
+
+-- the tests of the front of a list, and those behind it
+none_front : (ts us : List Test) → NoneOf (ts ++ us) → NoneOf ts
+none_front [] us h = tt
+none_front (t ∷ ts) us h = (h.0, none_front ts us h.1)
+
+none_back : (ts us : List Test) → NoneOf (ts ++ us) → NoneOf us
+none_back [] us h = h
+none_back (t ∷ ts) us h = none_back ts us h.1
+
+read_file : (ext full : Bool) (bytes : List ℕ) (p : Polyhedron) → IsKept p → NoneOf (tests (format_of ext) bytes ++ open_files.no_room full ∷ []) → poly_files.IsOfFile (format_of ext) bytes p → IsRead ext bytes (set_of p)
+read_file ext full bytes p kept passes h = record { passes = none_front (tests (format_of ext) bytes) (open_files.no_room full ∷ []) passes; file = of_file ext bytes p kept h }
+
 -- ---- a line
 -- the reply to a line, and what is kept
 record IsTrueStep (table : Table) (file : Option open_files.OpenFile) (text : List ℕ) (reply : Reply) (new : calc.State) : Type 0 where
   is : IsReply (said_from table file) text (reply_bytes reply) (said_state new)
   kept : AreKept new.names
 
-unchanged : (table : Table) (file : Option open_files.OpenFile) (text : List ℕ) (reply : Reply) (new : calc.State) → AreKept table → IsRefusal (reply_bytes reply) → new.names ≡ table → new.file ≡ None → IsTrueStep table file text reply new
-unchanged table file text reply new kept refusal e f = record { is = inl (refusal, same_state new.names table new.file None e f); kept = subst AreKept (sym e) kept }
+unchanged : (table : Table) (file : Option open_files.OpenFile) (text : List ℕ) (reply : Reply) (new : calc.State) → AreKept table → MayBeRefused (option_map said_file file) text → IsRefusal (reply_bytes reply) → new.names ≡ table → new.file ≡ None → IsTrueStep table file text reply new
+unchanged table file text reply new kept may refusal e f = record { is = inl (may, (refusal, same_state new.names table new.file None e f)); kept = subst AreKept (sym e) kept }
 
 opens_said : (c : Command) → option_map said_file (opens c) ≡ file_begun c
 opens_said (Read out ext) = refl
@@ -101,8 +121,8 @@ performed laws table text new c (Answered lines) kept spelled p file = record {
   is = inr (record { command = c; spelled = laws.texts.spelled text c spelled; does = accepted_does table new.names lines kept laws c p; file = ap (option_map said_file) file ∙ opens_said c });
   kept = subst AreKept (sym p.table) (after_kept table p.change kept p.proper);
 }
-performed laws table text new c (Refused f) kept spelled p file = unchanged table None text (Refused f) new kept (refused f) p.1 file
-performed laws table text new c (Overflows over) kept spelled p file = unchanged table None text (Overflows over) new kept (overflown over) p.2 file
+performed laws table text new c (Refused f) kept spelled p file = unchanged table None text (Refused f) new kept tt (refused f) p.1 file
+performed laws table text new c (Overflows over) kept spelled p file = unchanged table None text (Overflows over) new kept tt (overflown over) p.2 file
 
 ended : (table : Table) (file : open_files.OpenFile) (text : List ℕ) (new : calc.State) (reply : Reply) → AreKept table → IsEnd text → Reads table (open_files.with_line file text) reply new.names → new.file ≡ None → IsTrueStep table (Some file) text reply new
 ended table file text new (Answered lines) kept ends r shut = record {
@@ -110,7 +130,7 @@ ended table file text new (Answered lines) kept ends r shut = record {
     ends = ends;
     makes = record {
       made = set_of r.polyhedron;
-      is = of_file file.ext (open_files.with_line file text).text r.polyhedron r.proper.kept r.set;
+      is = read_file file.ext (has_no_room table file.name) (open_files.with_line file text).text r.polyhedron r.proper.kept r.passes r.set;
       names = ap named r.table ∙ named_put table file.name (entry.Poly r.polyhedron);
       said = r.lines_are;
     };
@@ -118,13 +138,13 @@ ended table file text new (Answered lines) kept ends r shut = record {
   }));
   kept = subst AreKept (sym r.table) (put_kept table file.name (entry.Poly r.polyhedron) kept r.proper);
 }
-ended table file text new (Refused f) kept ends r shut = unchanged table (Some file) text (Refused f) new kept (refused f) r.1 shut
-ended table file text new (Overflows over) kept ends r shut = unchanged table (Some file) text (Overflows over) new kept (overflown over) r.2 shut
+ended table file text new (Refused f) kept ends r shut = unchanged table (Some file) text (Refused f) new kept ends (refused f) r.1 shut
+ended table file text new (Overflows over) kept ends r shut = unchanged table (Some file) text (Overflows over) new kept ends (overflown over) r.2 shut
 
 step_sound : Laws → (table : Table) (file : Option open_files.OpenFile) (text : List ℕ) (reply : Reply) (new : calc.State) → AreKept table → StepFrom table file text reply new → IsTrueStep table file text reply new
 step_sound laws table None text reply new kept (inl a) = performed laws table text new a.command reply kept a.spelled a.performed a.file
 step_sound laws table None text reply new kept (inr u) =
-    unchanged table None text reply new kept (subst (λ (r : Reply). IsRefusal (reply_bytes r)) (sym u.shown) (refused u.fault)) (ap (λ (s : calc.State). s.names) u.unchanged) (ap (λ (s : calc.State). s.file) u.unchanged)
+    unchanged table None text reply new kept tt (subst (λ (r : Reply). IsRefusal (reply_bytes r)) (sym u.shown) (refused u.fault)) (ap (λ (s : calc.State). s.names) u.unchanged) (ap (λ (s : calc.State). s.file) u.unchanged)
 step_sound laws table (Some file) text reply new kept (inl a) = record {
   is = inr (inl (record { unended = a.unended; said = ap reply_bytes a.silent; state = ap said_state a.added }));
   kept = subst AreKept (sym (ap (λ (s : calc.State). s.names) a.added)) kept;
@@ -152,17 +172,29 @@ pub script_sound : Laws → (script : List ℕ) (replies : List Reply) (new : ca
 script_sound laws script replies new run = record { replies = map reply_bytes (replies ++ at_end new); are = run_sound laws (closed []) (lines script) replies new tt run; all = all_bytes (replies ++ at_end new) }
 
 -- ---- a file that is converted
-converted : (want : Format) (bytes text : List ℕ) (p : Polyhedron) → IsKept p → poly_files.IsOfFile want bytes p → poly_files.IsOfFile (other want) text p → IsConverted (is_ext want) bytes text
-converted Ine bytes text p kept h k = inr (set_of p, of_file false bytes p kept h, of_file true text p kept k)
-converted Ext bytes text p kept h k = inr (set_of p, of_file true bytes p kept h, of_file false text p kept k)
+converted : PolyLaws → (want : Format) (bytes text : List ℕ) → NoneOf (conversion_tests want bytes) → IsOtherFile want bytes text → IsConverted (is_ext want) bytes text
+converted laws Ine bytes text passes h = inr (record {
+  set = set_of h.polyhedron;
+  read = record { passes = none_front (tests Ine bytes) (linearity_behind bytes ∷ []) passes; file = of_file false bytes h.polyhedron h.of_file.kept h.of_file.set };
+  behind = λ after. (none_back (tests Ine bytes) (linearity_behind bytes ∷ []) passes).0 fault.LinearityAfterEnd (refl, after);
+  tells = ext_side laws h.polyhedron text h.of_file.kept (closed_file Ine bytes h.polyhedron h.of_file.set) h.fit h.written;
+  file = of_file true text h.polyhedron h.of_file.kept h.same_points;
+})
+converted laws Ext bytes text passes h = inr (record {
+  set = set_of h.polyhedron;
+  read = record { passes = none_front (tests Ext bytes) (linearity_behind bytes ∷ []) passes; file = of_file true bytes h.polyhedron h.of_file.kept h.of_file.set };
+  behind = λ after. (none_back (tests Ext bytes) (linearity_behind bytes ∷ []) passes).0 fault.LinearityAfterEnd (refl, after);
+  tells = ine_side h.polyhedron text h.of_file.kept (closed_file Ext bytes h.polyhedron h.of_file.set) h.fit h.written;
+  file = of_file false text h.polyhedron h.of_file.kept h.same_points;
+})
 
-pub file_sound : (want : Format) (bytes : List ℕ) (reply : Reply) → ConvertsTo want bytes reply → IsConverted (is_ext want) bytes (reply_bytes reply)
-file_sound want bytes (Answered text) h = converted want bytes text h.1.polyhedron h.1.of_file.kept h.1.of_file.set h.1.same_points
-file_sound want bytes (Refused f) h = inl (refused f)
-file_sound want bytes (Overflows over) h = inl (overflown over)
+pub file_sound : Laws → (want : Format) (bytes : List ℕ) (reply : Reply) → ConvertsTo want bytes reply → IsConverted (is_ext want) bytes (reply_bytes reply)
+file_sound laws want bytes (Answered text) h = converted laws.poly want bytes text h.0 h.1
+file_sound laws want bytes (Refused f) h = inl (refused f)
+file_sound laws want bytes (Overflows over) h = inl (overflown over)
 
 -- ---- what is answered
 pub answers_sound : Laws → (task : Job) (script before : List ℕ) (held : Option (List ℕ)) (status : Status) → IsAnswered task script before held status → IsSound task script before held
 answers_sound laws job.Run script before held status a = record { written = replies_bytes (a.replies ++ at_end a.state); held_now = a.held_now; true_of = script_sound laws script a.replies a.state a.run }
-answers_sound laws (job.Convert want) file before held status a = record { written = reply_bytes a.reply; held_now = a.held_now; true_of = file_sound want file a.reply a.converts }
+answers_sound laws (job.Convert want) file before held status a = record { written = reply_bytes a.reply; held_now = a.held_now; true_of = file_sound laws want file a.reply a.converts }
 answers_sound laws (job.Sample n) script before held status a = record { written = reply_bytes a.reply; held_now = a.held_now; true_of = tt }

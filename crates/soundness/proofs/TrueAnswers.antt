@@ -1,18 +1,25 @@
 -- The answers to questions about polyhedra are true of their points.
-use Rattle.std.proofs.Common.{◌≡◌, inl, inr, ◌↔◌, ℕ, List, [], ◌++◌, refl, ap, sym, ◌∙◌, subst, Bool, true, false, IsTrue, ℤ, Ok, codes}
+use Rattle.std.proofs.Common.{◌≡◌, inl, inr, ◌↔◌, ℕ, ◌<◌, List, [], ◌++◌, length, arith, refl, ap, sym, ◌∙◌, subst, Bool, true, false, IsTrue, ℤ, Ok, codes}
+use Rattle.std.specs.Prelude.{slice_index_or}
 use Rattle.std.specs.Fmt.{signed_decimal}
-use Rattle.cdd_text.specs.Written.{ext_text}
+use Rattle.cdd_text.specs.Written.{ine_text, ext_text}
 use Rattle.row_core.specs.Points.{IsPoint}
+use Rattle.cons_sys.specs.Constraints as cons
 use Rattle.cons_sys.specs.Constraints.{In}
-use Rattle.gens_sys.specs.Generators.{generator_at, row_at, kind_at}
+use Rattle.gens_sys.specs.Generators as gens
+use Rattle.gens_sys.specs.Generators.{Generator, generator_at, row_at, kind_at}
 use Rattle.gens_sys.specs.declared.kind.GenKind.{GenKind}
 use Rattle.gens_sys.specs.declared.kind.GenKind.TheVariants.{Line, Ray, Point, ClosurePoint}
 use Rattle.gens_sys.specs.Spans.{Span}
+use Rattle.stored_systems.specs.PointSets.{IsWithin, AreClosedGens, AreWideGens}
+use Rattle.stored_systems.specs.StoredLaws.{AreClosedForms}
+use Rattle.stored_systems.proofs.Stored.{stored_is_closed}
 use Rattle.poly_pair.specs.declared.topology.Topology.{Topology}
 use Rattle.poly_pair.specs.declared.topology.Topology.TheVariants.{Closed, Nnc}
 use Rattle.poly_pair.specs.ClosedPolyhedra.{IsClosedOver}
 use Rattle.poly_pair.specs.KeptLaws.{KeptIsPair, KeptIsEmpty}
-use Rattle.poly_pair.specs.Polyhedra.{Polyhedron, IsStoredAs}
+use Rattle.poly_pair.specs.FirstLists.{LacksPoint}
+use Rattle.poly_pair.specs.Polyhedra.{Polyhedron, IsKept, IsStoredAs}
 use Rattle.expr_text.specs.Printed.{constraints_text, generators_text, generator_text}
 use Rattle.expr_text.specs.ReadBack.{ConstraintsAreReadBack, GeneratorsAreReadBack}
 use Rattle.expr_text.specs.GeneratorSystems.{IsGens}
@@ -41,7 +48,7 @@ use Rattle.soundness.specs.Sets.{generators, IsWidening}
 use Rattle.soundness.specs.Answers.{line, Tells, TellsWhether, LieSo, TellsRelation, is_max, attained_text, witness_kind, IsWitness, TellsExtremeOf, TellsExtreme, AreGensOf, TellsSide, TellsSize}
 use Rattle.soundness.specs.Files as files
 use Rattle.soundness.specs.Files.{TellsFile}
-use Rattle.soundness.proofs.PointLaws.{TextLaws, via, turn, is_nnc, set_of, is_over, moved, for_from}
+use Rattle.soundness.proofs.PointLaws.{TextLaws, via, turn, is_nnc, set_of, is_over, moved, for_to, for_from}
 use Rattle.soundness.proofs.Operands.{one_topology, one_number}
 
 -- the laws that are cited: both stored systems hold the same points, and there is no generator where there is none; what is printed is read back; the generator of a bound shows it; a widening includes the larger set
@@ -60,8 +67,11 @@ stored_dims Closed p (inr f) = f.same_dim
 stored_dims Nnc p (inl e) = e.same_dim
 stored_dims Nnc p (inr f) = f.same_dim
 
+pub kept_dims : (p : Polyhedron) → IsKept p → p.gens.dim ≡ p.cons.dim
+kept_dims p kept = stored_dims p.topology p kept.stored
+
 pub same_dims : (p : Polyhedron) → IsProper p → p.gens.dim ≡ p.cons.dim
-same_dims p a = stored_dims p.topology p a.kept.stored
+same_dims p a = kept_dims p a.kept
 
 -- ---- yes and no
 never : false ≡ true → ⊥
@@ -150,12 +160,12 @@ extreme_true texts laws extremum part p reply proper h = record {
 }
 
 -- ---- systems
-own_gens : PolyLaws → (p : Polyhedron) → IsProper p → AreGensOf p.gens.list (set_of p)
-own_gens laws p proper v is =
-    turn (via (laws.pair p proper.kept v is) (subst (λ (n : ℕ). Span p.gens v ↔ Span (generators n p.gens.list) v) (same_dims p proper) (λ x. x, λ x. x)))
+own_gens : PolyLaws → (p : Polyhedron) → IsKept p → AreGensOf p.gens.list (set_of p)
+own_gens laws p kept v is =
+    turn (via (laws.pair p kept v is) (subst (λ (n : ℕ). Span p.gens v ↔ Span (generators n p.gens.list) v) (kept_dims p kept) (λ x. x, λ x. x)))
 
 pub size_true : PolyLaws → (p : Polyhedron) (reply : List ℕ) → IsProper p → reply ≡ line (questions.size_text p) → TellsSize (set_of p) reply
-size_true laws p reply proper said = record { constraints_are = p.cons.list; generators_are = p.gens.list; hold = λ v is. (λ x. x, λ x. x); generate = own_gens laws p proper; said = said }
+size_true laws p reply proper said = record { constraints_are = p.cons.list; generators_are = p.gens.list; hold = λ v is. (λ x. x, λ x. x); generate = own_gens laws p proper.kept; said = said }
 
 pub side_true : TextLaws → PolyLaws → (side : Bool) (p : Polyhedron) (reply : List ℕ) → IsProper p → reply ≡ line (questions.side_text side p) → TellsSide side (set_of p) reply
 side_true texts laws false p reply proper said =
@@ -164,15 +174,54 @@ side_true texts laws false p reply proper said =
 side_true texts laws true p reply proper said =
     let read = subst (λ (n : ℕ). IsGens n (generators_text p.gens) p.gens) (same_dims p proper) ((laws.gens p.gens p.gens proper.gens).1 refl) in
     let says = texts.generators p.cons.dim (generators_text p.gens) p.gens read in
-    record { text = generators_text p.gens; said = said; list = says.list; is_text = says.is_text; are = λ v is. via (turn (says.same [] v)) (own_gens laws p proper v is) }
+    record { text = generators_text p.gens; said = said; list = says.list; is_text = says.is_text; are = λ v is. via (turn (says.same [] v)) (own_gens laws p proper.kept v is) }
 
 -- ---- files
-file_side : PolyLaws → (ext : Bool) (p : Polyhedron) (reply : List ℕ) → IsProper p → reply ≡ file_of ext p → files.TellsSide ext (set_of p) reply
-file_side laws false p reply proper said = (p.cons.list, λ v is. (λ x. x, λ x. x), said)
-file_side laws true p reply proper said = (p.gens.list, own_gens laws p proper, said ∙ ap (λ (n : ℕ). ext_text (generators n p.gens.list)) (same_dims p proper))
+closed_forms : (p : Polyhedron) → IsKept p → p.topology ≡ Closed → AreClosedForms p.cons p.gens
+closed_forms p kept closed = stored_is_closed p.cons p.gens (subst (λ (t : Topology). IsStoredAs t p.cons p.gens) closed kept.stored)
+
+-- where there are generators some is a point
+no_lack : PolyLaws → (p : Polyhedron) → IsKept p → ¬ (LacksPoint p.gens.list)
+no_lack laws p kept lacks = no_element (subst (λ (list : List Generator). 0 < length list) ((laws.empty p kept).1 none_within) lacks.some)
+  where
+    none_within : (v : List ℤ) → ¬ (IsWithin p.cons v)
+    none_within v w =
+        let s : Span p.gens v = (laws.pair p kept v w.point).0 w.holds in
+        lacks.none s.point.index s.point.within s.point.kind
+
+    no_element : 0 < 0 → ⊥
+    no_element z = omega arith
+
+pub ine_side : (p : Polyhedron) (reply : List ℕ) → IsKept p → p.topology ≡ Closed → cons.FitDimension p.cons → reply ≡ ine_text p.cons → files.TellsSide false (set_of p) reply
+ine_side p reply kept closed fit said =
+    let forms = closed_forms p kept closed in (
+      p.cons.list,
+      record {
+        rows = λ i d h. for_to Closed p.cons.dim (slice_index_or p.cons.list i d) (record { wide = (fit.each i d h).wide; kind = forms.cons i d h });
+        are = λ v is. (λ x. x, λ x. x);
+      },
+      said,
+    )
+
+pub ext_side : PolyLaws → (p : Polyhedron) (reply : List ℕ) → IsKept p → p.topology ≡ Closed → gens.FitDimension p.gens → reply ≡ ext_text p.gens → files.TellsSide true (set_of p) reply
+ext_side laws p reply kept closed fit said =
+    let same = kept_dims p kept in (
+      p.gens.list,
+      record {
+        wide = subst (λ (n : ℕ). AreWideGens (generators n p.gens.list)) same (λ i d h. (fit.each i d h).wide);
+        closed = subst (λ (n : ℕ). AreClosedGens (generators n p.gens.list)) same (closed_forms p kept closed).gens;
+        point = no_lack laws p kept;
+        are = own_gens laws p kept;
+      },
+      said ∙ ap (λ (n : ℕ). ext_text (generators n p.gens.list)) same,
+    )
+
+file_side : PolyLaws → (ext : Bool) (p : Polyhedron) (reply : List ℕ) → IsProper p → p.topology ≡ Closed → reply ≡ file_of ext p → files.TellsSide ext (set_of p) reply
+file_side laws false p reply proper closed said = ine_side p reply proper.kept closed proper.cons said
+file_side laws true p reply proper closed said = ext_side laws p reply proper.kept closed proper.gens said
 
 pub file_true : PolyLaws → (ext : Bool) (p : Polyhedron) (reply : List ℕ) → IsProper p → p.topology ≡ Closed → reply ≡ file_of ext p → TellsFile ext (set_of p) reply
-file_true laws ext p reply proper closed said = record { closed = ap is_nnc closed; tells = file_side laws ext p reply proper said }
+file_true laws ext p reply proper closed said = record { closed = ap is_nnc closed; tells = file_side laws ext p reply proper closed said }
 
 -- ---- a widening
 pub widen_made : PolyLaws → (p q r : Polyhedron) (others : Conditions) → IsProper p → IsProper q → IsProper r → Passes (nested p q others) → IsWidened p q r → IsWidening (set_of p) (set_of q) (set_of r)

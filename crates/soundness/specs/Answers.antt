@@ -166,8 +166,8 @@ abbrev pub TellsSide : Bool → PointSet → List ℕ → Type 0
 TellsSide false s reply = TellsConstraints s reply
 TellsSide true s reply = TellsGenerators s reply
 
--- the dimension, and how many constraints, and how many generators, stand for the points: those of some lists that do,
--- so that any number passes from the least on
+-- the dimension, and how many constraints, and how many generators, stand for the points: of some
+-- lists that do, so that any number passes from the least on
 pub record TellsSize (s : PointSet) (reply : List ℕ) : Type 0 where
   pub constraints_are : List Constraint
   pub generators_are : List Generator

@@ -60,9 +60,9 @@ abbrev pub AreDisjoint : PointSet → PointSet → Type 0
 AreDisjoint s t = (v : List ℤ) → IsPoint s.cons.dim v → ¬ (In s.cons v × In t.cons v)
 
 -- ---- the smallest set
--- the point is in each polyhedron of the kind that includes all points with the property. Each constraint that holds
--- at all of these holds at it: a polyhedron is the set of the points at which some constraints hold, and one constraint
--- alone makes such a set too
+-- the point is in each polyhedron of the kind that includes all points with the property: each
+-- constraint that holds at all of these holds at it. That is the same, for a polyhedron is the set
+-- of the points at which some constraints hold, and one constraint alone makes such a set too
 abbrev pub IsInSmallest : Bool → ℕ → (List ℤ → Type 0) → List ℤ → Type 0
 IsInSmallest nnc dim Has v = (c : Constraint) → IsConstraintFor nnc dim c →
     ((u : List ℤ) → Has u → Satisfies u c) → Satisfies v c

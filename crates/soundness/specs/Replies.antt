@@ -1,14 +1,14 @@
 -- What is written to a script and to a file.
-use Rattle.std.specs.Prelude.{◌≡◌, ◌⊎◌, ℕ, List, [], ◌∷◌, ◌++◌, Option, None, Some, Bool, true, not, ◌==◌, codes, take}
+use Rattle.std.specs.Prelude.{◌≡◌, ◌⊎◌, ℕ, List, [], ◌∷◌, ◌++◌, Option, None, Some, Bool, true, not, ◌==◌, codes, take, ⊤}
 use Rattle.std.specs.List.{concat, list_all}
 use Rattle.std.specs.Str.Lines.{lines}
-use Rattle.cdd_reading.specs.Files.{IsEnd}
+use Rattle.cdd_reading.specs.Files.{IsEnd, HasLinearityAfter}
 use Rattle.script_text.specs.declared.command.Command.{Command}
 use Rattle.script_text.specs.declared.command.Command.TheVariants.{Read}
 use Rattle.soundness.specs.Points.{PointSet}
 use Rattle.soundness.specs.Values.{Polyhedron, Names}
 use Rattle.soundness.specs.Answers.{line}
-use Rattle.soundness.specs.Files.{IsOfFile}
+use Rattle.soundness.specs.Files.{IsOfFile, IsRead, TellsSide}
 use Rattle.soundness.specs.Commands.{Makes, Does}
 use Rattle.soundness.specs.TextsLines.{Spelled}
 
@@ -39,6 +39,11 @@ pub record IsRefusal (reply : List ℕ) : Type 0 where
   pub one_line : list_all is_text rest ≡ true
   pub said : (reply ≡ line (codes "fault " ++ rest)) ⊎ (reply ≡ line (codes "overflow " ++ rest))
 
+-- where a file is open only its last line is refused
+abbrev pub MayBeRefused : Option OpenFile → List ℕ → Type 0
+MayBeRefused None text = ⊤
+MayBeRefused (Some file) text = IsEnd text
+
 -- a refused line changes nothing; no file is open after it
 abbrev pub IsRefused : State → List ℕ → State → Type 0
 IsRefused old reply new = IsRefusal reply × (new ≡ record { names = old.names; file = None })
@@ -55,8 +60,8 @@ pub record IsPerformed (old : Names) (words : List ℕ) (reply : List ℕ) (new 
   pub does : Does old command reply new.names
   pub file : new.file ≡ file_begun command
 
--- the file with one line more, which ends with CR LF (of a line above the limit the first 65,536
--- bytes)
+-- the file with one line more, which ends with CR LF (of a line above the limit of 65,535 bytes the
+-- first 65,536: no file with such a line is read)
 abbrev pub with_line : OpenFile → List ℕ → OpenFile
 with_line file text =
     record { name = file.name; ext = file.ext; text = file.text ++ take 65536 text ++ 13 ∷ 10 ∷ [] }
@@ -72,8 +77,8 @@ pub record IsLineOfFile (old : Names) (file : OpenFile) (text reply : List ℕ)
 pub record IsEndOfFile (old : Names) (file : OpenFile) (text reply : List ℕ)
     (new : State) : Type 0 where
   pub ends : IsEnd text
-  pub makes : Makes Polyhedron file.name (IsOfFile file.ext
-      (with_line file text).text) old reply new.names
+  pub makes : Makes Polyhedron file.name (IsRead file.ext (with_line file text).text)
+      old reply new.names
   pub shut : new.file ≡ None
 
 -- what is replied to a line that isn't refused, where no file is open, or where one is
@@ -84,7 +89,9 @@ IsAnswered old (Some file) text reply new =
 
 -- the reply to a line, and the state after it
 abbrev pub IsReply : State → List ℕ → List ℕ → State → Type 0
-IsReply old text reply new = IsRefused old reply new ⊎ IsAnswered old.names old.file text reply new
+IsReply old text reply new =
+    (MayBeRefused old.file text × IsRefused old reply new)
+    ⊎ IsAnswered old.names old.file text reply new
 
 -- ---- all lines
 -- the end of a script has no reply, and a refusal where a file is still open
@@ -105,7 +112,15 @@ pub record IsWrittenTo (script : List ℕ) (written : List ℕ) : Type 0 where
   pub are : AreReplies empty_state (lines script) replies
   pub all : written ≡ concat replies
 
--- what is written to a file: a refusal, or the other file of the same points
+-- the file is read, `linearity` doesn't stand behind it, and the other file of the same points is
+-- written
+pub record IsConversion (ext : Bool) (bytes written : List ℕ) : Type 0 where
+  pub set : PointSet
+  pub read : IsRead ext bytes set
+  pub behind : ¬ (HasLinearityAfter bytes)
+  pub tells : TellsSide (not ext) set written
+  pub file : IsOfFile (not ext) written set
+
+-- what is written to a file: a refusal, or such a file
 abbrev pub IsConverted : Bool → List ℕ → List ℕ → Type 0
-IsConverted ext bytes written =
-    IsRefusal written ⊎ ((s : PointSet) × IsOfFile ext bytes s × IsOfFile (not ext) written s)
+IsConverted ext bytes written = IsRefusal written ⊎ IsConversion ext bytes written

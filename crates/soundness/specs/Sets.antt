@@ -41,7 +41,7 @@ pub record IsOfConstraints (nnc : Bool) (dim : ℕ) (part : Part) (s : PointSet)
   pub text : ConstraintsText dim part.text list
   pub set : IsSetOf nnc dim (In (constraints dim list)) s
 
--- the points that the generators of the text generate; where no point is among them there is none
+-- the points that the generators of the text generate: none where there is no point among them
 pub record IsOfGenerators (nnc : Bool) (dim : ℕ) (part : Part) (s : PointSet) : Type 0 where
   pub list : List Generator
   pub text : GeneratorsText dim part.text list

@@ -23,8 +23,9 @@ IsSupremumOf p i j None = ExceedsAll true (difference p.cons.dim i j) p.cons.dim
 IsSupremumOf p i j (Some f) =
     IsSupremum true (difference p.cons.dim i j) p.cons.dim (IsWithin p.cons) f.num f.den true
 
--- the smallest shape that includes the closed set, of those whose bounds are fractions of numbers below 2^127; each of
--- its bounds is a supremum, so that it is the smallest of all, and it has no bounds where the set has no point
+-- the smallest shape that includes the closed set, of those whose bounds have numbers below 2^127;
+-- each of its bounds is a supremum, so that it is the smallest of all, and it has no bounds where
+-- the set has no point
 pub record IsSmallestShape (p : PointSet) (s : DifferenceShape) : Type 0 where
   pub closed : p.nnc ≡ false
   pub variables : s.dim ≡ p.cons.dim

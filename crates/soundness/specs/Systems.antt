@@ -7,13 +7,12 @@ use Rattle.elapse.specs.ElapsedPoints.{IsMoved}
 use Rattle.affine_maps.specs.Posts.{IsStepTo}
 use Rattle.script_text.specs.declared.command.LocationPart.{LocationPart}
 use Rattle.script_text.specs.declared.command.LocationPart.TheVariants.{Invariant, Flow}
-use Rattle.soundness.specs.Points.{PointSet, HasNoPoint}
+use Rattle.soundness.specs.Points.{PointSet, IsOver, HasNoPoint}
 use Rattle.soundness.specs.Values.{Transition, TransitionSystem, HybridAutomaton, with_initial, with_transition, with_invariant, with_flow}
 
 -- a closed set over so many variables
-pub record IsClosedOver (dim : ℕ) (p : PointSet) : Type 0 where
-  pub closed : p.nnc ≡ false
-  pub variables : p.cons.dim ≡ dim
+abbrev pub IsClosedOver : ℕ → PointSet → Type 0
+IsClosedOver dim = IsOver false dim
 
 -- ---- making
 -- no location has an initial state, and there is no transition

@@ -52,8 +52,8 @@ pub data AreCoordinates (dim : ℕ) : Tokens → List ℤ → Type 0 where
 -- what Means tells, or that in brackets over a number above 0, the divisor; with the divisor
 pub data IsOver (Means : Tokens → List ℤ → Type 0) : Tokens → List ℤ × ℕ → Type 0 where
   whole : (ts : Tokens) (row : List ℤ) → Means ts row → IsOver Means ts (row, 1)
-  divided : (ts : Tokens) (w : List ℕ) (row : List ℤ) (n : ℕ) → Means ts row → IsNumber w n → 0 < n →
-      IsOver Means (codes "(" ∷ ts ++ codes ")" ∷ codes "/" ∷ w ∷ []) (row, n)
+  divided : (ts : Tokens) (w : List ℕ) (row : List ℤ) (n : ℕ) → Means ts row → IsNumber w n →
+      0 < n → IsOver Means (codes "(" ∷ ts ++ codes ")" ∷ codes "/" ∷ w ∷ []) (row, n)
 
 -- the text is an expression, and this is its row
 abbrev pub ExpressionText : ℕ → List ℕ → List ℤ → Type 0
