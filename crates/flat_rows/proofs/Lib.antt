@@ -1,2 +1,4 @@
 pub mod Flat
 pub mod Marked
+pub mod LastRows
+pub mod WordRows

@@ -1,4 +1,5 @@
-use Rattle.std.specs.Prelude.{◌≡◌, ℕ, ◌+◌, ◌*◌, ◌^◌, ◌<◌, ◌≤◌, Bool, true, false, List, [], ◌∷◌, ◌++◌, length, map, take, drop, slice_index_or}
+use Rattle.std.specs.Prelude.{◌≡◌, ℕ, ◌+◌, ◌*◌, ◌^◌, ◌<◌, ◌≤◌, Bool, true, false}
+use Rattle.std.specs.Prelude.{List, [], ◌∷◌, ◌++◌, length, map, take, drop, slice_index_or}
 use Rattle.std.specs.List.{range_with_len, refill}
 
 -- rows of one width, in order, and how many rows can be appended without memory
@@ -28,7 +29,10 @@ pub record AreCells {X : Type 0} (t : Flat X) (cells : List X) : Type 0 where
 
 -- the rows with other cells, of which there stay as many
 abbrev pub with_cells : {X : Type 0} → Flat X → List X → Flat X
-with_cells t cells = record t { rows = rows_of t.width (length t.rows) (refill (length (cells_of t.rows)) (cells_of t.rows) cells) }
+with_cells t cells = record t {
+  rows = rows_of t.width (length t.rows)
+      (refill (length (cells_of t.rows)) (cells_of t.rows) cells);
+}
 
 -- the cells from one place on, as many as a row has
 abbrev pub window : {X : Type 0} → ℕ → ℕ → List X → List X

@@ -1,7 +1,10 @@
 //! Rows of one width in one buffer.
-ghost use Rattle.std.specs.Prelude.{◌≡◌, ◌+◌, ◌*◌, ◌^◌, ◌<◌, ◌≤◌, List, [], ◌∷◌, ◌++◌, length, max, take, slice_index_or, slice_set, vec_len, vec_capacity, IfOk, OnOk, OnErr};
+ghost use Rattle.std.specs.Prelude.{◌≡◌, ◌+◌, ◌*◌, ◌^◌, ◌<◌, ◌≤◌, List, [], ◌∷◌, ◌++◌, length};
+ghost use Rattle.std.specs.Prelude.{max, take, slice_index_or, slice_set, vec_len, vec_capacity};
+ghost use Rattle.std.specs.Prelude.{IfOk, OnOk, OnErr};
 ghost use Rattle.std.specs.Borrow.{sem};
-ghost use Rattle.flat_rows.specs.Flat.{Flat, entries_at, rows_of, fitted, window, AreCells, HasOneWidth, IsLaidOut, marked};
+ghost use Rattle.flat_rows.specs.Flat.{Flat, entries_at, rows_of, fitted, window, AreCells};
+ghost use Rattle.flat_rows.specs.Flat.{HasOneWidth, IsLaidOut, marked};
 
 use std::alloc::{AllocError, Global};
 use std::marker::Model;
@@ -18,9 +21,14 @@ pub struct FlatRows<T> {
 impl<T> Model for FlatRows<T> {
     ghost Value = { Flat T };
 
-    ghost view = { λ m. record { width = m.width; rows = rows_of m.width m.count m.cells.items; spare = m.spare } };
+    ghost view = { λ m. record {
+      width = m.width;
+      rows = rows_of m.width m.count m.cells.items;
+      spare = m.spare;
+    } };
 
-    ghost invariant = { λ m. IsLaidOut m.width m.count m.spare (vec_len m.cells) (vec_capacity m.cells) };
+    ghost invariant = { λ m.
+        IsLaidOut m.width m.count m.spare (vec_len m.cells) (vec_capacity m.cells) };
 }
 
 impl<T: Copy> FlatRows<T> {
@@ -81,7 +89,8 @@ impl<T: Copy> FlatRows<T> {
         self.row_as_wide(self.width, i)
     }
 
-    /// Lends row `i`. The width is handed over, so that a loop of a caller that knows it is compiled for it.
+    /// Lends row `i`. The width is handed over, so that a loop of a caller that knows it is
+    /// compiled for it.
     #[inline(always)]
     pub fn row_as_wide(&self, width: usize, i: usize) -> &[T]
         requires width { width ≡ self.now.width }
@@ -116,7 +125,8 @@ impl<T: Copy> FlatRows<T> {
     pub fn put(&mut self, row: usize, column: usize, entry: T)
         requires row { row < length self.old.rows }
         requires column { column < self.old.width }
-        ensures { self.new ≡ record self.old { rows = slice_set self.old.rows row (slice_set (entries_at self.old.rows row) column entry) } }
+        ensures { let entries = slice_set (entries_at self.old.rows row) column entry in
+            self.new ≡ record self.old { rows = slice_set self.old.rows row entries } }
     {
         let start = row * self.width;
         self.cells[start + column] = entry;
@@ -206,7 +216,8 @@ impl<T: Copy> FlatRows<T> {
     fn copy_row(&mut self, from: usize, to: usize)
         requires from { from < length self.old.rows }
         requires to { to < length self.old.rows }
-        ensures { self.new ≡ record self.old { rows = slice_set self.old.rows to (entries_at self.old.rows from) } }
+        ensures { let entries = entries_at self.old.rows from in
+            self.new ≡ record self.old { rows = slice_set self.old.rows to entries } }
     {
         if from == to {
             return;

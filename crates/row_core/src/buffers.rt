@@ -1,5 +1,5 @@
 //! One row, and a list of rows of one width, on the heap.
-ghost use Rattle.std.specs.Prelude.{◌≡◌, ◌^◌, ◌<◌, ◌==◌, List, [], ◌∷◌, ◌++◌, length, ℤ, pos, neg_ℤ, Decides, MatchResult, IfOk};
+ghost use Rattle.std.specs.Prelude.{◌≡◌, ◌^◌, ◌<◌, ◌==◌, List, [], ◌∷◌, ◌++◌, length, ℤ, pos, neg_ℤ, Decides, MatchResult, IfOk, OnOk};
 ghost use Rattle.std.specs.Cmp;
 ghost use Rattle.std.specs.Cmp.Lexicographic.{pointwise};
 ghost use Rattle.std.specs.Ordering.{int_eq};
@@ -220,6 +220,18 @@ impl RowList {
             (λ _. self.new.rows ≡ self.old.rows) }
     {
         self.marked.push(row, eq)?;
+        Ok(())
+    }
+
+    /// Appends copies of all rows of another list, with their marks.
+    pub fn push_all(&mut self, list: &RowList) -> Result<(), Memory>
+        requires { list.now.width ≡ self.old.width }
+        ensures width { self.new.width ≡ self.old.width }
+        ensures rows { OnOk result (self.new.rows ≡ self.old.rows ++ list.now.rows) }
+    {
+        for index in 0..list.len() {
+            self.push(list.row(index), list.is_eq(index))?;
+        }
         Ok(())
     }
 

@@ -6,8 +6,8 @@ use borrow.Rule.Slice.PartMut.{put_mid}
 use Rattle.row_core.specs.Range.{InRange, AllInRange}
 use Rattle.flat_rows.specs.Flat.{Flat, rows_of, AreCells, with_cells, window}
 use Rattle.row_store.specs.Stores.{IsKept, IsPartChanged, IsRowChanged}
-use Rattle.flat_rows.proofs.Flat.{row_end, rows_of-with_window, row_of_cells, with_cells_is, All-rows_of}
-use Rattle.row_store.proofs.Parts.{with_window_is}
+use Rattle.flat_rows.proofs.Flat.{rows_of-with_window, row_of_cells, with_cells_is, All-rows_of}
+use Rattle.row_store.proofs.Parts.{with_window_is, IsRowPart, of_part}
 
 -- a row that was changed where a part of the cells was lent
 pub part_changed : (Related : List ℤ → List ℤ → Type 0) (p w k : ℕ) (cells part new : List ℤ) → k ≡ w → part ≡ window p k cells → length new ≡ w → Related part new → IsPartChanged Related p w cells (put_mid p k cells new)
@@ -28,15 +28,9 @@ pub changed_or_left : {A E : Type 0} (P : A → Type 0) (Q : E → Type 0) (old 
 changed_or_left P Q old new (Ok x) ok combined all = ok
 changed_or_left P Q old new (Err j) ok combined all = subst AllInRange (sym combined.0) all
 
--- row i ends within the cells
-pub row_ends : (t u : Flat ℤ) (w i : ℕ) → t ≡ u → w ≡ t.width → i < length u.rows → (i < length t.rows) × (i * w + w ≤ length t.rows * t.width)
-row_ends t u w i e f h =
-    let below : i < length t.rows = omega (arith, h, ap (λ (v : Flat ℤ). length v.rows) e) in
-    (below, omega (arith, row_end w (length t.rows) i below, ap (λ (v : ℕ). length t.rows * v) f))
-
-pub row_changed : (Related : List ℤ → List ℤ → Type 0) (i : ℕ) (cells new : List ℤ) (old : Flat ℤ) → AreCells old cells → i < length old.rows → length new ≡ length cells
+changed_row : (Related : List ℤ → List ℤ → Type 0) (i : ℕ) (cells new : List ℤ) (old : Flat ℤ) → AreCells old cells → i < length old.rows → length new ≡ length cells
     → IsPartChanged Related (i * old.width) old.width cells new → IsRowChanged Related i old (with_cells old new)
-row_changed Related i cells new old are in_i long h =
+changed_row Related i cells new old are in_i long h =
     let w : ℕ = old.width in
     let n : ℕ = length old.rows in
     record {
@@ -45,6 +39,17 @@ row_changed Related i cells new old are in_i long h =
           ∙ ap (λ (rs : List (List ℤ)). record old { rows = rs }) (ap (λ (cs : List ℤ). rows_of w n cs) h.same ∙ rows_of-with_window w n i cells h.row in_i are.taken h.wide ∙ ap (λ (rs : List (List ℤ)). set rs i h.row) are.rows);
       related = subst (λ (r : List ℤ). Related r h.row) (row_of_cells old cells i are in_i) h.related;
     }
+
+-- a row whose part was changed
+pub row_changed : (Related : List ℤ → List ℤ → Type 0) (i p w : ℕ) (cells new : List ℤ) (old seen : Flat ℤ) → IsRowPart i p w old seen → AreCells old cells → length new ≡ length cells
+    → IsPartChanged Related p w cells new → IsRowChanged Related i seen (with_cells old new)
+row_changed Related i p w cells new old seen is are long =
+    of_part (λ q n f. IsPartChanged Related q n cells new → IsRowChanged Related i f (with_cells old new)) i p w old seen is
+    (λ in_i h. changed_row Related i cells new old are in_i long h)
+
+-- the part lies within the cells
+pub part_within : (cells : List ℤ) (old seen : Flat ℤ) (e : ℕ) → old ≡ seen → AreCells old cells → e ≤ length seen.rows * seen.width → e ≤ length cells
+part_within cells old seen e same are within = subst (λ (n : ℕ). e ≤ n) (sym are.taken) (subst (λ (f : Flat ℤ). e ≤ length f.rows * f.width) (sym same) within)
 
 -- ---- what is kept
 -- other cells of the range

@@ -1,7 +1,7 @@
 -- Rows that are combined where they were appended.
-use Rattle.std.specs.Prelude.{◌≡◌, ◌≢◌, ℕ, zero, suc, ◌+◌, ◌<◌, List, [], ◌∷◌, ◌++◌, length, ℤ, pos, negsuc, neg_ℤ, ◌<ℤ◌, take}
+use Rattle.std.specs.Prelude.{◌≡◌, ◌≢◌, ℕ, zero, suc, ◌+◌, ◌<◌, List, [], ◌∷◌, ◌++◌, length, ℤ, pos, negsuc, neg_ℤ, ◌<ℤ◌, take, Result, Ok, Err, OnOk, OnErr, MatchResult}
 use Rattle.std.proofs.Common.{refl, sym, ap, ◌∙◌, subst, arith, set}
-use Rattle.std.proofs.lemmas.List.{get_or_append_left, get_or_push, set_at, take_at}
+use Rattle.std.proofs.lemmas.List.{get_or_append_left, get_or_push, length-set, length_push, set_at, take_at}
 use Rattle.std.proofs.lemmas.Int.{ints}
 use Rattle.row_core.proofs.Ring.{one-mul}
 use Rattle.row_core.specs.Vectors.{scale, add}
@@ -9,7 +9,7 @@ use Rattle.row_core.specs.Content.{IsPrimitiveOf}
 use Rattle.flat_rows.specs.Flat.{Flat, entries_at, HasOneWidth}
 use Rattle.row_core.specs.Range.{CombineStays, IsFirstToLeave}
 use Rattle.row_core.proofs.CellLemmas.{length-scale, length-add}
-use Rattle.row_store.specs.Stores.{IsNegated, IsRowChanged}
+use Rattle.row_store.specs.Stores.{IsNegated, IsRowChanged, IsCombinedWith, IsRefusedAt}
 use Rattle.row_core.specs.Signs.{sign}
 use Rattle.row_core.specs.Combinations.{AreFactors, CombinationLeaves, IsCombined}
 use Rattle.row_store.proofs.FactorLemmas.{combined_from_written}
@@ -59,6 +59,20 @@ leaves_at u v second first left right source width column factors here wide h = 
   factors = factors;
   column = subst (λ (n : ℕ). IsFirstToLeave (CombineStays right second left first) n column) (sym wide) (subst (λ (r : List ℤ). IsFirstToLeave (CombineStays r second left first) width column) here h);
 }
+
+-- the row that was pushed is there after it was combined, or that was refused
+pub last_stays : {A : Type 0} (s t : ℤ) (v row : List ℤ) (last : ℕ) (old pushed new : Flat ℤ) (r : Result A ℕ) → last ≡ length old.rows → pushed.rows ≡ old.rows ++ row ∷ []
+    → MatchResult r (λ _. IsCombinedWith s t last v pushed new) (IsRefusedAt s t last v pushed new) → last < length new.rows
+last_stays s t v row last old pushed new (Ok x) at rows h =
+    omega (arith, at, ap length rows ∙ length_push old.rows row, ap (λ (f : Flat ℤ). length f.rows) h.0 ∙ length-set pushed.rows last (add (scale s (entries_at pushed.rows last)) (scale t v)))
+last_stays s t v row last old pushed new (Err c) at rows h =
+    omega (arith, at, ap length rows ∙ length_push old.rows row, ap (λ (f : Flat ℤ). length f.rows) h.0)
+
+-- what follows from a combination and what was made of it
+pub ended_as : {A E : Type 0} (P P' : A → Type 0) (Q Q' : E → Type 0) (X Y : Type 0) (r r' : Result A E) → r' ≡ r → MatchResult r P Q → OnOk r X → OnErr r Y
+    → ((x : A) → P x → X → P' x) → ((e : E) → Q e → Y → Q' e) → MatchResult r' P' Q'
+ended_as P P' Q Q' X Y (Ok x) r' same h made dropped ok err = rw same (ok x h made)
+ended_as P P' Q Q' X Y (Err e) r' same h made dropped ok err = rw same (err e h dropped)
 
 -- ---- where the other row is one of the store
 pub is_appended_of : (u v second first : ℤ) (i j last : ℕ) (old pushed written new : Flat ℤ) → HasOneWidth old → i < length old.rows → j < length old.rows → AreFactors u v second first → u ≢ pos 0 → last ≡ length old.rows

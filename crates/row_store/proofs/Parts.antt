@@ -9,7 +9,7 @@ use Rattle.row_core.specs.Vectors.{scale, add}
 use Rattle.row_core.specs.Range.{CombineStays, IsFirstToLeave, AllStay}
 use Rattle.flat_rows.specs.Flat.{Flat, entries_at, rows_of, AreCells, with_cells, window, with_window}
 use Rattle.row_core.proofs.CellLemmas.{length-scale, length-add}
-use Rattle.row_store.specs.Stores.{IsCombinedWith, IsRefusedAt}
+use Rattle.row_store.specs.Stores.{IsPartCombined, IsPartLeft, IsCombinedWith, IsRefusedAt}
 use Rattle.flat_rows.proofs.Flat.{row_end, length_row, length-window, row_of_cells, rows_of-with_window, with_cells_is}
 
 -- ---- a row written over a part
@@ -26,14 +26,8 @@ with_same_window p w cells h =
     ∙ take-append-drop p cells
 
 -- the outcome on a part, as an outcome on the whole
-abbrev pub IsCombinedPart : (p w : ℕ) (s : ℤ) (v : List ℤ) (t : ℤ) (old new : List ℤ) → Type 0
-IsCombinedPart p w s v t old new = (new ≡ with_window p w (add (scale s (window p w old)) (scale t v)) old) × AllStay (CombineStays (window p w old) s v t) w
-
-abbrev pub IsPartLeft : (p w : ℕ) (s : ℤ) (v : List ℤ) (t : ℤ) (old new : List ℤ) (j : ℕ) → Type 0
-IsPartLeft p w s v t old new j = (new ≡ old) × IsFirstToLeave (CombineStays (window p w old) s v t) w j
-
 pub part_combined : (p w k : ℕ) (s t : ℤ) (cells v part new : List ℤ) → k ≡ w → part ≡ window p k cells → p + w ≤ length cells → length new ≡ length part
-    → new ≡ add (scale s part) (scale t v) → AllStay (CombineStays part s v t) (length part) → IsCombinedPart p w s v t cells (put_mid p k cells new)
+    → new ≡ add (scale s part) (scale t v) → AllStay (CombineStays part s v t) (length part) → IsPartCombined p w s v t cells (put_mid p k cells new)
 part_combined p w k s t cells v part new e is within len value stays =
     let is_w : part ≡ window p w cells = is ∙ ap (λ (n : ℕ). window p n cells) e in
     let wide : length part ≡ w = ap length is_w ∙ length-window p w cells within in (
@@ -72,7 +66,7 @@ with_window_in_back p w row front back e =
 
 -- the two parts as they are seen in the whole
 pub moved_combined : (p p' w : ℕ) (s t : ℤ) (old v new cells v' new' : List ℤ) → window p' w old ≡ window p w cells → v ≡ v' → ((row : List ℤ) → new ≡ with_window p' w row old → new' ≡ with_window p w row cells)
-    → IsCombinedPart p' w s v t old new → IsCombinedPart p w s v' t cells new'
+    → IsPartCombined p' w s v t old new → IsPartCombined p w s v' t cells new'
 moved_combined p p' w s t old v new cells v' new' e f wrote h = (
   wrote (add (scale s (window p' w old)) (scale t v)) h.0 ∙ ap (λ (r : List ℤ). with_window p w (add (scale s r) (scale t v)) cells) e ∙ ap (λ (r : List ℤ). with_window p w (add (scale s (window p w cells)) (scale t r)) cells) f,
   λ i l. subst (λ (r : List ℤ). CombineStays r s v' t i) e (subst (λ (r : List ℤ). CombineStays (window p' w old) s r t i) f (h.1 i l)),
@@ -87,43 +81,8 @@ moved_left p p' w s t old v new cells v' new' j e f same h =
 pub rows_apart : (w i j : ℕ) → i ≢ j → (i * w + w ≤ j * w) ⊎ (j * w + w ≤ i * w)
 rows_apart w i j other = elim (cases_lt i j) [ inl less ↦ inl (row_end w j i less) | inr more ↦ inr (row_end w i j (omega arith)) ]
 
--- the outcome on the buffer, as an outcome on the rows
-pub row_combined : (i j : ℕ) (s t : ℤ) (cells new : List ℤ) (old : Flat ℤ) → AreCells old cells → i < length old.rows → j < length old.rows → length new ≡ length cells
-    → IsCombinedPart (i * old.width) old.width s (window (j * old.width) old.width cells) t cells new → IsCombinedWith s t i (entries_at old.rows j) old (with_cells old new)
-row_combined i j s t cells new old are in_i in_j long h =
-    let w : ℕ = old.width in
-    let n : ℕ = length old.rows in
-    let u : List ℤ = window (i * w) w cells in
-    let v : List ℤ = window (j * w) w cells in
-    let length_u : length u ≡ w = length_row w n i cells in_i are.taken in
-    let length_v : length v ≡ w = length_row w n j cells in_j are.taken in
-    let one : length (add (scale s u) (scale t v)) ≡ w = length-add (scale s u) (scale t v) (length-scale s u ∙ length_u ∙ sym (length-scale t v ∙ length_v)) ∙ length-scale t v ∙ length_v in
-    let make : List (List ℤ) → Flat ℤ = λ rs. record old { rows = rs } in
-    let at_i : u ≡ entries_at old.rows i = row_of_cells old cells i are in_i in
-    let at_j : v ≡ entries_at old.rows j = row_of_cells old cells j are in_j in (
-      with_cells_is old cells new are.same long
-          ∙ ap make (ap (λ (cs : List ℤ). rows_of w n cs) h.0 ∙ rows_of-with_window w n i cells (add (scale s u) (scale t v)) in_i are.taken one
-          ∙ ap (λ (rs : List (List ℤ)). set rs i (add (scale s u) (scale t v))) are.rows
-          ∙ ap (λ (r : List ℤ). set old.rows i (add (scale s r) (scale t v))) at_i
-          ∙ ap (λ (r : List ℤ). set old.rows i (add (scale s (entries_at old.rows i)) (scale t r))) at_j),
-      λ c l. subst (λ (r : List ℤ). CombineStays r s (entries_at old.rows j) t c) at_i (subst (λ (r : List ℤ). CombineStays u s r t c) at_j (h.1 c l)),
-    )
-
-pub row_left : (i j : ℕ) (s t : ℤ) (cells new : List ℤ) (old : Flat ℤ) (c : ℕ) → AreCells old cells → i < length old.rows → j < length old.rows
-    → IsPartLeft (i * old.width) old.width s (window (j * old.width) old.width cells) t cells new c → IsRefusedAt s t i (entries_at old.rows j) old (with_cells old new) c
-row_left i j s t cells new old c are in_i in_j h =
-    let w : ℕ = old.width in
-    let n : ℕ = length old.rows in
-    let make : List (List ℤ) → Flat ℤ = λ rs. record old { rows = rs } in
-    let at_i : window (i * w) w cells ≡ entries_at old.rows i = row_of_cells old cells i are in_i in
-    let at_j : window (j * w) w cells ≡ entries_at old.rows j = row_of_cells old cells j are in_j in (
-      with_cells_is old cells new are.same (ap length h.0) ∙ ap make (ap (λ (cs : List ℤ). rows_of w n cs) h.0 ∙ are.rows),
-      subst (λ (r : List ℤ). IsFirstToLeave (CombineStays r s (entries_at old.rows j) t) w c) at_i (subst (λ (r : List ℤ). IsFirstToLeave (CombineStays (window (i * w) w cells) s r t) w c) at_j h.1),
-    )
-
--- ---- one row of all, with a row from elsewhere
-pub combined_with : (i : ℕ) (v : List ℤ) (s t : ℤ) (cells new : List ℤ) (old : Flat ℤ) → AreCells old cells → i < length old.rows → length v ≡ old.width → length new ≡ length cells
-    → IsCombinedPart (i * old.width) old.width s v t cells new → IsCombinedWith s t i v old (with_cells old new)
+combined_with : (i : ℕ) (v : List ℤ) (s t : ℤ) (cells new : List ℤ) (old : Flat ℤ) → AreCells old cells → i < length old.rows → length v ≡ old.width → length new ≡ length cells
+    → IsPartCombined (i * old.width) old.width s v t cells new → IsCombinedWith s t i v old (with_cells old new)
 combined_with i v s t cells new old are in_i length_v long h =
     let w : ℕ = old.width in
     let n : ℕ = length old.rows in
@@ -139,7 +98,7 @@ combined_with i v s t cells new old are in_i length_v long h =
       λ c l. subst (λ (r : List ℤ). CombineStays r s v t c) at_i (h.1 c l),
     )
 
-pub left_with : (i : ℕ) (v : List ℤ) (s t : ℤ) (cells new : List ℤ) (old : Flat ℤ) (c : ℕ) → AreCells old cells → i < length old.rows
+left_with : (i : ℕ) (v : List ℤ) (s t : ℤ) (cells new : List ℤ) (old : Flat ℤ) (c : ℕ) → AreCells old cells → i < length old.rows
     → IsPartLeft (i * old.width) old.width s v t cells new c → IsRefusedAt s t i v old (with_cells old new) c
 left_with i v s t cells new old c are in_i h =
     let w : ℕ = old.width in
@@ -149,3 +108,35 @@ left_with i v s t cells new old c are in_i h =
       with_cells_is old cells new are.same (ap length h.0) ∙ ap make (ap (λ (cs : List ℤ). rows_of w n cs) h.0 ∙ are.rows),
       subst (λ (r : List ℤ). IsFirstToLeave (CombineStays r s v t) w c) at_i h.1,
     )
+
+-- a part of the cells is row i of the rows that are seen
+pub record IsRowPart (i p w : ℕ) (inside seen : Flat ℤ) : Type 0 where
+  pub seen_as : inside ≡ seen
+  pub below : i < length seen.rows
+  pub at : p ≡ i * seen.width
+  pub wide : w ≡ seen.width
+
+-- what is true of row i as its part of the cells, is true of it as it is seen
+pub of_part : (P : ℕ → ℕ → Flat ℤ → Type 0) (i p w : ℕ) (inside seen : Flat ℤ) → IsRowPart i p w inside seen → (i < length inside.rows → P (i * inside.width) inside.width inside) → P p w seen
+of_part P i p w inside seen is h =
+    subst (λ (n : ℕ). P n w seen) (sym is.at)
+    (subst (λ (n : ℕ). P (i * seen.width) n seen) (sym is.wide)
+    (subst (λ (f : Flat ℤ). i < length f.rows → P (i * f.width) f.width f) is.seen_as h is.below))
+
+-- the outcome on the buffer, as an outcome on the rows
+pub row_combined : (i p w : ℕ) (v : List ℤ) (s t : ℤ) (cells new : List ℤ) (old seen : Flat ℤ) → IsRowPart i p w old seen → AreCells old cells → length v ≡ seen.width → length new ≡ length cells
+    → IsPartCombined p w s v t cells new → IsCombinedWith s t i v seen (with_cells old new)
+row_combined i p w v s t cells new old seen is are length_v long =
+    of_part (λ q n f. IsPartCombined q n s v t cells new → IsCombinedWith s t i v f (with_cells old new)) i p w old seen is
+    (λ in_i h. combined_with i v s t cells new old are in_i (length_v ∙ ap (λ (f : Flat ℤ). f.width) (sym is.seen_as)) long h)
+
+pub row_left : (i p w : ℕ) (v : List ℤ) (s t : ℤ) (cells new : List ℤ) (old seen : Flat ℤ) (c : ℕ) → IsRowPart i p w old seen → AreCells old cells
+    → IsPartLeft p w s v t cells new c → IsRefusedAt s t i v seen (with_cells old new) c
+row_left i p w v s t cells new old seen c is are =
+    of_part (λ q n f. IsPartLeft q n s v t cells new c → IsRefusedAt s t i v f (with_cells old new) c) i p w old seen is
+    (λ in_i h. left_with i v s t cells new old c are in_i h)
+
+-- the cells of a part are the row
+pub part_is_row : (i p w : ℕ) (cells : List ℤ) (old seen : Flat ℤ) → IsRowPart i p w old seen → AreCells old cells → window p w cells ≡ entries_at seen.rows i
+part_is_row i p w cells old seen is are =
+    of_part (λ q n f. window q n cells ≡ entries_at f.rows i) i p w old seen is (λ in_i. row_of_cells old cells i are in_i)

@@ -29,7 +29,8 @@ pub record HasSame (old new : Vectors) : Type 0 where
   pub width : new.width ≡ old.width
   pub rows : new.rows ≡ old.rows
 
--- two lists are empty, and have room for all lines and rays that follow on a row that isn't 0 on some line
+-- two lists are empty, and have room for all lines and rays that follow on a row that isn't 0 on
+-- some line
 pub record HasRoomForStep (lines rays new_lines new_rays : Vectors) : Type 0 where
   pub lines_width : new_lines.width ≡ lines.width
   pub rays_width : new_rays.width ≡ lines.width

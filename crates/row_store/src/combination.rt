@@ -1,5 +1,6 @@
 //! The combination of two vectors that is 0 on a row, from their values on it.
-ghost use Rattle.std.specs.Prelude.{◌≡◌, ◌≢◌, ℕ, ◌+◌, ◌^◌, ◌<◌, length, pos, neg_ℤ, ◌<ℤ◌, ◌*ℤ◌, unsigned_abs, MatchResult, OnOk};
+ghost use Rattle.std.specs.Prelude.{◌≡◌, ◌≢◌, ℕ, ◌+◌, ◌^◌, ◌<◌, length, pos, neg_ℤ};
+ghost use Rattle.std.specs.Prelude.{◌<ℤ◌, ◌*ℤ◌, unsigned_abs, MatchResult, OnOk};
 ghost use Prim.Native.Nat.{◌∣◌};
 ghost use Rattle.std.specs.Int.{IsGcd};
 ghost use Rattle.row_core.specs.Vectors.{scale};
@@ -45,8 +46,8 @@ fn divisor_of(u: i128, v: i128) -> i128
     gcd(u.unsigned_abs(), v.unsigned_abs()) as i128
 }
 
-/// The factors of the second and of the first of two vectors with the values `u` and `v` on a row, in
-/// their combination that is 0 on the row.
+/// The factors of the second and of the first of two vectors with the values `u` and `v` on a row,
+/// in their combination that is 0 on the row.
 pub(crate) fn factors(u: i128, v: i128) -> (i128, i128)
     requires first_in_range { InRange u }
     requires second_in_range { InRange v }
@@ -64,8 +65,8 @@ pub(crate) fn factors(u: i128, v: i128) -> (i128, i128)
     }
 }
 
-/// Writes over `dst` the primitive combination, 0 on a row, of two vectors with the values `u` and `v`
-/// on it. The factor of the second vector is positive.
+/// Writes over `dst` the primitive combination, 0 on a row, of two vectors with the values `u` and
+/// `v` on it. The factor of the second vector is positive.
 ///
 /// # Errors
 ///
@@ -78,14 +79,16 @@ pub fn combine<L: Ledger>(
     v: i128,
     steps: &mut Steps<L>,
 ) -> Result<(), u32>
-    requires same_width { (length dst.old ≡ length right.now) × (length right.now ≡ length left.now) }
+    requires same_width { (length dst.old ≡ length right.now) ×
+        (length right.now ≡ length left.now) }
     requires narrow { length right.now < 2 ^ 32 }
     requires first_in_range { InRange u }
     requires second_in_range { InRange v }
     requires nonzero { u ≢ pos 0 }
     ensures counted { steps.new ≡ steps.old + 1 }
     ensures width { length dst.new ≡ length dst.old }
-    ensures combined { MatchResult result (λ _. IsCombined u v left.now right.now dst.new) (CombinationLeaves u v left.now right.now) }
+    ensures combined { let Leaves = CombinationLeaves u v left.now right.now in
+        MatchResult result (λ _. IsCombined u v left.now right.now dst.new) Leaves }
     ensures in_range { OnOk result (AllInRange dst.new) }
 {
     let (second, first) = factors(u, v);
@@ -104,7 +107,8 @@ fn turned(x: i128, value: i128) -> i128
     if value > 0 { x } else { negated(x) }
 }
 
-/// Writes over `dst` the line with the sign with which a row with this value on it is above 0 on it.
+/// Writes over `dst` the line with the sign with which a row with this value on it is above 0 on
+/// it.
 pub fn write_upward(dst: &mut [i128], line: &[i128], value: i128)
     requires same_width { length dst.old ≡ length line.now }
     requires in_range { AllInRange line.now }

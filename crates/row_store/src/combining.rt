@@ -1,11 +1,13 @@
 //! Combinations of two rows that are 0 on a row, made in place where they are appended.
-ghost use Rattle.std.specs.Prelude.{◌≡◌, ◌≢◌, ◌+◌, ◌≤◌, ◌<◌, [], ◌∷◌, ◌++◌, length, pos, MatchResult};
+ghost use Rattle.std.specs.Prelude.{◌≡◌, ◌≢◌, ◌+◌, ◌≤◌, ◌<◌, [], ◌∷◌, ◌++◌, length};
+ghost use Rattle.std.specs.Prelude.{take, pos, OnOk, OnErr, MatchResult};
 ghost use Rattle.row_core.specs.Vectors.{scale};
-ghost use Rattle.row_core.specs.Content.{IsPrimitive};
+ghost use Rattle.row_core.specs.Content.{IsPrimitive, IsPrimitiveOf};
 ghost use Rattle.flat_rows.specs.Flat.{entries_at};
 ghost use Rattle.row_core.specs.Range.{InRange, AllInRange};
 ghost use Rattle.row_core.specs.Signs.{sign};
 ghost use Rattle.row_core.specs.Combinations.{IsCombined, CombinationLeaves};
+ghost use Rattle.row_store.specs.Stores.{IsRowChanged};
 ghost use Rattle.row_store.specs.Vectors.{IsRowAppended, HasSameRows};
 
 use crate::combination::factors;
@@ -13,8 +15,8 @@ use crate::store::RowStore;
 use row_core::Steps;
 use std::sync::ledger::Ledger;
 
-/// Appends the primitive combination, 0 on a row, of two rows with the values `u` and `v` on it. The factor of
-/// the second row is positive.
+/// Appends the primitive combination, 0 on a row, of two rows with the values `u` and `v` on it.
+/// The factor of the second row is positive.
 ///
 /// # Errors
 ///
@@ -42,15 +44,12 @@ pub(crate) fn append_combination<L: Ledger>(
     let last = store.len();
     prove!(store.width() < 0x1_0000_0000);
     store.push_copy(right);
-    if let Err(column) = store.combine_rows(last, second, left, first, steps) {
-        store.truncate(last);
-        return Err(column);
-    }
-    store.make_row_primitive(last);
-    Ok(())
+    let combined = store.combine_rows(last, second, left, first, steps);
+    end_combination(store, last, combined)
 }
 
-/// Appends a primitive vector with the value `v` on a row, lowered onto the row by a line with the value `u`.
+/// Appends a primitive vector with the value `v` on a row, lowered onto the row by a line with the
+/// value `u`.
 ///
 /// # Errors
 ///
@@ -80,7 +79,19 @@ pub(crate) fn append_lowered<L: Ledger>(
         return Ok(());
     }
     let (second, first) = factors(u, v);
-    if let Err(column) = store.combine_with(last, second, line, first, steps) {
+    let combined = store.combine_with(last, second, line, first, steps);
+    end_combination(store, last, combined)
+}
+
+/// Makes the last row primitive once it is combined, and drops it where that was refused.
+fn end_combination(store: &mut RowStore, last: usize, combined: Result<(), u32>) -> Result<(), u32>
+    requires { last < length store.old.rows }
+    ensures same { result ≡ combined }
+    ensures primitive { OnOk combined (IsRowChanged IsPrimitiveOf last store.old store.new) }
+    ensures dropped { let rows = take last store.old.rows in
+        OnErr combined (store.new ≡ record store.old { rows = rows }) }
+{
+    if let Err(column) = combined {
         store.truncate(last);
         return Err(column);
     }

@@ -40,7 +40,8 @@ impl Place {
     pub fn vector<'a>(self, lines: &'a VectorList, rays: &'a VectorList) -> &'a [i128]
         requires place { IsPlace (vectors lines.now.rows) (vectors rays.now.rows) self }
         requires width { lines.now.width ≡ rays.now.width }
-        ensures value { result.now ≡ vector_of (vectors lines.now.rows) (vectors rays.now.rows) self }
+        ensures value { let line_vectors = vectors lines.now.rows in
+            result.now ≡ vector_of line_vectors (vectors rays.now.rows) self }
         ensures in_range { AllInRange result.now }
         ensures wide { length result.now ≡ lines.now.width }
     {
@@ -83,7 +84,8 @@ impl<T: Drop> From<AllocFailed<T>> for ValueFault {
     }
 }
 
-/// Two vectors whose combination that is 0 on a row leaves the range, and the first column at which it does.
+/// Two vectors whose combination that is 0 on a row leaves the range, and the first column at which
+/// it does.
 #[derive(Clone, Copy, Debug)]
 pub struct CombineFault {
     pub left: Place,

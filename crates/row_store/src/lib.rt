@@ -1,15 +1,16 @@
-//! Rows of exact integers in one buffer, which are appended without memory once it is reserved, and what
-//! a step of a conversion makes of them.
+//! Rows of exact integers in one buffer, which are appended without memory once it is reserved, and
+//! what a step of a conversion makes of them.
 //!
 //! - [`RowStore`] keeps rows, and combines two of them in place.
-//! - [`VectorList`] keeps the lines or the rays of a system, with one mark. [`values`] gives their values
-//!   on a row; [`last_crossing`], [`all_meet`], [`count_meeting`] and [`marks`] tell from these how they
-//!   lie to it.
-//! - [`line_step`] is the step with a row that isn't 0 on some line of a system, and [`ray_step`] that with a
-//!   row that is 0 on all lines.
-//! - [`combine`] gives the combination of two vectors that is 0 on a row, and [`write_upward`] the line with
-//!   the sign with which a row is above 0 on it.
-//! - [`ValueFault`] and [`CombineFault`] name the vectors whose value or combination leaves the range.
+//! - [`VectorList`] keeps the lines or the rays of a system, with one mark. [`values`] gives their
+//!   values on a row; [`last_crossing`], [`all_meet`], [`count_meeting`] and [`marks`] tell from
+//!   these how they lie to it.
+//! - [`line_step`] is the step with a row that isn't 0 on some line of a system, and [`ray_step`]
+//!   that with a row that is 0 on all lines.
+//! - [`combine`] gives the combination of two vectors that is 0 on a row, and [`write_upward`] the
+//!   line with the sign with which a row is above 0 on it.
+//! - [`ValueFault`] and [`CombineFault`] name the vectors whose value or combination leaves the
+//!   range.
 #![tactic(auto)]
 
 mod combination;

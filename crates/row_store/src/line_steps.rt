@@ -1,5 +1,7 @@
-//! The step with a row that isn't 0 on some line: the vectors are lowered onto the row by that line.
-ghost use Rattle.std.specs.Prelude.{◌≡◌, ◌≢◌, ◌+◌, ◌<◌, ◌≤◌, true, false, [], length, All, pos, MatchResult, OnOk};
+//! The step with a row that isn't 0 on some line: the vectors are lowered onto the row by that
+//! line.
+ghost use Rattle.std.specs.Prelude.{◌≡◌, ◌≢◌, ◌+◌, ◌<◌, ◌≤◌, true, false, []};
+ghost use Rattle.std.specs.Prelude.{length, All, pos, MatchResult, OnOk};
 ghost use Rattle.row_core.specs.Range.{InRange, AllInRange};
 ghost use Rattle.row_core.specs.Content.{IsPrimitive};
 ghost use Rattle.row_core.specs.Lists.{vectors, AreMarked};
@@ -23,8 +25,8 @@ pub struct SystemOnRow<'a> {
     pub ray_values: &'a [i128],
 }
 
-/// Appends to two empty lists with room the lines and rays after a row that isn't 0 on line `index`, and on no
-/// later line.
+/// Appends to two empty lists with room the lines and rays after a row that isn't 0 on line
+/// `index`, and on no later line.
 pub fn line_step<L: Ledger>(
     new_lines: &mut VectorList,
     new_rays: &mut VectorList,
@@ -50,8 +52,8 @@ pub fn line_step<L: Ledger>(
         let rays = system.entry.rays.now.rows in
         let line_values = system.entry.line_values.now in
         let ray_values = system.entry.ray_values.now in
-        MatchResult result
-        (λ _. IsLineChange index line_values ray_values eq lines rays new_lines.new.rows new_rays.new.rows)
+        let IsChange = IsLineChange index line_values ray_values eq lines rays in
+        MatchResult result (λ _. IsChange new_lines.new.rows new_rays.new.rows)
         (IsLineFault index line_values ray_values (vectors lines) (vectors rays)) }
     ensures lists { let width = system.entry.lines.now.width in
         OnOk result (AreLists width (as_rows new_lines.new) (as_rows new_rays.new)) }
@@ -170,7 +172,8 @@ struct Lowering<'a> {
     crossing: Crossing<'a>,
 }
 
-/// Appends the vectors from one index up to another, lowered by the line onto the row, for which there is room.
+/// Appends the vectors from one index up to another, lowered by the line onto the row, for which
+/// there is room.
 fn lower_range<L: Ledger>(
     into: &mut VectorList,
     lowering: Lowering,

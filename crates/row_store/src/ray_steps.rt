@@ -1,5 +1,7 @@
 //! The step with a row that is 0 on all lines.
-ghost use Rattle.std.specs.Prelude.{◌≡◌, ◌+◌, ◌<◌, ◌≤◌, Bool, true, false, List, [], ◌∷◌, ◌++◌, length, replicate, All, MatchResult, OnErr};
+ghost use Rattle.std.specs.Prelude.{◌≡◌, ◌+◌, ◌<◌, ◌≤◌, Bool, true, false};
+ghost use Rattle.std.specs.Prelude.{List, [], ◌∷◌, ◌++◌, length, replicate, All};
+ghost use Rattle.std.specs.Prelude.{MatchResult, OnErr};
 ghost use Rattle.row_core.specs.Range.{InRange};
 ghost use Rattle.row_core.specs.Lists.{vectors, AreMarked};
 ghost use Rattle.row_store.specs.Vectors.{IsAppended, HasSame};
@@ -76,8 +78,8 @@ fn push_made<L: Ledger>(
     Ok(())
 }
 
-/// Keeps the marked rays, and appends one ray for each pair, for which there is room: the marks are those of the
-/// old rays, and true for each pair. After a fault the rays are as before.
+/// Keeps the marked rays, and appends one ray for each pair, for which there is room: the marks are
+/// those of the old rays, and true for each pair. After a fault the rays are as before.
 pub fn ray_step<L: Ledger>(
     rays: &mut VectorList,
     values: &[i128],

@@ -1,5 +1,7 @@
 //! The values of vectors on a row.
-ghost use Rattle.std.specs.Prelude.{◌≡◌, ◌≢◌, ℕ, ◌^◌, ◌<◌, ◌≤◌, Bool, true, [], ◌++◌, length, map, replicate, count_by, pos, All, IsTrue, MatchBool, MatchResult, MatchOption, IfOk, OnOk, slice_index_or};
+ghost use Rattle.std.specs.Prelude.{◌≡◌, ◌≢◌, ℕ, ◌^◌, ◌<◌, ◌≤◌, Bool, true, [], ◌++◌, length, map};
+ghost use Rattle.std.specs.Prelude.{replicate, count_by, pos, All, IsTrue, MatchBool, MatchResult};
+ghost use Rattle.std.specs.Prelude.{MatchOption, IfOk, OnOk, slice_index_or};
 ghost use Rattle.row_core.specs.Vectors.{dot};
 ghost use Rattle.row_core.specs.Range.{InRange};
 ghost use Rattle.row_core.specs.Narrow.{AllNarrow};
@@ -41,7 +43,8 @@ pub fn values(
     requires wide { length row.now ≡ list.now.width }
     requires narrow { length row.now < 2 ^ 32 }
     requires row { IsTrue narrow → AllNarrow row.now }
-    ensures values { MatchResult result (λ v. v.items ≡ values_on row.now (vectors list.now.rows)) (IsValuesFault row.now part (vectors list.now.rows)) }
+    ensures values { let vs = vectors list.now.rows in
+        MatchResult result (λ v. v.items ≡ values_on row.now vs) (IsValuesFault row.now part vs) }
     ensures in_range { IfOk result (λ v. All InRange v.items) }
 {
     let mut values = emptied(alloc, place, list.len())?;
@@ -63,7 +66,10 @@ pub fn values(
 
 /// The index of the last value that isn't 0.
 pub fn last_crossing(values: &[i128]) -> Option<usize>
-    ensures { MatchOption result ((k : ℕ) → k < length values.now → slice_index_or values.now k (pos 0) ≡ pos 0) (λ i. (i < length values.now) × (slice_index_or values.now i (pos 0) ≢ pos 0) × ((k : ℕ) → i < k → k < length values.now → slice_index_or values.now k (pos 0) ≡ pos 0)) }
+    ensures { let list = values.now in let count = length list in
+        MatchOption result ((k : ℕ) → k < count → slice_index_or list k (pos 0) ≡ pos 0)
+        (λ i. (i < count) × (slice_index_or list i (pos 0) ≢ pos 0) ×
+        ((k : ℕ) → i < k → k < count → slice_index_or list k (pos 0) ≡ pos 0)) }
 {
     let mut last = None;
     for index in 0..values.len() {
@@ -74,7 +80,8 @@ pub fn last_crossing(values: &[i128]) -> Option<usize>
     last
 }
 
-/// Whether a vector with this value on a row meets the row: 0 for an equality, at least 0 otherwise.
+/// Whether a vector with this value on a row meets the row: 0 for an equality, at least 0
+/// otherwise.
 #[inline]
 fn meets(eq: bool, value: i128) -> bool
     ensures { result ≡ stays eq value }

@@ -1,12 +1,15 @@
 //! The rows.
-ghost use Rattle.std.specs.Prelude.{◌≡◌, ◌≢◌, ◌↔◌, ℕ, ◌+◌, ◌^◌, ◌<◌, ◌≤◌, List, [], ◌∷◌, ◌++◌, length, max, take, ℤ, OnOk, OnErr, MatchResult, IsTrue};
+ghost use Rattle.std.specs.Prelude.{◌≡◌, ◌≢◌, ◌↔◌, ℕ, ◌+◌, ◌*◌, ◌^◌, ◌<◌, ◌≤◌, List};
+ghost use Rattle.std.specs.Prelude.{[], ◌∷◌, ◌++◌, length, max, take, ℤ};
+ghost use Rattle.std.specs.Prelude.{OnOk, OnErr, MatchResult, IsTrue};
 ghost use Rattle.row_core.specs.Content.{IsPrimitiveOf};
 ghost use Rattle.row_core.specs.Range.{AllInRange};
 ghost use Rattle.row_core.specs.Narrow.{AllNarrow};
 ghost use Rattle.flat_rows.specs.Flat.{Flat, entries_at, marked, HasOneWidth};
-ghost use Rattle.row_store.specs.Stores.{IsKept, IsNegated, IsCombinedWith, IsRefusedAt, IsRowChanged};
+ghost use Rattle.row_store.specs.Stores.{IsKept, IsNegated, IsCombinedWith, IsRefusedAt};
+ghost use Rattle.row_store.specs.Stores.{IsRowChanged};
 
-use crate::windows::{combine_part, combine_parts, make_part_primitive, negate_part};
+use crate::windows::{Window, combine_part, combine_parts, make_part_primitive, negate_part};
 use flat_rows::FlatRows;
 use row_core::{Memory, Steps, all_narrow};
 use std::alloc::Global;
@@ -60,7 +63,8 @@ impl RowStore {
 
     /// Whether all numbers are narrow.
     pub fn is_narrow(&self) -> bool
-        ensures { IsTrue result ↔ ((i : ℕ) → i < length self.now.rows → AllNarrow (entries_at self.now.rows i)) }
+        ensures { let rows = self.now.rows in
+            IsTrue result ↔ ((i : ℕ) → i < length rows → AllNarrow (entries_at rows i)) }
     {
         all_narrow(self.rows.cells())
     }
@@ -111,7 +115,8 @@ impl RowStore {
     ///
     /// # Errors
     ///
-    /// The first column at which a product or the sum leaves the range. The rows are then as before.
+    /// The first column at which a product or the sum leaves the range. The rows are then as
+    /// before.
     pub fn combine_rows<L: Ledger>(
         &mut self,
         i: usize,
@@ -128,16 +133,16 @@ impl RowStore {
             MatchResult result (λ _. IsCombinedWith s t i other self.old self.new)
             (IsRefusedAt s t i other self.old self.new) }
     {
-        let width = self.rows.width();
-        let (to, from) = (i * width, j * width);
-        combine_parts(self.rows.cells_mut(), width, to, s, from, t, steps)
+        let (to, from) = (self.part(i), self.part(j));
+        combine_parts(self.rows.cells_mut(), to, s, from.at, t, steps)
     }
 
     /// Writes `s * row i + t * v` over row `i`, and counts one combination.
     ///
     /// # Errors
     ///
-    /// The first column at which a product or the sum leaves the range. The rows are then as before.
+    /// The first column at which a product or the sum leaves the range. The rows are then as
+    /// before.
     pub fn combine_with<L: Ledger>(
         &mut self,
         i: usize,
@@ -152,18 +157,18 @@ impl RowStore {
         ensures combined { MatchResult result (λ _. IsCombinedWith s t i v.now self.old self.new)
             (IsRefusedAt s t i v.now self.old self.new) }
     {
-        let width = self.rows.width();
-        combine_part(self.rows.cells_mut(), i * width, width, s, v, t, steps)
+        let part = self.part(i);
+        combine_part(self.rows.cells_mut(), part, s, v, t, steps)
     }
 
-    /// Divides row `i` by the greatest common divisor of its entries. It keeps all signs, and leaves
-    /// an all-zero row.
+    /// Divides row `i` by the greatest common divisor of its entries. It keeps all signs, and
+    /// leaves an all-zero row.
     pub fn make_row_primitive(&mut self, i: usize)
         requires { i < length self.old.rows }
         ensures { IsRowChanged IsPrimitiveOf i self.old self.new }
     {
-        let width = self.rows.width();
-        make_part_primitive(self.rows.cells_mut(), i * width, width);
+        let part = self.part(i);
+        make_part_primitive(self.rows.cells_mut(), part);
     }
 
     /// Changes all signs of row `i`.
@@ -171,8 +176,8 @@ impl RowStore {
         requires { i < length self.old.rows }
         ensures { IsRowChanged IsNegated i self.old self.new }
     {
-        let width = self.rows.width();
-        negate_part(self.rows.cells_mut(), i * width, width);
+        let part = self.part(i);
+        negate_part(self.rows.cells_mut(), part);
     }
 
     /// Keeps the marked rows, in order. No row that is reserved is lost.
@@ -191,5 +196,21 @@ impl RowStore {
         ensures { self.new ≡ record self.old { rows = take count self.old.rows } }
     {
         self.rows.truncate(count);
+    }
+
+    /// The part of the buffer that is row `i`.
+    #[inline]
+    fn part(&self, i: usize) -> Window
+        requires { i < length self.now.rows }
+        ensures at { result.at ≡ i * self.now.width }
+        ensures width { result.width ≡ self.now.width }
+        ensures within { result.at + result.width ≤ length self.now.rows * self.now.width }
+        ensures narrow { result.width < 2 ^ 32 }
+    {
+        let width = self.rows.width();
+        Window {
+            at: i * width,
+            width,
+        }
     }
 }

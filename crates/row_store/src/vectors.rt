@@ -1,5 +1,7 @@
 //! The lines or the rays of a system.
-ghost use Rattle.std.specs.Prelude.{◌≡◌, ◌≢◌, ℕ, ◌+◌, ◌^◌, ◌<◌, ◌≤◌, false, [], ◌∷◌, ◌++◌, length, max, take, pos, All, IsTrue, IfOk, OnOk, OnErr, MatchResult};
+ghost use Rattle.std.specs.Prelude.{◌≡◌, ◌≢◌, ℕ, ◌+◌, ◌^◌, ◌<◌, ◌≤◌, false, []};
+ghost use Rattle.std.specs.Prelude.{◌∷◌, ◌++◌, length, max, take, pos, All, IsTrue};
+ghost use Rattle.std.specs.Prelude.{IfOk, OnOk, OnErr, MatchResult};
 ghost use Rattle.row_core.specs.Vectors.{scale};
 ghost use Rattle.row_core.specs.Content.{IsPrimitive};
 ghost use Rattle.row_core.specs.Range.{InRange, AllInRange};
@@ -20,7 +22,8 @@ use std::sync::ledger::Ledger;
 /// Room for the vectors of most small systems, so that a list grows once.
 const LEAST_VECTORS: usize = 16;
 
-/// A line on which a row isn't 0: its index among the lines of a system, the line, and its value on the row.
+/// A line on which a row isn't 0: its index among the lines of a system, the line, and its value on
+/// the row.
 #[derive(Clone, Copy)]
 pub struct Crossing<'a> {
     pub index: usize,
@@ -28,8 +31,8 @@ pub struct Crossing<'a> {
     pub value: i128,
 }
 
-/// Vectors of one width in one buffer, all marked as equalities or all as inequalities, and a flag, which is set
-/// only while all their numbers are narrow.
+/// Vectors of one width in one buffer, all marked as equalities or all as inequalities, and a flag,
+/// which is set only while all their numbers are narrow.
 #[derive(Debug, Drop)]
 pub struct VectorList {
     eq: bool,
@@ -40,7 +43,11 @@ pub struct VectorList {
 impl Model for VectorList {
     ghost Value = { Vectors };
 
-    ghost view = { λ l. record { width = l.store.width; rows = with_mark l.eq l.store.rows; spare = l.store.spare } };
+    ghost view = { λ l. record {
+      width = l.store.width;
+      rows = with_mark l.eq l.store.rows;
+      spare = l.store.spare;
+    } };
 
     ghost invariant = { λ l. IsTrue l.narrow → All AllNarrow l.store.rows };
 }
@@ -59,7 +66,8 @@ impl VectorList {
         }
     }
 
-    /// Returns the empty list of that width, with room for some vectors, and no less than for those of most conversions.
+    /// Returns the empty list of that width, with room for some vectors, and no less than for those
+    /// of most conversions.
     pub fn with_room(alloc: Global, width: usize, vectors: usize) -> Result<VectorList, Memory>
         requires { width < 2 ^ 32 }
         ensures width { IfOk result (λ list. list.width ≡ width) }
@@ -103,7 +111,8 @@ impl VectorList {
     /// Whether all numbers are narrow. They are looked at where the flag isn't set.
     #[inline]
     pub fn is_narrow(&self) -> bool
-        ensures { IsTrue result → (i : ℕ) → i < length self.now.rows → AllNarrow (row_at self.now.rows i) }
+        ensures { let rows = self.now.rows in
+            IsTrue result → (i : ℕ) → i < length rows → AllNarrow (row_at rows i) }
     {
         self.narrow || self.store.is_narrow()
     }
@@ -136,12 +145,13 @@ impl VectorList {
         Ok(())
     }
 
-    /// Appends, to a list of rays, the combination of the rays at two indices that is 0 on a row on which they have
-    /// the values `u` and `v`.
+    /// Appends, to a list of rays, the combination of the rays at two indices that is 0 on a row on
+    /// which they have the values `u` and `v`.
     ///
     /// # Errors
     ///
-    /// The first column at which a product or the sum leaves the range. The rays are then as before.
+    /// The first column at which a product or the sum leaves the range. The rays are then as
+    /// before.
     pub fn push_combination<L: Ledger>(
         &mut self,
         left: usize,
@@ -170,7 +180,8 @@ impl VectorList {
         Ok(())
     }
 
-    /// Appends a primitive vector with its value on a row, lowered onto the row by a line that the row crosses.
+    /// Appends a primitive vector with its value on a row, lowered onto the row by a line that the
+    /// row crosses.
     ///
     /// # Errors
     ///
@@ -205,7 +216,8 @@ impl VectorList {
         Ok(())
     }
 
-    /// Appends, to a list of rays, a line with the sign with which a row with this value on it is above 0 on it.
+    /// Appends, to a list of rays, a line with the sign with which a row with this value on it is
+    /// above 0 on it.
     pub fn push_upward(&mut self, line: &[i128], value: i128)
         requires spare { 0 < self.old.spare }
         requires wide { length line.now ≡ self.old.width }

@@ -1,4 +1,5 @@
-use Rattle.std.specs.Prelude.{◌≡◌, ℕ, ◌/◌, ◌%◌, ◌^◌, ◌-◌, ◌<◌, ◌==◌, Bool, List, IsTrue, slice_index_or, bit_and}
+use Rattle.std.specs.Prelude.{◌≡◌, ◌≢◌, ℕ, ◌/◌, ◌%◌, ◌^◌, ◌-◌, ◌<◌, ◌==◌, Bool, List, IsTrue}
+use Rattle.std.specs.Prelude.{length, slice_index_or, bit_and}
 use Rattle.std.specs.Int.{bit_at}
 
 -- bit j of a word
@@ -23,8 +24,22 @@ IsNoneMissing a b c = bit_and (bit_and a b) (2 ^ 64 - 1 - c) ≡ 0
 
 -- the same of the first n words of three lists
 abbrev pub AreNoneMissing : List ℕ → List ℕ → List ℕ → ℕ → Type 0
-AreNoneMissing a b c n = (k : ℕ) → k < n → IsNoneMissing (slice_index_or a k 0) (slice_index_or b k 0) (slice_index_or c k 0)
+AreNoneMissing a b c n = (k : ℕ) → k < n →
+    IsNoneMissing (slice_index_or a k 0) (slice_index_or b k 0) (slice_index_or c k 0)
 
 -- the words of the first n words of three lists are covered
 abbrev pub AreCovered : List ℕ → List ℕ → List ℕ → ℕ → Type 0
-AreCovered a b c n = (k : ℕ) → k < n → IsCovered (slice_index_or a k 0) (slice_index_or b k 0) (slice_index_or c k 0)
+AreCovered a b c n = (k : ℕ) → k < n →
+    IsCovered (slice_index_or a k 0) (slice_index_or b k 0) (slice_index_or c k 0)
+
+-- word k is at another place than i and j, and has each bit that both of these have
+pub record IsThirdWord (words : List ℕ) (i j k : ℕ) : Type 0 where
+  pub inside : k < length words
+  pub not_first : k ≢ i
+  pub not_second : k ≢ j
+  pub covers :
+      IsNoneMissing (slice_index_or words i 0) (slice_index_or words j 0) (slice_index_or words k 0)
+
+-- some word at another place than i and j has each bit that both of these have
+abbrev pub HasThirdWord : List ℕ → ℕ → ℕ → Type 0
+HasThirdWord words i j = (k : ℕ) × IsThirdWord words i j k

@@ -20,13 +20,15 @@ pub fn count(a: &[u64]) -> usize
     total
 }
 
-/// The number of places that are true in both rows. Where the caller knows how many words a row has, the
-/// loop is compiled for these.
+/// The number of places that are true in both rows. Where the caller knows how many words a row
+/// has, the loop is compiled for these.
 #[inline(always)]
 pub fn count_and(a: &[u64], b: &[u64]) -> usize
-    requires few { count_by (λ i. place a.now i && place b.now i) (range_with_len 0 (length a.now * 64)) < 2 ^ 64 }
+    requires few { count_by (λ i. place a.now i && place b.now i)
+        (range_with_len 0 (length a.now * 64)) < 2 ^ 64 }
     requires second { length b.now ≡ length a.now }
-    ensures { result ≡ count_by (λ i. place a.now i && place b.now i) (range_with_len 0 (length a.now * 64)) }
+    ensures { result ≡
+        count_by (λ i. place a.now i && place b.now i) (range_with_len 0 (length a.now * 64)) }
 {
     if a.len() == 1 {
         return bits(a[0] & b[0]);

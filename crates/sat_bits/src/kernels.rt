@@ -1,6 +1,7 @@
 //! The kernels.
-ghost use Rattle.std.specs.Prelude.{◌≡◌, ◌↔◌, ℕ, ◌+◌, ◌*◌, ◌<◌, ◌≤◌, ◌&&◌, ◌||◌, IsTrue, length, slice_index_or, bit_and};
-ghost use Rattle.sat_bits.specs.Places.{place, IsSubsetOfAnd, IsNoneMissing, AreNoneMissing};
+ghost use Rattle.std.specs.Prelude.{◌≡◌, ◌↔◌, ℕ, ◌+◌, ◌*◌, ◌^◌, ◌<◌, ◌≤◌, ◌&&◌, ◌||◌, IsTrue, length};
+ghost use Rattle.std.specs.Prelude.{slice_index_or, bit_and};
+ghost use Rattle.sat_bits.specs.Places.{place, IsSubsetOfAnd, IsNoneMissing, AreNoneMissing, HasThirdWord};
 
 use std::simd::u64x8;
 
@@ -32,8 +33,8 @@ pub fn or_into(dst: &mut [u64], row: &[u64])
     }
 }
 
-/// Whether each place that is true in both `a` and `b` is true in `c`. Where the caller knows that rows have
-/// a few words, it is compiled for these.
+/// Whether each place that is true in both `a` and `b` is true in `c`. Where the caller knows that
+/// rows have a few words, it is compiled for these.
 #[inline(always)]
 pub fn is_subset_of_and(a: &[u64], b: &[u64], c: &[u64]) -> bool
     requires second { length b.now ≡ length a.now }
@@ -59,6 +60,22 @@ pub fn is_subset_of_and(a: &[u64], b: &[u64], c: &[u64]) -> bool
     true
 }
 
+/// Whether some word at another place than `i` and `j` has each bit that both of these have.
+pub fn some_other_covers(words: &[u64], i: usize, j: usize) -> bool
+    requires first { i < length words.now }
+    requires second { j < length words.now }
+    ensures fit { (k : ℕ) → slice_index_or words.now k 0 < 2 ^ 64 }
+    ensures third { IsTrue result ↔ HasThirdWord words.now i j }
+{
+    let both = words[i] & words[j];
+    for k in 0..words.len() {
+        if both & !words[k] == 0 && k != i && k != j {
+            return true;
+        }
+    }
+    false
+}
+
 /// Whether each place that is true in both `a` and `b` is true in `c`, word by word.
 #[inline(always)]
 fn is_subset_by_words(a: &[u64], b: &[u64], c: &[u64]) -> bool
@@ -79,7 +96,8 @@ fn is_subset_by_words(a: &[u64], b: &[u64], c: &[u64]) -> bool
 fn and_block(dst: &mut [u64], at: usize, a: &[u64; 8], b: &[u64; 8])
     requires { at + 8 ≤ length dst.old }
     ensures width { length dst.new ≡ length dst.old }
-    ensures inside { (k : ℕ) → k < 8 → slice_index_or dst.new (at + k) 0 ≡ bit_and (slice_index_or a.now k 0) (slice_index_or b.now k 0) }
+    ensures inside { (k : ℕ) → k < 8 → slice_index_or dst.new (at + k) 0 ≡
+        bit_and (slice_index_or a.now k 0) (slice_index_or b.now k 0) }
     ensures outside { (k : ℕ) → k < at → slice_index_or dst.new k 0 ≡ slice_index_or dst.old k 0 }
 {
     let both = u64x8::from_array(*a) & u64x8::from_array(*b);

@@ -6,5 +6,5 @@ mod kernels;
 mod places;
 
 pub use counts::{count, count_and};
-pub use kernels::{and_into, is_subset_of_and, or_into};
+pub use kernels::{and_into, is_subset_of_and, or_into, some_other_covers};
 pub use places::{get, is_subset, set, with_bit};

@@ -7,7 +7,7 @@ use Rattle.flat_rows.specs.Flat.{entries_at}
 use Rattle.row_core.proofs.SignTests.{fits}
 use Rattle.row_core.proofs.Magnitudes.{back}
 use Rattle.row_store.proofs.ChangeLemmas.{combined_zero}
-use Rattle.row_store.proofs.CombinedRows.{is_appended, is_left, leaves_at, pushed_last}
+use Rattle.row_store.proofs.CombinedRows.{ended_as, is_appended, is_left, last_stays, leaves_at, pushed_last}
 use Rattle.row_store.proofs.combining.append_lowered.Goals as goal
 
 pub returns-then-v-eq0-clause-combined : goal.returns-then-v-eq0-clause-combined
@@ -21,18 +21,9 @@ returns-then-v-eq0-clause-combined g c =
       spare = c.push_reserved.ensures.spare;
     }
 
-pub returns-in-Err-clause-combined : goal.returns-in-Err-clause-combined
-returns-in-Err-clause-combined g c =
-    let u_fits : SFits w128 c.args.u = c.ranges.u in
-    let v_fits : SFits w128 c.args.v = c.ranges.v in
-    let s_fits : SFits w128 c.factors-second.result.0 = fits c.factors-second.result.0 c.factors-second.ensures.in_range.0 in
-    let f_fits : SFits w128 c.factors-second.result.1 = fits c.factors-second.result.1 c.factors-second.ensures.in_range.1 in
-    let factors = simp to_z-of_z at c.factors-second.ensures.factors in
-    let left = simp to_z-of_z at c.in-Err.ensures.combined in (
-      is_left _ c.len-last.result c.args.store.now c.push_reserved.new.self c.combine_with.new.self c.truncate.new.self c.len-last.ensures c.push_reserved.ensures.width c.push_reserved.ensures.rows left.0 c.truncate.ensures,
-      leaves_at c.args.u c.args.v c.factors-second.result.0 c.factors-second.result.1 c.args.line.now c.args.vector.now _ c.push_reserved.new.self.width c.in-Err.column factors
-          (ap (λ (rs : List (List ℤ)). entries_at rs c.len-last.result) c.push_reserved.ensures.rows ∙ pushed_last c.args.store.now.rows c.args.vector.now c.len-last.result c.len-last.ensures) (c.requires.wide.1 ∙ sym c.push_reserved.ensures.width) left.1,
-    )
+pub end_combination-requires : goal.end_combination-requires
+end_combination-requires g c =
+    last_stays _ _ _ _ c.len-last.result c.args.store.now c.push_reserved.new.self c.combine_with-combined.new.self c.combine_with-combined.result c.len-last.ensures c.push_reserved.ensures.rows c.combine_with-combined.ensures.combined
 
 pub returns-clause-combined : goal.returns-clause-combined
 returns-clause-combined g c =
@@ -41,5 +32,11 @@ returns-clause-combined g c =
     let s_fits : SFits w128 c.factors-second.result.0 = fits c.factors-second.result.0 c.factors-second.ensures.in_range.0 in
     let f_fits : SFits w128 c.factors-second.result.1 = fits c.factors-second.result.1 c.factors-second.ensures.in_range.1 in
     let factors = simp to_z-of_z at c.factors-second.ensures.factors in
-    let written = simp to_z-of_z at c.in_default.ensures.combined in
-    is_appended c.args.u c.args.v c.factors-second.result.0 c.factors-second.result.1 c.args.line.now c.args.vector.now c.len-last.result c.args.store.now c.push_reserved.new.self c.combine_with.new.self c.make_row_primitive.new.self factors c.requires.nonzero (c.requires.wide.0 ∙ sym c.requires.wide.1) c.len-last.ensures c.push_reserved.ensures.width c.push_reserved.ensures.rows c.push_reserved.ensures.spare written.0 c.make_row_primitive.ensures
+    let combined = simp to_z-of_z at c.combine_with-combined.ensures.combined in
+    ended_as _ _ _ _ _ _ c.combine_with-combined.result c.end_combination.result c.end_combination.ensures.same combined c.end_combination.ensures.primitive c.end_combination.ensures.dropped
+    (λ x written changed. is_appended c.args.u c.args.v c.factors-second.result.0 c.factors-second.result.1 c.args.line.now c.args.vector.now c.len-last.result c.args.store.now c.push_reserved.new.self c.combine_with-combined.new.self c.end_combination.new.store factors c.requires.nonzero (c.requires.wide.0 ∙ sym c.requires.wide.1) c.len-last.ensures c.push_reserved.ensures.width c.push_reserved.ensures.rows c.push_reserved.ensures.spare written.0 changed)
+    (λ column left dropped. (
+      is_left _ c.len-last.result c.args.store.now c.push_reserved.new.self c.combine_with-combined.new.self c.end_combination.new.store c.len-last.ensures c.push_reserved.ensures.width c.push_reserved.ensures.rows left.0 dropped,
+      leaves_at c.args.u c.args.v c.factors-second.result.0 c.factors-second.result.1 c.args.line.now c.args.vector.now _ c.push_reserved.new.self.width column factors
+          (ap (λ (rs : List (List ℤ)). entries_at rs c.len-last.result) c.push_reserved.ensures.rows ∙ pushed_last c.args.store.now.rows c.args.vector.now c.len-last.result c.len-last.ensures) (c.requires.wide.1 ∙ sym c.push_reserved.ensures.width) left.1,
+    ))

@@ -16,21 +16,21 @@ pub returns-clause-combined : goal.returns-clause-combined
 returns-clause-combined g c =
     let s_fits : SFits w128 c.args.s = c.ranges.s in
     let t_fits : SFits w128 c.args.t = c.ranges.t in
-    let e : c.args.at + c.args.width - c.args.at ≡ c.args.width = omega arith in
+    let e : c.args.part.at + c.args.part.width - c.args.part.at ≡ c.args.part.width = omega arith in
     let combined = simp to_z-of_z at c.combine_onto.ensures.combined in
     MatchResult-weaker c.combine_onto.result combined
-    (λ x h. part_combined c.args.at c.args.width _ c.args.s c.args.t c.args.cells.now c.args.v.now _ c.combine_onto.new.dst e refl c.requires.within c.combine_onto.ensures.width h.0 h.1)
-    (λ y h. part_left c.args.at c.args.width _ c.args.s c.args.t c.args.cells.now c.args.v.now _ c.combine_onto.new.dst y e refl c.requires.within h.0 h.1)
+    (λ x h. part_combined c.args.part.at c.args.part.width _ c.args.s c.args.t c.args.cells.now c.args.v.now _ c.combine_onto.new.dst e refl c.requires.within c.combine_onto.ensures.width h.0 h.1)
+    (λ y h. part_left c.args.part.at c.args.part.width _ c.args.s c.args.t c.args.cells.now c.args.v.now _ c.combine_onto.new.dst y e refl c.requires.within h.0 h.1)
 
 pub combine_onto-requires-clause-same_width : goal.combine_onto-requires-clause-same_width
 combine_onto-requires-clause-same_width g c =
-    let e : c.args.at + c.args.width - c.args.at ≡ c.args.width = omega arith in
-    ap (λ (n : ℕ). length (window c.args.at n c.args.cells.now)) e ∙ length-window c.args.at c.args.width c.args.cells.now c.requires.within ∙ sym c.requires.same_width
+    let e : c.args.part.at + c.args.part.width - c.args.part.at ≡ c.args.part.width = omega arith in
+    ap (λ (n : ℕ). length (window c.args.part.at n c.args.cells.now)) e ∙ length-window c.args.part.at c.args.part.width c.args.cells.now c.requires.within ∙ sym c.requires.same_width
 
 pub returns-clause-in_range : goal.returns-clause-in_range
 returns-clause-in_range g c all =
-    let e : c.args.at + c.args.width - c.args.at ≡ c.args.width = omega arith in
-    let part : List ℤ = window c.args.at (c.args.at + c.args.width - c.args.at) c.args.cells.now in
-    let wide : length c.combine_onto.new.dst ≡ c.args.width = c.combine_onto.ensures.width ∙ ap (λ (n : ℕ). length (window c.args.at n c.args.cells.now)) e ∙ length-window c.args.at c.args.width c.args.cells.now c.requires.within in
-    part_in_range c.args.at c.args.width _ c.args.cells.now c.combine_onto.new.dst e wide all
-    (changed_or_left _ _ part c.combine_onto.new.dst c.combine_onto.result c.combine_onto.ensures.in_range c.combine_onto.ensures.combined (All-take InRange _ (drop c.args.at c.args.cells.now) (All-drop InRange c.args.at c.args.cells.now all)))
+    let e : c.args.part.at + c.args.part.width - c.args.part.at ≡ c.args.part.width = omega arith in
+    let part : List ℤ = window c.args.part.at (c.args.part.at + c.args.part.width - c.args.part.at) c.args.cells.now in
+    let wide : length c.combine_onto.new.dst ≡ c.args.part.width = c.combine_onto.ensures.width ∙ ap (λ (n : ℕ). length (window c.args.part.at n c.args.cells.now)) e ∙ length-window c.args.part.at c.args.part.width c.args.cells.now c.requires.within in
+    part_in_range c.args.part.at c.args.part.width _ c.args.cells.now c.combine_onto.new.dst e wide all
+    (changed_or_left _ _ part c.combine_onto.new.dst c.combine_onto.result c.combine_onto.ensures.in_range c.combine_onto.ensures.combined (All-take InRange _ (drop c.args.part.at c.args.cells.now) (All-drop InRange c.args.part.at c.args.cells.now all)))

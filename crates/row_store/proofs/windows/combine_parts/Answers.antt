@@ -19,13 +19,13 @@ returns-then-to-from-clause-combined g c =
     let back = c.split_at_mut-front.result.1.now in
     let cells = c.args.cells.now in
     let value : cells ≡ front ++ back = c.split_at_mut-front.ensures.value in
-    let within : c.args.to + c.args.width ≤ length front = omega (arith, c.split_at_mut-front.ensures.front_len, c.requires.apart, c.if-to-from.true) in
-    let e : window c.args.to c.args.width front ≡ window c.args.to c.args.width cells = sym (take-drop-append c.args.width c.args.to front back within) ∙ ap (λ (r : List ℤ). window c.args.to c.args.width r) (sym value) in
+    let within : c.args.to.at + c.args.to.width ≤ length front = omega (arith, c.split_at_mut-front.ensures.front_len, c.requires.apart, c.if-to-from.true) in
+    let e : window c.args.to.at c.args.to.width front ≡ window c.args.to.at c.args.to.width cells = sym (take-drop-append c.args.to.width c.args.to.at front back within) ∙ ap (λ (r : List ℤ). window c.args.to.at c.args.to.width r) (sym value) in
     let combined = simp to_z-of_z at c.combine_part.ensures.combined in
     MatchResult-weaker c.combine_part.result combined
-    (λ x h. moved_combined c.args.to c.args.to c.args.width c.args.s c.args.t front _ c.combine_part.new.cells cells (window c.args.from c.args.width cells) (c.combine_part.new.cells ++ back) e (ap (λ (r : List ℤ). take c.args.width r) c.split_at_mut-front.ensures.back)
-    (λ row w. ap (λ (r : List ℤ). r ++ back) w ∙ with_window_in_front c.args.to c.args.width row front back within ∙ ap (λ (r : List ℤ). with_window c.args.to c.args.width row r) (sym value)) h)
-    (λ y h. moved_left c.args.to c.args.to c.args.width c.args.s c.args.t front _ c.combine_part.new.cells cells (window c.args.from c.args.width cells) (c.combine_part.new.cells ++ back) y e (ap (λ (r : List ℤ). take c.args.width r) c.split_at_mut-front.ensures.back)
+    (λ x h. moved_combined c.args.to.at c.args.to.at c.args.to.width c.args.s c.args.t front _ c.combine_part.new.cells cells (window c.args.from c.args.to.width cells) (c.combine_part.new.cells ++ back) e (ap (λ (r : List ℤ). take c.args.to.width r) c.split_at_mut-front.ensures.back)
+    (λ row w. ap (λ (r : List ℤ). r ++ back) w ∙ with_window_in_front c.args.to.at c.args.to.width row front back within ∙ ap (λ (r : List ℤ). with_window c.args.to.at c.args.to.width row r) (sym value)) h)
+    (λ y h. moved_left c.args.to.at c.args.to.at c.args.to.width c.args.s c.args.t front _ c.combine_part.new.cells cells (window c.args.from c.args.to.width cells) (c.combine_part.new.cells ++ back) y e (ap (λ (r : List ℤ). take c.args.to.width r) c.split_at_mut-front.ensures.back)
     (λ w. ap (λ (r : List ℤ). r ++ back) w ∙ sym value) h)
 
 pub returns-else-to-from-clause-combined : goal.returns-else-to-from-clause-combined
@@ -36,23 +36,23 @@ returns-else-to-from-clause-combined g c =
     let back = c.split_at_mut-front-else-to-from.result.1.now in
     let cells = c.args.cells.now in
     let value : cells ≡ front ++ back = c.split_at_mut-front-else-to-from.ensures.value in
-    let front_len : length front ≡ c.args.to = c.split_at_mut-front-else-to-from.ensures.front_len in
-    let within : c.args.from + c.args.width ≤ length front = omega (arith, front_len, c.requires.apart, c.if-to-from.false, c.requires.second) in
-    let e : window 0 c.args.width back ≡ window c.args.to c.args.width cells = window_in_back c.args.to c.args.width front back front_len ∙ ap (λ (r : List ℤ). window c.args.to c.args.width r) (sym value) in
-    let f : take (c.args.from + c.args.width - c.args.from) (drop c.args.from front) ≡ window c.args.from c.args.width cells
-    = ap (λ (n : ℕ). take n (drop c.args.from front)) (omega arith) ∙ sym (take-drop-append c.args.width c.args.from front back within) ∙ ap (λ (r : List ℤ). window c.args.from c.args.width r) (sym value) in
+    let front_len : length front ≡ c.args.to.at = c.split_at_mut-front-else-to-from.ensures.front_len in
+    let within : c.args.from + c.args.to.width ≤ length front = omega (arith, front_len, c.requires.apart, c.if-to-from.false, c.requires.second) in
+    let e : window 0 c.args.to.width back ≡ window c.args.to.at c.args.to.width cells = window_in_back c.args.to.at c.args.to.width front back front_len ∙ ap (λ (r : List ℤ). window c.args.to.at c.args.to.width r) (sym value) in
+    let f : take (c.args.from + c.args.to.width - c.args.from) (drop c.args.from front) ≡ window c.args.from c.args.to.width cells
+    = ap (λ (n : ℕ). take n (drop c.args.from front)) (omega arith) ∙ sym (take-drop-append c.args.to.width c.args.from front back within) ∙ ap (λ (r : List ℤ). window c.args.from c.args.to.width r) (sym value) in
     let combined = simp to_z-of_z at c.combine_part-else-to-from.ensures.combined in
     MatchResult-weaker c.combine_part-else-to-from.result combined
-    (λ x h. moved_combined c.args.to 0 c.args.width c.args.s c.args.t back _ c.combine_part-else-to-from.new.cells cells (window c.args.from c.args.width cells) (front ++ c.combine_part-else-to-from.new.cells) e f
-    (λ row w. ap (λ (r : List ℤ). front ++ r) w ∙ with_window_in_back c.args.to c.args.width row front back front_len ∙ ap (λ (r : List ℤ). with_window c.args.to c.args.width row r) (sym value)) h)
-    (λ y h. moved_left c.args.to 0 c.args.width c.args.s c.args.t back _ c.combine_part-else-to-from.new.cells cells (window c.args.from c.args.width cells) (front ++ c.combine_part-else-to-from.new.cells) y e f
+    (λ x h. moved_combined c.args.to.at 0 c.args.to.width c.args.s c.args.t back _ c.combine_part-else-to-from.new.cells cells (window c.args.from c.args.to.width cells) (front ++ c.combine_part-else-to-from.new.cells) e f
+    (λ row w. ap (λ (r : List ℤ). front ++ r) w ∙ with_window_in_back c.args.to.at c.args.to.width row front back front_len ∙ ap (λ (r : List ℤ). with_window c.args.to.at c.args.to.width row r) (sym value)) h)
+    (λ y h. moved_left c.args.to.at 0 c.args.to.width c.args.s c.args.t back _ c.combine_part-else-to-from.new.cells cells (window c.args.from c.args.to.width cells) (front ++ c.combine_part-else-to-from.new.cells) y e f
     (λ w. ap (λ (r : List ℤ). front ++ r) w ∙ sym value) h)
 
 pub returns-else-to-from-clause-in_range : goal.returns-else-to-from-clause-in_range
 returns-else-to-from-clause-in_range g c = λ h.
     All-append InRange c.split_at_mut-front-else-to-from.result.0.now c.combine_part-else-to-from.new.cells
-    (subst AllInRange (sym c.split_at_mut-front-else-to-from.ensures.front) (All-take InRange c.args.to c.args.cells.now h))
-    (c.combine_part-else-to-from.ensures.in_range (subst AllInRange (sym c.split_at_mut-front-else-to-from.ensures.back) (All-drop InRange c.args.to c.args.cells.now h)))
+    (subst AllInRange (sym c.split_at_mut-front-else-to-from.ensures.front) (All-take InRange c.args.to.at c.args.cells.now h))
+    (c.combine_part-else-to-from.ensures.in_range (subst AllInRange (sym c.split_at_mut-front-else-to-from.ensures.back) (All-drop InRange c.args.to.at c.args.cells.now h)))
 
 pub returns-then-to-from-clause-in_range : goal.returns-then-to-from-clause-in_range
 returns-then-to-from-clause-in_range g c = λ h.
@@ -68,7 +68,7 @@ combine_part-requires g c =
     let whole : length c.args.cells.now ≡ length front + length back = ap length c.split_at_mut-front.ensures.value ∙ length-append front back in
     record {
       within = omega (arith, front_len, c.requires.apart, c.if-to-from.true);
-      same_width = omega (arith, length-take c.args.width back, whole, front_len, c.requires.second);
+      same_width = omega (arith, length-take c.args.to.width back, whole, front_len, c.requires.second);
       narrow = c.requires.narrow;
     }
 
@@ -76,10 +76,10 @@ pub combine_part-requires-else-to-from : goal.combine_part-requires-else-to-from
 combine_part-requires-else-to-from g c =
     let front = c.split_at_mut-front-else-to-from.result.0.now in
     let back = c.split_at_mut-front-else-to-from.result.1.now in
-    let front_len : length front ≡ c.args.to = c.split_at_mut-front-else-to-from.ensures.front_len in
+    let front_len : length front ≡ c.args.to.at = c.split_at_mut-front-else-to-from.ensures.front_len in
     let whole : length c.args.cells.now ≡ length front + length back = ap length c.split_at_mut-front-else-to-from.ensures.value ∙ length-append front back in
     record {
       within = omega (arith, front_len, whole, c.requires.first);
-      same_width = ap (λ (n : ℕ). length (window c.args.from n front)) (omega arith) ∙ length-window c.args.from c.args.width front (omega (arith, front_len, c.requires.apart, c.if-to-from.false));
+      same_width = ap (λ (n : ℕ). length (window c.args.from n front)) (omega arith) ∙ length-window c.args.from c.args.to.width front (omega (arith, front_len, c.requires.apart, c.if-to-from.false));
       narrow = c.requires.narrow;
     }

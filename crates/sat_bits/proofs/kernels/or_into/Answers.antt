@@ -1,5 +1,5 @@
 use Rattle.std.proofs.Common.{arith}
-use Rattle.sat_bits.proofs.PlaceLemmas.{ors_none, ors_more, places_or}
+use Rattle.sat_bits.proofs.PlaceLemmas.{ors_none, places_or}
 use Rattle.sat_bits.proofs.kernels.or_into.Goals as goal
 
 pub loop-word-init : goal.loop-word-init

@@ -1,17 +1,11 @@
-use Rattle.std.specs.Prelude.{◌*◌, ℕ}
-use Rattle.std.proofs.Common.{arith, subst}
 use Rattle.row_core.specs.Range.{InRange}
 use Rattle.row_core.specs.Content.{IsPrimitiveOf}
-use Rattle.row_store.specs.Stores.{IsPartChanged}
 use Rattle.flat_rows.proofs.Flat.{All-cells}
-use Rattle.row_store.proofs.ChangedRows.{row_ends, row_changed, kept_cells}
+use Rattle.row_store.proofs.ChangedRows.{row_changed, kept_cells, part_within}
 use Rattle.row_store.proofs.store.RowStore.make_row_primitive.Goals as goal
 
-pub overflow_mul-i : goal.overflow_mul-i
-overflow_mul-i c = omega (arith, (row_ends _ _ _ c.args.i c.self.view_is c.width-width.ensures.value c.requires).1, c.width-width.ensures.counted)
-
 pub make_part_primitive-requires-clause-within : goal.make_part_primitive-requires-clause-within
-make_part_primitive-requires-clause-within c = omega (arith, (row_ends _ _ _ c.args.i c.self.view_is c.width-width.ensures.value c.requires).1, c.cells_mut.ensures.cells.taken)
+make_part_primitive-requires-clause-within c = part_within c.cells_mut.result.now _ _ _ c.self.view_is c.cells_mut.ensures.cells c.part-part.ensures.within
 
 pub make_part_primitive-requires-clause-in_range : goal.make_part_primitive-requires-clause-in_range
 make_part_primitive-requires-clause-in_range c = All-cells InRange c.self.inside.rows c.cells_mut.result.now c.cells_mut.ensures.cells c.self.invariant.in_range
@@ -21,5 +15,5 @@ invariant_of-self c = kept_cells c.cells_mut.result.now c.make_part_primitive.ne
 
 pub returns : goal.returns
 returns c =
-    rw (← c.self.view_is) (row_changed IsPrimitiveOf c.args.i c.cells_mut.result.now c.make_part_primitive.new.cells c.self.inside.rows c.cells_mut.ensures.cells (row_ends _ _ _ c.args.i c.self.view_is c.width-width.ensures.value c.requires).0 c.make_part_primitive.auto.cells
-    (subst (λ (v : ℕ). IsPartChanged IsPrimitiveOf (c.args.i * v) v c.cells_mut.result.now c.make_part_primitive.new.cells) c.width-width.ensures.value c.make_part_primitive.ensures.part))
+    row_changed IsPrimitiveOf c.args.i c.part-part.result.at c.part-part.result.width c.cells_mut.result.now c.make_part_primitive.new.cells c.self.inside.rows c.args.self.now
+    (record { seen_as = c.self.view_is; below = c.requires; at = c.part-part.ensures.at; wide = c.part-part.ensures.width }) c.cells_mut.ensures.cells c.make_part_primitive.auto.cells c.make_part_primitive.ensures.part

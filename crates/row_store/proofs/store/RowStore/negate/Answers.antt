@@ -1,16 +1,11 @@
-use Rattle.std.specs.Prelude.{◌*◌, ℕ}
-use Rattle.std.proofs.Common.{arith, subst}
 use Rattle.row_core.specs.Range.{InRange}
-use Rattle.row_store.specs.Stores.{IsNegated, IsPartChanged}
+use Rattle.row_store.specs.Stores.{IsNegated}
 use Rattle.flat_rows.proofs.Flat.{All-cells}
-use Rattle.row_store.proofs.ChangedRows.{row_ends, row_changed, kept_cells}
+use Rattle.row_store.proofs.ChangedRows.{row_changed, kept_cells, part_within}
 use Rattle.row_store.proofs.store.RowStore.negate.Goals as goal
 
-pub overflow_mul-i : goal.overflow_mul-i
-overflow_mul-i c = omega (arith, (row_ends _ _ _ c.args.i c.self.view_is c.width-width.ensures.value c.requires).1, c.width-width.ensures.counted)
-
 pub negate_part-requires-clause-within : goal.negate_part-requires-clause-within
-negate_part-requires-clause-within c = omega (arith, (row_ends _ _ _ c.args.i c.self.view_is c.width-width.ensures.value c.requires).1, c.cells_mut.ensures.cells.taken)
+negate_part-requires-clause-within c = part_within c.cells_mut.result.now _ _ _ c.self.view_is c.cells_mut.ensures.cells c.part-part.ensures.within
 
 pub negate_part-requires-clause-in_range : goal.negate_part-requires-clause-in_range
 negate_part-requires-clause-in_range c = All-cells InRange c.self.inside.rows c.cells_mut.result.now c.cells_mut.ensures.cells c.self.invariant.in_range
@@ -20,5 +15,5 @@ invariant_of-self c = kept_cells c.cells_mut.result.now c.negate_part.new.cells 
 
 pub returns : goal.returns
 returns c =
-    rw (← c.self.view_is) (row_changed IsNegated c.args.i c.cells_mut.result.now c.negate_part.new.cells c.self.inside.rows c.cells_mut.ensures.cells (row_ends _ _ _ c.args.i c.self.view_is c.width-width.ensures.value c.requires).0 c.negate_part.auto.cells
-    (subst (λ (v : ℕ). IsPartChanged IsNegated (c.args.i * v) v c.cells_mut.result.now c.negate_part.new.cells) c.width-width.ensures.value c.negate_part.ensures.part))
+    row_changed IsNegated c.args.i c.part-part.result.at c.part-part.result.width c.cells_mut.result.now c.negate_part.new.cells c.self.inside.rows c.args.self.now
+    (record { seen_as = c.self.view_is; below = c.requires; at = c.part-part.ensures.at; wide = c.part-part.ensures.width }) c.cells_mut.ensures.cells c.negate_part.auto.cells c.negate_part.ensures.part
