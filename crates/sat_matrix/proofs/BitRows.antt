@@ -8,11 +8,12 @@ use Rattle.std.proofs.lemmas.List.Elements.{All-head, All-tail}
 use Rattle.std.proofs.lemmas.Bool.{cases_lt, cases_eq}
 use Rattle.sat_bits.specs.Places.{place, bit_in, IsSubsetOfAnd}
 use Rattle.sat_bits.proofs.PlaceLemmas.{places_and}
-use Rattle.sat_matrix.proofs.WordRows.{length-and_words}
+use Rattle.flat_rows.proofs.WordRows.{length-and_words}
 use Rattle.flat_rows.specs.Flat.{Flat, entries_at, HasOneWidth, marked}
 pub use Rattle.flat_rows.proofs.Marked.{marked-map, all_marked}
 use Rattle.sat_matrix.specs.Tables.{Table, bits_of, bit_at, conjunction, Covers}
-use Rattle.sat_matrix.specs.Words.{bits_in, and_words, IsPadded, IsTable, IsPlaceSet}
+use Rattle.flat_rows.specs.Words.{and_words}
+use Rattle.sat_matrix.specs.Words.{bits_in, IsPadded, IsTable, IsPlaceSet}
 
 pub length-conjunction : (xs ys : List Bool) → length xs ≡ length ys → length (conjunction xs ys) ≡ length xs
 length-conjunction [] ys e = refl

@@ -1,4 +1,3 @@
-pub mod WordRows
 pub mod BitRows
 pub mod Columns
 pub mod WrittenRows

@@ -9,6 +9,8 @@ use Rattle.sat_matrix.specs.Tables.{Table}
 use Rattle.sat_matrix.specs.Words.{AreWordsOf}
 use Rattle.sat_matrix.specs.Pairs.{index_at, AreRising}
 use Rattle.sat_matrix.specs.Near.{IsUnionOf, SharesWords, HasKept, IsNear}
+use Rattle.sat_matrix.specs.Levels.{IsNearAt}
+use Rattle.sat_matrix.specs.declared.narrowing.Level.{Level}
 use Rattle.sat_matrix.proofs.Unions.{union_shares}
 
 pub range_more : (n : ℕ) → range_with_len 0 (n + 1) ≡ range_with_len 0 n ++ n ∷ []
@@ -55,14 +57,6 @@ range_rises n = record {
     at : (i : ℕ) → i < n → index_at (range_with_len 0 n) i ≡ i
     at i inside = omega (arith, get_or-range_with_len 0 n i 0 inside)
 
--- the same positions, by the parts of a filter
-pub kept_along : (rows : List (List ℕ)) (u union a among : List ℕ) (l least start : ℕ) (old new : List ℕ) → u ≡ union → a ≡ among → l ≡ least → HasKept (SharesWords rows u a l) start (length a) old new → HasKept (SharesWords rows union among least) start (length among) old new
-kept_along rows u union a among l least start old new is_union is_among is_least h =
-    let P : List ℕ → Type 0 = λ x. HasKept (SharesWords rows x among least) start (length among) old new in
-    let Q : List ℕ → Type 0 = λ x. HasKept (SharesWords rows u x least) start (length x) old new in
-    let R : ℕ → Type 0 = λ x. HasKept (SharesWords rows u a x) start (length a) old new in
-    subst P is_union (subst Q is_among (subst R is_least h))
-
 module _ (table : Table) (outer among : List ℕ) (least from to start : ℕ) (list : List ℕ) (near : IsNear table outer among least from to start list) where
   -- what is near to a group is near to each part of it
   pub near_part : (first last : ℕ) → from ≤ first → last ≤ to → IsNear table outer among least first last start list
@@ -79,3 +73,16 @@ module _ (table : Table) (outer among : List ℕ) (least from to start : ℕ) (l
         kept.all q (near.all p q low below in_among shares)
         (union_shares table words are outer among from to least p q union is low below (outer_rises.within p (omega (arith, below, inside))) (among_rises.within q in_among) shares);
   }
+
+-- the lists of a level, for a part of its group
+pub level_part : (table : Table) (outer inner : List ℕ) (least from to : ℕ) (level : Level) (positions rays same_positions same_rays : List ℕ) → same_positions ≡ positions → same_rays ≡ rays → (first last : ℕ) → from ≤ first → last ≤ to → IsNearAt table outer inner least from to level positions rays → IsNearAt table outer inner least first last level same_positions same_rays
+level_part table outer inner least from to level positions rays same_positions same_rays e f first last low high h =
+    let P : List ℕ → Type 0 = λ list. IsNearAt table outer inner least first last level list same_rays in
+    let Q : List ℕ → Type 0 = λ list. IsNearAt table outer inner least first last level positions list in
+    subst P (sym e) (subst Q (sym f)
+    (record {
+      inner_start = h.inner_start;
+      rays_start = h.rays_start;
+      near = near_part table outer inner least from to level.inner positions h.near first last low high;
+      near_rays = λ whole. near_part table outer (range_with_len 0 (length table.rows)) least from to level.rays rays (h.near_rays whole) first last low high;
+    }))

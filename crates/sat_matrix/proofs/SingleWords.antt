@@ -2,12 +2,12 @@
 use Rattle.std.proofs.Common.{◌≡◌, ℕ, ◌+◌, ◌*◌, ◌^◌, ◌<◌, ◌≤◌, ◌⊎◌, inl, inr, List, length, get_or, drop, refl, sym, ap, ◌∙◌, arith}
 use Rattle.std.proofs.lemmas.Bool.{cases_lt}
 use Rattle.std.proofs.lemmas.List.{get_or_past, get_or-take, get_or-drop}
-use Rattle.sat_bits.specs.Places.{IsNoneMissing, AreCovered, IsSubsetOfAnd}
+use Rattle.sat_bits.specs.Places.{IsNoneMissing, AreCovered, IsSubsetOfAnd, IsThirdWord, HasThirdWord}
 use Rattle.sat_bits.proofs.PlaceLemmas.{covered_word_more, subset_from_words, none_in_word}
 use Rattle.flat_rows.specs.Flat.{Flat, entries_at, AreCells, HasOneWidth}
 use Rattle.flat_rows.proofs.Flat.{row_of_cells}
 use Rattle.sat_matrix.specs.Tables.{Table, HasThird, IsThird}
-use Rattle.sat_matrix.specs.Words.{IsTable, IsThirdWord, HasThirdWord, IsThirdRow, HasThirdRow}
+use Rattle.sat_matrix.specs.Words.{IsTable, IsThirdRow, HasThirdRow}
 use Rattle.sat_matrix.proofs.BitRows.{seen_bits, seen_in, covers_seen}
 
 -- the row is that word alone

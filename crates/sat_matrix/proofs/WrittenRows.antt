@@ -1,7 +1,7 @@
 -- A row that is written place by place.
 use Rattle.std.proofs.Common.{◌≡◌, ℕ, zero, suc, ◌+◌, ◌<◌, Bool, false, List, [], ◌∷◌, ◌++◌, length, get_or, set, take, drop, refl, sym, ap, ◌∙◌, arith}
 use Rattle.std.proofs.lemmas.List.{get_or-set_same, set-set}
-use Rattle.flat_rows.specs.Flat.{entries_at}
+use Rattle.flat_rows.proofs.LastRows.{set_last}
 use Rattle.sat_matrix.specs.Tables.{bits_of}
 
 -- one place more
@@ -26,19 +26,6 @@ written_more i c rows old new bit in_i is in_c wide value =
     ∙ ap (λ (b : Bool). set old i (set part c b)) (sym value)
     ∙ ap (λ (r : List Bool). set old i r) (written_at c new (bits_of old i) in_c wide)
     ∙ ap (λ (k : ℕ). written old i new k) (sym more)
-
-pub set_last : {X : Type 0} (xs : List X) (x y : X) → set (xs ++ x ∷ []) (length xs) y ≡ xs ++ y ∷ []
-set_last [] x y = refl
-set_last {X = X} (z ∷ xs) x y = ap (λ (ys : List X). z ∷ ys) (set_last xs x y)
-
--- the row that was appended
-pub last_row : {X : Type 0} (old rows : List (List X)) (x : List X) (n : ℕ) → rows ≡ old ++ x ∷ [] → n ≡ length old → entries_at rows n ≡ x
-last_row {X = X} old rows x n is at =
-    ap (λ (rs : List (List X)). entries_at rs n) is ∙ ap (λ (k : ℕ). entries_at (old ++ x ∷ []) k) at ∙ at_end old x
-  where
-    at_end : (xs : List (List X)) (x : List X) → entries_at (xs ++ x ∷ []) (length xs) ≡ x
-    at_end [] x = refl
-    at_end (z ∷ xs) x = at_end xs x
 
 pub last_written : (old rows new : List (List Bool)) (x y z : List Bool) (n : ℕ) → rows ≡ old ++ x ∷ [] → n ≡ length old → new ≡ set rows n y → y ≡ z → new ≡ old ++ z ∷ []
 last_written old rows new x y z n is at wrote same =

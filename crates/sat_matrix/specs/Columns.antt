@@ -8,7 +8,8 @@ pub record IsColumnMarked (column : ℕ) (IsNamed : ℕ → Type 0) (old new : T
   pub spare : new.spare ≡ old.spare
   pub count : length new.rows ≡ length old.rows
   pub wide : (i : ℕ) → length (bits_of new.rows i) ≡ length (bits_of old.rows i)
-  pub marked : (i : ℕ) → IsTrue (bit_at new.rows i column) ↔ (IsTrue (bit_at old.rows i column) ⊎ IsNamed i)
+  pub marked : (i : ℕ) →
+      IsTrue (bit_at new.rows i column) ↔ (IsTrue (bit_at old.rows i column) ⊎ IsNamed i)
   pub others : (i j : ℕ) → j ≢ column → bit_at new.rows i j ≡ bit_at old.rows i j
 
 -- place i is a bit of the word at the index, and the bit is set

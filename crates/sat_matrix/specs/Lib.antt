@@ -10,5 +10,6 @@ pub mod Near
 pub mod Levels
 pub mod Ranking
 pub mod SearchStates
+pub mod NearStates
 pub mod Filters
 pub mod TableSteps

@@ -9,7 +9,8 @@ use Rattle.sat_matrix.specs.Pairs.{index_at, AreRising}
 -- the numbers of a list from an index on rise, and are below the bound
 pub record AreRisingFrom (start bound : ℕ) (list : List ℕ) : Type 0 where
   pub within : (i : ℕ) → start ≤ i → i < length list → index_at list i < bound
-  pub increasing : (i j : ℕ) → start ≤ i → i < j → j < length list → index_at list i < index_at list j
+  pub increasing : (i j : ℕ) → start ≤ i → i < j → j < length list →
+      index_at list i < index_at list j
 
 -- the number is in the list, at an index or behind it
 abbrev pub IsFrom : List ℕ → ℕ → ℕ → Type 0
@@ -21,13 +22,15 @@ pub record HasKept (holds : ℕ → Type 0) (start bound : ℕ) (old new : List 
   pub rising : AreRisingFrom (length old) bound new
   pub all : (number : ℕ) → IsFrom old start number → holds number → IsFrom new (length old) number
 
--- the row of words is true wherever a row of words is that the list names from one position up to another
+-- a row of words is true wherever a row is that the list names from one position up to another
 abbrev pub IsUnionOf : List (List ℕ) → List ℕ → ℕ → ℕ → List ℕ → Type 0
-IsUnionOf rows outer from to union = (p c : ℕ) → from ≤ p → p < to → IsTrue (place (entries_at rows (index_at outer p)) c) → IsTrue (place union c)
+IsUnionOf rows outer from to union = (p c : ℕ) → from ≤ p → p < to →
+    IsTrue (place (entries_at rows (index_at outer p)) c) → IsTrue (place union c)
 
--- the row of words that the list names at position q shares at least so many true places with another
+-- the row that the list names at position q shares at least so many true places with another
 abbrev pub SharesWords : List (List ℕ) → List ℕ → List ℕ → ℕ → ℕ → Type 0
-SharesWords rows union among least q = least ≤ shared_places (entries_at rows (index_at among q)) union
+SharesWords rows union among least q =
+    least ≤ shared_places (entries_at rows (index_at among q)) union
 
 -- what a search for adjacent pairs relies on: counts decide, and both sides rise
 pub record IsSearch (table : Table) (outer inner : List ℕ) (least : ℕ) : Type 0 where
@@ -35,7 +38,9 @@ pub record IsSearch (table : Table) (outer inner : List ℕ) (least : ℕ) : Typ
   pub outer_rises : AreRising (length table.rows) outer
   pub inner_rises : AreRising (length table.rows) inner
 
--- of the positions of a list of rays, a list has from an index on, in order, each at which there is a ray that shares the least number of zeros with an outer ray from one position up to another
-pub record IsNear (table : Table) (outer among : List ℕ) (least from to start : ℕ) (list : List ℕ) : Type 0 where
+-- from an index on a list has, in order, the positions of rays near to an outer ray of a group
+pub record IsNear (table : Table) (outer among : List ℕ) (least from to start : ℕ)
+    (list : List ℕ) : Type 0 where
   pub rising : AreRisingFrom start (length among) list
-  pub all : (p q : ℕ) → from ≤ p → p < to → q < length among → Shares table.rows (index_at outer p) among least q → IsFrom list start q
+  pub all : (p q : ℕ) → from ≤ p → p < to → q < length among →
+      Shares table.rows (index_at outer p) among least q → IsFrom list start q

@@ -1,10 +1,11 @@
-use Rattle.std.specs.Prelude.{◌≡◌, ◌≢◌, ℕ, ◌<◌, ◌⊎◌, Bool, true, List, length, ℤ, pos, int_lt, slice_index_or, Contains}
+use Rattle.std.specs.Prelude.{◌≡◌, ◌≢◌, ℕ, ◌<◌, ◌⊎◌, Bool, true, List, length, ℤ, pos, int_lt}
+use Rattle.std.specs.Prelude.{slice_index_or, Contains}
 use Rattle.row_core.specs.Pairs.{value_at, pair_at, IsPairAt}
 use Rattle.sat_matrix.specs.Tables.{Table, HasThird}
 use Rattle.sat_matrix.specs.declared.adjacency.Side.{Side}
 use Rattle.sat_matrix.specs.declared.adjacency.Side.TheVariants.{Above, Below}
 
--- the first ray is above and the second below 0, and no third row of the table is true wherever theirs are
+-- the first ray is above and the second below 0, and no third row is true wherever theirs are
 pub record IsCross (values : List ℤ) (table : Table) (p n : ℕ) : Type 0 where
   pub pair : IsPairAt values p n
   pub no_third : ¬ (HasThird table p n)
@@ -32,7 +33,8 @@ pub record AreRising (bound : ℕ) (indices : List ℕ) : Type 0 where
 pub record AreOn (side : Side) (values : List ℤ) (bound : ℕ) (indices : List ℕ) : Type 0 where
   pub rising : AreRising bound indices
   pub on : (q : ℕ) → q < length indices → is_on side (value_at values (index_at indices q)) ≡ true
-  pub all : (n : ℕ) → n < bound → is_on side (value_at values n) ≡ true → (q : ℕ) × (q < length indices) × (index_at indices q ≡ n)
+  pub all : (n : ℕ) → n < bound → is_on side (value_at values n) ≡ true →
+      (q : ℕ) × (q < length indices) × (index_at indices q ≡ n)
 
 -- no third row of the table is true wherever those of the pair are
 abbrev pub IsAdjacent : Table → ℕ × ℕ → Type 0
@@ -47,7 +49,8 @@ abbrev pub IsBefore : ℕ → ℕ → ℕ → ℕ → Type 0
 IsBefore bound next p q = (p < bound) ⊎ ((p ≡ bound) × (q < next))
 
 -- the pair is adjacent, and at positions before the bound and next
-pub record IsFoundAt (side : Side) (table : Table) (outer inner : List ℕ) (bound next : ℕ) (pair : ℕ × ℕ) : Type 0 where
+pub record IsFoundAt (side : Side) (table : Table) (outer inner : List ℕ) (bound next : ℕ)
+    (pair : ℕ × ℕ) : Type 0 where
   pub p : ℕ
   pub q : ℕ
   pub first : p < length outer
@@ -57,17 +60,26 @@ pub record IsFoundAt (side : Side) (table : Table) (outer inner : List ℕ) (bou
   pub adjacent : IsAdjacent table pair
 
 -- the adjacent pairs at positions before the bound and next, each once
-pub record AreFound (side : Side) (table : Table) (outer inner : List ℕ) (bound next : ℕ) (pairs : List (ℕ × ℕ)) : Type 0 where
-  pub each : (i : ℕ) → i < length pairs → IsFoundAt side table outer inner bound next (pair_at pairs i)
-  pub all : (p q : ℕ) → p < length outer → q < length inner → IsBefore bound next p q → IsAdjacent table (pair_of side outer inner p q) → Contains pairs (pair_of side outer inner p q)
-  pub distinct : (i j : ℕ) → i < length pairs → j < length pairs → i ≢ j → pair_at pairs i ≢ pair_at pairs j
+pub record AreFound (side : Side) (table : Table) (outer inner : List ℕ) (bound next : ℕ)
+    (pairs : List (ℕ × ℕ)) : Type 0 where
+  pub each : (i : ℕ) → i < length pairs →
+      IsFoundAt side table outer inner bound next (pair_at pairs i)
+  pub all : (p q : ℕ) → p < length outer → q < length inner → IsBefore bound next p q →
+      IsAdjacent table (pair_of side outer inner p q) →
+      Contains pairs (pair_of side outer inner p q)
+  pub distinct : (i j : ℕ) → i < length pairs → j < length pairs → i ≢ j →
+      pair_at pairs i ≢ pair_at pairs j
 
 -- all adjacent pairs of the two sides, found with either of them in the outer loop
 abbrev pub AreAllFound : Table → List ℕ → List ℕ → List (ℕ × ℕ) → Type 0
-AreAllFound table above below pairs = AreFound Above table above below (length above) 0 pairs ⊎ AreFound Below table below above (length below) 0 pairs
+AreAllFound table above below pairs =
+    AreFound Above table above below (length above) 0 pairs
+    ⊎ AreFound Below table below above (length below) 0 pairs
 
 -- all pairs that cross, each once
 pub record AreAllCrosses (values : List ℤ) (table : Table) (pairs : List (ℕ × ℕ)) : Type 0 where
-  pub each : (i : ℕ) → i < length pairs → IsCross values table (pair_at pairs i).0 (pair_at pairs i).1
+  pub each : (i : ℕ) → i < length pairs →
+      IsCross values table (pair_at pairs i).0 (pair_at pairs i).1
   pub all : (p n : ℕ) → IsCross values table p n → Contains pairs (p, n)
-  pub distinct : (i j : ℕ) → i < length pairs → j < length pairs → i ≢ j → pair_at pairs i ≢ pair_at pairs j
+  pub distinct : (i j : ℕ) → i < length pairs → j < length pairs → i ≢ j →
+      pair_at pairs i ≢ pair_at pairs j

@@ -1,7 +1,8 @@
-use Rattle.std.specs.Prelude.{◌≡◌, ◌≢◌, ℕ, ◌<◌, Bool, false, ◌&&◌, List, [], ◌∷◌, length, map, IsTrue, slice_index_or}
+use Rattle.std.specs.Prelude.{◌≡◌, ◌≢◌, ℕ, ◌<◌, Bool, false, ◌&&◌, List, [], ◌∷◌, length, map}
+use Rattle.std.specs.Prelude.{IsTrue, slice_index_or}
 use Rattle.std.specs.List.{range_with_len}
 
--- rows of truth values with a place for each column, and how many rows can be appended without memory
+-- rows with a truth value for each column, and how many rows can be appended without memory
 pub record Table : Type 0 where
   pub columns : ℕ
   pub rows : List (List Bool)
@@ -23,11 +24,15 @@ conjunction (x ∷ xs) (y ∷ ys) = (x && y) ∷ conjunction xs ys
 
 -- the columns of a table as rows
 abbrev pub transposed : ℕ → List (List Bool) → List (List Bool)
-transposed columns rows = map (λ j. map (λ row. slice_index_or row j false) rows) (range_with_len 0 columns)
+transposed columns rows =
+    map (λ j. map (λ row. slice_index_or row j false) rows) (range_with_len 0 columns)
 
 -- the third list is true wherever the first and the second both are
 abbrev pub Covers : List Bool → List Bool → List Bool → Type 0
-Covers first second third = (c : ℕ) → c < length first → IsTrue (slice_index_or first c false) → IsTrue (slice_index_or second c false) → IsTrue (slice_index_or third c false)
+Covers first second third = (c : ℕ) → c < length first →
+    IsTrue (slice_index_or first c false) →
+    IsTrue (slice_index_or second c false) →
+    IsTrue (slice_index_or third c false)
 
 -- row k is another row than i and j, and is true at each column at which both are true
 pub record IsThird (table : Table) (i j k : ℕ) : Type 0 where
@@ -42,4 +47,5 @@ HasThird table i j = (k : ℕ) × IsThird table i j k
 
 -- each row has a place for each column
 abbrev pub IsRectangular : Table → Type 0
-IsRectangular table = (i : ℕ) → i < length table.rows → length (bits_of table.rows i) ≡ table.columns
+IsRectangular table = (i : ℕ) → i < length table.rows →
+    length (bits_of table.rows i) ≡ table.columns

@@ -1,14 +1,9 @@
-use Rattle.std.specs.Prelude.{◌≡◌, ◌≢◌, ℕ, ◌*◌, ◌^◌, ◌<◌, ◌≤◌, Bool, false, List, [], ◌∷◌, All, map, length, slice_index_or, bit_and}
+use Rattle.std.specs.Prelude.{◌≡◌, ◌≢◌, ℕ, ◌*◌, ◌^◌, ◌<◌, ◌≤◌, Bool, false, List, [], ◌∷◌, All, map}
+use Rattle.std.specs.Prelude.{length, slice_index_or}
 use Rattle.std.specs.List.{range_with_len}
-use Rattle.sat_bits.specs.Places.{place, IsNoneMissing, IsSubsetOfAnd}
+use Rattle.sat_bits.specs.Places.{place, IsSubsetOfAnd}
 use Rattle.sat_matrix.specs.Tables.{Table}
 use Rattle.flat_rows.specs.Flat.{Flat, HasOneWidth, entries_at}
-
--- the conjunctions of two rows, word by word
-abbrev pub and_words : List ℕ → List ℕ → List ℕ
-and_words [] ys = []
-and_words (x ∷ xs) [] = []
-and_words (x ∷ xs) (y ∷ ys) = bit_and x y ∷ and_words xs ys
 
 -- the second row differs from the first at one place alone
 pub record IsPlaceSet (i : ℕ) (bit : Bool) (old new : List ℕ) : Type 0 where
@@ -34,25 +29,19 @@ pub record AreWordsOf (table : Table) (words : Flat ℕ) : Type 0 where
   pub fits : table.columns < 2 ^ 64
   pub laid : IsTable table.columns words
   pub wide : HasOneWidth words
-  pub seen : record { columns = table.columns; rows = map (bits_in table.columns) words.rows; spare = words.spare } ≡ table
-
--- word k is at another place than i and j, and has each bit that both of these have
-pub record IsThirdWord (words : List ℕ) (i j k : ℕ) : Type 0 where
-  pub inside : k < length words
-  pub not_first : k ≢ i
-  pub not_second : k ≢ j
-  pub covers : IsNoneMissing (slice_index_or words i 0) (slice_index_or words j 0) (slice_index_or words k 0)
-
--- some word at another place than i and j has each bit that both of these have
-abbrev pub HasThirdWord : List ℕ → ℕ → ℕ → Type 0
-HasThirdWord words i j = (k : ℕ) × IsThirdWord words i j k
+  pub seen : record {
+    columns = table.columns;
+    rows = map (bits_in table.columns) words.rows;
+    spare = words.spare;
+  } ≡ table
 
 -- row k is another row than i and j, and has each bit that both have
 pub record IsThirdRow (words : Flat ℕ) (i j k : ℕ) : Type 0 where
   pub row : k < length words.rows
   pub not_first : k ≢ i
   pub not_second : k ≢ j
-  pub covers : IsSubsetOfAnd (entries_at words.rows i) (entries_at words.rows j) (entries_at words.rows k)
+  pub covers :
+      IsSubsetOfAnd (entries_at words.rows i) (entries_at words.rows j) (entries_at words.rows k)
 
 -- some row other than i and j has each bit that both have
 abbrev pub HasThirdRow : Flat ℕ → ℕ → ℕ → Type 0

@@ -1,8 +1,9 @@
 //! The search of the pairs of adjacent rays on two sides of a row.
-ghost use Rattle.std.specs.Prelude.{◌≡◌, ℕ, ◌+◌, ◌-◌, ◌<◌, [], length, All, ◌↔◌, IsTrue, IfOk, OnOk};
+ghost use Rattle.std.specs.Prelude.{◌≡◌, ◌+◌, ◌-◌, ◌<◌, [], length, All, ◌↔◌, IsTrue, IfOk, OnOk};
 ghost use Rattle.row_core.specs.Range.{InRange};
 ghost use Rattle.sat_matrix.specs.Tables.{HasThird};
-ghost use Rattle.sat_matrix.specs.Pairs.{AreAllCrosses, AreRising, AreOn, AreAllFound, is_on, pair_on};
+ghost use Rattle.sat_matrix.specs.Pairs.{AreAllCrosses, AreRising, AreOn, AreAllFound, is_on};
+ghost use Rattle.sat_matrix.specs.Pairs.{pair_on};
 ghost use Rattle.sat_matrix.specs.CountTests.{CountsDecide, OneMoreDecides};
 ghost use Rattle.sat_matrix.specs.SearchStates.{IsReady, HasFound, HasThirdAt};
 
@@ -80,8 +81,9 @@ impl Side {
     }
 }
 
-/// The least number of rows of the system that two adjacent rays are both 0 on: with fewer, the vectors
-/// that are 0 on them have more dimensions than the lines and two rays span (H. Le Verge, 1992).
+/// The least number of rows of the system that two adjacent rays are both 0 on: with fewer, the
+/// vectors that are 0 on them have more dimensions than the lines and two rays span (H. Le Verge,
+/// 1992).
 pub fn least_shared(width: usize, lines: usize) -> usize
     ensures { result ≡ width - (lines + 2) }
 {
@@ -135,8 +137,7 @@ fn indices_on(
     Ok(indices)
 }
 
-/// Whether two rays are adjacent: no third ray is 0 wherever both are. The numbers of their zeros
-/// decide many pairs: with one more in either than they share there is none.
+/// Whether no third ray is 0 wherever two are; the numbers of their zeros decide many pairs.
 fn adjacent(zeros: &SatMatrix, first: usize, second: usize) -> bool
     requires first { first < length zeros.now.rows }
     requires second { second < length zeros.now.rows }
@@ -150,8 +151,8 @@ fn adjacent(zeros: &SatMatrix, first: usize, second: usize) -> bool
     !zeros.third_between(first, second)
 }
 
-/// A search of adjacent pairs: a side, whose rays the outer loop goes through, and those of the other in
-/// the inner; the zeros of all rays, and the least number that adjacent rays share.
+/// A search of adjacent pairs: a side, whose rays the outer loop goes through, and those of the
+/// other in the inner; the zeros of all rays, and the least number that adjacent rays share.
 #[derive(Drop)]
 pub(crate) struct Search<'a> {
     pub(crate) side: Side,
@@ -175,7 +176,7 @@ impl Search<'_> {
         self.outer.len() > 1 && self.words_of(pairs) >= MANY_PAIR_WORDS
     }
 
-    /// Whether to look for third rays among near ones: there are many, with crowded ones on both sides.
+    /// Whether to look for third rays among near ones: of many, some on both sides are crowded.
     pub(crate) fn needs_thirds(&self) -> bool
         requires { IsReady self.now }
     {
@@ -216,15 +217,15 @@ impl Search<'_> {
         requires before { HasFound self.now position next pairs.old.items }
         ensures { OnOk result (HasFound self.now position (next + 1) pairs.new.items) }
     {
-        prove!(self.zeros.columns() == self.zeros.columns());
+        let _columns = self.zeros.columns();
         if adjacent {
             pairs.push(self.side.pair(self.outer[position], self.inner[next]))?;
         }
         Ok(())
     }
 
-    /// Appends the pairs of the ray at a position of the outer side with each adjacent ray of the inner:
-    /// of those that share the least number of zeros with it, since there is a third ray between others.
+    /// Appends the pairs of the outer ray at a position with each adjacent ray of the inner side:
+    /// of those that share the least number of zeros with it; others have a third ray between.
     fn push_pairs(&self, pairs: &mut Vec<(usize, usize)>, position: usize) -> Result<(), AllocError>
         requires search { IsReady self.now }
         requires position { position < length self.now.outer.now }
@@ -254,6 +255,19 @@ impl Search<'_> {
         }
         Ok(())
     }
+
+    /// Appends the pairs of adjacent rays.
+    fn push_all(&self, near: &mut Near, pairs: &mut Vec<(usize, usize)>) -> Result<(), AllocError>
+        requires search { IsReady self.now }
+        requires none { pairs.old.items ≡ [] }
+        ensures { let rays = length self.now.outer.now in
+            OnOk result (HasFound self.now rays 0 pairs.new.items) }
+    {
+        if self.has_many_pairs() {
+            return push_narrowed(self, near, pairs);
+        }
+        self.push_one_by_one(pairs)
+    }
 }
 
 /// The pairs of adjacent rays of a search.
@@ -267,11 +281,7 @@ fn pairs_from(
         IfOk result (λ v. HasFound search.now rays 0 v.items) }
 {
     let mut pairs = emptied(alloc, &mut lists.pairs, 0)?;
-    if search.has_many_pairs() {
-        push_narrowed(search, &mut lists.near, &mut pairs)?;
-    } else {
-        search.push_one_by_one(&mut pairs)?;
-    }
+    search.push_all(&mut lists.near, &mut pairs)?;
     Ok(pairs)
 }
 

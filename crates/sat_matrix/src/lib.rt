@@ -1,9 +1,9 @@
 //! Tables of truth values, with a row for each ray and a column for each constraint.
 //!
 //! - [`SatMatrix`] keeps the rows as bits, and is appended to without memory once it is reserved.
-//! - [`crossings`] gives the pairs of adjacent rays on the two sides of a row, with what [`least_shared`]
-//!   tells of them; [`PairLists`] keeps its lists, and [`expected_looks`] tells how much work it is.
-//! - [`mark_zeros`], [`after_line_step`] and [`after_ray_step`] bring the table up to date with a row.
+//! - [`crossings`] gives the pairs of adjacent rays on the two sides of a row, by what
+//!   [`least_shared`] tells; [`PairLists`] keeps its lists, [`expected_looks`] says how much work.
+//! - [`mark_zeros`], [`after_line_step`] and [`after_ray_step`] bring the table up to date.
 #![tactic(auto)]
 
 mod adjacency;
@@ -12,7 +12,6 @@ mod matrix;
 mod narrowing;
 mod ranking;
 mod searches;
-mod words;
 mod zeros;
 
 pub use adjacency::{PairLists, crossings, least_shared};

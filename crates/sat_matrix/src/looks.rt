@@ -13,7 +13,7 @@ const SAMPLE: usize = 256;
 /// Of how many rays a search for a third one is expected to see one.
 const SEEN: u64 = 32;
 
-/// The rays on one side of a row, and about how many of them are 0 on more rows than rays of a simple cone.
+/// The rays on one side of a row, and about how many of them are crowded.
 #[derive(Clone, Copy)]
 struct RayCount {
     rays: u64,
@@ -33,8 +33,8 @@ impl RayCount {
     }
 }
 
-/// Whether a ray is 0 on more rows than rays of a simple cone: only between two of these a third ray is
-/// looked for.
+/// Whether a ray is 0 on more rows than rays of a simple cone: only between two of these a third
+/// ray is looked for.
 pub(crate) fn is_crowded(zeros: &SatMatrix, ray: usize, least: usize) -> bool
     requires { ray < length zeros.now.rows }
 {
@@ -60,10 +60,8 @@ pub(crate) fn has_crowded(
     false
 }
 
-/// How many rays the search for adjacent pairs is expected to look at, from the values of the rays on the
-/// row: one for each pair of a ray above the row and one below it, and part of all rays for each such pair
-/// of which both are 0 on more than one row above the least number, since only for those a third ray is
-/// looked for.
+/// How many rays the search for adjacent pairs is expected to look at: one for each pair of a ray
+/// above the row and one below it, and part of all rays for each such pair of crowded ones.
 pub fn expected_looks(values: &[i128], zeros: &SatMatrix, least: usize) -> u64
     requires { length values.now ≡ length zeros.now.rows }
 {

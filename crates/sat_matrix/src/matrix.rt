@@ -1,22 +1,24 @@
 //! The table.
-ghost use Rattle.std.specs.Prelude.{◌≡◌, ℕ, ◌+◌, ◌<◌, ◌≤◌, ◌↔◌, List, [], ◌∷◌, ◌++◌, length, map, max, replicate, Bool, true, false, ◌-◌, slice_set, IsTrue, OnOk, OnErr, IfOk, slice_index_or};
+ghost use Rattle.std.specs.Prelude.{◌≡◌, ℕ, ◌+◌, ◌<◌, ◌≤◌, ◌↔◌, List, [], ◌∷◌, ◌++◌, length, map};
+ghost use Rattle.std.specs.Prelude.{max, replicate, Bool, true, false, ◌-◌, slice_set, IsTrue};
+ghost use Rattle.std.specs.Prelude.{OnOk, OnErr, IfOk, slice_index_or};
 ghost use Rattle.flat_rows.specs.Flat.{marked};
 ghost use Rattle.sat_bits.specs.Places.{place};
 ghost use Rattle.sat_matrix.specs.Columns.{IsBitOf, IsColumnMarked};
-ghost use Rattle.sat_matrix.specs.Tables.{Table, bits_of, bit_at, conjunction, transposed, Covers, HasThird, IsRectangular};
+ghost use Rattle.sat_matrix.specs.Tables.{Table, bits_of, bit_at, conjunction, transposed, Covers};
+ghost use Rattle.sat_matrix.specs.Tables.{HasThird, IsRectangular};
 ghost use Rattle.sat_matrix.specs.Counts.{ones};
 ghost use Rattle.sat_matrix.specs.Words.{bits_in, AreWordsOf, IsTable};
 ghost use Rattle.sat_matrix.specs.Searches.{IsFirstFrom, Shares};
 
 use crate::searches::{has_third_row, next_sharing};
-use crate::words::{push_and, widened};
-use flat_rows::FlatRows;
+use flat_rows::{FlatRows, push_and, widened};
 use row_core::Memory;
 use sat_bits::{count, count_and, get, is_subset_of_and, with_bit};
 use std::alloc::{AllocError, Global};
 use std::marker::Model;
 
-/// Rows of truth values of one width, 64 in each word. Past the columns each place of a row is false.
+/// Rows of truth values of one width, 64 in each word; past the columns each place is false.
 #[derive(Debug)]
 pub struct SatMatrix {
     alloc: Global,
@@ -24,7 +26,7 @@ pub struct SatMatrix {
     words: FlatRows<u64>,
 }
 
-// Written by hand, so that a function that drops a table calls this one, and doesn't free each part itself.
+// Written by hand, so that a function that drops a table calls this one.
 impl Drop for SatMatrix {
     fn drop(self) {
         let SatMatrix {
@@ -38,7 +40,11 @@ impl Drop for SatMatrix {
 impl Model for SatMatrix {
     ghost Value = { Table };
 
-    ghost view = { λ m. record { columns = m.columns; rows = map (bits_in m.columns) m.words.rows; spare = m.words.spare } };
+    ghost view = { λ m. record {
+      columns = m.columns;
+      rows = map (bits_in m.columns) m.words.rows;
+      spare = m.words.spare;
+    } };
 
     ghost invariant = { λ m. IsTable m.columns m.words };
 }
@@ -89,7 +95,10 @@ impl SatMatrix {
     pub fn set(&mut self, row: usize, column: usize, bit: bool)
         requires row { row < length self.old.rows }
         requires column { column < self.old.columns }
-        ensures { self.new ≡ record self.old { rows = slice_set self.old.rows row (slice_set (bits_of self.old.rows row) column bit) } }
+        ensures { self.new ≡ record self.old {
+          rows = slice_set self.old.rows row
+              (slice_set (bits_of self.old.rows row) column bit);
+        } }
     {
         let word = self.words.row(row)[column / 64];
         self.words.put(row, column / 64, with_bit(word, (column % 64) as u32, bit));
@@ -120,7 +129,9 @@ impl SatMatrix {
     // Makes all places of a row true.
     fn fill_row(&mut self, row: usize)
         requires { row < length self.old.rows }
-        ensures { self.new ≡ record self.old { rows = slice_set self.old.rows row (replicate self.old.columns true) } }
+        ensures { self.new ≡ record self.old {
+          rows = slice_set self.old.rows row (replicate self.old.columns true);
+        } }
     {
         for column in 0..self.columns() {
             self.set(row, column, true);
@@ -143,7 +154,8 @@ impl SatMatrix {
         requires first { i < length self.old.rows }
         requires second { j < length self.old.rows }
         ensures columns { self.new.columns ≡ self.old.columns }
-        ensures rows { self.new.rows ≡ self.old.rows ++ conjunction (bits_of self.old.rows i) (bits_of self.old.rows j) ∷ [] }
+        ensures rows { self.new.rows ≡
+            self.old.rows ++ conjunction (bits_of self.old.rows i) (bits_of self.old.rows j) ∷ [] }
         ensures spare { self.new.spare + 1 ≡ self.old.spare }
     {
         push_and(&mut self.words, i, j);
@@ -164,7 +176,11 @@ impl SatMatrix {
     /// Appends a column of false. Afterwards nothing is reserved. After want of memory the table is
     /// as before.
     pub fn add_column(&mut self) -> Result<(), Memory>
-        ensures ok { OnOk result (self.new ≡ record { columns = self.old.columns + 1; rows = map (λ row. row ++ false ∷ []) self.old.rows; spare = 0 }) }
+        ensures ok { OnOk result (self.new ≡ record {
+          columns = self.old.columns + 1;
+          rows = map (λ row. row ++ false ∷ []) self.old.rows;
+          spare = 0;
+        }) }
         ensures err { OnErr result (self.new ≡ self.old) }
     {
         if self.columns == usize::MAX {
@@ -193,7 +209,11 @@ impl SatMatrix {
 
     /// Returns the table whose rows are the columns of this one, with nothing reserved.
     pub fn transpose(&self) -> Result<SatMatrix, Memory>
-        ensures { IfOk result (λ turned. turned ≡ record { columns = length self.now.rows; rows = transposed self.now.columns self.now.rows; spare = 0 }) }
+        ensures { IfOk result (λ turned. turned ≡ record {
+          columns = length self.now.rows;
+          rows = transposed self.now.columns self.now.rows;
+          spare = 0;
+        }) }
     {
         let mut turned = all_false(self.alloc, self.len(), self.columns())?;
         for row in 0..self.len() {
@@ -259,8 +279,7 @@ impl SatMatrix {
         count_and(self.words.row(i), self.words.row(j))
     }
 
-    /// Whether some row other than `i` and `j` is true at each column at which rows `i` and `j` both
-    /// are.
+    /// Whether some row other than `i` and `j` is true at each column at which both are.
     pub fn third_between(&self, i: usize, j: usize) -> bool
         requires first { i < length self.now.rows }
         requires second { j < length self.now.rows }
@@ -269,13 +288,15 @@ impl SatMatrix {
         has_third_row(&self.words, i, j)
     }
 
-    /// The first position from `from` on at which the list names a row that shares at least `least` true places
-    /// with row `i`, or the list's length where there is none.
+    /// The first position from `from` on at which the list names a row that shares at least `least`
+    /// true places with row `i`, or the list's length where there is none.
     pub fn next_sharing(&self, i: usize, among: &[usize], from: usize, least: usize) -> usize
         requires row { i < length self.now.rows }
-        requires among { (q : ℕ) → q < length among.now → slice_index_or among.now q 0 < length self.now.rows }
+        requires among { (q : ℕ) → q < length among.now →
+            slice_index_or among.now q 0 < length self.now.rows }
         requires from { from ≤ length among.now }
-        ensures { IsFirstFrom (Shares self.now.rows i among.now least) from (length among.now) result }
+        ensures { IsFirstFrom (Shares self.now.rows i among.now least) from
+            (length among.now) result }
     {
         let _columns = self.columns();
         let _width = self.words.width();
@@ -288,7 +309,8 @@ impl SatMatrix {
         requires first { i < length self.now.rows }
         requires second { j < length self.now.rows }
         requires third { k < length self.now.rows }
-        ensures { IsTrue result ↔ Covers (bits_of self.now.rows i) (bits_of self.now.rows j) (bits_of self.now.rows k) }
+        ensures { IsTrue result ↔
+            Covers (bits_of self.now.rows i) (bits_of self.now.rows j) (bits_of self.now.rows k) }
     {
         is_subset_of_and(self.words.row(i), self.words.row(j), self.words.row(k))
     }

@@ -1,15 +1,15 @@
-//! The search of adjacent pairs among many rays, by lists of near rays that narrow from a group of
-//! outer rays to each part of it.
+//! The search of adjacent pairs among many rays, by lists of near rays that narrow with groups.
 ghost use Rattle.std.specs.Prelude.{◌≡◌, ℕ, ◌+◌, ◌<◌, ◌≤◌, [], IsTrue, length, take, IfOk, OnOk};
 ghost use Rattle.std.specs.List.{range_with_len};
 ghost use Rattle.sat_matrix.specs.Near.{IsNear};
 ghost use Rattle.sat_matrix.specs.Levels.{HasAll};
 ghost use Rattle.sat_matrix.specs.SearchStates.{IsReady, HasFound, AreNear};
+ghost use Rattle.sat_matrix.specs.NearStates.{AreKept, IsBegun};
 
 use crate::adjacency::Search;
 use crate::looks::has_crowded;
 use crate::ranking::{NearRay, is_adjacent_near};
-use crate::searches::{Filter, push_sharing, unite};
+use crate::searches::{push_sharing, unite};
 use std::alloc::{AllocError, Global};
 
 /// Into so many parts a group of outer rays is taken apart at most.
@@ -22,6 +22,17 @@ pub(crate) struct Level {
     rays: usize,
     /// Whether the rays near to the group are listed too: among these third rays are looked for.
     whole: bool,
+}
+
+impl Level {
+    // Whether third rays for a part of the group are looked for among near rays.
+    fn is_whole_at(self, search: &Search, from: usize, to: usize) -> bool
+        requires search { IsReady search.now }
+        requires to { to ≤ length search.now.outer.now }
+        ensures { IsTrue result → IsTrue self.whole }
+    {
+        self.whole && has_crowded(search.zeros, search.outer, from, to, search.least)
+    }
 }
 
 /// The rays that share enough zeros with a group of outer rays together.
@@ -83,34 +94,73 @@ impl Near {
         requires to { (from ≤ to) × (to ≤ length search.now.outer.now) }
         requires all { HasAll search.now.zeros.now level self.old.all.items }
         requires near { AreNear search.now from to level self.old.inner.items self.old.rays.items }
-        ensures all { OnOk result (self.new.all.items ≡ self.old.all.items) }
+        ensures begun { IfOk result (λ next. IsBegun next self.old self.new) }
         ensures listed { IfOk result (λ next. HasAll search.now.zeros.now next self.new.all.items) }
-        ensures inner { IfOk result (λ next.
-            take next.inner self.new.inner.items ≡ self.old.inner.items) }
-        ensures rays { IfOk result (λ next.
-            take next.rays self.new.rays.items ≡ self.old.rays.items) }
         ensures near { IfOk result (λ next.
             AreNear search.now from to next self.new.inner.items self.new.rays.items) }
     {
-        let (zeros, least) = (search.zeros, search.least);
+        let least = search.least;
         let next = Level {
             inner: self.inner.len(),
             rays: self.rays.len(),
-            whole: level.whole && has_crowded(zeros, search.outer, from, to, least),
+            whole: level.is_whole_at(search, from, to),
         };
-        let rows = zeros.words();
+        let rows = search.zeros.words();
         unite(rows, search.outer, from, to, &mut self.union)?;
-        let filter = Filter::new(&self.union, search.inner, least);
-        push_sharing(rows, &filter, &mut self.inner, level.inner)?;
+        push_sharing(
+            rows,
+            &self.union,
+            search.inner,
+            least,
+            &mut self.inner,
+            level.inner,
+        )?;
         if next.whole {
-            let filter = Filter::new(&self.union, &self.all, least);
-            push_sharing(rows, &filter, &mut self.rays, level.rays)?;
+            push_sharing(
+                rows,
+                &self.union,
+                &self.all,
+                least,
+                &mut self.rays,
+                level.rays,
+            )?;
         }
         Ok(next)
     }
 
-    // Appends the pairs of the outer ray at a position with each adjacent ray near to it, where all
-    // near rays are listed.
+    // Takes the lists of a level off.
+    fn leave(&mut self, level: Level)
+        ensures all { self.new.all.items ≡ self.old.all.items }
+        ensures inner { self.new.inner.items ≡ take level.inner self.old.inner.items }
+        ensures rays { self.new.rays.items ≡ take level.rays self.old.rays.items }
+    {
+        self.inner.truncate(level.inner);
+        self.rays.truncate(level.rays);
+    }
+
+    // Appends the pairs of the outer ray at a position with each adjacent ray near to it.
+    fn push_ray(
+        &mut self,
+        search: &Search,
+        pairs: &mut Vec<(usize, usize)>,
+        position: usize,
+        level: Level,
+    ) -> Result<(), AllocError>
+        requires search { IsReady search.now }
+        requires position { position < length search.now.outer.now }
+        requires near { let next = position + 1 in
+            AreNear search.now position next level self.old.inner.items self.old.rays.items }
+        requires before { HasFound search.now position 0 pairs.old.items }
+        ensures kept { OnOk result (AreKept self.old self.new) }
+        ensures found { OnOk result (HasFound search.now (position + 1) 0 pairs.new.items) }
+    {
+        if level.whole {
+            return self.push_ranked(search, pairs, position, level);
+        }
+        push_near(search, pairs, position, &self.inner, level.inner)
+    }
+
+    // The same, where all near rays are listed.
     fn push_ranked(
         &mut self,
         search: &Search,
@@ -124,9 +174,7 @@ impl Near {
         requires near { let next = position + 1 in
             AreNear search.now position next level self.old.inner.items self.old.rays.items }
         requires before { HasFound search.now position 0 pairs.old.items }
-        ensures all { OnOk result (self.new.all.items ≡ self.old.all.items) }
-        ensures inner { OnOk result (self.new.inner.items ≡ self.old.inner.items) }
-        ensures rays { OnOk result (self.new.rays.items ≡ self.old.rays.items) }
+        ensures kept { OnOk result (AreKept self.old self.new) }
         ensures found { OnOk result (HasFound search.now (position + 1) 0 pairs.new.items) }
     {
         self.ranked.clear();
@@ -164,8 +212,7 @@ fn part_size(rays: usize) -> usize
     size
 }
 
-/// Appends the pairs of the outer ray at a position with each adjacent ray of those that the list has
-/// from `start` on.
+/// Appends the pairs of an outer ray with each adjacent ray that the list has from `start` on.
 fn push_near(
     search: &Search,
     pairs: &mut Vec<(usize, usize)>,
@@ -202,19 +249,14 @@ fn push_group(
     requires all { HasAll search.now.zeros.now level near.old.all.items }
     requires near { AreNear search.now from to level near.old.inner.items near.old.rays.items }
     requires before { HasFound search.now from 0 pairs.old.items }
-    ensures all { OnOk result (near.new.all.items ≡ near.old.all.items) }
-    ensures inner { OnOk result (near.new.inner.items ≡ near.old.inner.items) }
-    ensures rays { OnOk result (near.new.rays.items ≡ near.old.rays.items) }
+    ensures kept { OnOk result (AreKept near.old near.new) }
     ensures found { OnOk result (HasFound search.now to 0 pairs.new.items) }
 {
     if near.inner.len() == level.inner {
         return Ok(());
     }
     if to - from == 1 {
-        if level.whole {
-            return near.push_ranked(search, pairs, from, level);
-        }
-        return push_near(search, pairs, from, &near.inner, level.inner);
+        return near.push_ray(search, pairs, from, level);
     }
     let size = part_size(to - from);
     let mut first = from;
@@ -222,8 +264,7 @@ fn push_group(
         let last = first + size.min(to - first);
         let next = near.narrow(search, first, last, level)?;
         push_group(search, pairs, near, first, last, next)?;
-        near.inner.truncate(next.inner);
-        near.rays.truncate(next.rays);
+        near.leave(next);
         first = last;
     }
     Ok(())

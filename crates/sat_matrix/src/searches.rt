@@ -1,20 +1,19 @@
-//! Searches among rows of words. The width of the rows is tested once for each search, and the loops are compiled
-//! for each of the small ones.
-ghost use Rattle.std.specs.Prelude.{◌≡◌, ◌↔◌, ℕ, ◌^◌, ◌<◌, ◌≤◌, IsTrue, OnOk, length, slice_index_or};
+//! Searches among rows of words, whose loops are compiled for each of the small widths.
+ghost use Rattle.std.specs.Prelude.{◌≡◌, ◌↔◌, ℕ, ◌^◌, ◌<◌, ◌≤◌, IsTrue, OnOk, length};
+ghost use Rattle.std.specs.Prelude.{slice_index_or};
 ghost use Rattle.flat_rows.specs.Flat.{entries_at};
 ghost use Rattle.sat_matrix.specs.Words.{HasThirdRow};
 ghost use Rattle.sat_matrix.specs.Searches.{IsFirstFrom, SharesPlaces, shared_places};
 ghost use Rattle.sat_matrix.specs.Pairs.{index_at};
-ghost use Rattle.sat_matrix.specs.Near.{AreRisingFrom, IsUnionOf};
-ghost use Rattle.sat_matrix.specs.Filters.{FitsRows, HasFiltered};
+ghost use Rattle.sat_matrix.specs.Near.{AreRisingFrom, HasKept, IsUnionOf, SharesWords};
+ghost use Rattle.sat_matrix.specs.Filters.{FitsRows};
 
-use crate::words::has_third_word;
 use flat_rows::FlatRows;
-use sat_bits::{count_and, is_subset_of_and, or_into};
+use sat_bits::{count_and, is_subset_of_and, or_into, some_other_covers};
 use std::alloc::AllocError;
 
-/// The first position from `from` on at which the list names a row that shares at least `least` places with
-/// row `i`, or the list's length where there is none.
+/// The first position from `from` on at which the list names a row that shares at least `least`
+/// places with row `i`, or the list's length where there is none.
 pub(crate) fn next_sharing(
     rows: &FlatRows<u64>,
     i: usize,
@@ -23,10 +22,14 @@ pub(crate) fn next_sharing(
     least: usize,
 ) -> usize
     requires row { i < length rows.now.rows }
-    requires among { (q : ℕ) → q < length among.now → slice_index_or among.now q 0 < length rows.now.rows }
-    requires few { (q : ℕ) → q < length among.now → shared_places (entries_at rows.now.rows i) (entries_at rows.now.rows (slice_index_or among.now q 0)) < 2 ^ 64 }
+    requires among { (q : ℕ) → q < length among.now →
+        slice_index_or among.now q 0 < length rows.now.rows }
+    requires few { (q : ℕ) → q < length among.now →
+        shared_places (entries_at rows.now.rows i)
+        (entries_at rows.now.rows (slice_index_or among.now q 0)) < 2 ^ 64 }
     requires from { from ≤ length among.now }
-    ensures { IsFirstFrom (SharesPlaces rows.now.rows i among.now least) from (length among.now) result }
+    ensures { IsFirstFrom (SharesPlaces rows.now.rows i among.now least) from
+        (length among.now) result }
 {
     match rows.width() {
         1 => next_sharing_as_wide(rows, 1, i, among, from, least),
@@ -49,10 +52,14 @@ fn next_sharing_as_wide(
 ) -> usize
     requires width { width ≡ rows.now.width }
     requires row { i < length rows.now.rows }
-    requires among { (q : ℕ) → q < length among.now → slice_index_or among.now q 0 < length rows.now.rows }
-    requires few { (q : ℕ) → q < length among.now → shared_places (entries_at rows.now.rows i) (entries_at rows.now.rows (slice_index_or among.now q 0)) < 2 ^ 64 }
+    requires among { (q : ℕ) → q < length among.now →
+        slice_index_or among.now q 0 < length rows.now.rows }
+    requires few { (q : ℕ) → q < length among.now →
+        shared_places (entries_at rows.now.rows i)
+        (entries_at rows.now.rows (slice_index_or among.now q 0)) < 2 ^ 64 }
     requires from { from ≤ length among.now }
-    ensures { IsFirstFrom (SharesPlaces rows.now.rows i among.now least) from (length among.now) result }
+    ensures { IsFirstFrom (SharesPlaces rows.now.rows i among.now least) from
+        (length among.now) result }
 {
     let row = rows.row_as_wide(width, i);
     for q in from..among.len() {
@@ -79,6 +86,18 @@ pub(crate) fn has_third_row(rows: &FlatRows<u64>, i: usize, j: usize) -> bool
     }
 }
 
+/// Whether some row other than `i` and `j` has each bit that both have, where each row is one word.
+#[inline]
+fn has_third_word(rows: &FlatRows<u64>, i: usize, j: usize) -> bool
+    requires single { rows.now.width ≡ 1 }
+    requires first { i < length rows.now.rows }
+    requires second { j < length rows.now.rows }
+    ensures { IsTrue result ↔ HasThirdRow rows.now i j }
+{
+    let _width = rows.width();
+    some_other_covers(rows.cells(), i, j)
+}
+
 /// The same, with the width handed over.
 #[inline(always)]
 fn has_third_as_wide(rows: &FlatRows<u64>, width: usize, i: usize, j: usize) -> bool
@@ -98,8 +117,8 @@ fn has_third_as_wide(rows: &FlatRows<u64>, width: usize, i: usize, j: usize) -> 
     false
 }
 
-/// Makes the list a row of words that is true wherever a row is that `outer` names from one position up
-/// to another.
+/// Makes the list a row of words that is true wherever a row is that `outer` names from one
+/// position up to another.
 pub(crate) fn unite(
     rows: &FlatRows<u64>,
     outer: &[usize],
@@ -122,45 +141,38 @@ pub(crate) fn unite(
 
 /// Which positions of a list of rows are kept: those of rows that share enough places with a row.
 #[derive(Drop)]
-pub(crate) struct Filter<'a> {
-    pub(crate) union: &'a [u64],
-    pub(crate) among: &'a [usize],
-    pub(crate) least: usize,
+struct Filter<'a> {
+    union: &'a [u64],
+    among: &'a [usize],
+    least: usize,
 }
 
-impl<'a> Filter<'a> {
-    /// Returns the filter of the rows that a list names, by a row of words.
-    pub(crate) fn new(union: &'a [u64], among: &'a [usize], least: usize) -> Filter<'a>
-        ensures union { result.union.now ≡ union.now }
-        ensures among { result.among.now ≡ among.now }
-        ensures least { result.least ≡ least }
-    {
-        Filter {
-            union,
-            among,
-            least,
-        }
-    }
-}
-
-/// Appends those of a list's positions from `start` on that the filter keeps.
+/// Appends those of a list's positions from `start` on that the filter of these parts keeps.
 pub(crate) fn push_sharing(
     rows: &FlatRows<u64>,
-    filter: &Filter,
+    union: &[u64],
+    among: &[usize],
+    least: usize,
     list: &mut Vec<usize>,
     start: usize,
 ) -> Result<(), AllocError>
-    requires filter { FitsRows rows.now filter.now }
+    requires fits { FitsRows rows.now union.now among.now }
     requires start { start ≤ length list.old.items }
-    requires rising { AreRisingFrom start (length filter.now.among.now) list.old.items }
-    ensures { OnOk result (HasFiltered rows.now filter.now start list.old.items list.new.items) }
+    requires rising { AreRisingFrom start (length among.now) list.old.items }
+    ensures { let shares = SharesWords rows.now.rows union.now among.now least in
+        OnOk result (HasKept shares start (length among.now) list.old.items list.new.items) }
 {
+    let filter = Filter {
+        union,
+        among,
+        least,
+    };
     match rows.width() {
-        1 => push_sharing_as_wide(rows, 1, filter, list, start),
-        2 => push_sharing_as_wide(rows, 2, filter, list, start),
-        3 => push_sharing_as_wide(rows, 3, filter, list, start),
-        4 => push_sharing_as_wide(rows, 4, filter, list, start),
-        width => push_sharing_as_wide(rows, width, filter, list, start),
+        1 => push_sharing_as_wide(rows, 1, &filter, list, start),
+        2 => push_sharing_as_wide(rows, 2, &filter, list, start),
+        3 => push_sharing_as_wide(rows, 3, &filter, list, start),
+        4 => push_sharing_as_wide(rows, 4, &filter, list, start),
+        width => push_sharing_as_wide(rows, width, &filter, list, start),
     }
 }
 
@@ -174,10 +186,12 @@ fn push_sharing_as_wide(
     start: usize,
 ) -> Result<(), AllocError>
     requires width { width ≡ rows.now.width }
-    requires filter { FitsRows rows.now filter.now }
+    requires filter { FitsRows rows.now filter.now.union.now filter.now.among.now }
     requires start { start ≤ length list.old.items }
     requires rising { AreRisingFrom start (length filter.now.among.now) list.old.items }
-    ensures { OnOk result (HasFiltered rows.now filter.now start list.old.items list.new.items) }
+    ensures { let f = filter.now in
+        let shares = SharesWords rows.now.rows f.union.now f.among.now f.least in
+        OnOk result (HasKept shares start (length f.among.now) list.old.items list.new.items) }
 {
     let end = list.len();
     list.reserve(end - start)?;

@@ -1,8 +1,10 @@
 //! The table of the rows on which each ray is 0, brought up to date with a row.
-ghost use Rattle.std.specs.Prelude.{◌≡◌, ℕ, ◌+◌, ◌-◌, ◌<◌, ◌≤◌, Bool, true, false, List, [], ◌∷◌, ◌++◌, length, map, replicate, pos, slice_set};
+ghost use Rattle.std.specs.Prelude.{◌≡◌, ℕ, ◌+◌, ◌-◌, ◌<◌, ◌≤◌, Bool, true, false, List, [], ◌∷◌};
+ghost use Rattle.std.specs.Prelude.{◌++◌, length, map, replicate, pos, slice_set};
 ghost use Rattle.std.specs.Ordering.{int_eq};
 ghost use Rattle.sat_matrix.specs.Tables.{Table};
-ghost use Rattle.sat_matrix.specs.TableSteps.{AreWithin, HasColumn, HasPairs, HasLineStep, HasRayStep, HasFalseColumn, IsAsLarge};
+ghost use Rattle.sat_matrix.specs.TableSteps.{AreWithin, HasColumn, HasPairs, HasLineStep};
+ghost use Rattle.sat_matrix.specs.TableSteps.{HasRayStep, HasFalseColumn, IsAsLarge};
 
 use crate::matrix::SatMatrix;
 
@@ -74,8 +76,8 @@ fn push_pairs(zeros: &mut SatMatrix, pairs: &[(usize, usize)])
     }
 }
 
-/// Brings the table up to date with a ray step, for which it has a column and room: the marks are those of the
-/// old rays, and true for each pair.
+/// Brings the table up to date with a ray step, for which it has a column and room: the marks are
+/// those of the old rays, and true for each pair.
 pub fn after_ray_step(
     zeros: &mut SatMatrix,
     values: &[i128],

@@ -1,5 +1,6 @@
-use Rattle.std.proofs.Common.{◌-◌, ◌≡◌, ◌≤◌}
+use Rattle.std.proofs.Common.{◌-◌, ◌≤◌}
 use Rattle.sat_matrix.specs.Pairs.{AreFound}
+use Rattle.sat_matrix.specs.NearStates.{AreKept}
 use Rattle.sat_matrix.proofs.narrowing.+push_group.Given as goal
 
 abbrev pub decreases-push_group : goal.decreases-push_group
@@ -9,9 +10,7 @@ abbrev pub invariant-loop-first : goal.invariant-loop-first
 invariant-loop-first l = record {
   from : l.from ≤ l.first;
   to : l.first ≤ l.to;
-  all : l.near.all.items ≡ l.initial.near.all.items;
-  inner : l.near.inner.items ≡ l.initial.near.inner.items;
-  rays : l.near.rays.items ≡ l.initial.near.rays.items;
+  kept : AreKept l.initial.near l.near;
   found : AreFound l.search.side l.search.zeros.now l.search.outer.now l.search.inner.now l.first 0 l.pairs.items;
 }
 

@@ -2,7 +2,8 @@ use Rattle.std.proofs.Common.{◌<◌, List, [], ℕ, length, arith, sym, subst,
 use Rattle.std.specs.Prelude.{All}
 use Rattle.std.proofs.lemmas.List.Elements.{All-append, All-cons, All-nil}
 use Rattle.flat_rows.specs.Flat.{entries_at}
-use Rattle.sat_matrix.specs.Words.{and_words, IsPadded}
+use Rattle.flat_rows.specs.Words.{and_words}
+use Rattle.sat_matrix.specs.Words.{IsPadded}
 use Rattle.sat_matrix.proofs.BitRows.{seen_in, and_seen, padded_and}
 use Rattle.sat_matrix.proofs.matrix.SatMatrix.push_and.Goals as goal
 

@@ -1,6 +1,6 @@
 use Rattle.sat_matrix.proofs.SingleWords.{words_counted, third_words}
 use Rattle.std.proofs.Common.{IsTrue, arith}
-use Rattle.sat_matrix.proofs.words.has_third_word.Goals as goal
+use Rattle.sat_matrix.proofs.searches.has_third_word.Goals as goal
 
 pub some_other_covers-requires-clause-first : goal.some_other_covers-requires-clause-first
 some_other_covers-requires-clause-first c = omega (arith, c.requires.first, words_counted c.cells.result.now c.args.rows.now c.cells.ensures c.requires.single)

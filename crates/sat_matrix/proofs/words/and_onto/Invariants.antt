@@ -1,7 +1,0 @@
-use Rattle.std.proofs.Common.{◌≡◌, set}
-use Rattle.flat_rows.specs.Flat.{entries_at}
-use Rattle.sat_matrix.proofs.WordRows.{anded}
-use Rattle.sat_matrix.proofs.words.and_onto.Given as goal
-
-abbrev pub invariant-loop-word : goal.invariant-loop-word
-invariant-loop-word l = l.rows ≡ record l.initial.rows { rows = set l.initial.rows.rows l.to (anded l.word (entries_at l.initial.rows.rows l.to) (entries_at l.initial.rows.rows l.from)) }
