@@ -105,10 +105,6 @@ counted_start_from width rows from total below e = counted_all width rows from f
 pub counted_start : (width : ℕ) (rows : List Row) (total : ℕ) → total ≡ 0 → IsCountedUpto width rows (length rows) total
 counted_start width rows total e = counted_start_from width rows 0 total (omega arith) e
 
--- row k was the last to be taken in
-pub counted_last : (width : ℕ) (rows : List Row) (from k total count more : ℕ) → k < length rows → IsCountedBetween width rows from k total → HasSystemOf width rows (k + 1) count → more ≡ total + count → IsCountedBetween width rows from (length rows) more
-counted_last width rows from k total count more below h next is = counted_all width rows from (k + 1) more (omega arith) (counted_more width rows from k total count more h next is)
-
 -- what was counted up to an overflow at the step with row k
 pub counted_before : (width : ℕ) (rows : List Row) (from k total : ℕ) (error : ConvErr) → IsAtStep k error → IsCountedBetween width rows from (k + 1) total → IsCountedBeforeFrom width rows from total error
 counted_before width rows from k total (Overflow over) e h = subst (λ (n : ℕ). IsCountedBetween width rows from (n + 1) total) (sym e) h

@@ -92,7 +92,7 @@ met_state width rows k cone values sat below state met column =
 
 -- ---- values
 pub has_values : (width : ℕ) (rows : List Row) (k : ℕ) (cone : System) (p : Position) → IsState width rows k cone → IsPosition rows k cone p → HasValues (length cone.sat.rows) p
-has_values width rows k cone (position.Crossing index line_values ray_values) state is = tt
+has_values width rows k cone (position.Crossing line) state is = tt
 has_values width rows k cone (position.Met values) state is = tt
 has_values width rows k cone (position.Cutting values) state is =
     omega (arith, ap length is.0.are_values, length-values_on (row_at rows k) (vectors cone.rays.rows), state.zeros.each.as_many)

@@ -43,16 +43,16 @@ same_flat row old new values same h = record {
 
 -- and the plan is the same
 pub same_plan : (rows : List Row) (k : ℕ) (old new : System) (step : Plan) → HasSameVectors old new → IsPlan rows k old step → IsPlan rows k (record new { sat = old.sat }) step
-same_plan rows k old new (plan.Line index line_values ray_values) same h = record {
-  crossing = let P : List Row → Type 0 = λ ls. IsLastCrossing (row_at rows k) (vectors ls) index in subst P (sym same.lines.rows) h.crossing;
+same_plan rows k old new (plan.Line line) same h = record {
+  crossing = let P : List Row → Type 0 = λ ls. IsLastCrossing (row_at rows k) (vectors ls) line.index in subst P (sym same.lines.rows) h.crossing;
   are_line_values = h.are_line_values ∙ ap (λ (ls : List Row). values_on (row_at rows k) (vectors ls)) (sym same.lines.rows);
   are_ray_values = h.are_ray_values ∙ ap (λ (rs : List Row). values_on (row_at rows k) (vectors rs)) (sym same.rays.rows);
   lines_in_range = h.lines_in_range;
   rays_in_range = h.rays_in_range;
 }
 same_plan rows k old new (plan.Same values) same h = (same_flat (row_at rows k, is_eq_at rows k) old new values.items same h.0, h.1)
-same_plan rows k old new (plan.Ray values marks pairs) same h = record {
-  cutting = (same_flat (row_at rows k, is_eq_at rows k) old new values.items same h.cutting.0, h.cutting.1);
+same_plan rows k old new (plan.Ray cut) same h = record {
+  cutting = (same_flat (row_at rows k, is_eq_at rows k) old new cut.values.items same h.cutting.0, h.cutting.1);
   are_marks = h.are_marks;
   crosses = h.crosses;
 }

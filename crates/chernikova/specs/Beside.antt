@@ -12,7 +12,7 @@ use Rattle.chernikova.specs.declared.beside.Beside.{Beside}
 abbrev pub IsPlanned : Beside → Type 0
 IsPlanned beside = IfSome beside.plan (IsPlan beside.rows.rows beside.taken beside.system)
 
--- the rows of a list in another order, the system of those that were taken in, and the plan of the next
+-- the rows of a list in another order, the system of those taken in, and the plan of the next
 pub record IsRunning (width : ℕ) (rows : List Row) (beside : Beside) : Type 0 where
   pub same_width : beside.rows.width ≡ width
   pub reordered : AreReordered rows beside.rows.rows beside.places.items

@@ -19,7 +19,7 @@ use Rattle.row_core.specs.MarkedLists.{AreLists}
 use Rattle.row_store.specs.Changes.{IsRayChange}
 use Rattle.sat_matrix.specs.Pairs.{AreAllCrosses}
 
--- the lines and rays are the system of the first k rows, and the table tells the rows on which each ray is 0
+-- the lines and rays are the system of the first k rows, and the table tells where each ray is 0
 pub record IsState (width : ℕ) (rows : List Row) (k : ℕ) (cone : System) : Type 0 where
   pub narrow : width < 2 ^ 32
   pub lists : AreLists width (as_rows cone.lines) (as_rows cone.rays)
@@ -44,25 +44,30 @@ pub record IsReopened (cone : Cone) (system : System) : Type 0 where
   pub zeros : system.sat.rows ≡ cone.sat.rows
 
 -- a row that isn't 0 on some line: the lines and rays of the next system
-pub record IsLineOutcome (width : ℕ) (row : Row) (cone : System) (lines rays : Vectors) : Type 0 where
+pub record IsLineOutcome (width : ℕ) (row : Row) (cone : System) (lines rays : Vectors)
+    : Type 0 where
   pub lists : AreLists width (as_rows lines) (as_rows rays)
-  pub step : IsLineStep row (vectors cone.lines.rows) (vectors cone.rays.rows) (vectors lines.rows) (vectors rays.rows)
+  pub step : IsLineStep row (vectors cone.lines.rows) (vectors cone.rays.rows)
+      (vectors lines.rows) (vectors rays.rows)
 
--- a row that is 0 on all lines: the rays of the next system, the values of the old ones, which of them stay, and the pairs that were combined
-pub record IsRayOutcome (width : ℕ) (row : Row) (cone : System) (rays : Vectors) (values : List ℤ) (marks : List Bool) (pairs : List (ℕ × ℕ)) : Type 0 where
+-- a row that is 0 on all lines: the next rays, the old ones' values and marks, and the pairs
+pub record IsRayOutcome (width : ℕ) (row : Row) (cone : System) (rays : Vectors)
+    (values : List ℤ) (marks : List Bool) (pairs : List (ℕ × ℕ)) : Type 0 where
   pub lists : AreLists width (as_rows cone.lines) (as_rows rays)
-  pub flat : (i : ℕ) → i < length (vectors cone.lines.rows) → dot row.0 (vector_at (vectors cone.lines.rows) i) ≡ pos 0
+  pub flat : (i : ℕ) → i < length (vectors cone.lines.rows)
+      → dot row.0 (vector_at (vectors cone.lines.rows) i) ≡ pos 0
   pub is_values : values ≡ values_on row.0 (vectors cone.rays.rows)
   pub is_marks : marks ≡ map (λ value. stays row.1 value) values
   pub crosses : AreAllCrosses values cone.sat pairs
   pub step : IsRayChange values marks pairs cone.rays.rows rays.rows
 
--- the total is a sum of one number for each of the rows from one index up to another, and that of each row is at most the number of lines and rays of the system up to that row
+-- the total is a sum of a number for each row, at most that of the vectors of the system up to it
 pub record IsCountedBetween (width : ℕ) (rows : List Row) (from to : ℕ) (total : ℕ) : Type 0 where
   pub counts : List ℕ
   pub as_many : from + length counts ≡ to
   pub is_total : sum counts ≡ total
-  pub each : (i : ℕ) → from + i < to → HasSystemOf width rows (from + i + 1) (slice_index_or counts i 0)
+  pub each : (i : ℕ) → from + i < to
+      → HasSystemOf width rows (from + i + 1) (slice_index_or counts i 0)
 
 -- one number for each of the first k rows
 abbrev pub IsCountedUpto : ℕ → List Row → ℕ → ℕ → Type 0
@@ -83,9 +88,10 @@ abbrev pub IsAtStep : ℕ → ConvErr → Type 0
 IsAtStep k (Overflow over) = over.step ≡ k
 IsAtStep k Memory = ⊤
 
--- at an overflow the total is bounded by the systems of the rows from an index up to that of its step
+-- at an overflow the total is bounded by the systems of the rows from an index up to its step
 abbrev pub IsCountedBeforeFrom : ℕ → List Row → ℕ → ℕ → ConvErr → Type 0
-IsCountedBeforeFrom width rows from total (Overflow over) = IsCountedBetween width rows from (over.step + 1) total
+IsCountedBeforeFrom width rows from total (Overflow over) =
+    IsCountedBetween width rows from (over.step + 1) total
 IsCountedBeforeFrom width rows from total Memory = ⊤
 
 -- of all rows up to that of its step

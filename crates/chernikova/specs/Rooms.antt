@@ -15,7 +15,7 @@ pub record HasSameVectors (old new : System) : Type 0 where
   pub lines : HasSame old.lines new.lines
   pub rays : HasSame old.rays new.rays
 
--- the lists of a line step are empty, and have room for all lines and rays of the next system, and its table for one more row
+-- the lists of a line step are empty, with room for the next system, and its table for a row more
 pub record HasLineRoom (scratch : Scratch) (cone : System) : Type 0 where
   pub vectors : HasRoomForStep cone.lines cone.rays scratch.lines scratch.rays
   pub zeros : 1 ≤ cone.sat.spare
@@ -27,12 +27,13 @@ pub record HasRayRoom (pairs : ℕ) (cone : System) : Type 0 where
 
 -- there is all room that the step takes
 abbrev pub HasRoom : Plan → Scratch → System → Type 0
-HasRoom (plan.Line index line_values ray_values) scratch cone = HasLineRoom scratch cone
+HasRoom (plan.Line line) scratch cone = HasLineRoom scratch cone
 HasRoom (plan.Same values) scratch cone = ⊤
-HasRoom (plan.Ray values marks pairs) scratch cone = HasRayRoom (length pairs.items) cone
+HasRoom (plan.Ray cut) scratch cone = HasRayRoom (length cut.pairs.items) cone
 
--- the system is that of the rows before row k, the plan is what the step with row k is to do with it, and there is room for it
-pub record IsReady (width : ℕ) (rows : List Row) (k : ℕ) (step : Plan) (scratch : Scratch) (cone : System) : Type 0 where
+-- the system of the rows before row k, the plan of the step with it, and room for that step
+pub record IsReady (width : ℕ) (rows : List Row) (k : ℕ) (step : Plan) (scratch : Scratch)
+    (cone : System) : Type 0 where
   pub before : Table
   pub state : IsState width rows k (record cone { sat = before })
   pub planned : IsPlan rows k (record cone { sat = before }) step

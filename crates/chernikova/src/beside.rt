@@ -17,23 +17,25 @@ use sat_matrix::SatMatrix;
 use std::alloc::Global;
 use std::sync::ledger::Ledger;
 
-/// How many looks at rays the conversion in the list's order is expected to take before the other begins.
+/// How many looks at rays the conversion in the list's order is expected to take before the other
+/// begins.
 const LOOKS_BEFORE: u64 = 10_000;
 
-/// How many such looks times rows that are left, where fewer than a quarter of the rows are: the other has
-/// to take in all rows, and few are then spared.
+/// How many such looks times rows that are left, where fewer than a quarter of the rows are: the
+/// other has to take in all rows, and few are then spared.
 const LOOKS_AT_THE_END: u64 = 1_000_000;
 
-/// For how many looks of the conversion in the list's order the other has one, unless it took in more rows.
+/// For how many looks of the first conversion the other has one, unless it took in more rows.
 const SHARE: u64 = 24;
 
 /// How many it has for ten of them where it did.
 const TENTHS_AHEAD: u64 = 7;
 
-/// A conversion in sorted order: its rows, the place among them of each row of the list, and the system
-/// of those that were taken in. It has begun or not, and runs until an overflow ends it. The search for the
-/// pairs of the rows so far was expected to look at `looked` rays, and that of the next row at `awaited`. What
-/// the next row asks for is `plan`, once that is known, with `needed` combinations.
+/// A conversion in sorted order: its rows, the place among them of each row of the list, and the
+/// system of those that were taken in. It has begun or not, and runs until an overflow ends it.
+/// The search for the pairs of the rows so far was expected to look at `looked` rays, and that of
+/// the next row at `awaited`. What the next row asks for is `plan`, once that is known, with
+/// `needed` combinations.
 pub(crate) struct Beside {
     begun: bool,
     running: bool,
@@ -48,7 +50,7 @@ pub(crate) struct Beside {
     needed: u128,
 }
 
-// Written by hand, so that a function that drops the other conversion calls this one, and doesn't free each part itself.
+// Written by hand, so that a function that drops it makes one call.
 impl Drop for Beside {
     fn drop(self) {
         let Self {
@@ -67,8 +69,8 @@ impl Drop for Beside {
     }
 }
 
-/// Whether a second conversion is likely to pay beside one that takes so many looks and took in so many of
-/// the rows.
+/// Whether a second conversion is likely to pay beside one that takes so many looks and took in
+/// so many of the rows.
 fn pays(looks: u64, rows: usize, taken: usize) -> bool {
     let left = rows.saturating_sub(taken) as u64;
     let is_early = left >= rows as u64 / 4;
@@ -77,7 +79,7 @@ fn pays(looks: u64, rows: usize, taken: usize) -> bool {
 
 impl Beside {
     /// Returns a conversion that doesn't run, and that has begun or not.
-    fn idle(alloc: Global, begun: bool) -> Beside
+    pub(crate) fn idle(alloc: Global, begun: bool) -> Beside
         ensures { result.running ≡ false }
     {
         let system = System {
@@ -98,13 +100,6 @@ impl Beside {
             plan: None,
             needed: 0,
         }
-    }
-
-    /// Returns a conversion that hasn't begun.
-    pub(crate) fn waiting(alloc: Global) -> Beside
-        ensures { result.running ≡ false }
-    {
-        Beside::idle(alloc, false)
     }
 
     // The conversion of a list before its first row, which runs unless the list is sorted.
@@ -133,22 +128,23 @@ impl Beside {
         })
     }
 
-    /// Begins where the conversion in the list's order looks at enough rays, those of its next row among them,
-    /// if there is memory for it.
-    pub(crate) fn begin(&mut self, alloc: Global, list: &RowList, looks: u64, taken: usize)
+    /// Begins where the conversion in the list's order looks at enough rays, those of its next
+    /// row among them, if there is memory for it.
+    pub(crate) fn begin(&mut self, list: &RowList, looks: u64, taken: usize)
         requires { IsBeside list.now.width list.now.rows self.old }
         ensures { IsBeside list.now.width list.now.rows self.new }
     {
         if self.begun || !pays(looks, list.len(), taken) {
             return;
         }
-        match Beside::of_list(alloc, list) {
+        match Beside::of_list(self.scratch.alloc, list) {
             Ok(beside) => *self = beside,
             Err(_) => self.begun = true,
         }
     }
 
-    // How many more looks it may take, beside a conversion that takes so many and took in so many rows.
+    // How many more looks it may take, beside a conversion that takes so many and took in so many
+    // rows.
     fn looks_left(&self, looks: u64, taken: usize) -> u64 {
         let share = if self.taken > taken {
             looks / 10 * TENTHS_AHEAD
@@ -169,9 +165,9 @@ impl Beside {
             && self.needed <= slack
     }
 
-    // Finds what the next row asks for, unless it is known, where the search looks at fewer rays than so many.
-    // An overflow or want of memory ends it.
-    fn plan_next(&mut self, alloc: Global, looks_left: u64)
+    // Finds what the next row asks for, unless it is known, where the search looks at fewer rays
+    // than so many. An overflow or want of memory ends it.
+    fn plan_next(&mut self, looks_left: u64)
         requires row { self.old.taken < length self.old.rows.rows }
         requires state { let rows = self.old.rows in
             IsState rows.width rows.rows self.old.taken self.old.system }
@@ -188,7 +184,7 @@ impl Beside {
         }
         let scratch = &mut self.scratch;
         let (system, rows) = (&self.system, &self.rows);
-        match plan_row_within(alloc, scratch, system, rows, self.taken, looks_left) {
+        match plan_row_within(scratch, system, rows, self.taken, looks_left) {
             Ok(Search::Found { looks, plan }) => {
                 self.looked = self.looked.saturating_add(looks);
                 self.plan = Some(plan);
@@ -198,9 +194,9 @@ impl Beside {
         }
     }
 
-    // Takes in the next row, if it is known what it asks for and the slack allows its combinations. An overflow
-    // or want of memory ends it.
-    fn take_in<L: Ledger>(&mut self, alloc: Global, slack: &mut u128, steps: &mut Steps<L>)
+    // Takes in the next row, if it is known what it asks for and the slack allows its
+    // combinations. An overflow or want of memory ends it.
+    fn take_in<L: Ledger>(&mut self, slack: &mut u128, steps: &mut Steps<L>)
         requires row { self.old.taken < length self.old.rows.rows }
         requires state { let rows = self.old.rows in
             IsState rows.width rows.rows self.old.taken self.old.system }
@@ -224,7 +220,7 @@ impl Beside {
         prove!(row < self.rows.len());
         let scratch = &mut self.scratch;
         let system = &mut self.system;
-        let Ok(()) = take_planned(alloc, scratch, system, plan, &self.rows, row, steps) else {
+        let Ok(()) = take_planned(scratch, system, plan, &self.rows, row, steps) else {
             self.running = false;
             return;
         };
@@ -233,10 +229,9 @@ impl Beside {
         self.needed = 0;
     }
 
-    // Takes in rows as long as it has turns.
-    fn catch_up<L: Ledger>(
+    /// Takes in rows as long as it has turns beside the conversion in the list's order.
+    pub(crate) fn catch_up<L: Ledger>(
         &mut self,
-        alloc: Global,
         list: &RowList,
         looks: u64,
         taken: usize,
@@ -253,13 +248,14 @@ impl Beside {
             if !self.has_turn(looks_left, *slack) {
                 return;
             }
-            self.plan_next(alloc, looks_left);
-            self.take_in(alloc, slack, steps);
+            self.plan_next(looks_left);
+            self.take_in(slack, steps);
         }
     }
 
-    /// How many lines and rays count as slack before the pairs of the next row of the list's order are sought, from
-    /// how that row lies to them: those that stay, while there is a use for slack.
+    /// How many lines and rays count as slack before the pairs of the next row of the list's
+    /// order are sought, from how that row lies to them: those that stay, while there is a use
+    /// for slack.
     pub(crate) fn slack_before(&self, position: &Position, eq: bool, cone: &System) -> u128
         ensures { result ≤ kept_of eq cone.now position.now }
     {
@@ -269,31 +265,9 @@ impl Beside {
         position.kept(eq, cone)
     }
 
-    /// Takes in rows as long as it has turns beside the conversion in the list's order.
-    pub(crate) fn follow<L: Ledger>(
-        &mut self,
-        alloc: Global,
-        list: &RowList,
-        looks: u64,
-        taken: usize,
-        slack: &mut u128,
-        steps: &mut Steps<L>,
-    )
-        requires { IsBeside list.now.width list.now.rows self.old }
-        ensures beside { IsBeside list.now.width list.now.rows self.new }
-        ensures no_fewer { steps.old ≤ steps.new }
-        ensures within { steps.new + slack.new ≤ steps.old + slack.old }
-    {
-        if !self.running {
-            return;
-        }
-        self.catch_up(alloc, list, looks, taken, slack, steps);
-    }
-
     /// Takes in the rows that are left, as far as the slack allows.
     pub(crate) fn go_on<L: Ledger>(
         &mut self,
-        alloc: Global,
         list: &RowList,
         slack: &mut u128,
         steps: &mut Steps<L>,
@@ -303,7 +277,7 @@ impl Beside {
         ensures no_fewer { steps.old ≤ steps.new }
         ensures within { steps.new + slack.new ≤ steps.old + slack.old }
     {
-        self.catch_up(alloc, list, u64::MAX, 0, slack, steps);
+        self.catch_up(list, u64::MAX, 0, slack, steps);
     }
 
     /// Whether it has taken in all rows.

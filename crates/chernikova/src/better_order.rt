@@ -1,24 +1,27 @@
 //! The conversion in the better of two orders.
 //!
-//! A bad order of the rows makes many vectors halfway, and no order is good for every list. So two conversions
-//! race: one takes the rows as they are listed, and beside it one takes them in sorted order (the first row,
-//! then the equalities, and then by the columns from the last, which is the constant), unless the list is
-//! sorted. The one that has taken in all rows first gives the answer.
+//! A bad order of the rows makes many vectors halfway, and no order is good for every list. So
+//! two conversions race: one takes the rows as they are listed, and beside it one takes them in
+//! sorted order (the first row, then the equalities, and then by the columns from the last, which
+//! is the constant), unless the list is sorted. The one that has taken in all rows first gives
+//! the answer.
 //!
-//! - *When the second begins.* What the search for pairs will cost at a row is estimated from the rays' values
-//!   before a pair is tested: one look for each pair of a ray above the row and one below it, and part of all
-//!   rays for each of those pairs that may need the search for a third ray. Once 10,000 looks are estimated in
-//!   the list's order, including those of the row that is next, the second has turns before that row: for one
-//!   twenty-fourth as many looks, or seven tenths while it is ahead in rows, its own next row included. Near the
-//!   end of the list it begins only if the looks so far, times the rows that are left, are many. So a row that
-//!   costs many times what all rows before it did waits until the other order has had its part of that cost.
-//! - *How the bound on combinations holds for both.* The bound of the list's order has slack: the vectors of its
-//!   systems less the combinations that were counted. No later row of that order takes from it. At the next row,
-//!   what remains is slack before a pair is sought: if the row is 0 on all lines, these and the rays that meet
-//!   it are in the next system whatever pairs cross. The second conversion makes a row's combinations only if
-//!   all of them fit the slack, so the bound holds for both together; the pairs that it found wait until they do.
-//! - *Overflows.* An overflow of the second conversion ends it and is never shown. If the list's order overflows
-//!   first, the second goes on as far as the slack allows, and may still answer.
+//! - *When the second begins.* What the search for pairs will cost at a row is estimated from the
+//!   rays' values before a pair is tested: one look for each pair of a ray above the row and one
+//!   below it, and part of all rays for each of those pairs that may need the search for a third
+//!   ray. Once 10,000 looks are estimated in the list's order, including those of the row that is
+//!   next, the second has turns before that row: for one twenty-fourth as many looks, or seven
+//!   tenths while it is ahead in rows, its own next row included. Near the end of the list it
+//!   begins only if the looks so far, times the rows that are left, are many. So a row that costs
+//!   many times what all rows before it did waits until the other order has had its part.
+//! - *How the bound on combinations holds for both.* The bound of the list's order has slack: the
+//!   vectors of its systems less the combinations that were counted. No later row of that order
+//!   takes from it. At the next row, what remains is slack before a pair is sought: if the row is
+//!   0 on all lines, these and the rays that meet it are in the next system whatever pairs cross.
+//!   The second conversion makes a row's combinations only if all of them fit the slack, so the
+//!   bound holds for both together; the pairs that it found wait until they do.
+//! - *Overflows.* An overflow of the second conversion ends it and is never shown. If the list's
+//!   order overflows first, the second goes on as far as the slack allows, and may still answer.
 ghost use Rattle.std.specs.Prelude.{◌≡◌, ◌+◌, ◌-◌, ◌^◌, ◌<◌, ◌≤◌, true, false, length, map, All, IfOk, IfErr, MatchBool};
 ghost use Rattle.row_core.specs.Lists.{vectors, AreMarked};
 ghost use Rattle.cone_laws.specs.SystemLaws.{HasSystemOf};
@@ -41,10 +44,10 @@ use std::sync::ledger::Ledger;
 /// As how many looks at rays it counts that there is one more.
 const LOOKS_OF_A_RAY: u64 = 24;
 
-/// What [`convert`] gives, by the better of two orders: the rows are taken in as they are listed and, once
-/// the search for pairs of rays looks at many, beside that in sorted order, until one conversion has all
-/// rows. Before a row whose search is dear the second has turns in proportion to it. What the second counts
-/// is bounded by what the first leaves of the systems of its rows.
+/// What [`convert`] gives, by the better of two orders: the rows are taken in as they are listed
+/// and, once the search for pairs of rays looks at many, beside that in sorted order, until one
+/// conversion has all rows. Before a row whose search is dear the second has turns in proportion
+/// to it. What the second counts is bounded by what the first leaves of the systems of its rows.
 ///
 /// [`convert`]: crate::convert
 ///
@@ -66,20 +69,20 @@ pub fn convert_in_better_order<L: Ledger>(
     let mut race = Race {
         system,
         scratch: Scratch::new(alloc),
-        beside: Beside::waiting(alloc),
+        beside: Beside::idle(alloc, false),
         looks: 0,
         slack: 0,
     };
-    let other = race.run(alloc, rows, steps)?;
+    let other = race.run(rows, steps)?;
     if other {
         return Ok(cone_of_other_order(alloc, &race.beside)?);
     }
     Ok(sorted_cone(alloc, &race.system)?)
 }
 
-/// A race of two conversions of a list: the system of the rows in the list's order, the conversion beside it,
-/// how many looks at rays the first is expected to have taken so far, and how many of the combinations that its
-/// bound allows are left to the second.
+/// A race of two conversions of a list: the system of the rows in the list's order, the
+/// conversion beside it, how many looks at rays the first is expected to have taken so far, and
+/// how many of the combinations that its bound allows are left to the second.
 #[derive(Drop)]
 struct Race {
     system: System,
@@ -90,11 +93,10 @@ struct Race {
 }
 
 impl Race {
-    // Takes row `k` into the system unless the other conversion, which has its turns before the pairs of the
-    // row are sought, then has all rows, and tells whether it has.
+    // Takes row `k` into the system unless the other conversion, which has its turns before the
+    // pairs of the row are sought, then has all rows, and tells whether it has.
     fn take_row<L: Ledger>(
         &mut self,
-        alloc: Global,
         rows: &RowList,
         k: usize,
         steps: &mut Steps<L>,
@@ -112,25 +114,25 @@ impl Race {
         ensures counted { let gain = steps.new + self.new.slack - (steps.old + self.old.slack) in
             HasSystemOf rows.now.width rows.now.rows (k + 1) gain }
     {
-        let position = row_position(alloc, &mut self.scratch, &self.system, rows, k)?;
+        let position = row_position(&mut self.scratch, &self.system, rows, k)?;
         let least = least_shared(rows.width(), self.system.lines.len());
         self.looks = self
             .looks
             .saturating_add(position.looks(&self.system.sat, least));
-        self.beside.begin(alloc, rows, self.looks, k);
+        self.beside.begin(rows, self.looks, k);
         let kept = self
             .beside
             .slack_before(&position, rows.is_eq(k), &self.system);
         self.slack = self.slack.saturating_add(kept);
         self.beside
-            .follow(alloc, rows, self.looks, k, &mut self.slack, steps);
+            .catch_up(rows, self.looks, k, &mut self.slack, steps);
         if self.beside.is_done(rows) {
             return Ok(true);
         }
         let count = self.system.rays.len();
         let scratch = &mut self.scratch;
         let system = &mut self.system;
-        let spared = take_row_sparing(alloc, scratch, system, position, rows, k, steps)?;
+        let spared = take_row_sparing(scratch, system, position, rows, k, steps)?;
         self.slack = self.slack.saturating_add(spared.saturating_sub(kept));
         let gained = self.system.rays.len().saturating_sub(count) as u64;
         self.looks = self
@@ -139,13 +141,9 @@ impl Race {
         Ok(false)
     }
 
-    // Takes in rows in both orders until one of the conversions has all, and tells whether the other has.
-    fn run<L: Ledger>(
-        &mut self,
-        alloc: Global,
-        rows: &RowList,
-        steps: &mut Steps<L>,
-    ) -> Result<bool, ConvErr>
+    // Takes in rows in both orders until one of the conversions has all, and tells whether the
+    // other has.
+    fn run<L: Ledger>(&mut self, rows: &RowList, steps: &mut Steps<L>) -> Result<bool, ConvErr>
         requires state { IsState rows.now.width rows.now.rows 0 self.old.system }
         requires beside { IsBeside rows.now.width rows.now.rows self.old.beside }
         requires slack { self.old.slack ≡ 0 }
@@ -155,11 +153,11 @@ impl Race {
         ensures conversion { ConvertsRows rows.now.width rows.now.rows steps.old steps.new result }
     {
         for k in 0..rows.len() {
-            match self.take_row(alloc, rows, k, steps) {
+            match self.take_row(rows, k, steps) {
                 Ok(false) => {}
                 Ok(true) => return Ok(true),
                 Err(error) => {
-                    self.beside.go_on(alloc, rows, &mut self.slack, steps);
+                    self.beside.go_on(rows, &mut self.slack, steps);
                     if self.beside.is_done(rows) {
                         return Ok(true);
                     }

@@ -5,9 +5,9 @@ use row_core::RowList;
 use sat_matrix::SatMatrix;
 use std::alloc::AllocError;
 
-/// A canonical system: the lines are marked as equalities and the rays as inequalities. The table has
-/// a row for each ray and a column for each row of the list that was converted, true exactly where the
-/// ray has the value 0 on that row.
+/// A canonical system: the lines are marked as equalities and the rays as inequalities. The table
+/// has a row for each ray and a column for each row of the list that was converted, true exactly
+/// where the ray has the value 0 on that row.
 #[derive(Debug, Drop)]
 pub struct Cone {
     pub lines: RowList,
@@ -27,8 +27,8 @@ impl Clone for Cone {
     }
 }
 
-/// What further rows make of a system: that of all rows, and whether they admit other vectors than the
-/// rows before them.
+/// What further rows make of a system: that of all rows, and whether they admit other vectors
+/// than the rows before them.
 #[derive(Debug, Drop)]
 pub struct Added {
     pub cone: Cone,

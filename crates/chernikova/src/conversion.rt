@@ -26,9 +26,9 @@ use std::sync::ledger::Ledger;
 ///
 /// # Errors
 ///
-/// An overflow shows a vector of the system of the rows before one of them, and that row or another
-/// vector of the system, whose dot product or needed combination leaves the range. What was counted up
-/// to it is bounded by the systems of the rows up to that row.
+/// An overflow shows a vector of the system of the rows before one of them, and that row or
+/// another vector of the system, whose dot product or needed combination leaves the range. What
+/// was counted up to it is bounded by the systems of the rows up to that row.
 pub fn convert<L: Ledger>(
     alloc: Global,
     width: usize,
@@ -45,8 +45,8 @@ pub fn convert<L: Ledger>(
     Ok(sorted_cone(alloc, &cone)?)
 }
 
-/// What [`convert`] gives on the rows that were taken, followed by more rows, from the canonical system
-/// of those that were taken with its table.
+/// What [`convert`] gives on the rows that were taken, followed by more rows, from the canonical
+/// system of those that were taken with its table.
 ///
 /// # Errors
 ///
@@ -74,9 +74,9 @@ pub fn add_rows<L: Ledger>(
     Ok(sorted_cone(alloc, &system)?)
 }
 
-/// What [`convert`] gives on a list, from the system of its first `from` rows with its table, and whether
-/// the further rows changed it: they didn't where each line and ray of it meets them all. The rays may
-/// stand in any order. The list isn't copied, and the system is used up.
+/// What [`convert`] gives on a list, from the system of its first `from` rows with its table, and
+/// whether the further rows changed it: they didn't where each line and ray of it meets them all.
+/// The rays may stand in any order. The list isn't copied, and the system is used up.
 ///
 /// # Errors
 ///
@@ -138,7 +138,6 @@ pub(crate) fn start(alloc: Global, width: usize, rows: &RowList) -> Result<Syste
 
 /// Takes row `k` into the system, and tells whether it changed it.
 fn take_row<L: Ledger>(
-    alloc: Global,
     scratch: &mut Scratch,
     cone: &mut System,
     rows: &RowList,
@@ -155,13 +154,14 @@ fn take_row<L: Ledger>(
     ensures no_fewer { steps.old ≤ steps.new }
     ensures counted { HasSystemOf rows.now.width rows.now.rows (k + 1) (steps.new - steps.old) }
 {
-    let plan = plan_row(alloc, scratch, cone, rows, k)?;
+    let plan = plan_row(scratch, cone, rows, k)?;
     let changed = plan.changes();
-    take_planned(alloc, scratch, cone, plan, rows, k, steps)?;
+    take_planned(scratch, cone, plan, rows, k, steps)?;
     Ok(changed)
 }
 
-/// Takes all further rows into the system of the first `from` of them, and tells whether they changed it.
+/// Takes all further rows into the system of the first `from` of them, and tells whether they
+/// changed it.
 fn take_rows<L: Ledger>(
     alloc: Global,
     cone: &mut System,
@@ -181,7 +181,7 @@ fn take_rows<L: Ledger>(
     let mut scratch = Scratch::new(alloc);
     let mut changed = false;
     for k in from..rows.len() {
-        let row_changes = take_row(alloc, &mut scratch, cone, rows, k, steps)?;
+        let row_changes = take_row(&mut scratch, cone, rows, k, steps)?;
         changed |= row_changes;
     }
     Ok(changed)

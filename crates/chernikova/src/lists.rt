@@ -56,9 +56,7 @@ pub(crate) fn rows_of_both(first: &RowList, second: &RowList) -> Result<RowList,
     ensures rows { IfOk result (λ both. both.rows ≡ first.now.rows ++ second.now.rows) }
 {
     let mut both = first.clone()?;
-    for index in 0..second.len() {
-        both.push(second.row(index), second.is_eq(index))?;
-    }
+    both.push_all(second)?;
     Ok(both)
 }
 

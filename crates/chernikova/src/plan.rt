@@ -6,24 +6,33 @@ use crate::system::System;
 use row_store::count_meeting;
 use sat_matrix::{SatMatrix, expected_looks};
 
+/// The last line of a system on which a row isn't 0, by its index, and the values of the lines
+/// and of the rays on that row.
+#[derive(Drop)]
+pub(crate) struct CrossedLine {
+    pub(crate) index: usize,
+    pub(crate) line_values: Vec<i128>,
+    pub(crate) ray_values: Vec<i128>,
+}
+
+/// What a row asks for that is 0 on all lines: the values of the rays, which of them stay, with a
+/// true mark more for each pair, and the pairs to combine.
+#[derive(Drop)]
+pub(crate) struct CutRays {
+    pub(crate) values: Vec<i128>,
+    pub(crate) marks: Vec<bool>,
+    pub(crate) pairs: Vec<(usize, usize)>,
+}
+
 /// How a row lies to a system.
 #[derive(Drop)]
 pub(crate) enum Position {
-    /// The row isn't 0 on the line at the index, and 0 on each later one: the values of the lines and of
-    /// the rays.
-    Crossing {
-        index: usize,
-        line_values: Vec<i128>,
-        ray_values: Vec<i128>,
-    },
+    /// The row isn't 0 on some line.
+    Crossing(CrossedLine),
     /// The row is 0 on all lines, and each ray meets it: the values of the rays.
-    Met {
-        values: Vec<i128>,
-    },
+    Met { values: Vec<i128> },
     /// The row is 0 on all lines, and some ray doesn't meet it: the values of the rays.
-    Cutting {
-        values: Vec<i128>,
-    },
+    Cutting { values: Vec<i128> },
 }
 
 impl Position {
@@ -42,7 +51,7 @@ impl Position {
         ensures { result ≡ kept_of eq cone.now self.now }
     {
         match self {
-            Position::Crossing { .. } => 0,
+            Position::Crossing(_) => 0,
             Position::Met { values } | Position::Cutting { values } => {
                 cone.lines.len() as u128 + count_meeting(eq, values) as u128
             }
@@ -53,24 +62,12 @@ impl Position {
 /// What the step with a row is to do with a system.
 #[derive(Drop)]
 pub(crate) enum Plan {
-    /// The row isn't 0 on the line at the index, and 0 on each later one: the values of the lines and of
-    /// the rays.
-    Line {
-        index: usize,
-        line_values: Vec<i128>,
-        ray_values: Vec<i128>,
-    },
+    /// The row isn't 0 on some line.
+    Line(CrossedLine),
     /// Each line and ray meets the row, and stays: the values of the rays.
-    Same {
-        values: Vec<i128>,
-    },
-    /// The row is 0 on all lines: the values of the rays, which of them stay, with a true mark more for each pair,
-    /// and the pairs to combine.
-    Ray {
-        values: Vec<i128>,
-        marks: Vec<bool>,
-        pairs: Vec<(usize, usize)>,
-    },
+    Same { values: Vec<i128> },
+    /// The row is 0 on all lines, and some ray doesn't meet it.
+    Ray(CutRays),
 }
 
 impl Plan {
@@ -79,12 +76,12 @@ impl Plan {
         ensures { result ≡ combinations_of cone.now self.now }
     {
         match self {
-            Plan::Line { .. } => {
+            Plan::Line(_) => {
                 let vectors = cone.lines.len() as u128 + cone.rays.len() as u128;
                 vectors.saturating_sub(1)
             }
             Plan::Same { .. } => 0,
-            Plan::Ray { pairs, .. } => pairs.len() as u128,
+            Plan::Ray(cut) => cut.pairs.len() as u128,
         }
     }
 

@@ -3,8 +3,10 @@ use row_store::VectorList;
 use sat_matrix::PairLists;
 use std::alloc::Global;
 
-/// Lists that one step leaves to the next, which needs no new memory for as many elements.
+/// Lists that one step leaves to the next, which needs no new memory for as many elements, and the
+/// allocator of a step.
 pub(crate) struct Scratch {
+    pub(crate) alloc: Global,
     pub(crate) line_values: Vec<i128>,
     pub(crate) ray_values: Vec<i128>,
     pub(crate) marks: Vec<bool>,
@@ -13,10 +15,11 @@ pub(crate) struct Scratch {
     pub(crate) rays: VectorList,
 }
 
-// Written by hand, so that a function that drops the lists of a step calls this one, and doesn't free each part itself.
+// Written by hand, so that a function that drops the lists of a step makes one call.
 impl Drop for Scratch {
     fn drop(self) {
         let Self {
+            alloc: _,
             line_values: _,
             ray_values: _,
             marks: _,
@@ -31,6 +34,7 @@ impl Scratch {
     /// Returns empty lists.
     pub(crate) fn new(alloc: Global) -> Scratch {
         Scratch {
+            alloc,
             line_values: Vec::new(alloc),
             ray_values: Vec::new(alloc),
             marks: Vec::new(alloc),

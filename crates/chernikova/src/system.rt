@@ -2,11 +2,22 @@
 use row_store::VectorList;
 use sat_matrix::SatMatrix;
 
-/// Lines and rays, and a table with a row for each ray and a column for each row that was taken in, true
-/// exactly where the ray has the value 0 on that row.
-#[derive(Debug, Drop)]
+/// Lines and rays, and a table with a row for each ray and a column for each row that was taken
+/// in, true exactly where the ray has the value 0 on that row.
+#[derive(Debug)]
 pub(crate) struct System {
     pub(crate) lines: VectorList,
     pub(crate) rays: VectorList,
     pub(crate) sat: SatMatrix,
+}
+
+// Written by hand, so that a function that drops a system makes one call.
+impl Drop for System {
+    fn drop(self) {
+        let Self {
+            lines: _,
+            rays: _,
+            sat: _,
+        } = self;
+    }
 }

@@ -1,5 +1,5 @@
 //! What a row asks of a system, and its taking in.
-ghost use Rattle.std.specs.Prelude.{◌≡◌, ℕ, ◌+◌, ◌-◌, ◌<◌, ◌≤◌, List, length, IfOk, IfErr, MatchResult};
+ghost use Rattle.std.specs.Prelude.{◌+◌, ◌-◌, ◌<◌, ◌≤◌, length, IfOk, IfErr, MatchResult};
 ghost use Rattle.row_core.specs.Lists.{is_eq_at};
 ghost use Rattle.cone_laws.specs.SystemLaws.{HasSystemOf};
 ghost use Rattle.chernikova.specs.Conversion.{IsState, IsAtStep, IsRealOverflow};
@@ -13,7 +13,6 @@ use crate::step::{carry_out, make_room, plan_of_position, position};
 use crate::system::System;
 use row_core::{ConvErr, RowList, Steps};
 use sat_matrix::least_shared;
-use std::alloc::Global;
 use std::sync::ledger::Ledger;
 
 /// What came of a search that was to look at fewer rays than so many.
@@ -27,7 +26,6 @@ pub(crate) enum Search {
 
 /// How row `k` lies to the system of the rows before it.
 pub(crate) fn row_position(
-    alloc: Global,
     scratch: &mut Scratch,
     cone: &System,
     rows: &RowList,
@@ -40,15 +38,14 @@ pub(crate) fn row_position(
         (IsRealOverflow list.width list.rows) }
     ensures step { IfErr result (IsAtStep k) }
 {
-    match position(alloc, scratch, cone, rows, k) {
+    match position(scratch, cone, rows, k) {
         Ok(position) => Ok(position),
-        Err(fault) => Err(ConvErr::Overflow(overflow_of_dot(alloc, cone, rows, k, fault)?)),
+        Err(fault) => Err(ConvErr::Overflow(overflow_of_dot(scratch.alloc, cone, rows, k, fault)?)),
     }
 }
 
 /// What row `k` asks of the system of the rows before it.
 pub(crate) fn plan_row(
-    alloc: Global,
     scratch: &mut Scratch,
     cone: &System,
     rows: &RowList,
@@ -61,13 +58,12 @@ pub(crate) fn plan_row(
         (IsRealOverflow list.width list.rows) }
     ensures step { IfErr result (IsAtStep k) }
 {
-    let position = row_position(alloc, scratch, cone, rows, k)?;
-    Ok(plan_of_position(alloc, scratch, cone, position, rows, k)?)
+    let position = row_position(scratch, cone, rows, k)?;
+    Ok(plan_of_position(scratch, cone, position, rows, k)?)
 }
 
 /// Takes row `k` into the system as planned. All memory is taken before a line or a ray is changed.
 pub(crate) fn take_planned<L: Ledger>(
-    alloc: Global,
     scratch: &mut Scratch,
     cone: &mut System,
     plan: Plan,
@@ -85,18 +81,18 @@ pub(crate) fn take_planned<L: Ledger>(
     ensures no_fewer { steps.old ≤ steps.new }
     ensures counted { steps.new ≤ steps.old + combinations_of cone.old plan }
 {
-    make_room(alloc, scratch, cone, &plan)?;
+    make_room(scratch, cone, &plan)?;
     if let Err(fault) = carry_out(scratch, cone, plan, rows, k, steps) {
-        let over = overflow_of_combination(alloc, cone, rows, k, fault)?;
+        let over = overflow_of_combination(scratch.alloc, cone, rows, k, fault)?;
         return Err(ConvErr::Overflow(over));
     }
     Ok(())
 }
 
-/// Takes row `k` into the system from how it lies to it, and gives the number of its vectors less that of
-/// the combinations. What it counts is bounded by what the next system has beside the lines and rays that stay.
+/// Takes row `k` into the system from how it lies to it, and gives the number of its vectors less
+/// that of the combinations. What it counts is bounded by what the next system has beside the lines
+/// and rays that stay.
 pub(crate) fn take_row_sparing<L: Ledger>(
-    alloc: Global,
     scratch: &mut Scratch,
     cone: &mut System,
     position: Position,
@@ -118,17 +114,16 @@ pub(crate) fn take_row_sparing<L: Ledger>(
         IfOk result (λ spared.
         HasSystemOf list.width list.rows (k + 1) (steps.new - steps.old + spared)) }
 {
-    let plan = plan_of_position(alloc, scratch, cone, position, rows, k)?;
+    let plan = plan_of_position(scratch, cone, position, rows, k)?;
     let made = plan.combinations(cone);
-    take_planned(alloc, scratch, cone, plan, rows, k, steps)?;
+    take_planned(scratch, cone, plan, rows, k, steps)?;
     let vectors = cone.lines.len() as u128 + cone.rays.len() as u128;
     Ok(vectors.saturating_sub(made))
 }
 
-/// What row `k` asks of the system of the rows before it, where the search for its pairs is expected to look at
-/// fewer rays than so many.
+/// What row `k` asks of the system of the rows before it, where the search for its pairs is
+/// expected to look at fewer rays than so many.
 pub(crate) fn plan_row_within(
-    alloc: Global,
     scratch: &mut Scratch,
     cone: &System,
     rows: &RowList,
@@ -139,11 +134,11 @@ pub(crate) fn plan_row_within(
     requires state { IsState rows.now.width rows.now.rows k cone.now }
     ensures { IfOk result (IsSearchOfRow rows.now.rows k cone.now) }
 {
-    let position = row_position(alloc, scratch, cone, rows, k)?;
+    let position = row_position(scratch, cone, rows, k)?;
     let looks = position.looks(&cone.sat, least_shared(rows.width(), cone.lines.len()));
     if looks >= looks_below {
         return Ok(Search::Dear { looks });
     }
-    let plan = plan_of_position(alloc, scratch, cone, position, rows, k)?;
+    let plan = plan_of_position(scratch, cone, position, rows, k)?;
     Ok(Search::Found { looks, plan })
 }

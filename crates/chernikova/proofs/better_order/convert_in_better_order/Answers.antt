@@ -15,7 +15,7 @@ run-requires-clause-state g c =
     subst P (sym c.requires.width) c.in_ok-system.ensures
 
 pub run-requires-clause-beside : goal.run-requires-clause-beside
-run-requires-clause-beside g c = beside_idle c.args.rows.now.width c.args.rows.now.rows c.waiting.result c.waiting.ensures
+run-requires-clause-beside g c = beside_idle c.args.rows.now.width c.args.rows.now.rows c.idle.result c.idle.ensures
 
 pub returns-then-other-clause-cone : goal.returns-then-other-clause-cone
 returns-then-other-clause-cone g c =

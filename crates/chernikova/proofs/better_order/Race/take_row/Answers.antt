@@ -18,21 +18,21 @@ pub returns-then-is_done-clause-counted : goal.returns-then-is_done-clause-count
 returns-then-is_done-clause-counted g c =
     let kept : c.slack_before-kept.result ≤ kept_of (is_eq_at c.args.rows.now.rows c.args.k) c.args.self.now.system c.in_ok-position.position =
     subst (λ (eq : Bool). c.slack_before-kept.result ≤ kept_of eq c.args.self.now.system c.in_ok-position.position) c.is_eq.ensures c.slack_before-kept.ensures in
-    kept_counted c.args.rows.now.width c.args.rows.now.rows c.args.k c.args.self.now.system c.in_ok-position.position _ c.requires.row c.requires.state c.in_ok-position.ensures.position (omega (arith, kept, c.follow.ensures.within))
+    kept_counted c.args.rows.now.width c.args.rows.now.rows c.args.k c.args.self.now.system c.in_ok-position.position _ c.requires.row c.requires.state c.in_ok-position.ensures.position (omega (arith, kept, c.catch_up.ensures.within))
 
 pub returns-in_err-spared-clause-counted : goal.returns-in_err-spared-clause-counted
 returns-in_err-spared-clause-counted g c =
     let kept : c.slack_before-kept.result ≤ kept_of (is_eq_at c.args.rows.now.rows c.args.k) c.args.self.now.system c.in_ok-position.position =
     subst (λ (eq : Bool). c.slack_before-kept.result ≤ kept_of eq c.args.self.now.system c.in_ok-position.position) c.is_eq.ensures c.slack_before-kept.ensures in
-    has_less c.args.rows.now.width c.args.rows.now.rows (c.args.k + 1) _ _ c.take_row_sparing.ensures.counted (omega (arith, kept, c.follow.ensures.within, c.follow.ensures.no_fewer, c.take_row_sparing.ensures.no_fewer))
+    has_less c.args.rows.now.width c.args.rows.now.rows (c.args.k + 1) _ _ c.take_row_sparing.ensures.counted (omega (arith, kept, c.catch_up.ensures.within, c.catch_up.ensures.no_fewer, c.take_row_sparing.ensures.no_fewer))
 
 pub returns-clause-counted : goal.returns-clause-counted
 returns-clause-counted g c =
     let kept : c.slack_before-kept.result ≤ kept_of (is_eq_at c.args.rows.now.rows c.args.k) c.args.self.now.system c.in_ok-position.position =
     subst (λ (eq : Bool). c.slack_before-kept.result ≤ kept_of eq c.args.self.now.system c.in_ok-position.position) c.is_eq.ensures c.slack_before-kept.ensures in
     elim (cases_lt c.in_ok-spared.spared c.slack_before-kept.result) [
-      | inl few ↦ has_less c.args.rows.now.width c.args.rows.now.rows (c.args.k + 1) _ _ c.take_row_sparing.ensures.counted (omega (arith, few, kept, c.follow.ensures.within, c.follow.ensures.no_fewer, c.take_row_sparing.ensures.no_fewer))
-      | inr many ↦ has_less c.args.rows.now.width c.args.rows.now.rows (c.args.k + 1) _ _ c.in_ok-spared.ensures.spared (omega (arith, many, kept, c.follow.ensures.within, c.follow.ensures.no_fewer, c.take_row_sparing.ensures.no_fewer))
+      | inl few ↦ has_less c.args.rows.now.width c.args.rows.now.rows (c.args.k + 1) _ _ c.take_row_sparing.ensures.counted (omega (arith, few, kept, c.catch_up.ensures.within, c.catch_up.ensures.no_fewer, c.take_row_sparing.ensures.no_fewer))
+      | inr many ↦ has_less c.args.rows.now.width c.args.rows.now.rows (c.args.k + 1) _ _ c.in_ok-spared.ensures.spared (omega (arith, many, kept, c.catch_up.ensures.within, c.catch_up.ensures.no_fewer, c.take_row_sparing.ensures.no_fewer))
     ]
 
 pub returns-clause-done : goal.returns-clause-done
