@@ -2,7 +2,7 @@ use Rattle.std.specs.Prelude.{◌≡◌, ◌≢◌, ℕ, ◌<◌, ◌≤◌, ◌
 use Rattle.std.proofs.Math.IntN.{◌*ℤ◌}
 use Rattle.row_core.specs.Vectors.{cell, scale, combined}
 use Rattle.row_core.specs.Content.{IsPrimitive}
-use Rattle.row_core.specs.Lists.{Pointwise, vector_at}
+use Rattle.row_core.specs.Lists.{Row, Pointwise, row_at, vector_at}
 use Rattle.cone_laws.specs.Cones.{Spans}
 use Rattle.cone_laws.specs.Canon.{IsPivot, IsEchelon}
 use Rattle.row_core.specs.Signs.{sign}
@@ -25,7 +25,8 @@ pub record IsNewLine (lines : List (List ℤ)) (line : List ℤ) (c : ℕ) : Typ
   pub zeros : (i p : ℕ) → i < length lines → IsPivot (vector_at lines i) p → cell line p ≡ pos 0
   pub primitive : IsPrimitive line
 
--- a positive multiple of the row and multiples of the lines add to a positive multiple of the result, which is 0 at the pivot of each of these lines, and primitive
+-- a positive multiple of the row and multiples of the lines add to a positive multiple of the
+-- result, which is 0 at the pivot of each of these lines, and primitive
 pub record IsReduced (lines : List (List ℤ)) (a result : List ℤ) : Type 0 where
   pub times : ℤ
   pub positive : pos 0 <ℤ times
@@ -37,11 +38,18 @@ pub record IsReduced (lines : List (List ℤ)) (a result : List ℤ) : Type 0 wh
   pub wide : length result ≡ length a
   pub primitive : IsPrimitive result
 
+-- the vectors are the rows at the indices, each reduced by the lines
+abbrev pub AreReduced : List (List ℤ) → List Row → List ℕ → List (List ℤ) → Type 0
+AreReduced lines rows indices reduced =
+    Pointwise (λ i r. IsReduced lines (row_at rows i) r) indices reduced
+
 -- a list in reduced echelon form has at most as many lines as columns
 abbrev pub EchelonIsNarrow : Type 0
-EchelonIsNarrow = (width : ℕ) (lines rays : List (List ℤ)) → IsEchelon lines rays → All (λ l. length l ≡ width) lines → length lines ≤ width
+EchelonIsNarrow = (width : ℕ) (lines rays : List (List ℤ)) → IsEchelon lines rays
+    → All (λ l. length l ≡ width) lines → length lines ≤ width
 
--- a positive multiple of the result is the vector w, times the positive entry of l at the column, less so much of l that it is 0 there
+-- a positive multiple of the result is the vector w, times the positive entry of l at the column,
+-- less so much of l that it is 0 there
 pub record IsClearedAt (c : ℕ) (l w r : List ℤ) : Type 0 where
   pub times : ℤ
   pub positive : pos 0 <ℤ times
@@ -54,7 +62,8 @@ pub record IsCleared (c : ℕ) (l w r : List ℤ) : Type 0 where
   pub primitive : IsPrimitive r
 
 -- the first lines, up to an index, cleared at the pivot of a line
-pub record AreCleared (c : ℕ) (line : List ℤ) (lines : List (List ℤ)) (end : ℕ) (new : List (List ℤ)) : Type 0 where
+pub record AreCleared (c : ℕ) (line : List ℤ) (lines : List (List ℤ)) (end : ℕ)
+    (new : List (List ℤ)) : Type 0 where
   pub as_many : length new ≡ end
   pub each : (i : ℕ) → i < end → IsCleared c line (vector_at lines i) (vector_at new i)
 
@@ -65,7 +74,8 @@ pub record IsPlace (lines : List (List ℤ)) (c k : ℕ) : Type 0 where
   pub behind : (i p : ℕ) → k ≤ i → i < length lines → IsPivot (vector_at lines i) p → c < p
 
 -- the line stands at its place, and the others are the old lines cleared at its pivot
-pub record HasTaken (c : ℕ) (lines : List (List ℤ)) (line : List ℤ) (new : List (List ℤ)) : Type 0 where
+pub record HasTaken (c : ℕ) (lines : List (List ℤ)) (line : List ℤ)
+    (new : List (List ℤ)) : Type 0 where
   pub k : ℕ
   pub place : IsPlace lines c k
   pub within : k < length new
@@ -88,8 +98,13 @@ pub record IsGrown (lines : List (List ℤ)) (a : List ℤ) (new : List (List �
   pub is_reduced : IsReduced lines a reduced
   pub outcome : (((j : ℕ) → cell reduced j ≡ pos 0) × (new ≡ lines)) ⊎ HasGrown lines reduced new
 
--- the new line stands at the index k of the list, where the lines with lesser pivots end; it is 0 at the old pivots, and the others are the old lines cleared at its pivot: the list is in reduced echelon form
+-- the new line stands at the index k of the list, where the lines with lesser pivots end; it is 0
+-- at the old pivots, and the others are the old lines cleared at its pivot: the list is in
+-- reduced echelon form
 abbrev pub EchelonTakesLine : Type 0
-EchelonTakesLine = (lines new : List (List ℤ)) (k c : ℕ) (e : IsEchelon lines []) → k < length new → IsPivot (vector_at new k) c → ((i : ℕ) → i < length lines → cell (vector_at new k) (e.pivot i) ≡ pos 0)
-    → ((i : ℕ) → i < length lines → i < k → e.pivot i < c) → ((i : ℕ) → i < length lines → k ≤ i → c < e.pivot i)
+EchelonTakesLine = (lines new : List (List ℤ)) (k c : ℕ) (e : IsEchelon lines []) → k < length new
+    → IsPivot (vector_at new k) c
+    → ((i : ℕ) → i < length lines → cell (vector_at new k) (e.pivot i) ≡ pos 0)
+    → ((i : ℕ) → i < length lines → i < k → e.pivot i < c)
+    → ((i : ℕ) → i < length lines → k ≤ i → c < e.pivot i)
     → Pointwise (IsClearedAt c (vector_at new k)) lines (remove new k) → IsEchelon new []

@@ -1,4 +1,4 @@
-use Rattle.std.specs.Prelude.{◌≡◌, ◌≢◌, ℕ, ◌<◌, ◌≤◌, ◌↔◌, Bool, true, false, List, length, ℤ, pos, All, IsTrue, slice_index_or}
+use Rattle.std.specs.Prelude.{◌≡◌, ◌≢◌, ℕ, ◌<◌, ◌≤◌, ◌↔◌, Bool, false, List, length, ℤ, pos, All, IsTrue, slice_index_or}
 use Rattle.row_core.specs.Vectors.{dot}
 use Rattle.row_core.specs.Lists.{Row, row_at}
 use Rattle.sat_matrix.specs.Tables.{bits_of, Covers}
@@ -14,8 +14,12 @@ KeepsZeros rays a b = All (λ y. dot a y ≡ pos 0 → dot b y ≡ pos 0) rays
 pub record AreFacets (rows : List Row) (rays : List (List ℤ)) (kept : List ℕ) : Type 0 where
   pub within : All (λ i. i < length rows) kept
   pub uneven : All (λ i. ¬ (IsZeroOnAll rays (row_at rows i))) kept
-  pub apart : (k m : ℕ) → k < length kept → m < length kept → k ≢ m → ¬ (KeepsZeros rays (row_at rows (slice_index_or kept k 0)) (row_at rows (slice_index_or kept m 0)))
-  pub each : (i : ℕ) → i < length rows → ¬ (IsZeroOnAll rays (row_at rows i)) → (k : ℕ) × (k < length kept) × KeepsZeros rays (row_at rows i) (row_at rows (slice_index_or kept k 0))
+  pub apart : (k m : ℕ) → k < length kept → m < length kept → k ≢ m
+      → ¬ (KeepsZeros rays (row_at rows (slice_index_or kept k 0))
+      (row_at rows (slice_index_or kept m 0)))
+  pub each : (i : ℕ) → i < length rows → ¬ (IsZeroOnAll rays (row_at rows i))
+      → (k : ℕ) × (k < length kept)
+      × KeepsZeros rays (row_at rows i) (row_at rows (slice_index_or kept k 0))
 
 -- each of the truth values is true
 abbrev pub IsFull : List Bool → Type 0
@@ -24,7 +28,8 @@ IsFull bits = (j : ℕ) → j < length bits → IsTrue (slice_index_or bits j fa
 -- the marks tell which rows of the table are true at each place
 pub record TellsFull (rows : List (List Bool)) (marks : List Bool) : Type 0 where
   pub as_many : length marks ≡ length rows
-  pub tells : (i : ℕ) → i < length rows → IsTrue (slice_index_or marks i false) ↔ IsFull (bits_of rows i)
+  pub tells : (i : ℕ) → i < length rows
+      → IsTrue (slice_index_or marks i false) ↔ IsFull (bits_of rows i)
 
 -- the second row is true wherever the first is
 abbrev pub IsWithin : List Bool → List Bool → Type 0
@@ -32,7 +37,8 @@ IsWithin first second = Covers first first second
 
 -- the row is true only where one at the places is
 abbrev pub IsLedBy : List (List Bool) → List ℕ → ℕ → Type 0
-IsLedBy rows places m = (q : ℕ) × (q < length places) × IsWithin (bits_of rows m) (bits_of rows (slice_index_or places q 0))
+IsLedBy rows places m = (q : ℕ) × (q < length places)
+    × IsWithin (bits_of rows m) (bits_of rows (slice_index_or places q 0))
 
 -- the place is that of a row of the table that isn't true everywhere
 abbrev pub IsUneven : List (List Bool) → ℕ → Type 0
@@ -40,7 +46,9 @@ IsUneven rows p = (p < length rows) × ¬ (IsFull (bits_of rows p))
 
 -- no row at one of the places is true only where one at another is
 abbrev pub AreApart : List (List Bool) → List ℕ → Type 0
-AreApart rows places = (k m : ℕ) → k < length places → m < length places → k ≢ m → ¬ (IsWithin (bits_of rows (slice_index_or places k 0)) (bits_of rows (slice_index_or places m 0)))
+AreApart rows places = (k m : ℕ) → k < length places → m < length places → k ≢ m
+    → ¬ (IsWithin (bits_of rows (slice_index_or places k 0))
+    (bits_of rows (slice_index_or places m 0)))
 
 -- the places name rows that aren't true everywhere, one for each greatest set of true places
 pub record AreGreatest (rows : List (List Bool)) (places : List ℕ) : Type 0 where
@@ -58,7 +66,8 @@ IsCounted rows row = IsUneven rows row.place × (row.ones ≡ ones (bits_of rows
 
 -- no row has more true places than one before it
 abbrev pub AreFalling : List CountedRow → Type 0
-AreFalling list = (i j : ℕ) (d : CountedRow) → i ≤ j → j < length list → (slice_index_or list j d).ones ≤ (slice_index_or list i d).ones
+AreFalling list = (i j : ℕ) (d : CountedRow) → i ≤ j → j < length list
+    → (slice_index_or list j d).ones ≤ (slice_index_or list i d).ones
 
 -- the row has at most as many true places as each at the places
 abbrev pub IsNoLonger : List (List Bool) → List ℕ → ℕ → Type 0

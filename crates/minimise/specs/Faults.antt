@@ -15,7 +15,8 @@ pub record IsCombinationLeft (c : ℕ) (line row left right : List ℤ) (column 
   pub leaves : CombinationLeaves (cell left c) (cell right c) left right column
 
 -- a row, reduced by the lines before one, leaves the range where it is combined with that line
-pub record IsReductionLeft (lines : List (List ℤ)) (a left right : List ℤ) (column : ℕ) : Type 0 where
+pub record IsReductionLeft (lines : List (List ℤ)) (a left right : List ℤ)
+    (column : ℕ) : Type 0 where
   pub index : ℕ
   pub below : index < length lines
   pub left_is : vector_at lines index ≡ left
@@ -25,13 +26,15 @@ pub record IsReductionLeft (lines : List (List ℤ)) (a left right : List ℤ) (
   pub leaves : CombinationLeaves (cell left pivot) (cell right pivot) left right column
 
 -- one of the lines leaves the range where it is cleared at the pivot of a further line
-pub record IsClearingLeft (c : ℕ) (line : List ℤ) (lines : List (List ℤ)) (left right : List ℤ) (column : ℕ) : Type 0 where
+pub record IsClearingLeft (c : ℕ) (line : List ℤ) (lines : List (List ℤ)) (left right : List ℤ)
+    (column : ℕ) : Type 0 where
   pub left_is : left ≡ line
   pub right_in : Contains lines right
   pub leaves : CombinationLeaves (cell left c) (cell right c) left right column
 
 -- the same, with the place at which the further line would stand
-pub record IsTakingLeft (c : ℕ) (lines : List (List ℤ)) (line left right : List ℤ) (column : ℕ) : Type 0 where
+pub record IsTakingLeft (c : ℕ) (lines : List (List ℤ)) (line left right : List ℤ)
+    (column : ℕ) : Type 0 where
   pub k : ℕ
   pub place : IsPlace lines c k
   pub clearing : IsClearingLeft c line lines left right column
@@ -68,15 +71,18 @@ IsTakeFault c lines line (Left left right column) = IsTakingLeft c lines line le
 -- the fault where a row is taken in
 abbrev pub IsGrowFault : List (List ℤ) → List ℤ → Fault → Type 0
 IsGrowFault lines a Memory = ⊤
-IsGrowFault lines a (Left left right column) = IsReductionLeft lines a left right column ⊎ IsGrowingLeft lines a left right column
+IsGrowFault lines a (Left left right column) = IsReductionLeft lines a left right column
+    ⊎ IsGrowingLeft lines a left right column
 
 -- the fault of a list of rows with these flat ones
 abbrev pub IsListFault : List Row → List (List ℤ) → Fault → Type 0
 IsListFault rows flat Memory = ⊤
 IsListFault rows flat (Left left right column) = IsLeftAmong rows flat left right column
 
--- a row of the list, reduced by the lines before one, leaves the range where it is combined with that line
-pub record IsRowLeft (rows : List Row) (lines : List (List ℤ)) (left right : List ℤ) (column : ℕ) : Type 0 where
+-- a row of the list, reduced by the lines before one, leaves the range where it is
+-- combined with that line
+pub record IsRowLeft (rows : List Row) (lines : List (List ℤ)) (left right : List ℤ)
+    (column : ℕ) : Type 0 where
   pub row : ℕ
   pub row_below : row < length rows
   pub reduction : IsReductionLeft lines (row_at rows row) left right column

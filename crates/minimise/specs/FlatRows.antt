@@ -11,7 +11,8 @@ IsFlat width rows a = (v : List ℤ) → ConeOf width rows v → dot a v ≡ pos
 -- the marks tell which rows are 0 on the whole cone
 pub record TellsFlat (width : ℕ) (rows : List Row) (marks : List Bool) : Type 0 where
   pub as_many : length marks ≡ length rows
-  pub tells : (i : ℕ) → i < length rows → IsTrue (slice_index_or marks i false) ↔ IsFlat width rows (row_at rows i)
+  pub tells : (i : ℕ) → i < length rows
+      → IsTrue (slice_index_or marks i false) ↔ IsFlat width rows (row_at rows i)
 
 -- the row is 0 on each ray
 abbrev pub IsZeroOnAll : List (List ℤ) → List ℤ → Type 0
@@ -19,4 +20,6 @@ IsZeroOnAll rays a = All (λ y. dot a y ≡ pos 0) rays
 
 -- a row is 0 on the whole cone exactly where it is 0 on each ray
 abbrev pub FlatIsZeroOnRays : Type 0
-FlatIsZeroOnRays = (width : ℕ) (rows : List Row) (lines rays : List (List ℤ)) (i : ℕ) → IsSystem (ConeOf width rows) lines rays → i < length rows → IsFlat width rows (row_at rows i) ↔ IsZeroOnAll rays (row_at rows i)
+FlatIsZeroOnRays = (width : ℕ) (rows : List Row) (lines rays : List (List ℤ)) (i : ℕ)
+    → IsSystem (ConeOf width rows) lines rays → i < length rows
+    → IsFlat width rows (row_at rows i) ↔ IsZeroOnAll rays (row_at rows i)

@@ -10,7 +10,8 @@ use Rattle.minimise.specs.Lefts.{IsLeft}
 use Rattle.minimise.specs.declared.second_system.Simplified.{Simplified}
 use Rattle.minimise.specs.declared.second_system.Simplified.TheVariants.{Done, Left}
 
--- the lines and rays are the canonical system of the list, and the table tells the rows of the list on which each ray is 0
+-- the lines and rays are the canonical system of the list, and the table tells the rows of the list
+-- on which each ray is 0
 pub record IsSystemOf (width : ℕ) (list : List Row) (lines rays : Rows) (sat : Table) : Type 0 where
   pub canon : Canon (ConeOf width list) (vectors lines.rows) (vectors rays.rows)
   pub lists : AreLists width lines rays
@@ -23,7 +24,8 @@ pub record IsValidOn (width : ℕ) (C : List ℤ → Type 0) (a : List ℤ) : Ty
 
 -- where it was found, it is the canonical system of all rows that are valid on the set
 abbrev pub IsSystemOfValid : ℕ → (List ℤ → Type 0) → Simplified → Type 0
-IsSystemOfValid width C (Done lines rays sat) = Canon (IsValidOn width C) (vectors lines.rows) (vectors rays.rows)
+IsSystemOfValid width C (Done lines rays sat) =
+    Canon (IsValidOn width C) (vectors lines.rows) (vectors rays.rows)
 IsSystemOfValid width C (Left left right column) = ⊤
 
 -- the canonical system of the second list was found

@@ -19,7 +19,8 @@ use std::sync::ledger::Ledger;
 /// How many lines have a pivot before the column, which is none of the pivots.
 fn place_of(lines: &RowList, column: usize) -> usize
     requires echelon { IsEchelon (vectors lines.now.rows) [] }
-    requires apart { (i : ℕ) → i < length lines.now.rows → ¬ (IsPivot (vector_at (vectors lines.now.rows) i) column) }
+    requires apart { (i : ℕ) → i < length lines.now.rows
+        → ¬ (IsPivot (vector_at (vectors lines.now.rows) i) column) }
     ensures { IsPlace (vectors lines.now.rows) column result }
 {
     for index in 0..lines.len() {
@@ -39,13 +40,15 @@ fn cleared<L: Ledger>(
     pivot: usize,
     steps: &mut Steps<L>,
 ) -> Result<RowBuf, Fault>
-    requires same_width { (length row.now ≡ length line.now) × (length scratch.old ≡ length line.now) }
+    requires same_width { (length row.now ≡ length line.now)
+        × (length scratch.old ≡ length line.now) }
     requires narrow { length line.now < 2 ^ 32 }
     requires row { AllInRange row.now × IsPrimitive row.now }
     requires line { AllInRange line.now × IsPivot line.now pivot }
     ensures counted { (steps.old ≤ steps.new) × (steps.new ≤ steps.old + 1) }
     ensures scratch { length scratch.new ≡ length scratch.old }
-    ensures cleared { MatchResult result (IsCleared pivot line.now row.now) (IsCombineFault pivot line.now row.now) }
+    ensures cleared { MatchResult result (IsCleared pivot line.now row.now)
+        (IsCombineFault pivot line.now row.now) }
 {
     let mut new = RowBuf::new(alloc, row)?.into_vec();
     clear(alloc, &mut new, scratch, line, pivot, steps)?;
@@ -66,7 +69,9 @@ fn cleared_before<L: Ledger>(
     requires wide { length line.now ≡ lines.now.width }
     requires line { AllInRange line.now × IsPivot line.now pivot }
     ensures counted { (steps.old ≤ steps.new) × (steps.new ≤ steps.old + end) }
-    ensures cleared { MatchResult result (λ new. AreCleared pivot line.now (vectors lines.now.rows) end (vectors new.rows)) (IsClearFault pivot line.now (vectors lines.now.rows)) }
+    ensures cleared { MatchResult result
+        (λ new. AreCleared pivot line.now (vectors lines.now.rows) end (vectors new.rows))
+        (IsClearFault pivot line.now (vectors lines.now.rows)) }
     ensures list { IfOk result (λ new. (new.width ≡ lines.now.width) × AreMarked true new.rows) }
 {
     let mut new = RowList::new(alloc, lines.width());
@@ -83,7 +88,8 @@ fn push_from(into: &mut RowList, lines: &RowList, start: usize) -> Result<(), Me
     requires width { lines.now.width ≡ into.old.width }
     requires start { start ≤ length lines.now.rows }
     ensures width { into.new.width ≡ into.old.width }
-    ensures rows { OnOk result (vectors into.new.rows ≡ vectors into.old.rows ++ drop start (vectors lines.now.rows)) }
+    ensures rows { OnOk result
+        (vectors into.new.rows ≡ vectors into.old.rows ++ drop start (vectors lines.now.rows)) }
     ensures marked { OnOk result (AreMarked true into.old.rows → AreMarked true into.new.rows) }
 {
     for index in start..lines.len() {
@@ -106,7 +112,9 @@ fn with_line<L: Ledger>(
     requires in_range { AllInRange line.now }
     requires line { IsNewLine (vectors lines.now.rows) line.now pivot }
     ensures counted { (steps.old ≤ steps.new) × (steps.new ≤ steps.old + length lines.now.rows) }
-    ensures taken { MatchResult result (λ new. HasTaken pivot (vectors lines.now.rows) line.now (vectors new.rows)) (IsTakeFault pivot (vectors lines.now.rows) line.now) }
+    ensures taken { MatchResult result
+        (λ new. HasTaken pivot (vectors lines.now.rows) line.now (vectors new.rows))
+        (IsTakeFault pivot (vectors lines.now.rows) line.now) }
     ensures list { IfOk result (λ new. (new.width ≡ lines.now.width) × AreMarked true new.rows) }
 {
     let place = place_of(lines, pivot);
@@ -129,8 +137,8 @@ fn turn_up(alloc: Global, vector: &[i128], column: usize) -> Result<Vec<i128>, M
     Ok(turned)
 }
 
-/// The basis with a row that is 0 at its pivots, with the sign with which it is positive at the first column at which
-/// it isn't 0.
+/// The basis with a row that is 0 at its pivots, with the sign with which it is positive at the
+/// first column at which it isn't 0.
 fn with_reduced<L: Ledger>(
     alloc: Global,
     lines: &RowList,
@@ -145,7 +153,9 @@ fn with_reduced<L: Ledger>(
     requires leading { IsLeading reduced.now pivot }
     requires line { IsNewLine (vectors lines.now.rows) (turned_up reduced.now pivot) pivot }
     ensures counted { (steps.old ≤ steps.new) × (steps.new ≤ steps.old + length lines.now.rows) }
-    ensures taken { MatchResult result (λ new. HasTaken pivot (vectors lines.now.rows) (turned_up reduced.now pivot) (vectors new.rows)) (IsTakeFault pivot (vectors lines.now.rows) (turned_up reduced.now pivot)) }
+    ensures taken { MatchResult result (λ new. HasTaken pivot (vectors lines.now.rows)
+        (turned_up reduced.now pivot) (vectors new.rows))
+        (IsTakeFault pivot (vectors lines.now.rows) (turned_up reduced.now pivot)) }
     ensures list { IfOk result (λ new. (new.width ≡ lines.now.width) × AreMarked true new.rows) }
 {
     let line = turn_up(alloc, reduced, pivot)?;
@@ -165,7 +175,9 @@ fn grown<L: Ledger>(
     requires in_range { AllInRange row.now }
     requires marked { AreMarked true lines.rows }
     ensures counted { (steps.old ≤ steps.new) × (steps.new ≤ steps.old + 2 * lines.width) }
-    ensures grown { MatchResult result (λ new. IsGrown (vectors lines.rows) row.now (vectors new.rows)) (IsGrowFault (vectors lines.rows) row.now) }
+    ensures grown { MatchResult result
+        (λ new. IsGrown (vectors lines.rows) row.now (vectors new.rows))
+        (IsGrowFault (vectors lines.rows) row.now) }
     ensures list { IfOk result (λ new. (new.width ≡ lines.width) × AreMarked true new.rows) }
 {
     let _width = lines.width();
@@ -184,9 +196,13 @@ pub(crate) fn basis<L: Ledger>(
     steps: &mut Steps<L>,
 ) -> Result<RowList, Fault>
     requires as_many { length flat.now ≡ length rows.now.rows }
-    ensures counted { (steps.old ≤ steps.new) × (steps.new ≤ steps.old + 2 * (length (marked flat.now (vectors rows.now.rows)) * rows.now.width)) }
-    ensures basis { MatchResult result (λ lines. IsBasis (marked flat.now (vectors rows.now.rows)) (vectors lines.rows)) (IsListFault rows.now.rows (marked flat.now (vectors rows.now.rows))) }
-    ensures list { IfOk result (λ lines. (lines.width ≡ rows.now.width) × AreMarked true lines.rows) }
+    ensures counted { (steps.old ≤ steps.new) × (steps.new ≤ steps.old
+        + 2 * (length (marked flat.now (vectors rows.now.rows)) * rows.now.width)) }
+    ensures basis { MatchResult result
+        (λ lines. IsBasis (marked flat.now (vectors rows.now.rows)) (vectors lines.rows))
+        (IsListFault rows.now.rows (marked flat.now (vectors rows.now.rows))) }
+    ensures list { IfOk result
+        (λ lines. (lines.width ≡ rows.now.width) × AreMarked true lines.rows) }
 {
     let mut lines = RowList::new(alloc, rows.width());
     for index in 0..rows.len() {

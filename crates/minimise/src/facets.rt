@@ -16,7 +16,8 @@ pub(crate) struct CountedRow {
     place: usize,
 }
 
-/// Of the rows that aren't marked, the places of one for each greatest set of true places, in order.
+/// Of the rows that aren't marked, the places of one for each greatest set of true
+/// places, in order.
 pub(crate) fn facets_of(
     alloc: Global,
     table: &SatMatrix,
@@ -118,8 +119,8 @@ fn is_led(table: &SatMatrix, places: &[usize], row: usize) -> bool
     false
 }
 
-/// Appends the place of a row, which has at most as many true places as those at the places, unless it
-/// is true only where one of them is.
+/// Appends the place of a row, which has at most as many true places as those at the places, unless
+/// it is true only where one of them is.
 fn push_leader(places: &mut Vec<usize>, table: &SatMatrix, row: usize) -> Result<(), AllocError>
     requires row { IsUneven table.now.rows row }
     requires uneven { All (IsUneven table.now.rows) places.old.items }
@@ -141,8 +142,8 @@ fn push_leader(places: &mut Vec<usize>, table: &SatMatrix, row: usize) -> Result
     Ok(())
 }
 
-/// Of the rows one for each greatest set of true places. A row is compared with those before it alone,
-/// since of two sets the greater one isn't within the lesser.
+/// Of the rows one for each greatest set of true places. A row is compared with those before it
+/// alone, since of two sets the greater one isn't within the lesser.
 fn leaders(
     alloc: Global,
     table: &SatMatrix,

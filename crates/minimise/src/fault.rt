@@ -10,7 +10,8 @@ use std::alloc::{AllocError, Global};
 #[derive(Drop)]
 pub(crate) enum Fault {
     Memory,
-    /// The combination of the two vectors that is 0 at a pivot leaves the range first at the column.
+    /// The combination of the two vectors that is 0 at a pivot leaves the range first
+    /// at the column.
     Left {
         left: RowBuf,
         right: RowBuf,

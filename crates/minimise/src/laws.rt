@@ -9,8 +9,8 @@ pub fn flat_rows()
     ensures { FlatIsZeroOnRays }
 {}
 
-/// The basis of the rows that are 0 on the cone, and one reduced row for each greatest set of zeros of
-/// the others, are the system of the valid rows.
+/// The basis of the rows that are 0 on the cone, and one reduced row for each greatest set of zeros
+/// of the others, are the system of the valid rows.
 pub fn simplified_is_system()
     ensures { SimplifiedIsSystem }
 {}

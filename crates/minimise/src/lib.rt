@@ -1,7 +1,7 @@
 //! The second system of a cone, from its rows and the zeros of its rays.
 //!
-//! - [`simplify`] gives the canonical system of all rows that are valid on the cone, or the combination
-//!   that leaves the range; [`Simplified`] is its answer.
+//! - [`simplify`] gives the canonical system of all rows that are valid on the cone, or the
+//!   combination that leaves the range; [`Simplified`] is its answer.
 #![tactic(auto)]
 
 mod bases;

@@ -1,9 +1,9 @@
 //! The lines and rays of the second system, before the rays are sorted.
 ghost use Rattle.std.specs.Prelude.{◌≡◌, ◌+◌, ◌*◌, ◌<◌, ◌≤◌, [], false, length, All, IfOk, MatchResult};
 ghost use Rattle.flat_rows.specs.Flat.{marked};
-ghost use Rattle.row_core.specs.Lists.{row_at, vectors, AreMarked, Pointwise};
+ghost use Rattle.row_core.specs.Lists.{vectors, AreMarked};
 ghost use Rattle.cone_laws.specs.Canon.{IsEchelon};
-ghost use Rattle.minimise.specs.Bases.{IsReduced};
+ghost use Rattle.minimise.specs.Bases.{AreReduced};
 ghost use Rattle.minimise.specs.Faults.{IsRowFault, IsListFault};
 ghost use Rattle.minimise.specs.Facets.{TellsFull};
 ghost use Rattle.minimise.specs.Parts.{AreParts};
@@ -17,8 +17,8 @@ use sat_matrix::SatMatrix;
 use std::alloc::Global;
 use std::sync::ledger::Ledger;
 
-/// The basis of the rows that are 0 on the whole cone, the places of the facets in the list of rows, and
-/// a reduced row for each of the facets.
+/// The basis of the rows that are 0 on the whole cone, the places of the facets in the list of
+/// rows, and a reduced row for each of the facets.
 #[derive(Drop)]
 pub(crate) struct Parts {
     pub(crate) equalities: RowList,
@@ -29,7 +29,8 @@ pub(crate) struct Parts {
 /// The rows at the indices, each made primitive.
 fn primitive_rows(alloc: Global, rows: &RowList, kept: &[usize]) -> Result<RowList, Memory>
     requires within { All (λ i. i < length rows.now.rows) kept.now }
-    ensures reduced { IfOk result (λ new. Pointwise (λ i r. IsReduced [] (row_at rows.now.rows i) r) kept.now (vectors new.rows)) }
+    ensures reduced { IfOk result
+        (λ new. AreReduced [] rows.now.rows kept.now (vectors new.rows)) }
     ensures list { IfOk result (λ new. (new.width ≡ rows.now.width) × AreMarked false new.rows) }
 {
     let mut new = RowList::with_room(alloc, rows.width(), kept.len())?;
@@ -53,8 +54,11 @@ fn reduced_rows<L: Ledger>(
     requires width { lines.now.width ≡ rows.now.width }
     requires within { All (λ i. i < length rows.now.rows) kept.now }
     requires echelon { IsEchelon (vectors lines.now.rows) [] }
-    ensures counted { (steps.old ≤ steps.new) × (steps.new ≤ steps.old + length kept.now * rows.now.width) }
-    ensures reduced { MatchResult result (λ new. Pointwise (λ i r. IsReduced (vectors lines.now.rows) (row_at rows.now.rows i) r) kept.now (vectors new.rows)) (IsRowFault rows.now.rows (vectors lines.now.rows)) }
+    ensures counted { (steps.old ≤ steps.new)
+        × (steps.new ≤ steps.old + length kept.now * rows.now.width) }
+    ensures reduced { MatchResult result
+        (λ new. AreReduced (vectors lines.now.rows) rows.now.rows kept.now (vectors new.rows))
+        (IsRowFault rows.now.rows (vectors lines.now.rows)) }
     ensures list { IfOk result (λ new. (new.width ≡ rows.now.width) × AreMarked false new.rows) }
 {
     if lines.is_empty() {
@@ -68,8 +72,8 @@ fn reduced_rows<L: Ledger>(
     Ok(new)
 }
 
-/// The parts of the second system of the rows. The table has a row for each of them, true at the rays
-/// on which it is 0, and the marked ones are 0 on the whole cone.
+/// The parts of the second system of the rows. The table has a row for each of them, true at the
+/// rays on which it is 0, and the marked ones are 0 on the whole cone.
 pub(crate) fn parts_of<L: Ledger>(
     alloc: Global,
     rows: &RowList,
@@ -79,8 +83,10 @@ pub(crate) fn parts_of<L: Ledger>(
 ) -> Result<Parts, Fault>
     requires as_many { length table.now.rows ≡ length rows.now.rows }
     requires full { TellsFull table.now.rows flat.now }
-    ensures counted { (steps.old ≤ steps.new) × (steps.new ≤ steps.old + 2 * (length rows.now.rows * rows.now.width)) }
-    ensures parts { MatchResult result (AreParts rows.now table.now flat.now) (IsListFault rows.now.rows (marked flat.now (vectors rows.now.rows))) }
+    ensures counted { (steps.old ≤ steps.new)
+        × (steps.new ≤ steps.old + 2 * (length rows.now.rows * rows.now.width)) }
+    ensures parts { MatchResult result (AreParts rows.now table.now flat.now)
+        (IsListFault rows.now.rows (marked flat.now (vectors rows.now.rows))) }
 {
     let _width = rows.width();
     let equalities = basis(alloc, rows, flat, steps)?;

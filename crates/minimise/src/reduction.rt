@@ -42,8 +42,8 @@ pub(crate) fn zeros(alloc: Global, width: usize) -> Result<Vec<i128>, Memory>
     Ok(vec![in alloc; 0; width]?)
 }
 
-/// Writes over the row its primitive combination with the line that is 0 at the pivot of the line. The
-/// factor of the row is positive.
+/// Writes over the row its primitive combination with the line that is 0 at the pivot of the line.
+/// The factor of the row is positive.
 ///
 /// # Errors
 ///
@@ -55,13 +55,16 @@ pub(crate) fn clear_at<L: Ledger>(
     pivot: usize,
     steps: &mut Steps<L>,
 ) -> Result<(), u32>
-    requires same_width { (length row.old ≡ length line.now) × (length scratch.old ≡ length line.now) }
+    requires same_width { (length row.old ≡ length line.now)
+        × (length scratch.old ≡ length line.now) }
     requires narrow { length line.now < 2 ^ 32 }
     requires row { AllInRange row.old × IsPrimitive row.old }
     requires line { AllInRange line.now × IsPivot line.now pivot }
     ensures counted { (steps.old ≤ steps.new) × (steps.new ≤ steps.old + 1) }
     ensures widths { (length row.new ≡ length row.old) × (length scratch.new ≡ length scratch.old) }
-    ensures cleared { MatchResult result (λ _. IsCleared pivot line.now row.old row.new) (λ column. (row.new ≡ row.old) × CombinationLeaves (cell line.now pivot) (cell row.old pivot) line.now row.old column) }
+    ensures cleared { MatchResult result (λ _. IsCleared pivot line.now row.old row.new)
+        (λ column. (row.new ≡ row.old)
+        × CombinationLeaves (cell line.now pivot) (cell row.old pivot) line.now row.old column) }
     ensures in_range { AllInRange row.new }
 {
     if row[pivot] == 0 {
@@ -81,13 +84,15 @@ pub(crate) fn clear<L: Ledger>(
     pivot: usize,
     steps: &mut Steps<L>,
 ) -> Result<(), Fault>
-    requires same_width { (length row.old ≡ length line.now) × (length scratch.old ≡ length line.now) }
+    requires same_width { (length row.old ≡ length line.now)
+        × (length scratch.old ≡ length line.now) }
     requires narrow { length line.now < 2 ^ 32 }
     requires row { AllInRange row.old × IsPrimitive row.old }
     requires line { AllInRange line.now × IsPivot line.now pivot }
     ensures counted { (steps.old ≤ steps.new) × (steps.new ≤ steps.old + 1) }
     ensures widths { (length row.new ≡ length row.old) × (length scratch.new ≡ length scratch.old) }
-    ensures cleared { MatchResult result (λ _. IsCleared pivot line.now row.old row.new) (IsCombineFault pivot line.now row.old) }
+    ensures cleared { MatchResult result (λ _. IsCleared pivot line.now row.old row.new)
+        (IsCombineFault pivot line.now row.old) }
     ensures in_range { AllInRange row.new }
 {
     match clear_at(row, scratch, line, pivot, steps) {
@@ -96,8 +101,8 @@ pub(crate) fn clear<L: Ledger>(
     }
 }
 
-/// A primitive row, 0 at the pivots of the lines: a positive multiple of the row and multiples of the
-/// lines. The lines are taken in their order.
+/// A primitive row, 0 at the pivots of the lines: a positive multiple of the row and multiples of
+/// the lines. The lines are taken in their order.
 pub(crate) fn reduce<L: Ledger>(
     alloc: Global,
     lines: &RowList,
@@ -108,7 +113,8 @@ pub(crate) fn reduce<L: Ledger>(
     requires in_range { AllInRange row.now }
     requires echelon { IsEchelon (vectors lines.now.rows) [] }
     ensures counted { (steps.old ≤ steps.new) × (steps.new ≤ steps.old + length lines.now.rows) }
-    ensures reduced { MatchResult result (λ v. IsReduced (vectors lines.now.rows) row.now v.items) (IsReduceFault (vectors lines.now.rows) row.now) }
+    ensures reduced { MatchResult result (λ v. IsReduced (vectors lines.now.rows) row.now v.items)
+        (IsReduceFault (vectors lines.now.rows) row.now) }
     ensures in_range { IfOk result (λ v. AllInRange v.items) }
 {
     let width = lines.width();

@@ -20,7 +20,7 @@ use std::alloc::Global;
 use std::sync::ledger::Ledger;
 
 /// What a simplification gives.
-#[derive(Debug, Drop)]
+#[derive(Drop)]
 pub enum Simplified {
     /// The canonical system of the valid rows, the lines marked as equalities and the rays as
     /// inequalities. The table has a row for each of these rays and a column for each vector of the
@@ -30,8 +30,8 @@ pub enum Simplified {
         rays: RowList,
         sat: SatMatrix,
     },
-    /// The combination of the two rows that is 0 at the pivot of the left one leaves the range first
-    /// at the column.
+    /// The combination of the two rows that is 0 at the pivot of the left one leaves the range
+    /// first at the column.
     Left {
         left: RowBuf,
         right: RowBuf,
@@ -48,7 +48,8 @@ fn arranged_rays(
 ) -> Result<(RowList, SatMatrix), Memory>
     requires as_many { length parts.now.facets.items ≡ length parts.now.reduced.rows }
     requires within { All (λ p. p < length table.now.rows) parts.now.facets.items }
-    ensures { IfOk result (λ s. AreArranged lines table.now parts.now parts.now.equalities s.0 s.1) }
+    ensures { IfOk result
+        (λ s. AreArranged lines table.now parts.now parts.now.equalities s.0 s.1) }
 {
     let order = descending_order(alloc, &parts.reduced)?;
     let rays = rays_at(alloc, &parts.reduced, &order)?;
@@ -56,8 +57,8 @@ fn arranged_rays(
     Ok((rays, sat))
 }
 
-/// The parts with the rays in descending order, and their table against as many lines and the rays of
-/// the first system.
+/// The parts with the rays in descending order, and their table against as many lines and the rays
+/// of the first system.
 fn arranged(
     alloc: Global,
     lines: usize,
@@ -85,10 +86,14 @@ fn second_system<L: Ledger>(
     sat: &SatMatrix,
     steps: &mut Steps<L>,
 ) -> Result<Simplified, Fault>
-    requires system { IsSystem (ConeOf rows.now.width rows.now.rows) (vectors lines.now.rows) (vectors rays.now.rows) }
+    requires system { IsSystem (ConeOf rows.now.width rows.now.rows) (vectors lines.now.rows)
+        (vectors rays.now.rows) }
     requires lists { AreLists rows.now.width lines.now rays.now }
-    requires sat { IsZeroTable rows.now.rows (length rows.now.rows) (vectors rays.now.rows) sat.now }
-    ensures simplified { MatchResult result (IsDone rows.now.width (lines.now.rows ++ rays.now.rows)) (IsLeftFault rows.now.width rows.now.rows) }
+    requires sat { IsZeroTable rows.now.rows (length rows.now.rows)
+        (vectors rays.now.rows) sat.now }
+    ensures simplified { MatchResult result
+        (IsDone rows.now.width (lines.now.rows ++ rays.now.rows))
+        (IsLeftFault rows.now.width rows.now.rows) }
     ensures no_fewer { steps.old ≤ steps.new }
     ensures counted { steps.new ≤ steps.old + 2 * (length rows.now.rows * rows.now.width) }
 {
@@ -98,12 +103,13 @@ fn second_system<L: Ledger>(
     Ok(arranged(alloc, lines.len(), &table, parts)?)
 }
 
-/// The canonical system of all rows that are valid on the cone of `rows`, from the canonical system of
-/// that cone with its table: the reduced echelon basis of the rows that are 0 on the whole cone, and of
-/// the others one for each greatest set of rays on which a row is 0.
+/// The canonical system of all rows that are valid on the cone of `rows`, from the canonical system
+/// of that cone with its table: the reduced echelon basis of the rows that are 0 on the whole cone,
+/// and of the others one for each greatest set of rays on which a row is 0.
 ///
-/// Each combination is counted, at most two for each row and column. [`Simplified::Left`] shows one that
-/// leaves the range; the second system is then found by a conversion of `lines` followed by `rays`.
+/// Each combination is counted, at most two for each row and column. [`Simplified::Left`] shows
+/// one that leaves the range; the second system is then found by a conversion of `lines`
+/// followed by `rays`.
 pub fn simplify<L: Ledger>(
     alloc: Global,
     rows: &RowList,
@@ -112,10 +118,13 @@ pub fn simplify<L: Ledger>(
     sat: &SatMatrix,
     steps: &mut Steps<L>,
 ) -> Result<Simplified, Memory>
-    requires system { IsSystem (ConeOf rows.now.width rows.now.rows) (vectors lines.now.rows) (vectors rays.now.rows) }
+    requires system { IsSystem (ConeOf rows.now.width rows.now.rows) (vectors lines.now.rows)
+        (vectors rays.now.rows) }
     requires lists { AreLists rows.now.width lines.now rays.now }
-    requires sat { IsZeroTable rows.now.rows (length rows.now.rows) (vectors rays.now.rows) sat.now }
-    ensures simplified { IfOk result (IsSimplified rows.now.width rows.now.rows (lines.now.rows ++ rays.now.rows)) }
+    requires sat { IsZeroTable rows.now.rows (length rows.now.rows)
+        (vectors rays.now.rows) sat.now }
+    ensures simplified { IfOk result
+        (IsSimplified rows.now.width rows.now.rows (lines.now.rows ++ rays.now.rows)) }
     ensures valid { let cone = ConeOf rows.now.width rows.now.rows in
         IfOk result (IsSystemOfValid rows.now.width cone) }
     ensures no_fewer { steps.old ≤ steps.new }

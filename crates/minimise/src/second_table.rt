@@ -12,7 +12,8 @@ use std::alloc::Global;
 fn bit_behind(lines: usize, zeros: &SatMatrix, row: usize, column: usize) -> bool
     requires row { row < length zeros.now.rows }
     requires column { column < lines + zeros.now.columns }
-    ensures { result ≡ slice_index_or (behind_lines lines (bits_of zeros.now.rows row)) column false }
+    ensures { let bits = behind_lines lines (bits_of zeros.now.rows row) in
+        result ≡ slice_index_or bits column false }
 {
     column < lines || zeros.get(row, column - lines)
 }
@@ -22,7 +23,8 @@ fn write_behind(table: &mut SatMatrix, last: usize, lines: usize, zeros: &SatMat
     requires last { last < length table.old.rows }
     requires columns { table.old.columns ≡ lines + zeros.now.columns }
     requires row { row < length zeros.now.rows }
-    ensures { table.new ≡ record table.old { rows = slice_set table.old.rows last (behind_lines lines (bits_of zeros.now.rows row)) } }
+    ensures { let bits = behind_lines lines (bits_of zeros.now.rows row) in
+        table.new ≡ record table.old { rows = slice_set table.old.rows last bits } }
 {
     let _width = zeros.columns();
     for column in 0..table.columns() {
@@ -36,7 +38,8 @@ fn push_behind(table: &mut SatMatrix, lines: usize, zeros: &SatMatrix, row: usiz
     requires columns { table.old.columns ≡ lines + zeros.now.columns }
     requires row { row < length zeros.now.rows }
     ensures columns { table.new.columns ≡ table.old.columns }
-    ensures rows { table.new.rows ≡ table.old.rows ++ behind_lines lines (bits_of zeros.now.rows row) ∷ [] }
+    ensures rows { table.new.rows ≡ table.old.rows
+        ++ behind_lines lines (bits_of zeros.now.rows row) ∷ [] }
     ensures spare { table.new.spare + 1 ≡ table.old.spare }
 {
     if lines == 0 {

@@ -24,27 +24,34 @@ con_kind (pos e) = Ge
 con_kind (negsuc e) = Gt
 
 -- the entry is the row or vector without column e, made primitive, with the kind
-pub record Stands {K : Type 0} (dim : ℕ) (r : List ℤ) (named : K) (entry : List ℤ × K) : Type 0 where
+pub record Stands {K : Type 0} (dim : ℕ) (r : List ℤ) (named : K)
+    (entry : List ℤ × K) : Type 0 where
   pub kind : entry.1 ≡ named
   pub primitive : IsPrimitiveOf (lowered dim r) entry.0
 
 -- the list gained an entry for each of n rows
-pub record Grew {K : Type 0} (d : List ℤ × K) (dim : ℕ) (old new : List (List ℤ × K)) (n : ℕ) (row : ℕ → List ℤ) (kind : ℕ → K) : Type 0 where
+pub record Grew {K : Type 0} (d : List ℤ × K) (dim : ℕ) (old new : List (List ℤ × K)) (n : ℕ)
+    (row : ℕ → List ℤ) (kind : ℕ → K) : Type 0 where
   pub as_many : length new ≡ length old + n
   pub before : (i : ℕ) → i < length old → slice_index_or new i d ≡ slice_index_or old i d
   pub each : (i : ℕ) → i < n → Stands dim (row i) (kind i) (slice_index_or new (length old + i) d)
 
 -- an entry for each line, and for each ray that the order names
-pub record AreListed {K : Type 0} (d : List ℤ × K) (line_kind : K) (ray_kind : List ℤ → K) (dim : ℕ) (lines rays : List Row) (order : List ℕ) (list : List (List ℤ × K)) : Type 0 where
+pub record AreListed {K : Type 0} (d : List ℤ × K) (line_kind : K) (ray_kind : List ℤ → K) (dim : ℕ)
+    (lines rays : List Row) (order : List ℕ) (list : List (List ℤ × K)) : Type 0 where
   pub as_many : length list ≡ length lines + length order
-  pub line : (i : ℕ) → i < length lines → Stands dim (row_at lines i) line_kind (slice_index_or list i d)
-  pub ray : (i : ℕ) → i < length order → Stands dim (row_at rays (index_at order i)) (ray_kind (row_at rays (index_at order i))) (slice_index_or list (length lines + i) d)
+  pub line : (i : ℕ) → i < length lines
+      → Stands dim (row_at lines i) line_kind (slice_index_or list i d)
+  pub ray : (i : ℕ) → i < length order → Stands dim (row_at rays (index_at order i))
+      (ray_kind (row_at rays (index_at order i))) (slice_index_or list (length lines + i) d)
 
 abbrev pub AreConstraintsOf : ℕ → List Row → List Row → List ℕ → List Constraint → Type 0
-AreConstraintsOf dim lines rays order list = AreListed ([], Eq) Eq (λ r. con_kind (cell r dim)) dim lines rays order list
+AreConstraintsOf dim lines rays order list =
+    AreListed ([], Eq) Eq (λ r. con_kind (cell r dim)) dim lines rays order list
 
 abbrev pub AreGeneratorsOf : ℕ → List Row → List Row → List ℕ → List Generator → Type 0
-AreGeneratorsOf dim lines rays order list = AreListed ([], Line) Line (kind_of dim) dim lines rays order list
+AreGeneratorsOf dim lines rays order list =
+    AreListed ([], Line) Line (kind_of dim) dim lines rays order list
 
 -- index j stands in the order
 pub record IsNamed (order : List ℕ) (j : ℕ) : Type 0 where
@@ -54,9 +61,11 @@ pub record IsNamed (order : List ℕ) (j : ℕ) : Type 0 where
 
 -- the order names each kept number below k, once
 pub record AreKept (keep : List Bool) (order : List ℕ) (k : ℕ) : Type 0 where
-  pub each : (i : ℕ) → i < length order → (index_at order i < k) × (kept_at keep (index_at order i) ≡ true)
+  pub each : (i : ℕ) → i < length order
+      → (index_at order i < k) × (kept_at keep (index_at order i) ≡ true)
   pub all : (j : ℕ) → j < k → kept_at keep j ≡ true → IsNamed order j
-  pub once : (i m : ℕ) → i < length order → m < length order → index_at order i ≡ index_at order m → i ≡ m
+  pub once : (i m : ℕ) → i < length order → m < length order
+      → index_at order i ≡ index_at order m → i ≡ m
 
 -- the indices rise along the order
 abbrev pub Rise : List ℕ → Type 0
@@ -77,7 +86,8 @@ pub record AreDecodedRows (dim : ℕ) (lines rays : List Row) (list : List Const
   pub listed : AreConstraintsOf dim lines rays order list
 
 -- generators for the lines and for all rays, in their order
-pub record AreDecodedVectors (dim : ℕ) (lines rays : List Row) (list : List Generator) : Type 0 where
+pub record AreDecodedVectors (dim : ℕ) (lines rays : List Row)
+    (list : List Generator) : Type 0 where
   pub keep : List Bool
   pub order : List ℕ
   pub all : (i : ℕ) → i < length rays → kept_at keep i ≡ true
@@ -85,7 +95,8 @@ pub record AreDecodedVectors (dim : ℕ) (lines rays : List Row) (list : List Ge
   pub rising : Rise order
   pub listed : AreGeneratorsOf dim lines rays order list
 
--- the vector without column e can be a generator of the kind: its last entry fits, and it is no direction of length 0
+-- the vector without column e can be a generator of the kind: its last entry fits, and it is no
+-- direction of length 0
 pub record FitsKind (dim : ℕ) (r : List ℤ) (kind : GenKind) : Type 0 where
   pub divisor : ¬ (HasBadDivisor kind (cell (lowered dim r) dim))
   pub nonzero : ¬ (IsZeroDirection kind (lowered dim r))

@@ -11,8 +11,11 @@ use Rattle.gens_sys.specs.declared.kind.GenKind.TheVariants.{Line}
 abbrev pub entries : {K : Type 0} → List (List ℤ × K) → List (List ℤ)
 entries list = map (λ entry. entry.0) list
 
--- the first n entries alone are of the kind, ordered by their pivots, and each other entry is 0 at the pivot of one of them; each vector is primitive; of the entries after them each is greater than the next
-pub record IsStoredForm {K : Type 0} (d : List ℤ × K) (kind : K) (n : ℕ) (list : List (List ℤ × K)) : Type 0 where
+-- the first n entries alone are of the kind, ordered by their pivots, and each other entry is 0
+-- at the pivot of one of them; each vector is primitive; of the entries after them each is
+-- greater than the next
+pub record IsStoredForm {K : Type 0} (d : List ℤ × K) (kind : K) (n : ℕ)
+    (list : List (List ℤ × K)) : Type 0 where
   pub kinds : (i : ℕ) → i < length list → ((slice_index_or list i d).1 ≡ kind) ↔ (i < n)
   pub echelon : IsEchelon (take n (entries list)) (drop n (entries list))
   pub primitive : All IsPrimitive (entries list)

@@ -15,6 +15,8 @@ abbrev pub flag : List Bool → ℕ → Bool
 flag marks i = slice_index_or marks i false
 
 -- a truth value for each of the first k rows: what the mark asks of it
-pub record AreTold (mark : Mark) (dim : ℕ) (rows : List Row) (marks : List Bool) (k : ℕ) : Type 0 where
+pub record AreTold (mark : Mark) (dim : ℕ) (rows : List Row) (marks : List Bool)
+    (k : ℕ) : Type 0 where
   pub as_many : length marks ≡ k
-  pub each : (i : ℕ) → i < k → IsTrue (flag marks i) ↔ Tells mark (cell (row_at rows i) dim) (cell (row_at rows i) (dim + 1))
+  pub each : (i : ℕ) → i < k → IsTrue (flag marks i)
+      ↔ Tells mark (cell (row_at rows i) dim) (cell (row_at rows i) (dim + 1))

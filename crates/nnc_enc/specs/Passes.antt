@@ -14,7 +14,8 @@ abbrev pub IsClear : List Bool → List Bool → ℕ → Type 0
 IsClear columns bits k = (c : ℕ) → c < k → IsTrue (flag columns c) → ¬ (IsTrue (flag bits c))
 
 -- row t is another row than i, marked and kept, and true at each level column at which row i is
-pub record IsCover (level marks : List Bool) (rows : List (List Bool)) (keep : List Bool) (i t : ℕ) : Type 0 where
+pub record IsCover (level marks : List Bool) (rows : List (List Bool)) (keep : List Bool)
+    (i t : ℕ) : Type 0 where
   pub row : t < length rows
   pub other : t ≢ i
   pub marked : IsTrue (flag marks t)
@@ -25,21 +26,28 @@ abbrev pub IsCoveredRow : List Bool → List Bool → List (List Bool) → List 
 IsCoveredRow level marks rows keep i = (t : ℕ) × IsCover level marks rows keep i t
 
 -- row i was left out since it is marked, kept and covered
-pub record IsDropped (level marks : List Bool) (rows : List (List Bool)) (old new : List Bool) (i : ℕ) : Type 0 where
+pub record IsDropped (level marks : List Bool) (rows : List (List Bool)) (old new : List Bool)
+    (i : ℕ) : Type 0 where
   pub marked : IsTrue (flag marks i)
   pub covered : IsCoveredRow level marks rows old i
   pub written : new ≡ slice_set old i false
 
 -- or it stays, and if it is marked and kept then nothing covers it
-pub record IsLeft (level marks : List Bool) (rows : List (List Bool)) (old new : List Bool) (i : ℕ) : Type 0 where
+pub record IsLeft (level marks : List Bool) (rows : List (List Bool)) (old new : List Bool)
+    (i : ℕ) : Type 0 where
   pub same : new ≡ old
   pub bare : IsTrue (flag marks i) → IsTrue (flag old i) → ¬ (IsCoveredRow level marks rows old i)
 
 abbrev pub IsStep : List Bool → List Bool → List (List Bool) → List Bool → List Bool → ℕ → Type 0
-IsStep level marks rows old new i = IsDropped level marks rows old new i ⊎ IsLeft level marks rows old new i
+IsStep level marks rows old new i = IsDropped level marks rows old new i
+    ⊎ IsLeft level marks rows old new i
 
--- what was left out is marked and covered by what is kept; of the first k rows, nothing that is marked and kept is covered
-pub record IsPassed (level marks : List Bool) (rows : List (List Bool)) (old new : List Bool) (k : ℕ) : Type 0 where
+-- what was left out is marked and covered by what is kept; of the first k rows, nothing that is
+-- marked and kept is covered
+pub record IsPassed (level marks : List Bool) (rows : List (List Bool)) (old new : List Bool)
+    (k : ℕ) : Type 0 where
   pub fewer : (i : ℕ) → IsTrue (flag new i) → IsTrue (flag old i)
-  pub spare : (i : ℕ) → IsTrue (flag old i) → ¬ (IsTrue (flag new i)) → IsTrue (flag marks i) × IsCoveredRow level marks rows new i
-  pub apart : (i : ℕ) → i < k → IsTrue (flag marks i) → IsTrue (flag new i) → ¬ (IsCoveredRow level marks rows new i)
+  pub spare : (i : ℕ) → IsTrue (flag old i) → ¬ (IsTrue (flag new i))
+      → IsTrue (flag marks i) × IsCoveredRow level marks rows new i
+  pub apart : (i : ℕ) → i < k → IsTrue (flag marks i) → IsTrue (flag new i)
+      → ¬ (IsCoveredRow level marks rows new i)

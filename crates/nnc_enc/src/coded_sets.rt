@@ -10,14 +10,16 @@ pub fn constraints_code()
     ensures encoded { ConstraintsEncode }
 {}
 
-/// The list of a system of generators with a point has an encoded dual, and codes what the generators span.
+/// The list of a system of generators with a point has an encoded dual, and codes what
+/// the generators span.
 pub fn generators_code()
     ensures encoded { GeneratorsEncode }
     ensures coded { SpannedIsCoded }
     ensures spanned { CodedIsSpanned }
 {}
 
-/// The rows that are valid on an encoded cone with a point are an encoded dual, and what an encoded dual admits is an encoded cone with a point.
+/// The rows that are valid on an encoded cone with a point are an encoded dual, and what an encoded
+/// dual admits is an encoded cone with a point.
 pub fn duals_are_encoded()
     ensures dual { EncodedHasDual }
     ensures cone { DualIsEncoded }

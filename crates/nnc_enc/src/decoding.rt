@@ -44,7 +44,8 @@ pub(crate) fn lowered_row(alloc: Global, dim: usize, row: &[i128]) -> Result<Vec
 
 /// Appends an index where it is kept.
 fn push_if(keep: bool, kept: &mut Vec<usize>, index: usize) -> Result<(), AllocError>
-    ensures { OnOk result (kept.new.items ≡ (if keep then kept.old.items ++ index ∷ [] else kept.old.items)) }
+    ensures { OnOk result
+        (kept.new.items ≡ (if keep then kept.old.items ++ index ∷ [] else kept.old.items)) }
 {
     if keep {
         kept.push(index)?;
@@ -104,7 +105,8 @@ fn push_con_lines(
     requires dim { cons.old.dim ≡ dim }
     requires width { lines.now.width ≡ dim + 2 }
     ensures dim { cons.new.dim ≡ cons.old.dim }
-    ensures list { OnOk result (Grew ([], Eq) dim cons.old.list cons.new.list (length lines.now.rows) (λ i. row_at lines.now.rows i) (λ i. Eq)) }
+    ensures list { OnOk result (Grew ([], Eq) dim cons.old.list cons.new.list
+        (length lines.now.rows) (λ i. row_at lines.now.rows i) (λ i. Eq)) }
 {
     for index in 0..lines.len() {
         push_con(alloc, dim, cons, lines.row(index), ConKind::Eq)?;
@@ -139,7 +141,9 @@ fn push_con_rays(
     requires width { rays.now.width ≡ dim + 2 }
     requires within { (i : ℕ) → i < length order.now → index_at order.now i < length rays.now.rows }
     ensures dim { cons.new.dim ≡ cons.old.dim }
-    ensures list { OnOk result (Grew ([], Eq) dim cons.old.list cons.new.list (length order.now) (λ i. row_at rays.now.rows (index_at order.now i)) (λ i. con_kind (cell (row_at rays.now.rows (index_at order.now i)) dim))) }
+    ensures list { OnOk result (Grew ([], Eq) dim cons.old.list cons.new.list (length order.now)
+        (λ i. row_at rays.now.rows (index_at order.now i))
+        (λ i. con_kind (cell (row_at rays.now.rows (index_at order.now i)) dim))) }
 {
     for index in 0..order.len() {
         let row = rays.row(order[index]);
@@ -161,7 +165,8 @@ pub(crate) fn constraints_of(
     requires rays_width { rays.now.width ≡ dim + 2 }
     requires within { (i : ℕ) → i < length order.now → index_at order.now i < length rays.now.rows }
     ensures dim { IfOk result (λ cons. cons.dim ≡ dim) }
-    ensures list { IfOk result (λ cons. AreConstraintsOf dim lines.now.rows rays.now.rows order.now cons.list) }
+    ensures list { IfOk result
+        (λ cons. AreConstraintsOf dim lines.now.rows rays.now.rows order.now cons.list) }
 {
     let mut cons = ConsSys::with_room(alloc, dim, lines.len().saturating_add(order.len()))?;
     push_con_lines(alloc, dim, &mut cons, lines)?;
@@ -232,9 +237,11 @@ fn push_gen_lines(
 ) -> Result<(), Memory>
     requires dim { gens.old.dim ≡ dim }
     requires width { lines.now.width ≡ dim + 2 }
-    requires fit { (i : ℕ) → i < length lines.now.rows → FitsKind dim (row_at lines.now.rows i) Line }
+    requires fit { (i : ℕ) → i < length lines.now.rows
+        → FitsKind dim (row_at lines.now.rows i) Line }
     ensures dim { gens.new.dim ≡ gens.old.dim }
-    ensures list { OnOk result (Grew ([], Line) dim gens.old.list gens.new.list (length lines.now.rows) (λ i. row_at lines.now.rows i) (λ i. Line)) }
+    ensures list { OnOk result (Grew ([], Line) dim gens.old.list gens.new.list
+        (length lines.now.rows) (λ i. row_at lines.now.rows i) (λ i. Line)) }
 {
     for index in 0..lines.len() {
         push_gen(alloc, dim, gens, lines.row(index), GenKind::Line)?;
@@ -273,10 +280,13 @@ fn push_gen_rays(
 ) -> Result<(), Memory>
     requires dim { gens.old.dim ≡ dim }
     requires width { rays.now.width ≡ dim + 2 }
-    requires fit { (i : ℕ) → i < length rays.now.rows → FitsKind dim (row_at rays.now.rows i) (kind_of dim (row_at rays.now.rows i)) }
+    requires fit { (i : ℕ) → i < length rays.now.rows
+        → FitsKind dim (row_at rays.now.rows i) (kind_of dim (row_at rays.now.rows i)) }
     requires within { (i : ℕ) → i < length order.now → index_at order.now i < length rays.now.rows }
     ensures dim { gens.new.dim ≡ gens.old.dim }
-    ensures list { OnOk result (Grew ([], Line) dim gens.old.list gens.new.list (length order.now) (λ i. row_at rays.now.rows (index_at order.now i)) (λ i. kind_of dim (row_at rays.now.rows (index_at order.now i)))) }
+    ensures list { OnOk result (Grew ([], Line) dim gens.old.list gens.new.list (length order.now)
+        (λ i. row_at rays.now.rows (index_at order.now i))
+        (λ i. kind_of dim (row_at rays.now.rows (index_at order.now i)))) }
 {
     for index in 0..order.len() {
         let row = rays.row(order[index]);
@@ -299,7 +309,8 @@ pub(crate) fn generators_of(
     requires fit { FitKinds dim lines.now.rows rays.now.rows }
     requires within { (i : ℕ) → i < length order.now → index_at order.now i < length rays.now.rows }
     ensures dim { IfOk result (λ gens. gens.dim ≡ dim) }
-    ensures list { IfOk result (λ gens. AreGeneratorsOf dim lines.now.rows rays.now.rows order.now gens.list) }
+    ensures list { IfOk result
+        (λ gens. AreGeneratorsOf dim lines.now.rows rays.now.rows order.now gens.list) }
 {
     let mut gens = GensSys::with_room(alloc, dim, lines.len().saturating_add(order.len()))?;
     push_gen_lines(alloc, dim, &mut gens, lines)?;
@@ -326,7 +337,8 @@ fn decoded_vectors(
     requires rays_width { rays.now.width ≡ dim + 2 }
     requires fit { FitKinds dim lines.now.rows rays.now.rows }
     ensures dim { IfOk result (λ gens. gens.dim ≡ dim) }
-    ensures list { IfOk result (λ gens. AreDecodedVectors dim lines.now.rows rays.now.rows gens.list) }
+    ensures list { IfOk result
+        (λ gens. AreDecodedVectors dim lines.now.rows rays.now.rows gens.list) }
 {
     let keep = all_marked(alloc, rays.len())?;
     let order = kept(alloc, &keep)?;

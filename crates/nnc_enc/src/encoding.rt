@@ -41,7 +41,8 @@ fn push_raised(
     requires in_range { AllInRange row.now }
     requires height { InRange height }
     ensures width { list.new.width ≡ list.old.width }
-    ensures rows { OnOk result (list.new.rows ≡ list.old.rows ++ (raised dim row.now height, eq) ∷ []) }
+    ensures rows { OnOk result
+        (list.new.rows ≡ list.old.rows ++ (raised dim row.now height, eq) ∷ []) }
 {
     let raised = raised_row(alloc, dim, row, height)?;
     list.push(&raised, eq)?;
@@ -95,7 +96,8 @@ fn push_bound_row(alloc: Global, list: &mut RowList, dim: usize) -> Result<(), M
 fn push_constraints(alloc: Global, list: &mut RowList, cons: &ConsSys) -> Result<(), Memory>
     requires { list.old.width ≡ cons.now.dim + 2 }
     ensures width { list.new.width ≡ list.old.width }
-    ensures rows { OnOk result (list.new.rows ≡ list.old.rows ++ map (encoded_constraint cons.now.dim) cons.now.list) }
+    ensures rows { OnOk result
+        (list.new.rows ≡ list.old.rows ++ map (encoded_constraint cons.now.dim) cons.now.list) }
 {
     let dim = cons.dim();
     for index in 0..cons.len() {
@@ -129,7 +131,8 @@ pub fn encode_cons(alloc: Global, cons: &ConsSys) -> Result<RowList, Memory>
 /// which each list begins.
 pub fn encode_further_cons(alloc: Global, cons: &ConsSys) -> Result<RowList, Memory>
     ensures width { IfOk result (λ list. list.width ≡ cons.now.dim + 2) }
-    ensures rows { IfOk result (λ list. list.rows ≡ map (encoded_constraint cons.now.dim) cons.now.list) }
+    ensures rows { IfOk result
+        (λ list. list.rows ≡ map (encoded_constraint cons.now.dim) cons.now.list) }
 {
     let mut list = RowList::with_room(alloc, cons.dim() + 2, cons.len())?;
     push_constraints(alloc, &mut list, cons)?;
@@ -148,7 +151,8 @@ fn push_encoded(
     requires wide { length row.now ≡ dim + 1 }
     requires in_range { AllInRange row.now }
     ensures width { list.new.width ≡ list.old.width }
-    ensures rows { OnOk result (list.new.rows ≡ list.old.rows ++ encoded_generator dim (row.now, kind)) }
+    ensures rows { OnOk result
+        (list.new.rows ≡ list.old.rows ++ encoded_generator dim (row.now, kind)) }
 {
     match kind {
         GenKind::Line => push_raised(alloc, list, dim, row, 0, true),

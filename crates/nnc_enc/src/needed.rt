@@ -38,7 +38,8 @@ pub fn kept_constraints_are_needed()
     ensures { KeptConstraintsAreNeeded }
 {}
 
-/// No closure point on which a strict row is 0, and no ray, of a canonical system of vectors can be left out.
+/// No closure point on which a strict row is 0, and no ray, of a canonical system of
+/// vectors can be left out.
 pub fn level_vectors_are_needed()
     ensures { LevelVectorsAreNeeded }
 {}

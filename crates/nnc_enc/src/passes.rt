@@ -70,8 +70,8 @@ fn drop_if_covered(table: &SatMatrix, level: usize, marks: &[bool], keep: &mut [
     }
 }
 
-/// Leaves out each marked row that another marked row covers that is still kept; the level columns are
-/// those of a row of the table.
+/// Leaves out each marked row that another marked row covers that is still kept; the level columns
+/// are those of a row of the table.
 fn drop_in_order(table: &SatMatrix, level: usize, marks: &[bool], keep: &mut [bool])
     requires level { level < length table.now.rows }
     requires marks { length marks.now ≡ length keep.old }

@@ -38,7 +38,8 @@ pub fn ray_is_coded()
     ensures { RayIsCoded }
 {}
 
-/// The list of a system admits the cone that the system generates: what the second conversion of a pair stands on.
+/// The list of a system admits the cone that the system generates: what the second conversion of
+/// a pair stands on.
 pub fn second_list_admits()
     ensures { SecondListAdmits }
 {}

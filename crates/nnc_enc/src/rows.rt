@@ -13,12 +13,14 @@ pub fn kept_rows_hold()
     ensures { KeptRowsHold }
 {}
 
-/// A strict row that is 0 at some place and isn't covered excludes a point that no other row excludes.
+/// A strict row that is 0 at some place and isn't covered excludes a point that no
+/// other row excludes.
 pub fn strict_rows_are_needed()
     ensures { StrictRowsAreNeeded }
 {}
 
-/// A strict row is redundant in exactly two cases: it is 0 at no place, or another strict row that is kept is 0 at all places at which it is.
+/// A strict row is redundant in exactly two cases: it is 0 at no place, or another strict row that
+/// is kept is 0 at all places at which it is.
 pub fn strict_row_is_redundant()
     ensures { StrictRowIsRedundant }
 {}

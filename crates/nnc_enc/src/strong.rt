@@ -33,7 +33,8 @@ fn is_marked_clear(marked: &[bool], columns: &[bool], sat: &SatMatrix, i: usize)
     requires wide { length columns.now ≡ sat.now.columns }
     requires marks { length marked.now ≡ length sat.now.rows }
     requires row { i < length sat.now.rows }
-    ensures { IsTrue result ↔ (IsTrue (flag marked.now i) × IsClear columns.now (bits_of sat.now.rows i) (length columns.now)) }
+    ensures { IsTrue result ↔ (IsTrue (flag marked.now i)
+        × IsClear columns.now (bits_of sat.now.rows i) (length columns.now)) }
 {
     marked[i] && is_clear(columns, sat, i)
 }
@@ -71,7 +72,8 @@ fn first_rows(
     requires wide { length places.now ≡ sat.now.columns }
     requires marks { length strict.now ≡ length sat.now.rows }
     requires as_many { length rays.now.rows ≡ length sat.now.rows }
-    ensures { IfOk result (λ v. AreFirstRows dim rays.now.rows strict.now places.now sat.now.rows v.items (length sat.now.rows)) }
+    ensures { IfOk result (λ v. AreFirstRows dim rays.now.rows strict.now places.now sat.now.rows
+        v.items (length sat.now.rows)) }
 {
     let mut keep = Vec::new(alloc);
     for index in 0..sat.len() {
@@ -89,7 +91,8 @@ fn first_vectors(
 ) -> Result<Vec<bool>, AllocError>
     requires wide { length strict.now ≡ sat.now.columns }
     requires marks { length places.now ≡ length sat.now.rows }
-    ensures { IfOk result (λ v. AreFirstVectors places.now strict.now sat.now.rows v.items (length sat.now.rows)) }
+    ensures { IfOk result
+        (λ v. AreFirstVectors places.now strict.now sat.now.rows v.items (length sat.now.rows)) }
 {
     let mut keep = Vec::new(alloc);
     for index in 0..sat.len() {
@@ -108,7 +111,8 @@ fn strict_pass(
 ) -> Result<Vec<bool>, Memory>
     requires rays_width { rays.now.width ≡ dim + 2 }
     requires gens_width { gens.now.width ≡ dim + 2 }
-    requires table { IsZeroTable gens.now.rows (length gens.now.rows) (vectors rays.now.rows) sat.now }
+    requires table { IsZeroTable gens.now.rows (length gens.now.rows)
+        (vectors rays.now.rows) sat.now }
     ensures { IfOk result (λ v. IsStrictPass dim gens.now.rows (vectors rays.now.rows) v.items) }
 {
     let strict = marks(alloc, dim, rays, Mark::Strict)?;
@@ -129,7 +133,8 @@ fn point_pass(
 ) -> Result<Vec<bool>, Memory>
     requires rays_width { rays.now.width ≡ dim + 2 }
     requires cons_width { cons.now.width ≡ dim + 2 }
-    requires table { IsZeroTable cons.now.rows (length cons.now.rows) (vectors rays.now.rows) sat.now }
+    requires table { IsZeroTable cons.now.rows (length cons.now.rows)
+        (vectors rays.now.rows) sat.now }
     ensures { IfOk result (λ v. IsPointPass dim cons.now.rows (vectors rays.now.rows) v.items) }
 {
     let points = marks(alloc, dim, rays, Mark::Point)?;
@@ -154,9 +159,11 @@ pub(crate) fn strong_rows(
     requires lines_width { lines.now.width ≡ dim + 2 }
     requires rays_width { rays.now.width ≡ dim + 2 }
     requires gens_width { gens.now.width ≡ dim + 2 }
-    requires table { IsZeroTable gens.now.rows (length gens.now.rows) (vectors rays.now.rows) sat.now }
+    requires table { IsZeroTable gens.now.rows (length gens.now.rows)
+        (vectors rays.now.rows) sat.now }
     ensures dim { IfOk result (λ cons. cons.dim ≡ dim) }
-    ensures list { IfOk result (λ cons. AreStrongRows dim gens.now.rows lines.now.rows rays.now.rows cons.list) }
+    ensures list { IfOk result
+        (λ cons. AreStrongRows dim gens.now.rows lines.now.rows rays.now.rows cons.list) }
 {
     let keep = strict_pass(alloc, dim, rays, gens, sat)?;
     let kept = kept(alloc, &keep)?;
@@ -205,9 +212,11 @@ fn strong_vectors(
     requires rays_width { rays.now.width ≡ dim + 2 }
     requires cons_width { cons.now.width ≡ dim + 2 }
     requires fit { FitKinds dim lines.now.rows rays.now.rows }
-    requires table { IsZeroTable cons.now.rows (length cons.now.rows) (vectors rays.now.rows) sat.now }
+    requires table { IsZeroTable cons.now.rows (length cons.now.rows)
+        (vectors rays.now.rows) sat.now }
     ensures dim { IfOk result (λ gens. gens.dim ≡ dim) }
-    ensures list { IfOk result (λ gens. AreStrongVectors dim cons.now.rows lines.now.rows rays.now.rows gens.list) }
+    ensures list { IfOk result
+        (λ gens. AreStrongVectors dim cons.now.rows lines.now.rows rays.now.rows gens.list) }
 {
     let keep = point_pass(alloc, dim, rays, cons, sat)?;
     let kept = kept(alloc, &keep)?;
@@ -215,8 +224,8 @@ fn strong_vectors(
     generators_of(alloc, dim, lines, rays, &order)
 }
 
-/// Some of the generators that a canonical system stands for, with the same points, of which none can
-/// be left out.
+/// Some of the generators that a canonical system stands for, with the same points, of which
+/// none can be left out.
 pub fn strong_gens(
     alloc: Global,
     lines: &RowList,

@@ -8,7 +8,8 @@ pub fn vectors_are_coded()
     ensures { VectorsAreCoded }
 {}
 
-/// The generators of the vectors that a strong pass keeps span the same points as those of all vectors.
+/// The generators of the vectors that a strong pass keeps span the same points as those
+/// of all vectors.
 pub fn kept_vectors_span()
     ensures { KeptVectorsSpan }
 {}
@@ -18,7 +19,8 @@ pub fn points_are_needed()
     ensures { PointsAreNeeded }
 {}
 
-/// A point is redundant exactly where another point that is kept is on all its saturated constraints.
+/// A point is redundant exactly where another point that is kept is on all its
+/// saturated constraints.
 pub fn point_is_redundant()
     ensures { PointIsRedundant }
 {}

@@ -89,8 +89,8 @@ pub fn second_list(
 {
     let rows = lines.len().saturating_add(rays.len());
     let mut list = RowList::with_room(alloc, width, rows)?;
-    push_all(&mut list, lines)?;
-    push_all(&mut list, rays)?;
+    list.push_all(lines)?;
+    list.push_all(rays)?;
     Ok(list)
 }
 
@@ -118,18 +118,6 @@ pub fn divisor_row(alloc: Global, dim: usize) -> Result<Vec<i128>, Memory>
     let mut row = vec![in alloc; 0i128; dim + 1]?;
     row[dim] = 1;
     Ok(row)
-}
-
-/// Appends all rows of a list to another.
-pub(crate) fn push_all(into: &mut RowList, from: &RowList) -> Result<(), Memory>
-    requires { from.now.width ≡ into.old.width }
-    ensures width { into.new.width ≡ into.old.width }
-    ensures rows { OnOk result (into.new.rows ≡ into.old.rows ++ from.now.rows) }
-{
-    for index in 0..from.len() {
-        into.push(from.row(index), from.is_eq(index))?;
-    }
-    Ok(())
 }
 
 /// Whether a constraint of the kind is an equality.

@@ -5,7 +5,7 @@ ghost use Rattle.stored_systems.specs.Marks.{has_mark};
 ghost use Rattle.stored_systems.specs.Trimmed.{IsTrimmed};
 ghost use Rattle.stored_systems.specs.WorkLists.{divisor_row, constraint_row, constraint_list, generator_list};
 
-use crate::lists::{divisor_row, is_equality_kind, is_line_kind, push_all};
+use crate::lists::{divisor_row, is_equality_kind, is_line_kind};
 use cons_sys::ConsSys;
 use gens_sys::GensSys;
 use row_core::{Memory, RowList};
@@ -129,6 +129,6 @@ fn behind_divisor(alloc: Global, dim: usize, rows: &RowList) -> Result<RowList, 
 {
     let mut list = RowList::with_room(alloc, dim + 1, rows.len().saturating_add(1))?;
     list.push(&divisor_row(alloc, dim)?, false)?;
-    push_all(&mut list, rows)?;
+    list.push_all(rows)?;
     Ok(list)
 }

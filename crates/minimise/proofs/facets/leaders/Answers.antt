@@ -1,4 +1,4 @@
-use Rattle.std.proofs.Common.{ℕ, ◌<◌, slice_index_or, arith, ap, subst, sym, below_more}
+use Rattle.std.proofs.Common.{ℕ, slice_index_or, arith, ap, subst, below_more}
 use Rattle.std.proofs.lemmas.List.{get_or_default}
 use Rattle.sat_matrix.specs.Tables.{bits_of}
 use Rattle.sat_matrix.specs.Counts.{ones}

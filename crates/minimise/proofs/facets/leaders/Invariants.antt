@@ -1,4 +1,4 @@
-use Rattle.std.proofs.Common.{ℕ, ◌<◌, ◌≤◌, length, take, slice_index_or}
+use Rattle.std.proofs.Common.{ℕ, ◌<◌, ◌≤◌, length, slice_index_or}
 use Rattle.std.specs.Prelude.{All}
 use Rattle.sat_matrix.specs.Tables.{bits_of}
 use Rattle.sat_matrix.specs.Counts.{ones}

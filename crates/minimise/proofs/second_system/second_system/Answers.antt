@@ -1,4 +1,4 @@
-use Rattle.std.specs.Prelude.{◌≡◌, Bool, List, ℕ, length}
+use Rattle.std.specs.Prelude.{Bool, List, ℕ, length}
 use Rattle.std.proofs.Common.{arith, sym, ap, ◌∙◌, subst}
 use Rattle.std.proofs.lemmas.Result.{err_from_is_err_and}
 use Rattle.row_core.specs.Lists.{vectors}
