@@ -31,11 +31,16 @@ AreCarried f old new = Pointwise (λ v w. IsPrimitiveOf (f v) w) old new
 
 -- the others admit the vectors that the map takes to vectors which the rows admit
 abbrev pub AdmitSources : ℕ → ℕ → (List ℤ → List ℤ) → List Row → List Row → Type 0
-AdmitSources from to h rows others = (v : List ℤ) → length v ≡ to → ConeOf to others v ↔ ConeOf from rows (h v)
+AdmitSources from to h rows others =
+    (v : List ℤ) → length v ≡ to → ConeOf to others v ↔ ConeOf from rows (h v)
 
 -- a map that can be undone takes the system of a cone to one of the cone's image, where what it gives is in reduced echelon form
 abbrev pub SystemIsCarried : Type 0
-SystemIsCarried = (width : ℕ) (f h : List ℤ → List ℤ) (rows others : List Row) (lines rays new_lines new_rays : List (List ℤ)) → AreInverse width f h → AdmitSources width width h rows others → AreCarried f lines new_lines → AreCarried f rays new_rays → IsEchelon new_lines new_rays → IsSystem (ConeOf width rows) lines rays → IsSystem (ConeOf width others) new_lines new_rays
+SystemIsCarried = (width : ℕ) (f h : List ℤ → List ℤ) (rows others : List Row)
+    (lines rays new_lines new_rays : List (List ℤ)) → AreInverse width f h
+    → AdmitSources width width h rows others → AreCarried f lines new_lines
+    → AreCarried f rays new_rays → IsEchelon new_lines new_rays
+    → IsSystem (ConeOf width rows) lines rays → IsSystem (ConeOf width others) new_lines new_rays
 
 -- the map that replaces the variable by the row over the size undoes the one that replaces it by the expression over the divisor
 pub record IsInverseRow (var : ℕ) (expr : List ℤ) (den : ℤ) (row : List ℤ) (size : ℤ) : Type 0 where

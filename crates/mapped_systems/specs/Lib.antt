@@ -2,5 +2,4 @@ pub mod Maps
 pub mod MappedLists
 pub mod Sources
 pub mod CarriedSystems
-pub mod StoredPairs
 pub mod Refusals

@@ -28,7 +28,8 @@ pub record ExpressionLeaves (expr v : List ℤ) (over : Overflow) : Type 0 where
   pub column : IsFirstToLeave (DotStays expr v) (length expr) over.column
 
 -- the dot doesn't, and the divisor's product with an entry does; the row shown is that of the expression and then the divisor
-pub record LeavesInScale (var : ℕ) (expr : List ℤ) (den : ℤ) (v : List ℤ) (over : Overflow) : Type 0 where
+pub record LeavesInScale (var : ℕ) (expr : List ℤ) (den : ℤ) (v : List ℤ)
+    (over : Overflow) : Type 0 where
   pub dot : AllStay (DotStays expr v) (length expr)
   pub shown : ShowsPair Scale v (expr ++ den ∷ []) over
   pub column : IsFirstToLeave (EntryStays var den v) (length v) over.column
@@ -42,23 +43,28 @@ pub record StaysInImage (var : ℕ) (expr : List ℤ) (den : ℤ) (v : List ℤ)
   pub entries : AllStay (EntryStays var den v) (length v)
 
 -- the divisor times the row without the variable, plus the variable's entry times the expression, leaves the range
-pub record LeavesInPullback (var : ℕ) (expr : List ℤ) (den : ℤ) (row : List ℤ) (over : Overflow) : Type 0 where
+pub record LeavesInPullback (var : ℕ) (expr : List ℤ) (den : ℤ) (row : List ℤ)
+    (over : Overflow) : Type 0 where
   pub shown : ShowsPair Scale row (expr ++ den ∷ []) over
-  pub column : IsFirstToLeave (CombineStays (slice_set row var (pos 0)) den expr (cell row var)) (length row) over.column
+  pub column : IsFirstToLeave (CombineStays (slice_set row var (pos 0)) den expr (cell row var))
+      (length row) over.column
 
 -- it doesn't
 abbrev pub StaysInPullback : ℕ → List ℤ → ℤ → List ℤ → Type 0
-StaysInPullback var expr den row = AllStay (CombineStays (slice_set row var (pos 0)) den expr (cell row var)) (length row)
+StaysInPullback var expr den row =
+    AllStay (CombineStays (slice_set row var (pos 0)) den expr (cell row var)) (length row)
 
 -- the map of a generator leaves the range, and that of none before it
-pub record SomeLeavesInImage (var : ℕ) (expr : List ℤ) (den : ℤ) (list : List Generator) (over : Overflow) : Type 0 where
+pub record SomeLeavesInImage (var : ℕ) (expr : List ℤ) (den : ℤ) (list : List Generator)
+    (over : Overflow) : Type 0 where
   pub index : ℕ
   pub below : index < length list
   pub leaves : LeavesInImage var expr den (gens.row_at list index) over
   pub earlier : (i : ℕ) → i < index → StaysInImage var expr den (gens.row_at list i)
 
 -- that of a constraint does, and that of none before it
-pub record SomeLeavesInPullback (var : ℕ) (expr : List ℤ) (den : ℤ) (list : List Constraint) (over : Overflow) : Type 0 where
+pub record SomeLeavesInPullback (var : ℕ) (expr : List ℤ) (den : ℤ) (list : List Constraint)
+    (over : Overflow) : Type 0 where
   pub index : ℕ
   pub below : index < length list
   pub leaves : LeavesInPullback var expr den (cons.row_at list index) over

@@ -7,7 +7,8 @@ ghost use Rattle.mapped_systems.specs.CarriedSystems.{IsInverseRow};
 use row_core::{Memory, RowBuf};
 use std::alloc::Global;
 
-/// The expression that, over the size of the variable's part, undoes the map that replaces the variable.
+/// The expression that, over the size of the variable's part, undoes the map that replaces the
+/// variable.
 pub fn inverse_row(alloc: Global, var: usize, expr: &[i128], den: i128) -> Result<Vec<i128>, Memory>
     requires var { var < length expr.now }
     requires narrow { length expr.now < 2 ^ 32 }

@@ -33,6 +33,7 @@ pub fn preimage_constraints<L: Ledger>(
     ensures overflow { IfErr result
         (IsOverflowIn (SomeLeavesInPullback var expr.now den cons.now.list)) }
     ensures no_fewer { steps.old ≤ steps.new }
+    ensures counted { steps.new ≤ steps.old + length cons.now.list }
 {
     let mut pulled = ConsSys::with_room(alloc, cons.dim(), cons.len())?;
     for index in 0..cons.len() {
@@ -65,7 +66,8 @@ pub fn padded_constraints(
     Ok(padded)
 }
 
-/// The constraints of the one system on the first variables, and those of the other on the variables behind.
+/// The constraints of the one system on the first variables, and those of the other on the
+/// variables behind.
 pub fn joined_constraints(
     alloc: Global,
     first: &ConsSys,

@@ -6,7 +6,8 @@ ghost use Rattle.mapped_systems.specs.Refusals.{ShowsPair};
 use row_core::{Memory, OverKind, Overflow};
 use std::alloc::Global;
 
-/// The overflow that shows two rows, and the column at which a computation with them leaves the range.
+/// The overflow that shows two rows, and the column at which a computation with them leaves the
+/// range.
 pub(crate) fn shown(
     alloc: Global,
     kind: OverKind,

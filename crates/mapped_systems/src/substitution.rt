@@ -86,8 +86,8 @@ fn shown_scale(
 ///
 /// # Errors
 ///
-/// An overflow shows the expression and the vector where their dot leaves the range, or else the vector and
-/// the fraction where the divisor's product with an entry does.
+/// An overflow shows the expression and the vector where their dot leaves the range, or else the
+/// vector and the fraction where the divisor's product with an entry does.
 pub(crate) fn image_row(
     alloc: Global,
     var: usize,
@@ -120,13 +120,13 @@ pub(crate) fn image_row(
     Ok(RowBuf::from_vec(entries))
 }
 
-/// The row whose value at a vector is that of the given row where the vector's variable is replaced. It is one
-/// combination of the row without its variable and the expression.
+/// The row whose value at a vector is that of the given row where the vector's variable is
+/// replaced. It is one combination of the row without its variable and the expression.
 ///
 /// # Errors
 ///
-/// An overflow shows the row and the fraction, and the first column at which a product or the sum leaves the
-/// range.
+/// An overflow shows the row and the fraction, and the first column at which a product or the sum
+/// leaves the range.
 pub(crate) fn pulled_row<L: Ledger>(
     alloc: Global,
     var: usize,
@@ -145,6 +145,7 @@ pub(crate) fn pulled_row<L: Ledger>(
     ensures stays { OnOk result (StaysInPullback var expr.now den row.now) }
     ensures overflow { IfErr result (IsOverflowIn (LeavesInPullback var expr.now den row.now)) }
     ensures no_fewer { steps.old ≤ steps.new }
+    ensures counted { steps.new ≤ steps.old + 1 }
 {
     let factor = row[var];
     let mut entries = Vec::from_slice(alloc, row)?;

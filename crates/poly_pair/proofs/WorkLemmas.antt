@@ -1,7 +1,11 @@
 -- What conversions cost and show: parts and cases.
-use Rattle.std.proofs.Common.{◌≡◌, ℕ, ◌+◌, ◌-◌, ◌≤◌, List, [], ◌∷◌, length, Option, None, Result, Ok, Err, refl, arith}
+use Rattle.std.proofs.Common.{◌≡◌, inl, inr, ℕ, ◌+◌, ◌-◌, ◌*◌, ◌≤◌, List, [], ◌∷◌, length, ℤ, Option, Some, None, Result, Ok, Err, refl, subst, arith}
 use Rattle.std.specs.Prelude.{IfErr}
+use Rattle.row_core.specs.Lists.{Row}
+use Rattle.minimise.specs.Lefts.{IsLeft}
+use Rattle.stored_systems.specs.WorkLists.{constraint_list, IsSecondList}
 use Rattle.row_core.specs.declared.errors.Overflow.{Overflow}
+use Rattle.row_core.specs.declared.errors.Memory.{Memory}
 use Rattle.row_core.specs.declared.errors.ConvErr.{ConvErr}
 use Rattle.row_core.specs.declared.errors.ConvErr.TheVariants as conversion
 use Rattle.poly_pair.specs.declared.errors.GenErr.{GenErr}
@@ -11,13 +15,13 @@ use Rattle.gens_sys.specs.Generators.{Generator, Generators}
 use Rattle.poly_pair.specs.declared.topology.Topology.{Topology}
 use Rattle.poly_pair.specs.declared.topology.Topology.TheVariants.{Closed, Nnc}
 use Rattle.poly_pair.specs.Polyhedra.{Polyhedron}
-use Rattle.chernikova.specs.Conversion.{IsCountedBetween, IsRealOverflow, IsCountedBeforeFrom}
+use Rattle.chernikova.specs.Conversion.{ConvertsRows, ConvertsFrom}
 use Rattle.chernikova.proofs.Counts.{counted_start_from}
 use Rattle.poly_pair.specs.Starts.{CanStart}
-use Rattle.poly_pair.specs.Conversions.{IsCountedFrom, IsCountedOn}
-use Rattle.poly_pair.specs.Refusals.{as_gen_err, IsOverflowOn, IsCountedBeforeOn, IsCountedBeforeOnFrom, IsGenOverflowOn, IsGenCountedBeforeOnFrom}
-use Rattle.poly_pair.specs.Work.{Work, known_rows, added_cons, added_gens, conv_overflow, gen_overflow, IsConversion, IsFirstConversion, Converts, GenConverts, ConvertsFirst}
-use Rattle.poly_pair.proofs.Additions.{from_none, counted_from_first, before_from_first, closed_fewer, closed_generators_fewer}
+use Rattle.poly_pair.specs.Refusals.{as_gen_err, IsOverflowOn, IsCountedBeforeOnFrom, IsGenOverflowOn}
+use Rattle.poly_pair.specs.Work.{Work, rows_work, cons_work, begun_cons, known_rows, added_cons, added_gens, conv_overflow, gen_overflow, IsConversion, IsFirstConversion, IsSecondListConversion, IsPairConversion, IsPairOrList, Converts, ConvertsPair, GenConverts, ConvertsFirst, ConvertsSecondList}
+use Rattle.poly_pair.proofs.CountLemmas.{after_none, after_simplified, after_left, counted_first, counted_both, none_between}
+use Rattle.poly_pair.proofs.Additions.{moved, from_none, closed_fewer, closed_generators_fewer}
 
 -- ---- parts
 -- nothing was converted
@@ -28,16 +32,9 @@ unconverted work steps below = record { overflow = tt; no_fewer = omega arith; c
 pub converted : (work : Work) (old new : ℕ) (over : Option Overflow) → IsConversion work old new over → IsConversion work old new None
 converted work old new over h = record { overflow = tt; no_fewer = h.no_fewer; counted = h.counted; counted_before = tt }
 
--- the clauses of a call that states them one by one
-pub of_clauses : {T : Type 0} (work : Work) (old new : ℕ) (r : Result T ConvErr) → IfErr r (IsOverflowOn work.width work.column work.rows) → old ≤ new → IsCountedFrom work.width work.column work.rows work.from (new - old) → IfErr r (IsCountedBeforeOnFrom work.width work.column work.rows work.from (new - old)) → Converts work old new r
-of_clauses work old new (Ok x) l n c b = record { overflow = tt; no_fewer = n; counted = c; counted_before = tt }
-of_clauses work old new (Err (conversion.Overflow over)) l n c b = record { overflow = l; no_fewer = n; counted = c; counted_before = b }
-of_clauses work old new (Err conversion.Memory) l n c b = record { overflow = tt; no_fewer = n; counted = c; counted_before = tt }
-
--- those of a refusal
-pub of_refusal : (work : Work) (old new : ℕ) (e : ConvErr) → IsOverflowOn work.width work.column work.rows e → old ≤ new → IsCountedFrom work.width work.column work.rows work.from (new - old) → IsCountedBeforeOnFrom work.width work.column work.rows work.from (new - old) e → IsConversion work old new (conv_overflow e)
-of_refusal work old new (conversion.Overflow over) l n c b = record { overflow = l; no_fewer = n; counted = c; counted_before = b }
-of_refusal work old new conversion.Memory l n c b = record { overflow = tt; no_fewer = n; counted = c; counted_before = tt }
+-- what holds at a width and from a row on holds at those that are equal to them
+pub work_moved : (w width column : ℕ) (rows : List Row) (start from old new : ℕ) (over : Option Overflow) → w ≡ width → start ≡ from → IsConversion (rows_work w column rows start) old new over → IsConversion (rows_work width column rows from) old new over
+work_moved w width column rows start from old new over e f h = subst (λ (n : ℕ). IsConversion (rows_work n column rows from) old new over) e (subst (λ (n : ℕ). IsConversion (rows_work w column rows n) old new over) f h)
 
 -- a refusal shows the same as one of generators
 pub same_overflow : (e : ConvErr) → conv_overflow e ≡ gen_overflow (as_gen_err e)
@@ -48,10 +45,87 @@ same_overflow conversion.Memory = refl
 pub first_unconverted : (work : Work) (steps : ℕ) → work.from ≤ length work.rows → IsFirstConversion work steps steps None
 first_unconverted work steps below = record { overflow = tt; no_fewer = omega arith; counted = counted_start_from work.width work.rows work.from (steps - steps) below (omega arith); counted_before = tt }
 
-pub first_of_clauses : {T : Type 0} (work : Work) (old new : ℕ) (r : Result T ConvErr) → IfErr r (IsRealOverflow work.width work.rows) → old ≤ new → IsCountedBetween work.width work.rows work.from (length work.rows) (new - old) → IfErr r (IsCountedBeforeFrom work.width work.rows work.from (new - old)) → ConvertsFirst work old new r
-first_of_clauses work old new (Ok x) l n c b = record { overflow = tt; no_fewer = n; counted = c; counted_before = tt }
-first_of_clauses work old new (Err (conversion.Overflow over)) l n c b = record { overflow = l; no_fewer = n; counted = c; counted_before = b }
-first_of_clauses work old new (Err conversion.Memory) l n c b = record { overflow = tt; no_fewer = n; counted = c; counted_before = tt }
+pub first_of_rows : {T : Type 0} (width column : ℕ) (rows : List Row) (old new : ℕ) (r : Result T ConvErr) → ConvertsRows width rows old new r → ConvertsFirst (rows_work width column rows 0) old new r
+first_of_rows width column rows old new (Ok x) h = record { overflow = tt; no_fewer = h.no_fewer; counted = h.counted; counted_before = tt }
+first_of_rows width column rows old new (Err (conversion.Overflow over)) h = record { overflow = h.overflow; no_fewer = h.no_fewer; counted = h.counted; counted_before = h.counted_before }
+first_of_rows width column rows old new (Err conversion.Memory) h = record { overflow = tt; no_fewer = h.no_fewer; counted = h.counted; counted_before = tt }
+
+pub first_of_from : {T : Type 0} (width column : ℕ) (rows : List Row) (from old new : ℕ) (r : Result T ConvErr) → ConvertsFrom width rows from old new r → ConvertsFirst (rows_work width column rows from) old new r
+first_of_from width column rows from old new (Ok x) h = record { overflow = tt; no_fewer = h.no_fewer; counted = h.counted; counted_before = tt }
+first_of_from width column rows from old new (Err (conversion.Overflow over)) h = record { overflow = h.overflow.0; no_fewer = h.no_fewer; counted = h.counted; counted_before = h.counted_before }
+first_of_from width column rows from old new (Err conversion.Memory) h = record { overflow = tt; no_fewer = h.no_fewer; counted = h.counted; counted_before = tt }
+
+-- of one that converts the second list alone
+pub second_unconverted : (width column : ℕ) (list : List Row) (steps : ℕ) → IsSecondListConversion width column list steps steps None
+second_unconverted width column list steps = record { overflow = tt; no_fewer = omega arith; counted = after_none width column list (steps - steps) (omega arith); counted_before = tt }
+
+pub second_simplified : (width column : ℕ) (list : List Row) (low high : ℕ) → low ≤ high → high ≤ low + 2 * (length list * width) → IsSecondListConversion width column list low high None
+second_simplified width column list low high p h = record { overflow = tt; no_fewer = p; counted = after_simplified width column list low high h; counted_before = tt }
+
+module _ (width column : ℕ) (list second : List Row) (left right : List ℤ) (at low middle high : ℕ) (p : low ≤ middle) (h : middle ≤ low + 2 * (length list * width)) (l : IsLeft width list left right at) (s : IsSecondList width column list second) where
+  pub second_left : {T : Type 0} (r : Result T ConvErr) → ConvertsRows width second middle high r → ConvertsSecondList width column list low high r
+  second_left (Ok x) c = record { overflow = tt; no_fewer = omega (arith, p, c.no_fewer); counted = after_left width column list second left right at low middle high p c.no_fewer h l s c.counted; counted_before = tt }
+  second_left (Err (conversion.Overflow over)) c = record {
+    overflow = record { second = second; is_second = s; leaves = c.overflow };
+    no_fewer = omega (arith, p, c.no_fewer);
+    counted = after_left width column list second left right at low middle high p c.no_fewer h l s c.counted;
+    counted_before = record {
+      simplified = middle - low;
+      second = high - middle;
+      sum = omega (arith, p, c.no_fewer);
+      bounded = omega (arith, h);
+      left = left;
+      right = right;
+      at = at;
+      is_left = l;
+      rows = second;
+      is_second = s;
+      leaves = c.overflow;
+      second_counted = c.counted_before;
+    };
+  }
+  second_left (Err conversion.Memory) c = record { overflow = tt; no_fewer = omega (arith, p, c.no_fewer); counted = after_left width column list second left right at low middle high p c.no_fewer h l s c.counted; counted_before = tt }
+
+pub second_moved : (width column : ℕ) (list : List Row) (low middle high : ℕ) (over : Option Overflow) → low ≤ middle → middle - low ≡ 0 → IsSecondListConversion width column list middle high over → IsSecondListConversion width column list low high over
+second_moved width column list low middle high over p e c = subst (λ (n : ℕ). IsSecondListConversion width column list n high over) (omega (arith, p, e)) c
+
+-- of the list of a system
+pub second_at : (cs : Constraints) (width dim : ℕ) (list : List Row) (old new : ℕ) (over : Option Overflow) → width ≡ cs.dim + 1 → dim ≡ cs.dim → list ≡ constraint_list cs → IsSecondListConversion width dim list old new over → IsPairConversion cs old new over
+second_at cs width dim list old new over w d l h =
+    subst (λ (n : ℕ). IsSecondListConversion (cs.dim + 1) n (constraint_list cs) old new over) d
+    (moved (λ n rs. IsSecondListConversion n dim rs old new over) width (cs.dim + 1) list (constraint_list cs) w l h)
+
+-- a conversion of the rows behind all of them
+pub none_left : {T : Type 0} (width column : ℕ) (list : List Row) (old new : ℕ) (r : Result T ConvErr) → ConvertsFrom width list (length list) old new r → ConvertsSecondList width column list old new r
+none_left width column list old new (Ok x) h = record { overflow = tt; no_fewer = h.no_fewer; counted = after_none width column list (new - old) (none_between width list (length list) (new - old) h.counted); counted_before = tt }
+none_left width column list old new (Err (conversion.Overflow over)) h = absurd (omega (arith, h.overflow.0.step, h.overflow.1))
+none_left width column list old new (Err conversion.Memory) h = record { overflow = tt; no_fewer = h.no_fewer; counted = after_none width column list (new - old) (none_between width list (length list) (new - old) h.counted); counted_before = tt }
+
+-- ---- both lists
+-- the first alone
+pub first_is_all : (work : Work) (old new : ℕ) (over : Option Overflow) → IsFirstConversion work old new over → IsConversion work old new over
+first_is_all work old new None h = record { overflow = tt; no_fewer = h.no_fewer; counted = counted_first work.width work.column work.rows work.from (new - old) h.counted; counted_before = tt }
+first_is_all work old new (Some over) h = record {
+  overflow = inl h.overflow;
+  no_fewer = h.no_fewer;
+  counted = counted_first work.width work.column work.rows work.from (new - old) h.counted;
+  counted_before = inl (record { leaves = h.overflow; counted = h.counted_before });
+}
+
+-- and then the second
+pub both_are_all : (work : Work) (low middle high : ℕ) (over : Option Overflow) → IsFirstConversion work low middle None → IsSecondListConversion work.width work.column work.rows middle high over → IsConversion work low high over
+both_are_all work low middle high None f s = record {
+  overflow = tt;
+  no_fewer = omega (arith, f.no_fewer, s.no_fewer);
+  counted = counted_both work.width work.column work.rows work.from low middle high f.no_fewer s.no_fewer f.counted s.counted;
+  counted_before = tt;
+}
+both_are_all work low middle high (Some over) f s = record {
+  overflow = inr s.overflow;
+  no_fewer = omega (arith, f.no_fewer, s.no_fewer);
+  counted = counted_both work.width work.column work.rows work.from low middle high f.no_fewer s.no_fewer f.counted s.counted;
+  counted_before = inr (record { first = middle - low; rest = high - middle; sum = omega (arith, f.no_fewer, s.no_fewer); first_counted = f.counted; rest_counted = s.counted_before });
+}
 
 -- ---- what it promises of each clause
 -- of a refusal
@@ -70,28 +144,12 @@ before_clause work old new (Ok x) h = tt
 before_clause work old new (Err (conversion.Overflow over)) h = h.counted_before
 before_clause work old new (Err conversion.Memory) h = tt
 
--- it is counted from the first row on too
-pub counted_clause : (work : Work) (old new : ℕ) (over : Option Overflow) → work.from ≤ length work.rows → IsConversion work old new over → IsCountedOn work.width work.column work.rows (new - old)
-counted_clause work old new over below h = counted_from_first work.width work.column work.rows work.from (new - old) below h.counted
-
--- and up to an overflow
-pub before_first_clause : {T : Type 0} (work : Work) (old new : ℕ) (r : Result T ConvErr) → work.from ≤ length work.rows → Converts work old new r → IfErr r (IsCountedBeforeOn work.width work.column work.rows (new - old))
-before_first_clause work old new (Ok x) below h = tt
-before_first_clause work old new (Err (conversion.Overflow over)) below h = before_from_first work.width work.column work.rows work.from (new - old) (conversion.Overflow over) below h.counted_before
-before_first_clause work old new (Err conversion.Memory) below h = tt
-
 -- of a call on generators
 pub gen_overflow_clause : {T : Type 0} (work : Work) (old new : ℕ) (r : Result T GenErr) → GenConverts work old new r → IfErr r (IsGenOverflowOn work.width work.column work.rows)
 gen_overflow_clause work old new (Ok x) h = tt
 gen_overflow_clause work old new (Err generators.NoPoint) h = tt
 gen_overflow_clause work old new (Err (generators.Overflow over)) h = h.overflow
 gen_overflow_clause work old new (Err generators.Memory) h = tt
-
-pub gen_before_clause : {T : Type 0} (work : Work) (old new : ℕ) (r : Result T GenErr) → GenConverts work old new r → IfErr r (IsGenCountedBeforeOnFrom work.width work.column work.rows work.from (new - old))
-gen_before_clause work old new (Ok x) h = tt
-gen_before_clause work old new (Err generators.NoPoint) h = tt
-gen_before_clause work old new (Err (generators.Overflow over)) h = h.counted_before
-gen_before_clause work old new (Err generators.Memory) h = tt
 
 -- ---- the row where it starts
 known : (t : Topology) (gs : List Generator) (n : ℕ) → t ≡ Closed → ¬ (gs ≡ []) → known_rows t gs n ≡ n
@@ -109,12 +167,6 @@ known_below Closed (g ∷ gs) n m h = h refl
 known_below Closed [] n m h = omega arith
 known_below Nnc gs n m h = omega arith
 
--- what holds from the first row on, and from that row where there is a start
-pub at_known : (P : ℕ → Type 0) (t : Topology) (gs : List Generator) (n : ℕ) → P 0 → (t ≡ Closed → ¬ (gs ≡ []) → P n) → P (known_rows t gs n)
-at_known P Closed (g ∷ gs) n first start = start refl (λ e. let never : g ∷ gs ≡ [] = e in cc)
-at_known P Closed [] n first start = first
-at_known P Nnc gs n first start = first
-
 pub starts : (p : Polyhedron) (n : ℕ) → CanStart p → known_rows p.topology p.gens.list n ≡ n
 starts p n s = known p.topology p.gens.list n s.closed s.some
 
@@ -126,3 +178,30 @@ cons_below p more = known_below p.topology p.gens.list (length p.cons.list + 1) 
 
 pub gens_below : (p : Polyhedron) (more : Generators) → (added_gens p more).from ≤ length (added_gens p more).rows
 gens_below p more = known_below p.topology p.gens.list (length p.gens.list) (length (added_gens p more).rows) (closed_generators_fewer p more)
+
+-- constraints that begin with those of a closed polyhedron
+known_work : (t : Topology) (gs : List Generator) (n : ℕ) (cs : Constraints) → t ≡ Closed → ¬ (gs ≡ []) → rows_work (cs.dim + 1) cs.dim (constraint_list cs) n ≡ record (cons_work t cs) { from = known_rows t gs n }
+known_work Closed (g ∷ gs) n cs e some = refl
+known_work Closed [] n cs e some = absurd (some refl)
+known_work Nnc gs n cs e some = absurd (let never : Nnc ≡ Closed = e in cc)
+
+unknown_work : (t : Topology) (gs : List Generator) (n : ℕ) (cs : Constraints) → t ≡ Closed → gs ≡ [] → cons_work Closed cs ≡ record (cons_work t cs) { from = known_rows t gs n }
+unknown_work Closed (g ∷ gs) n cs e none = absurd (let never : g ∷ gs ≡ [] = none in cc)
+unknown_work Closed [] n cs e none = refl
+unknown_work Nnc gs n cs e none = absurd (let never : Nnc ≡ Closed = e in cc)
+
+pub begun_known : (p : Polyhedron) (cs : Constraints) → p.topology ≡ Closed → ¬ (p.gens.list ≡ []) → rows_work (cs.dim + 1) cs.dim (constraint_list cs) (length p.cons.list + 1) ≡ begun_cons p cs
+begun_known p cs e some = known_work p.topology p.gens.list (length p.cons.list + 1) cs e some
+
+pub begun_unknown : (p : Polyhedron) (cs : Constraints) → p.topology ≡ Closed → p.gens.list ≡ [] → cons_work Closed cs ≡ begun_cons p cs
+begun_unknown p cs e none = unknown_work p.topology p.gens.list (length p.cons.list + 1) cs e none
+
+-- ---- constraints with generators that are the system of their list
+pub pair_fewer : {T : Type 0} (cs : Constraints) (old new : ℕ) (r : Result (Option T) Memory) → ConvertsPair cs old new r → old ≤ new
+pair_fewer cs old new (Ok None) h = h.conversion.no_fewer
+pair_fewer cs old new (Ok (Some x)) h = h.no_fewer
+pair_fewer cs old new (Err e) h = h.no_fewer
+
+pub tried_fewer : (cs : Constraints) (work : Work) (old new : ℕ) (over : Option Overflow) → IsPairOrList cs work old new over → old ≤ new
+tried_fewer cs work old new over (inl h) = h.1.no_fewer
+tried_fewer cs work old new over (inr h) = omega (arith, h.given_up.conversion.no_fewer, h.conversion.no_fewer)

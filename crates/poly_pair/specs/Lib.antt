@@ -9,6 +9,7 @@ pub mod Conversions
 pub mod Parts
 pub mod Refusals
 pub mod Starts
+pub mod DoubleDescriptions
 pub mod Zeros
 pub mod Additions
 pub mod Spanning

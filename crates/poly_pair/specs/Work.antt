@@ -1,13 +1,14 @@
-use Rattle.std.specs.Prelude.{ℕ, ◌+◌, ◌-◌, ◌≤◌, List, [], ◌∷◌, length, Option, Some, None, Result, Ok, Err, IfSome}
+use Rattle.std.specs.Prelude.{◌≡◌, ◌⊎◌, ℕ, ◌+◌, ◌-◌, ◌≤◌, List, [], ◌∷◌, length, Option, Some, None, Result, Ok, Err, IfSome}
 use Rattle.row_core.specs.Lists.{Row}
 use Rattle.row_core.specs.declared.errors.Overflow.{Overflow}
 use Rattle.row_core.specs.declared.errors.ConvErr.{ConvErr}
+use Rattle.row_core.specs.declared.errors.Memory.{Memory}
 use Rattle.row_core.specs.declared.errors.ConvErr.TheVariants as conversion
 use Rattle.cone_laws.specs.Leaves.{Leaves}
 use Rattle.chernikova.specs.Conversion.{IsCountedBetween}
 use Rattle.cons_sys.specs.Constraints.{Constraints}
 use Rattle.gens_sys.specs.Generators.{Generator, Generators}
-use Rattle.stored_systems.specs.WorkLists.{LeavesOn}
+use Rattle.stored_systems.specs.WorkLists.{LeavesOn, LeavesOnSecond, constraint_list}
 use Rattle.poly_pair.specs.declared.topology.Topology.{Topology}
 use Rattle.poly_pair.specs.declared.topology.Topology.TheVariants.{Closed, Nnc}
 use Rattle.poly_pair.specs.declared.errors.GenErr.{GenErr}
@@ -16,7 +17,7 @@ use Rattle.poly_pair.specs.Polyhedra.{Polyhedron}
 use Rattle.poly_pair.specs.TopologyLists.{list_width, constraints_of, generators_of}
 use Rattle.poly_pair.specs.Parts.{AreStoredOfRows}
 use Rattle.poly_pair.specs.Additions.{with_constraints, with_generators}
-use Rattle.poly_pair.specs.Conversions.{IsCountedFrom, IsCountedBeforeOverflow}
+use Rattle.poly_pair.specs.Conversions.{IsCountedFrom, IsCountedAfter, IsCountedBeforeEnd, IsCountedBeforeOverflow}
 
 -- ---- what is converted
 -- a list of rows, its columns and the one of the divisor; the system of the rows before `from` is known
@@ -107,6 +108,18 @@ pub record IsFirstConversion (work : Work) (old new : ℕ) (over : Option Overfl
   pub counted_before : IfSome over
       (λ o. IsCountedBetween work.width work.rows work.from (o.step + 1) (new - old))
 
+-- of the second list alone, where the system of the list is known
+pub record IsSecondListConversion (width column : ℕ) (list : List Row) (old new : ℕ)
+    (over : Option Overflow) : Type 0 where
+  -- an overflow shows a number outside the range in the conversion of the second list
+  pub overflow : IfSome over (LeavesOnSecond width column list)
+  -- the count of combinations never falls
+  pub no_fewer : old ≤ new
+  -- it grows by at most what making the second system takes
+  pub counted : IsCountedAfter width column list (new - old)
+  -- at an overflow by what it takes up to its step
+  pub counted_before : IfSome over (IsCountedBeforeEnd width column list (new - old))
+
 -- what a call costs and shows that converts both lists
 abbrev pub Converts : {T : Type 0} → Work → ℕ → ℕ → Result T ConvErr → Type 0
 Converts work old new result = IsConversion work old new (overflow_in conv_overflow result)
@@ -119,3 +132,37 @@ GenConverts work old new result = IsConversion work old new (overflow_in gen_ove
 abbrev pub ConvertsFirst : {T : Type 0} → Work → ℕ → ℕ → Result T ConvErr → Type 0
 ConvertsFirst work old new result =
     IsFirstConversion work old new (overflow_in conv_overflow result)
+
+-- one that converts the second list alone
+abbrev pub ConvertsSecondList : {T : Type 0} → ℕ → ℕ → List Row → ℕ → ℕ → Result T ConvErr → Type 0
+ConvertsSecondList width column list old new result =
+    IsSecondListConversion width column list old new (overflow_in conv_overflow result)
+
+-- ---- constraints with generators that are the system of their list
+-- only the second list can be left to convert
+abbrev pub IsPairConversion : Constraints → ℕ → ℕ → Option Overflow → Type 0
+IsPairConversion cs old new over =
+    IsSecondListConversion (cs.dim + 1) cs.dim (constraint_list cs) old new over
+
+-- that conversion was given up at an overflow
+pub record IsPairGivenUp (cs : Constraints) (old new : ℕ) : Type 0 where
+  pub over : Overflow
+  pub conversion : IsPairConversion cs old new (Some over)
+
+-- what a call costs and shows that gives nothing at an overflow
+abbrev pub ConvertsPair : {T : Type 0} → Constraints → ℕ → ℕ → Result (Option T) Memory → Type 0
+ConvertsPair cs old new (Ok None) = IsPairGivenUp cs old new
+ConvertsPair cs old new (Ok (Some x)) = IsPairConversion cs old new None
+ConvertsPair cs old new (Err e) = IsPairConversion cs old new None
+
+-- and then a list was converted
+pub record IsPairThenList (cs : Constraints) (work : Work) (old new : ℕ)
+    (over : Option Overflow) : Type 0 where
+  pub between : ℕ
+  pub given_up : IsPairGivenUp cs old between
+  pub conversion : IsConversion work between new over
+
+-- a list is converted only where the pair was given up
+abbrev pub IsPairOrList : Constraints → Work → ℕ → ℕ → Option Overflow → Type 0
+IsPairOrList cs work old new over =
+    ((over ≡ None) × IsPairConversion cs old new None) ⊎ IsPairThenList cs work old new over

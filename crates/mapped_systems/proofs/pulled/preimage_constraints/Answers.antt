@@ -20,8 +20,9 @@ loop-index-init g c =
     simp to_z-of_z (record {
       dim = omega (arith, c.in_ok-pulled.ensures.dim, c.dim.ensures.value);
       pulled = subst (ArePulled (pulled_back c.args.var c.args.expr.now c.args.den) []) (sym c.in_ok-pulled.ensures.empty) none_pulled;
-      earlier = λ i h. absurd (omega (arith, h));
+      earlier = λ i h. absurd {A = StaysInPullback c.args.var c.args.expr.now c.args.den (row_at c.args.cons.now.list i)} (omega (arith, h));
       no_fewer = omega arith;
+      counted = omega arith;
     })
 
 pub push_row-requires : goal.push_row-requires
@@ -43,6 +44,7 @@ loop-index-preserved g c =
       pulled = pulled_step (pulled_back c.args.var c.args.expr.now c.args.den) c.args.cons.now.list c.loop-index.pulled.list c.push_row.new.self.list c.loop-index.index c.in-Ok.row c.kind.result (omega arith) (r ∙ ap (pulled_back c.args.var c.args.expr.now c.args.den) c.row.ensures.value) c.kind.ensures p c.in_ok-push_row.ensures.list;
       earlier = below_more (λ (i : ℕ). StaysInPullback c.args.var c.args.expr.now c.args.den (row_at c.args.cons.now.list i)) c.loop-index.index earlier (subst (StaysInPullback c.args.var c.args.expr.now c.args.den) c.row.ensures.value stays);
       no_fewer = omega (arith, c.loop-index.invariant.no_fewer, c.in-Ok.ensures.no_fewer);
+      counted = omega (arith, c.loop-index.invariant.counted, c.in-Ok.ensures.counted);
     })
 
 pub pulled_row-requires : goal.pulled_row-requires
@@ -69,6 +71,7 @@ returns g c =
       };
       overflow = tt;
       no_fewer = c.loop-index.invariant.no_fewer;
+      counted = omega (arith, c.loop-index.invariant.counted, c.loop-index-test.false, c.len-index-end.ensures);
     }
 
 pub returns-in-Err-clause-overflow : goal.returns-in-Err-clause-overflow

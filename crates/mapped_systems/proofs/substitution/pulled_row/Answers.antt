@@ -34,6 +34,7 @@ returns g c =
       stays = subst (AllStay (CombineStays (slice_set row var (pos 0)) c.args.den c.args.expr.now (cell row var))) (length-set row var (pos 0)) (subst (λ (v : List ℤ). AllStay (CombineStays v c.args.den c.args.expr.now (cell row var)) (length v)) cleared (simp to_z-of_z at c.in_default.ensures.combined.1));
       overflow = tt;
       no_fewer = omega (arith, c.in_default.ensures.counted);
+      counted = omega (arith, c.in_default.ensures.counted);
     }
 
 pub returns-in-Err : goal.returns-in-Err
@@ -56,4 +57,5 @@ returns-in-Err g c =
         column = subst (IsFirstToLeave (CombineStays (slice_set row var (pos 0)) c.args.den expr (cell row var)) (length row)) (sym c.in_ok-over.ensures.column) (subst (λ (n : ℕ). IsFirstToLeave (CombineStays (slice_set row var (pos 0)) c.args.den expr (cell row var)) n c.in-Err.column) (length-set row var (pos 0)) of_cleared);
       };
       no_fewer = omega (arith, c.in-Err.ensures.counted);
+      counted = omega (arith, c.in-Err.ensures.counted);
     }

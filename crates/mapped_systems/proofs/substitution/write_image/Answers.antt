@@ -1,4 +1,4 @@
-use Rattle.std.proofs.Common.{List, ℤ, ℕ, pos, slice_set, length, ap, ◌∙◌, subst}
+use Rattle.std.proofs.Common.{List, ℤ, pos, slice_set, ap, ◌∙◌, subst}
 use Rattle.std.specs.Int.{w128}
 use Rattle.std.proofs.lemmas.Int.{to_z-of_z}
 use Rattle.std.proofs.lemmas.List.{length-set}

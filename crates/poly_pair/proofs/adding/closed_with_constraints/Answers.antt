@@ -10,27 +10,30 @@ use Rattle.poly_pair.proofs.SameSets.{same_rows, same_stored_rows}
 use Rattle.poly_pair.specs.Starts.{IsStartOf}
 use Rattle.poly_pair.proofs.Additions.{start_moved, constraints_fewer, constraint_list_parts, constraint_list_length}
 use Rattle.std.proofs.lemmas.Result.{err_from_is_err_and}
-use Rattle.poly_pair.specs.Work.{rows_work, conv_overflow, IsConversion}
-use Rattle.poly_pair.proofs.WorkLemmas.{unconverted}
+use Rattle.poly_pair.specs.Work.{rows_work, conv_overflow}
+use Rattle.poly_pair.proofs.WorkLemmas.{unconverted, work_moved}
 use Rattle.poly_pair.proofs.adding.closed_with_constraints.Goals as goal
 
 pub added_systems-requires-clause-from : goal.added_systems-requires-clause-from
 added_systems-requires-clause-from g c = omega (arith, constraints_fewer c.args.p.now c.args.more.now c.args.list.now.rows c.requires.rows, c.len-from.ensures ∙ ap (λ (cs : Constraints). length cs.list) c.cons.ensures.value)
 
+pub added_systems-requires-clause-column : goal.added_systems-requires-clause-column
+added_systems-requires-clause-column g c = omega (arith, c.requires.width)
+
 pub added_systems-requires-clause-start : goal.added_systems-requires-clause-start
 added_systems-requires-clause-start g c =
-    subst (λ (n : ℕ). IsStartOf (n + 1) c.args.list.now.rows (c.len-from.result + 1) c.in_ok-start.start) c.requires.dim.0
+    subst (λ (w : ℕ). IsStartOf w c.args.list.now.rows (c.len-from.result + 1) c.in_ok-start.start) (ap (λ (n : ℕ). n + 1) c.requires.dim.0 ∙ sym c.requires.width)
     (start_moved (c.args.p.now.cons.dim + 1) (c.len-from.result + 1) (constraint_list c.args.p.now.cons) (map constraint_row c.args.more.now.list) c.args.list.now.rows c.in_ok-start.start (c.requires.rows ∙ constraint_list_parts c.args.p.now c.args.more.now) ((ap (λ (n : ℕ). n + 1) (c.len-from.ensures ∙ ap (λ (cs : Constraints). length cs.list) c.cons.ensures.value)) ∙ sym (constraint_list_length c.args.p.now.cons)) c.in_ok-start.ensures)
 
 pub returns-in_ok-try_copy-in-Same-clause-points : goal.returns-in_ok-try_copy-in-Same-clause-points
 returns-in_ok-try_copy-in-Same-clause-points g c =
     subst (λ (p : Polyhedron). IsOfRows Closed c.args.dim c.args.list.now.rows p) (sym c.in_ok-try_copy-in-Same.ensures)
-    (same_rows c.args.p.now c.cons.ensures.kept c.requires.closed c.requires.some c.args.dim (c.len-from.result + 1) c.requires.dim.0 (map constraint_row c.args.more.now.list) c.args.list.now.rows (subst (IsExtended (c.args.dim + 1) c.args.dim c.args.list.now.rows (c.len-from.result + 1)) c.in-Same.is c.in_ok-found.ensures.systems) c.requires.list (c.requires.rows ∙ constraint_list_parts c.args.p.now c.args.more.now) ((ap (λ (n : ℕ). n + 1) (c.len-from.ensures ∙ ap (λ (cs : Constraints). length cs.list) c.cons.ensures.value)) ∙ sym (constraint_list_length c.args.p.now.cons)))
+    (same_rows c.args.p.now c.cons.ensures.kept c.requires.closed c.requires.some c.args.dim (c.len-from.result + 1) c.requires.dim.0 (map constraint_row c.args.more.now.list) c.args.list.now.rows (subst (IsExtended (c.args.dim + 1) c.args.dim c.args.list.now.rows (c.len-from.result + 1)) c.in-Same.is (subst (λ (w : ℕ). IsExtended w c.args.dim c.args.list.now.rows (c.len-from.result + 1) c.in_ok-found.found) c.requires.width c.in_ok-found.ensures.systems)) c.requires.list (c.requires.rows ∙ constraint_list_parts c.args.p.now c.args.more.now) ((ap (λ (n : ℕ). n + 1) (c.len-from.ensures ∙ ap (λ (cs : Constraints). length cs.list) c.cons.ensures.value)) ∙ sym (constraint_list_length c.args.p.now.cons)))
 
 pub returns-in_ok-try_copy-in-Same-clause-stored : goal.returns-in_ok-try_copy-in-Same-clause-stored
 returns-in_ok-try_copy-in-Same-clause-stored g c =
     subst (λ (p : Polyhedron). AreStoredOfRows Closed c.args.dim c.args.list.now.rows p) (sym c.in_ok-try_copy-in-Same.ensures)
-    (same_stored_rows c.args.p.now c.cons.ensures.kept c.requires.closed c.requires.some c.args.dim (c.len-from.result + 1) c.requires.dim.0 (map constraint_row c.args.more.now.list) c.args.list.now.rows (subst (IsExtended (c.args.dim + 1) c.args.dim c.args.list.now.rows (c.len-from.result + 1)) c.in-Same.is c.in_ok-found.ensures.systems) (c.requires.rows ∙ constraint_list_parts c.args.p.now c.args.more.now) ((ap (λ (n : ℕ). n + 1) (c.len-from.ensures ∙ ap (λ (cs : Constraints). length cs.list) c.cons.ensures.value)) ∙ sym (constraint_list_length c.args.p.now.cons)))
+    (same_stored_rows c.args.p.now c.cons.ensures.kept c.requires.closed c.requires.some c.args.dim (c.len-from.result + 1) c.requires.dim.0 (map constraint_row c.args.more.now.list) c.args.list.now.rows (subst (IsExtended (c.args.dim + 1) c.args.dim c.args.list.now.rows (c.len-from.result + 1)) c.in-Same.is (subst (λ (w : ℕ). IsExtended w c.args.dim c.args.list.now.rows (c.len-from.result + 1) c.in_ok-found.found) c.requires.width c.in_ok-found.ensures.systems)) (c.requires.rows ∙ constraint_list_parts c.args.p.now c.args.more.now) ((ap (λ (n : ℕ). n + 1) (c.len-from.ensures ∙ ap (λ (cs : Constraints). length cs.list) c.cons.ensures.value)) ∙ sym (constraint_list_length c.args.p.now.cons)))
 
 pub overflow_add-from : goal.overflow_add-from
 overflow_add-from g c = omega (arith, constraints_fewer c.args.p.now c.args.more.now c.args.list.now.rows c.requires.rows, c.len-from.ensures ∙ ap (λ (cs : Constraints). length cs.list) c.cons.ensures.value)
@@ -50,7 +53,7 @@ returns-in_err-found g c =
     rw (p.1, p.2) (record {
       points = tt;
       stored = tt;
-      conversion = subst (λ (n : ℕ). IsConversion (rows_work (c.args.dim + 1) c.args.dim c.args.list.now.rows n) c.args.steps.now c.added_systems.new.steps (conv_overflow c.in_err-found.field-0.0)) (ap (λ (n : ℕ). n + 1) (c.len-from.ensures ∙ ap (λ (cs : Constraints). length cs.list) c.cons.ensures.value)) c.in_err-found.ensures.conversion;
+      conversion = work_moved c.args.list.now.width (c.args.dim + 1) c.args.dim c.args.list.now.rows (c.len-from.result + 1) _ c.args.steps.now c.added_systems.new.steps (conv_overflow c.in_err-found.field-0.0) c.requires.width (ap (λ (n : ℕ). n + 1) (c.len-from.ensures ∙ ap (λ (cs : Constraints). length cs.list) c.cons.ensures.value)) c.in_err-found.ensures.conversion;
     })
 
 pub returns-in_err-of_row_systems-in-Changed : goal.returns-in_err-of_row_systems-in-Changed
@@ -59,12 +62,12 @@ returns-in_err-of_row_systems-in-Changed g c =
     rw (p.1, p.2) (record {
       points = tt;
       stored = tt;
-      conversion = subst (λ (n : ℕ). IsConversion (rows_work (c.args.dim + 1) c.args.dim c.args.list.now.rows n) c.args.steps.now c.added_systems.new.steps None) (ap (λ (n : ℕ). n + 1) (c.len-from.ensures ∙ ap (λ (cs : Constraints). length cs.list) c.cons.ensures.value)) c.in_ok-found.ensures.conversion;
+      conversion = work_moved c.args.list.now.width (c.args.dim + 1) c.args.dim c.args.list.now.rows (c.len-from.result + 1) _ c.args.steps.now c.added_systems.new.steps None c.requires.width (ap (λ (n : ℕ). n + 1) (c.len-from.ensures ∙ ap (λ (cs : Constraints). length cs.list) c.cons.ensures.value)) c.in_ok-found.ensures.conversion;
     })
 
 pub returns-in_ok-of_row_systems-in-Changed-clause-conversion : goal.returns-in_ok-of_row_systems-in-Changed-clause-conversion
 returns-in_ok-of_row_systems-in-Changed-clause-conversion g c =
-    subst (λ (n : ℕ). IsConversion (rows_work (c.args.dim + 1) c.args.dim c.args.list.now.rows n) c.args.steps.now c.added_systems.new.steps None) (ap (λ (n : ℕ). n + 1) (c.len-from.ensures ∙ ap (λ (cs : Constraints). length cs.list) c.cons.ensures.value)) c.in_ok-found.ensures.conversion
+    work_moved c.args.list.now.width (c.args.dim + 1) c.args.dim c.args.list.now.rows (c.len-from.result + 1) _ c.args.steps.now c.added_systems.new.steps None c.requires.width (ap (λ (n : ℕ). n + 1) (c.len-from.ensures ∙ ap (λ (cs : Constraints). length cs.list) c.cons.ensures.value)) c.in_ok-found.ensures.conversion
 
 pub returns-in_err-try_copy-in-Same : goal.returns-in_err-try_copy-in-Same
 returns-in_err-try_copy-in-Same g c =
@@ -72,9 +75,9 @@ returns-in_err-try_copy-in-Same g c =
     rw (p.1, p.2) (record {
       points = tt;
       stored = tt;
-      conversion = subst (λ (n : ℕ). IsConversion (rows_work (c.args.dim + 1) c.args.dim c.args.list.now.rows n) c.args.steps.now c.added_systems.new.steps None) (ap (λ (n : ℕ). n + 1) (c.len-from.ensures ∙ ap (λ (cs : Constraints). length cs.list) c.cons.ensures.value)) c.in_ok-found.ensures.conversion;
+      conversion = work_moved c.args.list.now.width (c.args.dim + 1) c.args.dim c.args.list.now.rows (c.len-from.result + 1) _ c.args.steps.now c.added_systems.new.steps None c.requires.width (ap (λ (n : ℕ). n + 1) (c.len-from.ensures ∙ ap (λ (cs : Constraints). length cs.list) c.cons.ensures.value)) c.in_ok-found.ensures.conversion;
     })
 
 pub returns-in_ok-try_copy-in-Same-clause-conversion : goal.returns-in_ok-try_copy-in-Same-clause-conversion
 returns-in_ok-try_copy-in-Same-clause-conversion g c =
-    subst (λ (n : ℕ). IsConversion (rows_work (c.args.dim + 1) c.args.dim c.args.list.now.rows n) c.args.steps.now c.added_systems.new.steps None) (ap (λ (n : ℕ). n + 1) (c.len-from.ensures ∙ ap (λ (cs : Constraints). length cs.list) c.cons.ensures.value)) c.in_ok-found.ensures.conversion
+    work_moved c.args.list.now.width (c.args.dim + 1) c.args.dim c.args.list.now.rows (c.len-from.result + 1) _ c.args.steps.now c.added_systems.new.steps None c.requires.width (ap (λ (n : ℕ). n + 1) (c.len-from.ensures ∙ ap (λ (cs : Constraints). length cs.list) c.cons.ensures.value)) c.in_ok-found.ensures.conversion

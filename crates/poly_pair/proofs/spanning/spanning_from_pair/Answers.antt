@@ -1,8 +1,15 @@
 use Rattle.std.proofs.lemmas.Result.{err_from_is_err_and}
 use Rattle.poly_pair.proofs.spanning.spanning_from_pair.Goals as goal
 
-pub returns-in_err-added-clause-generators : goal.returns-in_err-added-clause-generators
-returns-in_err-added-clause-generators g c = let p = err_from_is_err_and c.from_residual.result c.from_residual.ensures.1 in rw p.1 tt
+pub generators_if_any-found-requires-clause-cone : goal.generators_if_any-found-requires-clause-cone
+generators_if_any-found-requires-clause-cone g c = c.in_ok-added.ensures.cone
 
-pub returns-in_err-found-clause-generators : goal.returns-in_err-found-clause-generators
-returns-in_err-found-clause-generators g c = let p = err_from_is_err_and c.from_residual-in_err-found.result c.from_residual-in_err-found.ensures.1 in rw p.1 tt
+pub returns-in_err-found : goal.returns-in_err-found
+returns-in_err-found g c =
+    let p = err_from_is_err_and c.from_residual-in_err-found.result c.from_residual-in_err-found.ensures.1 in
+    rw (p.1, p.2) (record { generators = tt; conversion = c.in_ok-added.ensures.conversion })
+
+pub returns-in_err-added : goal.returns-in_err-added
+returns-in_err-added g c =
+    let p = err_from_is_err_and c.from_residual.result c.from_residual.ensures.1 in
+    rw (p.1, p.2) (record { generators = tt; conversion = c.in_err-added.ensures.conversion })
