@@ -35,9 +35,9 @@ use Rattle.poly_pair.proofs.StoredLemmas.{no_element, kept_dim}
 use Rattle.mapped_systems.specs.Maps.{substituted, pulled_back}
 use Rattle.mapped_systems.specs.MappedLists.{IsMappedSystem, IsPulledSystem}
 use Rattle.mapped_systems.specs.CarriedSystems.{AreInverse, IsInverseRow}
-use Rattle.affine_maps.specs.CarriedPairs.{HaveNoLine, CanBeCarried, LeavesInTurned}
-use Rattle.mapped_systems.specs.Refusals.{SomeLeavesInPullback}
-use Rattle.mapped_systems.specs.StoredPairs.{IsPair}
+use Rattle.affine_maps.specs.CarriedPairs.{HaveNoLine, CanBeCarried, LeavesInTurned, LeavesInMapped}
+use Rattle.mapped_systems.specs.Refusals.{SomeLeavesInImage, SomeLeavesInPullback}
+use Rattle.poly_pair.specs.DoubleDescriptions.{IsDoubleDescription}
 use Rattle.mapped_systems.proofs.ColumnLemmas.{dot-pulled_back}
 use Rattle.mapped_systems.proofs.LinearMaps.{substituted_other}
 use Rattle.affine_maps.proofs.MappedPolyhedra.{lent_generators, mapped_kinds, mapped_point}
@@ -100,24 +100,22 @@ module _ (p : Polyhedron) (k : IsKept p) (gens_fit : FitDimension p.gens) (fit :
           subst (λ (n : ℕ). ArePairZeros (record { dim = n; list = cs.list }) gs table) (sym pulled.same_dim)
           (zeros_turned (p.cons.dim + 1) (p.cons.dim + 1) (substituted var expr den) (substituted var row size) undone_map (generator_list p.gens) (generator_list gs) (vectors (constraint_list p.cons)) (vectors ((divisor_row p.cons.dim, false) ∷ map constraint_row cs.list)) table carried.rows (row_wide p.cons.dim p.gens (kept_dim p k) gens_fit) turned_rows.vectors (z can.closed can.some))
 
-      carried_pair : (table : Table) → KeepsZeros p table → IsPair cs gs table × HasPointKind gs.list
-      carried_pair table z = (
-        record {
-          same_dim = m.same_dim ∙ sym pulled.same_dim;
-          closed = pulled_kinds (pulled_back var row size) Closed p.cons.dim p cs (sym can.closed) k pulled;
-          kinds = mapped_kinds (substituted var expr den) Closed p.cons.dim p gs (sym can.closed) k m;
-          system = carried_system;
-          zeros = carried_zeros table z;
-        },
-        carried_point,
-      )
+      carried_pair : (table : Table) → KeepsZeros p table → IsDoubleDescription cs gs table
+      carried_pair table z = record {
+        same_dim = m.same_dim ∙ sym pulled.same_dim;
+        closed = pulled_kinds (pulled_back var row size) Closed p.cons.dim p cs (sym can.closed) k pulled;
+        kinds = mapped_kinds (substituted var expr den) Closed p.cons.dim p gs (sym can.closed) k m;
+        system = carried_system;
+        point = carried_point;
+        zeros = carried_zeros table z;
+      }
 
 -- the generators are mapped forth, and the constraints back
-pub image_pair : (p : Polyhedron) → IsKept p → FitDimension p.gens → FitConstraints p.cons → (var : ℕ) → var < p.cons.dim → (expr row : List ℤ) (den size : ℤ) → pos 0 <ℤ den → IsInverseRow var expr den row size → CanBeCarried p (cell expr var) → (gs : Generators) → IsMappedSystem (substituted var expr den) p.cons.dim p.gens gs → (cs : Constraints) → IsPulledSystem (pulled_back var row size) p.cons.dim p.cons cs → (table : Table) → KeepsZeros p table → IsPair cs gs table × HasPointKind gs.list
+pub image_pair : (p : Polyhedron) → IsKept p → FitDimension p.gens → FitConstraints p.cons → (var : ℕ) → var < p.cons.dim → (expr row : List ℤ) (den size : ℤ) → pos 0 <ℤ den → IsInverseRow var expr den row size → CanBeCarried p (cell expr var) → (gs : Generators) → IsMappedSystem (substituted var expr den) p.cons.dim p.gens gs → (cs : Constraints) → IsPulledSystem (pulled_back var row size) p.cons.dim p.cons cs → (table : Table) → KeepsZeros p table → IsDoubleDescription cs gs table
 image_pair p k gens_fit fit var below expr row den size positive i can gs m cs pulled table z = carried_pair p k gens_fit fit can.start can.no_line var below expr row den size i.positive (inverse_maps p.cons.dim var expr row den size below positive i) gs m cs pulled table z
 
 -- the other way round
-pub preimage_pair : (p : Polyhedron) → IsKept p → FitDimension p.gens → FitConstraints p.cons → (var : ℕ) → var < p.cons.dim → (expr row : List ℤ) (den size : ℤ) → pos 0 <ℤ den → IsInverseRow var expr den row size → CanBeCarried p (cell expr var) → (gs : Generators) → IsMappedSystem (substituted var row size) p.cons.dim p.gens gs → (cs : Constraints) → IsPulledSystem (pulled_back var expr den) p.cons.dim p.cons cs → (table : Table) → KeepsZeros p table → IsPair cs gs table × HasPointKind gs.list
+pub preimage_pair : (p : Polyhedron) → IsKept p → FitDimension p.gens → FitConstraints p.cons → (var : ℕ) → var < p.cons.dim → (expr row : List ℤ) (den size : ℤ) → pos 0 <ℤ den → IsInverseRow var expr den row size → CanBeCarried p (cell expr var) → (gs : Generators) → IsMappedSystem (substituted var row size) p.cons.dim p.gens gs → (cs : Constraints) → IsPulledSystem (pulled_back var expr den) p.cons.dim p.cons cs → (table : Table) → KeepsZeros p table → IsDoubleDescription cs gs table
 preimage_pair p k gens_fit fit var below expr row den size positive i can gs m cs pulled table z = carried_pair p k gens_fit fit can.start can.no_line var below row expr size den positive (other_way (p.cons.dim + 1) (substituted var expr den) (substituted var row size) (inverse_maps p.cons.dim var expr row den size below positive i)) gs m cs pulled table z
 
 -- ---- machine numbers
@@ -142,6 +140,15 @@ machine_turned p var a size lent old e over r v same is l = record {
   leaves = subst (IsOverflowIn (SomeLeavesInPullback var lent (pos (unsigned_abs a)) p.cons.list)) is
       (subst (λ (cs : Constraints). IsOverflowIn (SomeLeavesInPullback var lent (pos (unsigned_abs a)) cs.list) e) same
       (subst (λ (z : ℤ). IsOverflowIn (SomeLeavesInPullback var lent z old.list) e) (machine_size a size r v) l));
+}
+
+-- the generator whose map does
+pub machine_left : (p : Polyhedron) (var : ℕ) (a size : ℤ) (lent : List ℤ) (old : Generators) (e : ConvErr) (over : Overflow) → InRange a → size ≡ pos (unsigned_abs (to_z w128 (of_z w128 a))) → old ≡ p.gens → e ≡ conversion.Overflow over → IsOverflowIn (SomeLeavesInImage var lent (to_z w128 (of_z w128 size)) old.list) e → LeavesInMapped var lent (pos (unsigned_abs a)) p
+machine_left p var a size lent old e over r v same is l = record {
+  over = over;
+  leaves = subst (IsOverflowIn (SomeLeavesInImage var lent (pos (unsigned_abs a)) p.gens.list)) is
+      (subst (λ (gs : Generators). IsOverflowIn (SomeLeavesInImage var lent (pos (unsigned_abs a)) gs.list) e) same
+      (subst (λ (z : ℤ). IsOverflowIn (SomeLeavesInImage var lent z old.list) e) (machine_size a size r v) l));
 }
 
 pub machine_positive : (a size : ℤ) → InRange a → size ≡ pos (unsigned_abs (to_z w128 (of_z w128 a))) → pos 0 <ℤ pos (unsigned_abs a) → pos 0 <ℤ to_z w128 (of_z w128 size)

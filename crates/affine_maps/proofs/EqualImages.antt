@@ -25,8 +25,9 @@ use Rattle.mapped_systems.specs.Maps.{substituted, with_zeros}
 use Rattle.affine_maps.specs.SubstitutedSets.{IsSubstitutedImage, IsSubstitutedPreimage, IsStoredOfSubstituted, IsStoredOfPulledBack}
 use Rattle.mapped_systems.specs.Refusals.{SomeLeavesInImage, SomeLeavesInPullback}
 use Rattle.affine_maps.specs.SubstitutedSets.{LeavesOnSubstituted, LeavesOnPulledBack}
-use Rattle.affine_maps.specs.Relations.{IsRelatedImage, IsRelatedPreimage, IsImageBy, IsPreimageBy, IsStoredOfRelation, LeavesOnRelation, replaced, moved, image_columns}
-use Rattle.affine_maps.specs.ImageResults.{EqualImageIsSubstituted, EqualPreimageIsSubstituted, IsStoredOfImage, LeavesInImageBy, IsStoredOfPreimage, LeavesInPreimageBy}
+use Rattle.affine_maps.specs.Relations.{IsRelatedImage, IsRelatedPreimage, IsImageBy, IsPreimageBy, IsStoredOfRelation, LeavesOnRelation, ConvertsRelation, replaced, moved, image_columns}
+use Rattle.affine_maps.specs.PairConversions.{ConvertsImage, ConvertsPreimage}
+use Rattle.affine_maps.specs.ImageResults.{EqualImageIsSubstituted, EqualPreimageIsSubstituted, IsStoredOfImage, LeavesInImageBy, ConvertsImageBy, IsStoredOfPreimage, LeavesInPreimageBy, ConvertsPreimageBy}
 use Rattle.mapped_systems.proofs.PulledSets.{one_times}
 use Rattle.affine_maps.proofs.RelatedImages.{crossed}
 use Rattle.mapped_systems.specs.Sources.{HasSource}
@@ -213,6 +214,20 @@ preimage_leaves Le var expr den p over ne l = l
 preimage_leaves Gt var expr den p over ne l = l
 preimage_leaves Lt var expr den p over ne l = l
 
+image_converts : (rel : ImageRel) (var : ℕ) (expr : List ℤ) (den : ℤ) (p : Polyhedron) (old new : ℕ) (r : Result Polyhedron ConvErr) → rel ≢ Eq → ConvertsRelation (with_zeros p.cons.dim 1) (image_columns p.cons.dim var) rel expr den p old new r → ConvertsImageBy rel var expr den p old new r
+image_converts Eq var expr den p old new r ne c = absurd (ne refl)
+image_converts Ge var expr den p old new r ne c = c
+image_converts Le var expr den p old new r ne c = c
+image_converts Gt var expr den p old new r ne c = c
+image_converts Lt var expr den p old new r ne c = c
+
+preimage_converts : (rel : ImageRel) (var : ℕ) (expr : List ℤ) (den : ℤ) (p : Polyhedron) (old new : ℕ) (r : Result Polyhedron ConvErr) → rel ≢ Eq → ConvertsRelation (moved p.cons.dim var) (range_with_len 0 p.cons.dim) rel expr den p old new r → ConvertsPreimageBy rel var expr den p old new r
+preimage_converts Eq var expr den p old new r ne c = absurd (ne refl)
+preimage_converts Ge var expr den p old new r ne c = c
+preimage_converts Le var expr den p old new r ne c = c
+preimage_converts Gt var expr den p old new r ne c = c
+preimage_converts Lt var expr den p old new r ne c = c
+
 module _ (rel : ImageRel) (var : ℕ) (expr : List ℤ) (read den : ℤ) (told : read ≡ den) (p : Polyhedron) (r : Result Polyhedron ConvErr) where
   -- equality
   module _ (e : rel ≡ Eq) (below : var < p.cons.dim) (positive : pos 0 <ℤ den) where
@@ -235,6 +250,12 @@ module _ (rel : ImageRel) (var : ℕ) (expr : List ℤ) (read den : ℤ) (told :
     pub equal_preimage_leaves : IfErr r (IsOverflowIn (λ over. SomeLeavesInPullback var expr read p.cons.list over ⊎ LeavesOnPulledBack var expr read p over)) → IfErr r (IsOverflowIn (LeavesInPreimageBy rel var expr den p))
     equal_preimage_leaves h = subst (λ (k : ImageRel). IfErr r (IsOverflowIn (LeavesInPreimageBy k var expr den p))) (sym e) (subst (λ (z : ℤ). IfErr r (IsOverflowIn (LeavesInPreimageBy Eq var expr z p))) told h)
 
+    pub equal_image_converts : (old new : ℕ) → ConvertsImage var expr read p old new r → ConvertsImageBy rel var expr den p old new r
+    equal_image_converts old new h = subst (λ (k : ImageRel). ConvertsImageBy k var expr den p old new r) (sym e) (subst (λ (z : ℤ). ConvertsImage var expr z p old new r) told h)
+
+    pub equal_preimage_converts : (old new : ℕ) → ConvertsPreimage var expr read p old new r → ConvertsPreimageBy rel var expr den p old new r
+    equal_preimage_converts old new h = subst (λ (k : ImageRel). ConvertsPreimageBy k var expr den p old new r) (sym e) (subst (λ (z : ℤ). ConvertsPreimage var expr z p old new r) told h)
+
   -- another relation
   pub other_image_points : IfOk r (IsImageBy rel var expr read p) → IfOk r (IsImageBy rel var expr den p)
   other_image_points h = subst (λ (z : ℤ). IfOk r (IsImageBy rel var expr z p)) told h
@@ -254,6 +275,12 @@ module _ (rel : ImageRel) (var : ℕ) (expr : List ℤ) (read den : ℤ) (told :
 
     pub other_preimage_leaves : IfErr r (IsOverflowIn (LeavesOnRelation (moved p.cons.dim var) (range_with_len 0 p.cons.dim) rel expr read p)) → IfErr r (IsOverflowIn (LeavesInPreimageBy rel var expr den p))
     other_preimage_leaves h = subst (λ (z : ℤ). IfErr r (IsOverflowIn (LeavesInPreimageBy rel var expr z p))) told (IfErr-weaker r (IsOverflowIn (LeavesOnRelation (moved p.cons.dim var) (range_with_len 0 p.cons.dim) rel expr read p)) (IsOverflowIn (LeavesInPreimageBy rel var expr read p)) (overflow_weaker (LeavesOnRelation (moved p.cons.dim var) (range_with_len 0 p.cons.dim) rel expr read p) (LeavesInPreimageBy rel var expr read p) (λ over l. preimage_leaves rel var expr read p over ne l)) h)
+
+    pub other_image_converts : (old new : ℕ) → ConvertsRelation (with_zeros p.cons.dim 1) (image_columns p.cons.dim var) rel expr read p old new r → ConvertsImageBy rel var expr den p old new r
+    other_image_converts old new h = subst (λ (z : ℤ). ConvertsImageBy rel var expr z p old new r) told (image_converts rel var expr read p old new r ne h)
+
+    pub other_preimage_converts : (old new : ℕ) → ConvertsRelation (moved p.cons.dim var) (range_with_len 0 p.cons.dim) rel expr read p old new r → ConvertsPreimageBy rel var expr den p old new r
+    other_preimage_converts old new h = subst (λ (z : ℤ). ConvertsPreimageBy rel var expr z p old new r) told (preimage_converts rel var expr read p old new r ne h)
 
 -- what the test whether a relation is equality tells
 pub told_equal : (rel : ImageRel) → true ≡ sameb the_type rel Eq → rel ≡ Eq

@@ -8,3 +8,4 @@ pub mod RelatedPreimages
 pub mod RelatedResults
 pub mod EqualImages
 pub mod CarriedImages
+pub mod PairConversions

@@ -12,7 +12,7 @@ use Rattle.gens_sys.specs.Spans.{Span}
 use Rattle.stored_systems.specs.WorkLists.{LeavesOn}
 use Rattle.poly_pair.specs.declared.topology.Topology.{Topology}
 use Rattle.poly_pair.specs.declared.topology.Topology.TheVariants.{Closed, Nnc}
-use Rattle.poly_pair.specs.TopologyLists.{AreConstraintsFor, AreGeneratorsFor, list_width, generators_of}
+use Rattle.poly_pair.specs.TopologyLists.{AreConstraintsFor, AreGeneratorsFor, list_width, constraints_of, generators_of}
 use Rattle.poly_pair.specs.FirstLists.{LacksPoint}
 use Rattle.poly_pair.specs.Refusals.{IsOverflowOn}
 use Rattle.poly_pair.specs.Polyhedra.{Polyhedron, IsKept, IsOfConstraints, IsOfGenerators, HasNoPoint}
@@ -25,7 +25,7 @@ use Rattle.mapped_systems.proofs.MappedKinds.{closed_gen_kinds, none_before, not
 use Rattle.mapped_systems.proofs.MappedSets.{SpannedSource, source_of, of_source}
 use Rattle.mapped_systems.proofs.PulledSets.{MeetsAt, pulled_holds, holds_pulled, closed_kinds, replaced_meets}
 use Rattle.affine_maps.specs.CarriedPairs.{CanBeCarried, ImagePairLeaves}
-use Rattle.affine_maps.specs.SubstitutedSets.{IsSubstitutedImage, IsSubstitutedPreimage, LeavesOnSubstituted}
+use Rattle.affine_maps.specs.SubstitutedSets.{IsSubstitutedImage, IsSubstitutedPreimage, LeavesOnSubstituted, LeavesOnPulledBack}
 
 -- ---- generators
 module _ (f : List ℤ → List ℤ) where
@@ -108,6 +108,14 @@ mapped_overflow var expr den p new topology same m pair (conversion.Overflow ove
   pair = pair;
 }
 mapped_overflow var expr den p new topology same m pair conversion.Memory l = tt
+
+pub pulled_overflow : (var : ℕ) (expr : List ℤ) (den : ℤ) (p : Polyhedron) (new : Constraints) (topology : Topology) → topology ≡ p.topology → IsPulledSystem (pulled_back var expr den) p.cons.dim p.cons new → (e : ConvErr) → IsOverflowOn (list_width topology new.dim) new.dim (constraints_of topology new) e → IsOverflowIn (LeavesOnPulledBack var expr den p) e
+pulled_overflow var expr den p new topology same m (conversion.Overflow over) l = record {
+  system = new;
+  pulled = m;
+  leaves = subst (λ (n : ℕ). LeavesOn (list_width p.topology n) n (constraints_of p.topology new) over) m.same_dim (subst (λ (t : Topology). LeavesOn (list_width t new.dim) new.dim (constraints_of t new) over) same l);
+}
+pulled_overflow var expr den p new topology same m conversion.Memory l = tt
 
 pub either_overflow : (A B : Overflow → Type 0) (e : ConvErr) → IsOverflowIn B e → IsOverflowIn (λ over. A over ⊎ B over) e
 either_overflow A B (conversion.Overflow over) l = inr l

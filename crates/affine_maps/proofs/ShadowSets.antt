@@ -1,21 +1,18 @@
 -- The points that constraints become where some columns alone are kept, by the generators of the constraints.
-use Rattle.std.proofs.Common.{◌≡◌, ◌⊎◌, inl, inr, ℕ, ◌+◌, ◌-◌, ◌≤◌, List, [], length, ℤ, Option, Some, None, Result, Ok, Err, sym, ap, ◌∙◌, subst, arith, All}
+use Rattle.std.proofs.Common.{◌≡◌, ◌⊎◌, inl, inr, ℕ, ◌+◌, ◌-◌, ◌≤◌, List, length, ℤ, Option, Some, None, Result, Ok, Err, sym, ap, ◌∙◌, subst, arith, All}
 use Rattle.std.specs.Prelude.{IfErr}
 use Rattle.row_core.specs.Points.{IsPoint}
 use Rattle.row_core.specs.declared.errors.Overflow.{Overflow}
 use Rattle.row_core.specs.declared.errors.ConvErr.{ConvErr}
 use Rattle.row_core.specs.declared.errors.ConvErr.TheVariants as conversion
 use Rattle.cone_laws.specs.Leaves.{Leaves}
-use Rattle.chernikova.specs.Conversion.{IsRealOverflow, IsCountedUpto, IsCountedBetween, IsCountedBefore, IsCountedBeforeFrom}
 use Rattle.cons_sys.specs.Constraints.{Constraints}
 use Rattle.gens_sys.specs.Generators.{Generator, Generators, FitDimension}
-use Rattle.stored_systems.specs.WorkLists.{LeavesOn, constraint_list}
+use Rattle.stored_systems.specs.WorkLists.{LeavesOn}
 use Rattle.poly_pair.specs.declared.topology.Topology.{Topology}
-use Rattle.poly_pair.specs.declared.topology.Topology.TheVariants.{Closed}
 use Rattle.poly_pair.specs.TopologyLists.{list_width, generators_of}
 use Rattle.poly_pair.specs.Polyhedra.{Polyhedron, IsEmpty, IsOfGenerators}
-use Rattle.poly_pair.specs.Work.{Work, cons_work, gens_work, begun_cons, known_rows, IsConversion, IsFirstConversion, ConvertsFirst}
-use Rattle.poly_pair.proofs.WorkLemmas.{first_of_clauses, at_known}
+use Rattle.poly_pair.specs.Work.{Work, cons_work, gens_work, IsConversion, IsFirstConversion}
 use Rattle.poly_pair.specs.Parts.{AreStoredOfGenerators}
 use Rattle.poly_pair.specs.Spanning.{HoldNowhere, IsSpanning}
 use Rattle.mapped_systems.specs.Maps.{picked}
@@ -86,15 +83,6 @@ module _ (topology : Topology) (f : List ℤ → List ℤ) (to : ℕ) (cs : Cons
   system_conversion before after over h = inr (record { system = new; is_system = s.is_system; conversion = h })
 
 -- ---- what the calls cost and show
--- the first conversion, by the clauses of the call that begins with a stored pair
-pub first_begun : {T : Type 0} (p : Polyhedron) (cs : Constraints) (old new : ℕ) (r : Result T ConvErr) → p.topology ≡ Closed → IfErr r (IsRealOverflow (cs.dim + 1) (constraint_list cs)) → old ≤ new → IsCountedUpto (cs.dim + 1) (constraint_list cs) (length (constraint_list cs)) (new - old) → (¬ (p.gens.list ≡ []) → IsCountedBetween (cs.dim + 1) (constraint_list cs) (length p.cons.list + 1) (length (constraint_list cs)) (new - old)) → IfErr r (IsCountedBefore (cs.dim + 1) (constraint_list cs) (new - old)) → (¬ (p.gens.list ≡ []) → IfErr r (IsCountedBeforeFrom (cs.dim + 1) (constraint_list cs) (length p.cons.list + 1) (new - old))) → ConvertsFirst (begun_cons p cs) old new r
-first_begun p cs old new r closed leaves fewer counted counted_from before before_from =
-    let known = length p.cons.list + 1 in
-    subst (λ (t : Topology). ConvertsFirst (record (cons_work t cs) { from = known_rows t p.gens.list known }) old new r) (sym closed)
-    (first_of_clauses (record (cons_work Closed cs) { from = known_rows Closed p.gens.list known }) old new r leaves fewer
-    (at_known (λ k. IsCountedBetween (cs.dim + 1) (constraint_list cs) k (length (constraint_list cs)) (new - old)) Closed p.gens.list known counted (λ _ some. counted_from some))
-    (at_known (λ k. IfErr r (IsCountedBeforeFrom (cs.dim + 1) (constraint_list cs) k (new - old))) Closed p.gens.list known before (λ _ some. before_from some)))
-
 module _ (work : Work) (topology : Topology) (f : List ℤ → List ℤ) (to : ℕ) (cs : Constraints) where
   -- the second after the first
   pub both_conversions : (old between new : ℕ) (over : Option Overflow) → IsFirstConversion work old between None → IsSecondConversion topology f to cs between new over → IsShadowConversion work topology f to cs old new over

@@ -4,13 +4,13 @@ use Rattle.row_core.specs.declared.errors.Overflow.{Overflow}
 use Rattle.cons_sys.specs.Constraints.{Constraints}
 use Rattle.gens_sys.specs.declared.kind.GenKind.TheVariants.{Line}
 use Rattle.gens_sys.specs.Generators.{Generator, kind_at}
+use Rattle.poly_pair.specs.DoubleDescriptions.{HasPairOverflow}
 use Rattle.poly_pair.specs.Polyhedra.{Polyhedron}
 use Rattle.poly_pair.specs.Starts.{CanStart}
 use Rattle.mapped_systems.specs.Maps.{pulled_back}
 use Rattle.mapped_systems.specs.MappedLists.{IsPulledSystem}
 use Rattle.mapped_systems.specs.CarriedSystems.{IsInverseRow}
-use Rattle.mapped_systems.specs.StoredPairs.{HasOverflow}
-use Rattle.mapped_systems.specs.Refusals.{SomeLeavesInPullback}
+use Rattle.mapped_systems.specs.Refusals.{SomeLeavesInImage, SomeLeavesInPullback}
 
 -- no generator of the list is a line
 abbrev pub HaveNoLine : List Generator → Type 0
@@ -26,12 +26,17 @@ pub record CanBeCarried (p : Polyhedron) (part : ℤ) : Type 0 where
 pub record LeavesOnTurned (var : ℕ) (row : List ℤ) (size : ℤ) (p : Polyhedron) : Type 0 where
   pub system : Constraints
   pub pulled : IsPulledSystem (pulled_back var row size) p.cons.dim p.cons system
-  pub leaves : HasOverflow system
+  pub leaves : HasPairOverflow system
 
 -- some constraint's map does
 pub record LeavesInTurned (var : ℕ) (row : List ℤ) (size : ℤ) (p : Polyhedron) : Type 0 where
   pub over : Overflow
   pub leaves : SomeLeavesInPullback var row size p.cons.list over
+
+-- some generator's map does
+pub record LeavesInMapped (var : ℕ) (row : List ℤ) (size : ℤ) (p : Polyhedron) : Type 0 where
+  pub over : Overflow
+  pub leaves : SomeLeavesInImage var row size p.gens.list over
 
 -- the pair of a mapped polyhedron isn't found in the range: its constraints are mapped by the expression that undoes the map
 pub record ImagePairLeaves (var : ℕ) (expr : List ℤ) (den : ℤ) (p : Polyhedron) : Type 0 where

@@ -1,4 +1,5 @@
 pub mod CarriedPairs
+pub mod PairConversions
 pub mod Shadows
 pub mod Posts
 pub mod PostLists

@@ -1,5 +1,5 @@
 //! Images and preimages under a map that can be undone, from the stored pair.
-ghost use Rattle.std.specs.Prelude.{◌≡◌, ⊤, ◌+◌, ◌<◌, ◌≤◌, length, pos, ◌<ℤ◌, IfOk, MatchBool, MatchOption};
+ghost use Rattle.std.specs.Prelude.{◌≡◌, ◌+◌, ◌<◌, length, pos, ◌<ℤ◌, IfOk, IfSome, MatchBool};
 ghost use Rattle.row_core.specs.Vectors.{cell};
 ghost use Rattle.row_core.specs.Range.{InRange, AllInRange};
 ghost use Rattle.poly_pair.specs.Polyhedra.{IsOfConstraints, IsOfGenerators};
@@ -7,9 +7,9 @@ ghost use Rattle.poly_pair.specs.Parts.{AreStoredOfRows, AreStoredOfGenerators};
 ghost use Rattle.poly_pair.specs.TopologyLists.{constraints_of};
 ghost use Rattle.mapped_systems.specs.Maps.{substituted, pulled_back};
 ghost use Rattle.mapped_systems.specs.MappedLists.{IsMappedSystem, IsPulledSystem};
-ghost use Rattle.affine_maps.specs.CarriedPairs.{HaveNoLine, CanBeCarried, ImagePairLeaves};
+ghost use Rattle.affine_maps.specs.CarriedPairs.{HaveNoLine, CanBeCarried};
+ghost use Rattle.affine_maps.specs.PairConversions.{CarriesImage, CarriesPreimage};
 
-use crate::stored_pairs::paired;
 use cons_sys::ConsSys;
 use gens_sys::{GenKind, GensSys};
 use mapped_systems::{image_generators, inverse_row, preimage_constraints};
@@ -42,9 +42,9 @@ fn can_be_carried(p: &Poly, var: usize, expr: &[i128]) -> bool
     p.can_start() && !has_line(p.gens())
 }
 
-/// The polyhedron of the mapped generators of a closed set with a point and without a line, where the map can
-/// be undone. Its constraints are mapped the other way, and nothing is converted. There is no answer elsewhere, or
-/// where a number leaves the range.
+/// The polyhedron of the mapped generators of a closed set with a point and without a line, where
+/// the map can be undone. Its constraints are mapped the other way, and nothing is converted. There
+/// is no answer elsewhere, or where a number leaves the range.
 pub(crate) fn carried_image<L: Ledger>(
     p: &Poly,
     var: usize,
@@ -61,13 +61,10 @@ pub(crate) fn carried_image<L: Ledger>(
     requires mapped { IsMappedSystem (substituted var expr.now den) p.now.cons.dim
         p.now.gens gens.now }
     ensures points { IfOk result (λ found.
-        MatchOption found ⊤ (IsOfGenerators p.now.topology gens.now)) }
+        IfSome found (IsOfGenerators p.now.topology gens.now)) }
     ensures stored { IfOk result (λ found.
-        MatchOption found ⊤ (AreStoredOfGenerators p.now.topology gens.now)) }
-    ensures none { IfOk result (λ found. MatchOption found
-        (CanBeCarried p.now (cell expr.now var) → ImagePairLeaves var expr.now den p.now)
-        (λ _. ⊤)) }
-    ensures no_fewer { steps.old ≤ steps.new }
+        IfSome found (AreStoredOfGenerators p.now.topology gens.now)) }
+    ensures conversion { CarriesImage var expr.now den p.now steps.old steps.new result }
 {
     let _dim = p.dim();
     let _vectors = p.gens().dim();
@@ -82,12 +79,12 @@ pub(crate) fn carried_image<L: Ledger>(
         Err(ConvErr::Overflow(_)) => return Ok(None),
         Err(ConvErr::Memory) => return Err(Memory),
     };
-    paired(alloc, &cons, gens, p.zeros(), steps)
+    Poly::from_both(alloc, &cons, gens, p.zeros(), steps)
 }
 
-/// The polyhedron of the mapped constraints of a closed set with a point and without a line, where the map can
-/// be undone. Its generators are mapped the other way, and nothing is converted. There is no answer elsewhere, or
-/// where a number leaves the range.
+/// The polyhedron of the mapped constraints of a closed set with a point and without a line, where
+/// the map can be undone. Its generators are mapped the other way, and nothing is converted. There
+/// is no answer elsewhere, or where a number leaves the range.
 pub(crate) fn carried_preimage<L: Ledger>(
     p: &Poly,
     var: usize,
@@ -104,10 +101,11 @@ pub(crate) fn carried_preimage<L: Ledger>(
     requires pulled { IsPulledSystem (pulled_back var expr.now den) p.now.cons.dim
         p.now.cons cons.now }
     ensures points { IfOk result (λ found.
-        MatchOption found ⊤ (IsOfConstraints p.now.topology cons.now)) }
-    ensures stored { IfOk result (λ found. MatchOption found ⊤
+        IfSome found (IsOfConstraints p.now.topology cons.now)) }
+    ensures stored { IfOk result (λ found. IfSome found
         (AreStoredOfRows p.now.topology cons.now.dim (constraints_of p.now.topology cons.now))) }
-    ensures no_fewer { steps.old ≤ steps.new }
+    ensures conversion { CarriesPreimage var expr.now den p.now cons.now
+        steps.old steps.new result }
 {
     let _dim = p.dim();
     let _rows = p.cons().dim();
@@ -121,5 +119,5 @@ pub(crate) fn carried_preimage<L: Ledger>(
         Err(ConvErr::Overflow(_)) => return Ok(None),
         Err(ConvErr::Memory) => return Err(Memory),
     };
-    paired(alloc, cons, &gens, p.zeros(), steps)
+    Poly::from_both(alloc, cons, &gens, p.zeros(), steps)
 }

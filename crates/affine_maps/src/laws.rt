@@ -8,20 +8,20 @@ pub fn image_is_undone()
     ensures { ImageIsUndone }
 {}
 
-/// The image of a set by a relation is what its constraints with one more variable become where that variable takes
-/// the place of the mapped one.
+/// The image of a set by a relation is what its constraints with one more variable become where
+/// that variable takes the place of the mapped one.
 pub fn image_is_shadow()
     ensures { ImageIsShadow }
 {}
 
-/// The preimage of a set by a relation is what its constraints with one more variable in the place of the mapped one
-/// become without that variable.
+/// The preimage of a set by a relation is what its constraints with one more variable in the place
+/// of the mapped one become without that variable.
 pub fn preimage_is_shadow()
     ensures { PreimageIsShadow }
 {}
 
-/// The image and the preimage by equality are those by the map that replaces the variable by the expression over the
-/// divisor.
+/// The image and the preimage by equality are those by the map that replaces the variable by the
+/// expression over the divisor.
 pub fn equality_is_substitution()
     ensures image { EqualImageIsSubstituted }
     ensures preimage { EqualPreimageIsSubstituted }

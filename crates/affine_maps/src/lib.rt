@@ -1,10 +1,11 @@
 //! Images, preimages, shadows and posts of polyhedra, on both topologies.
 //!
-//! - [`image`] and [`preimage`] replace a variable by what stands in an [`ImageRel`] to an expression.
-//! - [`shadow`] keeps some columns of the points at which constraints hold, [`shadow_from`] begins with the stored
-//!   pair of a polyhedron, and [`shadow_generators_from`] gives generators alone.
-//! - [`post_from`] is the set of all successors of the states of a set by a relation, and [`post_generators`] gives
-//!   generators of it.
+//! - [`image`] and [`preimage`] replace a variable by what stands in an [`ImageRel`] to an
+//!   expression.
+//! - [`shadow`] keeps some columns of the points at which constraints hold, [`shadow_from`] begins
+//!   with the stored pair of a polyhedron, and [`shadow_generators_from`] gives generators alone.
+//! - [`post_from`] is the set of all successors of the states of a set by a relation, and
+//!   [`post_generators`] gives generators of it.
 //!
 //! [`laws`] says which of them undo each other, and what images by relations are.
 #![tactic(auto)]
@@ -16,7 +17,6 @@ mod posts;
 mod related;
 mod relations;
 mod shadows;
-mod stored_pairs;
 
 pub use images::{image, preimage};
 pub use posts::{later_variables, post_from, post_generators};

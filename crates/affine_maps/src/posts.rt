@@ -36,13 +36,13 @@ fn step_constraints(alloc: Global, cons: &ConsSys, relation: &ConsSys) -> Result
     relation.followed_by(&front)
 }
 
-/// The post of a set, from the stored pair of the relation: all y such that some x in the set has (x, y) in the
-/// relation, whose variables are those of x and then those of y.
+/// The post of a set, from the stored pair of the relation: all y such that some x in the set has
+/// (x, y) in the relation, whose variables are those of x and then those of y.
 ///
 /// # Errors
 ///
-/// An overflow is one of the conversion of the list of the relation's constraints and then the set's, or of the
-/// generator list of their successors, or of its second list.
+/// An overflow is one of the conversion of the list of the relation's constraints and then the
+/// set's, or of the generator list of their successors, or of its second list.
 pub fn post_from<L: Ledger>(
     alloc: Global,
     p: &Poly,
@@ -65,7 +65,8 @@ pub fn post_from<L: Ledger>(
 ///
 /// # Errors
 ///
-/// An overflow is one of the conversion of the list of the relation's constraints and then the set's.
+/// An overflow is one of the conversion of the list of the relation's constraints and then the
+/// set's.
 pub fn post_generators<L: Ledger>(
     alloc: Global,
     p: &Poly,

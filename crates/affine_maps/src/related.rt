@@ -102,13 +102,14 @@ fn image_columns(alloc: Global, dim: usize, var: usize) -> Result<Vec<usize>, Me
     Ok(columns)
 }
 
-/// The points that have the values of some point of a set in all variables but one, whose value stands in the relation
-/// to that of the expression over the divisor at the point of the set.
+/// The points that have the values of some point of a set in all variables but one, whose value
+/// stands in the relation to that of the expression over the divisor at the point of the set.
 ///
 /// # Errors
 ///
-/// An overflow is one of the conversion of the list of the constraints with one more variable, or of that of their
-/// generators where this variable has taken the place of the one, or of the second list of the latter.
+/// An overflow is one of the conversion of the list of the constraints with one more variable, or
+/// of that of their generators where this variable has taken the place of the one, or of the second
+/// list of the latter.
 pub(crate) fn related_image<L: Ledger>(
     p: &Poly,
     var: usize,
@@ -180,13 +181,14 @@ fn front_columns(alloc: Global, dim: usize) -> Result<Vec<usize>, Memory>
     Ok(columns)
 }
 
-/// The points that are in a set once a variable is replaced by some fraction that stands in the relation to the
-/// expression over the divisor.
+/// The points that are in a set once a variable is replaced by some fraction that stands in the
+/// relation to the expression over the divisor.
 ///
 /// # Errors
 ///
-/// An overflow is one of the conversion of the list of the constraints with one more variable in the place of the one,
-/// or of that of their generators without it, or of the second list of the latter.
+/// An overflow is one of the conversion of the list of the constraints with one more variable in
+/// the place of the one, or of that of their generators without it, or of the second list of the
+/// latter.
 pub(crate) fn related_preimage<L: Ledger>(
     p: &Poly,
     var: usize,

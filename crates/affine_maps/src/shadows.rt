@@ -16,7 +16,8 @@ use row_core::{ConvErr, Memory, Steps};
 use std::alloc::Global;
 use std::sync::ledger::Ledger;
 
-/// What the columns alone make of generators of the points at which constraints hold, if there is such a point.
+/// What the columns alone make of generators of the points at which constraints hold, if there is
+/// such a point.
 fn picked_if_any(
     alloc: Global,
     topology: Topology,
@@ -38,8 +39,8 @@ fn picked_if_any(
     Ok(Some(mapped))
 }
 
-/// The polyhedron of what the columns alone make of generators of the points at which constraints hold, if there is
-/// such a point.
+/// The polyhedron of what the columns alone make of generators of the points at which constraints
+/// hold, if there is such a point.
 fn shadow_of_generators<L: Ledger>(
     alloc: Global,
     topology: Topology,
@@ -65,15 +66,16 @@ fn shadow_of_generators<L: Ledger>(
     Poly::from_gens_with_point(alloc, topology, &mapped, steps)
 }
 
-/// The points that those at which constraints hold become where the columns alone are kept, in their order.
+/// The points that those at which constraints hold become where the columns alone are kept, in
+/// their order.
 ///
-/// The constraint list is converted, and then the list of the generators that its canonical system stands for,
-/// without the other columns.
+/// The constraint list is converted, and then the list of the generators that its canonical system
+/// stands for, without the other columns.
 ///
 /// # Errors
 ///
-/// An overflow is one of the conversion of the constraint list, or of that of the generators, or of the second list
-/// of the latter.
+/// An overflow is one of the conversion of the constraint list, or of that of the generators, or of
+/// the second list of the latter.
 pub fn shadow<L: Ledger>(
     alloc: Global,
     topology: Topology,
@@ -98,7 +100,8 @@ pub fn shadow<L: Ledger>(
     }
 }
 
-/// What [`shadow`] gives on constraints that begin with those of a closed polyhedron, from its stored pair.
+/// What [`shadow`] gives on constraints that begin with those of a closed polyhedron, from its
+/// stored pair.
 ///
 /// # Errors
 ///
@@ -129,8 +132,9 @@ pub fn shadow_from<L: Ledger>(
     }
 }
 
-/// Generators of what [`shadow_from`] gives, or nothing where that is empty: those that the canonical system of the
-/// constraint list stands for, with the columns alone, without a second conversion.
+/// Generators of what [`shadow_from`] gives, or nothing where that is empty: those that the
+/// canonical system of the constraint list stands for, with the columns alone, without a second
+/// conversion.
 ///
 /// # Errors
 ///

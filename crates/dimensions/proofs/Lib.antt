@@ -6,3 +6,4 @@ pub mod AxisLists
 pub mod TrueTables
 pub mod PaddedSystems
 pub mod PaddedPairs
+pub mod PairConversions

@@ -39,7 +39,7 @@ use Rattle.poly_pair.proofs.StoredLemmas.{no_element, kept_dim}
 use Rattle.mapped_systems.specs.Maps.{with_zeros, without}
 use Rattle.mapped_systems.specs.MappedLists.{AreMapped, ArePulled, IsMappedSystem, IsPulledSystem}
 use Rattle.mapped_systems.specs.CarriedSystems.{AdmitSources}
-use Rattle.mapped_systems.specs.StoredPairs.{IsPair}
+use Rattle.poly_pair.specs.DoubleDescriptions.{IsDoubleDescription}
 use Rattle.dimensions.specs.AddedVariables.{new_axes, zero_equalities, axis_lines, AreZeroBehind, AreFreeBehind, HasTrueRows, HasTrueColumns}
 use Rattle.mapped_systems.proofs.ColumnLemmas.{cell-within, dot-with_zeros, cell-without_behind}
 use Rattle.mapped_systems.proofs.LinearMaps.{behind_value, one_is}
@@ -229,19 +229,17 @@ module _ (p : Polyhedron) (k : IsKept p) (gens_fit : FitDimension p.gens) (can :
         let c : i < count = axis_below p.cons.dim count i b in
         ap (dot (row_at (generator_list gs) j)) (new_axis p.cons.dim count i c) ∙ dot_comm (row_at (generator_list gs) j) (axis (p.cons.dim + count) (p.cons.dim + i)) ∙ axis_value (p.cons.dim + count) (p.cons.dim + i) (row_at (generator_list gs) j) (omega (arith, c)) ∙ row_gone gs.list m.mapped j (p.cons.dim + i) l (omega arith) (omega (arith, c))))
 
-    pub projected_is_pair : (old table : Table) → KeepsZeros p old → HasTrueRows count old table → IsPair cs gs table × HasPointKind gs.list
-    projected_is_pair old table keeps more = (
-      record {
-        same_dim = m.same_dim ∙ sym z.same_dim;
-        closed = subst (All (λ (c : Constraint). IsClosedKind c.1)) (sym z.joined) (All-append (λ (c : Constraint). IsClosedKind c.1) z.front (zero_equalities p.cons.dim count) front_closed (closed_equalities (axis (p.cons.dim + count)) (range_with_len p.cons.dim count)));
-        kinds = mapped_kinds (with_zeros p.cons.dim count) Closed (p.cons.dim + count) p gs (sym can.closed) k m;
-        system =
-            subst (λ (rows : List Row). IsSystem (ConeOf (cs.dim + 1) rows) (lines_of (generator_list gs)) (rays_of (generator_list gs))) (sym listed)
-            (subst (λ (d : ℕ). IsSystem (ConeOf (d + 1) (first ++ second)) (lines_of (generator_list gs)) (rays_of (generator_list gs))) (sym z.same_dim) projected_system);
-        zeros = subst (λ (rows : List Row). IsZeroTable (generator_list gs) (length (generator_list gs)) (vectors rows) table) (sym listed) (projected_zeros old table keeps more);
-      },
-      padded_point gs.list m.mapped,
-    )
+    pub projected_is_pair : (old table : Table) → KeepsZeros p old → HasTrueRows count old table → IsDoubleDescription cs gs table
+    projected_is_pair old table keeps more = record {
+      same_dim = m.same_dim ∙ sym z.same_dim;
+      closed = subst (All (λ (c : Constraint). IsClosedKind c.1)) (sym z.joined) (All-append (λ (c : Constraint). IsClosedKind c.1) z.front (zero_equalities p.cons.dim count) front_closed (closed_equalities (axis (p.cons.dim + count)) (range_with_len p.cons.dim count)));
+      kinds = mapped_kinds (with_zeros p.cons.dim count) Closed (p.cons.dim + count) p gs (sym can.closed) k m;
+      system =
+          subst (λ (rows : List Row). IsSystem (ConeOf (cs.dim + 1) rows) (lines_of (generator_list gs)) (rays_of (generator_list gs))) (sym listed)
+          (subst (λ (d : ℕ). IsSystem (ConeOf (d + 1) (first ++ second)) (lines_of (generator_list gs)) (rays_of (generator_list gs))) (sym z.same_dim) projected_system);
+      zeros = subst (λ (rows : List Row). IsZeroTable (generator_list gs) (length (generator_list gs)) (vectors rows) table) (sym listed) (projected_zeros old table keeps more);
+      point = padded_point gs.list m.mapped;
+    }
       where
         front_closed : AreClosed (record { dim = p.cons.dim + count; list = z.front })
         front_closed = pulled_kinds (with_zeros p.cons.dim count) Closed (p.cons.dim + count) p (record { dim = p.cons.dim + count; list = z.front }) (sym can.closed) k (record { same_dim = refl; pulled = z.pulled })
@@ -299,22 +297,20 @@ module _ (p : Polyhedron) (k : IsKept p) (gens_fit : FitDimension p.gens) (can :
         added_many : count ≡ length added_rows
         added_many = sym (length-map-range_with_len {X = Row} (λ j. (axis (p.cons.dim + count) j, true)) p.cons.dim count)
 
-    pub embedded_is_pair : (old table : Table) → KeepsZeros p old → HasTrueColumns count old table → IsPair cs gs table × HasPointKind gs.list
-    embedded_is_pair old table keeps more = (
-      record {
-        same_dim = f.same_dim ∙ ap (λ (n : ℕ). n + count) (kept_dim p k) ∙ sym m.same_dim;
-        closed = pulled_kinds (with_zeros p.cons.dim count) Closed (p.cons.dim + count) p cs (sym can.closed) k m;
-        kinds = subst (All (λ (g : Generator). IsClosedGenKind g.1)) (sym f.joined) (All-append (λ (g : Generator). IsClosedGenKind g.1) f.front (axis_lines p.gens.dim count) front_kinds (closed_lines (axis (p.gens.dim + count)) (range_with_len p.gens.dim count)));
-        system =
-            subst (λ (d : ℕ). IsSystem (ConeOf (d + 1) ((divisor_row d, false) ∷ map constraint_row cs.list)) (lines_of (generator_list gs)) (rays_of (generator_list gs))) (sym m.same_dim)
-            (subst (λ (vs : List (List ℤ)). IsSystem (ConeOf ((p.cons.dim + count) + 1) all_constraints) vs (rays_of (generator_list gs))) (sym all_lines)
-            (subst (λ (vs : List (List ℤ)). IsSystem (ConeOf ((p.cons.dim + count) + 1) all_constraints) (lines_of first_rows ++ new_axes p.cons.dim count) vs) (sym all_rays) embedded_system));
-        zeros =
-            subst (λ (d : ℕ). IsZeroTable (generator_list gs) (length (generator_list gs)) (vectors ((divisor_row d, false) ∷ map constraint_row cs.list)) table) (sym m.same_dim)
-            (subst (λ (rows : List Row). IsZeroTable rows (length rows) (vectors all_constraints) table) (sym all_rows) (embedded_zeros old table keeps more));
-      },
-      point_kept (padded_point f.front front_mapped),
-    )
+    pub embedded_is_pair : (old table : Table) → KeepsZeros p old → HasTrueColumns count old table → IsDoubleDescription cs gs table
+    embedded_is_pair old table keeps more = record {
+      same_dim = f.same_dim ∙ ap (λ (n : ℕ). n + count) (kept_dim p k) ∙ sym m.same_dim;
+      closed = pulled_kinds (with_zeros p.cons.dim count) Closed (p.cons.dim + count) p cs (sym can.closed) k m;
+      kinds = subst (All (λ (g : Generator). IsClosedGenKind g.1)) (sym f.joined) (All-append (λ (g : Generator). IsClosedGenKind g.1) f.front (axis_lines p.gens.dim count) front_kinds (closed_lines (axis (p.gens.dim + count)) (range_with_len p.gens.dim count)));
+      system =
+          subst (λ (d : ℕ). IsSystem (ConeOf (d + 1) ((divisor_row d, false) ∷ map constraint_row cs.list)) (lines_of (generator_list gs)) (rays_of (generator_list gs))) (sym m.same_dim)
+          (subst (λ (vs : List (List ℤ)). IsSystem (ConeOf ((p.cons.dim + count) + 1) all_constraints) vs (rays_of (generator_list gs))) (sym all_lines)
+          (subst (λ (vs : List (List ℤ)). IsSystem (ConeOf ((p.cons.dim + count) + 1) all_constraints) (lines_of first_rows ++ new_axes p.cons.dim count) vs) (sym all_rays) embedded_system));
+      zeros =
+          subst (λ (d : ℕ). IsZeroTable (generator_list gs) (length (generator_list gs)) (vectors ((divisor_row d, false) ∷ map constraint_row cs.list)) table) (sym m.same_dim)
+          (subst (λ (rows : List Row). IsZeroTable rows (length rows) (vectors all_constraints) table) (sym all_rows) (embedded_zeros old table keeps more));
+      point = point_kept (padded_point f.front front_mapped);
+    }
       where
         front_kinds : AreClosedKinds (record { dim = p.cons.dim + count; list = f.front })
         front_kinds = mapped_kinds (with_zeros p.cons.dim count) Closed (p.cons.dim + count) p (record { dim = p.cons.dim + count; list = f.front }) (sym can.closed) k (record { same_dim = refl; mapped = front_mapped })

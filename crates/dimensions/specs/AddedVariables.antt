@@ -6,10 +6,10 @@ use Rattle.gens_sys.specs.declared.kind.GenKind.TheVariants.{Line}
 use Rattle.gens_sys.specs.Generators.{Generator, Generators}
 use Rattle.sat_matrix.specs.Tables.{Table}
 use Rattle.stored_systems.specs.Axes.{axis}
+use Rattle.poly_pair.specs.DoubleDescriptions.{HasPairOverflow}
 use Rattle.poly_pair.specs.Polyhedra.{Polyhedron}
 use Rattle.mapped_systems.specs.Maps.{with_zeros}
 use Rattle.mapped_systems.specs.MappedLists.{AreMapped, ArePulled}
-use Rattle.mapped_systems.specs.StoredPairs.{HasOverflow}
 
 -- ---- the axes of new variables
 -- of n + k variables, those behind the first n
@@ -43,7 +43,7 @@ pub record AreFreeBehind (count : ℕ) (old new : Generators) : Type 0 where
 pub record LeavesWithZeros (count : ℕ) (p : Polyhedron) : Type 0 where
   pub system : Constraints
   pub zero : AreZeroBehind count p.cons system
-  pub leaves : HasOverflow system
+  pub leaves : HasPairOverflow system
 
 -- ---- tables
 -- the table with more rows, all true

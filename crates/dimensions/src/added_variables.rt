@@ -1,16 +1,15 @@
 //! Stored pairs with more variables, which are 0 or free.
-ghost use Rattle.std.specs.Prelude.{◌≡◌, ⊤, ◌+◌, ◌-◌, ◌^◌, ◌<◌, ◌≤◌, IfOk, MatchOption};
+ghost use Rattle.std.specs.Prelude.{◌≡◌, ◌+◌, ◌-◌, ◌^◌, ◌<◌, ◌≤◌, IfOk, IfSome};
 ghost use Rattle.gens_sys.specs.Generators.{FitDimension};
 ghost use Rattle.poly_pair.specs.Parts.{AreStoredOfRows, AreStoredOfGenerators};
 ghost use Rattle.poly_pair.specs.Polyhedra.{IsOfConstraints, IsOfGenerators};
-ghost use Rattle.poly_pair.specs.Starts.{CanStart};
 ghost use Rattle.poly_pair.specs.TopologyLists.{constraints_of};
 ghost use Rattle.poly_pair.specs.declared.topology.TheConstants.{MAX_DIM};
 ghost use Rattle.mapped_systems.specs.Maps.{with_zeros};
 ghost use Rattle.mapped_systems.specs.MappedLists.{IsMappedSystem, IsPulledSystem};
-ghost use Rattle.dimensions.specs.AddedVariables.{AreZeroBehind, AreFreeBehind, HasTrueRows, HasTrueColumns, LeavesWithZeros, zero_equalities, axis_lines};
+ghost use Rattle.dimensions.specs.AddedVariables.{AreZeroBehind, AreFreeBehind, HasTrueRows, HasTrueColumns, zero_equalities, axis_lines};
+ghost use Rattle.dimensions.specs.PairConversions.{ConvertsZeroPair, ConvertsFreePair};
 
-use crate::stored_pairs::paired;
 use cons_sys::{ConKind, ConsSys};
 use gens_sys::{GenKind, GensSys};
 use mapped_systems::{padded_constraints, padded_generators};
@@ -21,7 +20,8 @@ use std::alloc::Global;
 use std::sync::ledger::Ledger;
 use stored_systems::axis;
 
-/// The equalities that say of the variables behind the first `dim`, `count` in number, that they are 0.
+/// The equalities that say of the variables behind the first `dim`, `count` in number, that they
+/// are 0.
 fn zero_equalities(alloc: Global, dim: usize, count: usize) -> Result<ConsSys, Memory>
     requires narrow { dim + count < 2 ^ 32 - 2 }
     ensures dim { IfOk result (λ cons. cons.dim ≡ dim + count) }
@@ -89,9 +89,9 @@ fn with_true_columns(table: &SatMatrix, count: usize) -> Result<SatMatrix, Memor
     with_true_rows(&turned, count)?.transpose()
 }
 
-/// The polyhedron of the generators of a closed set with a point that have more variables behind, all 0. Its
-/// constraints are those of the set, and that these variables are 0. There is no answer elsewhere, or where a
-/// number leaves the range.
+/// The polyhedron of the generators of a closed set with a point that have more variables behind,
+/// all 0. Its constraints are those of the set, and that these variables are 0. There is no answer
+/// elsewhere, or where a number leaves the range.
 pub(crate) fn projected_pair<L: Ledger>(
     alloc: Global,
     p: &Poly,
@@ -103,12 +103,10 @@ pub(crate) fn projected_pair<L: Ledger>(
     requires mapped { IsMappedSystem (with_zeros p.now.cons.dim count) (p.now.cons.dim + count)
         p.now.gens gens.now }
     ensures points { IfOk result (λ found.
-        MatchOption found ⊤ (IsOfGenerators p.now.topology gens.now)) }
+        IfSome found (IsOfGenerators p.now.topology gens.now)) }
     ensures stored { IfOk result (λ found.
-        MatchOption found ⊤ (AreStoredOfGenerators p.now.topology gens.now)) }
-    ensures none { IfOk result (λ found. MatchOption found
-        (CanStart p.now → LeavesWithZeros count p.now) (λ _. ⊤)) }
-    ensures no_fewer { steps.old ≤ steps.new }
+        IfSome found (AreStoredOfGenerators p.now.topology gens.now)) }
+    ensures conversion { ConvertsZeroPair count p.now steps.old steps.new result }
 {
     let _dim = p.dim();
     let _vectors = p.gens().dim();
@@ -117,12 +115,12 @@ pub(crate) fn projected_pair<L: Ledger>(
     }
     let cons = zero_behind(alloc, p.cons(), count)?;
     let zeros = with_true_rows(p.zeros(), count)?;
-    paired(alloc, &cons, gens, &zeros, steps)
+    Poly::from_both(alloc, &cons, gens, &zeros, steps)
 }
 
-/// The polyhedron of the constraints of a closed set with a point that have more variables behind, which are free.
-/// Its generators are those of the set, and the axes of these variables. There is no answer elsewhere, or where a
-/// number leaves the range.
+/// The polyhedron of the constraints of a closed set with a point that have more variables behind,
+/// which are free. Its generators are those of the set, and the axes of these variables. There is
+/// no answer elsewhere, or where a number leaves the range.
 pub(crate) fn embedded_pair<L: Ledger>(
     alloc: Global,
     p: &Poly,
@@ -134,10 +132,10 @@ pub(crate) fn embedded_pair<L: Ledger>(
     requires pulled { IsPulledSystem (with_zeros p.now.cons.dim count) (p.now.cons.dim + count)
         p.now.cons cons.now }
     ensures points { IfOk result (λ found.
-        MatchOption found ⊤ (IsOfConstraints p.now.topology cons.now)) }
-    ensures stored { IfOk result (λ found. MatchOption found ⊤
+        IfSome found (IsOfConstraints p.now.topology cons.now)) }
+    ensures stored { IfOk result (λ found. IfSome found
         (AreStoredOfRows p.now.topology cons.now.dim (constraints_of p.now.topology cons.now))) }
-    ensures no_fewer { steps.old ≤ steps.new }
+    ensures conversion { ConvertsFreePair p.now cons.now steps.old steps.new result }
 {
     let _dim = p.dim();
     if !p.can_start() {
@@ -145,5 +143,5 @@ pub(crate) fn embedded_pair<L: Ledger>(
     }
     let gens = free_behind(alloc, p.gens(), count)?;
     let zeros = with_true_columns(p.zeros(), count)?;
-    paired(alloc, cons, &gens, &zeros, steps)
+    Poly::from_both(alloc, cons, &gens, &zeros, steps)
 }

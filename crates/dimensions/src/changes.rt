@@ -7,6 +7,7 @@ ghost use Rattle.dimensions.specs.AddedVariables.{LeavesWithZeros};
 ghost use Rattle.dimensions.specs.Results.{IsImage, IsPreimage, IsProjection, IsProduct, IsStoredOfMapped, IsStoredOfPulled, IsStoredOfJoined};
 ghost use Rattle.row_core.specs.Refusals.{IsOverflowIn};
 ghost use Rattle.dimensions.specs.Refusals.{LeavesOnMapped, LeavesOnPulled, ConvertsMapped, ConvertsJoined};
+ghost use Rattle.dimensions.specs.PairConversions.{ConvertsEmbedding, ConvertsProjection};
 
 use crate::added_variables::{embedded_pair, projected_pair};
 use mapped_systems::{
@@ -17,13 +18,13 @@ use row_core::{ConvErr, Steps};
 use std::alloc::Global;
 use std::sync::ledger::Ledger;
 
-/// The points that are in a set without their last variables, `count` in number, which are free. The stored pair of a
-/// closed set with a point is kept, and the axes of the variables are lines.
+/// The points that are in a set without their last variables, `count` in number, which are free.
+/// The stored pair of a closed set with a point is kept, and the axes of the variables are lines.
 ///
 /// # Errors
 ///
-/// An overflow is one of the conversion of the list of the constraints with the new columns, or of its second
-/// list.
+/// An overflow is one of the conversion of the list of the constraints with the new columns, or of
+/// its second list.
 pub fn embed<L: Ledger>(
     alloc: Global,
     p: &Poly,
@@ -38,6 +39,7 @@ pub fn embed<L: Ledger>(
     ensures overflow { IfErr result (IsOverflowIn
         (LeavesOnPulled (with_zeros p.now.cons.dim count) (p.now.cons.dim + count) p.now)) }
     ensures no_fewer { steps.old ≤ steps.new }
+    ensures conversion { ConvertsEmbedding count p.now steps.old steps.new result }
 {
     let padded = padded_constraints(alloc, p.cons(), p.dim(), count)?;
     if let Some(embedding) = embedded_pair(alloc, p, count, &padded, steps)? {
@@ -46,13 +48,14 @@ pub fn embed<L: Ledger>(
     Poly::from_cons(alloc, p.topology(), &padded, steps)
 }
 
-/// The points of a set with more variables behind, `count` in number, all 0. The stored pair of a closed set with a
-/// point is kept, and each of the variables has an equality.
+/// The points of a set with more variables behind, `count` in number, all 0. The stored pair of a
+/// closed set with a point is kept, and each of the variables has an equality.
 ///
 /// # Errors
 ///
-/// An overflow is one of the conversion of the list of the generators with the new columns, or of its second
-/// list. Of a closed set with a point these are converted only where the stored pair leaves the range.
+/// An overflow is one of the conversion of the list of the generators with the new columns, or of
+/// its second list. Of a closed set with a point these are converted only where the stored pair
+/// leaves the range.
 pub fn project<L: Ledger>(
     alloc: Global,
     p: &Poly,
@@ -67,6 +70,7 @@ pub fn project<L: Ledger>(
         (LeavesOnMapped (with_zeros p.now.cons.dim count) (p.now.cons.dim + count) p.now)) }
     ensures pair { IfErr result (IsOverflowIn (λ _. CanStart p.now → LeavesWithZeros count p.now)) }
     ensures no_fewer { steps.old ≤ steps.new }
+    ensures conversion { ConvertsProjection count p.now steps.old steps.new result }
 {
     let padded = padded_generators(alloc, p.gens(), count)?;
     if let Some(projection) = projected_pair(alloc, p, count, &padded, steps)? {
@@ -75,13 +79,13 @@ pub fn project<L: Ledger>(
     Poly::from_gens_with_point(alloc, p.topology(), &padded, steps)
 }
 
-/// The points that those of a set become without the named variables. The others keep their order; one that is
-/// named again counts once.
+/// The points that those of a set become without the named variables. The others keep their order;
+/// one that is named again counts once.
 ///
 /// # Errors
 ///
-/// An overflow is one of the conversion of the list of the generators without these columns, or of its second
-/// list.
+/// An overflow is one of the conversion of the list of the generators without these columns, or of
+/// its second list.
 pub fn remove_dims<L: Ledger>(
     alloc: Global,
     p: &Poly,
@@ -100,11 +104,13 @@ pub fn remove_dims<L: Ledger>(
     Poly::from_gens_with_point(alloc, p.topology(), &remaining, steps)
 }
 
-/// The product of two sets: the points whose first variables are in the first and whose others are in the second.
+/// The product of two sets: the points whose first variables are in the first and whose others are
+/// in the second.
 ///
 /// # Errors
 ///
-/// An overflow is one of the conversion of the list of the constraints of both, or of its second list.
+/// An overflow is one of the conversion of the list of the constraints of both, or of its second
+/// list.
 pub fn concat<L: Ledger>(
     alloc: Global,
     p: &Poly,

@@ -1,6 +1,7 @@
 //! Changes of the dimension of polyhedra, on both topologies.
 //!
-//! - [`embed`] adds variables that are free, and [`project`] variables that are 0; [`remove_dims`] takes variables away.
+//! - [`embed`] adds variables that are free, and [`project`] variables that are 0; [`remove_dims`]
+//!   takes variables away.
 //! - [`concat`] gives the product of two sets.
 //!
 //! [`laws`] says which of them undo each other.
@@ -9,6 +10,5 @@
 mod added_variables;
 mod changes;
 pub mod laws;
-mod stored_pairs;
 
 pub use changes::{concat, embed, project, remove_dims};

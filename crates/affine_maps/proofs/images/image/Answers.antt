@@ -1,11 +1,11 @@
 use Rattle.std.specs.Int.{w128}
 use Rattle.std.proofs.lemmas.Int.{to_z-of_z}
 use mir.Val.{to_z, of_z}
-use Rattle.std.proofs.Common.{ℤ, subst}
 use Rattle.mapped_systems.specs.Maps.{with_zeros}
-use Rattle.affine_maps.specs.Relations.{image_columns, ConvertsRelation}
+use Rattle.affine_maps.specs.Relations.{image_columns}
 use Rattle.affine_maps.proofs.RelatedResults.{relation_clause, relation_fewer}
-use Rattle.affine_maps.proofs.EqualImages.{told_equal, told_other, equal_image_points, equal_image_stored, equal_image_leaves, other_image_points, other_image_stored, other_image_leaves}
+use Rattle.affine_maps.proofs.EqualImages.{told_equal, told_other, equal_image_points, equal_image_stored, equal_image_leaves, other_image_points, equal_image_converts, other_image_converts, other_image_stored, other_image_leaves}
+use Rattle.affine_maps.proofs.PairConversions.{image_fewer}
 use Rattle.affine_maps.proofs.images.image.Goals as goal
 
 pub returns-then-eq-clause-points : goal.returns-then-eq-clause-points
@@ -43,9 +43,14 @@ returns-clause-no_fewer g c =
     relation_fewer (with_zeros p.cons.dim 1) (image_columns p.cons.dim c.args.var) c.args.rel c.args.expr.now (to_z w128 (of_z w128 c.args.den)) p c.args.steps.now c.related_image.new.steps c.related_image.result c.related_image.ensures.conversion
 
 pub returns-clause-conversion : goal.returns-clause-conversion
-returns-clause-conversion g c ne =
-    let p = c.args.p.now in
-    subst (λ (z : ℤ). ConvertsRelation (with_zeros p.cons.dim 1) (image_columns p.cons.dim c.args.var) c.args.rel c.args.expr.now z p c.args.steps.now c.related_image.new.steps c.related_image.result) (to_z-of_z w128 c.args.den c.ranges.den) c.related_image.ensures.conversion
+returns-clause-conversion g c =
+    let ne = told_other c.args.rel c.if-eq.ensures in
+    other_image_converts c.args.rel c.args.var c.args.expr.now (to_z w128 (of_z w128 c.args.den)) c.args.den (to_z-of_z w128 c.args.den c.ranges.den) c.args.p.now c.related_image.result ne c.args.steps.now c.related_image.new.steps c.related_image.ensures.conversion
 
 pub returns-then-eq-clause-conversion : goal.returns-then-eq-clause-conversion
-returns-then-eq-clause-conversion g c ne = absurd (ne (told_equal c.args.rel c.if-eq.ensures))
+returns-then-eq-clause-conversion g c =
+    let e = told_equal c.args.rel c.if-eq.ensures in
+    equal_image_converts c.args.rel c.args.var c.args.expr.now (to_z w128 (of_z w128 c.args.den)) c.args.den (to_z-of_z w128 c.args.den c.ranges.den) c.args.p.now c.substituted_image.result e c.args.steps.now c.substituted_image.new.steps c.substituted_image.ensures.conversion
+
+pub returns-then-eq-clause-no_fewer : goal.returns-then-eq-clause-no_fewer
+returns-then-eq-clause-no_fewer g c = image_fewer c.args.var c.args.expr.now (to_z w128 (of_z w128 c.args.den)) c.args.p.now c.args.steps.now c.substituted_image.new.steps c.substituted_image.result c.substituted_image.ensures.conversion

@@ -1,5 +1,7 @@
-use Rattle.std.proofs.Common.{ℕ, ◌<◌, ℤ, pos, ◌<ℤ◌, refl, sym, ap, ◌∙◌, subst, ◌⊎◌, arith}
-use Rattle.std.specs.Prelude.{⊤, Option, MatchOption}
+use Rattle.std.proofs.Common.{inl, inr, ℕ, ◌<◌, ℤ, pos, ◌<ℤ◌, refl, sym, ap, ◌∙◌, subst, ◌⊎◌, arith}
+use Rattle.std.specs.Prelude.{⊤, Option, IfSome, MatchOption}
+use Rattle.poly_pair.specs.declared.topology.Topology.{Topology}
+use Rattle.poly_pair.specs.Parts.{AreStoredOfGenerators}
 use Rattle.std.proofs.lemmas.Result.{IfOk-weaker, IfErr-weaker, err_from_is_err_and}
 use Rattle.std.specs.Int.{w128}
 use Rattle.std.proofs.lemmas.Int.{to_z-of_z}
@@ -13,13 +15,12 @@ use Rattle.poly_pair.proofs.StoredLemmas.{kept_dim}
 use Rattle.poly_pair.proofs.WorkLemmas.{overflow_clause}
 use Rattle.mapped_systems.specs.Maps.{substituted}
 use Rattle.mapped_systems.specs.MappedLists.{IsMappedSystem}
-use Rattle.row_core.specs.Vectors.{cell}
-use Rattle.affine_maps.specs.CarriedPairs.{CanBeCarried, ImagePairLeaves}
-use Rattle.affine_maps.specs.SubstitutedSets.{IsSubstitutedImage}
+use Rattle.affine_maps.specs.SubstitutedSets.{IsSubstitutedImage, IsStoredOfSubstituted}
 use Rattle.row_core.specs.Refusals.{IsOverflowIn}
 use Rattle.mapped_systems.specs.Refusals.{SomeLeavesInImage}
 use Rattle.affine_maps.specs.SubstitutedSets.{LeavesOnSubstituted}
-use Rattle.mapped_systems.proofs.StoredPairs.{at_none}
+use Rattle.poly_pair.specs.Work.{conv_overflow, overflow_in}
+use Rattle.affine_maps.proofs.PairConversions.{image_pair_leaves, image_refused, image_stopped, mapped_in_vain, image_found, image_none}
 use Rattle.affine_maps.proofs.MappedPolyhedra.{lent_generators, mapped_kinds, mapped_point, image_points, mapped_overflow, either_overflow}
 use Rattle.affine_maps.proofs.images.substituted_image.Goals as goal
 
@@ -52,7 +53,7 @@ returns-clause-overflow g c =
     let p = c.args.p.now in
     let new = c.in-Ok.mapped in
     let m : IsMappedSystem (substituted c.args.var c.args.expr.now c.args.den) p.cons.dim p.gens c.in-Ok.mapped = lent_generators (λ n. substituted c.args.var c.args.expr.now c.args.den) (λ n. n) p c.gens.result.now c.in-Ok.mapped c.gens.ensures.value c.gens.ensures.kept (simp to_z-of_z at c.in-Ok.ensures.system) in
-    let none = at_none c.in_ok-image.field-0 (CanBeCarried p (cell c.args.expr.now c.args.var) → ImagePairLeaves c.args.var c.args.expr.now (to_z w128 (of_z w128 c.args.den)) p) (λ _. ⊤) c.in_default.not-Some c.in_ok-image.ensures.none in
+    let none = image_pair_leaves c.args.var c.args.expr.now (to_z w128 (of_z w128 c.args.den)) p c.args.steps.now c.carried_image.new.steps c.in_ok-image.field-0 c.in_default.not-Some c.in_ok-image.ensures.conversion in
     let pair = simp to_z-of_z at none in
     IfErr-weaker c.from_gens_with_point.result (IsOverflowOn (list_width c.topology.result new.dim) new.dim (generators_of c.topology.result new)) (IsOverflowIn (λ over. SomeLeavesInImage c.args.var c.args.expr.now c.args.den p.gens.list over ⊎ LeavesOnSubstituted c.args.var c.args.expr.now c.args.den p over))
     (λ e l. either_overflow (SomeLeavesInImage c.args.var c.args.expr.now c.args.den p.gens.list) (LeavesOnSubstituted c.args.var c.args.expr.now c.args.den p) e (mapped_overflow c.args.var c.args.expr.now c.args.den p new c.topology.result c.topology.ensures.value m pair e l))
@@ -65,6 +66,25 @@ returns-in-Some-clause-points g c =
     let m : IsMappedSystem (substituted c.args.var c.args.expr.now c.args.den) p.cons.dim p.gens c.in-Ok.mapped = lent_generators (λ n. substituted c.args.var c.args.expr.now c.args.den) (λ n. n) p c.gens.result.now c.in-Ok.mapped c.gens.ensures.value c.gens.ensures.kept (simp to_z-of_z at c.in-Ok.ensures.system) in
     let o : IsOfGenerators p.topology c.in-Ok.mapped c.in-Some.image = subst (λ (x : Option Polyhedron). MatchOption x ⊤ (IsOfGenerators p.topology c.in-Ok.mapped)) c.in-Some.is c.in_ok-image.ensures.points in
     image_points c.args.var c.args.expr.now c.args.den p c.in-Ok.mapped p.topology refl c.gens.ensures.kept (subst FitDimension c.gens.ensures.value c.in-Ok.ensures.fit) c.requires.var c.requires.positive m c.in-Some.image o
+
+pub from_gens_with_point-requires-clause-narrow : goal.from_gens_with_point-requires-clause-narrow
+from_gens_with_point-requires-clause-narrow g c = omega (arith, c.in-Ok.ensures.system.same_dim, ap (λ (gs : Generators). gs.dim) c.gens.ensures.value, kept_dim c.args.p.now c.gens.ensures.kept, c.gens.ensures.kept.narrow)
+
+pub returns-in-Some-clause-stored : goal.returns-in-Some-clause-stored
+returns-in-Some-clause-stored g c =
+    let den_fits : SFits w128 c.args.den = c.ranges.den in
+    let p = c.args.p.now in
+    let m : IsMappedSystem (substituted c.args.var c.args.expr.now c.args.den) p.cons.dim p.gens c.in-Ok.mapped = lent_generators (λ n. substituted c.args.var c.args.expr.now c.args.den) (λ n. n) p c.gens.result.now c.in-Ok.mapped c.gens.ensures.value c.gens.ensures.kept (simp to_z-of_z at c.in-Ok.ensures.system) in
+    record { system = c.in-Ok.mapped; mapped = m; stored = subst (λ (x : Option Polyhedron). IfSome x (AreStoredOfGenerators p.topology c.in-Ok.mapped)) c.in-Some.is c.in_ok-image.ensures.stored }
+
+pub returns-clause-stored : goal.returns-clause-stored
+returns-clause-stored g c =
+    let den_fits : SFits w128 c.args.den = c.ranges.den in
+    let p = c.args.p.now in
+    let m : IsMappedSystem (substituted c.args.var c.args.expr.now c.args.den) p.cons.dim p.gens c.in-Ok.mapped = lent_generators (λ n. substituted c.args.var c.args.expr.now c.args.den) (λ n. n) p c.gens.result.now c.in-Ok.mapped c.gens.ensures.value c.gens.ensures.kept (simp to_z-of_z at c.in-Ok.ensures.system) in
+    IfOk-weaker c.from_gens_with_point.result (AreStoredOfGenerators c.topology.result c.in-Ok.mapped) (IsStoredOfSubstituted c.args.var c.args.expr.now c.args.den p)
+    (λ q h. record { system = c.in-Ok.mapped; mapped = m; stored = subst (λ (t : Topology). AreStoredOfGenerators t c.in-Ok.mapped q) c.topology.ensures.value h })
+    c.from_gens_with_point.ensures.stored
 
 pub image_generators-requires : goal.image_generators-requires
 image_generators-requires g c =
@@ -91,4 +111,32 @@ carried_image-requires g c =
     }
 
 pub returns-in_err-image : goal.returns-in_err-image
-returns-in_err-image g c = let p = err_from_is_err_and c.from_residual.result c.from_residual.ensures.1 in rw (p.1, p.2) (record { points = tt; stored = tt; overflow = tt; no_fewer = omega (arith, c.carried_image.ensures.no_fewer) })
+returns-in_err-image g c =
+    let e = err_from_is_err_and c.from_residual.result c.from_residual.ensures.1 in
+    let den_fits : SFits w128 c.args.den = c.ranges.den in
+    let p = c.args.p.now in
+    let m : IsMappedSystem (substituted c.args.var c.args.expr.now c.args.den) p.cons.dim p.gens c.in-Ok.mapped = lent_generators (λ n. substituted c.args.var c.args.expr.now c.args.den) (λ n. n) p c.gens.result.now c.in-Ok.mapped c.gens.ensures.value c.gens.ensures.kept (simp to_z-of_z at c.in-Ok.ensures.system) in
+    let carried = simp to_z-of_z at c.in_err-image.ensures.conversion in
+    rw (e.1, e.2) (record { points = tt; stored = tt; overflow = tt; conversion = image_stopped c.args.var c.args.expr.now c.args.den p c.args.steps.now c.carried_image.new.steps (image_refused c.args.var c.args.expr.now c.args.den p c.in-Ok.mapped m c.args.steps.now c.carried_image.new.steps c.in_err-image.field-0.0 carried) })
+
+pub returns-in-Err-clause-conversion : goal.returns-in-Err-clause-conversion
+returns-in-Err-clause-conversion g c =
+    let den_fits : SFits w128 c.args.den = c.ranges.den in
+    let leaves = simp to_z-of_z at c.in-Err.ensures.overflow in
+    inl (mapped_in_vain c.args.var c.args.expr.now c.args.den c.args.p.now c.gens.result.now c.args.steps.now c.in-Err.cause c.gens.ensures.value leaves)
+
+pub returns-in-Some-clause-conversion : goal.returns-in-Some-clause-conversion
+returns-in-Some-clause-conversion g c =
+    let den_fits : SFits w128 c.args.den = c.ranges.den in
+    let p = c.args.p.now in
+    let m : IsMappedSystem (substituted c.args.var c.args.expr.now c.args.den) p.cons.dim p.gens c.in-Ok.mapped = lent_generators (λ n. substituted c.args.var c.args.expr.now c.args.den) (λ n. n) p c.gens.result.now c.in-Ok.mapped c.gens.ensures.value c.gens.ensures.kept (simp to_z-of_z at c.in-Ok.ensures.system) in
+    let carried = simp to_z-of_z at c.in_ok-image.ensures.conversion in
+    inr (image_found c.args.var c.args.expr.now c.args.den p c.in-Ok.mapped m c.args.steps.now c.carried_image.new.steps c.in_ok-image.field-0 c.in-Some.image c.in-Some.is carried)
+
+pub returns-clause-conversion : goal.returns-clause-conversion
+returns-clause-conversion g c =
+    let den_fits : SFits w128 c.args.den = c.ranges.den in
+    let p = c.args.p.now in
+    let m : IsMappedSystem (substituted c.args.var c.args.expr.now c.args.den) p.cons.dim p.gens c.in-Ok.mapped = lent_generators (λ n. substituted c.args.var c.args.expr.now c.args.den) (λ n. n) p c.gens.result.now c.in-Ok.mapped c.gens.ensures.value c.gens.ensures.kept (simp to_z-of_z at c.in-Ok.ensures.system) in
+    let carried = simp to_z-of_z at c.in_ok-image.ensures.conversion in
+    inr (image_none c.args.var c.args.expr.now c.args.den p c.in-Ok.mapped m c.args.steps.now c.carried_image.new.steps c.from_gens_with_point.new.steps (overflow_in conv_overflow c.from_gens_with_point.result) c.in_ok-image.field-0 c.in_default.not-Some c.topology.result c.topology.ensures.value carried c.from_gens_with_point.ensures.conversion)

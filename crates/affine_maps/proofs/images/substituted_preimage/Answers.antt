@@ -1,16 +1,25 @@
-use Rattle.std.proofs.Common.{◌<◌, ℤ, pos, ◌<ℤ◌, refl, sym, ap, subst, arith}
+use Rattle.std.proofs.Common.{inl, inr, ◌⊎◌, ℕ, ◌<◌, ℤ, pos, ◌<ℤ◌, refl, sym, ap, subst, arith}
 use Rattle.std.specs.Prelude.{⊤, Option, MatchOption}
 use Rattle.std.specs.Int.{w128}
 use Rattle.std.proofs.lemmas.Int.{to_z-of_z}
-use Rattle.std.proofs.lemmas.Result.{IfOk-weaker, err_from_is_err_and}
+use Rattle.std.proofs.lemmas.Result.{IfOk-weaker, IfErr-weaker, err_from_is_err_and}
 use mir.Val.{SFits, to_z, of_z}
 use Rattle.row_core.specs.Range.{InRange}
 use Rattle.cons_sys.specs.Constraints.{Constraints, FitDimension}
+use Rattle.row_core.specs.Refusals.{IsOverflowIn}
+use Rattle.mapped_systems.specs.Refusals.{SomeLeavesInPullback}
+use Rattle.poly_pair.specs.declared.topology.Topology.{Topology}
+use Rattle.poly_pair.specs.TopologyLists.{list_width, constraints_of}
+use Rattle.poly_pair.specs.Parts.{AreStoredOfRows}
+use Rattle.poly_pair.specs.Refusals.{IsOverflowOn}
+use Rattle.poly_pair.proofs.WorkLemmas.{overflow_clause}
 use Rattle.poly_pair.specs.Polyhedra.{Polyhedron, IsOfConstraints}
 use Rattle.mapped_systems.specs.Maps.{pulled_back}
 use Rattle.mapped_systems.specs.MappedLists.{IsPulledSystem}
-use Rattle.affine_maps.specs.SubstitutedSets.{IsSubstitutedPreimage}
-use Rattle.affine_maps.proofs.MappedPolyhedra.{pulled_kinds, preimage_points}
+use Rattle.affine_maps.specs.SubstitutedSets.{IsSubstitutedPreimage, IsStoredOfPulledBack, LeavesOnPulledBack}
+use Rattle.affine_maps.proofs.MappedPolyhedra.{pulled_kinds, preimage_points, pulled_overflow, either_overflow}
+use Rattle.poly_pair.specs.Work.{conv_overflow, overflow_in}
+use Rattle.affine_maps.proofs.PairConversions.{pullback_of, preimage_refused, preimage_stopped, pulled_in_vain, preimage_found, preimage_none}
 use Rattle.affine_maps.proofs.images.substituted_preimage.Goals as goal
 
 pub from_cons-requires-clause-kinds : goal.from_cons-requires-clause-kinds
@@ -40,6 +49,33 @@ returns-in-Some-clause-points g c =
     let o : IsOfConstraints p.topology c.in-Ok.pulled c.in-Some.preimage = subst (λ (x : Option Polyhedron). MatchOption x ⊤ (IsOfConstraints p.topology c.in-Ok.pulled)) c.in-Some.is c.in_ok-preimage.ensures.points in
     preimage_points c.args.var c.args.expr.now c.args.den p c.in-Ok.pulled p.topology refl (subst FitDimension c.cons.ensures.value c.in-Ok.ensures.fit) c.requires.var m c.in-Some.preimage o
 
+pub returns-clause-stored : goal.returns-clause-stored
+returns-clause-stored g c =
+    let den_fits : SFits w128 c.args.den = c.ranges.den in
+    let p = c.args.p.now in
+    let s = simp to_z-of_z at c.in-Ok.ensures.system in
+    let m : IsPulledSystem (pulled_back c.args.var c.args.expr.now c.args.den) p.cons.dim p.cons c.in-Ok.pulled = subst (λ (cs : Constraints). IsPulledSystem (pulled_back c.args.var c.args.expr.now c.args.den) cs.dim cs c.in-Ok.pulled) c.cons.ensures.value s in
+    let new = c.in-Ok.pulled in
+    IfOk-weaker c.from_cons.result (AreStoredOfRows c.topology.result new.dim (constraints_of c.topology.result new)) (IsStoredOfPulledBack c.args.var c.args.expr.now c.args.den p)
+    (λ q h. record {
+      system = new;
+      pulled = m;
+      stored = subst (λ (n : ℕ). AreStoredOfRows p.topology n (constraints_of p.topology new) q) m.same_dim
+          (subst (λ (t : Topology). AreStoredOfRows t new.dim (constraints_of t new) q) c.topology.ensures.value h);
+    })
+    c.from_cons.ensures.stored
+
+pub returns-clause-overflow : goal.returns-clause-overflow
+returns-clause-overflow g c =
+    let den_fits : SFits w128 c.args.den = c.ranges.den in
+    let p = c.args.p.now in
+    let s = simp to_z-of_z at c.in-Ok.ensures.system in
+    let m : IsPulledSystem (pulled_back c.args.var c.args.expr.now c.args.den) p.cons.dim p.cons c.in-Ok.pulled = subst (λ (cs : Constraints). IsPulledSystem (pulled_back c.args.var c.args.expr.now c.args.den) cs.dim cs c.in-Ok.pulled) c.cons.ensures.value s in
+    let new = c.in-Ok.pulled in
+    IfErr-weaker c.from_cons.result (IsOverflowOn (list_width c.topology.result new.dim) new.dim (constraints_of c.topology.result new)) (IsOverflowIn (λ over. SomeLeavesInPullback c.args.var c.args.expr.now c.args.den p.cons.list over ⊎ LeavesOnPulledBack c.args.var c.args.expr.now c.args.den p over))
+    (λ e l. either_overflow (SomeLeavesInPullback c.args.var c.args.expr.now c.args.den p.cons.list) (LeavesOnPulledBack c.args.var c.args.expr.now c.args.den p) e (pulled_overflow c.args.var c.args.expr.now c.args.den p new c.topology.result c.topology.ensures.value m e l))
+    (overflow_clause _ _ _ c.from_cons.result c.from_cons.ensures.conversion)
+
 pub preimage_constraints-requires : goal.preimage_constraints-requires
 preimage_constraints-requires g c = record {
   var = subst (λ (cs : Constraints). c.args.var < cs.dim) (sym c.cons.ensures.value) c.requires.var;
@@ -61,4 +97,40 @@ carried_preimage-requires g c =
     }
 
 pub returns-in_err-preimage : goal.returns-in_err-preimage
-returns-in_err-preimage g c = let p = err_from_is_err_and c.from_residual.result c.from_residual.ensures.1 in rw (p.1, p.2) (record { points = tt; stored = tt; overflow = tt; no_fewer = omega (arith, c.in-Ok.ensures.no_fewer, c.carried_preimage.ensures.no_fewer) })
+returns-in_err-preimage g c =
+    let e = err_from_is_err_and c.from_residual.result c.from_residual.ensures.1 in
+    let den_fits : SFits w128 c.args.den = c.ranges.den in
+    let p = c.args.p.now in
+    let s = simp to_z-of_z at c.in-Ok.ensures.system in
+    let m : IsPulledSystem (pulled_back c.args.var c.args.expr.now c.args.den) p.cons.dim p.cons c.in-Ok.pulled = subst (λ (cs : Constraints). IsPulledSystem (pulled_back c.args.var c.args.expr.now c.args.den) cs.dim cs c.in-Ok.pulled) c.cons.ensures.value s in
+    let b = pullback_of p c.cons.result.now c.args.steps.now c.preimage_constraints.new.steps c.cons.ensures.value c.preimage_constraints.ensures.no_fewer c.preimage_constraints.ensures.counted in
+    let carried = simp to_z-of_z at c.in_err-preimage.ensures.conversion in
+    rw (e.1, e.2) (record { points = tt; stored = tt; overflow = tt; conversion = preimage_stopped c.args.var c.args.expr.now c.args.den p c.args.steps.now c.carried_preimage.new.steps (preimage_refused c.args.var c.args.expr.now c.args.den p c.in-Ok.pulled m c.args.steps.now c.preimage_constraints.new.steps b c.carried_preimage.new.steps c.in_err-preimage.field-0.0 carried) })
+
+pub returns-in-Err-clause-conversion : goal.returns-in-Err-clause-conversion
+returns-in-Err-clause-conversion g c =
+    let den_fits : SFits w128 c.args.den = c.ranges.den in
+    let p = c.args.p.now in
+    let leaves = simp to_z-of_z at c.in-Err.ensures.overflow in
+    let b = pullback_of p c.cons.result.now c.args.steps.now c.preimage_constraints.new.steps c.cons.ensures.value c.preimage_constraints.ensures.no_fewer c.preimage_constraints.ensures.counted in
+    inl (pulled_in_vain c.args.var c.args.expr.now c.args.den p c.cons.result.now c.args.steps.now c.preimage_constraints.new.steps c.in-Err.cause c.cons.ensures.value b leaves)
+
+pub returns-in-Some-clause-conversion : goal.returns-in-Some-clause-conversion
+returns-in-Some-clause-conversion g c =
+    let den_fits : SFits w128 c.args.den = c.ranges.den in
+    let p = c.args.p.now in
+    let s = simp to_z-of_z at c.in-Ok.ensures.system in
+    let m : IsPulledSystem (pulled_back c.args.var c.args.expr.now c.args.den) p.cons.dim p.cons c.in-Ok.pulled = subst (λ (cs : Constraints). IsPulledSystem (pulled_back c.args.var c.args.expr.now c.args.den) cs.dim cs c.in-Ok.pulled) c.cons.ensures.value s in
+    let b = pullback_of p c.cons.result.now c.args.steps.now c.preimage_constraints.new.steps c.cons.ensures.value c.preimage_constraints.ensures.no_fewer c.preimage_constraints.ensures.counted in
+    let carried = simp to_z-of_z at c.in_ok-preimage.ensures.conversion in
+    inr (preimage_found c.args.var c.args.expr.now c.args.den p c.in-Ok.pulled m c.args.steps.now c.preimage_constraints.new.steps b c.carried_preimage.new.steps c.in_ok-preimage.field-0 c.in-Some.preimage c.in-Some.is carried)
+
+pub returns-clause-conversion : goal.returns-clause-conversion
+returns-clause-conversion g c =
+    let den_fits : SFits w128 c.args.den = c.ranges.den in
+    let p = c.args.p.now in
+    let s = simp to_z-of_z at c.in-Ok.ensures.system in
+    let m : IsPulledSystem (pulled_back c.args.var c.args.expr.now c.args.den) p.cons.dim p.cons c.in-Ok.pulled = subst (λ (cs : Constraints). IsPulledSystem (pulled_back c.args.var c.args.expr.now c.args.den) cs.dim cs c.in-Ok.pulled) c.cons.ensures.value s in
+    let b = pullback_of p c.cons.result.now c.args.steps.now c.preimage_constraints.new.steps c.cons.ensures.value c.preimage_constraints.ensures.no_fewer c.preimage_constraints.ensures.counted in
+    let carried = simp to_z-of_z at c.in_ok-preimage.ensures.conversion in
+    inr (preimage_none c.args.var c.args.expr.now c.args.den p c.in-Ok.pulled m c.args.steps.now c.preimage_constraints.new.steps b c.carried_preimage.new.steps c.from_cons.new.steps (overflow_in conv_overflow c.from_cons.result) c.in_ok-preimage.field-0 c.in_default.not-Some c.topology.result c.topology.ensures.value carried c.from_cons.ensures.conversion)

@@ -1,4 +1,4 @@
-use Rattle.std.proofs.Common.{◌≡◌, ◌≢◌, ◌∙◌, ℕ, ℤ, pos, ap, sym, arith}
+use Rattle.std.proofs.Common.{◌≢◌, ◌∙◌, pos, ap, sym}
 use Rattle.std.specs.Int.{w128}
 use mir.Val.{of_z, to_z}
 use Rattle.row_core.specs.Vectors.{cell}

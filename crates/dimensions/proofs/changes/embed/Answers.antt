@@ -1,6 +1,6 @@
-use Rattle.std.proofs.Common.{ℕ, ◌+◌, refl, subst}
+use Rattle.std.proofs.Common.{ℕ, ◌+◌, inl, inr, refl, subst, arith}
 use Rattle.std.specs.Prelude.{⊤, Option, MatchOption}
-use Rattle.std.proofs.lemmas.Result.{IfOk-weaker}
+use Rattle.std.proofs.lemmas.Result.{IfOk-weaker, err_from_is_err_and}
 use Rattle.cons_sys.specs.Constraints.{Constraints}
 use Rattle.poly_pair.specs.Polyhedra.{Polyhedron, IsOfConstraints}
 use Rattle.mapped_systems.specs.Maps.{with_zeros, without}
@@ -8,6 +8,8 @@ use Rattle.mapped_systems.specs.MappedLists.{IsPulledSystem}
 use Rattle.dimensions.specs.Results.{IsPreimage}
 use Rattle.dimensions.proofs.PulledResults.{pulled_kinds, preimage_points}
 use Rattle.mapped_systems.proofs.PulledSets.{padded_meets}
+use Rattle.poly_pair.specs.Work.{conv_overflow, overflow_in}
+use Rattle.dimensions.proofs.PairConversions.{free_refused, free_found, free_none, free_fewer}
 use Rattle.dimensions.proofs.changes.embed.Goals as goal
 
 pub from_cons-requires-clause-kinds : goal.from_cons-requires-clause-kinds
@@ -32,3 +34,37 @@ returns-in-Some-clause-points g c =
     let n : IsPulledSystem (with_zeros p.cons.dim c.args.count) (p.cons.dim + c.args.count) p.cons c.in_ok-padded.padded = subst (λ (d : ℕ). IsPulledSystem (with_zeros d c.args.count) (p.cons.dim + c.args.count) p.cons c.in_ok-padded.padded) c.dim.ensures.value m in
     let o : IsOfConstraints p.topology c.in_ok-padded.padded c.in-Some.embedding = subst (λ (x : Option Polyhedron). MatchOption x ⊤ (IsOfConstraints p.topology c.in_ok-padded.padded)) c.in-Some.is c.in_ok-embedding.ensures.points in
     preimage_points (with_zeros p.cons.dim c.args.count) (without p.cons.dim (p.cons.dim + c.args.count)) (p.cons.dim + c.args.count) p c.in_ok-padded.padded p.topology refl n (λ v pt. padded_meets p.cons.dim c.args.count p.cons.list v) c.in-Some.embedding o
+
+pub returns-in_err-padded : goal.returns-in_err-padded
+returns-in_err-padded g c =
+    let p = err_from_is_err_and c.from_residual.result c.from_residual.ensures.1 in
+    rw (p.1, p.2) (record { points = tt; stored = tt; overflow = tt; no_fewer = omega arith; conversion = inl (refl, refl) })
+
+pub returns-in_err-embedding : goal.returns-in_err-embedding
+returns-in_err-embedding g c =
+    let p = err_from_is_err_and c.from_residual-in_err-embedding.result c.from_residual-in_err-embedding.ensures.1 in
+    let q = c.args.p.now in
+    let m : IsPulledSystem (with_zeros c.dim.result c.args.count) (q.cons.dim + c.args.count) q.cons c.in_ok-padded.padded = subst (λ (cs : Constraints). IsPulledSystem (with_zeros c.dim.result c.args.count) (cs.dim + c.args.count) cs c.in_ok-padded.padded) c.cons.ensures.value c.in_ok-padded.ensures in
+    let n : IsPulledSystem (with_zeros q.cons.dim c.args.count) (q.cons.dim + c.args.count) q.cons c.in_ok-padded.padded = subst (λ (d : ℕ). IsPulledSystem (with_zeros d c.args.count) (q.cons.dim + c.args.count) q.cons c.in_ok-padded.padded) c.dim.ensures.value m in
+    let done = free_refused c.args.count q c.in_ok-padded.padded n c.args.steps.now c.embedded_pair.new.steps c.in_err-embedding.field-0.0 c.in_err-embedding.ensures.conversion in
+    rw (p.1, p.2) (record { points = tt; stored = tt; overflow = tt; no_fewer = free_fewer q c.in_ok-padded.padded c.args.steps.now c.embedded_pair.new.steps c.embedded_pair.result c.embedded_pair.ensures.conversion; conversion = inr done })
+
+pub returns-in-Some-clause-conversion : goal.returns-in-Some-clause-conversion
+returns-in-Some-clause-conversion g c =
+    let q = c.args.p.now in
+    let m : IsPulledSystem (with_zeros c.dim.result c.args.count) (q.cons.dim + c.args.count) q.cons c.in_ok-padded.padded = subst (λ (cs : Constraints). IsPulledSystem (with_zeros c.dim.result c.args.count) (cs.dim + c.args.count) cs c.in_ok-padded.padded) c.cons.ensures.value c.in_ok-padded.ensures in
+    let n : IsPulledSystem (with_zeros q.cons.dim c.args.count) (q.cons.dim + c.args.count) q.cons c.in_ok-padded.padded = subst (λ (d : ℕ). IsPulledSystem (with_zeros d c.args.count) (q.cons.dim + c.args.count) q.cons c.in_ok-padded.padded) c.dim.ensures.value m in
+    inr (free_found c.args.count q c.in_ok-padded.padded n c.args.steps.now c.embedded_pair.new.steps c.in_ok-embedding.field-0 c.in-Some.embedding c.in-Some.is c.in_ok-embedding.ensures.conversion)
+
+pub returns-in-Some-clause-no_fewer : goal.returns-in-Some-clause-no_fewer
+returns-in-Some-clause-no_fewer g c = free_fewer c.args.p.now c.in_ok-padded.padded c.args.steps.now c.embedded_pair.new.steps c.embedded_pair.result c.embedded_pair.ensures.conversion
+
+pub returns-clause-conversion : goal.returns-clause-conversion
+returns-clause-conversion g c =
+    let q = c.args.p.now in
+    let m : IsPulledSystem (with_zeros c.dim.result c.args.count) (q.cons.dim + c.args.count) q.cons c.in_ok-padded.padded = subst (λ (cs : Constraints). IsPulledSystem (with_zeros c.dim.result c.args.count) (cs.dim + c.args.count) cs c.in_ok-padded.padded) c.cons.ensures.value c.in_ok-padded.ensures in
+    let n : IsPulledSystem (with_zeros q.cons.dim c.args.count) (q.cons.dim + c.args.count) q.cons c.in_ok-padded.padded = subst (λ (d : ℕ). IsPulledSystem (with_zeros d c.args.count) (q.cons.dim + c.args.count) q.cons c.in_ok-padded.padded) c.dim.ensures.value m in
+    inr (free_none c.args.count q c.in_ok-padded.padded n c.args.steps.now c.embedded_pair.new.steps c.from_cons.new.steps (overflow_in conv_overflow c.from_cons.result) c.in_ok-embedding.field-0 c.in_default.not-Some c.topology.result c.topology.ensures.value c.in_ok-embedding.ensures.conversion c.from_cons.ensures.conversion)
+
+pub returns-clause-no_fewer : goal.returns-clause-no_fewer
+returns-clause-no_fewer g c = omega (arith, free_fewer c.args.p.now c.in_ok-padded.padded c.args.steps.now c.embedded_pair.new.steps c.embedded_pair.result c.embedded_pair.ensures.conversion, c.from_cons.ensures.conversion.no_fewer)

@@ -1,17 +1,21 @@
-use Rattle.std.proofs.Common.{◌+◌, refl, subst}
+use Rattle.std.proofs.Common.{◌+◌, None, inl, inr, refl, subst, arith}
 use Rattle.std.specs.Prelude.{⊤, Option, MatchOption}
-use Rattle.std.proofs.lemmas.Result.{IfOk-weaker, IfErr-weaker}
+use Rattle.std.proofs.lemmas.Result.{IfOk-weaker, IfErr-weaker, err_from_is_err_and}
 use Rattle.gens_sys.specs.Generators.{FitDimension}
 use Rattle.poly_pair.specs.Polyhedra.{Polyhedron, IsOfGenerators}
 use Rattle.mapped_systems.specs.Maps.{with_zeros}
 use Rattle.mapped_systems.specs.MappedLists.{IsMappedSystem}
-use Rattle.dimensions.specs.Results.{IsProjection}
+use Rattle.poly_pair.specs.declared.topology.Topology.{Topology}
+use Rattle.poly_pair.specs.Parts.{AreStoredOfGenerators}
+use Rattle.dimensions.specs.Results.{IsProjection, IsStoredOfMapped}
 use Rattle.row_core.specs.Refusals.{IsOverflowIn}
 use Rattle.mapped_systems.proofs.LinearMaps.{padding_linear}
 use Rattle.poly_pair.specs.Starts.{CanStart}
-use Rattle.mapped_systems.proofs.StoredPairs.{at_none, always_in, any_error}
+use Rattle.mapped_systems.proofs.StoredPairs.{always_in, any_error}
 use Rattle.dimensions.specs.AddedVariables.{LeavesWithZeros}
 use Rattle.dimensions.proofs.MappedResults.{lent_generators, mapped_kinds, mapped_point, image_points, mapped_overflow, projection_points}
+use Rattle.poly_pair.specs.Work.{conv_overflow, overflow_in}
+use Rattle.dimensions.proofs.PairConversions.{zero_fewer, zero_leaves, zero_refused, zero_found, zero_none}
 use Rattle.dimensions.proofs.changes.project.Goals as goal
 
 pub from_gens_with_point-requires-clause-kinds : goal.from_gens_with_point-requires-clause-kinds
@@ -33,6 +37,15 @@ returns-clause-points g c =
     IfOk-weaker c.from_gens_with_point.result (IsOfGenerators c.topology.result c.in_ok-padded.padded) (IsProjection c.args.count p)
     (λ q o. projection_points p c.args.count q (image_points (with_zeros p.cons.dim c.args.count) (p.cons.dim + c.args.count) p c.in_ok-padded.padded c.topology.result c.topology.ensures.value c.gens.ensures.kept (subst FitDimension c.gens.ensures.value c.in_ok-padded.ensures.fit) (padding_linear p.cons.dim c.args.count) m q o))
     c.from_gens_with_point.ensures.points
+
+pub returns-clause-stored : goal.returns-clause-stored
+returns-clause-stored g c =
+    let p = c.args.p.now in
+    let new = c.in_ok-padded.padded in
+    let m : IsMappedSystem (with_zeros p.cons.dim c.args.count) (p.cons.dim + c.args.count) p.gens new = lent_generators (λ n. with_zeros n c.args.count) (λ n. n + c.args.count) p c.gens.result.now new c.gens.ensures.value c.gens.ensures.kept c.in_ok-padded.ensures.system in
+    IfOk-weaker c.from_gens_with_point.result (AreStoredOfGenerators c.topology.result new) (IsStoredOfMapped (with_zeros p.cons.dim c.args.count) (p.cons.dim + c.args.count) p)
+    (λ q h. record { system = new; mapped = m; stored = subst (λ (t : Topology). AreStoredOfGenerators t new q) c.topology.ensures.value h })
+    c.from_gens_with_point.ensures.stored
 
 pub returns-clause-overflow : goal.returns-clause-overflow
 returns-clause-overflow g c =
@@ -57,5 +70,45 @@ projected_pair-requires g c = record {
 pub returns-clause-pair : goal.returns-clause-pair
 returns-clause-pair g c =
     let p = c.args.p.now in
-    let none : CanStart p → LeavesWithZeros c.args.count p = at_none c.in_ok-projection.field-0 (CanStart p → LeavesWithZeros c.args.count p) (λ _. ⊤) c.in_default.not-Some c.in_ok-projection.ensures.none in
+    let none : CanStart p → LeavesWithZeros c.args.count p = zero_leaves c.args.count p c.args.steps.now c.projected_pair.new.steps c.in_ok-projection.field-0 c.in_default.not-Some c.in_ok-projection.ensures.conversion in
     IfErr-weaker c.from_gens_with_point.result (λ _. ⊤) (IsOverflowIn (λ _. CanStart p → LeavesWithZeros c.args.count p)) (λ e _. always_in (CanStart p → LeavesWithZeros c.args.count p) none e) (any_error c.from_gens_with_point.result)
+
+pub returns-in_err-padded : goal.returns-in_err-padded
+returns-in_err-padded g c =
+    let r = err_from_is_err_and c.from_residual.result c.from_residual.ensures.1 in
+    rw (r.1, r.2) (record { points = tt; stored = tt; overflow = tt; pair = tt; no_fewer = omega arith; conversion = inl (refl, refl) })
+
+pub returns-in_err-projection : goal.returns-in_err-projection
+returns-in_err-projection g c =
+    let r = err_from_is_err_and c.from_residual-in_err-projection.result c.from_residual-in_err-projection.ensures.1 in
+    let p = c.args.p.now in
+    let new = c.in_ok-padded.padded in
+    let m : IsMappedSystem (with_zeros p.cons.dim c.args.count) (p.cons.dim + c.args.count) p.gens new = lent_generators (λ n. with_zeros n c.args.count) (λ n. n + c.args.count) p c.gens.result.now new c.gens.ensures.value c.gens.ensures.kept c.in_ok-padded.ensures.system in
+    rw (r.1, r.2) (record {
+      points = tt;
+      stored = tt;
+      overflow = tt;
+      pair = tt;
+      no_fewer = zero_fewer c.args.count p c.args.steps.now c.projected_pair.new.steps c.projected_pair.result c.projected_pair.ensures.conversion;
+      conversion = zero_refused c.args.count p new m c.args.steps.now c.projected_pair.new.steps c.in_err-projection.field-0.0 None refl c.in_err-projection.ensures.conversion;
+    })
+
+pub returns-in-Some-clause-conversion : goal.returns-in-Some-clause-conversion
+returns-in-Some-clause-conversion g c =
+    let p = c.args.p.now in
+    let new = c.in_ok-padded.padded in
+    let m : IsMappedSystem (with_zeros p.cons.dim c.args.count) (p.cons.dim + c.args.count) p.gens new = lent_generators (λ n. with_zeros n c.args.count) (λ n. n + c.args.count) p c.gens.result.now new c.gens.ensures.value c.gens.ensures.kept c.in_ok-padded.ensures.system in
+    inr (zero_found c.args.count p new m c.args.steps.now c.projected_pair.new.steps c.in_ok-projection.field-0 c.in-Some.projection c.in-Some.is c.in_ok-projection.ensures.conversion)
+
+pub returns-in-Some-clause-no_fewer : goal.returns-in-Some-clause-no_fewer
+returns-in-Some-clause-no_fewer g c = zero_fewer c.args.count c.args.p.now c.args.steps.now c.projected_pair.new.steps c.projected_pair.result c.projected_pair.ensures.conversion
+
+pub returns-clause-conversion : goal.returns-clause-conversion
+returns-clause-conversion g c =
+    let p = c.args.p.now in
+    let new = c.in_ok-padded.padded in
+    let m : IsMappedSystem (with_zeros p.cons.dim c.args.count) (p.cons.dim + c.args.count) p.gens new = lent_generators (λ n. with_zeros n c.args.count) (λ n. n + c.args.count) p c.gens.result.now new c.gens.ensures.value c.gens.ensures.kept c.in_ok-padded.ensures.system in
+    inr (zero_none c.args.count p new m c.args.steps.now c.projected_pair.new.steps c.from_gens_with_point.new.steps (overflow_in conv_overflow c.from_gens_with_point.result) c.in_ok-projection.field-0 c.in_default.not-Some c.topology.result c.topology.ensures.value c.in_ok-projection.ensures.conversion c.from_gens_with_point.ensures.conversion)
+
+pub returns-clause-no_fewer : goal.returns-clause-no_fewer
+returns-clause-no_fewer g c = omega (arith, zero_fewer c.args.count c.args.p.now c.args.steps.now c.projected_pair.new.steps c.projected_pair.result c.projected_pair.ensures.conversion, c.from_gens_with_point.ensures.conversion.no_fewer)

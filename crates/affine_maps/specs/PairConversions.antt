@@ -1,0 +1,152 @@
+use Rattle.std.specs.Prelude.{◌≡◌, ◌⊎◌, ℕ, ◌+◌, ◌≤◌, List, length, ℤ, pos, unsigned_abs, Option, None, Result, Ok, IsErr, IfSome}
+use Rattle.row_core.specs.Vectors.{cell}
+use Rattle.row_core.specs.declared.errors.Overflow.{Overflow}
+use Rattle.row_core.specs.declared.errors.ConvErr.{ConvErr}
+use Rattle.row_core.specs.declared.errors.Memory.{Memory}
+use Rattle.cons_sys.specs.Constraints.{Constraints}
+use Rattle.gens_sys.specs.Generators.{Generators}
+use Rattle.poly_pair.specs.Polyhedra.{Polyhedron}
+use Rattle.poly_pair.specs.Work.{cons_work, gens_work, conv_overflow, overflow_in, IsConversion, ConvertsPair, IsPairOrList}
+use Rattle.mapped_systems.specs.Maps.{substituted, pulled_back}
+use Rattle.mapped_systems.specs.MappedLists.{IsMappedSystem, IsPulledSystem}
+use Rattle.mapped_systems.specs.CarriedSystems.{IsInverseRow}
+use Rattle.mapped_systems.specs.Refusals.{SomeLeavesInImage, SomeLeavesInPullback}
+use Rattle.affine_maps.specs.CarriedPairs.{CanBeCarried, LeavesInTurned, LeavesInMapped}
+
+-- the constraints of a polyhedron were mapped, by at most one combination each
+pub record IsPullback (p : Polyhedron) (old new : ℕ) : Type 0 where
+  pub no_fewer : old ≤ new
+  pub counted : new ≤ old + length p.cons.list
+
+-- nothing was counted, and there is no answer
+abbrev pub IsUntried : ℕ → ℕ → Result (Option Polyhedron) Memory → Type 0
+IsUntried old new result = (new ≡ old) × (result ≡ Ok None)
+
+-- the size of the divisor of the map that undoes another
+abbrev pub inverse_size : ℕ → List ℤ → ℤ
+inverse_size var expr = pos (unsigned_abs (cell expr var))
+
+-- ---- the pair of an image
+-- the constraints with the variable replaced by the row over the size, and then at most the second list of the pair
+pub record IsTurnedPair (var : ℕ) (row : List ℤ) (size : ℤ) (p : Polyhedron) (old new : ℕ)
+    (result : Result (Option Polyhedron) Memory) : Type 0 where
+  pub between : ℕ
+  pub pullback : IsPullback p old between
+  pub system : Constraints
+  pub pulled : IsPulledSystem (pulled_back var row size) p.cons.dim p.cons system
+  pub conversion : ConvertsPair system between new result
+
+-- some constraint's map leaves the range
+pub record IsTurnedInVain (var : ℕ) (row : List ℤ) (size : ℤ) (p : Polyhedron) (old new : ℕ)
+    (result : Result (Option Polyhedron) Memory) : Type 0 where
+  pub pullback : IsPullback p old new
+  pub leaves : LeavesInTurned var row size p
+  pub none : result ≡ Ok None
+
+-- of a set that can be carried by the map
+pub record IsCarriedImage (var : ℕ) (expr : List ℤ) (den : ℤ) (p : Polyhedron) (old new : ℕ)
+    (result : Result (Option Polyhedron) Memory) : Type 0 where
+  pub can : CanBeCarried p (cell expr var)
+  pub row : List ℤ
+  pub inverse : IsInverseRow var expr den row (inverse_size var expr)
+  pub turned : IsTurnedPair var row (inverse_size var expr) p old new result
+      ⊎ IsTurnedInVain var row (inverse_size var expr) p old new result
+
+-- nothing of another set, and no conversion where memory runs out before
+abbrev pub CarriesImage : ℕ → List ℤ → ℤ → Polyhedron → ℕ → ℕ → Result (Option Polyhedron) Memory
+    → Type 0
+CarriesImage var expr den p old new result = IsCarriedImage var expr den p old new result
+    ⊎ ((¬ (CanBeCarried p (cell expr var))) × IsUntried old new result)
+    ⊎ (IsPullback p old new × IsErr result)
+
+-- ---- the image
+-- the pair of the turned constraints, and the list of the mapped generators after an overflow
+pub record IsTurnedPairOrList (var : ℕ) (row : List ℤ) (size : ℤ) (p : Polyhedron) (gs : Generators)
+    (old new : ℕ) (over : Option Overflow) : Type 0 where
+  pub system : Constraints
+  pub pulled : IsPulledSystem (pulled_back var row size) p.cons.dim p.cons system
+  pub conversion : IsPairOrList system (gens_work p.topology gs) old new over
+
+-- or their list at once where some constraint's map leaves the range
+pub record IsCarriedOrConverted (var : ℕ) (expr : List ℤ) (den : ℤ) (p : Polyhedron)
+    (gs : Generators) (old new : ℕ) (over : Option Overflow) : Type 0 where
+  pub can : CanBeCarried p (cell expr var)
+  pub row : List ℤ
+  pub inverse : IsInverseRow var expr den row (inverse_size var expr)
+  pub between : ℕ
+  pub pullback : IsPullback p old between
+  pub conversion : IsTurnedPairOrList var row (inverse_size var expr) p gs between new over
+      ⊎ (LeavesInTurned var row (inverse_size var expr) p
+      × IsConversion (gens_work p.topology gs) between new over)
+
+-- of a set that can't be carried their list
+pub record IsImageConversion (var : ℕ) (expr : List ℤ) (den : ℤ) (p : Polyhedron) (old new : ℕ)
+    (over : Option Overflow) : Type 0 where
+  pub system : Generators
+  pub mapped : IsMappedSystem (substituted var expr den) p.cons.dim p.gens system
+  pub conversion : IsCarriedOrConverted var expr den p system old new over
+      ⊎ ((¬ (CanBeCarried p (cell expr var)))
+      × IsConversion (gens_work p.topology system) old new over)
+
+-- nothing was converted: memory ran out before, or some generator's map leaves the range
+pub record IsMappedInVain (var : ℕ) (expr : List ℤ) (den : ℤ) (p : Polyhedron) (old new : ℕ)
+    (over : Option Overflow) : Type 0 where
+  pub pullback : IsPullback p old new
+  pub leaves : IfSome over (SomeLeavesInImage var expr den p.gens.list)
+
+abbrev pub ConvertsImage : ℕ → List ℤ → ℤ → Polyhedron → ℕ → ℕ → Result Polyhedron ConvErr → Type 0
+ConvertsImage var expr den p old new result =
+    IsMappedInVain var expr den p old new (overflow_in conv_overflow result)
+    ⊎ IsImageConversion var expr den p old new (overflow_in conv_overflow result)
+
+-- ---- the pair of a preimage
+-- of a set that can be carried: its generators are mapped the other way, and at most the second list of the pair is converted
+pub record IsCarriedPreimage (var : ℕ) (expr : List ℤ) (den : ℤ) (p : Polyhedron) (cs : Constraints)
+    (old new : ℕ) (result : Result (Option Polyhedron) Memory) : Type 0 where
+  pub can : CanBeCarried p (cell expr var)
+  pub row : List ℤ
+  pub inverse : IsInverseRow var expr den row (inverse_size var expr)
+  pub mapped : ConvertsPair cs old new result
+      ⊎ (LeavesInMapped var row (inverse_size var expr) p × IsUntried old new result)
+
+-- nothing of another set
+abbrev pub CarriesPreimage : ℕ → List ℤ → ℤ → Polyhedron → Constraints → ℕ → ℕ
+    → Result (Option Polyhedron) Memory → Type 0
+CarriesPreimage var expr den p cs old new result =
+    IsCarriedPreimage var expr den p cs old new result
+    ⊎ ((¬ (CanBeCarried p (cell expr var))) × IsUntried old new result)
+    ⊎ ((new ≡ old) × IsErr result)
+
+-- ---- the preimage
+-- the pair of the mapped constraints, and their list after an overflow, or at once where some generator's map leaves the range
+pub record IsPairOrConverted (var : ℕ) (expr : List ℤ) (den : ℤ) (p : Polyhedron) (cs : Constraints)
+    (old new : ℕ) (over : Option Overflow) : Type 0 where
+  pub can : CanBeCarried p (cell expr var)
+  pub row : List ℤ
+  pub inverse : IsInverseRow var expr den row (inverse_size var expr)
+  pub conversion : IsPairOrList cs (cons_work p.topology cs) old new over
+      ⊎ (LeavesInMapped var row (inverse_size var expr) p
+      × IsConversion (cons_work p.topology cs) old new over)
+
+-- the constraints are mapped, and then converted so, or their list at once where the set can't be carried
+pub record IsPreimageConversion (var : ℕ) (expr : List ℤ) (den : ℤ) (p : Polyhedron) (old new : ℕ)
+    (over : Option Overflow) : Type 0 where
+  pub between : ℕ
+  pub pullback : IsPullback p old between
+  pub system : Constraints
+  pub pulled : IsPulledSystem (pulled_back var expr den) p.cons.dim p.cons system
+  pub conversion : IsPairOrConverted var expr den p system between new over
+      ⊎ ((¬ (CanBeCarried p (cell expr var)))
+      × IsConversion (cons_work p.topology system) between new over)
+
+-- nothing was converted: memory ran out before, or some constraint's map leaves the range
+pub record IsPulledInVain (var : ℕ) (expr : List ℤ) (den : ℤ) (p : Polyhedron) (old new : ℕ)
+    (over : Option Overflow) : Type 0 where
+  pub pullback : IsPullback p old new
+  pub leaves : IfSome over (SomeLeavesInPullback var expr den p.cons.list)
+
+abbrev pub ConvertsPreimage : ℕ → List ℤ → ℤ → Polyhedron → ℕ → ℕ → Result Polyhedron ConvErr
+    → Type 0
+ConvertsPreimage var expr den p old new result =
+    IsPulledInVain var expr den p old new (overflow_in conv_overflow result)
+    ⊎ IsPreimageConversion var expr den p old new (overflow_in conv_overflow result)
