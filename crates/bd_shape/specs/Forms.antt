@@ -57,8 +57,12 @@ IsForm dim row Other = IsOther dim row
 
 -- the form of the difference of two places with a coefficient
 abbrev pub signed_form : ℕ → ℕ → ℤ → Form
-signed_form plus minus c = cond (int_lt (pos 0) c) (Difference plus minus c) (Difference minus plus (neg_ℤ c))
+signed_form plus minus c =
+    cond (int_lt (pos 0) c) (Difference plus minus c) (Difference minus plus (neg_ℤ c))
 
--- a row of a difference is at least 0 at a point exactly where the value of the second place less that of the first is at most the constant over the factor
+-- a row of a difference is at least 0 at a point exactly where the value of the second place less
+-- that of the first is at most the constant over the factor
 abbrev pub RowBounds : Type 0
-RowBounds = (dim i j : ℕ) (c b : ℤ) (f : Fraction) (p : List ℤ) → i < dim + 1 → j < dim + 1 → i ≢ j → length p ≡ dim + 1 → IsLowestOf (record { num = b; den = c }) f → (pos 0 ≤ℤ dot (scaled_row dim i j c b) p) ↔ IsWithin (values_at dim p) j i f
+RowBounds = (dim i j : ℕ) (c b : ℤ) (f : Fraction) (p : List ℤ) → i < dim + 1 → j < dim + 1 → i ≢ j
+    → length p ≡ dim + 1 → IsLowestOf (record { num = b; den = c }) f
+    → (pos 0 ≤ℤ dot (scaled_row dim i j c b) p) ↔ IsWithin (values_at dim p) j i f

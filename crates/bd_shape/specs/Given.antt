@@ -38,7 +38,8 @@ pub record IsGiven (cs : Constraints) (n i j : ℕ) (f : Fraction) : Type 0 wher
 -- each bound of two different places is one of the given, and at most each other
 pub record AreLeastOf (Given : ℕ → ℕ → Fraction → Type 0) (m : ℕ) (b : Bounds) : Type 0 where
   pub given : (i j : ℕ) (f : Fraction) → i < m → j < m → i ≢ j → b i j ≡ Some f → Given i j f
-  pub least : (i j : ℕ) (f : Fraction) → i < m → j < m → i ≢ j → Given i j f → IsCovered (Some f) (b i j)
+  pub least : (i j : ℕ) (f : Fraction) → i < m → j < m → i ≢ j → Given i j f
+      → IsCovered (Some f) (b i j)
 
 -- the least of the bounds that the constraints give, and 0 from each place to itself
 pub record IsTableOf (cs : Constraints) (t : Table) : Type 0 where
@@ -62,7 +63,8 @@ pub record IsLowered (old new : Table) (i j : ℕ) (given : Fraction) : Type 0 w
   pub lowest : IsLowestOf given bound
   pub fraction : IsFraction bound
   pub here : IsLesser (bounds_of old i j) bound (bounds_of new i j)
-  pub elsewhere : (p q : ℕ) → p < old.places → q < old.places → Differs i j p q → bounds_of new p q ≡ bounds_of old p q
+  pub elsewhere : (p q : ℕ) → p < old.places → q < old.places → Differs i j p q
+      → bounds_of new p q ≡ bounds_of old p q
 
 -- the row bounds some difference
 pub record HasUpper (dim : ℕ) (row : List ℤ) : Type 0 where
@@ -79,7 +81,8 @@ pub record HasLower (dim : ℕ) (row : List ℤ) : Type 0 where
 
 -- the constraint gives its bounds, or holds at each point
 abbrev pub IsRead : ℕ → Constraint → Type 0
-IsRead dim c = (HasUpper dim c.0 × (c.1 ≡ Eq → HasLower dim c.0)) ⊎ ((p : List ℤ) → IsPoint dim p → Satisfies p c)
+IsRead dim c = (HasUpper dim c.0 × (c.1 ≡ Eq → HasLower dim c.0))
+    ⊎ ((p : List ℤ) → IsPoint dim p → Satisfies p c)
 
 -- it holds at none
 abbrev pub HoldsNowhere : ℕ → Constraint → Type 0

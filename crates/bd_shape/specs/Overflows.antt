@@ -8,7 +8,8 @@ use Rattle.difference_bounds.specs.Combining.{AreLesser, LeavesInLowering, Leave
 use Rattle.bd_shape.specs.Shapes.{DifferenceShape}
 
 -- two shapes with points, whose bounds leave the range so
-pub record LeavesInBounds (Leaves : Bounds → Bounds → ℕ → Overflow → Type 0) (s t : DifferenceShape) (over : Overflow) : Type 0 where
+pub record LeavesInBounds (Leaves : Bounds → Bounds → ℕ → Overflow → Type 0) (s t : DifferenceShape)
+    (over : Overflow) : Type 0 where
   pub left : Table
   pub right : Table
   pub is_left : s.bounds ≡ Some left
@@ -33,6 +34,7 @@ pub record LeavesInLeastTotals (s t : DifferenceShape) (over : Overflow) : Type 
   pub are_lesser : AreLesser (bounds_of left) (bounds_of right) (s.dim + 1) (bounds_of lesser)
   pub leaves : LeavesInClosing (bounds_of lesser) (s.dim + 1) over
 
--- a bound of the second is compared with that of the first, for the lesser of both, or that search leaves the range
+-- a bound of the second is compared with that of the first, for the lesser of both, or that
+-- search leaves the range
 abbrev pub LeavesInMeet : DifferenceShape → DifferenceShape → Overflow → Type 0
 LeavesInMeet s t over = LeavesInBounds LeavesInLowering s t over ⊎ LeavesInLeastTotals s t over

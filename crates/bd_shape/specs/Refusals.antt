@@ -18,7 +18,8 @@ abbrev pub as_shape_err : ConvErr → ShapeErr
 as_shape_err (conversion.Overflow over) = shape.Overflow over
 as_shape_err conversion.Memory = shape.Memory
 
--- the comparison of a bound that a constraint gives with one of the same places that an earlier constraint gives leaves the range
+-- the comparison of a bound that a constraint gives with one of the same places that an earlier
+-- constraint gives leaves the range
 pub record LeavesInTwoGiven (cs : Constraints) (over : Overflow) : Type 0 where
   pub later : ℕ
   pub below : later < length cs.list
@@ -39,14 +40,16 @@ pub record LeavesInGivenTotals (cs : Constraints) (over : Overflow) : Type 0 whe
 abbrev pub LeavesInConstraints : Constraints → Overflow → Type 0
 LeavesInConstraints cs over = LeavesInTwoGiven cs over ⊎ LeavesInGivenTotals cs over
 
--- why constraints give no shape: one is no bound of a difference, or a number leaves the range, or there is no memory
+-- why constraints give no shape: one is no bound of a difference, or a number leaves the range, or
+-- there is no memory
 abbrev pub IsRefusalOf : Constraints → ShapeErr → Type 0
 IsRefusalOf cs shape.NotDifference = HasOther cs
 IsRefusalOf cs (shape.Overflow over) = LeavesInConstraints cs over
 IsRefusalOf cs shape.Memory = ⊤
 
 -- a fraction, in lowest terms, can't be compared with the bound of its places
-pub record LeavesInTaking (old : Bounds) (i j : ℕ) (given : Fraction) (over : Overflow) : Type 0 where
+pub record LeavesInTaking (old : Bounds) (i j : ℕ) (given : Fraction)
+    (over : Overflow) : Type 0 where
   pub bound : Fraction
   pub lowest : IsLowestOf given bound
   pub leaves : LeavesInLesser (old i j) bound over

@@ -9,7 +9,8 @@ ghost use Rattle.bd_shape.specs.Forms.{IsForm, signed_form};
 pub(crate) enum Form {
     /// It has no variable.
     Constant,
-    /// The factor, which is positive, times the value of place `plus` less that of place `minus`, and a constant.
+    /// The factor, which is positive, times the value of place `plus` less that of place
+    /// `minus`, and a constant.
     Difference {
         plus: usize,
         minus: usize,
@@ -36,7 +37,8 @@ impl Form {
     }
 }
 
-/// The first column from one on, and before the end, whose entry isn't 0; the end where there is none.
+/// The first column from one on, and before the end, whose entry isn't 0; the end where
+/// there is none.
 fn next(row: &[i128], from: usize, end: usize) -> usize
     requires ordered { from ≤ end }
     requires within { end ≤ length row.now }

@@ -160,9 +160,10 @@ fn are_differences(cons: &ConsSys) -> bool
 ///
 /// # Errors
 ///
-/// [`ShapeErr::NotDifference`] exactly where a constraint has three or more variables, or two whose coefficients aren't
-/// each other's negative. Otherwise two bounds of the same places that constraints give, whose comparison leaves the
-/// range, or two least totals whose sum or comparison does.
+/// [`ShapeErr::NotDifference`] exactly where a constraint has three or more variables, or
+/// two whose coefficients aren't each other's negative. Otherwise two bounds of the same
+/// places that constraints give, whose comparison leaves the range, or two least totals
+/// whose sum or comparison does.
 pub fn shape_from(alloc: Global, cons: &ConsSys) -> Result<Shape, ShapeErr>
     requires closed { AreClosed cons.now }
     requires narrow { cons.now.dim ≤ MAX_DIM }

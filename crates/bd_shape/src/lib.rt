@@ -1,8 +1,10 @@
-//! Bounded-difference shapes: sets of points by bounds of their variables and of the differences of two.
+//! Bounded-difference shapes: sets of points by bounds of their variables and of the
+//! differences of two.
 //!
-//! - [`Shape`] keeps for each two places the greatest difference, a fraction or none. Place 0 is the number 0,
-//!   and place i the variable i.
-//! - [`shape_of`] gives the smallest shape that includes a closed polyhedron, and [`shape_from`] that of constraints.
+//! - [`Shape`] keeps for each two places the greatest difference, a fraction or none. Place 0 is
+//!   the number 0, and place i the variable i.
+//! - [`shape_of`] gives the smallest shape that includes a closed polyhedron, and [`shape_from`]
+//!   that of constraints.
 //! - [`shape_rows`] lists the constraints of a shape, and [`shape_poly`] makes them a polyhedron.
 //! - [`shape_meet`], [`shape_hull`] and [`shape_contains`] combine and compare two shapes.
 #![tactic(auto)]

@@ -12,8 +12,8 @@ use std::alloc::Global;
 ///
 /// # Errors
 ///
-/// A bound of the second shape and then that of the first of the same places, whose comparison leaves the range, or
-/// two least totals whose sum or comparison does.
+/// A bound of the second shape and then that of the first of the same places, whose comparison
+/// leaves the range, or two least totals whose sum or comparison does.
 pub fn shape_meet(alloc: Global, s: &Shape, t: &Shape) -> Result<Shape, ConvErr>
     requires { t.now.dim ≡ s.now.dim }
     ensures dim { IfOk result (λ r. r.dim ≡ s.now.dim) }
@@ -36,7 +36,8 @@ pub fn shape_meet(alloc: Global, s: &Shape, t: &Shape) -> Result<Shape, ConvErr>
 ///
 /// # Errors
 ///
-/// A bound of the first shape and then that of the second of the same places, whose comparison leaves the range.
+/// A bound of the first shape and then that of the second of the same places, whose comparison
+/// leaves the range.
 pub fn shape_hull(alloc: Global, s: &Shape, t: &Shape) -> Result<Shape, ConvErr>
     requires { t.now.dim ≡ s.now.dim }
     ensures dim { IfOk result (λ r. r.dim ≡ s.now.dim) }
@@ -62,8 +63,8 @@ pub fn shape_hull(alloc: Global, s: &Shape, t: &Shape) -> Result<Shape, ConvErr>
 ///
 /// # Errors
 ///
-/// A bound of the first shape and then that of the second of the same places, whose comparison leaves the range, where
-/// the bounds of all earlier places answer yes.
+/// A bound of the first shape and then that of the second of the same places, whose comparison
+/// leaves the range, where the bounds of all earlier places answer yes.
 pub fn shape_contains(alloc: Global, s: &Shape, t: &Shape) -> Result<bool, ConvErr>
     requires { t.now.dim ≡ s.now.dim }
     ensures contains { IfOk result (λ r. IsTrue r ↔ Includes s.now t.now) }

@@ -6,9 +6,10 @@ use row_core::{ConvErr, Overflow};
 use thiserror::Error;
 
 /// Why constraints give no shape.
-#[derive(Clone, Debug, Drop, PartialEq, Eq, Error)]
+#[derive(Debug, Drop, Error)]
 pub enum ShapeErr {
-    /// A constraint has three or more variables, or two whose coefficients aren't each other's negative.
+    /// A constraint has three or more variables, or two whose coefficients aren't each
+    /// other's negative.
     #[error("a constraint doesn't bound the difference of two variables")]
     NotDifference,
     /// Two bounds whose sum or comparison leaves the range.

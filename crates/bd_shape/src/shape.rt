@@ -12,9 +12,9 @@ use row_core::{ConvErr, Memory};
 use std::alloc::Global;
 use std::marker::Model;
 
-/// The points at which bounds of variables and of differences of two hold. Each bound is the greatest difference of
-/// the set.
-#[derive(Debug, Drop)]
+/// The points at which bounds of variables and of differences of two hold. Each bound is the
+/// greatest difference of the set.
+#[derive(Drop)]
 pub struct Shape {
     pub(crate) dim: usize,
     pub(crate) bounds: Option<BoundTable>,

@@ -92,7 +92,8 @@ fn find_row(alloc: Global, p: &Poly, bounds: &mut BoundTable, i: usize) -> Resul
     Ok(())
 }
 
-/// The smallest shape that includes a closed polyhedron. Each bound is the supremum of a difference.
+/// The smallest shape that includes a closed polyhedron. Each bound is the supremum of
+/// a difference.
 ///
 /// # Errors
 ///

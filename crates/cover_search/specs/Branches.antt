@@ -10,8 +10,10 @@ use Rattle.cover_search.specs.Regions.{LeavesOnList}
 abbrev pub choice : List Constraint → ℕ → List Constraint
 choice rows j = take j rows ++ complement (constraint_at rows j) ∷ []
 
--- the list begins with the first one, and goes on with one choice for each of the first k systems of inequalities, in order
-pub data IsBranch (first : List Constraint) (systems : List Constraints) : ℕ → List Constraint → Type 0 where
+-- the list begins with the first one, and goes on with one choice for each of the first k systems
+-- of inequalities, in order
+pub data IsBranch (first : List Constraint) (systems : List Constraints)
+    : ℕ → List Constraint → Type 0 where
   begins : IsBranch first systems 0 first
   chooses : {k : ℕ} {list : List Constraint} (rows : Constraints) (j : ℕ)
       → IsBranch first systems k list → slice_get systems k ≡ Some rows → j < length rows.list

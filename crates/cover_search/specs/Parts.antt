@@ -83,7 +83,8 @@ IsMet region rows system old new = (AreApart region rows × (new ≡ old)) ⊎ (
     × IsTaken old cut new)
 
 -- ---- parts of a set
--- behind other parts, the one on which an inequality of the system doesn't hold, with the same open systems
+-- behind other parts, the one on which an inequality of the system doesn't hold, with the
+-- same open systems
 pub record IsPushed (rows : Constraints) (index : ℕ) (region : Constraints) (numbers : List ℕ)
     (old new : List Part) : Type 0 where
   pub part : Part
@@ -91,7 +92,8 @@ pub record IsPushed (rows : Constraints) (index : ℕ) (region : Constraints) (n
   pub same : part.met.items ≡ numbers
   pub joined : new ≡ old ++ part ∷ []
 
--- what is left of a set behind one inequality: all of it where that holds on it, or else the part on which it holds
+-- what is left of a set behind one inequality: all of it where that holds on it, or else the part
+-- on which it holds
 abbrev pub IsLeft : Constraints → ℕ → Constraints → List ℕ → List Part → List Part → Constraints
     → Type 0
 IsLeft rows index region numbers old new rest = (HoldsOn region (constraint_at rows.list index)
@@ -111,7 +113,8 @@ pub record IsOutside (rows region : Constraints) (numbers : List ℕ) (part : Pa
   pub apart : AreApart part.region rows
   pub same : part.met.items ≡ numbers
 
--- behind other parts, those of a set outside of the system, one for some of the first k inequalities; what is left of the set has these
+-- behind other parts, those of a set outside of the system, one for some of the first k
+-- inequalities; what is left of the set has these
 pub record IsPartedBy (rows : Constraints) (k : ℕ) (region : Constraints) (numbers : List ℕ)
     (old new : List Part) (rest : Constraints) : Type 0 where
   pub added : List Part
@@ -137,7 +140,8 @@ abbrev pub IsCutBy : List Constraints → Cut → Constraints → List ℕ → L
 IsCutBy systems cut region numbers old new = (rows : Constraints)
     × (slice_get systems cut.system ≡ Some rows) × IsParted rows region numbers old new
 
--- the point is given where no system comes next, and else the parts outside of that system are appended
+-- the point is given where no system comes next, and else the parts outside of that
+-- system are appended
 abbrev pub IsFollowed : List Constraints → Plan → Constraints → List ℤ → List Part → List Part
     → Option (List ℤ) → Type 0
 IsFollowed systems plan region point old new found =
@@ -167,7 +171,8 @@ abbrev pub all_to_come : ℕ → List Part → ℕ
 all_to_come m [] = 0
 all_to_come m (part ∷ parts) = to_come m (length part.met.items) + all_to_come m parts
 
--- what a turn makes of a part: parts of it with fewer open systems, and of each point either one of these or a system has it
+-- what a turn makes of a part: parts of it with fewer open systems, and of each point either one of
+-- these or a system has it
 pub record IsSettled (systems : List Constraints) (part : Part) (old new : List Part) : Type 0 where
   pub added : List Part
   pub joined : new ≡ old ++ added

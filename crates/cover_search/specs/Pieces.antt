@@ -30,7 +30,8 @@ pub data IsInner (rows : Constraints) (piece : Piece) (old : List Piece) : List 
   goes_on : piece.row + 1 < length rows.list
       → IsInner rows piece old (old ++ inner_part rows piece ∷ [])
 
--- the parts of a piece by the next inequality that aren't within the system, without one that has no point
+-- the parts of a piece by the next inequality that aren't within the system, without one
+-- that has no point
 pub data IsSplit (rows : Constraints) (piece : Piece) (old : List Piece) : List Piece → Type 0 where
   within : length rows.list ≡ piece.row → IsSplit rows piece old old
   outer_alone : piece.row < length rows.list → HoldNowhere (inner_part rows piece).region
@@ -52,7 +53,8 @@ abbrev pub IsRowOf : Option Constraints → ℕ → Type 0
 IsRowOf None row = row ≡ 0
 IsRowOf (Some rows) row = row ≤ length rows.list
 
--- the constraints of a piece are those of a branch, and then the first inequalities of the next system
+-- the constraints of a piece are those of a branch, and then the first inequalities of
+-- the next system
 pub record IsPiece (first : Constraints) (systems : List Constraints) (piece : Piece) : Type 0 where
   pub same_dim : piece.region.dim ≡ first.dim
   pub passed : piece.passed ≤ length systems

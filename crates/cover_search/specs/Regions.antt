@@ -57,6 +57,7 @@ LiesIn cs ds = (v : List ℤ) → IsPoint cs.dim v → In cs v → In ds v
 abbrev pub HoldsOn : Constraints → Constraint → Type 0
 HoldsOn cs c = (v : List ℤ) → IsPoint cs.dim v → In cs v → Satisfies v c
 
--- the value of the row of an inequality on a vector of this height is at least 0 or, of a strict one, above 0 without the height
+-- the value of the row of an inequality on a vector of this height is at least 0 or, of a strict
+-- one, above 0 without the height
 abbrev pub IsKept : Bool → ℤ → ℤ → Type 0
 IsKept strict value height = (pos 0 ≤ℤ value) ⊎ ((strict ≡ true) × (pos 0 <ℤ (value +ℤ height)))

@@ -11,7 +11,7 @@ use std::alloc::Global;
 use std::marker::Model;
 
 /// Constraints with the rows that encode them.
-#[derive(Debug, Drop)]
+#[derive(Drop)]
 pub(crate) struct Halfspaces {
     cons: ConsSys,
     rows: RowList,

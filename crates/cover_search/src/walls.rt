@@ -9,7 +9,7 @@ use std::alloc::Global;
 use std::marker::Model;
 
 /// Inequalities and their complements, both with the rows that encode them.
-#[derive(Debug, Drop)]
+#[derive(Drop)]
 pub struct Walls {
     inner: Halfspaces,
     outer: Halfspaces,

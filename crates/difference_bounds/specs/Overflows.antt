@@ -8,8 +8,10 @@ use Rattle.difference_bounds.specs.declared.fraction.Fraction.{Fraction}
 use Rattle.difference_bounds.specs.Fractions.{pair_of, sum, IsLowestOf, SumStays, CompareStays}
 use Rattle.difference_bounds.specs.Walks.{Bound, Bounds, IsLeast, IsNonnegative}
 
--- the overflow shows the two fractions, each as the row of its numerator and its denominator, and the column
-pub record IsOverflowOf (kind : OverKind) (left right : Fraction) (column : ℕ) (over : Overflow) : Type 0 where
+-- the overflow shows the two fractions, each as the row of its numerator and its
+-- denominator, and the column
+pub record IsOverflowOf (kind : OverKind) (left right : Fraction) (column : ℕ)
+    (over : Overflow) : Type 0 where
   pub same_kind : over.kind ≡ kind
   pub step : over.step ≡ 0
   pub left_is : over.left ≡ pair_of left
@@ -40,15 +42,18 @@ pub record LeavesInBoth (left right : Bound) (over : Overflow) : Type 0 where
   pub is_right : right ≡ Some second
   pub leaves : LeavesInCompare first second over
 
--- the sum of two bounds leaves the range, or the comparison of this sum in lowest terms with a bound does
+-- the sum of two bounds leaves the range, or the comparison of this sum in lowest terms
+-- with a bound does
 pub record LeavesInRelaxing (bound first second : Bound) (over : Overflow) : Type 0 where
   pub left : Fraction
   pub right : Fraction
   pub is_first : first ≡ Some left
   pub is_second : second ≡ Some right
-  pub leaves : LeavesInSum left right over ⊎ ((s : Fraction) × IsLowestOf (sum left right) s × LeavesInLesser bound s over)
+  pub leaves : LeavesInSum left right over
+      ⊎ ((s : Fraction) × IsLowestOf (sum left right) s × LeavesInLesser bound s over)
 
--- at a place k, where no closed walk over places below k is negative, the sum of the least totals to k and from k leaves the range, or its comparison with the least total without k does
+-- at a place k, where no closed walk over places below k is negative, the sum of the least totals
+-- to k and from k leaves the range, or its comparison with the least total without k does
 pub record LeavesInClosing (b : Bounds) (m : ℕ) (over : Overflow) : Type 0 where
   pub k : ℕ
   pub i : ℕ

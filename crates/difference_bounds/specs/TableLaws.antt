@@ -20,7 +20,8 @@ pub record HasTriangles (b : Bounds) (m : ℕ) : Type 0 where
 
 -- each bound is the greatest difference exactly where the table has the triangle inequality
 abbrev pub TightByTriangles : Type 0
-TightByTriangles = (t : Table) (m : ℕ) → AreFractions t.cells → IsTight (bounds_of t) m ↔ HasTriangles (bounds_of t) m
+TightByTriangles = (t : Table) (m : ℕ) → AreFractions t.cells
+    → IsTight (bounds_of t) m ↔ HasTriangles (bounds_of t) m
 
 -- the values of the first k places are as before, over another divisor
 pub record Extends (v w : Values) (k : ℕ) : Type 0 where
@@ -35,10 +36,13 @@ pub record HasExtension (b : Bounds) (k m : ℕ) (v : Values) : Type 0 where
   pub extends : Extends v values k
   pub meets : Meets b m values
 
--- values of the first k places that meet the bounds of a table with the triangle inequality extend to all its places
+-- values of the first k places that meet the bounds of a table with the triangle inequality extend
+-- to all its places
 abbrev pub ExtendsValues : Type 0
-ExtendsValues = (t : Table) (m k : ℕ) (v : Values) → AreFractions t.cells → k ≤ m → HasTriangles (bounds_of t) m → Meets (bounds_of t) k v → HasExtension (bounds_of t) k m v
+ExtendsValues = (t : Table) (m k : ℕ) (v : Values) → AreFractions t.cells → k ≤ m
+    → HasTriangles (bounds_of t) m → Meets (bounds_of t) k v → HasExtension (bounds_of t) k m v
 
 -- no values meet the bounds exactly where a closed walk is negative
 abbrev pub NoneByNegative : Type 0
-NoneByNegative = (t : Table) (m : ℕ) → AreFractions t.cells → HasZeros (bounds_of t) m → HasNone (bounds_of t) m ↔ IsNegative (bounds_of t) m m
+NoneByNegative = (t : Table) (m : ℕ) → AreFractions t.cells → HasZeros (bounds_of t) m
+    → HasNone (bounds_of t) m ↔ IsNegative (bounds_of t) m m

@@ -38,7 +38,8 @@ pub record IsWithinWords (w : ℤ) : Type 0 where
 -- each cell has its word
 pub record AreWords (cells : List Bound) (words : List ℤ) : Type 0 where
   pub full : length words ≡ length cells
-  pub each : (q : ℕ) → q < length cells → IsWord (slice_index_or cells q None) (get_or words q (pos 0))
+  pub each : (q : ℕ) → q < length cells
+      → IsWord (slice_index_or cells q None) (get_or words q (pos 0))
 
 -- ---- what a table keeps
 -- the word is that of no bound or of a short whole number
@@ -103,4 +104,5 @@ IsCoveredWord x y = (a b : Bound) → IsWord a x → IsWord b y → IsCovered a 
 
 -- so at each place of two lists
 abbrev pub AllCovered : List ℤ → List ℤ → Type 0
-AllCovered xs ys = (q : ℕ) → q < length xs → IsCoveredWord (get_or xs q (pos 0)) (get_or ys q (pos 0))
+AllCovered xs ys = (q : ℕ) → q < length xs
+    → IsCoveredWord (get_or xs q (pos 0)) (get_or ys q (pos 0))

@@ -14,7 +14,8 @@ use row_core::ConvErr;
 use std::alloc::Global;
 
 impl BoundTable {
-    /// Lowers the bound of place `i` less place `j` to the sum of those by way of place `k`, as fractions.
+    /// Lowers the bound of place `i` less place `j` to the sum of those by way of place
+    /// `k`, as fractions.
     fn relax_fractions(
         &mut self,
         alloc: Global,
@@ -123,8 +124,8 @@ impl BoundTable {
         false
     }
 
-    /// Puts the least totals of walks in the place of the bounds, and answers whether some values meet them. Where
-    /// none do, the bounds that are left say nothing.
+    /// Puts the least totals of walks in the place of the bounds, and answers whether some values
+    /// meet them. Where none do, the bounds that are left say nothing.
     ///
     /// # Errors
     ///

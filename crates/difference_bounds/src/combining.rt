@@ -198,7 +198,8 @@ impl BoundTable {
         }
     }
 
-    /// Whether the bounds of place `i` less each place of another table are at most those of this one.
+    /// Whether the bounds of place `i` less each place of another table are at most
+    /// those of this one.
     fn covers_row(&self, alloc: Global, other: &BoundTable, i: usize) -> Result<bool, ConvErr>
         requires same { other.now.places ≡ self.now.places }
         requires row { i < self.now.places }

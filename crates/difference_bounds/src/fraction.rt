@@ -6,7 +6,7 @@ ghost use Rattle.difference_bounds.specs.Fractions.{IsFraction, IsLowestOf, IsBe
 use row_core::{combination, make_primitive, product};
 
 /// A fraction in lowest terms, with a positive denominator.
-#[derive(Clone, Copy, Debug, PartialEq, Eq)]
+#[derive(Clone, Copy)]
 pub struct Fraction {
     /// The numerator.
     pub num: i128,
@@ -38,8 +38,8 @@ impl Fraction {
     ///
     /// # Errors
     ///
-    /// Column 0 where a product of a numerator and a denominator, or their sum, leaves the range; else
-    /// column 1 where the product of the denominators does.
+    /// Column 0 where a product of a numerator and a denominator, or their sum, leaves the range;
+    /// else column 1 where the product of the denominators does.
     pub fn plus(self, other: Fraction) -> Result<Fraction, u32>
         requires left { IsFraction self }
         requires right { IsFraction other }
@@ -58,8 +58,8 @@ impl Fraction {
     ///
     /// # Errors
     ///
-    /// Column 0 where this numerator times the other denominator leaves the range; else column 1 where
-    /// the other numerator times this denominator does.
+    /// Column 0 where this numerator times the other denominator leaves the range; else column 1
+    /// where the other numerator times this denominator does.
     pub fn is_below(self, other: Fraction) -> Result<bool, u32>
         ensures { MatchResult result (λ below. IsTrue below ↔ IsBelow self other)
             (IsFirstToLeave (CompareStays self other) 2) }

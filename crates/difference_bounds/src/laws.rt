@@ -18,7 +18,8 @@ pub fn triangles()
     ensures { TightByTriangles }
 {}
 
-/// Values of some places that meet the bounds of a tight table extend to one place more, and to all.
+/// Values of some places that meet the bounds of a tight table extend to one place
+/// more, and to all.
 pub fn extension()
     ensures { ExtendsValues }
 {}

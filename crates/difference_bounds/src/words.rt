@@ -1,4 +1,5 @@
-//! Bounds as words of 64 bits: the sum of two short whole numbers is one addition, and their comparison one comparison.
+//! Bounds as words of 64 bits: the sum of two short whole numbers is one addition, and their
+//! comparison one comparison.
 ghost use Rattle.std.specs.Prelude.{◌≡◌, ◌≢◌, length, ◌<ℤ◌, Some, true, IsTrue, IfSome};
 ghost use Rattle.difference_bounds.specs.Fractions.{IsFraction};
 ghost use Rattle.difference_bounds.specs.Words.{IsShort, IsWord, IsWithinWords, IsStep, IsComparison, AllCovered, other, whole};

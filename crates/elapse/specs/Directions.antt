@@ -16,7 +16,8 @@ direction_kind Ray = Ray
 direction_kind Point = Ray
 direction_kind ClosurePoint = Ray
 
--- the generators in order as directions, each with 0 as its last entry and made primitive; one that is then 0 is left out
+-- the generators in order as directions, each with 0 as its last entry and made primitive; one that
+-- is then 0 is left out
 pub data AreDirections (dim : ℕ) : List Generator → List Generator → Type 0 where
   no_direction : AreDirections dim [] []
   zero_direction : {v : List ℤ} {kind : GenKind} {old new : List Generator}

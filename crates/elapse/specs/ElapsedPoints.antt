@@ -7,7 +7,8 @@ use Rattle.stored_systems.specs.PointSets.{IsWithin}
 use Rattle.poly_pair.specs.declared.topology.Topology.{Topology}
 use Rattle.poly_pair.specs.TopologyConstraints.{IsConstraintFor}
 
--- coordinate j of the point v is that of x plus num / den times that of y, multiplied out: the coordinates of the vectors are fractions over their last entries
+-- coordinate j of the point v is that of x plus num / den times that of y, multiplied out: the
+-- coordinates of the vectors are fractions over their last entries
 abbrev pub IsMovedAt : ℕ → List ℤ → List ℤ → ℤ → ℤ → List ℤ → ℕ → Type 0
 IsMovedAt dim x y num den v j = (cell x dim *ℤ den *ℤ cell y dim) *ℤ cell v j ≡ cell v
     dim *ℤ (cell x j *ℤ den *ℤ cell y dim +ℤ num *ℤ cell y j *ℤ cell x dim)

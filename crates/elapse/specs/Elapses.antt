@@ -13,7 +13,8 @@ use Rattle.poly_pair.specs.Work.{gens_work, conv_overflow, overflow_in, IsConver
 use Rattle.elapse.specs.ElapsedPoints.{IsInElapse}
 use Rattle.elapse.specs.Directions.{AreDirections}
 
--- the time elapse of the one by the other: the points at which each constraint of the topology holds that holds at all x + t*y
+-- the time elapse of the one by the other: the points at which each constraint of the topology
+-- holds that holds at all x + t*y
 pub record IsElapse (p q result : Polyhedron) : Type 0 where
   pub over : IsOver p.topology p.cons.dim result
   pub points : (v : List ℤ) → IsPoint p.cons.dim v → In result.cons v
@@ -43,7 +44,8 @@ pub record IsOfNone (p q result : Polyhedron) : Type 0 where
 abbrev pub AreStoredOfElapse : Polyhedron → Polyhedron → Polyhedron → Type 0
 AreStoredOfElapse p q result = IsOfNone p q result ⊎ AreStoredOfList p q result
 
--- an overflow shows a number outside the range in the conversion of that list, or of its second list
+-- an overflow shows a number outside the range in the conversion of that list, or of
+-- its second list
 pub record LeavesOnElapse (p q : Polyhedron) (over : Overflow) : Type 0 where
   pub some : ¬ (p.gens.list ≡ [])
   pub moving : ¬ (q.gens.list ≡ [])
@@ -60,7 +62,8 @@ pub record IsElapseConversion (p q : Polyhedron) (old new : ℕ)
   pub are_directions : AreDirections p.gens.dim q.gens.list directions
   pub conversion : IsConversion (gens_work p.topology (followed p.gens directions)) old new over
 
--- a call that converts that list, or nothing where one of the two is empty or memory runs out before the directions are made
+-- a call that converts that list, or nothing where one of the two is empty or memory runs out
+-- before the directions are made
 abbrev pub ConvertsElapse : Polyhedron → Polyhedron → ℕ → ℕ → Result Polyhedron ConvErr → Type 0
 ConvertsElapse p q old new result =
     ((new ≡ old) × (overflow_in conv_overflow result ≡ None))

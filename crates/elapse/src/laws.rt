@@ -6,7 +6,8 @@ pub fn elapse_includes_start()
     ensures { ElapseIncludesStart }
 {}
 
-/// From each point of the time elapse each point of the second set leads to points of the time elapse.
+/// From each point of the time elapse each point of the second set leads to points of
+/// the time elapse.
 pub fn elapse_moves_on()
     ensures { ElapseMovesOn }
 {}

@@ -39,9 +39,9 @@ fn moved<L: Ledger>(
     }
 }
 
-/// The smallest polyhedron of the topology that includes all `x + t*y` with x in `p`, y in `q` and t a
-/// fraction of at least 0: that of the generators of `p` and of the directions of `q`. It is empty where
-/// `p` or `q` is.
+/// The smallest polyhedron of the topology that includes all `x + t*y` with x in `p`, y in `q` and
+/// t a fraction of at least 0: that of the generators of `p` and of the directions of `q`. It is
+/// empty where `p` or `q` is.
 ///
 /// # Errors
 ///

@@ -25,7 +25,8 @@ variable_row dim j = slice_set (zeros dim) j (pos 1)
 abbrev pub sparse_row : ℕ → ℕ → ℤ → ℤ → List ℤ
 sparse_row dim j factor constant = slice_set (slice_set (zeros dim) dim constant) j factor
 
--- the row that is at least 0 where the variable is at most the fraction, for `true`, or at least the fraction
+-- the row that is at least 0 where the variable is at most the fraction, for `true`, or at
+-- least the fraction
 abbrev pub bound_row : Bool → ℕ → ℕ → ℤ → ℤ → List ℤ
 bound_row true dim j num den = sparse_row dim j (neg_ℤ den) num
 bound_row false dim j num den = sparse_row dim j den (neg_ℤ num)
@@ -40,9 +41,11 @@ bound_kind false = Gt
 abbrev pub GainsBound : Bool → ℕ → ℕ → Sup → List Constraint → List Constraint → Type 0
 GainsBound up dim j sup.Empty old new = new ≡ old
 GainsBound up dim j sup.Unbounded old new = new ≡ old
-GainsBound up dim j (sup.At num den attained index) old new = Gains old new (bound_row up dim j num den) (bound_kind attained)
+GainsBound up dim j (sup.At num den attained index) old new =
+    Gains old new (bound_row up dim j num den) (bound_kind attained)
 
--- the list gained the greatest lower bound of the variable and then its least upper one, where there are
+-- the list gained the greatest lower bound of the variable and then its least upper
+-- one, where there are
 pub record GainsBounds (p : Polyhedron) (j : ℕ) (old new : List Constraint) : Type 0 where
   pub low : Sup
   pub is_low : IsTrueSup false (variable_row p.cons.dim j) p low
@@ -55,12 +58,14 @@ pub record GainsBounds (p : Polyhedron) (j : ℕ) (old new : List Constraint) : 
 -- the bounds of the first variables, in order
 pub data AreBounds (p : Polyhedron) : ℕ → List Constraint → Type 0 where
   none_yet : AreBounds p 0 []
-  one_more : {k : ℕ} {old new : List Constraint} → AreBounds p k old → GainsBounds p k old new → AreBounds p (k + 1) new
+  one_more : {k : ℕ} {old new : List Constraint} → AreBounds p k old → GainsBounds p k old new
+      → AreBounds p (k + 1) new
 
 -- the bounds of all variables, or the constraint that holds nowhere where there is no point
 pub record IsBox (p : Polyhedron) (bounds : Constraints) : Type 0 where
   pub same_dim : bounds.dim ≡ p.cons.dim
-  pub list : (HasNoPoint p × (bounds.list ≡ p.cons.list)) ⊎ ((¬ (HasNoPoint p)) × AreBounds p p.cons.dim bounds.list)
+  pub list : (HasNoPoint p × (bounds.list ≡ p.cons.list))
+      ⊎ ((¬ (HasNoPoint p)) × AreBounds p p.cons.dim bounds.list)
 
 -- ---- overflows
 -- the numbers of a bound are in the range

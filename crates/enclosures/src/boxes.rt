@@ -155,9 +155,9 @@ fn push_bounds(
     Ok(())
 }
 
-/// The smallest box that includes a polyhedron: of each variable in order the greatest lower bound and then the least
-/// upper one, where there are. A bound that no point has is strict. Of the empty set it is the constraint that holds
-/// nowhere.
+/// The smallest box that includes a polyhedron: of each variable in order the greatest lower bound
+/// and then the least upper one, where there are. A bound that no point has is strict. Of the empty
+/// set it is the constraint that holds nowhere.
 ///
 /// # Errors
 ///

@@ -58,13 +58,13 @@ fn joined<L: Ledger>(
     hull(alloc, made, &part, steps)
 }
 
-/// The smallest polyhedron that has each point of `p` at which some of the constraints doesn't hold. For each way in
-/// which one can fail it has the points of `p` at which it fails so.
+/// The smallest polyhedron that has each point of `p` at which some of the constraints doesn't
+/// hold. For each way in which one can fail it has the points of `p` at which it fails so.
 ///
 /// # Errors
 ///
-/// An overflow is one of the conversion of the constraint list of such points, or of the generator list of those of
-/// some ways and of the next, or of a second list.
+/// An overflow is one of the conversion of the constraint list of such points, or of the generator
+/// list of those of some ways and of the next, or of a second list.
 pub fn difference<L: Ledger>(
     alloc: Global,
     p: &Poly,

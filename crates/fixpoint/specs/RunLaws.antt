@@ -19,8 +19,12 @@ IncludeInitial system sets = IncludeEach system.initial sets
 
 -- for each transition the set of its target includes all successors of the states of its source
 abbrev pub AreClosedUnder : List Transition → List Polyhedron → Type 0
-AreClosedUnder transitions sets = (k : ℕ) (t : Transition) (source target : Polyhedron) → slice_get transitions k ≡ Some t → slice_get sets t.source ≡ Some source → slice_get sets t.target ≡ Some target → (y : List ℤ) → IsPoint source.cons.dim y → IsStepTo source.cons t.relation.cons y → In target.cons y
+AreClosedUnder transitions sets = (k : ℕ) (t : Transition) (source target : Polyhedron)
+    → slice_get transitions k ≡ Some t → slice_get sets t.source ≡ Some source
+    → slice_get sets t.target ≡ Some target → (y : List ℤ) → IsPoint source.cons.dim y
+    → IsStepTo source.cons t.relation.cons y → In target.cons y
 
 -- a system and a delay have one limit
 abbrev pub HasOneLimit : Type 0
-HasOneLimit = (system : TransitionSystem) (delay : ℕ) (one other : List Polyhedron) → IsKeptSystem system → HasLimit system delay one → HasLimit system delay other → one ≡ other
+HasOneLimit = (system : TransitionSystem) (delay : ℕ) (one other : List Polyhedron)
+    → IsKeptSystem system → HasLimit system delay one → HasLimit system delay other → one ≡ other

@@ -19,42 +19,52 @@ use Rattle.fixpoint.specs.PostLists.{LeavesOnPairedPost}
 -- ---- turns
 -- the constraint holds at each successor of a state of the set
 abbrev pub IsValidOnPost : Polyhedron → Polyhedron → Constraint → Type 0
-IsValidOnPost source relation c = (y : List ℤ) → IsPoint source.cons.dim y → IsStepTo source.cons relation.cons y → Satisfies y c
+IsValidOnPost source relation c = (y : List ℤ) → IsPoint source.cons.dim y
+    → IsStepTo source.cons relation.cons y → Satisfies y c
 
--- the hull of the set of the target and the post of that of the source: the points at which each constraint holds that is valid on both
+-- the hull of the set of the target and the post of that of the source: the points at which each
+-- constraint holds that is valid on both
 pub record IsHullWithSuccessors (source relation old joined : Polyhedron) : Type 0 where
   pub over : IsOver old.topology old.cons.dim joined
-  pub points : (v : List ℤ) → IsPoint old.cons.dim v → In joined.cons v ↔ ((c : Constraint) → IsConstraintFor old.topology old.cons.dim c → IsValidOn old c → IsValidOnPost source relation c → Satisfies v c)
+  pub points : (v : List ℤ) → IsPoint old.cons.dim v → In joined.cons v
+      ↔ ((c : Constraint) → IsConstraintFor old.topology old.cons.dim c → IsValidOn old c
+      → IsValidOnPost source relation c → Satisfies v c)
   pub kept : IsKept joined
 
 -- what a transition joins to the set of its target, where these are the sets
-pub record IsJoinedBy (transition : Transition) (sets : List Polyhedron) (joined : Polyhedron) : Type 0 where
+pub record IsJoinedBy (transition : Transition) (sets : List Polyhedron)
+    (joined : Polyhedron) : Type 0 where
   pub source : Polyhedron
   pub old : Polyhedron
   pub has_source : slice_get sets transition.source ≡ Some source
   pub has_old : slice_get sets transition.target ≡ Some old
   pub is_joined : IsHullWithSuccessors source transition.relation old joined
 
--- the conversion of the list of the generators of the set and of the post, or of its second list, leaves the range
+-- the conversion of the list of the generators of the set and of the post, or of its second
+-- list, leaves the range
 pub record LeavesOnHullWithPost (source relation old : Polyhedron) (over : Overflow) : Type 0 where
   pub post : Polyhedron
   pub is_post : IsPost source relation post
   pub post_kept : IsKept post
   pub leaves : LeavesOnClosed old.cons.dim (generator_list (both_generators old post)) over
 
--- by generators of the post: the conversion of the list of those of the set and then these, or of its second list, does
+-- by generators of the post: the conversion of the list of those of the set and then these, or of
+-- its second list, does
 pub record LeavesOnGrowth (source relation old : Polyhedron) (over : Overflow) : Type 0 where
   pub gens : Generators
   pub span : SpanPost source relation gens
-  pub leaves : LeavesOn (added_gens old gens).width (added_gens old gens).column (added_gens old gens).rows over
+  pub leaves : LeavesOn (added_gens old gens).width (added_gens old gens).column
+      (added_gens old gens).rows over
 
 -- or that of the list of the relation's constraints and then those of the set of the source
 abbrev pub LeavesByGenerators : Polyhedron → Polyhedron → Polyhedron → Overflow → Type 0
-LeavesByGenerators source relation old over = LeavesOnSteps source relation over ⊎ LeavesOnGrowth source relation old over
+LeavesByGenerators source relation old over = LeavesOnSteps source relation over
+    ⊎ LeavesOnGrowth source relation old over
 
 -- of the post, or of the hull with it
 abbrev pub LeavesByPost : Polyhedron → Polyhedron → Polyhedron → Overflow → Type 0
-LeavesByPost source relation old over = LeavesOnPairedPost source relation over ⊎ LeavesOnHullWithPost source relation old over
+LeavesByPost source relation old over = LeavesOnPairedPost source relation over
+    ⊎ LeavesOnHullWithPost source relation old over
 
 -- generators of the post come to an overflow, and then the post does, which is shown
 pub record LeavesBothWays (source relation old : Polyhedron) (over : Overflow) : Type 0 where
@@ -63,7 +73,8 @@ pub record LeavesBothWays (source relation old : Polyhedron) (over : Overflow) :
   pub by_post : LeavesByPost source relation old over
 
 -- an overflow of finding what a transition joins
-pub record LeavesInJoin (transition : Transition) (sets : List Polyhedron) (over : Overflow) : Type 0 where
+pub record LeavesInJoin (transition : Transition) (sets : List Polyhedron)
+    (over : Overflow) : Type 0 where
   pub source : Polyhedron
   pub old : Polyhedron
   pub has_source : slice_get sets transition.source ≡ Some source

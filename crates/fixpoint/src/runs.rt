@@ -14,10 +14,10 @@ use trans_sys::System;
 
 /// The limit of the system's rounds, one set for each location.
 ///
-/// The run starts with the initial sets. A round takes each transition in order and forms the hull of the set
-/// of its target and the post of that of its source. Where this isn't the set of the target it replaces it, at
-/// most `delay` times for each location, and later its widening does. The limit is the table that a whole round
-/// leaves as it is. Each run comes to it.
+/// The run starts with the initial sets. A round takes each transition in order and forms the hull
+/// of the set of its target and the post of that of its source. Where this isn't the set of the
+/// target it replaces it, at most `delay` times for each location, and later its widening does. The
+/// limit is the table that a whole round leaves as it is. Each run comes to it.
 ///
 /// # Errors
 ///

@@ -15,8 +15,8 @@ use std::sync::ledger::Ledger;
 use trans_sys::{System, set_of};
 use widening::Turns;
 
-/// What [`joined`] gives, by generators of the post, which isn't made where the set of the target has all that they
-/// span.
+/// What [`joined`] gives, by generators of the post, which isn't made where the set of the target
+/// has all that they span.
 fn joined_by_generators<L: Ledger>(
     alloc: Global,
     source: &Poly,
@@ -66,8 +66,8 @@ fn joined_by_post<L: Ledger>(
     grown(alloc, old, &successors, steps)
 }
 
-/// What the set of a transition's target grows to by the post of that of its source, if it grows: by generators of
-/// the post, and behind an overflow of these by the post.
+/// What the set of a transition's target grows to by the post of that of its source, if it grows:
+/// by generators of the post, and behind an overflow of these by the post.
 fn joined<L: Ledger>(
     alloc: Global,
     source: &Poly,

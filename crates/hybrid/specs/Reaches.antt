@@ -16,12 +16,14 @@ use Rattle.hybrid.specs.Turns.{turns_of}
 -- ---- the answer
 -- the states of the set of a location that are in its invariant
 abbrev pub IsPartAt : List Polyhedron → List Polyhedron → ℕ → Polyhedron → Type 0
-IsPartAt invariants sets l part = (inv set : Polyhedron) → slice_get invariants l ≡ Some inv → slice_get sets l ≡ Some set → IsPartIn set inv part
+IsPartAt invariants sets l part = (inv set : Polyhedron) → slice_get invariants l ≡ Some inv
+    → slice_get sets l ≡ Some set → IsPartIn set inv part
 
 -- in each location
 pub record AreParts (invariants sets parts : List Polyhedron) : Type 0 where
   pub as_many : length parts ≡ length sets
-  pub each : (l : ℕ) (part : Polyhedron) → slice_get parts l ≡ Some part → IsPartAt invariants sets l part
+  pub each : (l : ℕ) (part : Polyhedron) → slice_get parts l ≡ Some part
+      → IsPartAt invariants sets l part
 
 -- of the limit of the turns from the initial sets
 pub record AreReached (h : HybridAutomaton) (delay : ℕ) (parts : List Polyhedron) : Type 0 where
@@ -49,22 +51,36 @@ pub record LeavesAtEnd (h : HybridAutomaton) (delay : ℕ) (over : Overflow) : T
 
 -- of a turn that the run comes to, or at its end
 abbrev pub LeavesInReach : HybridAutomaton → ℕ → Overflow → Type 0
-LeavesInReach h delay over = LeavesInRun (turns_of h) h.system.initial delay over ⊎ LeavesAtEnd h delay over
+LeavesInReach h delay over = LeavesInRun (turns_of h) h.system.initial delay over
+    ⊎ LeavesAtEnd h delay over
 
 -- ---- what the sets include
 -- each initial state that is in its invariant
 abbrev pub IncludeInitial : HybridAutomaton → List Polyhedron → Type 0
-IncludeInitial h parts = (l : ℕ) (initial inv part : Polyhedron) → slice_get h.system.initial l ≡ Some initial → slice_get h.invariants l ≡ Some inv → slice_get parts l ≡ Some part → (v : List ℤ) → IsPoint h.system.dim v → In initial.cons v → In inv.cons v → In part.cons v
+IncludeInitial h parts =
+    (l : ℕ) (initial inv part : Polyhedron) → slice_get h.system.initial l ≡ Some initial
+    → slice_get h.invariants l ≡ Some inv → slice_get parts l ≡ Some part
+    → (v : List ℤ) → IsPoint h.system.dim v → In initial.cons v → In inv.cons v → In part.cons v
 
--- each state of the invariant that a state of the set comes to as time passes with a velocity of the flow
+-- each state of the invariant that a state of the set comes to as time passes with a
+-- velocity of the flow
 abbrev pub AreClosedUnderFlow : HybridAutomaton → List Polyhedron → Type 0
-AreClosedUnderFlow h parts = (l : ℕ) (inv flow part : Polyhedron) → slice_get h.invariants l ≡ Some inv → slice_get h.flows l ≡ Some flow → slice_get parts l ≡ Some part → (x q v : List ℤ) → IsWithin part.cons x → IsWithin flow.cons q → IsMoved h.system.dim x q v → In inv.cons v → In part.cons v
+AreClosedUnderFlow h parts = (l : ℕ) (inv flow part : Polyhedron)
+    → slice_get h.invariants l ≡ Some inv → slice_get h.flows l ≡ Some flow
+    → slice_get parts l ≡ Some part → (x q v : List ℤ) → IsWithin part.cons x → IsWithin flow.cons q
+    → IsMoved h.system.dim x q v → In inv.cons v → In part.cons v
 
--- for each transition each successor, in the target's invariant, of a state of the set of its source
+-- for each transition each successor, in the target's invariant, of a state of the set
+-- of its source
 abbrev pub AreClosedUnderJumps : HybridAutomaton → List Polyhedron → Type 0
-AreClosedUnderJumps h parts = (k : ℕ) (t : Transition) (source target inv : Polyhedron) → slice_get h.system.transitions k ≡ Some t → slice_get parts t.source ≡ Some source → slice_get parts t.target ≡ Some target → slice_get h.invariants t.target ≡ Some inv → (y : List ℤ) → IsPoint h.system.dim y → IsStepTo source.cons t.relation.cons y → In inv.cons y → In target.cons y
+AreClosedUnderJumps h parts = (k : ℕ) (t : Transition) (source target inv : Polyhedron)
+    → slice_get h.system.transitions k ≡ Some t → slice_get parts t.source ≡ Some source
+    → slice_get parts t.target ≡ Some target → slice_get h.invariants t.target ≡ Some inv
+    → (y : List ℤ) → IsPoint h.system.dim y → IsStepTo source.cons t.relation.cons y → In inv.cons y
+    → In target.cons y
 
 -- ---- one answer
 -- an automaton and a delay have one answer
 abbrev pub HasOneReach : Type 0
-HasOneReach = (h : HybridAutomaton) (delay : ℕ) (one other : List Polyhedron) → IsKeptHybrid h → AreReached h delay one → AreReached h delay other → one ≡ other
+HasOneReach = (h : HybridAutomaton) (delay : ℕ) (one other : List Polyhedron) → IsKeptHybrid h
+    → AreReached h delay one → AreReached h delay other → one ≡ other

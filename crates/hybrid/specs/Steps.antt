@@ -25,11 +25,13 @@ pub record IsFlown (start inv flow flown : Polyhedron) : Type 0 where
   pub elapsed_kept : IsKept elapsed
   pub is_part : IsPartIn inv elapsed flown
 
--- the states that those of the set in the invariant come to inside the invariant as time passes; where the flow is empty no time passes
+-- the states that those of the set in the invariant come to inside the invariant as time passes;
+-- where the flow is empty no time passes
 pub record IsTimePost (set inv flow post : Polyhedron) : Type 0 where
   pub start : Polyhedron
   pub is_start : IsPartIn set inv start
-  pub after : (HasNoPoint flow × (post ≡ start)) ⊎ (¬ (HasNoPoint flow) × IsFlown start inv flow post)
+  pub after : (HasNoPoint flow × (post ≡ start))
+      ⊎ (¬ (HasNoPoint flow) × IsFlown start inv flow post)
 
 -- ---- jumps
 -- the successors, in the target's invariant, of the states of the set in the source's
@@ -48,7 +50,8 @@ LeavesOnMeet p q over = LeavesOn (list_width p.topology p.cons.dim) p.cons.dim (
 
 -- that of the generator list of both
 abbrev pub LeavesOnHull : Polyhedron → Polyhedron → Overflow → Type 0
-LeavesOnHull p q over = LeavesOn (list_width p.topology p.cons.dim) p.cons.dim (generators_of p.topology (both_generators p q)) over
+LeavesOnHull p q over = LeavesOn (list_width p.topology p.cons.dim) p.cons.dim
+    (generators_of p.topology (both_generators p q)) over
 
 -- those of the time elapse and of the meet with the invariant
 pub record LeavesOnReturn (start inv flow : Polyhedron) (over : Overflow) : Type 0 where
@@ -58,7 +61,8 @@ pub record LeavesOnReturn (start inv flow : Polyhedron) (over : Overflow) : Type
   pub leaves : LeavesOnMeet inv elapsed over
 
 abbrev pub LeavesOnFlow : Polyhedron → Polyhedron → Polyhedron → Overflow → Type 0
-LeavesOnFlow start inv flow over = LeavesOnElapse start flow over ⊎ LeavesOnReturn start inv flow over
+LeavesOnFlow start inv flow over = LeavesOnElapse start flow over
+    ⊎ LeavesOnReturn start inv flow over
 
 pub record LeavesAfterStart (set inv flow : Polyhedron) (over : Overflow) : Type 0 where
   pub some : ¬ (HasNoPoint flow)
@@ -72,7 +76,8 @@ LeavesOnTime set inv flow over = LeavesOnMeet set inv over ⊎ LeavesAfterStart 
 
 -- the set with as many free variables behind its own
 abbrev pub IsEmbedded : Polyhedron → Polyhedron → Type 0
-IsEmbedded set embedded = IsPreimage (without set.cons.dim (set.cons.dim + set.cons.dim)) (set.cons.dim + set.cons.dim) set embedded
+IsEmbedded set embedded = IsPreimage
+    (without set.cons.dim (set.cons.dim + set.cons.dim)) (set.cons.dim + set.cons.dim) set embedded
 
 -- the columns of the first n of n + n variables are left out
 abbrev pub behind : ℕ → List ℕ
@@ -90,13 +95,18 @@ pub record LeavesOnTargets (set relation : Polyhedron) (over : Overflow) : Type 
   pub embedded_kept : IsKept embedded
   pub pairs : Polyhedron
   pub are_pairs : IsPartIn embedded relation pairs
-  pub leaves : LeavesOnMapped (remaining pairs.cons.dim (behind set.cons.dim)) (length (kept_variables pairs.cons.dim (behind set.cons.dim))) pairs over
+  pub leaves : LeavesOnMapped (remaining pairs.cons.dim (behind set.cons.dim))
+      (length (kept_variables pairs.cons.dim (behind set.cons.dim))) pairs over
 
--- those of the set with free variables, of the meet with the relation and of leaving the first variables out
+-- those of the set with free variables, of the meet with the relation and of leaving the
+-- first variables out
 abbrev pub LeavesOnEmbedding : Polyhedron → Polyhedron → Overflow → Type 0
-LeavesOnEmbedding set relation over = LeavesOnPulled (with_zeros set.cons.dim set.cons.dim) (set.cons.dim + set.cons.dim) set over ⊎ LeavesOnEmbeddedPairs set relation over ⊎ LeavesOnTargets set relation over
+LeavesOnEmbedding set relation over =
+    LeavesOnPulled (with_zeros set.cons.dim set.cons.dim) (set.cons.dim + set.cons.dim) set over
+    ⊎ LeavesOnEmbeddedPairs set relation over ⊎ LeavesOnTargets set relation over
 
--- the conversion of the list of the relation's constraints and then the set's leaves the range, and then one of these does, which is shown
+-- the conversion of the list of the relation's constraints and then the set's leaves the range, and
+-- then one of these does, which is shown
 pub record LeavesOnEmbeddedPost (set relation : Polyhedron) (over : Overflow) : Type 0 where
   pub first : Overflow
   pub by_steps : LeavesOnSteps set relation first
@@ -107,7 +117,8 @@ pub record LeavesOnStep (set inv relation : Polyhedron) (over : Overflow) : Type
   pub is_start : IsPartIn set inv start
   pub leaves : LeavesOnEmbeddedPost start relation over
 
-pub record LeavesOnArrival (set inv relation target_inv : Polyhedron) (over : Overflow) : Type 0 where
+pub record LeavesOnArrival (set inv relation target_inv : Polyhedron)
+    (over : Overflow) : Type 0 where
   pub start : Polyhedron
   pub is_start : IsPartIn set inv start
   pub successors : Polyhedron
@@ -117,4 +128,5 @@ pub record LeavesOnArrival (set inv relation target_inv : Polyhedron) (over : Ov
 
 -- at a jump
 abbrev pub LeavesOnJump : Polyhedron → Polyhedron → Polyhedron → Polyhedron → Overflow → Type 0
-LeavesOnJump set inv relation target_inv over = LeavesOnMeet set inv over ⊎ LeavesOnStep set inv relation over ⊎ LeavesOnArrival set inv relation target_inv over
+LeavesOnJump set inv relation target_inv over = LeavesOnMeet set inv over
+    ⊎ LeavesOnStep set inv relation over ⊎ LeavesOnArrival set inv relation target_inv over

@@ -3,7 +3,8 @@ use Rattle.poly_pair.specs.Polyhedra.{Polyhedron}
 use Rattle.poly_pair.specs.ClosedPolyhedra.{IsClosedOver}
 use Rattle.trans_sys.specs.Systems.{TransitionSystem, IsKeptSystem}
 
--- a transition system, and for each location the states in which it may stay and the velocities with which its state moves there
+-- a transition system, and for each location the states in which it may stay and the velocities
+-- with which its state moves there
 pub record HybridAutomaton : Type 0 where
   pub system : TransitionSystem
   pub invariants : List Polyhedron
@@ -22,7 +23,9 @@ pub record IsKeptHybrid (h : HybridAutomaton) : Type 0 where
 
 -- the system with this invariant, or this flow, of the location
 abbrev pub with_invariant : HybridAutomaton → ℕ → Polyhedron → HybridAutomaton
-with_invariant h location p = record { system = h.system; invariants = slice_set h.invariants location p; flows = h.flows }
+with_invariant h location p =
+    record { system = h.system; invariants = slice_set h.invariants location p; flows = h.flows }
 
 abbrev pub with_flow : HybridAutomaton → ℕ → Polyhedron → HybridAutomaton
-with_flow h location p = record { system = h.system; invariants = h.invariants; flows = slice_set h.flows location p }
+with_flow h location p =
+    record { system = h.system; invariants = h.invariants; flows = slice_set h.flows location p }

@@ -12,9 +12,10 @@ use std::alloc::Global;
 use std::marker::Model;
 use trans_sys::{System, empty_sets};
 
-/// A linear hybrid automaton: a transition system, and for each location an invariant, the states in which it may
-/// stay, and a flow, the velocities with which its state moves there. All are closed polyhedra.
-#[derive(Debug, Drop)]
+/// A linear hybrid automaton: a transition system, and for each location an invariant, the states
+/// in which it may stay, and a flow, the velocities with which its state moves there. All are
+/// closed polyhedra.
+#[derive(Drop)]
 pub struct Hybrid {
     system: System,
     invariants: Vec<Poly>,
@@ -26,9 +27,11 @@ impl Model for Hybrid {
 
     ghost Value = { HybridAutomaton };
 
-    ghost view = { λ h. record { system = h.system; invariants = h.invariants.items; flows = h.flows.items } };
+    ghost view = { λ h.
+        record { system = h.system; invariants = h.invariants.items; flows = h.flows.items } };
 
-    ghost invariant = { λ h. IsKeptHybrid (record { system = h.system; invariants = h.invariants.items; flows = h.flows.items }) };
+    ghost invariant = { λ h. IsKeptHybrid
+        (record { system = h.system; invariants = h.invariants.items; flows = h.flows.items }) };
 }
 
 /// So many closed universes of a dimension.
@@ -48,8 +51,8 @@ fn universes(alloc: Global, dim: usize, count: usize) -> Result<Vec<Poly>, Memor
 }
 
 impl Hybrid {
-    /// The automaton of the system with the universe as each invariant and empty flows, so that no time passes. On
-    /// want of memory the system is dropped.
+    /// The automaton of the system with the universe as each invariant and empty flows, so that no
+    /// time passes. On want of memory the system is dropped.
     pub fn new(alloc: Global, system: System) -> Result<Hybrid, Memory>
         ensures system { IfOk result (λ h. h.system ≡ system) }
         ensures invariants { IfOk result (λ h. All (IsUniverse Closed system.dim) h.invariants) }

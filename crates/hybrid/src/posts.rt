@@ -52,9 +52,9 @@ fn post_of_embedded<L: Ledger>(
     remove_dims(alloc, &pairs, &vars, steps)
 }
 
-/// All successors of the states of a set by a relation, whose variables are those of a state and then those of
-/// its successor. The stored pair of the relation is taken first; where that comes to an overflow, the set with
-/// free variables is.
+/// All successors of the states of a set by a relation, whose variables are those of a state and
+/// then those of its successor. The stored pair of the relation is taken first; where that comes to
+/// an overflow, the set with free variables is.
 pub(crate) fn post<L: Ledger>(
     alloc: Global,
     set: &Poly,

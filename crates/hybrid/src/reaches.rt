@@ -52,15 +52,16 @@ fn parts_of<L: Ledger>(
     Ok(parts)
 }
 
-/// For each location a polyhedron of states that the automaton may come to: the part in its invariant of its set
-/// in the limit of the turns.
+/// For each location a polyhedron of states that the automaton may come to: the part in its
+/// invariant of its set in the limit of the turns.
 ///
-/// The run starts with the initial sets. A round takes the time turns of the locations in order, and then the jump
-/// turns of the transitions in order. A time turn joins to the set of a location what its states in the invariant
-/// come to inside the invariant as time passes with velocities of the flow; a jump turn joins to the set of a
-/// transition's target the successors, in the target's invariant, of the states of the source's set in the source's
-/// invariant. Where a set grows so, the hull replaces it, at most `delay` times for each location, and later its
-/// widening does. The limit is the table that a whole round leaves as it is. Each run comes to it.
+/// The run starts with the initial sets. A round takes the time turns of the locations in order,
+/// and then the jump turns of the transitions in order. A time turn joins to the set of a location
+/// what its states in the invariant come to inside the invariant as time passes with velocities of
+/// the flow; a jump turn joins to the set of a transition's target the successors, in the target's
+/// invariant, of the states of the source's set in the source's invariant. Where a set grows so,
+/// the hull replaces it, at most `delay` times for each location, and later its widening does. The
+/// limit is the table that a whole round leaves as it is. Each run comes to it.
 ///
 /// # Errors
 ///

@@ -43,7 +43,8 @@ pub record IsHead (l : WhileLoop) (start head : Polyhedron) : Type 0 where
   pub round_kept : IsKept round
   pub is_hull : IsHull start round head
 
--- the smallest polyhedron, not needing to be closed, with the states of the head at which the guard doesn't hold
+-- the smallest polyhedron, not needing to be closed, with the states of the head at which the
+-- guard doesn't hold
 pub record IsBehind (l : WhileLoop) (head behind : Polyhedron) : Type 0 where
   pub opened : Polyhedron
   pub is_open : IsOfConstraints Nnc head.cons opened
@@ -105,6 +106,7 @@ pub record LeavesAfterStart (l : WhileLoop) (over : Overflow) : Type 0 where
   pub leaves : LeavesInHead l start over
       ⊎ (LeavesAfterHead l start over ⊎ LeavesAfterBehind l start over)
 
--- one of the conversion of the start, of the run or the last round, of what is behind, or of the search for a bound
+-- one of the conversion of the start, of the run or the last round, of what is behind, or of the
+-- search for a bound
 abbrev pub LeavesInAnalysis : WhileLoop → Overflow → Type 0
 LeavesInAnalysis l over = LeavesAtStart l over ⊎ LeavesAfterStart l over

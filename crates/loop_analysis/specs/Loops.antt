@@ -6,7 +6,8 @@ use Rattle.stored_systems.specs.PointSets.{AreClosed}
 use Rattle.poly_pair.specs.declared.topology.TheConstants.{MAX_DIM}
 use Rattle.loop_analysis.specs.declared.loops.Assignment.{Assignment}
 
--- a loop over states of so many variables: the constraints of its start, those of its guard, and the assignments of its body in order
+-- a loop over states of so many variables: the constraints of its start, those of its guard, and
+-- the assignments of its body in order
 pub record WhileLoop : Type 0 where
   pub dim : ℕ
   pub start : Constraints

@@ -56,7 +56,8 @@ fn invariant<L: Ledger>(
     Ok(set)
 }
 
-/// The start and a last round from the invariant: where the widening gave up a bound, the guard may give one again.
+/// The start and a last round from the invariant: where the widening gave up a bound, the guard
+/// may give one again.
 fn head<L: Ledger>(
     alloc: Global,
     program: &Loop,
@@ -94,8 +95,9 @@ fn behind<L: Ledger>(
 
 /// Bounds of the variables that hold along each run of the loop.
 ///
-/// The set at the head grows, by rounds, from the start to one that a round doesn't leave; later it is widened (P. Cousot
-/// and N. Halbwachs, 1978). The bounds are those of the start and a last round from it.
+/// The set at the head grows, by rounds, from the start to one that a round doesn't leave; later it
+/// is widened (P. Cousot and N. Halbwachs, 1978). The bounds are those of the start and a last round
+/// from it.
 ///
 /// # Errors
 ///

@@ -18,7 +18,8 @@ pub struct Assignment {
     pub value: Frac,
 }
 
-/// A loop: where it starts, the guard under which its body is taken, and the assignments of the body in order.
+/// A loop: where it starts, the guard under which its body is taken, and the assignments of
+/// the body in order.
 #[derive(Drop)]
 pub struct Loop {
     start: ConsSys,

@@ -59,7 +59,8 @@ abbrev pub IsAssignmentLine : ℕ → List ℕ → Assignment → Type 0
 IsAssignmentLine dim line a =
     (variable : ℕ) × IsBehind (assignment_word variable) line (IsValue dim variable a)
 
--- a line that isn't silent adds to what the lines before say: the number of variables, the constraints of the start, those of the guard, and then an assignment
+-- a line that isn't silent adds to what the lines before say: the number of variables, the
+-- constraints of the start, those of the guard, and then an assignment
 abbrev pub Adds : Draft → List ℕ → Draft → Type 0
 Adds Nothing line new =
     (dim : ℕ) × IsBehind (codes "variables ") line (IsDimension dim) × (new ≡ Dimension dim)

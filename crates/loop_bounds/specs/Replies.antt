@@ -38,7 +38,9 @@ overflow_line over = overflow_text over ++ codes "\n"
 abbrev pub IsReadAs : ℕ → Constraints → Type 0
 IsReadAs dim cs = (read : Constraints) → IsCons dim (constraints_text cs) read ↔ (read ≡ cs)
 
--- the text spells a loop, and what is written satisfies each run of it: its first constraints hold at each state that the loop comes to, and its second ones at each state behind the loop; they are the bounds of what the analysis finds
+-- the text spells a loop, and what is written satisfies each run of it: its first constraints hold
+-- at each state that the loop comes to, and its second ones at each state behind the loop; they are
+-- the bounds of what the analysis finds
 pub record IsReport (text reply : List ℕ) : Type 0 where
   pub program : WhileLoop
   pub spelled : Spells text program

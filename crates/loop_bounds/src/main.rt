@@ -1,5 +1,6 @@
-//! Bounds of the variables of a loop: it reads a loop from standard input and writes constraints that hold whenever
-//! control comes to its head, and constraints that hold whenever it goes on behind the loop.
+//! Bounds of the variables of a loop: it reads a loop from standard input and writes
+//! constraints that hold whenever control comes to its head, and constraints that hold whenever
+//! it goes on behind the loop.
 #![tactic(auto)]
 
 mod reading;

@@ -208,12 +208,14 @@ fn whole(draft: Draft) -> Option<Loop>
     }
 }
 
-/// The loop that a text spells. Its first lines give the number of variables, the constraints of the start and those of
-/// the guard; each further line is an assignment. Empty lines and lines that begin with `#` say nothing.
+/// The loop that a text spells. Its first lines give the number of variables, the constraints of
+/// the start and those of the guard; each further line is an assignment. Empty lines and lines that
+/// begin with `#` say nothing.
 ///
 /// # Errors
 ///
-/// The first line that is refused, with its fault; or `Truncated` where the guard's line is missing.
+/// The first line that is refused, with its fault; or `Truncated` where the guard's
+/// line is missing.
 pub fn read_loop(alloc: Global, text: &[u8]) -> Result<Loop, LoopErr>
     ensures { MatchResult result (Spells text.now) (IsTextRefused text.now) }
 {

@@ -47,8 +47,9 @@ fn reply_to<L: Ledger>(alloc: Global, text: &[u8], steps: &mut Steps<L>) -> Resu
     }
 }
 
-/// Reads a loop from the source and writes the reply to the sink: constraints on its variables that hold at the head of
-/// the loop and behind it in each run, or the line of a refusal or of an overflow.
+/// Reads a loop from the source and writes the reply to the sink: constraints on its
+/// variables that hold at the head of the loop and behind it in each run, or the line of a
+/// refusal or of an overflow.
 pub fn loop_bounds<S: Source, W: Sink, L: Ledger>(
     alloc: Global,
     source: &mut S,

@@ -35,17 +35,21 @@ pub record FailsSomewhere (cs : Constraints) (c : Constraint) : Type 0 where
   pub within : IsWithin cs point
   pub fails : ¬ (Satisfies point c)
 
--- no point satisfies the constraint; each does; the row is 0 at each; some point satisfies it and some doesn't
-pub record IsRelation (cs : Constraints) (row : List ℤ) (kind : ConKind) (r : Relation) : Type 0 where
+-- no point satisfies the constraint; each does; the row is 0 at each; some point satisfies
+-- it and some doesn't
+pub record IsRelation (cs : Constraints) (row : List ℤ) (kind : ConKind)
+    (r : Relation) : Type 0 where
   pub disjoint : IsTrue r.disjoint ↔ HoldsNowhere cs (row, kind)
   pub included : IsTrue r.included ↔ HoldsThroughout cs (row, kind)
   pub saturates : IsTrue r.saturates ↔ HoldsThroughout cs (row, Eq)
-  pub intersects : IsTrue r.intersects ↔ HoldsSomewhere cs (row, kind) × FailsSomewhere cs (row, kind)
+  pub intersects : IsTrue r.intersects ↔ HoldsSomewhere cs (row, kind)
+      × FailsSomewhere cs (row, kind)
 
 -- ---- the answer
 -- all dots stay in the range and the flags are true of the points, or some dot leaves the range
 abbrev pub RelationAnswer : List ℤ → ConKind → Polyhedron → Result Relation PairOver → Type 0
-RelationAnswer row kind p (Ok r) = RowReaches row p.gens.list (length p.gens.list) × IsRelation p.cons row kind r
+RelationAnswer row kind p (Ok r) = RowReaches row p.gens.list (length p.gens.list)
+    × IsRelation p.cons row kind r
 RelationAnswer row kind p (Err over) = RowLeaves row p.gens.list over
 
 -- ---- the sides of generators

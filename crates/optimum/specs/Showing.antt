@@ -15,4 +15,10 @@ left_shown Scale row gs i = row
 
 -- the rows of a pair of numbers
 abbrev pub shown_values : List ℤ → Generators → PairOver → Overflow
-shown_values row gs pair = record { kind = pair.kind; step = 0; left = left_shown pair.kind row gs pair.left; right = row_at gs.list pair.right; column = pair.column }
+shown_values row gs pair = record {
+  kind = pair.kind;
+  step = 0;
+  left = left_shown pair.kind row gs pair.left;
+  right = row_at gs.list pair.right;
+  column = pair.column;
+}

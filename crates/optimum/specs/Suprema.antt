@@ -1,4 +1,5 @@
--- The least upper and the greatest lower bound of an expression on a set: `up` is true for the upper one.
+-- The least upper and the greatest lower bound of an expression on a set: `up` is true
+-- for the upper one.
 use Rattle.std.specs.Prelude.{◌≡◌, ℕ, List, [], ◌∷◌, length, ℤ, pos, ◌<ℤ◌, Bool, Result, Ok, Err, ◌↔◌, IsTrue}
 use Rattle.std.proofs.Math.IntN.{◌*ℤ◌}
 use Rattle.row_core.specs.Vectors.{cell, dot}
@@ -21,31 +22,38 @@ HasBeyond up row dim Has m k = (p : List ℤ) × Has p × IsShort up (m *ℤ cel
 abbrev pub ExceedsAll : Bool → List ℤ → ℕ → (List ℤ → Type 0) → Type 0
 ExceedsAll up row dim Has = (bound : ℤ) → HasBeyond up row dim Has bound (pos 1)
 
--- the fraction, in lowest terms, is exceeded by no value and equals some exactly where it is attained, and each fraction less good is exceeded
-pub record IsSupremum (up : Bool) (row : List ℤ) (dim : ℕ) (Has : List ℤ → Type 0) (num den : ℤ) (attained : Bool) : Type 0 where
+-- the fraction, in lowest terms, is exceeded by no value and equals some exactly where it is
+-- attained, and each fraction less good is exceeded
+pub record IsSupremum (up : Bool) (row : List ℤ) (dim : ℕ) (Has : List ℤ → Type 0) (num den : ℤ)
+    (attained : Bool) : Type 0 where
   pub lowest : IsPrimitive (num ∷ den ∷ [])
   pub positive : pos 0 <ℤ den
   pub bound : (p : List ℤ) → Has p → IsAtMost up (den *ℤ dot row p) (num *ℤ cell p dim)
   pub reached : IsTrue attained ↔ ((p : List ℤ) × Has p × (den *ℤ dot row p ≡ num *ℤ cell p dim))
-  pub nearest : (m k : ℤ) → pos 0 <ℤ k → IsShort up (m *ℤ den) (num *ℤ k) → HasBeyond up row dim Has m k
+  pub nearest : (m k : ℤ) → pos 0 <ℤ k → IsShort up (m *ℤ den) (num *ℤ k)
+      → HasBeyond up row dim Has m k
 
 -- ---- the polyhedron
 -- each integer is exceeded by the value of some point
 abbrev pub IsUnbounded : Bool → List ℤ → Polyhedron → Type 0
 IsUnbounded up row p = ExceedsAll up row p.cons.dim (IsWithin p.cons)
 
--- what an answer says of the points: there is none, their values have no bound, or this is the bound
+-- what an answer says of the points: there is none, their values have no bound, or this
+-- is the bound
 abbrev pub IsTrueSup : Bool → List ℤ → Polyhedron → Sup → Type 0
 IsTrueSup up row p sup.Empty = HasNoPoint p
 IsTrueSup up row p sup.Unbounded = IsUnbounded up row p
-IsTrueSup up row p (sup.At num den attained index) = IsSupremum up row p.cons.dim (IsWithin p.cons) num den attained
+IsTrueSup up row p (sup.At num den attained index) =
+    IsSupremum up row p.cons.dim (IsWithin p.cons) num den attained
 
 -- ---- the order of the generators
 -- no generator ends the search, b is the best point, and the answer is its fraction in lowest terms
-pub record IsFound (up : Bool) (row : List ℤ) (gs : Generators) (num den : ℤ) (attained : Bool) (b : ℕ) : Type 0 where
+pub record IsFound (up : Bool) (row : List ℤ) (gs : Generators) (num den : ℤ) (attained : Bool)
+    (b : ℕ) : Type 0 where
   pub reached : SeeksTo up row gs.dim gs.list (length gs.list)
   pub best : IsBest up row gs.dim gs.list (length gs.list) b
-  pub lowest : IsPrimitiveOf (dot row (row_at gs.list b) ∷ cell (row_at gs.list b) gs.dim ∷ []) (num ∷ den ∷ [])
+  pub lowest : IsPrimitiveOf
+      (dot row (row_at gs.list b) ∷ cell (row_at gs.list b) gs.dim ∷ []) (num ∷ den ∷ [])
   pub point : IsTrue attained ↔ kind_at gs.list b ≡ Point
 
 -- what the order gives

@@ -14,7 +14,8 @@ RowStays row list i = AllStay (DotStays row (row_at list i)) (length row)
 abbrev pub RowReaches : List ℤ → List Generator → ℕ → Type 0
 RowReaches row list n = (i : ℕ) → i < n → RowStays row list i
 
--- the refusal shows the dot of the row and a generator, and the first column at which it leaves the range
+-- the refusal shows the dot of the row and a generator, and the first column at which
+-- it leaves the range
 pub record DotLeaves (row : List ℤ) (list : List Generator) (over : PairOver) : Type 0 where
   pub kind : over.kind ≡ Dot
   pub left : over.left ≡ 0
@@ -29,9 +30,11 @@ pub record RowLeaves (row : List ℤ) (list : List Generator) (over : PairOver) 
 
 -- the refusal of a dot
 abbrev pub row_over : ℕ → ℕ → PairOver
-row_over right column = record { kind = Dot; left = 0; right = right; column = column; turned = false }
+row_over right column =
+    record { kind = Dot; left = 0; right = right; column = column; turned = false }
 
 -- what forming the value on one generator answers
 abbrev pub ValueAnswer : List ℤ → List Generator → ℕ → Result ℤ PairOver → Type 0
 ValueAnswer row list i (Ok value) = (value ≡ dot row (row_at list i)) × RowStays row list i
-ValueAnswer row list i (Err over) = (over ≡ row_over i over.column) × IsFirstToLeave (DotStays row (row_at list i)) (length row) over.column
+ValueAnswer row list i (Err over) = (over ≡ row_over i over.column)
+    × IsFirstToLeave (DotStays row (row_at list i)) (length row) over.column

@@ -74,14 +74,14 @@ fn extremum(up: bool, p: &Poly, row: &[i128]) -> Result<Sup, PairOver>
 
 /// The supremum of an expression on the points of a polyhedron.
 ///
-/// The generators are gone through in order, up to a line on which the expression isn't 0 or a ray on which it is
-/// above 0. A point takes the place of the best so far where it is better, or where both have one value and the new one
-/// alone is a point of the set.
+/// The generators are gone through in order, up to a line on which the expression isn't 0 or a ray
+/// on which it is above 0. A point takes the place of the best so far where it is better, or where
+/// both have one value and the new one alone is a point of the set.
 ///
 /// # Errors
 ///
-/// The first product or partial sum that leaves the range: of the expression and a generator, or of two
-/// generators that are compared.
+/// The first product or partial sum that leaves the range: of the expression and a generator, or of
+/// two generators that are compared.
 pub fn sup(p: &Poly, expr: &[i128]) -> Result<Sup, PairOver>
     requires wide { length expr.now ≡ p.now.cons.dim + 1 }
     ensures answer { SupAnswer true expr.now p.now.gens result }
@@ -95,7 +95,8 @@ pub fn sup(p: &Poly, expr: &[i128]) -> Result<Sup, PairOver>
     extremum(true, p, expr)
 }
 
-/// The infimum of an expression on the points of a polyhedron: as [`sup`], with all comparisons turned.
+/// The infimum of an expression on the points of a polyhedron: as [`sup`], with all
+/// comparisons turned.
 ///
 /// # Errors
 ///

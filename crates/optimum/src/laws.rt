@@ -16,8 +16,8 @@ pub fn one_relation()
     ensures { HasOneRelation }
 {}
 
-/// The generator that an answer numbers shows the bound: it is a point of the set's closure that has the bound as its
-/// value, and a point of the set exactly where the bound is attained.
+/// The generator that an answer numbers shows the bound: it is a point of the set's closure that
+/// has the bound as its value, and a point of the set exactly where the bound is attained.
 pub fn generator_is_witness()
     ensures { GeneratorIsWitness }
 {}

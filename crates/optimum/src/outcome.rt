@@ -1,7 +1,7 @@
 //! Answers of questions.
 
 /// How the points of a set lie to a constraint.
-#[derive(Clone, Copy, Debug, PartialEq, Eq)]
+#[derive(Clone, Copy)]
 pub struct Relation {
     /// No point satisfies the constraint.
     pub disjoint: bool,
@@ -14,7 +14,7 @@ pub struct Relation {
 }
 
 /// The least upper or the greatest lower bound of an expression on a set.
-#[derive(Clone, Copy, Debug, PartialEq, Eq)]
+#[derive(Clone, Copy)]
 pub enum Sup {
     /// There is no point.
     Empty,
@@ -28,7 +28,8 @@ pub enum Sup {
         den: i128,
         /// Whether some point has this value.
         attained: bool,
-        /// The generator that shows it: the first point, or else the first closure point, that has this value.
+        /// The generator that shows it: the first point, or else the first closure point,
+        /// that has this value.
         index: usize,
     },
 }

@@ -17,8 +17,8 @@ fn left_shown(alloc: Global, row: RowBuf, gens: &GensSys, pair: PairOver) -> Res
     }
 }
 
-/// The overflow of a pair that a search for a bound of the row, or a relation of it, comes to: the row and a generator,
-/// or two generators.
+/// The overflow of a pair that a search for a bound of the row, or a relation of it, comes to: the
+/// row and a generator, or two generators.
 pub fn shown(alloc: Global, row: RowBuf, gens: &GensSys, pair: PairOver) -> Result<Overflow, Memory>
     requires left { pair.kind ≡ OverKind.Compare → pair.left < length gens.now.list }
     requires right { pair.right < length gens.now.list }

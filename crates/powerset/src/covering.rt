@@ -14,7 +14,7 @@ use std::alloc::Global;
 use std::sync::ledger::Ledger;
 
 /// Whether a powerset covers another: a point of the other that it lacks, if there is one.
-#[derive(Debug, Drop)]
+#[derive(Drop)]
 pub enum Cover {
     /// Each point of the other powerset is in it.
     Yes,
@@ -60,14 +60,16 @@ fn some_uncovered<L: Ledger>(
 
 /// Whether each point of t is in s.
 ///
-/// Each member of t is parted by the inequalities of the members of s that it meets, and a part that is outside of all
-/// members of s has a point that isn't covered. Where a number leaves the range, it is parted again by all members of s in
-/// their order, so that each list that is converted is that of a branch.
+/// Each member of t is parted by the inequalities of the members of s that it meets, and a part
+/// that is outside of all members of s has a point that isn't covered. Where a number leaves the
+/// range, it is parted again by all members of s in their order, so that each list that is
+/// converted is that of a branch.
 ///
 /// # Errors
 ///
-/// An overflow is one of the conversion of the encoded list of the constraints of a branch: those of a member of t, and
-/// then, for each of the first members of s, some of its inequalities and the complement of the next.
+/// An overflow is one of the conversion of the encoded list of the constraints of a branch: those
+/// of a member of t, and then, for each of the first members of s, some of its inequalities and the
+/// complement of the next.
 pub fn covers<L: Ledger>(
     alloc: Global,
     s: &Powerset,

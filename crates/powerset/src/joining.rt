@@ -32,12 +32,14 @@ fn append_copies(all: &mut Vec<Poly>, members: &[Poly]) -> Result<(), Memory>
     Ok(())
 }
 
-/// The union of both: the members of s and then those of t, without those that are empty or that another one includes.
+/// The union of both: the members of s and then those of t, without those that are empty or that
+/// another one includes.
 ///
 /// # Errors
 ///
-/// A constraint and a generator of two of these members whose dot leaves the range: the first to which the tests
-/// come. The members are asked in order, and each is compared with the others in order.
+/// A constraint and a generator of two of these members whose dot leaves the range: the
+/// first to which the tests come. The members are asked in order, and each is compared with
+/// the others in order.
 pub fn join(alloc: Global, s: &Powerset, t: &Powerset) -> Result<Powerset, ConvErr>
     requires topology { s.now.topology ≡ t.now.topology }
     requires dim { s.now.dim ≡ t.now.dim }
@@ -73,7 +75,8 @@ fn append_meets<L: Ledger>(
     Ok(())
 }
 
-/// The meets of each polyhedron of the first list with each of the second, in the order of the first list first.
+/// The meets of each polyhedron of the first list with each of the second, in the order of the
+/// first list first.
 fn all_meets<L: Ledger>(
     alloc: Global,
     first: &[Poly],
@@ -91,8 +94,8 @@ fn all_meets<L: Ledger>(
     Ok(meets)
 }
 
-/// The points that are in both: the meets of each member of s with each of t, without those that are empty or that
-/// another one includes.
+/// The points that are in both: the meets of each member of s with each of t, without those that
+/// are empty or that another one includes.
 ///
 /// # Errors
 ///

@@ -1,7 +1,8 @@
 //! Laws of powersets, of their covers, and of what joins and meets are.
 ghost use Rattle.powerset.specs.PowersetLaws.{CoveredBothWays, CoversWhereIncluded, ReductionKeepsPoints, ReductionIsIrredundant, JoinIsUnion, PairMeetIsIntersection};
 
-/// Two powersets that cover each other have the same points, and those of the same points cover each other.
+/// Two powersets that cover each other have the same points, and those of the same points
+/// cover each other.
 pub fn covered_both_ways()
     ensures { CoveredBothWays }
 {}

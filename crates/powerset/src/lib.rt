@@ -1,8 +1,8 @@
 //! Powersets: finite unions of polyhedra.
 //!
 //! - [`Powerset`] keeps polyhedra of one topology and dimension.
-//! - [`join`] and [`pmeet`] have the points of two powersets, and their common points, without members that others
-//!   include.
+//! - [`join`] and [`pmeet`] have the points of two powersets, and their common points, without
+//!   members that others include.
 //! - [`covers`] says whether each point of one powerset is in another, or shows a point that isn't.
 //!
 //! [`laws`] says what these mean in words of points.

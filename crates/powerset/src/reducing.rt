@@ -138,7 +138,8 @@ fn marked_alone(members: Vec<Poly>, keep: &[bool]) -> Vec<Poly>
 ///
 /// # Errors
 ///
-/// A constraint and a generator of two members whose dot leaves the range: the first to which the tests come.
+/// A constraint and a generator of two members whose dot leaves the range: the first to
+/// which the tests come.
 pub(crate) fn reduced(alloc: Global, members: Vec<Poly>) -> Result<Vec<Poly>, ConvErr>
     requires { HaveOneDimension members.items }
     ensures reduced { IfOk result (λ part. IsReduced members.items part.items) }

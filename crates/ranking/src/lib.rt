@@ -1,7 +1,7 @@
 //! Affine ranking functions of relations.
 //!
-//! - [`ranking_set`] gives all affine functions that are at least 0 at the state of each pair of a relation and fall
-//!   by at least 1 to its successor, as a polyhedron of their coefficients.
+//! - [`ranking_set`] gives all affine functions that are at least 0 at the state of each pair of a
+//!   relation and fall by at least 1 to its successor, as a polyhedron of their coefficients.
 //! - [`print_ranking`] gives the printed form of one of them, or `none`.
 //!
 //! [`laws`] says what is printed.

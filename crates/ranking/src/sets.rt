@@ -11,14 +11,16 @@ use row_core::{ConvErr, Steps};
 use std::alloc::Global;
 use std::sync::ledger::Ledger;
 
-/// The affine functions of the states that rank a relation: at each pair of a state and its successor they are at
-/// least 0 at the state, and at least 1 less at the successor. The variables of the relation are those of the state
-/// and then those of the successor; a function is the point of its coefficients and then its constant.
+/// The affine functions of the states that rank a relation: at each pair of a state and its
+/// successor they are at least 0 at the state, and at least 1 less at the successor. The variables
+/// of the relation are those of the state and then those of the successor; a function is the point
+/// of its coefficients and then its constant.
 ///
 /// # Errors
 ///
-/// An overflow shows a generator of the relation twice and the first variable in which the state less the successor
-/// leaves the range, or is one of the conversion of the list of the generators' constraints, or of its second list.
+/// An overflow shows a generator of the relation twice and the first variable in which the state
+/// less the successor leaves the range, or is one of the conversion of the list of the generators'
+/// constraints, or of its second list.
 pub fn ranking_set<L: Ledger>(
     alloc: Global,
     relation: &Poly,

@@ -17,9 +17,9 @@ use std::marker::Model;
 /// The largest number of locations of a system.
 pub const MAX_LOCATIONS: usize = 100;
 
-/// A transition system: locations with their initial states, and transitions between them. All sets are
-/// closed polyhedra.
-#[derive(Debug, Drop)]
+/// A transition system: locations with their initial states, and transitions between them. All sets
+/// are closed polyhedra.
+#[derive(Drop)]
 pub struct System {
     alloc: Global,
     dim: usize,
@@ -32,9 +32,11 @@ impl Model for System {
 
     ghost Value = { TransitionSystem };
 
-    ghost view = { λ s. record { dim = s.dim; initial = s.initial.items; transitions = s.transitions.items } };
+    ghost view = { λ s.
+        record { dim = s.dim; initial = s.initial.items; transitions = s.transitions.items } };
 
-    ghost invariant = { λ s. IsKeptSystem (record { dim = s.dim; initial = s.initial.items; transitions = s.transitions.items }) };
+    ghost invariant = { λ s. IsKeptSystem
+        (record { dim = s.dim; initial = s.initial.items; transitions = s.transitions.items }) };
 }
 
 /// Copies of polyhedra.
@@ -112,7 +114,8 @@ impl System {
         self.initial[location] = p;
     }
 
-    /// Appends a transition. After want of memory the system is as before, and the relation is dropped.
+    /// Appends a transition. After want of memory the system is as before, and the
+    /// relation is dropped.
     pub fn push_trans(&mut self, from: usize, to: usize, relation: Poly) -> Result<(), Memory>
         requires source { from < length self.old.initial }
         requires target { to < length self.old.initial }

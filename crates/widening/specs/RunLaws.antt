@@ -22,7 +22,9 @@ pub record IsAbove (dim : ℕ) (old joined : Polyhedron) : Type 0 where
 -- each turn has one of the places, and joins a closed set that includes that of its place
 pub record AreProper (turns : TurnList) : Type 0 where
   pub place : (k : ℕ) → k < turns.count → turns.place k < turns.places
-  pub above : (k : ℕ) (sets : List Polyhedron) (old joined : Polyhedron) → k < turns.count → AreSetsOf turns.dim turns.places sets → slice_get sets (turns.place k) ≡ Some old → turns.Joins k sets joined → IsAbove turns.dim old joined
+  pub above : (k : ℕ) (sets : List Polyhedron) (old joined : Polyhedron) → k < turns.count
+      → AreSetsOf turns.dim turns.places sets → slice_get sets (turns.place k) ≡ Some old
+      → turns.Joins k sets joined → IsAbove turns.dim old joined
 
 -- ---- what a turn finds
 -- a larger set is joined
@@ -38,7 +40,8 @@ IsFound Joins old (Some joined) = IsLarger Joins old joined
 -- ---- what a limit includes
 -- the set of each place includes the one that it began with
 abbrev pub IncludeEach : List Polyhedron → List Polyhedron → Type 0
-IncludeEach initial sets = (i : ℕ) (p q : Polyhedron) → slice_get initial i ≡ Some p → slice_get sets i ≡ Some q → IsIncluded p q
+IncludeEach initial sets = (i : ℕ) (p q : Polyhedron) → slice_get initial i ≡ Some p
+    → slice_get sets i ≡ Some q → IsIncluded p q
 
 -- what the turn joins is in the set of its place
 pub record IsTaken (turns : TurnList) (k : ℕ) (sets : List Polyhedron) : Type 0 where
@@ -54,4 +57,6 @@ AreTaken turns sets = (k : ℕ) → k < turns.count → IsTaken turns k sets
 -- ---- one limit
 -- each turn joins one set where these are the sets
 abbrev pub JoinOne : TurnList → Type 0
-JoinOne turns = (k : ℕ) (sets : List Polyhedron) (one other : Polyhedron) → k < turns.count → AreSetsOf turns.dim turns.places sets → turns.Joins k sets one → turns.Joins k sets other → one ≡ other
+JoinOne turns = (k : ℕ) (sets : List Polyhedron) (one other : Polyhedron) → k < turns.count
+    → AreSetsOf turns.dim turns.places sets → turns.Joins k sets one → turns.Joins k sets other
+    → one ≡ other

@@ -4,7 +4,8 @@ use Rattle.poly_pair.specs.Polyhedra.{Polyhedron, HaveSamePoints}
 use Rattle.widening.specs.Overflows.{LeavesOnWidening}
 use Rattle.widening.specs.Runs.{RunTable, TurnList, IsRound, AreRounds, start}
 
--- no delay remains at the place of the turn, and the widening of its set by the joined one, which isn't the same, leaves the range
+-- no delay remains at the place of the turn, and the widening of its set by the joined one, which
+-- isn't the same, leaves the range
 pub record LeavesOnUpdate (turns : TurnList) (k : ℕ) (t : RunTable) (over : Overflow) : Type 0 where
   pub old : Polyhedron
   pub has_old : slice_get t.sets (turns.place k) ≡ Some old
@@ -27,7 +28,8 @@ pub record LeavesInRound (turns : TurnList) (t : RunTable) (over : Overflow) : T
   pub leaves : LeavesInTurn turns index between over
 
 -- an overflow of a turn of some round of the run
-pub record LeavesInRun (turns : TurnList) (initial : List Polyhedron) (delay : ℕ) (over : Overflow) : Type 0 where
+pub record LeavesInRun (turns : TurnList) (initial : List Polyhedron) (delay : ℕ)
+    (over : Overflow) : Type 0 where
   pub before : RunTable
   pub rounds : AreRounds turns (start initial delay) before
   pub leaves : LeavesInRound turns before over

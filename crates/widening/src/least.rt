@@ -10,7 +10,8 @@ use gens_sys::{GenKind, GensSys};
 use row_core::ConvErr;
 use std::alloc::Global;
 
-/// Whether a generator of this kind may have the value, or its negative for the other side, on a valid row.
+/// Whether a generator of this kind may have the value, or its negative for the other
+/// side, on a valid row.
 fn fits(kind: GenKind, value: i128, other: bool) -> bool
     ensures { IsTrue result ↔ Fits kind (signed value other) }
 {
@@ -22,8 +23,8 @@ fn fits(kind: GenKind, value: i128, other: bool) -> bool
     }
 }
 
-/// Whether a row, or its negative for the other side, is 0 on lines and at least 0 on the other generators. They are
-/// tested in order, up to the first that refuses.
+/// Whether a row, or its negative for the other side, is 0 on lines and at least 0 on the other
+/// generators. They are tested in order, up to the first that refuses.
 ///
 /// # Errors
 ///

@@ -40,13 +40,15 @@ fn round<T: Turns, L: Ledger>(
 
 /// The limit of the rounds of the turns, one set for each place.
 ///
-/// The run starts with the given sets. A round takes each turn in order. Where what it joins to the set of its
-/// place has more points, this replaces the set, at most `delay` times for each place, and later its widening
-/// does. The limit is the table that a whole round leaves as it is. Each run comes to it.
+/// The run starts with the given sets. A round takes each turn in order. Where what it joins to
+/// the set of its place has more points, this replaces the set, at most `delay` times for each
+/// place, and later its widening does. The limit is the table that a whole round leaves as it is.
+/// Each run comes to it.
 ///
 /// # Errors
 ///
-/// An overflow is one of a turn that the run comes to: of finding what it joins, or of its widening.
+/// An overflow is one of a turn that the run comes to: of finding what it joins, or of
+/// its widening.
 pub fn run<T: Turns, L: Ledger>(
     alloc: Global,
     turns: &T,
