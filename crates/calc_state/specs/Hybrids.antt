@@ -24,7 +24,7 @@ abbrev pub hybrid : Bool → TransitionSystem → Meaning HybridAutomaton
 hybrid full s = record { conditions = room full; overflows = no_overflow; does = IsStill s }
 
 -- ---- running
--- the parts of the limit in the invariants, which include the initial states there, what time makes of their own and all successors
+-- the parts of the limit in the invariants: initial states, flow and successors stay in them
 pub record AreReachedParts (h : HybridAutomaton) (delay : ℕ) (sets : List Polyhedron) : Type 0 where
   pub reached : AreReached h delay sets
   pub initial : IncludeInitial h sets

@@ -31,7 +31,7 @@ pub record IsRankingLine (functions : Polyhedron) (lines : List ℕ) : Type 0 wh
   pub told : IsRankingText functions text
   pub said : lines ≡ line text
 
--- one of the ranking functions is said, or that there is none: the polyhedron of the functions keeps what each polyhedron keeps, so that the relation decides what is said
+-- one of the ranking functions is said, or that there is none, as their proper polyhedron tells
 pub record IsRankingTold (r : Polyhedron) (lines : List ℕ) : Type 0 where
   pub functions : Polyhedron
   pub is : IsRankingSet (r.cons.dim / 2) r functions

@@ -6,7 +6,7 @@ use Rattle.calc_state.specs.State.{State}
 use Rattle.line_values.specs.Replies.{Reply, Refused, is_answer}
 use Rattle.calc_state.specs.Line.{Step, MustSucceed}
 
--- the calculator may give these replies to these lines, one step after another, and go from the old state to the new
+-- the calculator may give these replies to these lines, and go from the old state to the new
 abbrev pub Run : State → List (List ℕ) → List Reply → State → Type 0
 Run old [] [] new = new ≡ old
 Run old (line ∷ lines) (reply ∷ replies) new =

@@ -1,4 +1,4 @@
--- What the commands mean that make bounded-difference shapes, and those that combine, ask and print them.
+-- What the commands mean that make, combine, ask and print bounded-difference shapes.
 use Rattle.std.specs.Prelude.{◌≡◌, ◌≢◌, ◌↔◌, ℕ, Bool, true, false, List, ℤ, None, IfSome}
 use Rattle.row_core.specs.Points.{IsPoint}
 use Rattle.row_core.specs.declared.errors.Overflow.{Overflow}
@@ -33,7 +33,7 @@ abbrev pub closed : Polyhedron → Conditions → Conditions
 closed p others fault.NotClosed = p.topology ≢ Closed
 closed p others other = others other
 
--- the smallest shape that includes the set: each bound is the supremum of a difference, and all of these are found
+-- the smallest shape that includes the set: its bounds are all the suprema of differences
 pub record IsShapeOfSet (p : Polyhedron) (s : DifferenceShape) : Type 0 where
   pub dim : s.dim ≡ p.cons.dim
   pub empty : (s.bounds ≡ None) ↔ HasNoPoint p

@@ -48,7 +48,7 @@ Means m old (Overflows over) new = Passes m.conditions × m.overflows over × (n
 abbrev pub Performs : Table → Command → Reply → Table → Type 0
 Performs old command reply new = Means (meaning old command) old reply new
 
--- what was given is such a reply with such a table after it, or memory ran out and the table is as before
+-- what was given is such a reply with such a table, or memory ran out and the table is as before
 abbrev pub IsDone : Meaning Change → Table → Result (List ℕ) StepErr → Table → Type 0
 IsDone m old (Ok lines) new = Means m old (Answered lines) new
 IsDone m old (Err (err.Input fault)) new = Means m old (Refused fault) new
@@ -89,7 +89,7 @@ HaveSameFault (Answered lines) (Refused g) = ⊥
 HaveSameFault (Overflows over) (Refused g) = ⊥
 HaveSameFault reply other = Unit {0}
 
--- what another calculator may reply to the same line in the same table: the same fault, or no fault; memory may run out
+-- what another calculator may reply there: the same fault, or no fault; memory may run out
 abbrev pub Agrees : Result (List ℕ) StepErr → Reply → Type 0
 Agrees (Ok lines) reply = HaveSameFault (Answered lines) reply
 Agrees (Err (err.Input f)) reply = HaveSameFault (Refused f) reply

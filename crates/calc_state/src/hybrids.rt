@@ -32,7 +32,8 @@ pub fn hybrid(alloc: Global, s: Option<&System>, full: bool) -> Result<Hybrid, S
     Ok(made)
 }
 
-/// The states of each location that the automaton may come to, where there is room for their numbered names.
+/// The states of each location that the automaton may come to, where there is room for their
+/// numbered names.
 pub fn reach<L: Ledger>(
     alloc: Global,
     names: &Names<Entry>,

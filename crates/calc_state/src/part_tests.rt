@@ -1,4 +1,5 @@
-//! The commands that change a part of a transition system or of a hybrid automaton: whether they may.
+//! The commands that change a part of a transition system or of a hybrid automaton: whether they
+//! may.
 ghost use Rattle.std.specs.Prelude.{ℕ, List};
 ghost use Rattle.std.specs.Option.{option_copied};
 ghost use Rattle.line_values.specs.Meaning.{on_one};

@@ -15,7 +15,6 @@ use row_core::Memory;
 use trans_sys::System;
 
 /// A change of a part of an entry.
-#[derive(Debug)]
 pub enum PartChange {
     /// Of a transition system.
     System(SystemChange),
@@ -23,7 +22,8 @@ pub enum PartChange {
     Hybrid(HybridChange),
 }
 
-// Written by hand, so that a function that drops a change calls this one, and doesn't free each part itself.
+// Written by hand, so that a function that drops a change calls this one, and doesn't free each
+// part itself.
 impl Drop for PartChange {
     fn drop(self) {
         match self {
@@ -33,7 +33,7 @@ impl Drop for PartChange {
 }
 
 /// A change of a transition system.
-#[derive(Debug, Drop)]
+#[derive(Drop)]
 pub enum SystemChange {
     /// The initial states of a location are replaced.
     Initial(usize, Poly),
@@ -42,7 +42,7 @@ pub enum SystemChange {
 }
 
 /// A change of a hybrid automaton.
-#[derive(Debug, Drop)]
+#[derive(Drop)]
 pub enum HybridChange {
     /// The invariant of a location is replaced.
     Invariant(usize, Poly),
@@ -67,7 +67,8 @@ pub fn change_under(names: &mut Names<Entry>, name: &[u8], change: PartChange) -
 }
 
 impl PartChange {
-    /// Makes the change, where the entry is of the kind that it is for. After want of memory the entry is as before.
+    /// Makes the change, where the entry is of the kind that it is for. After want of memory the
+    /// entry is as before.
     pub fn apply(self, entry: &mut Entry) -> Result<(), Memory>
         requires { FitsPart entry.old self }
         ensures ok { OnOk result (entry.new ≡ changed_part entry.old self) }

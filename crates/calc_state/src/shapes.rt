@@ -41,8 +41,8 @@ pub fn shape_of_set(alloc: Global, p: Option<&Poly>, full: bool) -> Result<Shape
     }
 }
 
-/// Why a line is refused that makes no shape. A constraint that bounds no difference comes before want of room for a
-/// name, and this before an overflow.
+/// Why a line is refused that makes no shape. A constraint that bounds no difference comes before
+/// want of room for a name, and this before an overflow.
 fn refusal_of_shape(cause: ShapeErr, full: bool) -> StepErr
     ensures { result ≡ named_refusal cause full }
 {

@@ -38,7 +38,8 @@ pub fn system(alloc: Global, n: u64, locations: u64, full: bool) -> Result<Syste
     Ok(System::new(alloc, n as usize, locations as usize)?)
 }
 
-/// The set of each location in the limit of the system's rounds, where there is room for their numbered names.
+/// The set of each location in the limit of the system's rounds, where there is room for their
+/// numbered names.
 pub fn fixpoint<L: Ledger>(
     alloc: Global,
     names: &Names<Entry>,

@@ -1,4 +1,4 @@
--- The parts of a task: each has the form that the reader of its value asks for, and tells its strict relations as they are.
+-- The parts of a task: each has the form that its reader asks for, and tells its strict relations.
 use Rattle.std.specs.Prelude.{◌≡◌}
 use Rattle.grammar.specs.Form.{Matches}
 use Rattle.grammar.specs.Grammar.{alone}

@@ -1,7 +1,8 @@
-//! What each command asks of the calculator: [`task_of`] takes a command apart, into a [`Task`] whose nesting is the
-//! families of commands.
+//! What each command asks of the calculator: [`task_of`] takes a command apart, into a [`Task`]
+//! whose nesting is the families of commands.
 //!
-//! - [`TableTask`] is what is done with the table as a whole: something is asked ([`Asked`]), put ([`Made`]), added or run.
+//! - [`TableTask`] is what is done with the table as a whole: something is asked ([`Asked`]), put
+//!   ([`Made`]), added or run.
 //! - [`Maker`], [`Addition`] and [`Question`] are about polyhedra alone.
 //! - [`PartTask`] changes a part of an entry.
 #![tactic(auto)]

@@ -3,7 +3,7 @@ use reply_text::Text;
 use script_text::{Comparison, Extension, Extremum, Mapping, Operator, Part, Rel, Space, VarList};
 
 /// What makes a polyhedron.
-#[derive(Debug, Drop)]
+#[derive(Drop)]
 pub enum Maker {
     /// Words and a part alone, in a topology (`top` is whether it is NNC) and so many variables.
     Given { top: bool, n: u64, by: Given },
@@ -14,7 +14,7 @@ pub enum Maker {
 }
 
 /// What words and a part make alone.
-#[derive(Debug, Drop)]
+#[derive(Drop)]
 pub enum Given {
     /// `cons`: the points at which constraints hold.
     Cons(Part),
@@ -25,7 +25,7 @@ pub enum Given {
 }
 
 /// What is made of one polyhedron.
-#[derive(Debug, Drop)]
+#[derive(Drop)]
 pub enum OfOne {
     /// `copy`
     Copy,
@@ -48,7 +48,7 @@ pub enum OfOne {
 }
 
 /// What is made of two polyhedra.
-#[derive(Clone, Copy, Debug, Drop, PartialEq, Eq)]
+#[derive(Drop)]
 pub enum OfTwo {
     /// `meet`, `hull`, `concat`, `elapse`
     Operate(Operator),
@@ -57,7 +57,7 @@ pub enum OfTwo {
 }
 
 /// What is added to a polyhedron under its name.
-#[derive(Debug, Drop)]
+#[derive(Drop)]
 pub enum Addition {
     /// `add`: constraints.
     Cons(Part),
@@ -66,7 +66,7 @@ pub enum Addition {
 }
 
 /// What is asked.
-#[derive(Debug, Drop)]
+#[derive(Drop)]
 pub enum Question {
     /// About one polyhedron.
     OfOne { p: Text, about: About },
@@ -77,7 +77,7 @@ pub enum Question {
 }
 
 /// What is asked about one polyhedron.
-#[derive(Debug, Drop)]
+#[derive(Drop)]
 pub enum About {
     /// `has`
     Has(Part),

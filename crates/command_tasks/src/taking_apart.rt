@@ -48,7 +48,8 @@ pub fn task_of(command: Command) -> Task
     }
 }
 
-/// The same of a command on systems, powersets, shapes, automata or ranking functions; no other asks anything.
+/// The same of a command on systems, powersets, shapes, automata or ranking functions; no other
+/// asks anything.
 fn further_task(command: Command) -> Task
     ensures { result ≡ further_task command }
 {

@@ -1,10 +1,11 @@
-//! What a command asks of the calculator. Its nesting is the commands' families, so that each match is total.
+//! What a command asks of the calculator. Its nesting is the commands' families, so that each match
+//! is total.
 use crate::on_polyhedra::{Addition, Maker, Question};
 use reply_text::Text;
 use script_text::{LocationPart, Part, PowersetOperator, ShapeOperator};
 
 /// What a command asks of the calculator.
-#[derive(Debug, Drop)]
+#[derive(Drop)]
 pub enum Task {
     /// A file is opened for the name, of generators or not.
     Opens(Text, bool),
@@ -15,7 +16,7 @@ pub enum Task {
 }
 
 /// What is done with the table as a whole.
-#[derive(Debug, Drop)]
+#[derive(Drop)]
 pub enum TableTask {
     /// Nothing.
     Nothing,
@@ -32,7 +33,7 @@ pub enum TableTask {
 }
 
 /// What is asked.
-#[derive(Debug, Drop)]
+#[derive(Drop)]
 pub enum Asked {
     /// Of polyhedra, or of the names.
     OfPolyhedra(Question),
@@ -49,7 +50,7 @@ pub enum Asked {
 }
 
 /// What is made.
-#[derive(Debug, Drop)]
+#[derive(Drop)]
 pub enum Made {
     /// A polyhedron.
     Poly(PolyMaker),
@@ -64,7 +65,7 @@ pub enum Made {
 }
 
 /// What makes a polyhedron.
-#[derive(Debug, Drop)]
+#[derive(Drop)]
 pub enum PolyMaker {
     /// Polyhedra alone, or words.
     OfPolyhedra(Maker),
@@ -77,7 +78,7 @@ pub enum PolyMaker {
 }
 
 /// What makes a powerset.
-#[derive(Debug, Drop)]
+#[derive(Drop)]
 pub enum PowersetMaker {
     /// `pset`
     OfPoly(Text),
@@ -86,7 +87,7 @@ pub enum PowersetMaker {
 }
 
 /// What makes a bounded-difference shape.
-#[derive(Debug, Drop)]
+#[derive(Drop)]
 pub enum ShapeMaker {
     /// `shape`
     OfPoly(Text),
@@ -97,7 +98,7 @@ pub enum ShapeMaker {
 }
 
 /// What is run, with its delay.
-#[derive(Debug, Drop)]
+#[derive(Drop)]
 pub enum Running {
     /// `fixpoint`
     System(Text, u64),
@@ -106,7 +107,7 @@ pub enum Running {
 }
 
 /// Which part is changed.
-#[derive(Debug, Drop)]
+#[derive(Drop)]
 pub enum PartTask {
     /// `init`: of the location, by a polyhedron.
     Initial(u64, Text),

@@ -19,13 +19,13 @@ linearity_behind bytes f = (f ≡ fault.LinearityAfterEnd) × HasLinearityAfter 
 abbrev pub conversion_tests : Format → List ℕ → List Test
 conversion_tests want bytes = tests want bytes ++ linearity_behind bytes ∷ []
 
--- the closed polyhedron of the file's points, by the two systems that are stored of them; both hold the same points
+-- the closed polyhedron of the file's points, by the two systems that are stored of them
 pub record IsPolyhedronOf (want : Format) (bytes : List ℕ) (p : Polyhedron) : Type 0 where
   pub set : IsOfFile want bytes p
   pub kept : IsKept p
   pub pair : IsPair p.cons p.gens
 
--- the text is the file of the polyhedron's other system, which fits its dimension, and so a file of the same points
+-- the text is the file of the polyhedron's other system, and so a file of the same points
 pub record IsOtherFile (want : Format) (bytes text : List ℕ) : Type 0 where
   pub polyhedron : Polyhedron
   pub of_file : IsPolyhedronOf want bytes polyhedron

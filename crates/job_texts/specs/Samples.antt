@@ -21,7 +21,7 @@ use Rattle.line_values.specs.declared.refusal.StepErr.{StepErr}
 abbrev pub difference : List ℤ
 difference = negsuc 0 ∷ pos 1 ∷ pos 0 ∷ pos 0 ∷ []
 
--- the closed polyhedron of the sample's points, by the two systems that are stored of them; both hold the same points
+-- the closed polyhedron of the sample's points, by the two systems that are stored of them
 pub record IsOfSample (n : ℕ) (p : Polyhedron) : Type 0 where
   pub system : Constraints
   pub sample : IsSample n system

@@ -14,8 +14,8 @@ use std::sync::ledger::Ledger;
 ///
 /// # Errors
 ///
-/// `Input` exactly where this is the first test of the file that fails; `Overflow` shows a number outside the range in
-/// the conversion of its list.
+/// `Input` exactly where this is the first test of the file that fails; `Overflow` shows a number
+/// outside the range in the conversion of its list.
 pub fn converted<L: Ledger>(
     alloc: Global,
     want: Format,

@@ -16,11 +16,13 @@ use std::sync::ledger::Ledger;
 /// The expression `B - A`, whose maximum is asked for.
 const DIFFERENCE: [i128; 4] = [-1, 1, 0, 0];
 
-/// The line of the sample of `n` rows: how many constraints and generators are stored of it, and the maximum of `B - A`.
+/// The line of the sample of `n` rows: how many constraints and generators are stored of it, and
+/// the maximum of `B - A`.
 ///
 /// # Errors
 ///
-/// `Overflow` shows a number outside the range, in the conversion of the rows or in the search for the maximum.
+/// `Overflow` shows a number outside the range, in the conversion of the rows or in the search for
+/// the maximum.
 pub fn sampled<L: Ledger>(alloc: Global, n: u32, steps: &mut Steps<L>) -> Result<Text, StepErr>
     ensures { GivesSample n result }
 {

@@ -5,7 +5,7 @@ use Rattle.reply_text.specs.declared.faults.Fault.TheVariants as fault
 use Rattle.poly_pair.specs.Polyhedra.{Polyhedron}
 use Rattle.line_values.specs.Order.{Conditions}
 
--- what a command asks and answers: when each fault holds, which overflows it may show, and which answers are right
+-- what a command asks and answers: its faults, the overflows that it may show, the right answers
 pub record Meaning (A : Type 0) : Type 1 where
   pub conditions : Conditions
   pub overflows : Overflow → Type 0

@@ -6,7 +6,7 @@ use Rattle.stored_systems.specs.WorkLists.{LeavesOn}
 use Rattle.poly_pair.specs.TopologyLists.{list_width, constraints_of, generators_of}
 use Rattle.poly_pair.specs.declared.topology.Topology.{Topology}
 
--- the overflow shows a number outside the range in the conversion of the topology's constraint list, or of its second list
+-- the overflow is one of the conversion of the topology's constraint list, or of its second list
 abbrev pub LeavesOnConstraints : Topology → Constraints → Overflow → Type 0
 LeavesOnConstraints topology cs over =
     LeavesOn (list_width topology cs.dim) cs.dim (constraints_of topology cs) over

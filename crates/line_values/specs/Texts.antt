@@ -75,7 +75,7 @@ IsStrictFor Closed rel.Gt = Unit {0}
 IsStrictFor Closed rel.Lt = Unit {0}
 IsStrictFor topology rel = ⊥
 
--- of a variable of a set, a relation, and the text of the expression with a divisor to which the variable stands so
+-- of a variable of a set, a relation, and the text of the fraction to which the variable stands so
 abbrev pub fraction_fault : Topology → ℕ → ℕ → Rel → Part → Conditions
 fraction_fault topology dim v rel part fault.OutOfRange =
     (dim ≤ v) ⊎ IsFracFault dim part.text value.OutOfRange
@@ -109,7 +109,7 @@ IsTextRefusal text (err.Input fault) = IsFirstOf text_order text fault
 IsTextRefusal text (err.Overflow over) = ⊥
 IsTextRefusal text err.Memory = Unit {0}
 
--- the refusal of generators that were not read: a closure point that is refused comes before a zero vector
+-- the refusal of generators that were not read: a refused closure point precedes a zero vector
 abbrev pub refusal_of_unread : ReadErr → Bool → StepErr
 refusal_of_unread (unread.Input fault.ZeroVector) true = err.Input fault.StrictInClosed
 refusal_of_unread cause strict = refusal_of_reading cause
@@ -146,7 +146,7 @@ pub record ReadsExpression (dim : ℕ) (part : Part) (row : List ℤ) : Type 0 w
   pub read : IsExpr dim part.text row
   pub wide : length row ≡ dim + 1
 
--- the variable is below the dimension, and the text has no fault and says this expression with this divisor
+-- the variable is below the dimension, and the text, without a fault, says this fraction
 pub record ReadsFraction (topology : Topology) (dim v : ℕ) (rel : Rel) (part : Part) (expr : List ℤ)
     (divisor : ℤ) : Type 0 where
   pub faultless : NoneOf text_order (fraction_fault topology dim v rel part)

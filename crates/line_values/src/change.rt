@@ -13,7 +13,7 @@ use row_core::Memory;
 use std::alloc::Global;
 
 /// What an accepted command does to a table of names.
-#[derive(Debug, Drop)]
+#[derive(Drop)]
 pub enum Change<E> {
     /// The table stays; these lines are the reply.
     Says(Text),
@@ -81,8 +81,8 @@ pub fn put_entry<E: PolyEntry>(
     Ok(reply)
 }
 
-/// Puts the polyhedra in order, each under the name of the prefix and its number. After want of memory the table is as
-/// before.
+/// Puts the polyhedra in order, each under the name of the prefix and its number. After want of
+/// memory the table is as before.
 fn put_sets<E: PolyEntry>(
     alloc: Global,
     names: &mut Names<E>,

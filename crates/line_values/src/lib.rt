@@ -1,9 +1,11 @@
-//! Why a line is refused, what the parts of a line say, and what a command says or does to the table of names.
+//! Why a line is refused, what the parts of a line say, and what a command says or does to the
+//! table of names.
 //!
 //! - [`StepErr`] says why a line was not accepted.
 //! - [`constraints_of`], [`generators_of`], [`point_of`], [`constraint_of`], [`expression_of`] and
 //!   [`fraction_of`] read the part of a line, or give its first fault.
-//! - [`Change`] is what an accepted command does, over entries of which some are polyhedra ([`PolyEntry`]).
+//! - [`Change`] is what an accepted command does, over entries of which some are polyhedra
+//!   ([`PolyEntry`]).
 //! - [`poly_at`] looks a polyhedron up, and [`is_full`] tells whether there is no room for a name.
 //! - [`answer`] and [`no_with_point`] are lines that answer a question.
 #![tactic(auto)]

@@ -136,7 +136,8 @@ fn is_strict_for(topology: Topology, rel: Rel) -> bool
     }
 }
 
-/// The expression and the divisor that the part says, for a variable of the set that stands so to them.
+/// The expression and the divisor that the part says, for a variable of the set that stands so to
+/// them.
 pub fn fraction_of(alloc: Global, p: &Poly, v: u64, rel: Rel, part: &Part) -> Result<Frac, StepErr>
     requires form { Matches (alone frac_cases) part.now.text }
     ensures { MatchResult result

@@ -9,14 +9,13 @@ use Rattle.line_values.specs.declared.refusal.StepErr.TheVariants as err
 use Rattle.line_values.specs.Operands.{format_of}
 use Rattle.line_values.specs.Proper.{IsProper}
 
--- a file that is being read: the name of its polyhedron, whether it is one of generators, and its lines so far, each with
--- the line end CR LF, so that no byte of a line is taken for a part of its line end
+-- a file that is being read: its polyhedron's name, whether it has generators, its lines with CR LF
 pub record OpenFile : Type 0 where
   pub name : List ℕ
   pub ext : Bool
   pub text : List ℕ
 
--- with one line more; of a line over the limit the first 65,536 bytes are kept, which tell that it is too long
+-- with one line more; of one over the limit 65,536 bytes are kept, which tell that it is too long
 abbrev pub with_line : OpenFile → List ℕ → OpenFile
 with_line file line =
     record { name = file.name; ext = file.ext; text = file.text ++ take 65536 line ++ 13 ∷ 10 ∷ [] }

@@ -27,7 +27,8 @@ pub struct OpenFile {
     pub text: Vec<u8>,
 }
 
-// Written by hand, so that a function that drops a file calls this one, and doesn't free each part itself.
+// Written by hand, so that a function that drops a file calls this one, and doesn't free each part
+// itself.
 impl Drop for OpenFile {
     fn drop(self) {
         let OpenFile {

@@ -1,3 +1,4 @@
+mod FoundOperands
 mod FractionLemmas
 mod LatticeLemmas
 mod MakerLemmas

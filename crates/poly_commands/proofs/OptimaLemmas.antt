@@ -12,7 +12,6 @@ use Rattle.optimum.specs.Relations.{RelationAnswer}
 use Rattle.optimum.specs.Suprema.{SupAnswer, IsTrueSup}
 use Rattle.optimum.specs.declared.outcome.Relation.{Relation}
 use Rattle.optimum.specs.declared.outcome.Sup.{Sup}
-use Rattle.optimum.specs.declared.outcome.Sup.TheVariants as sup
 use Rattle.script_text.specs.declared.command.Part.{Part}
 use Rattle.line_values.specs.declared.refusal.StepErr.{StepErr}
 use Rattle.line_values.specs.declared.refusal.StepErr.TheVariants as err

@@ -6,7 +6,6 @@ use Rattle.cons_sys.specs.Testing.{Answers}
 use Rattle.poly_pair.specs.Polyhedra.{Polyhedron}
 use Rattle.script_text.specs.declared.command.Part.{Part}
 use Rattle.line_values.specs.declared.refusal.StepErr.{StepErr}
-use Rattle.line_values.specs.declared.refusal.StepErr.TheVariants as err
 use Rattle.line_values.specs.Order.{NoneOf, Passes}
 use Rattle.line_values.specs.Texts.{point_fault, IsTextRefusal, ReadsPoint}
 use Rattle.line_values.specs.Meaning.{answer_line}

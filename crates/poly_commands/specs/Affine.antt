@@ -43,7 +43,7 @@ remove full vars p = record {
 }
 
 -- ---- maps
--- the variable is below the dimension, and the text says an expression with a divisor, which have this property
+-- the variable is below the dimension, and the text says a fraction that has this property
 pub record SaysReplacement (dim v : ℕ) (part : Part) (P : List ℤ → ℤ → Type 0) : Type 0 where
   pub expr : List ℤ
   pub divisor : ℤ

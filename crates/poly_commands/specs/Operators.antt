@@ -71,7 +71,7 @@ IsStoredBy Elapse p q = AreStoredOfElapse p q
 abbrev pub IsMadeBy : Operator → Polyhedron → Polyhedron → Polyhedron → Type 0
 IsMadeBy op p q = IsResult (IsSetBy op p q) (IsStoredBy op p q)
 
--- the overflow shows a number outside the range in the conversion of the operator's list, or of its second list
+-- the overflow is one of the conversion of the operator's list, or of its second list
 abbrev pub LeavesBy : Operator → Polyhedron → Polyhedron → Overflow → Type 0
 LeavesBy Meet p q = LeavesOn (list_width p.topology p.cons.dim) p.cons.dim (meet_list p q)
 LeavesBy Hull p q =
@@ -89,7 +89,7 @@ operated op full p q = record {
 }
 
 -- ---- further variables
--- the points that are in the polyhedron without their last n variables, or its points with n more that are 0
+-- the points that are in it without their last n variables, or its points with n more that are 0
 abbrev pub IsExtensionBy : Extension → ℕ → Polyhedron → Polyhedron → Type 0
 IsExtensionBy Embed n p = IsPreimage (without p.cons.dim (p.cons.dim + n)) (p.cons.dim + n) p
 IsExtensionBy Project n p = IsProjection n p
@@ -103,7 +103,7 @@ IsStoredOfExtension Project n p = IsStoredOfMapped (with_zeros p.cons.dim n) (p.
 abbrev pub IsExtended : Extension → ℕ → Polyhedron → Polyhedron → Type 0
 IsExtended by n p = IsResult (IsExtensionBy by n p) (IsStoredOfExtension by n p)
 
--- the overflow shows a number outside the range in the conversion of that list, or of its second list
+-- the overflow is one of the conversion of that list, or of its second list
 abbrev pub LeavesInExtension : Extension → ℕ → Polyhedron → Overflow → Type 0
 LeavesInExtension Embed n p = LeavesOnPulled (with_zeros p.cons.dim n) (p.cons.dim + n) p
 LeavesInExtension Project n p = LeavesOnMapped (with_zeros p.cons.dim n) (p.cons.dim + n) p

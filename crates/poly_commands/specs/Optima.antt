@@ -1,4 +1,4 @@
--- What the commands mean that ask for a bound of an expression, or how a polyhedron lies to a constraint.
+-- What the commands mean that ask for a bound, or how a polyhedron lies to a constraint.
 use Rattle.std.specs.Prelude.{◌≡◌, ℕ, ◌<◌, List, length, [], ◌∷◌, ◌++◌, ℤ, Bool, true, false, Ok, codes}
 use Rattle.std.specs.Fmt.{signed_decimal}
 use Rattle.row_core.specs.declared.errors.Overflow.{Overflow}

@@ -34,7 +34,7 @@ shown_at cs point pair = record {
   column = pair.column;
 }
 
--- the test comes to a constraint whose value at the point can't be computed within the range, and these two rows are shown
+-- the test comes to a constraint whose value at the point leaves the range: both rows are shown
 pub record ShowsPair (cs : Constraints) (over : Overflow) (point : List ℤ) : Type 0 where
   pub pair : PairOver
   pub leaves : LeavesRange cs.list point pair

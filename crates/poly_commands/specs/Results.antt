@@ -7,7 +7,7 @@ use Rattle.poly_pair.specs.Parts.{AreStoredOfRows, AreStoredOfGenerators}
 use Rattle.poly_pair.specs.TopologyLists.{constraints_of}
 use Rattle.lattice_ops.specs.Sets.{IsClosure, closure_list}
 
--- the set of a result, and the lists of whose systems it is stored: of a set that needn't be closed only constraints and generators that they stand for
+-- what is said of a result: its set, and the lists of whose systems it is stored
 pub record IsResult (IsSet IsStored : Polyhedron → Type 0) (r : Polyhedron) : Type 0 where
   pub set : IsSet r
   pub stored : IsStored r

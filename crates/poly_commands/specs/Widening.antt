@@ -11,13 +11,13 @@ use Rattle.line_values.specs.Order.{Conditions}
 use Rattle.line_values.specs.Meaning.{Meaning, room, alike}
 use Rattle.poly_commands.specs.Lattice.{ShowsRows}
 
--- two operands, which have one topology, are closed, and the test of pairs in order doesn't come to one that shows that the first isn't included in the second
+-- two operands of one topology are closed, and the test of pairs doesn't deny that they are nested
 abbrev pub nested : Polyhedron → Polyhedron → Conditions → Conditions
 nested p q others fault.NotClosed = p.topology ≢ Closed
 nested p q others fault.NotNested = Answers q.cons.list p.gens.list false (Ok false)
 nested p q others other = alike p q others other
 
--- the test of pairs in order comes to its end, so that the first is included in the second, and this is their widening
+-- the test of pairs comes to its end, so that the first is in the second: this is their widening
 pub record IsWidened (p q r : Polyhedron) : Type 0 where
   pub tested : Answers q.cons.list p.gens.list false (Ok true)
   pub nested : IsIncluded p q

@@ -1,13 +1,11 @@
 //! The commands that map polyhedra, and those that change the dimension.
 ghost use Rattle.std.specs.Prelude.{◌≡◌, ℕ, ◌+◌, ◌<◌, length, pos, ◌<ℤ◌, All, IfOk, IfErr, MatchResult};
-ghost use Rattle.std.specs.Option.{option_copied};
 ghost use Rattle.row_core.specs.Range.{InRange};
 ghost use Rattle.row_core.specs.Refusals.{IsOverflowIn};
 ghost use Rattle.affine_maps.specs.Relations.{IsRelationFor};
 ghost use Rattle.grammar.specs.Form.{Matches};
 ghost use Rattle.grammar.specs.Grammar.{alone};
 ghost use Rattle.grammar.specs.Cases.{frac_cases};
-ghost use Rattle.line_values.specs.Meaning.{on_one};
 ghost use Rattle.poly_commands.specs.Affine.{remove as make_removed, mapped_by as make_mapped, image_rel, IsSetOfMap, IsStoredOfMap, LeavesInMap, variables_fault};
 ghost use Rattle.line_values.specs.Texts.{IsTextRefusal};
 ghost use Rattle.line_values.specs.Performed.{IsPerformed};
@@ -36,7 +34,7 @@ fn image_rel(rel: Rel) -> ImageRel
 }
 
 /// Which variable is mapped, which way, and how it stands to its fraction.
-#[derive(Clone, Copy, Debug)]
+#[derive(Drop)]
 pub struct VariableMap {
     pub by: Mapping,
     pub v: u64,
@@ -72,22 +70,19 @@ fn image_of<L: Ledger>(
     }
 }
 
-/// The image or the preimage of the polyhedron by the relation between the variable and the fraction.
+/// The image or the preimage of the polyhedron by the relation between the variable and the
+/// fraction.
 pub fn mapped_by<L: Ledger>(
     alloc: Global,
     map: VariableMap,
-    p: Option<&Poly>,
+    p: &Poly,
     part: &Part,
     full: bool,
     steps: &mut Steps<L>,
 ) -> Result<Poly, StepErr>
     requires form { Matches (alone frac_cases) part.now.text }
-    ensures { IsPerformed (on_one (option_copied p.entry)
-        (make_mapped map.by full map.v map.rel part.now)) result }
+    ensures { IsPerformed (make_mapped map.by full map.v map.rel part.now p.now) result }
 {
-    let Some(p) = p else {
-        return Err(StepErr::Input(Fault::UnknownName));
-    };
     let frac = match fraction_of(alloc, p, map.v, map.rel, part) {
         Ok(frac) => frac,
         Err(cause) => return Err(cause),
@@ -124,16 +119,13 @@ fn columns_of(alloc: Global, dim: usize, vars: &VarList) -> Result<Vec<usize>, S
 /// The points that those of the polyhedron become without the variables of the list.
 pub fn remove<L: Ledger>(
     alloc: Global,
-    p: Option<&Poly>,
+    p: &Poly,
     vars: &VarList,
     full: bool,
     steps: &mut Steps<L>,
 ) -> Result<Poly, StepErr>
-    ensures { IsPerformed (on_one (option_copied p.entry) (make_removed full vars.now)) result }
+    ensures { IsPerformed (make_removed full vars.now p.now) result }
 {
-    let Some(p) = p else {
-        return Err(StepErr::Input(Fault::UnknownName));
-    };
     let columns = match columns_of(alloc, p.dim(), vars) {
         Ok(columns) => columns,
         Err(cause) => return Err(cause),

@@ -1,4 +1,5 @@
-//! What each task on polyhedra does, from the table as it stands: its operands are looked up here, and here alone.
+//! What each task on polyhedra does, from the table as it stands: its operands are looked up here,
+//! and here alone.
 ghost use Rattle.std.specs.Option.{option_copied};
 ghost use Rattle.line_values.specs.Meaning.{on_one, on_two};
 ghost use Rattle.line_values.specs.Operands.{poly_of};
@@ -8,7 +9,7 @@ ghost use Rattle.command_tasks.specs.Parts.{GivenFits, OfOneFits, MakerFits, Add
 
 use crate::affine::{VariableMap, mapped_by, remove};
 use crate::files::write;
-use crate::lattice::{closure, compare, isempty};
+use crate::lattice::{closure, compare};
 use crate::makers::{add, addgen, cons, copy, gens, space};
 use crate::names::name_list;
 use crate::operators::{extend, of_two};
@@ -16,10 +17,10 @@ use crate::optima::{bound, relation};
 use crate::questions::{has, print, size};
 use crate::widenings::widen;
 use command_tasks::{About, Addition, Given, Maker, OfOne, OfTwo, Question};
-use line_values::{PolyEntry, StepErr, is_max, poly_at, topology_of};
+use line_values::{PolyEntry, StepErr, answer, is_max, poly_at, topology_of};
 use name_table::Names;
 use poly_pair::{Poly, Topology};
-use reply_text::Text;
+use reply_text::{Fault, Text};
 use row_core::Steps;
 use std::alloc::Global;
 use std::sync::ledger::Ledger;
@@ -75,6 +76,9 @@ fn make_of_one<L: Ledger>(
     requires { OfOneFits by }
     ensures { IsPerformed (on_one (option_copied p.entry) (made_of_one by full)) result }
 {
+    let Some(p) = p else {
+        return Err(StepErr::Input(Fault::UnknownName));
+    };
     match by {
         OfOne::Copy => copy(p, full),
         OfOne::Closure => closure(alloc, p, full, steps),
@@ -99,6 +103,9 @@ fn make_of_two<L: Ledger>(
     ensures { IsPerformed
         (on_two (option_copied p.entry) (option_copied q.entry) (made_of_two by full)) result }
 {
+    let (Some(p), Some(q)) = (p, q) else {
+        return Err(StepErr::Input(Fault::UnknownName));
+    };
     match by {
         OfTwo::Operate(op) => of_two(alloc, op, p, q, full, steps),
         OfTwo::Widen => widen(alloc, p, q, full, steps),
@@ -115,6 +122,9 @@ pub fn add_to<L: Ledger>(
     requires { AdditionFits addition }
     ensures { IsPerformed (on_one (option_copied p.entry) (added addition)) result }
 {
+    let Some(p) = p else {
+        return Err(StepErr::Input(Fault::UnknownName));
+    };
     match addition {
         Addition::Cons(part) => add(alloc, p, &part, steps),
         Addition::Gens(part) => addgen(alloc, p, &part, steps),
@@ -146,11 +156,14 @@ fn ask_of_one(alloc: Global, about: About, p: Option<&Poly>) -> Result<Text, Ste
     requires { AboutFits about }
     ensures { IsPerformed (on_one (option_copied p.entry) (said_of_one about)) result }
 {
+    let Some(p) = p else {
+        return Err(StepErr::Input(Fault::UnknownName));
+    };
     match about {
         About::Has(part) => has(alloc, p, &part),
-        About::Size => size(alloc, p),
-        About::Print(side) => print(alloc, side, p),
-        About::Isempty => isempty(alloc, p),
+        About::Size => Ok(size(alloc, p)?),
+        About::Print(side) => Ok(print(alloc, side, p)?),
+        About::Isempty => answer(alloc, p.is_empty()),
         About::Relation(part) => relation(alloc, p, &part),
         About::Bound(of, part) => bound(alloc, is_max(of), p, &part),
         About::Write(form) => write(alloc, form, p),

@@ -1,6 +1,4 @@
 //! The command that writes a file.
-ghost use Rattle.std.specs.Option.{option_copied};
-ghost use Rattle.line_values.specs.Meaning.{on_one};
 ghost use Rattle.poly_commands.specs.Files.{write as write_of};
 ghost use Rattle.line_values.specs.Performed.{IsPerformed};
 
@@ -12,12 +10,9 @@ use row_core::Memory;
 use std::alloc::Global;
 
 /// Writes the file of the constraints, or of the generators.
-pub fn write(alloc: Global, ext: bool, p: Option<&Poly>) -> Result<Text, StepErr>
-    ensures { IsPerformed (on_one (option_copied p.entry) (write_of ext)) result }
+pub fn write(alloc: Global, ext: bool, p: &Poly) -> Result<Text, StepErr>
+    ensures { IsPerformed (write_of ext p.now) result }
 {
-    let Some(p) = p else {
-        return Err(StepErr::Input(Fault::UnknownName));
-    };
     if p.topology() != Topology::Closed {
         return Err(StepErr::Input(Fault::NotClosed));
     }

@@ -1,8 +1,8 @@
 //! The command that makes the closure, and those that ask how two polyhedra lie.
-ghost use Rattle.std.specs.Prelude.{◌≡◌, ◌<◌, length, IfOk};
+ghost use Rattle.std.specs.Prelude.{◌≡◌, ◌<◌, length};
 ghost use Rattle.std.specs.Option.{option_copied};
-ghost use Rattle.line_values.specs.Meaning.{on_one, on_two};
-ghost use Rattle.poly_commands.specs.Lattice.{compared, closure as make_closure, contains as ask_contains, equal as ask_equal, disjoint as ask_disjoint, isempty as ask_empty, shown_rows, IsRefusalOfPair};
+ghost use Rattle.line_values.specs.Meaning.{on_two};
+ghost use Rattle.poly_commands.specs.Lattice.{compared, closure as make_closure, contains as ask_contains, equal as ask_equal, disjoint as ask_disjoint, IsRefusalOfPair};
 ghost use Rattle.line_values.specs.Performed.{IsPerformed};
 
 use cons_sys::ConsSys;
@@ -10,7 +10,7 @@ use gens_sys::GensSys;
 use line_values::{StepErr, answer};
 use poly_pair::Poly;
 use reply_text::{Fault, Text};
-use row_core::{Memory, Overflow, PairOver, Steps};
+use row_core::{Overflow, PairOver, Steps};
 use script_text::Comparison;
 use std::alloc::Global;
 use std::sync::ledger::Ledger;
@@ -18,15 +18,12 @@ use std::sync::ledger::Ledger;
 /// The smallest closed set that includes the polyhedron, in its topology.
 pub fn closure<L: Ledger>(
     alloc: Global,
-    p: Option<&Poly>,
+    p: &Poly,
     full: bool,
     steps: &mut Steps<L>,
 ) -> Result<Poly, StepErr>
-    ensures { IsPerformed (on_one (option_copied p.entry) (make_closure full)) result }
+    ensures { IsPerformed (make_closure full p.now) result }
 {
-    let Some(p) = p else {
-        return Err(StepErr::Input(Fault::UnknownName));
-    };
     if full {
         return Err(StepErr::Input(Fault::TooManyNames));
     }
@@ -37,19 +34,11 @@ pub fn closure<L: Ledger>(
 }
 
 /// Whether each point of the second is in the first.
-fn contains(alloc: Global, p: Option<&Poly>, q: Option<&Poly>) -> Result<Text, StepErr>
-    ensures { IsPerformed
-        (on_two (option_copied p.entry) (option_copied q.entry) ask_contains) result }
+fn contains(alloc: Global, p: &Poly, q: &Poly) -> Result<Text, StepErr>
+    requires topology { p.now.topology ≡ q.now.topology }
+    requires dim { p.now.cons.dim ≡ q.now.cons.dim }
+    ensures { IsPerformed (ask_contains p.now q.now) result }
 {
-    let (Some(p), Some(q)) = (p, q) else {
-        return Err(StepErr::Input(Fault::UnknownName));
-    };
-    if p.topology() != q.topology() {
-        return Err(StepErr::Input(Fault::TopologyMismatch));
-    }
-    if p.dim() != q.dim() {
-        return Err(StepErr::Input(Fault::DimMismatch));
-    }
     match lattice_ops::contains(p, q) {
         Ok(holds) => answer(alloc, holds),
         Err(pair) => Err(refusal_of_pair(alloc, p.cons(), q.gens(), pair)),
@@ -57,19 +46,11 @@ fn contains(alloc: Global, p: Option<&Poly>, q: Option<&Poly>) -> Result<Text, S
 }
 
 /// Whether both have the same points.
-fn equal(alloc: Global, p: Option<&Poly>, q: Option<&Poly>) -> Result<Text, StepErr>
-    ensures { IsPerformed
-        (on_two (option_copied p.entry) (option_copied q.entry) ask_equal) result }
+fn equal(alloc: Global, p: &Poly, q: &Poly) -> Result<Text, StepErr>
+    requires topology { p.now.topology ≡ q.now.topology }
+    requires dim { p.now.cons.dim ≡ q.now.cons.dim }
+    ensures { IsPerformed (ask_equal p.now q.now) result }
 {
-    let (Some(p), Some(q)) = (p, q) else {
-        return Err(StepErr::Input(Fault::UnknownName));
-    };
-    if p.topology() != q.topology() {
-        return Err(StepErr::Input(Fault::TopologyMismatch));
-    }
-    if p.dim() != q.dim() {
-        return Err(StepErr::Input(Fault::DimMismatch));
-    }
     match lattice_ops::equal(p, q) {
         Ok(holds) => answer(alloc, holds),
         Err(pair) if pair.turned => Err(refusal_of_pair(alloc, q.cons(), p.gens(), pair)),
@@ -88,41 +69,24 @@ pub(crate) fn refusal_of_pair(
     requires right { pair.right < length gens.now.list }
     ensures { IsRefusalOfPair cons.now gens.now pair result }
 {
-    match shown(alloc, cons, gens, pair) {
+    let (left, right) = (cons.row(pair.left), gens.row(pair.right));
+    match Overflow::of_rows(alloc, pair.kind, left, right, pair.column) {
         Ok(over) => StepErr::Overflow(over),
         Err(cause) => StepErr::from(cause),
     }
 }
 
-/// The rows of a pair that leaves the range.
-fn shown(alloc: Global, cons: &ConsSys, gens: &GensSys, pair: PairOver) -> Result<Overflow, Memory>
-    requires left { pair.left < length cons.now.list }
-    requires right { pair.right < length gens.now.list }
-    ensures { IfOk result (λ over. over ≡ shown_rows cons.now gens.now pair) }
-{
-    let (left, right) = (cons.row(pair.left), gens.row(pair.right));
-    Overflow::of_rows(alloc, pair.kind, left, right, pair.column)
-}
-
 /// Whether no point is in both.
 fn disjoint<L: Ledger>(
     alloc: Global,
-    p: Option<&Poly>,
-    q: Option<&Poly>,
+    p: &Poly,
+    q: &Poly,
     steps: &mut Steps<L>,
 ) -> Result<Text, StepErr>
-    ensures { IsPerformed
-        (on_two (option_copied p.entry) (option_copied q.entry) ask_disjoint) result }
+    requires topology { p.now.topology ≡ q.now.topology }
+    requires dim { p.now.cons.dim ≡ q.now.cons.dim }
+    ensures { IsPerformed (ask_disjoint p.now q.now) result }
 {
-    let (Some(p), Some(q)) = (p, q) else {
-        return Err(StepErr::Input(Fault::UnknownName));
-    };
-    if p.topology() != q.topology() {
-        return Err(StepErr::Input(Fault::TopologyMismatch));
-    }
-    if p.dim() != q.dim() {
-        return Err(StepErr::Input(Fault::DimMismatch));
-    }
     match lattice_ops::disjoint(alloc, p, q, steps) {
         Ok(holds) => answer(alloc, holds),
         Err(cause) => Err(StepErr::from(cause)),
@@ -140,19 +104,18 @@ pub fn compare<L: Ledger>(
     ensures { IsPerformed
         (on_two (option_copied p.entry) (option_copied q.entry) (compared by)) result }
 {
+    let (Some(p), Some(q)) = (p, q) else {
+        return Err(StepErr::Input(Fault::UnknownName));
+    };
+    if p.topology() != q.topology() {
+        return Err(StepErr::Input(Fault::TopologyMismatch));
+    }
+    if p.dim() != q.dim() {
+        return Err(StepErr::Input(Fault::DimMismatch));
+    }
     match by {
         Comparison::Contains => contains(alloc, p, q),
         Comparison::Equal => equal(alloc, p, q),
         Comparison::Disjoint => disjoint(alloc, p, q, steps),
     }
-}
-
-/// Whether there is no point.
-pub fn isempty(alloc: Global, p: Option<&Poly>) -> Result<Text, StepErr>
-    ensures { IsPerformed (on_one (option_copied p.entry) ask_empty) result }
-{
-    let Some(p) = p else {
-        return Err(StepErr::Input(Fault::UnknownName));
-    };
-    answer(alloc, p.is_empty())
 }

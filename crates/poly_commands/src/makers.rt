@@ -1,20 +1,16 @@
 //! The commands that make, copy or change polyhedra.
-ghost use Rattle.std.specs.Prelude.{◌≡◌, ◌≤◌, ◌<◌, MatchBool, MatchOption, IfOk};
-ghost use Rattle.std.specs.Option.{option_copied};
+ghost use Rattle.std.specs.Prelude.{◌≡◌, ◌≤◌, ◌<◌, MatchOption, IfOk};
 ghost use Rattle.grammar.specs.Form.{Matches};
 ghost use Rattle.grammar.specs.Grammar.{alone};
 ghost use Rattle.grammar.specs.Cases.{cons_cases, gens_cases};
 ghost use Rattle.script_text.specs.Commands.{is_strict};
-ghost use Rattle.poly_pair.specs.FirstLists.{LacksPoint};
 ghost use Rattle.poly_pair.specs.declared.topology.TheConstants.{MAX_DIM};
-ghost use Rattle.line_values.specs.Meaning.{on_one};
 ghost use Rattle.poly_commands.specs.Makers.{cons as make_cons, gens as make_gens, space_of, IsSpace, copy as make_copy, add as add_to, addgen as addgen_to};
 ghost use Rattle.line_values.specs.Performed.{IsPerformed};
 
 use expr_text::one_answer;
-use gens_sys::GensSys;
 use line_values::{StepErr, constraints_of, generators_of};
-use poly_pair::{MAX_DIM, Poly, Topology, has_point_kind};
+use poly_pair::{MAX_DIM, Poly, Topology, lacks_point};
 use reply_text::Fault;
 use row_core::{Memory, Steps};
 use script_text::{Part, Space};
@@ -67,12 +63,9 @@ fn whole_or_empty(
 }
 
 /// A copy.
-pub fn copy(p: Option<&Poly>, full: bool) -> Result<Poly, StepErr>
-    ensures { IsPerformed (on_one (option_copied p.entry) (make_copy full)) result }
+pub fn copy(p: &Poly, full: bool) -> Result<Poly, StepErr>
+    ensures { IsPerformed (make_copy full p.now) result }
 {
-    let Some(p) = p else {
-        return Err(StepErr::Input(Fault::UnknownName));
-    };
     if full {
         return Err(StepErr::Input(Fault::TooManyNames));
     }
@@ -141,27 +134,17 @@ pub fn gens<L: Ledger>(
     }
 }
 
-/// Whether there are generators, and none is a point.
-fn lacks_point(gens: &GensSys) -> bool
-    ensures { MatchBool result (LacksPoint gens.now.list) (¬ (LacksPoint gens.now.list)) }
-{
-    !gens.is_empty() && !has_point_kind(gens)
-}
-
 /// The points of a polyhedron at which the constraints of a text hold.
 pub fn add<L: Ledger>(
     alloc: Global,
-    p: Option<&Poly>,
+    p: &Poly,
     part: &Part,
     steps: &mut Steps<L>,
 ) -> Result<Poly, StepErr>
     requires form { Matches (alone cons_cases) part.now.text }
     requires told { part.now.strict ≡ is_strict part.now.text }
-    ensures { IsPerformed (on_one (option_copied p.entry) (add_to part.now)) result }
+    ensures { IsPerformed (add_to part.now p.now) result }
 {
-    let Some(p) = p else {
-        return Err(StepErr::Input(Fault::UnknownName));
-    };
     let topology = p.topology();
     let more = match constraints_of(alloc, topology, part, p.dim()) {
         Ok(more) => more,
@@ -176,18 +159,15 @@ pub fn add<L: Ledger>(
 /// What the generators of a polyhedron and those of a text generate.
 pub fn addgen<L: Ledger>(
     alloc: Global,
-    p: Option<&Poly>,
+    p: &Poly,
     part: &Part,
     steps: &mut Steps<L>,
 ) -> Result<Poly, StepErr>
     requires form { Matches (alone gens_cases) part.now.text }
     requires told { part.now.strict ≡ is_strict part.now.text }
-    ensures { IsPerformed (on_one (option_copied p.entry) (addgen_to part.now)) result }
+    ensures { IsPerformed (addgen_to part.now p.now) result }
 {
     one_answer();
-    let Some(p) = p else {
-        return Err(StepErr::Input(Fault::UnknownName));
-    };
     let topology = p.topology();
     let more = match generators_of(alloc, topology, part, p.dim()) {
         Ok(more) => more,

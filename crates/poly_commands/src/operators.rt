@@ -1,9 +1,8 @@
 //! The commands that make a polyhedron of two others, or of one and further variables.
 ghost use Rattle.std.specs.Prelude.{◌≡◌, ◌+◌, ◌<◌, ◌≤◌, MatchOption, IfOk, IfErr, Bool};
-ghost use Rattle.std.specs.Option.{option_copied};
 ghost use Rattle.row_core.specs.Refusals.{IsOverflowIn};
 ghost use Rattle.poly_pair.specs.declared.topology.TheConstants.{MAX_DIM};
-ghost use Rattle.line_values.specs.Meaning.{on_one, on_two, room};
+ghost use Rattle.line_values.specs.Meaning.{room};
 ghost use Rattle.line_values.specs.Order.{IsFirst};
 ghost use Rattle.poly_commands.specs.Operators.{operated, fitting, Fits, IsSetBy, IsStoredBy, LeavesBy, extended, IsExtensionBy, IsStoredOfExtension, LeavesInExtension};
 ghost use Rattle.line_values.specs.Performed.{IsPerformed};
@@ -20,17 +19,13 @@ use std::sync::ledger::Ledger;
 pub fn of_two<L: Ledger>(
     alloc: Global,
     op: Operator,
-    p: Option<&Poly>,
-    q: Option<&Poly>,
+    p: &Poly,
+    q: &Poly,
     full: bool,
     steps: &mut Steps<L>,
 ) -> Result<Poly, StepErr>
-    ensures { IsPerformed
-        (on_two (option_copied p.entry) (option_copied q.entry) (operated op full)) result }
+    ensures { IsPerformed (operated op full p.now q.now) result }
 {
-    let (Some(p), Some(q)) = (p, q) else {
-        return Err(StepErr::Input(Fault::UnknownName));
-    };
     if let Some(fault) = misfit(op, p, q) {
         return Err(StepErr::Input(fault));
     }
@@ -103,16 +98,13 @@ fn more_dims(dim: usize, n: u64) -> Option<usize>
 pub fn extend<L: Ledger>(
     alloc: Global,
     by: Extension,
-    p: Option<&Poly>,
+    p: &Poly,
     n: u64,
     full: bool,
     steps: &mut Steps<L>,
 ) -> Result<Poly, StepErr>
-    ensures { IsPerformed (on_one (option_copied p.entry) (extended by full n)) result }
+    ensures { IsPerformed (extended by full n p.now) result }
 {
-    let Some(p) = p else {
-        return Err(StepErr::Input(Fault::UnknownName));
-    };
     let Some(count) = more_dims(p.dim(), n) else {
         return Err(StepErr::Input(Fault::TooManyDims));
     };

@@ -1,14 +1,13 @@
 //! The commands that ask for a bound of an expression, or how a polyhedron lies to a constraint.
 ghost use Rattle.std.specs.Prelude.{◌≡◌, ◌+◌, ◌<◌, ◌++◌, length, codes, IfOk, OnOk};
 ghost use Rattle.std.specs.Fmt.{signed_decimal};
-ghost use Rattle.std.specs.Option.{option_copied};
 ghost use Rattle.grammar.specs.Form.{Matches};
 ghost use Rattle.grammar.specs.Grammar.{alone};
 ghost use Rattle.grammar.specs.Cases.{con_cases, expr_cases};
 ghost use Rattle.gens_sys.specs.Generators.{generator_at};
 ghost use Rattle.expr_text.specs.Printed.{generator_text};
 ghost use Rattle.optimum.specs.Suprema.{SupAnswer, IsTrueSup};
-ghost use Rattle.line_values.specs.Meaning.{on_one, line};
+ghost use Rattle.line_values.specs.Meaning.{line};
 ghost use Rattle.poly_commands.specs.Optima.{relation as ask_relation, bound as ask_bound, relation_text, with_word, bound_text, attained_text, HasGenerator};
 ghost use Rattle.line_values.specs.Performed.{IsPerformed};
 
@@ -17,19 +16,16 @@ use gens_sys::GensSys;
 use line_values::{StepErr, as_line, constraint_of, expression_of};
 use optimum::{Relation, Sup, inf, shown, sup};
 use poly_pair::Poly;
-use reply_text::{Fault, Text};
+use reply_text::Text;
 use row_core::{Memory, PairOver};
 use script_text::Part;
 use std::alloc::Global;
 
 /// How a polyhedron lies to the constraint of a text.
-pub fn relation(alloc: Global, p: Option<&Poly>, part: &Part) -> Result<Text, StepErr>
+pub fn relation(alloc: Global, p: &Poly, part: &Part) -> Result<Text, StepErr>
     requires { Matches (alone con_cases) part.now.text }
-    ensures { IsPerformed (on_one (option_copied p.entry) (ask_relation part.now)) result }
+    ensures { IsPerformed (ask_relation part.now p.now) result }
 {
-    let Some(p) = p else {
-        return Err(StepErr::Input(Fault::UnknownName));
-    };
     let con = match constraint_of(alloc, part, p.dim()) {
         Ok(con) => con,
         Err(cause) => return Err(cause),
@@ -67,13 +63,10 @@ fn push_word(text: &mut Text, word: &[u8], holds: bool) -> Result<(), Memory>
 }
 
 /// The least upper or the greatest lower bound of the expression of a text.
-pub fn bound(alloc: Global, up: bool, p: Option<&Poly>, part: &Part) -> Result<Text, StepErr>
+pub fn bound(alloc: Global, up: bool, p: &Poly, part: &Part) -> Result<Text, StepErr>
     requires { Matches (alone expr_cases) part.now.text }
-    ensures { IsPerformed (on_one (option_copied p.entry) (ask_bound up part.now)) result }
+    ensures { IsPerformed (ask_bound up part.now p.now) result }
 {
-    let Some(p) = p else {
-        return Err(StepErr::Input(Fault::UnknownName));
-    };
     let row = match expression_of(alloc, part, p.dim()) {
         Ok(row) => row,
         Err(cause) => return Err(cause),

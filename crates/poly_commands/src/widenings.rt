@@ -1,8 +1,6 @@
 //! The command that makes the widening.
 ghost use Rattle.std.specs.Prelude.{◌≡◌, false};
-ghost use Rattle.std.specs.Option.{option_copied};
 ghost use Rattle.poly_pair.specs.declared.topology.Topology.{Topology};
-ghost use Rattle.line_values.specs.Meaning.{on_two};
 ghost use Rattle.poly_commands.specs.Widening.{widen as make_widening};
 ghost use Rattle.line_values.specs.Performed.{IsPerformed};
 
@@ -18,17 +16,13 @@ use std::sync::ledger::Ledger;
 /// The widening of the first by the second, which includes it.
 pub fn widen<L: Ledger>(
     alloc: Global,
-    p: Option<&Poly>,
-    q: Option<&Poly>,
+    p: &Poly,
+    q: &Poly,
     full: bool,
     steps: &mut Steps<L>,
 ) -> Result<Poly, StepErr>
-    ensures { IsPerformed
-        (on_two (option_copied p.entry) (option_copied q.entry) (make_widening full)) result }
+    ensures { IsPerformed (make_widening full p.now q.now) result }
 {
-    let (Some(p), Some(q)) = (p, q) else {
-        return Err(StepErr::Input(Fault::UnknownName));
-    };
     if p.topology() != q.topology() {
         return Err(StepErr::Input(Fault::TopologyMismatch));
     }
@@ -44,7 +38,8 @@ pub fn widen<L: Ledger>(
     widen_if_nested(alloc, p, q, steps)
 }
 
-/// The widening of the one by the other, where the test of pairs in order comes to no refusal and there is room.
+/// The widening of the one by the other, where the test of pairs in order comes to no refusal and
+/// there is room.
 fn widen_if_nested<L: Ledger>(
     alloc: Global,
     p: &Poly,

@@ -1,11 +1,7 @@
-use Rattle.std.proofs.Common.{◌≡◌, ℕ, Option, Some, Err, sym, ◌∙◌, ap, subst}
-use Rattle.std.specs.Option.{option_copied}
+use Rattle.std.proofs.Common.{ℕ, Err, sym, ◌∙◌, subst}
 use Rattle.poly_pair.specs.Polyhedra.{Polyhedron}
 use Rattle.poly_pair.specs.TopologyLists.{AreGeneratorsFor}
 use Rattle.poly_pair.specs.declared.topology.Topology.{Topology}
-use Rattle.line_values.specs.Meaning.{on_one}
-use Rattle.poly_commands.specs.Makers.{addgen}
-use Rattle.line_values.specs.Performed.{IsPerformed}
 use Rattle.line_values.specs.Texts.{generators_fault, IsTextRefusal, ReadsGenerators}
 use Rattle.poly_commands.proofs.MakerLemmas.{addgen_refused, addgen_made, addgen_refuses}
 use Rattle.poly_pair.proofs.WorkLemmas.{gen_overflow_clause}
@@ -14,10 +10,8 @@ use Rattle.poly_commands.proofs.makers.addgen.Goals as goal
 pub returns-in-Err : goal.returns-in-Err
 returns-in-Err g c =
     let at = subst (λ (k : ℕ). IsTextRefusal (generators_fault c.topology-topology.result k c.args.part.now) c.in-Err.cause) c.dim.ensures.gens c.in-Err.ensures in
-    let fault = subst (λ (t : Topology). IsTextRefusal (generators_fault t c.in-Some.p.now.gens.dim c.args.part.now) c.in-Err.cause) c.topology-topology.ensures.value at in
-    let found : option_copied c.args.p ≡ Some c.in-Some.p.now = ap option_copied c.in-Some.is in
-    subst (λ (o : Option Polyhedron). IsPerformed (on_one o (addgen c.args.part.now)) (Err c.in-Err.cause)) (sym found)
-    (addgen_refused c.args.part.now c.in-Some.p.now c.in-Err.cause fault)
+    let fault = subst (λ (t : Topology). IsTextRefusal (generators_fault t c.args.p.now.gens.dim c.args.part.now) c.in-Err.cause) c.topology-topology.ensures.value at in
+    addgen_refused c.args.part.now c.args.p.now c.in-Err.cause fault
 
 pub add_gens-requires-clause-kinds : goal.add_gens-requires-clause-kinds
 add_gens-requires-clause-kinds g c = subst (λ (t : Topology). AreGeneratorsFor t c.in-Ok.more) c.topology-topology.ensures.value c.in-Ok.ensures.kinds
@@ -25,13 +19,11 @@ add_gens-requires-clause-kinds g c = subst (λ (t : Topology). AreGeneratorsFor 
 pub returns-in-Ok-add_gens : goal.returns-in-Ok-add_gens
 returns-in-Ok-add_gens g c =
     let at = subst (λ (k : ℕ). ReadsGenerators c.topology-topology.result k c.args.part.now c.in-Ok.more) c.dim.ensures.gens c.in-Ok.ensures in
-    let read = subst (λ (t : Topology). ReadsGenerators t c.in-Some.p.now.gens.dim c.args.part.now c.in-Ok.more) c.topology-topology.ensures.value at in
-    rw c.in-Some.is (addgen_made c.args.part.now c.in-Some.p.now c.in-Ok.more c.in-Ok-add_gens.made c.one_answer.ensures.gens read (sym c.dim.ensures.value ∙ c.dim.ensures.gens) c.dim.ensures.kept c.in-Ok-add_gens.ensures.no_point (record { set = c.in-Ok-add_gens.ensures.points; stored = c.in-Ok-add_gens.ensures.stored }))
+    let read = subst (λ (t : Topology). ReadsGenerators t c.args.p.now.gens.dim c.args.part.now c.in-Ok.more) c.topology-topology.ensures.value at in
+    addgen_made c.args.part.now c.args.p.now c.in-Ok.more c.in-Ok-add_gens.made c.one_answer.ensures.gens read (sym c.dim.ensures.value ∙ c.dim.ensures.gens) c.dim.ensures.kept c.in-Ok-add_gens.ensures.no_point (record { set = c.in-Ok-add_gens.ensures.points; stored = c.in-Ok-add_gens.ensures.stored })
 
 pub returns : goal.returns
 returns g c =
     let at = subst (λ (k : ℕ). ReadsGenerators c.topology-topology.result k c.args.part.now c.in-Ok.more) c.dim.ensures.gens c.in-Ok.ensures in
-    let read = subst (λ (t : Topology). ReadsGenerators t c.in-Some.p.now.gens.dim c.args.part.now c.in-Ok.more) c.topology-topology.ensures.value at in
-    let found : option_copied c.args.p ≡ Some c.in-Some.p.now = ap option_copied c.in-Some.is in
-    subst (λ (o : Option Polyhedron). IsPerformed (on_one o (addgen c.args.part.now)) (Err c.from.result)) (sym found)
-    (rw c.from.ensures (addgen_refuses c.args.part.now c.in-Some.p.now c.in-Ok.more c.in-Err-add_gens.cause c.one_answer.ensures.gens read (sym c.dim.ensures.value ∙ c.dim.ensures.gens) c.dim.ensures.kept c.in-Err-add_gens.ensures.no_point (gen_overflow_clause {T = Polyhedron} _ _ _ (Err c.in-Err-add_gens.cause) c.in-Err-add_gens.ensures.conversion)))
+    let read = subst (λ (t : Topology). ReadsGenerators t c.args.p.now.gens.dim c.args.part.now c.in-Ok.more) c.topology-topology.ensures.value at in
+    rw c.from.ensures (addgen_refuses c.args.part.now c.args.p.now c.in-Ok.more c.in-Err-add_gens.cause c.one_answer.ensures.gens read (sym c.dim.ensures.value ∙ c.dim.ensures.gens) c.dim.ensures.kept c.in-Err-add_gens.ensures.no_point (gen_overflow_clause {T = Polyhedron} _ _ _ (Err c.in-Err-add_gens.cause) c.in-Err-add_gens.ensures.conversion))

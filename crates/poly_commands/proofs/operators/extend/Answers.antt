@@ -6,6 +6,6 @@ use Rattle.poly_commands.proofs.operators.extend.Goals as goal
 
 pub returns-in-Ok : goal.returns-in-Ok
 returns-in-Ok g c =
-    let within : c.in-Some.p.now.cons.dim + c.args.n ≤ MAX_DIM = omega (arith, c.in-Some-more_dims.ensures.0, c.in-Some-more_dims.ensures.1, c.dim.ensures.value) in
-    let made = subst (λ (k : ℕ). IsExtended c.args.by k c.in-Some.p.now c.in-Ok.made) c.in-Some-more_dims.ensures.0 (record { set = c.in-Ok.ensures.points; stored = c.in-Ok.ensures.stored }) in
-    rw c.in-Some.is (small_passes (c.in-Some.p.now.cons.dim + c.args.n) c.args.full within c.if-full.false, made)
+    let within : c.args.p.now.cons.dim + c.args.n ≤ MAX_DIM = omega (arith, c.in-Some.ensures.0, c.in-Some.ensures.1, c.dim.ensures.value) in
+    let made = subst (λ (k : ℕ). IsExtended c.args.by k c.args.p.now c.in-Ok.made) c.in-Some.ensures.0 (record { set = c.in-Ok.ensures.points; stored = c.in-Ok.ensures.stored }) in
+    (small_passes (c.args.p.now.cons.dim + c.args.n) c.args.full within c.if-full.false, made)

@@ -1,12 +1,9 @@
-use Rattle.std.proofs.Common.{◌≡◌, ℕ, List, Option, Some, Ok, Err, IsTrue, ◌↔◌, ap, sym, subst}
-use Rattle.std.specs.Option.{option_copied}
+use Rattle.std.proofs.Common.{◌≡◌, ℕ, List, Ok, IsTrue, ◌↔◌, subst}
 use Rattle.std.specs.Prelude.{ℤ}
 use Rattle.cons_sys.specs.Constraints.{Constraints, In}
 use Rattle.cons_sys.specs.Testing.{Answers}
-use Rattle.poly_pair.specs.Polyhedra.{Polyhedron}
-use Rattle.line_values.specs.Meaning.{on_one, answer_line}
+use Rattle.line_values.specs.Meaning.{answer_line}
 use Rattle.poly_commands.specs.Questions.{has}
-use Rattle.line_values.specs.Performed.{IsPerformed}
 use Rattle.line_values.specs.Texts.{point_fault, IsTextRefusal, ReadsPoint}
 use Rattle.line_values.proofs.PerformedLemmas.{answered}
 use Rattle.poly_commands.proofs.PointLemmas.{has_refused, has_told}
@@ -15,9 +12,7 @@ use Rattle.poly_commands.proofs.questions.has.Goals as goal
 pub returns-in-Err : goal.returns-in-Err
 returns-in-Err c =
     let fault = subst (λ (k : ℕ). IsTextRefusal (point_fault k c.args.part.now) c.in-Err.cause) c.dim.ensures.value c.in-Err.ensures in
-    let found : option_copied c.args.p ≡ Some c.in-Some.p.now = ap option_copied c.in-Some.is in
-    subst (λ (o : Option Polyhedron). IsPerformed (on_one o (has c.args.part.now)) (Err c.in-Err.cause)) (sym found)
-    (has_refused c.args.part.now c.in-Some.p.now c.in-Err.cause fault)
+    has_refused c.args.part.now c.args.p.now c.in-Err.cause fault
 
 pub returns-in-Ok-holds_at : goal.returns-in-Ok-holds_at
 returns-in-Ok-holds_at c =
@@ -26,4 +21,4 @@ returns-in-Ok-holds_at c =
     let tested = subst (λ (cs : Constraints). Answers cs.list c.in-Ok.point (Ok c.in-Ok-holds_at.holds)) c.cons.ensures.value at in
     let true_at = subst (λ (v : List ℤ). IsTrue c.in-Ok-holds_at.holds ↔ In c.cons.result.now v) c.cells.ensures.value c.in-Ok-holds_at.ensures.holds in
     let true_of = subst (λ (cs : Constraints). IsTrue c.in-Ok-holds_at.holds ↔ In cs c.in-Ok.point) c.cons.ensures.value true_at in
-    rw c.in-Some.is (answered (has c.args.part.now c.in-Some.p.now) (λ (text : List ℕ). text ≡ answer_line c.in-Ok-holds_at.holds) c.answer.result (λ text said. has_told c.args.part.now c.in-Some.p.now c.in-Ok.point c.in-Ok-holds_at.holds text read tested true_of said) c.answer.ensures)
+    answered (has c.args.part.now c.args.p.now) (λ (text : List ℕ). text ≡ answer_line c.in-Ok-holds_at.holds) c.answer.result (λ text said. has_told c.args.part.now c.args.p.now c.in-Ok.point c.in-Ok-holds_at.holds text read tested true_of said) c.answer.ensures

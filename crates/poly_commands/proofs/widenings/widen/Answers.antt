@@ -4,6 +4,4 @@ use Rattle.poly_commands.specs.Widening.{widen}
 use Rattle.poly_commands.proofs.widenings.widen.Goals as goal
 
 pub returns : goal.returns
-returns g c =
-    let made = subst (λ (full : Bool). IsPerformed (widen full c.in-Some-Some.p.now c.in-Some-Some.q.now) c.widen_if_nested.result) (sym c.if-full.false) c.widen_if_nested.ensures in
-    rw c.in-Some-Some.is-0 (rw c.in-Some-Some.is-1 made)
+returns g c = subst (λ (full : Bool). IsPerformed (widen full c.args.p.now c.args.q.now) c.widen_if_nested.result) (sym c.if-full.false) c.widen_if_nested.ensures
