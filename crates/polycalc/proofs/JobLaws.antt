@@ -10,11 +10,12 @@ use Rattle.plain_text.specs.Digits.{number}
 use Rattle.cdd_reading.specs.declared.format.Format.{Format}
 use Rattle.job_words.specs.Words.{IsAskedBy, SpellsSize}
 use Rattle.calc_state.specs.Runs.{RunsAreComplete}
-use Rattle.polycalc.specs.Outcomes.{Completes, Converts, Samples, IsReadOut, Finishes, WritesFront, AnswersRead, AnswersFront, Outcome, Ends, Stops, IsRunAnswered, IsFileAnswered, IsSampleAnswered, IsAnswered}
+use Rattle.polycalc.specs.Outcomes.{Completes, Converts, Samples, IsReadOut, Finishes, WritesFront, AnswersRead, AnswersFront, GivesUp, Outcome, Ends, Stops, EndsAs, TellsSize, IsRunAnswered, IsFileAnswered, IsSampleAnswered, IsAnswered}
 use Rattle.job_words.specs.declared.job.Job.{Job}
 use Rattle.job_words.specs.declared.job.Job.TheVariants as job
 use Rattle.polycalc.specs.declared.status.Status.{Status}
 use Rattle.polycalc.specs.declared.status.Status.TheVariants.{Done, Refused, Usage, ReadFault, WriteFault, Memory, InputTooLong}
+use Rattle.poly_io.proofs.Known.{prepend_known-nil}
 use Rattle.job_texts.proofs.ConversionLaws.{must_convert}
 use Rattle.job_texts.proofs.SampleLaws.{must_sample}
 use Rattle.job_words.proofs.SampleWords.{second}
@@ -126,36 +127,88 @@ module _ (words : List (List ℕ)) (task : Job) (given : List ℕ) (left now old
   at : (s : Status) → status ≡ s → Outcome task given now old new s
   at s e = subst (λ (x : Status). Outcome task given now old new x) e outcome
 
-  pub when_done : status ≡ Done → Ends words left now old new true
+  when_done : status ≡ Done → Ends words left now old new true
   when_done e = let o = at Done e in record { job = task; asked = asked; given = given; gave = gave; read_out = o.1; finishes = o.2 }
 
-  pub when_refused : status ≡ Refused → Ends words left now old new false
+  when_refused : status ≡ Refused → Ends words left now old new false
   when_refused e = let o = at Refused e in record { job = task; asked = asked; given = given; gave = gave; read_out = o.1; finishes = o.2 }
 
   stops : (Writes : Job → List ℕ → Option (List ℕ) → Option (List ℕ) → Option (List ℕ) → Type 0) → Writes task given now old new → Stops words left now old new Writes
   stops Writes w = record { job = task; asked = asked; given = given; gave = gave; writes = w }
 
-  pub when_unread : status ≡ ReadFault → Stops words left now old new AnswersRead
+  when_unread : status ≡ ReadFault → Stops words left now old new AnswersRead
   when_unread e = stops AnswersRead (at ReadFault e).1
 
-  pub when_too_long : status ≡ InputTooLong → Stops words left now old new AnswersFront
+  when_too_long : status ≡ InputTooLong → Stops words left now old new AnswersFront
   when_too_long e = stops AnswersFront (at InputTooLong e).3
 
-  pub when_cut : (status ≡ WriteFault) ⊎ (status ≡ Memory) ⊎ (status ≡ InputTooLong) → Stops words left now old new WritesFront
+  when_cut : (status ≡ WriteFault) ⊎ (status ≡ Memory) ⊎ (status ≡ InputTooLong) → Stops words left now old new WritesFront
   when_cut (inl e) = stops WritesFront (at WriteFault e).1
   when_cut (inr (inl e)) = stops WritesFront (at Memory e).1
   when_cut (inr (inr e)) = stops WritesFront (at InputTooLong e).2
+
+  pub ends_as : (Wanted : Type 0) → (status ≡ Memory → ¬ Wanted → GivesUp task left now old new) → EndsAs words status Wanted left now old new
+  ends_as Wanted before = record {
+    done = when_done;
+    refused = when_refused;
+    whole_lines = when_unread;
+    earlier_lines = when_too_long;
+    lines_before = λ memory calm. let some = before memory calm in record { job = task; asked = asked; given = some.0; gave = some.1; writes = some.2 };
+    partly = when_cut;
+  }
+
+-- words without a meaning tell none of these
+not_done : Usage ≡ Done → ⊥
+not_done e = cc
+
+not_refused : Usage ≡ Refused → ⊥
+not_refused e = cc
+
+not_unread : Usage ≡ ReadFault → ⊥
+not_unread e = cc
+
+not_unwritten : Usage ≡ WriteFault → ⊥
+not_unwritten e = cc
+
+not_wanting : Usage ≡ Memory → ⊥
+not_wanting e = cc
+
+not_too_long : Usage ≡ InputTooLong → ⊥
+not_too_long e = cc
+
+not_cut : (Usage ≡ WriteFault) ⊎ (Usage ≡ Memory) ⊎ (Usage ≡ InputTooLong) → ⊥
+not_cut (inl e) = not_unwritten e
+not_cut (inr (inl e)) = not_wanting e
+not_cut (inr (inr e)) = not_too_long e
+
+pub ends_unasked : (words : List (List ℕ)) (Wanted : Type 0) (left held : Option (List ℕ)) → EndsAs words Usage Wanted left left held held
+ends_unasked words Wanted left held = record {
+  done = λ e. absurd (not_done e);
+  refused = λ e. absurd (not_refused e);
+  whole_lines = λ e. absurd (not_unread e);
+  earlier_lines = λ e. absurd (not_too_long e);
+  lines_before = λ e calm. absurd (not_wanting e);
+  partly = λ e. absurd (not_cut e);
+}
 
 -- a job that is done had words
 pub never_usage : (task : Job) (given : List ℕ) (now old new : Option (List ℕ)) (status : Status) → Outcome task given now old new status → status ≡ Usage → ⊥
 never_usage task given now old new status outcome e = subst (λ (x : Status). Outcome task given now old new x) e outcome
 
 -- too much was given exactly where the status says so
-pub size_told : (task : Job) (given : List ℕ) (now old new : Option (List ℕ)) (status : Status) → Outcome task given now old new status → ((status ≡ InputTooLong) ↔ (2 ^ 26 < length given)) × (length given ≤ 2 ^ 26 + 2 ^ 16)
-size_told task given now old new Done o = ((λ e. cc, λ k. absurd (omega (arith, o.0, k))), omega (arith, o.0))
-size_told task given now old new Refused o = ((λ e. cc, λ k. absurd (omega (arith, o.0, k))), omega (arith, o.0))
-size_told task given now old new ReadFault o = ((λ e. cc, λ k. absurd (omega (arith, o.0, k))), omega (arith, o.0))
-size_told task given now old new WriteFault o = ((λ e. cc, λ k. absurd (omega (arith, o.0, k))), omega (arith, o.0))
-size_told task given now old new Memory o = ((λ e. cc, λ k. absurd (omega (arith, o.0, k))), omega (arith, o.0))
-size_told task given now old new InputTooLong o = ((λ e. o.0, λ k. refl), o.1)
-size_told task given now old new Usage o = absurd o
+size_by : (task : Job) (given : List ℕ) (now old new : Option (List ℕ)) (status : Status) → Outcome task given now old new status → ((status ≡ InputTooLong) ↔ (2 ^ 26 < length given)) × (length given ≤ 2 ^ 26 + 2 ^ 16)
+size_by task given now old new Done o = ((λ e. cc, λ k. absurd (omega (arith, o.0, k))), omega (arith, o.0))
+size_by task given now old new Refused o = ((λ e. cc, λ k. absurd (omega (arith, o.0, k))), omega (arith, o.0))
+size_by task given now old new ReadFault o = ((λ e. cc, λ k. absurd (omega (arith, o.0, k))), omega (arith, o.0))
+size_by task given now old new WriteFault o = ((λ e. cc, λ k. absurd (omega (arith, o.0, k))), omega (arith, o.0))
+size_by task given now old new Memory o = ((λ e. cc, λ k. absurd (omega (arith, o.0, k))), omega (arith, o.0))
+size_by task given now old new InputTooLong o = ((λ e. o.0, λ k. refl), o.1)
+size_by task given now old new Usage o = absurd o
+
+pub size_told : (task : Job) (given : List ℕ) (left now old new : Option (List ℕ)) (status : Status) → left ≡ prepend_known given now → Outcome task given now old new status → TellsSize status left now
+size_told task given left now old new status gave outcome =
+    let told = size_by task given now old new status outcome in
+    record { given = given; gave = gave; told = told.0; no_more = told.1 }
+
+pub size_unasked : (left : Option (List ℕ)) → TellsSize Usage left left
+size_unasked left = record { given = []; gave = sym (prepend_known-nil left); told = (λ e. absurd (not_too_long e), λ k. absurd (omega (arith, k))); no_more = omega arith }

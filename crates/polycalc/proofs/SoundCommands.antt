@@ -1,5 +1,5 @@
 -- What an accepted command does is what it says.
-use Rattle.std.proofs.Common.{◌≡◌, ◌⊎◌, ℕ, ◌+◌, ◌*◌, ◌≤◌, List, [], ◌++◌, map, length, refl, ap, sym, ◌∙◌, subst, MatchOption, codes}
+use Rattle.std.proofs.Common.{false, ◌≡◌, ◌⊎◌, ℕ, ◌+◌, ◌*◌, ◌≤◌, List, [], ◌++◌, map, length, refl, ap, sym, ◌∙◌, subst, MatchOption, codes}
 use Rattle.std.specs.Prelude.{Option, None, Some, All, decimal}
 use Rattle.std.specs.Map.{keys_of}
 use Rattle.poly_pair.specs.Polyhedra.{Polyhedron, HasNoPoint}
@@ -49,16 +49,17 @@ use Rattle.soundness.specs.Points as points
 use Rattle.soundness.specs.Points.{PointSet, AreAlike}
 use Rattle.soundness.specs.Values as values
 use Rattle.soundness.specs.Values.{Value}
-use Rattle.soundness.specs.Sets.{IsOfConstraints, IsOfGenerators, IsSpace, IsCopy, IsAdded, IsJoined, IsClosure, AreFor, IsOfTwo, IsWidening, IsExtended, IsRemoved, IsMapped}
+use Rattle.soundness.specs.Sets.{IsOfConstraints, IsOfGenerators, IsSpace, IsCopy, IsAdded, IsJoined, IsClosure, IsOfTwo, IsWidening, IsExtended, IsRemoved, IsMapped}
 use Rattle.soundness.specs.Answers as answers
 use Rattle.soundness.specs.Unions as unions
-use Rattle.soundness.specs.Shapes as said_shapes
+use Rattle.soundness.specs.Shapes.{IsSmallestShape, IsOfTwoShapes}
 use Rattle.soundness.specs.Systems as said_systems
 use Rattle.soundness.specs.Files as files
-use Rattle.soundness.specs.Commands.{OfOne, OfTwo, Makes, MakesEach, Asks, TakesOut as TakesOutOf, TellsNames, Does}
+use Rattle.soundness.specs.Commands.{Act, OfOne, OfTwo, Makes, MakesEach, Asks, TakesOut as TakesOutOf, Does}
 use Rattle.soundness.proofs.PointLaws.{TextLaws, set_of}
-use Rattle.soundness.proofs.Operands.{one_topology, are_alike, fit_operator, fit_for}
+use Rattle.soundness.proofs.Operands.{one_topology, are_alike, fit_operator}
 use Rattle.soundness.proofs.MadeSets.{cons_made, gens_made, space_made, copy_made, add_made, addgen_made, closure_made, two_made, extension_made, remove_made, map_made}
+use Rattle.soundness.proofs.ShapeSets.{shape_set}
 use Rattle.soundness.proofs.TrueAnswers.{PolyLaws, same_dims, told_so, has_true, compared_true, relation_true, extreme_true, size_true, side_true, file_true, widen_made}
 use Rattle.polycalc.proofs.SoundValues.{system_of as said_system, automaton_of, powerset_of as said_powerset, value_of, named, stands, named_put, named_without, named_put_each, named_numbered, named_keys, named_length, AreKept, kept_at}
 use Rattle.polycalc.proofs.SoundParts.{UnionLaws, system_made, init_made, trans_made, fixpoint_made, still_made, part_made, reach_made, pset_made, combined_made, member_made, psize_true, cover_true, rank_made, ranking_true, shape_made, bounds_made, shapes_made, spoly_made, inclusion_true, sprint_true}
@@ -189,14 +190,14 @@ module _ (old new : Table) (text : List ℕ) (kept : AreKept old) where
   makes_powerset : (out : List ℕ) (m : Meaning FinitePowerset) (Is : values.Powerset → Type 0) → ((u : FinitePowerset) → IsKeptEntry (entry.Powerset u) → Passes m.conditions → m.does u → Is (said_powerset u)) → IsAccepted (puts as_powerset out m) old text new → Makes values.Union out Is (named old) text (named new)
   makes_powerset out m Is gives h = makes as_powerset entry.Powerset powerset_there values.Union said_powerset (λ s. refl) out m Is gives h
 
-  makes_shape : (out : List ℕ) (m : Meaning DifferenceShape) (Is : DifferenceShape → Type 0) → ((s : DifferenceShape) → IsKeptEntry (entry.Shape s) → Passes m.conditions → m.does s → Is s) → IsAccepted (puts as_shape out m) old text new → Makes values.Shape out Is (named old) text (named new)
-  makes_shape out m Is gives h = makes as_shape entry.Shape shape_there values.Shape (λ s. s) (λ s. refl) out m Is gives h
+  makes_shape : (out : List ℕ) (m : Meaning DifferenceShape) (Is : PointSet → Type 0) → ((s : DifferenceShape) → IsKeptEntry (entry.Shape s) → Passes m.conditions → m.does s → Is (shape_set s)) → IsAccepted (puts as_shape out m) old text new → Makes values.Shape out Is (named old) text (named new)
+  makes_shape out m Is gives h = makes as_shape entry.Shape shape_there values.Shape shape_set (λ s. refl) out m Is gives h
 
   makes_hybrid : (out : List ℕ) (m : Meaning hybrid.HybridAutomaton) (Is : values.HybridAutomaton → Type 0) → ((x : hybrid.HybridAutomaton) → IsKeptEntry (entry.Hybrid x) → Passes m.conditions → m.does x → Is (automaton_of x)) → IsAccepted (puts as_hybrid out m) old text new → Makes values.Automaton out Is (named old) text (named new)
   makes_hybrid out m Is gives h = makes as_hybrid entry.Hybrid hybrid_there values.Automaton automaton_of (λ s. refl) out m Is gives h
 
   -- ---- questions
-  asks : (m : Meaning (List ℕ)) (Is : Type 0) → (Passes m.conditions → m.does text → Is) → IsAccepted (tells m) old text new → Asks (named old) (named new) Is
+  asks : (m : Meaning (List ℕ)) (Is : List ℕ → Type 0) → (Passes m.conditions → m.does text → Is text) → IsAccepted (tells m) old text new → Asks Is (named old) text (named new)
   asks m Is gives h = (ap named (h.table ∙ said_table old m.does h.change h.does), gives h.passes (subst m.does (sym h.lines_are) (reply_is m.does h.change h.does)))
 
   -- ---- operands
@@ -232,14 +233,14 @@ module _ (old new : Table) (text : List ℕ) (kept : AreKept old) where
   tell_two m (Some a) (Some b) h = record { first = a; second = b; first_there = refl; second_there = refl; is = h }
 
   -- one operand, by what was found
-  of_one : {A B : Type 0} (find : Option Entry → Option A) (kind : A → Entry) → IsKind find kind → (into : B → Value) (said : A → B) → ((a : A) → value_of (kind a) ≡ into (said a)) → (name : List ℕ) (C : A → Type 0) (Is : B → Type 0) →
-      ((a : A) → IsKeptEntry (kind a) → C a → Is (said a)) → Found (find (entry_of old name)) C → OfOne into (named old) name Is
+  of_one : {A B : Type 0} (find : Option Entry → Option A) (kind : A → Entry) → IsKind find kind → (into : B → Value) (said : A → B) → ((a : A) → value_of (kind a) ≡ into (said a)) → (name : List ℕ) (C : A → Type 0) (Is : B → Act) →
+      ((a : A) → IsKeptEntry (kind a) → C a → Is (said a) (named old) text (named new)) → Found (find (entry_of old name)) C → OfOne into name Is (named old) text (named new)
   of_one find kind there into said same name C Is gives f =
       let at = there (entry_of old name) f.value f.there in
       record { operand = said f.value; stands = stands old name (kind f.value) at ∙ ap Some (same f.value); is = gives f.value (kept_at old name (kind f.value) kept at) f.is }
 
-  of_two : {A B : Type 0} (find : Option Entry → Option A) (kind : A → Entry) → IsKind find kind → (into : B → Value) (said : A → B) → ((a : A) → value_of (kind a) ≡ into (said a)) → (one other : List ℕ) (C : A → A → Type 0) (Is : B → B → Type 0) →
-      ((a b : A) → IsKeptEntry (kind a) → IsKeptEntry (kind b) → C a b → Is (said a) (said b)) → FoundTwo (find (entry_of old one)) (find (entry_of old other)) C → OfTwo into (named old) one other Is
+  of_two : {A B : Type 0} (find : Option Entry → Option A) (kind : A → Entry) → IsKind find kind → (into : B → Value) (said : A → B) → ((a : A) → value_of (kind a) ≡ into (said a)) → (one other : List ℕ) (C : A → A → Type 0) (Is : B → B → Act) →
+      ((a b : A) → IsKeptEntry (kind a) → IsKeptEntry (kind b) → C a b → Is (said a) (said b) (named old) text (named new)) → FoundTwo (find (entry_of old one)) (find (entry_of old other)) C → OfTwo into one other Is (named old) text (named new)
   of_two find kind there into said same one other C Is gives f =
       let first = there (entry_of old one) f.first f.first_there in
       let second = there (entry_of old other) f.second f.second_there in
@@ -251,28 +252,28 @@ module _ (old new : Table) (text : List ℕ) (kept : AreKept old) where
         is = gives f.first f.second (kept_at old one (kind f.first) kept first) (kept_at old other (kind f.second) kept second) f.is;
       }
 
-  of_poly : (name : List ℕ) (C : Polyhedron → Type 0) (Is : PointSet → Type 0) → ((p : Polyhedron) → IsProper p → C p → Is (set_of p)) → Found (poly_of old name) C → OfOne values.Polyhedron (named old) name Is
+  of_poly : (name : List ℕ) (C : Polyhedron → Type 0) (Is : PointSet → Act) → ((p : Polyhedron) → IsProper p → C p → Is (set_of p) (named old) text (named new)) → Found (poly_of old name) C → OfOne values.Polyhedron name Is (named old) text (named new)
   of_poly name C Is gives f = of_one as_poly entry.Poly poly_there values.Polyhedron set_of (λ p. refl) name C Is gives f
 
-  of_polys : (one other : List ℕ) (C : Polyhedron → Polyhedron → Type 0) (Is : PointSet → PointSet → Type 0) → ((p q : Polyhedron) → IsProper p → IsProper q → C p q → Is (set_of p) (set_of q)) → FoundTwo (poly_of old one) (poly_of old other) C → OfTwo values.Polyhedron (named old) one other Is
+  of_polys : (one other : List ℕ) (C : Polyhedron → Polyhedron → Type 0) (Is : PointSet → PointSet → Act) → ((p q : Polyhedron) → IsProper p → IsProper q → C p q → Is (set_of p) (set_of q) (named old) text (named new)) → FoundTwo (poly_of old one) (poly_of old other) C → OfTwo values.Polyhedron one other Is (named old) text (named new)
   of_polys one other C Is gives f = of_two as_poly entry.Poly poly_there values.Polyhedron set_of (λ p. refl) one other C Is gives f
 
-  of_system : (name : List ℕ) (C : trans.TransitionSystem → Type 0) (Is : values.TransitionSystem → Type 0) → ((s : trans.TransitionSystem) → trans.IsKeptSystem s → C s → Is (said_system s)) → Found (system_of old name) C → OfOne values.System (named old) name Is
+  of_system : (name : List ℕ) (C : trans.TransitionSystem → Type 0) (Is : values.TransitionSystem → Act) → ((s : trans.TransitionSystem) → trans.IsKeptSystem s → C s → Is (said_system s) (named old) text (named new)) → Found (system_of old name) C → OfOne values.System name Is (named old) text (named new)
   of_system name C Is gives f = of_one as_system entry.System system_there values.System said_system (λ p. refl) name C Is gives f
 
-  of_powerset : (name : List ℕ) (C : FinitePowerset → Type 0) (Is : values.Powerset → Type 0) → ((u : FinitePowerset) → IsKeptEntry (entry.Powerset u) → C u → Is (said_powerset u)) → Found (powerset_of old name) C → OfOne values.Union (named old) name Is
+  of_powerset : (name : List ℕ) (C : FinitePowerset → Type 0) (Is : values.Powerset → Act) → ((u : FinitePowerset) → IsKeptEntry (entry.Powerset u) → C u → Is (said_powerset u) (named old) text (named new)) → Found (powerset_of old name) C → OfOne values.Union name Is (named old) text (named new)
   of_powerset name C Is gives f = of_one as_powerset entry.Powerset powerset_there values.Union said_powerset (λ p. refl) name C Is gives f
 
-  of_powersets : (one other : List ℕ) (C : FinitePowerset → FinitePowerset → Type 0) (Is : values.Powerset → values.Powerset → Type 0) → ((s t : FinitePowerset) → IsKeptEntry (entry.Powerset s) → IsKeptEntry (entry.Powerset t) → C s t → Is (said_powerset s) (said_powerset t)) → FoundTwo (powerset_of old one) (powerset_of old other) C → OfTwo values.Union (named old) one other Is
+  of_powersets : (one other : List ℕ) (C : FinitePowerset → FinitePowerset → Type 0) (Is : values.Powerset → values.Powerset → Act) → ((s t : FinitePowerset) → IsKeptEntry (entry.Powerset s) → IsKeptEntry (entry.Powerset t) → C s t → Is (said_powerset s) (said_powerset t) (named old) text (named new)) → FoundTwo (powerset_of old one) (powerset_of old other) C → OfTwo values.Union one other Is (named old) text (named new)
   of_powersets one other C Is gives f = of_two as_powerset entry.Powerset powerset_there values.Union said_powerset (λ p. refl) one other C Is gives f
 
-  of_shape : (name : List ℕ) (C : DifferenceShape → Type 0) (Is : DifferenceShape → Type 0) → ((s : DifferenceShape) → IsKeptEntry (entry.Shape s) → C s → Is s) → Found (shape_of old name) C → OfOne values.Shape (named old) name Is
-  of_shape name C Is gives f = of_one as_shape entry.Shape shape_there values.Shape (λ s. s) (λ p. refl) name C Is gives f
+  of_shape : (name : List ℕ) (C : DifferenceShape → Type 0) (Is : PointSet → Act) → ((s : DifferenceShape) → IsKeptEntry (entry.Shape s) → C s → Is (shape_set s) (named old) text (named new)) → Found (shape_of old name) C → OfOne values.Shape name Is (named old) text (named new)
+  of_shape name C Is gives f = of_one as_shape entry.Shape shape_there values.Shape shape_set (λ p. refl) name C Is gives f
 
-  of_shapes : (one other : List ℕ) (C Is : DifferenceShape → DifferenceShape → Type 0) → ((s t : DifferenceShape) → IsKeptEntry (entry.Shape s) → IsKeptEntry (entry.Shape t) → C s t → Is s t) → FoundTwo (shape_of old one) (shape_of old other) C → OfTwo values.Shape (named old) one other Is
-  of_shapes one other C Is gives f = of_two as_shape entry.Shape shape_there values.Shape (λ s. s) (λ p. refl) one other C Is gives f
+  of_shapes : (one other : List ℕ) (C : DifferenceShape → DifferenceShape → Type 0) (Is : PointSet → PointSet → Act) → ((s t : DifferenceShape) → IsKeptEntry (entry.Shape s) → IsKeptEntry (entry.Shape t) → C s t → Is (shape_set s) (shape_set t) (named old) text (named new)) → FoundTwo (shape_of old one) (shape_of old other) C → OfTwo values.Shape one other Is (named old) text (named new)
+  of_shapes one other C Is gives f = of_two as_shape entry.Shape shape_there values.Shape shape_set (λ p. refl) one other C Is gives f
 
-  of_hybrid : (name : List ℕ) (C : hybrid.HybridAutomaton → Type 0) (Is : values.HybridAutomaton → Type 0) → ((x : hybrid.HybridAutomaton) → hybrid.IsKeptHybrid x → C x → Is (automaton_of x)) → Found (hybrid_of old name) C → OfOne values.Automaton (named old) name Is
+  of_hybrid : (name : List ℕ) (C : hybrid.HybridAutomaton → Type 0) (Is : values.HybridAutomaton → Act) → ((x : hybrid.HybridAutomaton) → hybrid.IsKeptHybrid x → C x → Is (automaton_of x) (named old) text (named new)) → Found (hybrid_of old name) C → OfOne values.Automaton name Is (named old) text (named new)
   of_hybrid name C Is gives f = of_one as_hybrid entry.Hybrid hybrid_there values.Automaton automaton_of (λ p. refl) name C Is gives f
 
   -- each set that a run puts under a numbered name
@@ -290,146 +291,149 @@ module _ (old new : Table) (text : List ℕ) (kept : AreKept old) where
   drops name None there h = absurd h.does
   drops name (Some e) there h = taken_made name e old text new h.change there h.does h.lines_are h.table
 
-  lists : text ≡ line (names_text old) → TellsNames (named old) text
+  lists : text ≡ line (names_text old) → text ≡ names_line (length (named old)) (keys_of (named old))
   lists e = e ∙ (ap (λ (n : ℕ). names_line n (keys_of old)) (sym (named_length old)) ∙ ap (names_line (length (named old))) (sym (named_keys old)))
 
   -- ---- each command
-  pub accepted_does : Laws → (c : Command) → IsAccepted (meaning old c) old text new → Does (named old) c text (named new)
-  accepted_does laws command.Nothing h = asks (says []) (text ≡ []) (λ passes e. e) h
+  pub accepted_does : Laws → (c : Command) → IsAccepted (meaning old c) old text new → Does c (named old) text (named new)
+  accepted_does laws command.Nothing h = asks (says []) (λ reply. reply ≡ []) (λ passes e. e) h
   accepted_does laws (command.Cons out top n part) h = makes_poly out (makers.cons (has_no_room old out) (topology_of top) n part) (IsOfConstraints top n part) (λ r proper passes d. cons_made laws.texts top n part r proper d) h
   accepted_does laws (command.Gens out top n part) h = makes_poly out (makers.gens (has_no_room old out) (topology_of top) n part) (IsOfGenerators top n part) (λ r proper passes d. gens_made laws.texts top n part r proper d) h
   accepted_does laws (command.Space space out top n) h = makes_poly out (makers.space_of space (has_no_room old out) (topology_of top) n) (IsSpace space top n) (λ r proper passes d. space_made space top n r proper d) h
   accepted_does laws (command.Copy out p) h =
-      of_poly p _ (λ x. Makes values.Polyhedron out (IsCopy x) (named old) text (named new)) (λ q proper a. makes_poly out (makers.copy (has_no_room old out) q) (IsCopy (set_of q)) (λ r kept_r passes d. copy_made q r proper d) a)
+      of_poly p _ (λ x. Makes values.Polyhedron out (IsCopy x)) (λ q proper a. makes_poly out (makers.copy (has_no_room old out) q) (IsCopy (set_of q)) (λ r kept_r passes d. copy_made q r proper d) a)
       (put_one as_poly entry.Poly poly_there out (makers.copy (has_no_room old out)) (poly_of old p) h)
   accepted_does laws (command.Drop name) h = drops name (entry_of old name) refl h
   accepted_does laws (command.Add p part) h =
-      of_poly p _ (λ x. Makes values.Polyhedron p (IsAdded part x) (named old) text (named new)) (λ q proper a. makes_poly p (makers.add part q) (IsAdded part (set_of q)) (λ r kept_r passes d. add_made laws.texts part q r kept_r d) a)
+      of_poly p _ (λ x. Makes values.Polyhedron p (IsAdded part x)) (λ q proper a. makes_poly p (makers.add part q) (IsAdded part (set_of q)) (λ r kept_r passes d. add_made laws.texts part q r kept_r d) a)
       (put_one as_poly entry.Poly poly_there p (makers.add part) (poly_of old p) h)
   accepted_does laws (command.Addgen p part) h =
-      of_poly p _ (λ x. Makes values.Polyhedron p (IsJoined part x) (named old) text (named new))
+      of_poly p _ (λ x. Makes values.Polyhedron p (IsJoined part x))
       (λ q proper a. makes_poly p (makers.addgen part q) (IsJoined part (set_of q)) (λ r kept_r passes d. addgen_made laws.texts part q r proper kept_r (same_dims q proper) (laws.poly.pair q proper.kept) (laws.poly.empty q proper.kept).1 d) a)
       (put_one as_poly entry.Poly poly_there p (makers.addgen part) (poly_of old p) h)
   accepted_does laws (command.Has p part) h =
-      of_poly p _ (λ x. Asks (named old) (named new) (answers.TellsWhether part x text)) (λ q proper a. asks (has part q) (answers.TellsWhether part (set_of q) text) (λ passes d. has_true laws.texts part q text d) a) (tell_one (has part) (poly_of old p) h)
+      of_poly p _ (λ x. Asks (answers.TellsWhether part x)) (λ q proper a. asks (has part q) (answers.TellsWhether part (set_of q)) (λ passes d. has_true laws.texts part q text d) a) (tell_one (has part) (poly_of old p) h)
   accepted_does laws (command.Size p) h =
-      of_poly p _ (λ x. Asks (named old) (named new) (answers.TellsSize x text)) (λ q proper a. asks (size q) (answers.TellsSize (set_of q) text) (λ passes d. size_true laws.poly q text proper d) a) (tell_one size (poly_of old p) h)
+      of_poly p _ (λ x. Asks (answers.TellsSize x)) (λ q proper a. asks (size q) (answers.TellsSize (set_of q)) (λ passes d. size_true laws.poly q text proper d) a) (tell_one size (poly_of old p) h)
   accepted_does laws (command.Print side p) h =
-      of_poly p _ (λ x. Asks (named old) (named new) (answers.TellsSide side x text)) (λ q proper a. asks (print side q) (answers.TellsSide side (set_of q) text) (λ passes d. side_true laws.texts laws.poly side q text proper d) a) (tell_one (print side) (poly_of old p) h)
-  accepted_does laws command.Names h = asks (tell_names old) (TellsNames (named old) text) (λ passes d. lists d) h
+      of_poly p _ (λ x. Asks (answers.TellsSystem side x)) (λ q proper a. asks (print side q) (answers.TellsSystem side (set_of q)) (λ passes d. side_true laws.texts laws.poly side q text proper d) a) (tell_one (print side) (poly_of old p) h)
+  accepted_does laws command.Names h =
+      let a = asks (tell_names old) (λ reply. reply ≡ names_line (length (named old)) (keys_of (named old))) (λ passes d. lists d) h in
+      record { same = a.0; said = a.1 }
   accepted_does laws (command.OfTwo op out p q) h =
-      of_polys p q _ (λ x y. AreFor op x y × Makes values.Polyhedron out (IsOfTwo op x y) (named old) text (named new))
-      (λ x y proper_x proper_y a. (let fits = fit_operator op x y (room (has_no_room old out)) a.passes in
-      (fit_for op x y fits, makes_poly out (operators.operated op (has_no_room old out) x y) (IsOfTwo op (set_of x) (set_of y)) (λ r kept_r passes d. two_made op x y r kept_r fits d) a)))
+      of_polys p q _ (λ x y. Makes values.Polyhedron out (IsOfTwo op x y))
+      (λ x y proper_x proper_y a. makes_poly out (operators.operated op (has_no_room old out) x y) (IsOfTwo op (set_of x) (set_of y)) (λ r kept_r passes d. two_made op x y r kept_r (fit_operator op x y (room (has_no_room old out)) passes) d) a)
       (put_two as_poly entry.Poly poly_there out (operators.operated op (has_no_room old out)) (poly_of old p) (poly_of old q) h)
   accepted_does laws (command.Closure out p) h =
-      of_poly p _ (λ x. Makes values.Polyhedron out (IsClosure x) (named old) text (named new)) (λ q proper a. makes_poly out (closure (has_no_room old out) q) (IsClosure (set_of q)) (λ r kept_r passes d. closure_made q r kept_r d) a)
+      of_poly p _ (λ x. Makes values.Polyhedron out (IsClosure x)) (λ q proper a. makes_poly out (closure (has_no_room old out) q) (IsClosure (set_of q)) (λ r kept_r passes d. closure_made q r kept_r d) a)
       (put_one as_poly entry.Poly poly_there out (closure (has_no_room old out)) (poly_of old p) h)
   accepted_does laws (command.Compare by p q) h =
-      of_polys p q _ (λ x y. AreAlike x y × Asks (named old) (named new) (answers.Tells (answers.LieSo by x y) text))
-      (λ x y proper_x proper_y a. (let alike = compared_alike by x y a.passes in (alike, asks (compared by x y) (answers.Tells (answers.LieSo by (set_of x) (set_of y)) text) (λ passes d. compared_true by x y text alike d) a)))
+      of_polys p q _ (λ x y. Asks (answers.TellsHowTheyLie by x y))
+      (λ x y proper_x proper_y a. asks (compared by x y) (answers.TellsHowTheyLie by (set_of x) (set_of y))
+      (λ passes d. (let alike = compared_alike by x y passes in record { operands = alike; tells = compared_true by x y text alike d })) a)
       (tell_two (compared by) (poly_of old p) (poly_of old q) h)
   accepted_does laws (command.Isempty p) h =
-      of_poly p _ (λ x. Asks (named old) (named new) (answers.Tells (points.HasNoPoint x) text)) (λ q proper a. asks (isempty q) (answers.Tells (points.HasNoPoint (set_of q)) text) (λ passes d. told_so (HasNoPoint q) text d) a) (tell_one isempty (poly_of old p) h)
+      of_poly p _ (λ x. Asks (answers.Tells (points.HasNoPoint x))) (λ q proper a. asks (isempty q) (answers.Tells (points.HasNoPoint (set_of q))) (λ passes d. told_so (HasNoPoint q) text d) a) (tell_one isempty (poly_of old p) h)
   accepted_does laws (command.Relation p part) h =
-      of_poly p _ (λ x. Asks (named old) (named new) (answers.TellsRelation part x text)) (λ q proper a. asks (relation part q) (answers.TellsRelation part (set_of q) text) (λ passes d. relation_true laws.texts part q text d) a) (tell_one (relation part) (poly_of old p) h)
+      of_poly p _ (λ x. Asks (answers.TellsRelation part x)) (λ q proper a. asks (relation part q) (answers.TellsRelation part (set_of q)) (λ passes d. relation_true laws.texts part q text d) a) (tell_one (relation part) (poly_of old p) h)
   accepted_does laws (command.Bound extremum p part) h =
-      of_poly p _ (λ x. Asks (named old) (named new) (answers.TellsExtreme extremum part x text))
-      (λ q proper a. asks (bound (is_max extremum) part q) (answers.TellsExtreme extremum part (set_of q) text) (λ passes d. extreme_true laws.texts laws.poly extremum part q text proper d) a)
+      of_poly p _ (λ x. Asks (answers.TellsExtreme extremum part x))
+      (λ q proper a. asks (bound (is_max extremum) part q) (answers.TellsExtreme extremum part (set_of q)) (λ passes d. extreme_true laws.texts laws.poly extremum part q text proper d) a)
       (tell_one (bound (is_max extremum) part) (poly_of old p) h)
   accepted_does laws (command.Map by out p v rel part) h =
-      of_poly p _ (λ x. Makes values.Polyhedron out (IsMapped by v rel part x) (named old) text (named new))
+      of_poly p _ (λ x. Makes values.Polyhedron out (IsMapped by v rel part x))
       (λ q proper a. makes_poly out (mapped_by by (has_no_room old out) v rel part q) (IsMapped by v rel part (set_of q)) (λ r kept_r passes d. map_made laws.texts by v rel part q r kept_r d) a)
       (put_one as_poly entry.Poly poly_there out (mapped_by by (has_no_room old out) v rel part) (poly_of old p) h)
   accepted_does laws (command.Extend by out p n) h =
-      of_poly p _ (λ x. Makes values.Polyhedron out (IsExtended by n x) (named old) text (named new))
+      of_poly p _ (λ x. Makes values.Polyhedron out (IsExtended by n x))
       (λ q proper a. makes_poly out (operators.extended by (has_no_room old out) n q) (IsExtended by n (set_of q)) (λ r kept_r passes d. extension_made by n q r kept_r d) a)
       (put_one as_poly entry.Poly poly_there out (operators.extended by (has_no_room old out) n) (poly_of old p) h)
   accepted_does laws (command.Remove out p vars) h =
-      of_poly p _ (λ x. Makes values.Polyhedron out (IsRemoved vars x) (named old) text (named new))
+      of_poly p _ (λ x. Makes values.Polyhedron out (IsRemoved vars x))
       (λ q proper a. makes_poly out (remove (has_no_room old out) vars q) (IsRemoved vars (set_of q)) (λ r kept_r passes d. remove_made vars q r kept_r passes.1.1.1.1.1.0 d) a)
       (put_one as_poly entry.Poly poly_there out (remove (has_no_room old out) vars) (poly_of old p) h)
   accepted_does laws (command.Widen out p q) h =
-      of_polys p q _ (λ x y. Makes values.Polyhedron out (IsWidening x y) (named old) text (named new))
+      of_polys p q _ (λ x y. Makes values.Polyhedron out (IsWidening x y))
       (λ x y proper_x proper_y a. makes_poly out (widen (has_no_room old out) x y) (IsWidening (set_of x) (set_of y)) (λ r kept_r passes d. widen_made laws.poly x y r (room (has_no_room old out)) proper_x proper_y kept_r passes d) a)
       (put_two as_poly entry.Poly poly_there out (widen (has_no_room old out)) (poly_of old p) (poly_of old q) h)
-  accepted_does laws (command.Read out ext) h = asks (says []) (text ≡ []) (λ passes e. e) h
+  accepted_does laws (command.Read out ext) h = asks (says []) (λ reply. reply ≡ []) (λ passes e. e) h
   accepted_does laws (command.Write p ext) h =
-      of_poly p _ (λ x. Asks (named old) (named new) (files.TellsFile ext x text))
-      (λ q proper a. asks (write ext q) (files.TellsFile ext (set_of q) text) (λ passes d. file_true laws.poly ext q text proper (one_topology q.topology Closed passes.1.1.0) d) a)
+      of_poly p _ (λ x. Asks (files.TellsFile ext x))
+      (λ q proper a. asks (write ext q) (files.TellsFile ext (set_of q)) (λ passes d. file_true laws.poly ext q text proper (one_topology q.topology Closed passes.1.1.0) d) a)
       (tell_one (write ext) (poly_of old p) h)
   accepted_does laws (command.System out n locations) h = makes_system out (systems.system (has_no_room old out) n locations) (said_systems.IsEmptySystem n locations) (λ s kept_s passes d. system_made n locations s kept_s d) h
   accepted_does laws (command.Init s location p) h =
-      of_system s _ (λ x. OfOne values.Polyhedron (named old) p (λ y. Makes values.System s (said_systems.IsWithInitial location x y) (named old) text (named new)))
-      (λ x kept_x b. of_poly p _ (λ y. Makes values.System s (said_systems.IsWithInitial location (said_system x) y) (named old) text (named new))
+      of_system s _ (λ x. OfOne values.Polyhedron p (λ y. Makes values.System s (said_systems.IsWithInitial location x y)))
+      (λ x kept_x b. of_poly p _ (λ y. Makes values.System s (said_systems.IsWithInitial location (said_system x) y))
       (λ q proper a. makes_system s (init_meaning location x q) (said_systems.IsWithInitial location (said_system x) (set_of q)) (λ r kept_r passes d. init_made location x q r proper passes d) a)
       (accepted_one (parts.init s location x) (poly_of old p) b))
       (accepted_one (λ x. on_one (poly_of old p) (parts.init s location x)) (system_of old s) h)
   accepted_does laws (command.Trans s source target p) h =
-      of_system s _ (λ x. OfOne values.Polyhedron (named old) p (λ y. Makes values.System s (said_systems.IsWithTransition source target x y) (named old) text (named new)))
-      (λ x kept_x b. of_poly p _ (λ y. Makes values.System s (said_systems.IsWithTransition source target (said_system x) y) (named old) text (named new))
+      of_system s _ (λ x. OfOne values.Polyhedron p (λ y. Makes values.System s (said_systems.IsWithTransition source target x y)))
+      (λ x kept_x b. of_poly p _ (λ y. Makes values.System s (said_systems.IsWithTransition source target (said_system x) y))
       (λ q proper a. makes_system s (trans_meaning source target x q) (said_systems.IsWithTransition source target (said_system x) (set_of q)) (λ r kept_r passes d. trans_made source target x q r proper passes d) a)
       (accepted_one (parts.trans s source target x) (poly_of old p) b))
       (accepted_one (λ x. on_one (poly_of old p) (parts.trans s source target x)) (system_of old s) h)
   accepted_does laws (command.Fixpoint s delay prefix) h =
-      of_system s _ (λ x. MakesEach prefix (said_systems.AreInvariant x) (named old) text (named new))
+      of_system s _ (λ x. MakesEach prefix (said_systems.AreInvariant x))
       (λ x kept_x a. makes_each prefix (systems.AreReached x delay) (said_systems.AreInvariant (said_system x)) (systems.fixpoint old delay prefix x) (λ sets kept_sets r. fixpoint_made x delay sets kept_x r) (λ change d. d) a)
       (accepted_one (systems.fixpoint old delay prefix) (system_of old s) h)
   accepted_does laws (command.Pset out p) h =
-      of_poly p _ (λ x. Makes values.Union out (unions.IsOfOne x) (named old) text (named new)) (λ q proper a. makes_powerset out (powersets.pset (has_no_room old out) q) (unions.IsOfOne (set_of q)) (λ u kept_u passes d. pset_made q u d) a)
+      of_poly p _ (λ x. Makes values.Union out (unions.IsOfOne x)) (λ q proper a. makes_powerset out (powersets.pset (has_no_room old out) q) (unions.IsOfOne (set_of q)) (λ u kept_u passes d. pset_made q u d) a)
       (put_one as_powerset entry.Powerset powerset_there out (powersets.pset (has_no_room old out)) (poly_of old p) h)
   accepted_does laws (command.OfTwoPowersets op out s t) h =
-      of_powersets s t _ (λ x y. Makes values.Union out (unions.IsCombined op x y) (named old) text (named new))
+      of_powersets s t _ (λ x y. Makes values.Union out (unions.IsCombined op x y))
       (λ x y kept_x kept_y a. makes_powerset out (powersets.of_two_powersets op (has_no_room old out) x y) (unions.IsCombined op (said_powerset x) (said_powerset y)) (λ u kept_u passes d. combined_made laws.unions op x y u (room (has_no_room old out)) kept_x kept_y kept_u passes d) a)
       (put_two as_powerset entry.Powerset powerset_there out (powersets.of_two_powersets op (has_no_room old out)) (powerset_of old s) (powerset_of old t) h)
   accepted_does laws (command.Member out s i) h =
-      of_powerset s _ (λ x. Makes values.Polyhedron out (unions.IsMember i x) (named old) text (named new))
+      of_powerset s _ (λ x. Makes values.Polyhedron out (unions.IsMember i x))
       (λ x kept_x a. makes_poly out (powersets.member (has_no_room old out) i x) (unions.IsMember i (said_powerset x)) (λ r kept_r passes d. member_made i x r (room (has_no_room old out)) kept_x kept_r passes d) a)
       (put_one as_poly entry.Poly poly_there out (powersets.member (has_no_room old out) i) (powerset_of old s) h)
   accepted_does laws (command.Psize s) h =
-      of_powerset s _ (λ x. Asks (named old) (named new) (unions.TellsMembers x text)) (λ x kept_x a. asks (powersets.psize x) (unions.TellsMembers (said_powerset x) text) (λ passes d. psize_true x text d) a) (tell_one powersets.psize (powerset_of old s) h)
+      of_powerset s _ (λ x. Asks (unions.TellsMembers x)) (λ x kept_x a. asks (powersets.psize x) (unions.TellsMembers (said_powerset x)) (λ passes d. psize_true x text d) a) (tell_one powersets.psize (powerset_of old s) h)
   accepted_does laws (command.Covers s t) h =
-      of_powersets s t _ (λ x y. Asks (named old) (named new) (unions.TellsCover x y text))
-      (λ x y kept_x kept_y a. asks (powersets.covers x y) (unions.TellsCover (said_powerset x) (said_powerset y) text) (λ passes d. cover_true x y text no_fault passes d) a)
+      of_powersets s t _ (λ x y. Asks (unions.TellsCover x y))
+      (λ x y kept_x kept_y a. asks (powersets.covers x y) (unions.TellsCover (said_powerset x) (said_powerset y)) (λ passes d. cover_true x y text no_fault passes d) a)
       (tell_two powersets.covers (powerset_of old s) (powerset_of old t) h)
   accepted_does laws (command.Rank out r) h =
-      of_poly r _ (λ x. Makes values.Polyhedron out (unions.AreRankings x) (named old) text (named new))
+      of_poly r _ (λ x. Makes values.Polyhedron out (unions.AreRankings x))
       (λ q proper a. makes_poly out (rankings.rank (has_no_room old out) q) (unions.AreRankings (set_of q)) (λ s kept_s passes d. rank_made q s (room (has_no_room old out)) kept_s passes d) a)
       (put_one as_poly entry.Poly poly_there out (rankings.rank (has_no_room old out)) (poly_of old r) h)
   accepted_does laws (command.Ranking r) h =
-      of_poly r _ (λ x. Asks (named old) (named new) (unions.TellsRanking x text)) (λ q proper a. asks (rankings.ranking q) (unions.TellsRanking (set_of q) text) (λ passes d. ranking_true laws.texts laws.ranking q text no_fault passes d) a)
+      of_poly r _ (λ x. Asks (unions.TellsRanking x)) (λ q proper a. asks (rankings.ranking q) (unions.TellsRanking (set_of q)) (λ passes d. ranking_true laws.texts laws.ranking q text no_fault passes d) a)
       (tell_one rankings.ranking (poly_of old r) h)
   accepted_does laws (command.ShapeOf out p) h =
-      of_poly p _ (λ x. Makes values.Shape out (said_shapes.IsSmallestShape x) (named old) text (named new))
-      (λ q proper a. makes_shape out (shapes.shape (has_no_room old out) q) (said_shapes.IsSmallestShape (set_of q)) (λ s kept_s passes d. shape_made q s (room (has_no_room old out)) passes d) a)
+      of_poly p _ (λ x. Makes values.Shape out (IsSmallestShape x))
+      (λ q proper a. makes_shape out (shapes.shape (has_no_room old out) q) (IsSmallestShape (set_of q)) (λ s kept_s passes d. shape_made q s (room (has_no_room old out)) kept_s passes d) a)
       (put_one as_shape entry.Shape shape_there out (shapes.shape (has_no_room old out)) (poly_of old p) h)
-  accepted_does laws (command.Bounds out n part) h = makes_shape out (shapes.bounds (has_no_room old out) n part) (said_shapes.IsShapeOf n part) (λ s kept_s passes d. bounds_made laws.texts n part s d) h
+  accepted_does laws (command.Bounds out n part) h = makes_shape out (shapes.bounds (has_no_room old out) n part) (IsOfConstraints false n part) (λ s kept_s passes d. bounds_made laws.texts n part s kept_s d) h
   accepted_does laws (command.OfTwoShapes op out s t) h =
-      of_shapes s t _ (λ x y. Makes values.Shape out (said_shapes.IsCombined op x y) (named old) text (named new))
-      (λ x y kept_x kept_y a. makes_shape out (shapes.of_two_shapes op (has_no_room old out) x y) (said_shapes.IsCombined op x y) (λ r kept_r passes d. shapes_made op x y r (room (has_no_room old out)) passes d) a)
+      of_shapes s t _ (λ x y. Makes values.Shape out (IsOfTwoShapes op x y))
+      (λ x y kept_x kept_y a. makes_shape out (shapes.of_two_shapes op (has_no_room old out) x y) (IsOfTwoShapes op (shape_set x) (shape_set y)) (λ r kept_r passes d. shapes_made op x y r (room (has_no_room old out)) kept_x kept_y kept_r passes d) a)
       (put_two as_shape entry.Shape shape_there out (shapes.of_two_shapes op (has_no_room old out)) (shape_of old s) (shape_of old t) h)
   accepted_does laws (command.ShapeContains s t) h =
-      of_shapes s t _ (λ x y. Asks (named old) (named new) (said_shapes.TellsInclusion x y text))
-      (λ x y kept_x kept_y a. asks (shapes.shape_contains x y) (said_shapes.TellsInclusion x y text) (λ passes d. inclusion_true x y text no_fault passes d) a)
+      of_shapes s t _ (λ x y. Asks (answers.TellsHowTheyLie comparison.Contains x y))
+      (λ x y kept_x kept_y a. asks (shapes.shape_contains x y) (answers.TellsHowTheyLie comparison.Contains (shape_set x) (shape_set y)) (λ passes d. inclusion_true x y text no_fault kept_x kept_y passes d) a)
       (tell_two shapes.shape_contains (shape_of old s) (shape_of old t) h)
   accepted_does laws (command.ShapePrint s) h =
-      of_shape s _ (λ x. Asks (named old) (named new) (said_shapes.TellsBounds x text)) (λ x kept_x a. asks (shapes.shape_print x) (said_shapes.TellsBounds x text) (λ passes d. sprint_true laws.texts laws.poly.cons x text kept_x d) a)
+      of_shape s _ (λ x. Asks (answers.TellsConstraints x))
+      (λ x kept_x a. asks (shapes.shape_print x) (answers.TellsConstraints (shape_set x)) (λ passes d. sprint_true laws.texts laws.poly.cons x text kept_x d) a)
       (tell_one shapes.shape_print (shape_of old s) h)
   accepted_does laws (command.ShapePoly out s) h =
-      of_shape s _ (λ x. Makes values.Polyhedron out (said_shapes.IsSetOfShape x) (named old) text (named new))
-      (λ x kept_x a. makes_poly out (shapes.shape_poly (has_no_room old out) x) (said_shapes.IsSetOfShape x) (λ p kept_p passes d. spoly_made x p kept_p d) a)
+      of_shape s _ (λ x. Makes values.Polyhedron out (IsCopy x))
+      (λ x kept_x a. makes_poly out (shapes.shape_poly (has_no_room old out) x) (IsCopy (shape_set x)) (λ p kept_p passes d. spoly_made x p kept_x kept_p d) a)
       (put_one as_poly entry.Poly poly_there out (shapes.shape_poly (has_no_room old out)) (shape_of old s) h)
   accepted_does laws (command.Hybrid out s) h =
-      of_system s _ (λ x. Makes values.Automaton out (said_systems.IsStill x) (named old) text (named new))
+      of_system s _ (λ x. Makes values.Automaton out (said_systems.IsStill x))
       (λ x kept_x a. makes_hybrid out (hybrids.hybrid (has_no_room old out) x) (said_systems.IsStill (said_system x)) (λ k kept_k passes d. still_made x k kept_k d) a)
       (put_one as_hybrid entry.Hybrid hybrid_there out (hybrids.hybrid (has_no_room old out)) (system_of old s) h)
   accepted_does laws (command.SetPart part name location p) h =
-      of_hybrid name _ (λ x. OfOne values.Polyhedron (named old) p (λ y. Makes values.Automaton name (said_systems.IsWithPart part location x y) (named old) text (named new)))
-      (λ x kept_x b. of_poly p _ (λ y. Makes values.Automaton name (said_systems.IsWithPart part location (automaton_of x) y) (named old) text (named new))
+      of_hybrid name _ (λ x. OfOne values.Polyhedron p (λ y. Makes values.Automaton name (said_systems.IsWithPart part location x y)))
+      (λ x kept_x b. of_poly p _ (λ y. Makes values.Automaton name (said_systems.IsWithPart part location (automaton_of x) y))
       (λ q proper a. makes_hybrid name (part_meaning part location x q) (said_systems.IsWithPart part location (automaton_of x) (set_of q)) (λ r kept_r passes d. part_made part location x q r proper passes d) a)
       (accepted_one (parts.set_part part name location x) (poly_of old p) b))
       (accepted_one (λ x. on_one (poly_of old p) (parts.set_part part name location x)) (hybrid_of old name) h)
   accepted_does laws (command.Reach k delay prefix) h =
-      of_hybrid k _ (λ x. MakesEach prefix (said_systems.AreReached x) (named old) text (named new))
+      of_hybrid k _ (λ x. MakesEach prefix (said_systems.AreReached x))
       (λ x kept_x a. makes_each prefix (hybrids.AreReachedParts x delay) (said_systems.AreReached (automaton_of x)) (hybrids.reach old delay prefix x) (λ sets kept_sets r. reach_made x delay sets kept_x kept_sets r) (λ change d. d) a)
       (accepted_one (hybrids.reach old delay prefix) (hybrid_of old k) h)

@@ -1,6 +1,6 @@
 -- Systems, automata, powersets, shapes and ranking functions are those that are said.
-use Rattle.std.proofs.Common.{◌≡◌, ◌≢◌, ◌⊎◌, inl, inr, ◌↔◌, ℕ, ◌+◌, ◌-◌, ◌*◌, ◌/◌, ◌%◌, ◌<◌, ◌≤◌, List, [], ◌∷◌, ◌++◌, map, length, take, refl, ap, sym, ◌∙◌, subst, slice_get, slice_set, All, Contains, IfSome, ℤ, codes, arith}
-use Rattle.std.specs.Prelude.{Option, None, Some, decimal, slice_index_or}
+use Rattle.std.proofs.Common.{false, ◌≡◌, ◌≢◌, ◌⊎◌, inl, inr, ◌↔◌, ℕ, ◌+◌, ◌-◌, ◌*◌, ◌/◌, ◌%◌, ◌<◌, ◌≤◌, List, [], ◌∷◌, ◌++◌, map, length, take, refl, ap, sym, ◌∙◌, subst, slice_get, slice_set, All, Contains, ℤ, codes, arith}
+use Rattle.std.specs.Prelude.{Option, None, Some, decimal, slice_index_or, ⊤}
 use Rattle.std.specs.Option.{option_map}
 use Rattle.std.proofs.lemmas.Bool.{cases_lt}
 use Rattle.std.proofs.lemmas.Option.{slice_get-map, slice_get_within, get_or_from_slice_get}
@@ -21,7 +21,6 @@ use Rattle.hybrid.specs.Turns.{turns_of}
 use Rattle.hybrid.proofs.HybridTurns.{proper, initial_sets}
 use Rattle.widening.specs.RunLaws.{AreSetsOf}
 use Rattle.widening.proofs.RoundLemmas.{start_table, rounds_table}
-use Rattle.trans_sys.specs.declared.transition.Transition as declared
 use Rattle.widening.proofs.Places.{all_at, has_at}
 use Rattle.affine_maps.specs.Posts.{IsStepTo}
 use Rattle.powerset.specs.Powersets as powersets
@@ -33,12 +32,8 @@ use Rattle.expr_text.specs.Printed.{constraints_text}
 use Rattle.expr_text.specs.ReadBack.{ConstraintsAreReadBack}
 use Rattle.ranking.specs.Laws as ranking
 use Rattle.ranking.specs.Laws.{PrintedFunctionRanks}
-use Rattle.bd_shape.specs.Shapes.{DifferenceShape, Includes, IsShape}
+use Rattle.bd_shape.specs.Shapes.{DifferenceShape, Includes, IsIn, IsHull, IsShape}
 use Rattle.bd_shape.specs.Rows.{shape_constraints}
-use Rattle.bd_shape.proofs.RowLists.{list_points}
-use Rattle.bd_shape.specs.Suprema as suprema
-use Rattle.difference_bounds.specs.Walks.{Bound}
-use Rattle.difference_bounds.specs.Tables.{Table, bounds_of}
 use Rattle.powerset.specs.Covers as covers
 use Rattle.ranking.specs.Rankings as rankings
 use Rattle.ranking.specs.Functions as functions
@@ -60,16 +55,20 @@ use Rattle.calc_state.specs.Parts as parts
 use Rattle.calc_state.specs.Powersets as made_powersets
 use Rattle.calc_state.specs.Rankings as made_rankings
 use Rattle.calc_state.specs.Shapes as made_shapes
-use Rattle.soundness.specs.Points.{PointSet, HasNoPoint}
+use Rattle.elapse.specs.ElapsedPoints.{IsMoved}
+use Rattle.soundness.specs.Points.{PointSet, HasNoPoint, IsOver}
 use Rattle.soundness.specs.Values.{Transition, TransitionSystem, HybridAutomaton}
-use Rattle.soundness.specs.Answers.{line}
+use Rattle.script_text.specs.declared.command.Comparison.TheVariants as comparison
+use Rattle.soundness.specs.Sets.{constraints, IsOfConstraints, IsCopy}
+use Rattle.soundness.specs.Answers.{line, LieSo, TellsHowTheyLie, TellsConstraints}
 use Rattle.soundness.specs.Unions as unions
-use Rattle.soundness.specs.Shapes as shapes
-use Rattle.soundness.specs.Systems.{IsClosedOver, IsEmptySystem, IsWithInitial, IsWithTransition, IsStill, with_part, IsWithPart, IncludeInitial, AreClosedUnder, AreInvariant, IncludeInitialWithin, AreClosedUnderFlow, AreClosedUnderJumps, AreReached}
+use Rattle.soundness.specs.Shapes.{IsInSmallestShape, IsSmallestShape, IsOfTwoShapes}
+use Rattle.soundness.specs.Systems.{IsEmptySystem, IsWithInitial, IsWithTransition, IsStill, with_part, IsWithPart, IsAt, IncludeInitial, AreClosedUnder, AreInvariant, AreReached}
 use Rattle.soundness.proofs.PointLaws.{TextLaws, via, turn, is_nnc, set_of, is_over, closed_is_over, set_is, moved, within}
 use Rattle.soundness.proofs.Operands.{one_topology, one_number, below}
-use Rattle.soundness.proofs.TrueAnswers.{told_so}
+use Rattle.soundness.proofs.TrueAnswers.{told}
 use Rattle.soundness.proofs.ShapeRows.{shape_fits}
+use Rattle.soundness.proofs.ShapeSets.{shape_set, in_shape, within_shape, shape_is, smallest_from, smallest_to, hull_to, smallest_same}
 use Rattle.polycalc.proofs.SoundValues.{transition_of, system_of, automaton_of, powerset_of}
 
 -- ---- places of a list
@@ -94,11 +93,11 @@ push_map f [] a = refl
 push_map f (x ∷ xs) a = ap (λ (l : List _). f x ∷ l) (push_map f xs a)
 
 -- ---- closed sets
-closed_over : (dim : ℕ) (p : Polyhedron) → poly.IsKept p → p.topology ≡ Closed → p.cons.dim ≡ dim → IsClosedOver dim (set_of p)
+closed_over : (dim : ℕ) (p : Polyhedron) → poly.IsKept p → p.topology ≡ Closed → p.cons.dim ≡ dim → IsOver false dim (set_of p)
 closed_over dim p kept c d = closed_is_over dim p kept (record { same_topology = c; same_dim = d })
 
-all_closed : (dim : ℕ) (sets : List Polyhedron) → All (closed.IsClosedOver dim) sets → All (IsClosedOver dim) (map set_of sets)
-all_closed dim sets each = All-map (IsClosedOver dim) set_of sets (All-weaker (closed.IsClosedOver dim) (λ p. IsClosedOver dim (set_of p)) (λ p h. closed_is_over dim p h.kept h.over) sets each)
+all_closed : (dim : ℕ) (sets : List Polyhedron) → All (closed.IsClosedOver dim) sets → All (IsOver false dim) (map set_of sets)
+all_closed dim sets each = All-map (IsOver false dim) set_of sets (All-weaker (closed.IsClosedOver dim) (λ p. IsOver false dim (set_of p)) (λ p h. closed_is_over dim p h.kept h.over) sets each)
 
 -- ---- systems
 abbrev system_from : ℕ → List Transition → List PointSet → TransitionSystem
@@ -111,7 +110,7 @@ pub system_made : (n locations : ℕ) (s : trans.TransitionSystem) → trans.IsK
 system_made n locations s kept h = record {
   dim = h.dim;
   as_many = length-map s.initial set_of ∙ h.as_many;
-  over = All-map (IsClosedOver n) set_of s.initial (λ i d l. closed_is_over n (slice_index_or s.initial i d) (kept.initial i d l).kept (h.initial i d l).over);
+  over = All-map (IsOver false n) set_of s.initial (λ i d l. closed_is_over n (slice_index_or s.initial i d) (kept.initial i d l).kept (h.initial i d l).over);
   initial = All-map HasNoPoint set_of s.initial (All-weaker (poly.IsEmpty Closed n) (λ p. HasNoPoint (set_of p)) (λ p e. e.points) s.initial h.initial);
   transitions = ap (map transition_of) h.transitions;
 }
@@ -135,29 +134,47 @@ trans_made source target s p r fit passes h = record {
 dim_at : (dim : ℕ) (sets : List Polyhedron) (i : ℕ) (p : Polyhedron) → All (closed.IsClosedOver dim) sets → slice_get sets i ≡ Some p → p.cons.dim ≡ dim
 dim_at dim sets i p each at = (all_at (closed.IsClosedOver dim) sets i p each at).over.same_dim
 
-initial_included : (s : trans.TransitionSystem) (sets : List Polyhedron) → All (closed.IsClosedOver s.dim) s.initial → fixpoint.IncludeInitial s sets → IncludeInitial (system_of s) (map set_of sets)
-initial_included s sets each h l initial set at_initial at_set v is holds =
-    let i = mapped set_of s.initial l initial at_initial in
-    let x = mapped set_of sets l set at_set in
-    let holds_i : In i.source.cons v = subst (λ (y : PointSet). In y.cons v) (sym i.is) holds in
-    subst (λ (y : PointSet). In y.cons v) x.is (h l i.source x.source i.at x.at v (moved s.dim i.source.cons.dim v (sym (dim_at s.dim s.initial l i.source each i.at)) is) holds_i)
+at_from : (sets : List Polyhedron) (l : ℕ) (v : List ℤ) → IsAt (map set_of sets) l v → (p : Polyhedron) × (slice_get sets l ≡ Some p) × IsWithin p.cons v
+at_from sets l v h = let m = mapped set_of sets l h.0 h.1 in (m.source, m.at, subst (λ (y : PointSet). IsWithin y.cons v) (sym m.is) h.2)
 
-transitions_closed : (s : trans.TransitionSystem) (sets : List Polyhedron) → All (closed.IsClosedOver s.dim) sets → fixpoint.AreClosedUnder s.transitions sets → AreClosedUnder (system_of s) (map set_of sets)
-transitions_closed s sets each h k t source target at_t at_source at_target v is step =
+at_to : (sets : List Polyhedron) (l : ℕ) (v : List ℤ) (p : Polyhedron) → slice_get sets l ≡ Some p → IsPoint p.cons.dim v → In p.cons v → IsAt (map set_of sets) l v
+at_to sets l v p at is holds = (set_of p, slice_get-map set_of sets l ∙ ap (option_map set_of) at, record { point = is; holds = holds })
+
+-- closed sets of as many locations
+record AreSets (dim count : ℕ) (sets : List Polyhedron) : Type 0 where
+  as_many : length sets ≡ count
+  dims : (l : ℕ) (p : Polyhedron) → slice_get sets l ≡ Some p → p.cons.dim ≡ dim
+
+set_at : (dim count : ℕ) (sets : List Polyhedron) → AreSets dim count sets → (l : ℕ) → l < count → (p : Polyhedron) × (slice_get sets l ≡ Some p)
+set_at dim count sets are l less = has_at sets l (subst (λ (n : ℕ). l < n) (sym are.as_many) less)
+
+put_at : (dim count : ℕ) (sets : List Polyhedron) → AreSets dim count sets → (l : ℕ) (v : List ℤ) (p : Polyhedron) → slice_get sets l ≡ Some p → IsPoint dim v → In p.cons v → IsAt (map set_of sets) l v
+put_at dim count sets are l v p at is holds = at_to sets l v p at (moved dim p.cons.dim v (sym (are.dims l p at)) is) holds
+
+initial_included : (s : trans.TransitionSystem) (sets : List Polyhedron) → All (closed.IsClosedOver s.dim) s.initial → AreSets s.dim (length s.initial) sets → fixpoint.IncludeInitial s sets → IncludeInitial (system_of s) (λ l v. ⊤) (map set_of sets)
+initial_included s sets each are h l v on stays =
+    let i = at_from s.initial l v on in
+    let x = set_at s.dim (length s.initial) sets are l (slice_get_within s.initial l i.0 i.1) in
+    put_at s.dim (length s.initial) sets are l v x.0 x.1 (moved i.0.cons.dim s.dim v (dim_at s.dim s.initial l i.0 each i.1) i.2.point) (h l i.0 x.0 i.1 x.1 v i.2.point i.2.holds)
+
+transitions_closed : (s : trans.TransitionSystem) (sets : List Polyhedron) → All (trans.IsTransition (length s.initial) s.dim) s.transitions → AreSets s.dim (length s.initial) sets → fixpoint.AreClosedUnder s.transitions sets → AreClosedUnder (system_of s) (λ l v. ⊤) (map set_of sets)
+transitions_closed s sets each are h k t source v at_t at_source is step stays =
     let m = mapped transition_of s.transitions k t at_t in
     let x = mapped set_of sets m.source.source source (subst (λ (y : Transition). slice_get (map set_of sets) y.source ≡ Some source) (sym m.is) at_source) in
-    let z = mapped set_of sets m.source.target target (subst (λ (y : Transition). slice_get (map set_of sets) y.target ≡ Some target) (sym m.is) at_target) in
+    let z = set_at s.dim (length s.initial) sets are m.source.target (all_at (trans.IsTransition (length s.initial) s.dim) s.transitions k m.source each m.at).target in
     let step_m : IsStepTo source.cons m.source.relation.cons v = subst (λ (y : Transition). IsStepTo source.cons y.relation.cons v) (sym m.is) step in
     let step_x : IsStepTo x.source.cons m.source.relation.cons v = subst (λ (y : PointSet). IsStepTo y.cons m.source.relation.cons v) (sym x.is) step_m in
-    subst (λ (y : PointSet). In y.cons v) z.is
-    (h k m.source x.source z.source m.at x.at z.at v (moved s.dim x.source.cons.dim v (sym (dim_at s.dim sets m.source.source x.source each x.at)) is) step_x)
+    subst (λ (y : Transition). IsAt (map set_of sets) y.target v) m.is
+    (put_at s.dim (length s.initial) sets are m.source.target v z.0 z.1 is (h k m.source x.source z.0 m.at x.at z.1 v (moved s.dim x.source.cons.dim v (sym (are.dims m.source.source x.source x.at)) is) step_x))
 
 pub fixpoint_made : (s : trans.TransitionSystem) (delay : ℕ) (sets : List Polyhedron) → trans.IsKeptSystem s → made.AreReached s delay sets → AreInvariant (system_of s) (map set_of sets)
-fixpoint_made s delay sets kept h = record {
-  are = record { as_many = length-map sets set_of ∙ h.closed.as_many ∙ sym (length-map s.initial set_of); over = all_closed s.dim sets h.closed.each };
-  initial = initial_included s sets kept.initial h.initial;
-  transitions = transitions_closed s sets h.closed.each h.successors;
-}
+fixpoint_made s delay sets kept h =
+    let are : AreSets s.dim (length s.initial) sets = record { as_many = h.closed.as_many; dims = λ l p at. dim_at s.dim sets l p h.closed.each at } in
+    record {
+      are = record { as_many = length-map sets set_of ∙ h.closed.as_many ∙ sym (length-map s.initial set_of); over = all_closed s.dim sets h.closed.each };
+      initial = initial_included s sets kept.initial are h.initial;
+      transitions = transitions_closed s sets kept.transitions are h.successors;
+    }
 
 -- ---- automata
 pub still_made : (s : trans.TransitionSystem) (h : hybrid.HybridAutomaton) → hybrid.IsKeptHybrid h → made_automata.IsStill s h → IsStill (system_of s) (automaton_of h)
@@ -165,8 +182,8 @@ still_made s h kept i = record {
   system = ap system_of i.system;
   invariants = length-map h.invariants set_of ∙ i.invariant_count ∙ sym (length-map s.initial set_of);
   flows = length-map h.flows set_of ∙ i.flow_count ∙ sym (length-map s.initial set_of);
-  invariants_over = All-map (IsClosedOver s.dim) set_of h.invariants (λ k d l. closed_is_over s.dim (slice_index_or h.invariants k d) (kept.invariants.each k d l).kept (i.invariants k d l).over);
-  flows_over = All-map (IsClosedOver s.dim) set_of h.flows (λ k d l. closed_is_over s.dim (slice_index_or h.flows k d) (kept.flows.each k d l).kept (i.flows k d l).over);
+  invariants_over = All-map (IsOver false s.dim) set_of h.invariants (λ k d l. closed_is_over s.dim (slice_index_or h.invariants k d) (kept.invariants.each k d l).kept (i.invariants k d l).over);
+  flows_over = All-map (IsOver false s.dim) set_of h.flows (λ k d l. closed_is_over s.dim (slice_index_or h.flows k d) (kept.flows.each k d l).kept (i.flows k d l).over);
   everywhere = All-map (λ (p : PointSet). (v : List ℤ) → IsPoint s.dim v → In p.cons v) set_of h.invariants (All-weaker (poly.IsUniverse Closed s.dim) (λ p. (v : List ℤ) → IsPoint s.dim v → In p.cons v) (λ p e. e.points) h.invariants i.invariants);
   still = All-map HasNoPoint set_of h.flows (All-weaker (poly.IsEmpty Closed s.dim) (λ p. HasNoPoint (set_of p)) (λ p e. e.points) h.flows i.flows);
 }
@@ -186,15 +203,15 @@ part_made part location h p r fit passes e = record {
 -- the parts of a reach, closed and over the system's variables
 record ArePartsOver (h : hybrid.HybridAutomaton) (sets : List Polyhedron) : Type 0 where
   as_many : length sets ≡ length h.system.initial
-  over : All (IsClosedOver h.system.dim) (map set_of sets)
+  over : All (IsOver false h.system.dim) (map set_of sets)
   dims : (l : ℕ) (p : Polyhedron) → slice_get sets l ≡ Some p → p.cons.dim ≡ h.system.dim
   within : (l : ℕ) (invariant set : Polyhedron) → slice_get h.invariants l ≡ Some invariant → slice_get sets l ≡ Some set → (v : List ℤ) → IsPoint h.system.dim v → In set.cons v → In invariant.cons v
 
 parts_over : (h : hybrid.HybridAutomaton) (delay : ℕ) (sets : List Polyhedron) → hybrid.IsKeptHybrid h → All IsProper sets → reaches.AreReached h delay sets → ArePartsOver h sets
 parts_over h delay sets kept fits r = record {
   as_many = r.of_limit.as_many ∙ limit.as_many;
-  over = All-map (IsClosedOver h.system.dim) set_of sets (λ k d l. (let a = has_at sets k l in
-      subst (λ (p : Polyhedron). IsProper p → IsClosedOver h.system.dim (set_of p)) (sym (get_or_from_slice_get sets k a.0 d a.1)) (λ fit. (let o = part_at k a.0 a.1 in closed_over h.system.dim a.0 fit.kept o.0 o.1)) (fits k d l)));
+  over = All-map (IsOver false h.system.dim) set_of sets (λ k d l. (let a = has_at sets k l in
+      subst (λ (p : Polyhedron). IsProper p → IsOver false h.system.dim (set_of p)) (sym (get_or_from_slice_get sets k a.0 d a.1)) (λ fit. (let o = part_at k a.0 a.1 in closed_over h.system.dim a.0 fit.kept o.0 o.1)) (fits k d l)));
   dims = λ l p at. (part_at l p at).1;
   within = λ l invariant set at_invariant at_set v is holds.
       let b = has_at r.sets l (limit_below l set at_set) in
@@ -216,48 +233,52 @@ parts_over h delay sets kept fits r = record {
         let m = (r.of_limit.each l p at c.0 b.0 c.1 b.1).is_meet.over in
         (m.same_topology ∙ o.over.same_topology, m.same_dim ∙ o.over.same_dim)
 
-initial_reached : (h : hybrid.HybridAutomaton) (sets : List Polyhedron) → reaches.IncludeInitial h sets → IncludeInitialWithin (automaton_of h) (map set_of sets)
-initial_reached h sets each l initial invariant set at_initial at_invariant at_set v is holds stays =
-    let i = mapped set_of h.system.initial l initial at_initial in
-    let j = mapped set_of h.invariants l invariant at_invariant in
-    let x = mapped set_of sets l set at_set in
-    subst (λ (y : PointSet). In y.cons v) x.is
-    (each l i.source j.source x.source i.at j.at x.at v is (subst (λ (y : PointSet). In y.cons v) (sym i.is) holds) (subst (λ (y : PointSet). In y.cons v) (sym j.is) stays))
+sets_of : (h : hybrid.HybridAutomaton) (sets : List Polyhedron) → ArePartsOver h sets → AreSets h.system.dim (length h.system.initial) sets
+sets_of h sets parts = record { as_many = parts.as_many; dims = parts.dims }
 
-flow_reached : (h : hybrid.HybridAutomaton) (sets : List Polyhedron) → reaches.AreClosedUnderFlow h sets → AreClosedUnderFlow (automaton_of h) (map set_of sets)
-flow_reached h sets each l invariant flow set at_invariant at_flow at_set x y v on_set on_flow moves stays =
-    let j = mapped set_of h.invariants l invariant at_invariant in
-    let f = mapped set_of h.flows l flow at_flow in
-    let z = mapped set_of sets l set at_set in
-    subst (λ (w : PointSet). In w.cons v) z.is
-    (each l j.source f.source z.source j.at f.at z.at x y v (subst (λ (w : PointSet). IsWithin w.cons x) (sym z.is) on_set) (subst (λ (w : PointSet). IsWithin w.cons y) (sym f.is) on_flow) moves (subst (λ (w : PointSet). In w.cons v) (sym j.is) stays))
+initial_reached : (h : hybrid.HybridAutomaton) (sets : List Polyhedron) → hybrid.IsKeptHybrid h → ArePartsOver h sets → reaches.IncludeInitial h sets → IncludeInitial (automaton_of h).system (IsAt (automaton_of h).invariants) (map set_of sets)
+initial_reached h sets kept parts each l v on stays =
+    let i = at_from h.system.initial l v on in
+    let j = at_from h.invariants l v stays in
+    let x = set_at h.system.dim (length h.system.initial) sets (sets_of h sets parts) l (slice_get_within h.system.initial l i.0 i.1) in
+    let point : IsPoint h.system.dim v = moved i.0.cons.dim h.system.dim v (dim_at h.system.dim h.system.initial l i.0 kept.system.initial i.1) i.2.point in
+    put_at h.system.dim (length h.system.initial) sets (sets_of h sets parts) l v x.0 x.1 point (each l i.0 j.0 x.0 i.1 j.1 x.1 v point i.2.holds j.2.holds)
 
-jumps_reached : (h : hybrid.HybridAutomaton) (sets : List Polyhedron) → reaches.AreClosedUnderJumps h sets → AreClosedUnderJumps (automaton_of h) (map set_of sets)
-jumps_reached h sets each k t source target invariant at_t at_source at_target at_invariant v is step stays =
+flow_reached : (h : hybrid.HybridAutomaton) (sets : List Polyhedron) → ArePartsOver h sets → reaches.AreClosedUnderFlow h sets → (l : ℕ) (x y v : List ℤ) → IsAt (map set_of sets) l x → IsAt (automaton_of h).flows l y → IsMoved h.system.dim x y v → IsAt (automaton_of h).invariants l v → IsAt (map set_of sets) l v
+flow_reached h sets parts each l x y v on flows moves stays =
+    let z = at_from sets l x on in
+    let f = at_from h.flows l y flows in
+    let j = at_from h.invariants l v stays in
+    put_at h.system.dim (length h.system.initial) sets (sets_of h sets parts) l v z.0 z.1 moves.point (each l j.0 f.0 z.0 j.1 f.1 z.1 x y v z.2 f.2 moves j.2.holds)
+
+jumps_reached : (h : hybrid.HybridAutomaton) (sets : List Polyhedron) → hybrid.IsKeptHybrid h → ArePartsOver h sets → reaches.AreClosedUnderJumps h sets → AreClosedUnder (automaton_of h).system (IsAt (automaton_of h).invariants) (map set_of sets)
+jumps_reached h sets kept parts each k t source v at_t at_source is step stays =
     let m = mapped transition_of h.system.transitions k t at_t in
     let x = mapped set_of sets m.source.source source (subst (λ (y : Transition). slice_get (map set_of sets) y.source ≡ Some source) (sym m.is) at_source) in
-    let z = mapped set_of sets m.source.target target (subst (λ (y : Transition). slice_get (map set_of sets) y.target ≡ Some target) (sym m.is) at_target) in
-    let j = mapped set_of h.invariants m.source.target invariant (subst (λ (y : Transition). slice_get (map set_of h.invariants) y.target ≡ Some invariant) (sym m.is) at_invariant) in
+    let z = set_at h.system.dim (length h.system.initial) sets (sets_of h sets parts) m.source.target (all_at (trans.IsTransition (length h.system.initial) h.system.dim) h.system.transitions k m.source kept.system.transitions m.at).target in
+    let j = at_from h.invariants m.source.target v (subst (λ (y : Transition). IsAt (map set_of h.invariants) y.target v) (sym m.is) stays) in
     let step_m : IsStepTo source.cons m.source.relation.cons v = subst (λ (y : Transition). IsStepTo source.cons y.relation.cons v) (sym m.is) step in
     let step_x : IsStepTo x.source.cons m.source.relation.cons v = subst (λ (y : PointSet). IsStepTo y.cons m.source.relation.cons v) (sym x.is) step_m in
-    subst (λ (y : PointSet). In y.cons v) z.is
-    (each k m.source x.source z.source j.source m.at x.at z.at j.at v is step_x (subst (λ (y : PointSet). In y.cons v) (sym j.is) stays))
+    subst (λ (y : Transition). IsAt (map set_of sets) y.target v) m.is
+    (put_at h.system.dim (length h.system.initial) sets (sets_of h sets parts) m.source.target v z.0 z.1 is (each k m.source x.source z.0 j.0 m.at x.at z.1 j.1 v is step_x j.2.holds))
 
-within_reached : (h : hybrid.HybridAutomaton) (sets : List Polyhedron) → ArePartsOver h sets → (l : ℕ) (invariant set : PointSet) → slice_get (map set_of h.invariants) l ≡ Some invariant → slice_get (map set_of sets) l ≡ Some set → (v : List ℤ) → IsPoint h.system.dim v → In set.cons v → In invariant.cons v
-within_reached h sets parts l invariant set at_invariant at_set v is holds =
-    let j = mapped set_of h.invariants l invariant at_invariant in
-    let x = mapped set_of sets l set at_set in
-    subst (λ (y : PointSet). In y.cons v) j.is (parts.within l j.source x.source j.at x.at v is (subst (λ (y : PointSet). In y.cons v) (sym x.is) holds))
+within_reached : (h : hybrid.HybridAutomaton) (sets : List Polyhedron) → hybrid.IsKeptHybrid h → ArePartsOver h sets → (l : ℕ) (v : List ℤ) → IsAt (map set_of sets) l v → IsAt (automaton_of h).invariants l v
+within_reached h sets kept parts l v on =
+    let z = at_from sets l v on in
+    let invariants : AreSets h.system.dim (length h.system.initial) h.invariants = record { as_many = kept.invariants.as_many; dims = λ k p at. dim_at h.system.dim h.invariants k p kept.invariants.each at } in
+    let j = set_at h.system.dim (length h.system.initial) h.invariants invariants l (subst (λ (n : ℕ). l < n) parts.as_many (slice_get_within sets l z.0 z.1)) in
+    let point : IsPoint h.system.dim v = moved z.0.cons.dim h.system.dim v (parts.dims l z.0 z.1) z.2.point in
+    put_at h.system.dim (length h.system.initial) h.invariants invariants l v j.0 j.1 point (parts.within l j.0 z.0 j.1 z.1 v point z.2.holds)
 
 pub reach_made : (h : hybrid.HybridAutomaton) (delay : ℕ) (sets : List Polyhedron) → hybrid.IsKeptHybrid h → All IsProper sets → made_automata.AreReachedParts h delay sets → AreReached (automaton_of h) (map set_of sets)
 reach_made h delay sets kept fits r =
     let parts = parts_over h delay sets kept fits r.reached in
     record {
       are = record { as_many = length-map sets set_of ∙ parts.as_many ∙ sym (length-map h.system.initial set_of); over = parts.over };
-      within = within_reached h sets parts;
-      initial = initial_reached h sets r.initial;
-      flow = flow_reached h sets r.flow;
-      jumps = jumps_reached h sets r.jumps;
+      within = within_reached h sets kept parts;
+      initial = initial_reached h sets kept parts r.initial;
+      flow = flow_reached h sets parts r.flow;
+      jumps = jumps_reached h sets kept parts r.jumps;
     }
 
 -- ---- powersets
@@ -292,7 +313,7 @@ pset_made p u h = record {
     single members (inl e) = inl (e.0, ap (map set_of) e.1)
     single members (inr e) = inr (e.0, ap (map set_of) e.1)
 
-pub unions_alike : (s t : FinitePowerset) (others : Conditions) → Passes (made_powersets.alike_unions s t others) → unions.AreAlike (powerset_of s) (powerset_of t)
+pub unions_alike : (s t : FinitePowerset) (others : Conditions) → Passes (made_powersets.alike_unions s t others) → unions.AreAlikeUnions (powerset_of s) (powerset_of t)
 unions_alike s t others passes = record { kind = ap is_nnc (one_topology s.topology t.topology passes.1.0); variables = one_number s.dim t.dim passes.1.1.1.0 }
 
 -- the laws of powersets that are cited
@@ -318,8 +339,12 @@ either_way f g = (
   ],
 )
 
-members_alike : (u : FinitePowerset) → IsKeptPowerset u → All (unions.IsMemberOf (powerset_of u)) (map set_of u.members)
-members_alike u kept = All-map (unions.IsMemberOf (powerset_of u)) set_of u.members (λ i d l. record { kind = ap is_nnc (kept.each i d l).over.same_topology; variables = (kept.each i d l).over.same_dim })
+-- of the powerset's kind, and over its variables
+abbrev IsFor : FinitePowerset → PointSet → Type 0
+IsFor u p = (p.nnc ≡ is_nnc u.topology) × (p.cons.dim ≡ u.dim)
+
+members_alike : (u : FinitePowerset) → IsKeptPowerset u → All (IsFor u) (map set_of u.members)
+members_alike u kept = All-map (IsFor u) set_of u.members (λ i d l. (ap is_nnc (kept.each i d l).over.same_topology, (kept.each i d l).over.same_dim))
 
 pub combined_made : UnionLaws → (op : PowersetOperator) (s t u : FinitePowerset) (others : Conditions) → IsKeptPowerset s → IsKeptPowerset t → IsKeptPowerset u → Passes (made_powersets.alike_unions s t others) → made_powersets.IsPowersetOf op s t u →
     unions.IsCombined op (powerset_of s) (powerset_of t) (powerset_of u)
@@ -384,49 +409,75 @@ pub ranking_true : TextLaws → PrintedFunctionRanks → (r : Polyhedron) (reply
 ranking_true laws law r reply others passes h = record { relation = relates r others passes; tells = function_cases laws r h.text reply h.said (law (r.cons.dim / 2) r h.functions h.text h.is h.told) }
 
 -- ---- shapes
-pub shape_made : (p : Polyhedron) (s : DifferenceShape) (others : Conditions) → Passes (made_shapes.closed p others) → made_shapes.IsShapeOfSet p s → shapes.IsSmallestShape (set_of p) s
-shape_made p s others passes h = record {
+pub shape_made : (p : Polyhedron) (s : DifferenceShape) (others : Conditions) → IsShape s → Passes (made_shapes.closed p others) → made_shapes.IsShapeOfSet p s → IsSmallestShape (set_of p) (shape_set s)
+shape_made p s others is passes h = record {
   closed = ap is_nnc (one_topology p.topology Closed passes.1.1.0);
-  variables = h.dim;
-  includes = h.smallest.includes;
-  least = h.smallest.least;
-  empty = h.empty;
-  suprema = suprema_of s.bounds h.suprema;
+  set = shape_is p.cons.dim (IsInSmallestShape p.cons.dim (IsWithin p.cons)) s is h.dim (λ v point. (
+    λ on. subst (λ (n : ℕ). IsInSmallestShape n (IsWithin p.cons) v) h.dim (smallest_to p s h.dim h.empty h.suprema v on),
+    λ least. smallest_from s is (IsWithin p.cons) h.smallest.includes v (moved p.cons.dim s.dim v (sym h.dim) point) (subst (λ (n : ℕ). IsInSmallestShape n (IsWithin p.cons) v) (sym h.dim) least),
+  ));
 }
-  where
-    supremum : (i j : ℕ) (b : Bound) → suprema.IsSupremumOf p i j b → shapes.IsSupremumOf (set_of p) i j b
-    supremum i j None x = x
-    supremum i j (Some f) x = x
 
-    suprema_of : (o : Option Table) → IfSome o (λ t. suprema.AreSuprema p (bounds_of t)) → IfSome o (λ t. (i j : ℕ) → i < p.cons.dim + 1 → j < p.cons.dim + 1 → i ≢ j → shapes.IsSupremumOf (set_of p) i j (bounds_of t i j))
-    suprema_of None x = x
-    suprema_of (Some t) x = λ i j a b c. supremum i j (bounds_of t i j) (x i j a b c)
-
-pub bounds_made : TextLaws → (n : ℕ) (part : Part) (s : DifferenceShape) → texts.SaysConstraints n part (λ cs. made_shapes.IsShapeOfConstraints cs s) → shapes.IsShapeOf n part s
-bounds_made laws n part s h =
+pub bounds_made : TextLaws → (n : ℕ) (part : Part) (s : DifferenceShape) → IsShape s → texts.SaysConstraints n part (λ cs. made_shapes.IsShapeOfConstraints cs s) → IsOfConstraints false n part (shape_set s)
+bounds_made laws n part s is h =
     let says = laws.constraints n part.text h.system h.read in
     let same : h.system.dim ≡ n = h.read.holds.over in
     record {
       list = says.list;
       text = says.is_text;
-      variables = h.holds.dim ∙ same;
-      points = λ v. (let is_point : IsPoint h.system.dim v ↔ IsPoint n v = (moved h.system.dim n v same, moved n h.system.dim v (sym same)) in via (h.holds.points v) (both_ways is_point (says.same v)));
+      set = shape_is n (In (constraints n says.list)) s is (h.holds.dim ∙ same) (λ v point. (
+        λ on. (says.same v).0 ((h.holds.points v).0 on).1,
+        λ holds. (h.holds.points v).1 (moved n h.system.dim v (sym same) point, (says.same v).1 holds),
+      ));
     }
 
-shape_set : (op : ShapeOperator) (s t r : DifferenceShape) → made_shapes.IsSetOfShapes op s t r → shapes.IsShapeBy op s t r
-shape_set shape_operator.Meet s t r h = h
-shape_set shape_operator.Hull s t r h = h
+-- the point is in one of two shapes
+abbrev IsInEither : DifferenceShape → DifferenceShape → List ℤ → Type 0
+IsInEither s t v = IsWithin (shape_constraints s) v ⊎ IsWithin (shape_constraints t) v
 
-pub shapes_made : (op : ShapeOperator) (s t r : DifferenceShape) (others : Conditions) → Passes (made_shapes.of_one_dim s t others) → made_shapes.IsShapeBy op s t r → shapes.IsCombined op s t r
-shapes_made op s t r others passes h = record { operands = one_number s.dim t.dim passes.1.1.1.0; variables = h.dim; set = shape_set op s t r h.set }
+one_of : (s t : DifferenceShape) → IsShape s → IsShape t → (v : List ℤ) → IsIn s v ⊎ IsIn t v → IsInEither s t v
+one_of s t is_s is_t v (inl on) = inl ((within_shape s is_s v).1 on)
+one_of s t is_s is_t v (inr on) = inr ((within_shape t is_t v).1 on)
 
-pub spoly_made : (s : DifferenceShape) (p : Polyhedron) → IsProper p → made_shapes.IsPolyOfShape s p → shapes.IsSetOfShape s (set_of p)
-spoly_made s p fit h = record { over = is_over Closed s.dim p fit (record { same_topology = h.topology; same_dim = h.dim }); points = h.points }
+hull_includes : (s t r : DifferenceShape) → IsShape s → IsShape t → IsHull s t r → (v : List ℤ) → IsInEither s t v → IsIn r v
+hull_includes s t r is_s is_t hull v (inl w) = hull.first v ((within_shape s is_s v).0 w)
+hull_includes s t r is_s is_t hull v (inr w) = hull.second v ((within_shape t is_t v).0 w)
 
-pub inclusion_true : (s t : DifferenceShape) (reply : List ℕ) (others : Conditions) → Passes (made_shapes.of_one_dim s t others) → IsTold (Includes s t) reply → shapes.TellsInclusion s t reply
-inclusion_true s t reply others passes h = record { operands = one_number s.dim t.dim passes.1.1.1.0; tells = told_so (Includes s t) reply h }
+pub shapes_made : (op : ShapeOperator) (s t r : DifferenceShape) (others : Conditions) → IsShape s → IsShape t → IsShape r → Passes (made_shapes.of_one_dim s t others) → made_shapes.IsShapeBy op s t r → IsOfTwoShapes op (shape_set s) (shape_set t) (shape_set r)
+shapes_made shape_operator.Meet s t r others is_s is_t is_r passes h =
+    let dims : s.dim ≡ t.dim = one_number s.dim t.dim passes.1.1.1.0 in (
+      record { kind = refl; variables = dims },
+      shape_is s.dim (λ v. In (shape_constraints s) v × In (shape_constraints t) v) r is_r h.dim
+          (λ v point. via (h.set v) (turn (both_ways (in_shape s is_s v point) (in_shape t is_t v (moved s.dim t.dim v dims point))))),
+    )
+shapes_made shape_operator.Hull s t r others is_s is_t is_r passes h =
+    let dims : s.dim ≡ t.dim = one_number s.dim t.dim passes.1.1.1.0 in (
+      record { kind = refl; variables = dims },
+      shape_is s.dim (IsInSmallestShape s.dim (IsInEither s t)) r is_r h.dim (λ v point. (
+        λ on. smallest_same s.dim (λ u. IsIn s u ⊎ IsIn t u) (IsInEither s t) (one_of s t is_s is_t) v (hull_to s t r is_s is_t (sym dims) h.dim h.set v on),
+        λ least. smallest_from r is_r (IsInEither s t) (hull_includes s t r is_s is_t h.set) v (moved s.dim r.dim v (sym h.dim) point) (subst (λ (n : ℕ). IsInSmallestShape n (IsInEither s t) v) (sym h.dim) least),
+      )),
+    )
 
-pub sprint_true : TextLaws → ConstraintsAreReadBack → (s : DifferenceShape) (reply : List ℕ) → IsShape s → reply ≡ line (constraints_text (shape_constraints s)) → shapes.TellsBounds s reply
+pub spoly_made : (s : DifferenceShape) (p : Polyhedron) → IsShape s → IsProper p → made_shapes.IsPolyOfShape s p → IsCopy (shape_set s) (set_of p)
+spoly_made s p is fit h = set_is Closed s.dim (In (shape_constraints s)) p fit (record { same_topology = h.topology; same_dim = h.dim }) (λ v point. (
+  λ holds. (in_shape s is v point).1 ((h.points v).0 (record { point = moved s.dim p.cons.dim v (sym h.dim) point; holds = holds })),
+  λ holds. ((h.points v).1 ((in_shape s is v point).0 holds)).holds,
+))
+
+pub inclusion_true : (s t : DifferenceShape) (reply : List ℕ) (others : Conditions) → IsShape s → IsShape t → Passes (made_shapes.of_one_dim s t others) → IsTold (Includes s t) reply → TellsHowTheyLie comparison.Contains (shape_set s) (shape_set t) reply
+inclusion_true s t reply others is_s is_t passes h =
+    let dims : s.dim ≡ t.dim = one_number s.dim t.dim passes.1.1.1.0 in
+    record {
+      operands = record { kind = refl; variables = dims };
+      tells = told (LieSo comparison.Contains (shape_set s) (shape_set t)) reply h.holds (via h.true_of (
+        λ includes. λ v point holds. (in_shape s is_s v point).1 (includes v ((in_shape t is_t v (moved s.dim t.dim v dims point)).0 holds)),
+        λ includes. λ v on.
+            (let point : IsPoint s.dim v = moved t.dim s.dim v (sym dims) on.point in (in_shape s is_s v point).0 (includes v point ((in_shape t is_t v on.point).1 on))),
+      )) h.said;
+    }
+
+pub sprint_true : TextLaws → ConstraintsAreReadBack → (s : DifferenceShape) (reply : List ℕ) → IsShape s → reply ≡ line (constraints_text (shape_constraints s)) → TellsConstraints (shape_set s) reply
 sprint_true laws law s reply is h =
     let says = laws.constraints s.dim (constraints_text (shape_constraints s)) (shape_constraints s) ((law (shape_constraints s) (shape_constraints s) (shape_fits s is)).1 refl) in
-    record { text = constraints_text (shape_constraints s); said = h; list = says.list; is_text = says.is_text; points = λ v. via (both_ways (same_way (IsPoint s.dim v)) (turn (says.same v))) (list_points s is v) }
+    record { text = constraints_text (shape_constraints s); said = h; list = says.list; is_text = says.is_text; are = λ v point. turn (says.same v) }

@@ -36,13 +36,14 @@ use Rattle.calc_state.specs.Line.{file_after, StepFrom}
 use Rattle.calc_state.specs.Runs.{Run, cut_off, at_end}
 use Rattle.polycalc.specs.Replies.{reply_bytes, replies_bytes}
 use Rattle.polycalc.specs.Outcomes.{IsAnswered}
-use Rattle.polycalc.specs.Sound.{is_ext, IsSound}
+use Rattle.polycalc.specs.Sound.{IsTrueOf, IsSound}
 use Rattle.job_words.specs.declared.job.Job.{Job}
 use Rattle.job_words.specs.declared.job.Job.TheVariants as job
 use Rattle.polycalc.specs.declared.status.Status.{Status}
-use Rattle.soundness.specs.Files.{IsOfFile, IsRead}
-use Rattle.soundness.specs.Replies.{OpenFile, State, MayBeRefused, IsRefusal, file_begun, IsReply, IsEndReply, AreReplies, IsWrittenTo, IsConverted}
+use Rattle.soundness.specs.Files.{IsRead}
+use Rattle.soundness.specs.Replies.{OpenFile, State, MayBeRefused, IsRefusal, file_begun, IsReply, IsEndReply, AreReplies, IsWrittenTo}
 use Rattle.soundness.proofs.PointLaws.{turn, set_of, closed_is_over}
+use Rattle.soundness.proofs.FileReads.{ine_reads, ext_reads, origin_is, nothing_behind}
 use Rattle.soundness.proofs.TrueAnswers.{PolyLaws, ine_side, ext_side}
 use Rattle.polycalc.proofs.SoundValues.{named, named_put, AreKept, put_kept, after_kept}
 use Rattle.polycalc.proofs.SoundCommands.{Laws, accepted_does}
@@ -75,14 +76,36 @@ overflown over = record {
 }
 
 -- ---- files
-file_is : (ext : Bool) (bytes : List ℕ) (p : Polyhedron) (list : Listed) → IsKept p → poly_files.IsListOf (format_of ext) bytes list → poly_files.IsOfList list p → IsOfFile ext bytes (set_of p)
-file_is false bytes p (Cons cs) kept read set = record { system = cs; file = read; set = record { over = closed_is_over cs.dim p kept set.over; points = λ v is. turn (set.points v is) } }
-file_is false bytes p (Gens gs) kept read set = absurd read
-file_is true bytes p (Cons cs) kept read set = absurd read
-file_is true bytes p (Gens gs) kept read set = record { system = gs; file = read; set = record { over = closed_is_over gs.dim p kept set.over; points = λ v is. turn (set.points v is) } }
+file_is : (ext : Bool) (bytes : List ℕ) (p : Polyhedron) (list : Listed) → IsKept p → NoneOf (tests (format_of ext) bytes) → poly_files.IsListOf (format_of ext) bytes list → poly_files.IsOfList list p → IsRead ext bytes (set_of p)
+file_is false bytes p (Cons cs) kept passes read set =
+    let f = ine_reads bytes cs passes read in
+    record {
+      marked = f.marked;
+      dim = cs.dim;
+      rows = f.rows;
+      file = f.file;
+      set = record { list = cs.list; say = f.says; set = record { over = closed_is_over cs.dim p kept set.over; points = λ v is. turn (set.points v is) } };
+    }
+file_is false bytes p (Gens gs) kept passes read set = absurd read
+file_is true bytes p (Cons cs) kept passes read set = absurd read
+file_is true bytes p (Gens gs) kept passes read set =
+    let f = ext_reads bytes gs passes read in
+    record {
+      marked = f.marked;
+      dim = gs.dim;
+      rows = f.rows;
+      file = f.file;
+      set = record {
+        listed = read.given;
+        say = f.says;
+        list = gs.list;
+        origin = origin_is bytes gs read;
+        set = record { over = closed_is_over gs.dim p kept set.over; points = λ v is. turn (set.points v is) };
+      };
+    }
 
-of_file : (ext : Bool) (bytes : List ℕ) (p : Polyhedron) → IsKept p → poly_files.IsOfFile (format_of ext) bytes p → IsOfFile ext bytes (set_of p)
-of_file ext bytes p kept h = file_is ext bytes p h.list kept h.read h.set
+of_file : (ext : Bool) (bytes : List ℕ) (p : Polyhedron) → IsKept p → NoneOf (tests (format_of ext) bytes) → poly_files.IsOfFile (format_of ext) bytes p → IsRead ext bytes (set_of p)
+of_file ext bytes p kept passes h = file_is ext bytes p h.list kept passes h.read h.set
 
 closed_list : (list : Listed) (p : Polyhedron) → poly_files.IsOfList list p → p.topology ≡ Closed
 closed_list (Cons cs) p set = set.over.same_topology
@@ -101,7 +124,7 @@ none_back [] us h = h
 none_back (t ∷ ts) us h = none_back ts us h.1
 
 read_file : (ext full : Bool) (bytes : List ℕ) (p : Polyhedron) → IsKept p → NoneOf (tests (format_of ext) bytes ++ open_files.no_room full ∷ []) → poly_files.IsOfFile (format_of ext) bytes p → IsRead ext bytes (set_of p)
-read_file ext full bytes p kept passes h = record { passes = none_front (tests (format_of ext) bytes) (open_files.no_room full ∷ []) passes; file = of_file ext bytes p kept h }
+read_file ext full bytes p kept passes h = of_file ext bytes p kept (none_front (tests (format_of ext) bytes) (open_files.no_room full ∷ []) passes) h
 
 -- ---- a line
 -- the reply to a line, and what is kept
@@ -172,26 +195,32 @@ pub script_sound : Laws → (script : List ℕ) (replies : List Reply) (new : ca
 script_sound laws script replies new run = record { replies = map reply_bytes (replies ++ at_end new); are = run_sound laws (closed []) (lines script) replies new tt run; all = all_bytes (replies ++ at_end new) }
 
 -- ---- a file that is converted
-converted : PolyLaws → (want : Format) (bytes text : List ℕ) → NoneOf (conversion_tests want bytes) → IsOtherFile want bytes text → IsConverted (is_ext want) bytes text
-converted laws Ine bytes text passes h = inr (record {
-  set = set_of h.polyhedron;
-  read = record { passes = none_front (tests Ine bytes) (linearity_behind bytes ∷ []) passes; file = of_file false bytes h.polyhedron h.of_file.kept h.of_file.set };
-  behind = λ after. (none_back (tests Ine bytes) (linearity_behind bytes ∷ []) passes).0 fault.LinearityAfterEnd (refl, after);
-  tells = ext_side laws h.polyhedron text h.of_file.kept (closed_file Ine bytes h.polyhedron h.of_file.set) h.fit h.written;
-  file = of_file true text h.polyhedron h.of_file.kept h.same_points;
-})
-converted laws Ext bytes text passes h = inr (record {
-  set = set_of h.polyhedron;
-  read = record { passes = none_front (tests Ext bytes) (linearity_behind bytes ∷ []) passes; file = of_file true bytes h.polyhedron h.of_file.kept h.of_file.set };
-  behind = λ after. (none_back (tests Ext bytes) (linearity_behind bytes ∷ []) passes).0 fault.LinearityAfterEnd (refl, after);
-  tells = ine_side h.polyhedron text h.of_file.kept (closed_file Ext bytes h.polyhedron h.of_file.set) h.fit h.written;
-  file = of_file false text h.polyhedron h.of_file.kept h.same_points;
-})
+converted : PolyLaws → (want : Format) (bytes text : List ℕ) → NoneOf (conversion_tests want bytes) → IsOtherFile want bytes text → IsTrueOf (job.Convert want) bytes text
+converted laws Ine bytes text passes h =
+    let read = of_file false bytes h.polyhedron h.of_file.kept (none_front (tests Ine bytes) (linearity_behind bytes ∷ []) passes) h.of_file.set in
+    inr (record {
+      set = set_of h.polyhedron;
+      read = read;
+      behind = nothing_behind false bytes read.marked (read.dim + 1) read.rows read.file (λ after. (none_back (tests Ine bytes) (linearity_behind bytes ∷ []) passes).0 fault.LinearityAfterEnd (refl, after));
+      tells = ext_side laws h.polyhedron text h.of_file.kept (closed_file Ine bytes h.polyhedron h.of_file.set) h.fit h.written;
+    })
+converted laws Ext bytes text passes h =
+    let read = of_file true bytes h.polyhedron h.of_file.kept (none_front (tests Ext bytes) (linearity_behind bytes ∷ []) passes) h.of_file.set in
+    inr (record {
+      set = set_of h.polyhedron;
+      read = read;
+      behind = nothing_behind true bytes read.marked (read.dim + 1) read.rows read.file (λ after. (none_back (tests Ext bytes) (linearity_behind bytes ∷ []) passes).0 fault.LinearityAfterEnd (refl, after));
+      tells = ine_side h.polyhedron text h.of_file.kept (closed_file Ext bytes h.polyhedron h.of_file.set) h.fit h.written;
+    })
 
-pub file_sound : Laws → (want : Format) (bytes : List ℕ) (reply : Reply) → ConvertsTo want bytes reply → IsConverted (is_ext want) bytes (reply_bytes reply)
+refusal_of : (want : Format) (bytes written : List ℕ) → IsRefusal written → IsTrueOf (job.Convert want) bytes written
+refusal_of Ine bytes written h = inl h
+refusal_of Ext bytes written h = inl h
+
+pub file_sound : Laws → (want : Format) (bytes : List ℕ) (reply : Reply) → ConvertsTo want bytes reply → IsTrueOf (job.Convert want) bytes (reply_bytes reply)
 file_sound laws want bytes (Answered text) h = converted laws.poly want bytes text h.0 h.1
-file_sound laws want bytes (Refused f) h = inl (refused f)
-file_sound laws want bytes (Overflows over) h = inl (overflown over)
+file_sound laws want bytes (Refused f) h = refusal_of want bytes (reply_bytes (Refused f)) (refused f)
+file_sound laws want bytes (Overflows over) h = refusal_of want bytes (reply_bytes (Overflows over)) (overflown over)
 
 -- ---- what is answered
 pub answers_sound : Laws → (task : Job) (script before : List ℕ) (held : Option (List ℕ)) (status : Status) → IsAnswered task script before held status → IsSound task script before held

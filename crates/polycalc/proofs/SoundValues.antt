@@ -20,6 +20,7 @@ use Rattle.calc_state.specs.Table.{Table, Change, numbered_sets}
 use Rattle.calc_state.specs.Step.{PutsProper, after}
 use Rattle.soundness.specs.Values.{Transition, TransitionSystem, HybridAutomaton, Powerset, Value, Polyhedron as PolyhedronOf, System, Union, Shape, Automaton, Names}
 use Rattle.soundness.proofs.PointLaws.{is_nnc, set_of}
+use Rattle.soundness.proofs.ShapeSets.{shape_set}
 
 -- ---- values
 abbrev pub transition_of : declared.Transition → Transition
@@ -38,7 +39,7 @@ abbrev pub value_of : Entry → Value
 value_of (entry.Poly p) = PolyhedronOf (set_of p)
 value_of (entry.System s) = System (system_of s)
 value_of (entry.Powerset u) = Union (powerset_of u)
-value_of (entry.Shape s) = Shape s
+value_of (entry.Shape s) = Shape (shape_set s)
 value_of (entry.Hybrid h) = Automaton (automaton_of h)
 
 abbrev pub named : Table → Names

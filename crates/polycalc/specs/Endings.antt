@@ -18,7 +18,7 @@ pub data Closes (further : List Reply) (clean : Bool) (now later : Option (List 
   unmade : (n : ℕ) → later ≡ append_known now (take n (replies_bytes further))
       → Closes further clean now later Memory
 
--- what was held, and behind it the gathered replies, or a front of them; whether they are clean is told
+-- behind what was held stand the gathered replies, or a front of them; whether they are clean
 abbrev pub Writes : Written → Option (List ℕ) → Option (List ℕ) → Status → Type 0
 Writes w now later Done = (w.clean ≡ true) × (later ≡ append_known now w.bytes)
 Writes w now later Refused = (w.clean ≡ false) × (later ≡ append_known now w.bytes)

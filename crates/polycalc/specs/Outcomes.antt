@@ -1,4 +1,4 @@
-use Rattle.std.specs.Prelude.{◌≡◌, ◌⊎◌, ℕ, ◌+◌, ◌^◌, ◌<◌, ◌≤◌, List, [], ◌∷◌, ◌++◌, length, take, Option, Some, Bool, true, false, if◌then◌else◌}
+use Rattle.std.specs.Prelude.{◌≡◌, ◌⊎◌, ◌↔◌, ℕ, ◌+◌, ◌^◌, ◌<◌, ◌≤◌, List, [], ◌∷◌, ◌++◌, length, take, Option, Some, Bool, true, false, if◌then◌else◌}
 use Rattle.std.specs.Io.KnownBytes.{append_known, prepend_known, IsAtEnd}
 use Rattle.std.specs.Str.Lines.{lines}
 use Rattle.calc_state.specs.State.{State, closed}
@@ -15,7 +15,7 @@ use Rattle.job_words.specs.declared.job.Job.TheVariants as job
 use Rattle.polycalc.specs.declared.status.Status.{Status}
 use Rattle.polycalc.specs.declared.status.Status.TheVariants.{Done, Refused, Usage, ReadFault, WriteFault, Memory, InputTooLong}
 
--- what was held, and behind it the replies of a run over the lines of the script, and that to its end; whether no reply is a fault or an overflow is told
+-- behind what was held stand the replies of a run over the whole script, and whether all are clean
 pub record Completes (script : List ℕ) (clean : Bool) (old new : Option (List ℕ)) : Type 0 where
   pub state : State
   pub replies : List Reply
@@ -23,13 +23,13 @@ pub record Completes (script : List ℕ) (clean : Bool) (old new : Option (List 
   pub held : new ≡ append_known old (replies_bytes (replies ++ at_end state))
   pub verdict : is_clean (replies ++ at_end state) ≡ clean
 
--- a line feed ends each of these lines, the script's first: after one more line feed another line follows
+-- each of these first lines of the script has a line feed: after one more another line follows
 pub record AreWholeLines (script : List ℕ) (answered : List (List ℕ)) : Type 0 where
   pub next : List ℕ
   pub others : List (List ℕ)
   pub cut : lines (script ++ 10 ∷ []) ≡ answered ++ next ∷ others
 
--- the first lines of what a source gave, and the others: where it isn't at its end, the first are whole lines
+-- the first lines of what a source gave, and the others; whole lines, where it isn't at its end
 pub record AreFirstLines (given : List ℕ) (left : Option (List ℕ))
     (answered others : List (List ℕ)) : Type 0 where
   pub cut : lines given ≡ answered ++ others
@@ -40,7 +40,7 @@ abbrev pub IsEndReply : Option (List ℕ) → List (List ℕ) → State → List
 IsEndReply left others state further =
     (further ≡ []) ⊎ (IsAtEnd left × (others ≡ []) × (further ≡ at_end state))
 
--- what was held, and behind it a front of the replies of a run over the first lines of the script, or over all and to its end
+-- behind what was held stands a front of the replies of a run over first lines, or to its end
 pub record WritesPrefix (script : List ℕ) (left old new : Option (List ℕ)) : Type 0 where
   pub answered : List (List ℕ)
   pub others : List (List ℕ)
@@ -53,8 +53,7 @@ pub record WritesPrefix (script : List ℕ) (left old new : Option (List ℕ)) :
   pub count : ℕ
   pub held : new ≡ append_known old (take count (replies_bytes (replies ++ further)))
 
--- what was held, and behind it the replies of a run over the whole lines of the script: with a line feed behind the
--- script, over all its lines but the last
+-- behind what was held stand the replies of a run over the whole lines of the script
 pub record AnswersWhole (script : List ℕ) (old new : Option (List ℕ)) : Type 0 where
   pub whole : List (List ℕ)
   pub last : List ℕ
@@ -64,7 +63,7 @@ pub record AnswersWhole (script : List ℕ) (old new : Option (List ℕ)) : Type
   pub run : Run (closed []) whole replies state
   pub held : new ≡ append_known old (replies_bytes replies)
 
--- what was held, and behind it the replies of a run over the whole lines of all bytes of the script but those of one read
+-- likewise over the whole lines of all bytes of the script but those of one read
 pub record AnswersEarlier (script : List ℕ) (old new : Option (List ℕ)) : Type 0 where
   pub earlier : List ℕ
   pub last : List ℕ
@@ -83,7 +82,7 @@ pub record AnswersFirst (script : List ℕ) (left old new : Option (List ℕ)) :
   pub held : new ≡ append_known old (replies_bytes replies)
 
 -- ---- files that are converted
--- what was held, and behind it the reply to the file; whether it is no fault and no overflow is told
+-- behind what was held stands the reply to the file; whether it is no fault and no overflow
 pub record Converts (want : Format) (file : List ℕ) (clean : Bool)
     (old new : Option (List ℕ)) : Type 0 where
   pub reply : Reply
@@ -99,7 +98,7 @@ pub record ConvertsPrefix (want : Format) (file : List ℕ) (old new : Option (L
   pub held : new ≡ append_known old (take count (reply_bytes reply))
 
 -- ---- samples
--- what was held, and behind it the reply to the number of the sample; whether it is no overflow is told
+-- behind what was held stands the reply to the number of the sample; whether it is no overflow
 pub record Samples (n : ℕ) (clean : Bool) (old new : Option (List ℕ)) : Type 0 where
   pub reply : Reply
   pub samples : SamplesTo n reply
@@ -126,15 +125,14 @@ Finishes job.Run script clean old new = Completes script clean old new
 Finishes (job.Convert want) file clean old new = Converts want file clean old new
 Finishes (job.Sample n) given clean old new = Samples n clean old new
 
--- a front of them is written, or none, where the source gave these bytes and has those left; of a file none before its end
+-- a front of them is written, or none; of a file none before the source is at its end
 abbrev pub WritesFront : Job → List ℕ → Option (List ℕ) → Option (List ℕ) → Option (List ℕ) → Type 0
 WritesFront job.Run script left old new = WritesPrefix script left old new
 WritesFront (job.Convert want) file left old new =
     (new ≡ old) ⊎ (IsAtEnd left × ConvertsPrefix want file old new)
 WritesFront (job.Sample n) given left old new = (new ≡ old) ⊎ SamplesPrefix n old new
 
--- what is written where the source gave these bytes and not its last: the replies to whole lines, and of a file nothing; for a
--- sample it isn't read
+-- what is written after a failed read: the replies to whole lines; of a file nothing
 abbrev pub AnswersRead : Job → List ℕ → Option (List ℕ) → Option (List ℕ) → Option (List ℕ) → Type 0
 AnswersRead job.Run script left old new = AnswersWhole script old new
 AnswersRead (job.Convert want) file left old new = new ≡ old
@@ -147,8 +145,7 @@ AnswersFront job.Run script left old new = AnswersEarlier script old new
 AnswersFront (job.Convert want) file left old new = new ≡ old
 AnswersFront (job.Sample n) given left old new = ⊥
 
--- what is written where memory was wanted elsewhere than at the sink: the replies to the lines before, and of a file or a
--- sample nothing
+-- what is written after want of memory: the replies to the lines before; of other jobs nothing
 abbrev pub AnswersBefore : Job → List ℕ → Option (List ℕ) → Option (List ℕ) → Option (List ℕ)
     → Type 0
 AnswersBefore job.Run script left old new = AnswersFirst script left old new
@@ -202,8 +199,25 @@ pub record Stops (words : List (List ℕ)) (left left_now old new : Option (List
   pub gave : left ≡ prepend_known given left_now
   pub writes : Writes job given left_now old new
 
--- the script is answered: behind what was held stand the replies of a run over its lines, from the state without names and
--- without a file, and that to its end; each line that must succeed is answered, and the status tells whether some reply is a fault or an overflow
+-- what each status tells of the bytes read and written, where the sink wanted memory or not
+pub record EndsAs (words : List (List ℕ)) (status : Status) (Wanted : Type 0)
+    (left left_now old new : Option (List ℕ)) : Type 0 where
+  pub done : status ≡ Done → Ends words left left_now old new true
+  pub refused : status ≡ Refused → Ends words left left_now old new false
+  pub whole_lines : status ≡ ReadFault → Stops words left left_now old new AnswersRead
+  pub earlier_lines : status ≡ InputTooLong → Stops words left left_now old new AnswersFront
+  pub lines_before : status ≡ Memory → ¬ Wanted → Stops words left left_now old new AnswersBefore
+  pub partly : (status ≡ WriteFault) ⊎ (status ≡ Memory) ⊎ (status ≡ InputTooLong)
+      → Stops words left left_now old new WritesFront
+
+-- the status tells whether the source gave too many bytes, and then no more is read
+pub record TellsSize (status : Status) (left left_now : Option (List ℕ)) : Type 0 where
+  pub given : List ℕ
+  pub gave : left ≡ prepend_known given left_now
+  pub told : (status ≡ InputTooLong) ↔ (2 ^ 26 < length given)
+  pub no_more : length given ≤ 2 ^ 26 + 2 ^ 16
+
+-- the replies of a run are held, in which each line that must succeed is answered; the verdict
 pub record IsRunAnswered (script before : List ℕ) (held : Option (List ℕ))
     (status : Status) : Type 0 where
   pub state : State
@@ -213,8 +227,7 @@ pub record IsRunAnswered (script before : List ℕ) (held : Option (List ℕ))
   pub held_now : held ≡ Some (before ++ replies_bytes (replies ++ at_end state))
   pub verdict : status ≡ (if is_clean (replies ++ at_end state) then Done else Refused)
 
--- the file is answered: behind what was held stands the reply to it, which is the other file where the file must be
--- converted, and the status tells whether the reply is a fault or an overflow
+-- the reply to the file is held, the other file where it must be converted; whether it is clean
 pub record IsFileAnswered (want : Format) (file before : List ℕ) (held : Option (List ℕ))
     (status : Status) : Type 0 where
   pub reply : Reply
@@ -223,8 +236,7 @@ pub record IsFileAnswered (want : Format) (file before : List ℕ) (held : Optio
   pub held_now : held ≡ Some (before ++ reply_bytes reply)
   pub verdict : status ≡ (if is_answer reply then Done else Refused)
 
--- the number of a sample is answered: behind what was held stands its line, where neither the conversion nor the maximum has an
--- overflow, and the status tells whether the reply is an overflow
+-- the reply to the sample is held, its line where no overflow forbids it; whether it is clean
 pub record IsSampleAnswered (n : ℕ) (before : List ℕ) (held : Option (List ℕ))
     (status : Status) : Type 0 where
   pub reply : Reply

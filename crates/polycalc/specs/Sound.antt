@@ -1,6 +1,5 @@
 -- That what is written is true of points.
-use Rattle.std.specs.Prelude.{◌≡◌, ℕ, List, ◌++◌, Option, Some, Bool, true, false}
-use Rattle.cdd_reading.specs.declared.format.Format.{Format}
+use Rattle.std.specs.Prelude.{◌≡◌, ℕ, List, ◌++◌, Option, Some, true, false}
 use Rattle.cdd_reading.specs.declared.format.Format.TheVariants.{Ine, Ext}
 use Rattle.soundness.specs.Replies.{IsWrittenTo, IsConverted}
 use Rattle.polycalc.specs.Outcomes.{IsAnswered}
@@ -8,16 +7,12 @@ use Rattle.job_words.specs.declared.job.Job.{Job}
 use Rattle.job_words.specs.declared.job.Job.TheVariants as job
 use Rattle.polycalc.specs.declared.status.Status.{Status}
 
--- whether a file lists generators
-abbrev pub is_ext : Format → Bool
-is_ext Ine = false
-is_ext Ext = true
-
 -- what is written to a script is the replies to its lines; to a file a refusal, or the other file
 -- of the same points; nothing is said of a sample
 abbrev pub IsTrueOf : Job → List ℕ → List ℕ → Type 0
 IsTrueOf job.Run script written = IsWrittenTo script written
-IsTrueOf (job.Convert want) file written = IsConverted (is_ext want) file written
+IsTrueOf (job.Convert Ine) file written = IsConverted false file written
+IsTrueOf (job.Convert Ext) file written = IsConverted true file written
 IsTrueOf (job.Sample n) script written = Unit {0}
 
 -- what is held is what was held, and behind it what is written

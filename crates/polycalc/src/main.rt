@@ -1,5 +1,6 @@
 //! The calculator of convex polyhedra as a program: it reads a script from standard input and
-//! writes the replies to standard output, or converts a file of constraints or of generators, or a sample.
+//! writes the replies to standard output, or converts a file of constraints or of generators, or a
+//! sample.
 #![tactic(auto)]
 
 ghost use Rattle.std.specs.Prelude.{◌≡◌, ◌<◌, ◌↔◌};

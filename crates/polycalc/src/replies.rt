@@ -13,7 +13,8 @@ use row_core::{Memory, Overflow};
 use std::alloc::Global;
 use std::marker::Model;
 
-/// The bytes of replies in order, and whether none of them is a fault or an overflow. After want of memory both are as before.
+/// The bytes of replies in order, and whether none of them is a fault or an overflow. After want of
+/// memory both are as before.
 #[derive(Drop)]
 pub struct Replies {
     alloc: Global,
@@ -41,7 +42,8 @@ impl Replies {
         }
     }
 
-    /// Adds the reply that was given. Where memory ran out, here or before, there is none, and the replies are as before.
+    /// Adds the reply that was given. Where memory ran out, here or before, there is none, and the
+    /// replies are as before.
     pub fn add(&mut self, given: Result<Text, StepErr>) -> Result<(), Memory>
         ensures added { OnOk result (Adds given self.old self.new) }
         ensures wanting { OnErr result (self.new ≡ self.old) }

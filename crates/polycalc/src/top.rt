@@ -1,9 +1,9 @@
 //! The top call.
-ghost use Rattle.std.specs.Prelude.{◌≡◌, ◌≢◌, ℕ, ◌+◌, ◌^◌, ◌<◌, ◌≤◌, ◌↔◌, ◌⊎◌, List, length, Some, true, false};
+ghost use Rattle.std.specs.Prelude.{◌≡◌, ◌≢◌, ℕ, ◌^◌, ◌≤◌, ◌↔◌, List, length, Some};
 ghost use Rattle.std.specs.Io.KnownBytes.{prepend_known};
 ghost use Rattle.poly_io.specs.Counts.{HasRisen};
 ghost use Rattle.job_words.specs.Words.{IsAskedBy};
-ghost use Rattle.polycalc.specs.Outcomes.{Outcome, Ends, Stops, IsAnswered, IsSampleAnswered, WritesFront, AnswersRead, AnswersFront, AnswersBefore, GivesUp};
+ghost use Rattle.polycalc.specs.Outcomes.{Outcome, EndsAs, TellsSize, IsAnswered, IsSampleAnswered, GivesUp};
 ghost use Rattle.polycalc.specs.Sound.{IsSound};
 ghost use Rattle.job_words.specs.declared.job.Job.{Job as AnyJob};
 ghost use Rattle.job_words.specs.declared.job.Job.TheVariants.{Sample};
@@ -22,37 +22,37 @@ use std::sync::ledger::Ledger;
 
 /// Does what the words ask for.
 ///
-/// - `run` reads a script from the source and writes the replies, the faults' and overflows' lines among
-///   them, to the sink. The replies to all whole lines that the source gave are written before it is read
-///   again.
-/// - `ine2ext` reads a file of constraints in the format of cdd and lrs and writes that of the generators
-///   of the same points, and `ext2ine` the other way round. Where a file is refused, or its conversion
-///   leaves the range, the one line of the fault or the overflow is written.
-/// - `sample` and a number of one to four digits, at most 1,000, converts the sample of so many rows and
-///   writes how many constraints and generators are stored of it, and the maximum of `B - A`, or the one
-///   line of an overflow. The source isn't read.
+/// - `run` reads a script from the source and writes the replies, the faults' and overflows' lines
+///   among them, to the sink. The replies to all whole lines that the source gave are written
+///   before it is read again.
+/// - `ine2ext` reads a file of constraints in the format of cdd and lrs and writes that of the
+///   generators of the same points, and `ext2ine` the other way round. Where a file is refused, or
+///   its conversion leaves the range, the one line of the fault or the overflow is written.
+/// - `sample` and a number of one to four digits, at most 1,000, converts the sample of so many
+///   rows and writes how many constraints and generators are stored of it, and the maximum of
+///   `B - A`, or the one line of an overflow. The source isn't read.
 ///
 /// What its clauses say:
 ///
-/// - `answered`: where source and sink tell their bytes, no count of faults rose and memory was found, the
-///   sink holds what it held and then the replies: of a run over the lines of all bytes, in which each
-///   line that must succeed is answered, or to the file that all bytes are, which is converted where it
-///   must be.
-/// - `sound`: where the same holds, it holds what it held and then, line by line, the replies to the lines
-///   of the script: a line whose reply begins with `fault ` or `overflow ` changes nothing, and each other
-///   one spells a command, or ends a file, whose reply is true of the points for which the names stand and
-///   which makes of them what it says; or to a file a refusal, or the other file of the same points.
-/// - `sampled`, `unread`: a sample asks only of the sink, which holds what it held and then the line of
-///   the sample, where it must be answered, and nothing is read.
-/// - `done`, `refused`: what the job reads was read to its end and all replies were written; whether one
-///   of them is a fault or an overflow.
+/// - `answered`: where source and sink tell their bytes, no count of faults rose and memory was
+///   found, the sink holds what it held and then the replies: of a run over the lines of all bytes,
+///   in which each line that must succeed is answered, or to the file that all bytes are, which is
+///   converted where it must be.
+/// - `sound`: where the same holds, it holds what it held and then, line by line, the replies to
+///   the lines of the script: a line whose reply begins with `fault ` or `overflow ` changes
+///   nothing, and each other one spells a command, or ends a file, whose reply is true of the
+///   points for which the names stand and which makes of them what it says; or to a file a refusal,
+///   or the other file of the same points.
+/// - `sampled`, `unread`: a sample asks only of the sink, which holds what it held and then the
+///   line of the sample, where it must be answered, and nothing is read.
+/// - `ends` tells what is written, by the status. Its `done` and `refused`: what the job reads was
+///   read to its end and all replies were written; whether one of them is a fault or an overflow.
+///   `whole_lines`: after a failed read all whole lines that the source gave are answered; of a
+///   file nothing is written. `earlier_lines`: where the script is too long, those that it gave
+///   before the last read are. `lines_before`: where memory was wanted elsewhere than at the sink,
+///   the lines before are answered, each with its whole reply; of a file and of a sample nothing is
+///   written. `partly`: a front of the replies is written, whatever else went wrong.
 /// - `too_long`: exactly where the source gave more than so many bytes, and then no more is read.
-/// - `whole_lines`: after a failed read all whole lines that the source gave are answered; of a file
-///   nothing is written. `earlier_lines`: where the script is too long, those that it gave before the last
-///   read are.
-/// - `lines_before`: where memory was wanted elsewhere than at the sink, the lines before are answered,
-///   each with its whole reply; of a file and of a sample nothing is written.
-/// - `partly`: a front of the replies is written, whatever else went wrong.
 pub fn polycalc<S: Source, W: Sink, L: Ledger>(
     alloc: Global,
     words: &Words,
@@ -74,30 +74,15 @@ pub fn polycalc<S: Source, W: Sink, L: Ledger>(
         → W.held sink.old ≡ Some before → ¬ (HasRisen (W.faults sink.old) (W.faults sink.new))
         → result ≢ Status.Memory → IsSampleAnswered n before (W.held sink.new) result }
     ensures unread { (n : ℕ) → IsAskedBy words.now (Sample n) → source.new ≡ source.old }
-    ensures done { result ≡ Status.Done → Ends words.now (S.left source.old) (S.left source.new)
-        (W.held sink.old) (W.held sink.new) true }
-    ensures refused { result ≡ Status.Refused → Ends words.now
-        (S.left source.old) (S.left source.new) (W.held sink.old) (W.held sink.new) false }
+    ensures ends { EndsAs words.now result (HasRisen (W.wants sink.old) (W.wants sink.new))
+        (S.left source.old) (S.left source.new) (W.held sink.old) (W.held sink.new) }
     ensures usage { (result ≡ Status.Usage) ↔ ((job : AnyJob) → ¬ (IsAskedBy words.now job)) }
     ensures untouched { result ≡ Status.Usage → (source.new ≡ source.old) × (sink.new ≡ sink.old) }
     ensures read_fault { result ≡ Status.ReadFault
         → HasRisen (S.faults source.old) (S.faults source.new) }
     ensures write_fault { result ≡ Status.WriteFault
         → HasRisen (W.faults sink.old) (W.faults sink.new) }
-    ensures too_long { (given : List ℕ)
-        × (S.left source.old ≡ prepend_known given (S.left source.new))
-        × ((result ≡ Status.InputTooLong) ↔ (2 ^ 26 < length given))
-        × (length given ≤ 2 ^ 26 + 2 ^ 16) }
-    ensures whole_lines { result ≡ Status.ReadFault → Stops words.now (S.left source.old)
-        (S.left source.new) (W.held sink.old) (W.held sink.new) AnswersRead }
-    ensures earlier_lines { result ≡ Status.InputTooLong → Stops words.now (S.left source.old)
-        (S.left source.new) (W.held sink.old) (W.held sink.new) AnswersFront }
-    ensures lines_before { result ≡ Status.Memory
-        → ¬ (HasRisen (W.wants sink.old) (W.wants sink.new)) → Stops words.now (S.left source.old)
-        (S.left source.new) (W.held sink.old) (W.held sink.new) AnswersBefore }
-    ensures partly { (result ≡ Status.WriteFault) ⊎ (result ≡ Status.Memory)
-        ⊎ (result ≡ Status.InputTooLong) → Stops words.now (S.left source.old)
-        (S.left source.new) (W.held sink.old) (W.held sink.new) WritesFront }
+    ensures too_long { TellsSize result (S.left source.old) (S.left source.new) }
 {
     runs_are_complete();
     answers_are_sound();

@@ -1,8 +1,12 @@
 pub mod PointLaws
 pub mod Operands
 pub mod MadeSets
-pub mod TrueAnswers
 pub mod ShapeRows
+pub mod ShapeSets
+pub mod FileNumbers
+pub mod FileReads
+pub mod FileWrites
+pub mod TrueAnswers
 pub mod TextCases
 pub mod TextTokens
 pub mod TextNumbers

@@ -38,8 +38,8 @@ use Rattle.poly_commands.specs.Makers as makers
 use Rattle.poly_commands.specs.Results as results
 use Rattle.poly_commands.specs.Operators as operators
 use Rattle.poly_commands.specs.Affine as affine
-use Rattle.soundness.specs.Points.{IsInSmallest}
-use Rattle.soundness.specs.Sets.{constraints, generators, IsOfConstraints, IsOfGenerators, IsSpace, IsCopy, IsAdded, IsGeneratorFor, Generate, IsJoined, IsClosure, IsOfTwo, IsFrontIn, IsExtended, IsRemoved, Stands, IsImage, IsPreimage, IsSetOfMap, IsMapped}
+use Rattle.soundness.specs.Points.{IsSetOf, IsInSmallest}
+use Rattle.soundness.specs.Sets.{constraints, generators, IsOfConstraints, IsOfGenerators, IsSpace, IsCopy, IsAdded, IsGeneratorFor, Generate, IsJoined, IsClosure, IsOfTwo, IsFrontIn, IsExtended, IsRemoved, Stands, IsImage, IsPreimage, ComesOf, IsMapped}
 use Rattle.soundness.specs.TextsSystems.{GeneratorsText}
 use Rattle.soundness.proofs.Operands.{all_below}
 use Rattle.soundness.proofs.PointLaws.{TextLaws, via, turn, is_nnc, set_of, is_over, set_is, moved, within, smallest}
@@ -108,7 +108,7 @@ add_made laws part p r fit h =
     }
 
 -- the generators that are stored
-own_generate : (p : Polyhedron) → IsProper p → p.gens.dim ≡ p.cons.dim → IsPair p.cons p.gens → (poly.HasNoPoint p → p.gens.list ≡ []) → Generate p.gens.list (set_of p)
+pub own_generate : (p : Polyhedron) → IsProper p → p.gens.dim ≡ p.cons.dim → IsPair p.cons p.gens → (poly.HasNoPoint p → p.gens.list ≡ []) → Generate p.gens.list (set_of p)
 own_generate p own same pair none = record {
   each = λ i d h. subst (λ (n : ℕ). IsGeneratorFor n (slice_index_or p.gens.list i d)) same (record { wide = (own.gens.each i d h).wide; divisor = (own.gens.each i d h).divisor });
   set = set_is p.topology p.cons.dim (Span (generators p.cons.dim p.gens.list)) p own (record { same_topology = refl; same_dim = refl }) (λ v is. via (pair v is) (span_over p.gens.dim p.cons.dim p.gens.list v same));
@@ -160,16 +160,22 @@ hull_points p q e v =
     (smallest p.topology p.cons.dim (λ u. IsWithin p.cons u ⊎ IsWithin q.cons u) (λ c. lattice.IsValidOn p c × lattice.IsValidOn q c) (valid_both p q e) v)
 
 pub two_made : (op : Operator) (p q r : Polyhedron) → IsProper r → operators.Fits op p q → operators.IsMadeBy op p q r → IsOfTwo op (set_of p) (set_of q) (set_of r)
-two_made Meet p q r fit fits h = set_is p.topology p.cons.dim (λ v. In p.cons v × In q.cons v) r fit h.set.over h.set.points
-two_made Hull p q r fit fits h =
-    set_is p.topology p.cons.dim (IsInSmallest (is_nnc p.topology) p.cons.dim (λ v. IsWithin p.cons v ⊎ IsWithin q.cons v)) r fit h.set.over
-    (λ v is. via (h.set.points v is) (hull_points p q fits.1 v))
-two_made Concat p q r fit fits h =
-    set_is p.topology (p.cons.dim + q.cons.dim) (λ v. In p.cons (without p.cons.dim (p.cons.dim + q.cons.dim) v) × In q.cons (drop p.cons.dim v)) r fit h.set.over
-    (λ v is. via (h.set.points v is) (λ x. (x.front, x.back), λ y. record { front = y.0; back = y.1 }))
-two_made Elapse p q r fit fits h =
-    set_is p.topology p.cons.dim (IsInSmallest (is_nnc p.topology) p.cons.dim (IsElapsed p.cons q.cons)) r fit h.set.over
-    (λ v is. via (h.set.points v is) (smallest p.topology p.cons.dim (IsElapsed p.cons q.cons) (IsTrueElapsed p.cons q.cons) (λ c. (λ x. x, λ x. x)) v))
+two_made Meet p q r fit fits h = (record { kind = ap is_nnc fits.0; variables = fits.1 }, set_is p.topology p.cons.dim (λ v. In p.cons v × In q.cons v) r fit h.set.over h.set.points)
+two_made Hull p q r fit fits h = (
+  record { kind = ap is_nnc fits.0; variables = fits.1 },
+  set_is p.topology p.cons.dim (IsInSmallest (is_nnc p.topology) p.cons.dim (λ v. IsWithin p.cons v ⊎ IsWithin q.cons v)) r fit h.set.over
+      (λ v is. via (h.set.points v is) (hull_points p q fits.1 v)),
+)
+two_made Concat p q r fit fits h = (
+  ap is_nnc fits.0,
+  set_is p.topology (p.cons.dim + q.cons.dim) (λ v. In p.cons (without p.cons.dim (p.cons.dim + q.cons.dim) v) × In q.cons (drop p.cons.dim v)) r fit h.set.over
+      (λ v is. via (h.set.points v is) (λ x. (x.front, x.back), λ y. record { front = y.0; back = y.1 })),
+)
+two_made Elapse p q r fit fits h = (
+  record { kind = ap is_nnc fits.0; variables = fits.1 },
+  set_is p.topology p.cons.dim (IsInSmallest (is_nnc p.topology) p.cons.dim (IsElapsed p.cons q.cons)) r fit h.set.over
+      (λ v is. via (h.set.points v is) (smallest p.topology p.cons.dim (IsElapsed p.cons q.cons) (IsTrueElapsed p.cons q.cons) (λ c. (λ x. x, λ x. x)) v)),
+)
 
 -- ---- variables
 pub extension_made : (by : Extension) (n : ℕ) (p r : Polyhedron) → IsProper r → operators.IsExtended by n p r → IsExtended by n (set_of p) (set_of r)
@@ -204,7 +210,7 @@ preimage_points rel var expr divisor cs v = (
   λ h. record { num = h.num; below = h.den; positive = h.positive; stands = (stands_to rel _ _).1 h.stands; within = h.within },
 )
 
-map_points : (by : Mapping) (rel : Rel) (var : ℕ) (expr : List ℤ) (divisor : ℤ) (p r : Polyhedron) → IsProper r → affine.IsSetOfMap by (affine.image_rel rel) var expr divisor p r → IsSetOfMap by rel var expr divisor (set_of p) (set_of r)
+map_points : (by : Mapping) (rel : Rel) (var : ℕ) (expr : List ℤ) (divisor : ℤ) (p r : Polyhedron) → IsProper r → affine.IsSetOfMap by (affine.image_rel rel) var expr divisor p r → IsSetOf (is_nnc p.topology) p.cons.dim (ComesOf by rel var expr divisor p.cons) (set_of r)
 map_points Image rel var expr divisor p r fit h = set_is p.topology p.cons.dim (IsImage rel var expr divisor p.cons) r fit h.over (λ v is. via (h.points v is) (image_points rel var expr divisor p.cons v))
 map_points Preimage rel var expr divisor p r fit h = set_is p.topology p.cons.dim (IsPreimage rel var expr divisor p.cons) r fit h.over (λ v is. via (h.points v is) (preimage_points rel var expr divisor p.cons v))
 
@@ -217,5 +223,5 @@ map_made laws by var rel part p r fit h =
       divisor = text.below;
       positive = text.positive;
       text = text.is_text;
-      set = subst (λ (d : ℤ). IsSetOfMap by rel var h.expr d (set_of p) (set_of r)) text.same (map_points by rel var h.expr h.divisor p r fit h.holds.set);
+      set = subst (λ (d : ℤ). IsSetOf (is_nnc p.topology) p.cons.dim (ComesOf by rel var h.expr d p.cons) (set_of r)) text.same (map_points by rel var h.expr h.divisor p r fit h.holds.set);
     }

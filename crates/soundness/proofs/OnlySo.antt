@@ -9,9 +9,9 @@ use Rattle.cons_sys.specs.Constraints.{Constraint}
 use Rattle.gens_sys.specs.Generators.{Generator}
 use Rattle.soundness.specs.TextsNumbers.{IsBlank, AreBlanks, IsDigit, IsNumber, IsVariable, letter, numbered, Tokens, AreTokens}
 use Rattle.soundness.specs.TextsExpressions as expressions
-use Rattle.soundness.specs.TextsExpressions.{IsMultiple, IsTerm, IsSum, IsExpression, AreCoordinates, IsOver, ExpressionText, FractionText}
+use Rattle.soundness.specs.TextsExpressions.{IsMultiple, IsTerm, IsSum, IsExpression, AreCoordinates, IsQuotient, ExpressionText, FractionText}
 use Rattle.soundness.specs.TextsSystems as systems
-use Rattle.soundness.specs.TextsSystems.{IsConstraint, AreListed, AreConstraints, IsGenerator, AreGenerators, IsOneVariable, ConstraintText, ConstraintsText, GeneratorsText, VariablesText}
+use Rattle.soundness.specs.TextsSystems.{SaysConstraint, AreListed, AreConstraints, IsGenerator, AreGenerators, IsOneVariable, ConstraintText, ConstraintsText, GeneratorsText, VariablesText}
 use Rattle.soundness.proofs.TextTokens.{no_blanks, blanks_are}
 
 -- ---- blanks and tokens
@@ -225,7 +225,7 @@ vexpr_form dim ts row expressions.origin w h = one_token vexpr_cases (codes "0")
 vexpr_form dim ts row (expressions.sum us u is) w h = widened (sum_of vterm) vexpr_cases (λ x m. inr m) w (sum_form vterm (IsMultiple dim) (multiple_form dim) us u is w h)
 
 -- what may stand over a number
-over_form : (f : Form) (Means : Tokens → List ℤ → Type 0) → ((ts : Tokens) (row : List ℤ) → Means ts row → (w : List ℕ) → AreTokens ts w → Matches (alone f) w) → (ts : Tokens) (q : List ℤ × ℕ) → IsOver Means ts q → (w : List ℕ) → AreTokens ts w → Matches (alone (over_nat f)) w
+over_form : (f : Form) (Means : Tokens → List ℤ → Type 0) → ((ts : Tokens) (row : List ℤ) → Means ts row → (w : List ℕ) → AreTokens ts w → Matches (alone f) w) → (ts : Tokens) (q : List ℤ × ℕ) → IsQuotient Means ts q → (w : List ℕ) → AreTokens ts w → Matches (alone (over_nat f)) w
 over_form f Means law ts q (expressions.whole us u m) w h = widened f (over_nat f) (λ x k. inl k) w (law us u m w h)
 over_form f Means law ts q (expressions.divided us t u n m is positive) w h =
     widened (symbol 40 ⋯ f ⋯ symbol 41 ⋯ symbol 47 ⋯ nat) (over_nat f) (λ x k. inr k) w
@@ -239,7 +239,7 @@ related_form : (dim : ℕ) (sign : List ℕ) → Matches rel sign → (ss ts : T
 related_form dim sign m ss ts u v l r w h =
     tokens_then expr_cases (rel ⋯ expr_cases) ss (sign ∷ ts) w (expr_form dim ss u l) (λ y k. token_then rel expr_cases sign ts y m (expr_form dim ts v r) k) h
 
-con_form : (dim : ℕ) (ts : Tokens) (c : Constraint) → IsConstraint dim ts c → (w : List ℕ) → AreTokens ts w → Matches (alone con_cases) w
+con_form : (dim : ℕ) (ts : Tokens) (c : Constraint) → SaysConstraint dim ts c → (w : List ℕ) → AreTokens ts w → Matches (alone con_cases) w
 con_form dim ts c (systems.equal ss us u v l r) w h = related_form dim (codes "=") (inl (the_symbol 61)) ss us u v l r w h
 con_form dim ts c (systems.at_least ss us u v l r) w h = related_form dim (codes ">=") (inr (inl refl)) ss us u v l r w h
 con_form dim ts c (systems.at_most ss us u v l r) w h = related_form dim (codes "<=") (inr (inr (inl refl))) ss us u v l r w h
@@ -291,7 +291,7 @@ module _ {A : Type 0} (f : Form) (Means : Tokens → A → Type 0) (law : (ts : 
 cons_form : (dim : ℕ) (ts : Tokens) (cs : List Constraint) → AreConstraints dim ts cs → (w : List ℕ) → AreTokens ts w → Matches (alone cons_cases) w
 cons_form dim ts cs systems.always w h = one_token cons_cases (codes "true") w (inl refl) h
 cons_form dim ts cs systems.never w h = one_token cons_cases (codes "false") w (inr (inl refl)) h
-cons_form dim ts cs (systems.constraints us ds is) w h = widened (list_of con_cases) cons_cases (λ x m. inr (inr m)) w (list_form con_cases (IsConstraint dim) (con_form dim) us ds is w h)
+cons_form dim ts cs (systems.constraints us ds is) w h = widened (list_of con_cases) cons_cases (λ x m. inr (inr m)) w (list_form con_cases (SaysConstraint dim) (con_form dim) us ds is w h)
 
 enclosed_form : (cs : List ℕ) (f : Form) (ts : Tokens) → ((w : List ℕ) → AreTokens ts w → Matches (alone f) w) → (w : List ℕ) → AreTokens (cs ∷ ts ++ codes ")" ∷ []) w → Matches (alone (word cs ⋯ f ⋯ symbol 41)) w
 enclosed_form cs f ts law w h =

@@ -6,12 +6,10 @@ use Rattle.poly_pair.specs.Polyhedra.{Polyhedron}
 use Rattle.poly_pair.specs.declared.topology.Topology.{Topology}
 use Rattle.poly_pair.specs.declared.topology.Topology.TheVariants.{Closed, Nnc}
 use Rattle.script_text.specs.declared.command.Operator.{Operator}
-use Rattle.script_text.specs.declared.command.Operator.TheVariants.{Meet, Hull, Concat, Elapse}
 use Rattle.line_values.specs.Order.{Conditions, Passes}
 use Rattle.line_values.specs.Meaning.{alike}
 use Rattle.poly_commands.specs.Operators.{adds_dims, fitting_by, fitting, FitDimsBy, Fits}
 use Rattle.soundness.specs.Points.{AreAlike}
-use Rattle.soundness.specs.Sets.{AreFor}
 use Rattle.soundness.proofs.PointLaws.{is_nnc, set_of}
 
 pub one_topology : (s t : Topology) → ¬ (s ≢ t) → s ≡ t
@@ -66,9 +64,3 @@ fit_by false p q others passes = (one_topology p.topology q.topology passes.1.0,
 
 pub fit_operator : (op : Operator) (p q : Polyhedron) (others : Conditions) → Passes (fitting op p q others) → Fits op p q
 fit_operator op p q others passes = fit_by (adds_dims op) p q others passes
-
-pub fit_for : (op : Operator) (p q : Polyhedron) → Fits op p q → AreFor op (set_of p) (set_of q)
-fit_for Concat p q fits = ap is_nnc fits.0
-fit_for Meet p q fits = record { kind = ap is_nnc fits.0; variables = fits.1 }
-fit_for Hull p q fits = record { kind = ap is_nnc fits.0; variables = fits.1 }
-fit_for Elapse p q fits = record { kind = ap is_nnc fits.0; variables = fits.1 }

@@ -1,10 +1,10 @@
 -- The points of polyhedra, and what their texts say.
-use Rattle.std.proofs.Common.{◌≡◌, ◌↔◌, inl, inr, ℕ, ◌+◌, ◌<◌, List, [], ◌∷◌, ◌++◌, length, ap, sym, ◌∙◌, subst, Bool, true, false, ℤ, pos, All}
+use Rattle.std.proofs.Common.{◌≡◌, ◌↔◌, inl, inr, ℕ, ◌+◌, ◌<◌, List, [], ◌++◌, length, ap, sym, ◌∙◌, subst, Bool, true, false, ℤ, pos, All}
 use Rattle.std.specs.Prelude.{slice_index_or}
 use Rattle.row_core.specs.Points.{IsPoint}
 use Rattle.cons_sys.specs.declared.kind.ConKind.{ConKind}
 use Rattle.cons_sys.specs.declared.kind.ConKind.TheVariants.{Eq, Ge, Gt}
-use Rattle.cons_sys.specs.Constraints.{Constraint, Constraints, In, Satisfies, FitDimension}
+use Rattle.cons_sys.specs.Constraints.{Constraint, Constraints, In, Satisfies}
 use Rattle.gens_sys.specs.Generators.{Generator, Generators}
 use Rattle.gens_sys.specs.Spans.{Span}
 use Rattle.stored_systems.specs.PointSets.{IsWithin, AreWide}

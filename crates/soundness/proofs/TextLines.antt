@@ -1,12 +1,12 @@
 -- A line that spells a command by the tables spells it by the cases.
-use Rattle.std.proofs.Common.{◌≡◌, ℕ, ◌-◌, List, [], ◌∷◌, ◌++◌, Bool, true, zero, suc, map, refl, ap, sym, ◌∙◌, subst, arith, inl, inr, append_assoc}
+use Rattle.std.proofs.Common.{◌≡◌, ℕ, List, [], ◌∷◌, ◌++◌, Bool, true, zero, suc, map, refl, ap, sym, ◌∙◌, subst, arith, inl, inr, append_assoc}
 use Rattle.std.specs.Prelude.{Contains, codes}
 use Rattle.std.specs.List.{list_all}
 use Rattle.std.specs.Str.{bytes_eq}
 use Rattle.std.specs.Bool.{Decides}
 use Rattle.std.proofs.lemmas.Slice.Eq.{bytes_eq-Decides}
-use Rattle.grammar.specs.Form.{Form, word, Matches, Times}
-use Rattle.grammar.specs.Grammar.{◌·◌, ◌∣◌, ◌⋯◌, symbol, blanks, alone, perhaps, comment, nat, var, vars, rel, expr, frac, con, cons, point, gens}
+use Rattle.grammar.specs.Form.{Form, Matches, Times}
+use Rattle.grammar.specs.Grammar.{◌·◌, ◌∣◌, ◌⋯◌, symbol, blanks, perhaps, comment, nat, var, vars, rel, expr, frac, con, cons, point, gens}
 use Rattle.grammar.specs.Grammar.{name as name_form}
 use Rattle.line_forms.specs.CommandWords.{CommandWord, command_words, HasForm}
 use Rattle.line_forms.specs.Fields.{words_by, fields_from, fields_by, fields_of}

@@ -1,5 +1,5 @@
 -- Lists of constraints and of generators: those of the cases, each a positive multiple of what is stored.
-use Rattle.std.proofs.Common.{◌≡◌, ℕ, ◌+◌, ◌<◌, List, [], ◌∷◌, ◌++◌, zero, suc, ℤ, pos, negsuc, ◌+ℤ◌, ◌*ℤ◌, refl, ap, sym, ◌∙◌, subst, arith, inl, inr, append_assoc, append-nil, ◌==◌, if◌then◌else◌}
+use Rattle.std.proofs.Common.{◌≡◌, ℕ, ◌<◌, List, [], ◌∷◌, ◌++◌, zero, suc, ℤ, pos, negsuc, ◌+ℤ◌, ◌*ℤ◌, refl, ap, sym, ◌∙◌, subst, arith, inl, inr, append_assoc, append-nil, ◌==◌, if◌then◌else◌}
 use Rattle.std.specs.Prelude.{All, codes, ◌↔◌, ◌<ℤ◌}
 use Rattle.std.proofs.lemmas.Int.{ints}
 use Rattle.std.proofs.lemmas.List.Elements.{All-cons, All-head, All-tail}
@@ -22,7 +22,7 @@ use Rattle.term_text.specs.Systems as stored_cons
 use Rattle.soundness.specs.TextsNumbers.{Tokens, AreTokens}
 use Rattle.soundness.specs.TextsExpressions.{at_column}
 use Rattle.soundness.specs.TextsSystems as systems
-use Rattle.soundness.specs.TextsSystems.{IsConstraint, AreListed, AreConstraints}
+use Rattle.soundness.specs.TextsSystems.{SaysConstraint, AreListed, AreConstraints}
 use Rattle.soundness.proofs.PointLaws.{SaysConstraints}
 use Rattle.soundness.proofs.TextTokens.{no_blanks, symbol_is, token_is, token_before, tokens_of, behind_blanks, alone_tokens}
 use Rattle.soundness.proofs.TextRows.{column_wide, column_cell, same_rows}
@@ -120,7 +120,7 @@ never_row dim row is = same_rows dim (at_column dim dim (negsuc 0)) row (column_
     plus_none z = omega (arith, ints)
 
 module _ (dim : ℕ) where
-  con_element : (w : List ℕ) (m : Matches con_cases w) (stored : Constraint) → IsGoodCon dim (con_by w m) stored → HasRelated (IsConstraint dim) IsWritten w stored
+  con_element : (w : List ℕ) (m : Matches con_cases w) (stored : Constraint) → IsGoodCon dim (con_by w m) stored → HasRelated (SaysConstraint dim) IsWritten w stored
   con_element w m stored g = record {
     element = (g.is.row, kind_of (con_by w m).relation);
     is = con_law dim w m g.is.row g.within g.short g.is.sums;
@@ -148,7 +148,7 @@ module _ (dim : ℕ) where
   }
   cons_law w (inr (inl empty)) (r ∷ s ∷ rs) good = absurd good.1
   cons_law w (inr (inr (first, v, e, is_first, (n, others)))) stored good =
-      let h : HaveRelated (AreListed (IsConstraint dim)) IsWritten w stored = listed_law con_cases con_by (IsConstraint dim) IsWritten (IsGoodCon dim) con_element n w first v is_first others e stored
+      let h : HaveRelated (AreListed (SaysConstraint dim)) IsWritten w stored = listed_law con_cases con_by (SaysConstraint dim) IsWritten (IsGoodCon dim) con_element n w first v is_first others e stored
       (subst (λ (cs : List Comparison). AreRelated (IsGoodCon dim) (con_by first is_first ∷ cs) stored) (further_same n v others) good) in
       record { elements = h.elements; are = record { tokens = h.are.tokens; split = h.are.split; means = systems.constraints h.are.tokens h.elements h.are.means }; related = h.related }
 

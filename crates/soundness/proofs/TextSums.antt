@@ -15,7 +15,7 @@ use Rattle.term_text.specs.Terms.{IsWithin, AreWithin, part, total}
 use Rattle.term_text.specs.Values.{TermBy, variable_term, number_term, product_by, term_by, vterm_by, first_by, signed_by, further_by, sum_by, expr_by, vexpr_by, ratio_by}
 use Rattle.soundness.specs.TextsNumbers.{Tokens, AreTokens}
 use Rattle.soundness.specs.TextsExpressions as expressions
-use Rattle.soundness.specs.TextsExpressions.{column, at_column, opposite, difference, IsMultiple, IsTerm, IsSum, IsExpression, AreCoordinates, IsOver}
+use Rattle.soundness.specs.TextsExpressions.{column, at_column, opposite, difference, IsMultiple, IsTerm, IsSum, IsExpression, AreCoordinates, IsQuotient}
 use Rattle.soundness.proofs.TextTokens.{no_blanks, symbol_is, token, token_is, token_before, tokens_of, behind_blanks}
 use Rattle.soundness.proofs.TextNumbers.{nat_is, small_size, HasVariable, var_is}
 use Rattle.soundness.proofs.TextRows.{column_wide, column_cell, opposite_cell, opposite_wide, add_wide, difference_wide}
@@ -231,7 +231,7 @@ pub record ReadsOver (Means : Tokens → List ℤ → Type 0) (dim : ℕ) (w : L
   pub tokens : Tokens
   pub row : List ℤ
   pub split : AreTokens tokens w
-  pub means : IsOver Means tokens (row, divisor)
+  pub means : IsQuotient Means tokens (row, divisor)
   pub wide : length row ≡ dim + 1
   pub cells : (j : ℕ) → j ≤ dim → cell row j ≡ s j
 
@@ -253,7 +253,7 @@ over_law dim f by Means law w (inr (opening, w1, e1, is_opening, (b1, w2, e2, bl
       split = token_before (codes "(") (r.tokens ++ codes ")" ∷ codes "/" ∷ digits ∷ []) w opening w1 e1 (symbol_is 40 opening is_opening)
           (behind_blanks (r.tokens ++ codes ")" ∷ codes "/" ∷ digits ∷ []) w1 b1 w2 e2 blanks1
           (tokens_of r.tokens (codes ")" ∷ codes "/" ∷ digits ∷ []) w2 expr w3 e3 r.split (behind_blanks (codes ")" ∷ codes "/" ∷ digits ∷ []) w3 b2 w4 e4 blanks2 last)));
-      means = subst (λ (n : ℕ). IsOver Means (codes "(" ∷ r.tokens ++ codes ")" ∷ codes "/" ∷ digits ∷ []) (r.row, n)) (sym (small_size digits (size_of digits) refl low))
+      means = subst (λ (n : ℕ). IsQuotient Means (codes "(" ∷ r.tokens ++ codes ")" ∷ codes "/" ∷ digits ∷ []) (r.row, n)) (sym (small_size digits (size_of digits) refl low))
           (expressions.divided r.tokens digits r.row (number digits) r.means (nat_is digits is_digits) (subst (λ (n : ℕ). 0 < n) (small_size digits (size_of digits) refl low) positive));
       wide = r.wide;
       cells = r.cells;

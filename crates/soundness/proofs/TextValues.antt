@@ -22,9 +22,9 @@ use Rattle.expr_text.specs.Generators.{vfrac_by, enclosed_by}
 use Rattle.gens_sys.specs.declared.kind.GenKind.{GenKind}
 use Rattle.soundness.specs.TextsNumbers.{Tokens, AreTokens}
 use Rattle.soundness.specs.TextsExpressions as expressions
-use Rattle.soundness.specs.TextsExpressions.{column, at_column, difference, IsMultiple, IsSum, IsExpression, AreCoordinates, IsOver, ExpressionText, FractionText}
+use Rattle.soundness.specs.TextsExpressions.{column, at_column, difference, IsMultiple, IsSum, IsExpression, AreCoordinates, IsQuotient, ExpressionText, FractionText}
 use Rattle.soundness.specs.TextsSystems as systems
-use Rattle.soundness.specs.TextsSystems.{IsConstraint, IsGenerator, over, ConstraintText, PointText}
+use Rattle.soundness.specs.TextsSystems.{SaysConstraint, IsGenerator, over, ConstraintText, PointText}
 use Rattle.soundness.proofs.TextTokens.{symbol_is, token_is, token_before, tokens_of, behind_blanks, alone_tokens}
 use Rattle.soundness.proofs.TextRows.{column_wide, column_same, beside, opposite_cell, difference_cell, add_wide, difference_wide, same_rows}
 use Rattle.soundness.proofs.TextSums.{IsShort, Reads, ReadsOver, expression_law, coordinates_law, over_law}
@@ -53,7 +53,7 @@ module _ (dim : ℕ) where
         record {
           tokens = r.tokens;
           split = alone_tokens r.tokens text b1 w1 x b2 e1 before e2 behind r.split;
-          means = subst (λ (v : List ℤ). IsOver (IsExpression dim) r.tokens (v, n)) same r.means;
+          means = subst (λ (v : List ℤ). IsQuotient (IsExpression dim) r.tokens (v, n)) same r.means;
         },
         h.same,
         h.positive,
@@ -86,7 +86,7 @@ pub coordinates_end : (dim : ℕ) (ts : Tokens) (row : List ℤ) → AreCoordina
 coordinates_end dim ts row expressions.origin = column_same dim dim (pos 0)
 coordinates_end dim ts row (expressions.sum us u h) = sum_end dim us u h
 
-pub over_end : (dim : ℕ) (ts : Tokens) (row : List ℤ) (n : ℕ) → IsOver (AreCoordinates dim) ts (row, n) → cell row dim ≡ pos 0
+pub over_end : (dim : ℕ) (ts : Tokens) (row : List ℤ) (n : ℕ) → IsQuotient (AreCoordinates dim) ts (row, n) → cell row dim ≡ pos 0
 over_end dim ts row n (expressions.whole us u h) = coordinates_end dim us u h
 over_end dim ts row n (expressions.divided us w u m h is positive) = coordinates_end dim us u h
 
@@ -145,7 +145,7 @@ module _ (dim : ℕ) where
   vfrac_law w m within short low positive = over_law dim vexpr_cases vexpr_by (AreCoordinates dim) (coordinates_law dim) w m within short low positive
 
   -- a point of the kind, in its opening word and a closing bracket
-  pub enclosed_over : (cs : List ℕ) (kind : GenKind) → ((ts : Tokens) (u : List ℤ) (n : ℕ) → IsOver (AreCoordinates dim) ts (u, n) → IsGenerator dim (cs ∷ ts ++ codes ")" ∷ []) (over dim u n, kind)) → (w : List ℕ) (m : Matches (word cs ⋯ vfrac_cases ⋯ symbol 41) w) (row : List ℤ) → AreWithin dim (enclosed_by cs vfrac_cases vfrac_by w m).terms → All IsShort (enclosed_by cs vfrac_cases vfrac_by w m).terms → (enclosed_by cs vfrac_cases vfrac_by w m).divisor < 2 ^ 127 → 0 < (enclosed_by cs vfrac_cases vfrac_by w m).divisor → length row ≡ dim + 1 → ((j : ℕ) → j < dim → cell row j ≡ total dim (enclosed_by cs vfrac_cases vfrac_by w m).terms j) → cell row dim ≡ pos (enclosed_by cs vfrac_cases vfrac_by w m).divisor → Is (IsGenerator dim) w (row, kind)
+  pub enclosed_over : (cs : List ℕ) (kind : GenKind) → ((ts : Tokens) (u : List ℤ) (n : ℕ) → IsQuotient (AreCoordinates dim) ts (u, n) → IsGenerator dim (cs ∷ ts ++ codes ")" ∷ []) (over dim u n, kind)) → (w : List ℕ) (m : Matches (word cs ⋯ vfrac_cases ⋯ symbol 41) w) (row : List ℤ) → AreWithin dim (enclosed_by cs vfrac_cases vfrac_by w m).terms → All IsShort (enclosed_by cs vfrac_cases vfrac_by w m).terms → (enclosed_by cs vfrac_cases vfrac_by w m).divisor < 2 ^ 127 → 0 < (enclosed_by cs vfrac_cases vfrac_by w m).divisor → length row ≡ dim + 1 → ((j : ℕ) → j < dim → cell row j ≡ total dim (enclosed_by cs vfrac_cases vfrac_by w m).terms j) → cell row dim ≡ pos (enclosed_by cs vfrac_cases vfrac_by w m).divisor → Is (IsGenerator dim) w (row, kind)
   enclosed_over cs kind case w (opening, w1, e1, is_opening, (b1, w2, e2, blanks1, (frac, w3, e3, is_frac, (b2, close, e4, blanks2, is_close)))) row within short low positive wide cells last =
       let r = vfrac_law frac is_frac within short low positive in
       let ratio : Ratio = ratio_by vexpr_cases vexpr_by frac is_frac in
@@ -246,34 +246,34 @@ module _ (dim : ℕ) where
   related sign ss ts w left w1 b1 w2 between w3 b2 right e1 e2 blanks1 e3 is e4 blanks2 h k =
       tokens_of ss (sign ∷ ts) w left w1 e1 h (behind_blanks (sign ∷ ts) w1 b1 w2 e2 blanks1 (token_before sign ts w2 between w3 e3 is (behind_blanks ts w3 b2 right e4 blanks2 k)))
 
-  compared : (w left w1 b1 w2 between w3 b2 right : List ℕ) (is_left : Matches expr_cases left) (is_between : Matches rel between) (is_right : Matches expr_cases right) → w ≡ left ++ w1 → w1 ≡ b1 ++ w2 → Matches blanks b1 → w2 ≡ between ++ w3 → w3 ≡ b2 ++ right → Matches blanks b2 → Reads (IsExpression dim) dim left (total dim (expr_by left is_left)) → Reads (IsExpression dim) dim right (total dim (expr_by right is_right)) → (row : List ℤ) → IsConRow dim (record { terms = expr_by left is_left ++ map turned (expr_by right is_right); relation = relation_by between is_between }) row → Is (IsConstraint dim) w (row, kind_of (relation_by between is_between))
+  compared : (w left w1 b1 w2 between w3 b2 right : List ℕ) (is_left : Matches expr_cases left) (is_between : Matches rel between) (is_right : Matches expr_cases right) → w ≡ left ++ w1 → w1 ≡ b1 ++ w2 → Matches blanks b1 → w2 ≡ between ++ w3 → w3 ≡ b2 ++ right → Matches blanks b2 → Reads (IsExpression dim) dim left (total dim (expr_by left is_left)) → Reads (IsExpression dim) dim right (total dim (expr_by right is_right)) → (row : List ℤ) → IsConRow dim (record { terms = expr_by left is_left ++ map turned (expr_by right is_right); relation = relation_by between is_between }) row → Is (SaysConstraint dim) w (row, kind_of (relation_by between is_between))
   compared w left w1 b1 w2 between w3 b2 right is_left (inl equal) is_right e1 e2 blanks1 e3 e4 blanks2 l r row is = record {
     tokens = l.tokens ++ codes "=" ∷ r.tokens;
     split = related (codes "=") l.tokens r.tokens w left w1 b1 w2 between w3 b2 right e1 e2 blanks1 e3 (symbol_is 61 between equal) e4 blanks2 l.split r.split;
-    means = subst (λ (v : List ℤ). IsConstraint dim (l.tokens ++ codes "=" ∷ r.tokens) (v, Eq)) (straight_row l.row r.row row (expr_by left is_left) (expr_by right is_right) l.wide r.wide l.cells r.cells is.wide is.cells) (systems.equal l.tokens r.tokens l.row r.row l.means r.means);
+    means = subst (λ (v : List ℤ). SaysConstraint dim (l.tokens ++ codes "=" ∷ r.tokens) (v, Eq)) (straight_row l.row r.row row (expr_by left is_left) (expr_by right is_right) l.wide r.wide l.cells r.cells is.wide is.cells) (systems.equal l.tokens r.tokens l.row r.row l.means r.means);
   }
   compared w left w1 b1 w2 between w3 b2 right is_left (inr (inl at_least)) is_right e1 e2 blanks1 e3 e4 blanks2 l r row is = record {
     tokens = l.tokens ++ codes ">=" ∷ r.tokens;
     split = related (codes ">=") l.tokens r.tokens w left w1 b1 w2 between w3 b2 right e1 e2 blanks1 e3 at_least e4 blanks2 l.split r.split;
-    means = subst (λ (v : List ℤ). IsConstraint dim (l.tokens ++ codes ">=" ∷ r.tokens) (v, Ge)) (straight_row l.row r.row row (expr_by left is_left) (expr_by right is_right) l.wide r.wide l.cells r.cells is.wide is.cells) (systems.at_least l.tokens r.tokens l.row r.row l.means r.means);
+    means = subst (λ (v : List ℤ). SaysConstraint dim (l.tokens ++ codes ">=" ∷ r.tokens) (v, Ge)) (straight_row l.row r.row row (expr_by left is_left) (expr_by right is_right) l.wide r.wide l.cells r.cells is.wide is.cells) (systems.at_least l.tokens r.tokens l.row r.row l.means r.means);
   }
   compared w left w1 b1 w2 between w3 b2 right is_left (inr (inr (inl at_most))) is_right e1 e2 blanks1 e3 e4 blanks2 l r row is = record {
     tokens = l.tokens ++ codes "<=" ∷ r.tokens;
     split = related (codes "<=") l.tokens r.tokens w left w1 b1 w2 between w3 b2 right e1 e2 blanks1 e3 at_most e4 blanks2 l.split r.split;
-    means = subst (λ (v : List ℤ). IsConstraint dim (l.tokens ++ codes "<=" ∷ r.tokens) (v, Ge)) (turned_row l.row r.row row (expr_by left is_left) (expr_by right is_right) l.wide r.wide l.cells r.cells is.wide is.cells) (systems.at_most l.tokens r.tokens l.row r.row l.means r.means);
+    means = subst (λ (v : List ℤ). SaysConstraint dim (l.tokens ++ codes "<=" ∷ r.tokens) (v, Ge)) (turned_row l.row r.row row (expr_by left is_left) (expr_by right is_right) l.wide r.wide l.cells r.cells is.wide is.cells) (systems.at_most l.tokens r.tokens l.row r.row l.means r.means);
   }
   compared w left w1 b1 w2 between w3 b2 right is_left (inr (inr (inr (inl above)))) is_right e1 e2 blanks1 e3 e4 blanks2 l r row is = record {
     tokens = l.tokens ++ codes ">" ∷ r.tokens;
     split = related (codes ">") l.tokens r.tokens w left w1 b1 w2 between w3 b2 right e1 e2 blanks1 e3 (symbol_is 62 between above) e4 blanks2 l.split r.split;
-    means = subst (λ (v : List ℤ). IsConstraint dim (l.tokens ++ codes ">" ∷ r.tokens) (v, Gt)) (straight_row l.row r.row row (expr_by left is_left) (expr_by right is_right) l.wide r.wide l.cells r.cells is.wide is.cells) (systems.above l.tokens r.tokens l.row r.row l.means r.means);
+    means = subst (λ (v : List ℤ). SaysConstraint dim (l.tokens ++ codes ">" ∷ r.tokens) (v, Gt)) (straight_row l.row r.row row (expr_by left is_left) (expr_by right is_right) l.wide r.wide l.cells r.cells is.wide is.cells) (systems.above l.tokens r.tokens l.row r.row l.means r.means);
   }
   compared w left w1 b1 w2 between w3 b2 right is_left (inr (inr (inr (inr below)))) is_right e1 e2 blanks1 e3 e4 blanks2 l r row is = record {
     tokens = l.tokens ++ codes "<" ∷ r.tokens;
     split = related (codes "<") l.tokens r.tokens w left w1 b1 w2 between w3 b2 right e1 e2 blanks1 e3 (symbol_is 60 between below) e4 blanks2 l.split r.split;
-    means = subst (λ (v : List ℤ). IsConstraint dim (l.tokens ++ codes "<" ∷ r.tokens) (v, Gt)) (turned_row l.row r.row row (expr_by left is_left) (expr_by right is_right) l.wide r.wide l.cells r.cells is.wide is.cells) (systems.below l.tokens r.tokens l.row r.row l.means r.means);
+    means = subst (λ (v : List ℤ). SaysConstraint dim (l.tokens ++ codes "<" ∷ r.tokens) (v, Gt)) (turned_row l.row r.row row (expr_by left is_left) (expr_by right is_right) l.wide r.wide l.cells r.cells is.wide is.cells) (systems.below l.tokens r.tokens l.row r.row l.means r.means);
   }
 
-  pub con_law : (w : List ℕ) (m : Matches con_cases w) (row : List ℤ) → AreWithin dim (con_by w m).terms → All IsShort (con_by w m).terms → IsConRow dim (con_by w m) row → Is (IsConstraint dim) w (row, kind_of (con_by w m).relation)
+  pub con_law : (w : List ℕ) (m : Matches con_cases w) (row : List ℤ) → AreWithin dim (con_by w m).terms → All IsShort (con_by w m).terms → IsConRow dim (con_by w m) row → Is (SaysConstraint dim) w (row, kind_of (con_by w m).relation)
   con_law w (left, w1, e1, is_left, (b1, w2, e2, blanks1, (between, w3, e3, is_between, (b2, right, e4, blanks2, is_right)))) row within short is =
       let ls : List Term = expr_by left is_left in
       let rs : List Term = expr_by right is_right in
@@ -288,7 +288,7 @@ module _ (dim : ℕ) where
       record {
         tokens = r.tokens;
         split = alone_tokens r.tokens text b1 w1 x b2 e1 before e2 behind r.split;
-        means = subst (λ (k : ConKind). IsConstraint dim r.tokens (row, k)) (sym h.same) r.means;
+        means = subst (λ (k : ConKind). SaysConstraint dim r.tokens (row, k)) (sym h.same) r.means;
       }
 
   -- a constraint that a text means

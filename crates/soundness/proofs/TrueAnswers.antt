@@ -1,6 +1,5 @@
 -- The answers to questions about polyhedra are true of their points.
-use Rattle.std.proofs.Common.{◌≡◌, inl, inr, ◌↔◌, ℕ, ◌<◌, List, [], ◌++◌, length, arith, refl, ap, sym, ◌∙◌, subst, Bool, true, false, IsTrue, ℤ, Ok, codes}
-use Rattle.std.specs.Prelude.{slice_index_or}
+use Rattle.std.proofs.Common.{◌≡◌, inl, inr, ◌↔◌, ℕ, ◌+◌, ◌<◌, List, [], ◌++◌, length, arith, refl, ap, sym, ◌∙◌, subst, Bool, true, false, IsTrue, ℤ, Ok, codes}
 use Rattle.std.specs.Fmt.{signed_decimal}
 use Rattle.cdd_text.specs.Written.{ine_text, ext_text}
 use Rattle.row_core.specs.Points.{IsPoint}
@@ -11,7 +10,7 @@ use Rattle.gens_sys.specs.Generators.{Generator, generator_at, row_at, kind_at}
 use Rattle.gens_sys.specs.declared.kind.GenKind.{GenKind}
 use Rattle.gens_sys.specs.declared.kind.GenKind.TheVariants.{Line, Ray, Point, ClosurePoint}
 use Rattle.gens_sys.specs.Spans.{Span}
-use Rattle.stored_systems.specs.PointSets.{IsWithin, AreClosedGens, AreWideGens}
+use Rattle.stored_systems.specs.PointSets.{IsWithin}
 use Rattle.stored_systems.specs.StoredLaws.{AreClosedForms}
 use Rattle.stored_systems.proofs.Stored.{stored_is_closed}
 use Rattle.poly_pair.specs.declared.topology.Topology.{Topology}
@@ -45,10 +44,12 @@ use Rattle.poly_commands.specs.Files.{file_of}
 use Rattle.poly_commands.specs.Widening.{nested, IsWidened}
 use Rattle.soundness.specs.Points.{AreAlike, Includes}
 use Rattle.soundness.specs.Sets.{generators, IsWidening}
-use Rattle.soundness.specs.Answers.{line, Tells, TellsWhether, LieSo, TellsRelation, is_max, attained_text, witness_kind, IsWitness, TellsExtremeOf, TellsExtreme, AreGensOf, TellsSide, TellsSize}
-use Rattle.soundness.specs.Files as files
-use Rattle.soundness.specs.Files.{TellsFile}
-use Rattle.soundness.proofs.PointLaws.{TextLaws, via, turn, is_nnc, set_of, is_over, moved, for_to, for_from}
+use Rattle.soundness.specs.Answers.{line, Tells, TellsWhether, LieSo, TellsRelation, is_max, attained_text, witness_kind, IsWitness, TellsExtremeOf, TellsExtreme, AreGensOf, TellsSystem, TellsSize}
+use Rattle.soundness.specs.FileLines.{IsVectorOf}
+use Rattle.soundness.specs.Files.{TellsFile, as_listed}
+use Rattle.soundness.proofs.FileWrites.{IsTextOf, ine_writes, ext_writes}
+use Rattle.soundness.proofs.MadeSets.{own_generate}
+use Rattle.soundness.proofs.PointLaws.{TextLaws, via, turn, is_nnc, set_of, is_over, closed_is_over, moved, for_from}
 use Rattle.soundness.proofs.Operands.{one_topology, one_number}
 
 -- the laws that are cited: both stored systems hold the same points, and there is no generator where there is none; what is printed is read back; the generator of a bound shows it; a widening includes the larger set
@@ -165,9 +166,9 @@ own_gens laws p kept v is =
     turn (via (laws.pair p kept v is) (subst (λ (n : ℕ). Span p.gens v ↔ Span (generators n p.gens.list) v) (kept_dims p kept) (λ x. x, λ x. x)))
 
 pub size_true : PolyLaws → (p : Polyhedron) (reply : List ℕ) → IsProper p → reply ≡ line (questions.size_text p) → TellsSize (set_of p) reply
-size_true laws p reply proper said = record { constraints_are = p.cons.list; generators_are = p.gens.list; hold = λ v is. (λ x. x, λ x. x); generate = own_gens laws p proper.kept; said = said }
+size_true laws p reply proper said = record { constraints_are = p.cons.list; generators_are = p.gens.list; hold = λ v is. (λ x. x, λ x. x); generate = own_generate p proper (same_dims p proper) (laws.pair p proper.kept) (laws.empty p proper.kept).1; said = said }
 
-pub side_true : TextLaws → PolyLaws → (side : Bool) (p : Polyhedron) (reply : List ℕ) → IsProper p → reply ≡ line (questions.side_text side p) → TellsSide side (set_of p) reply
+pub side_true : TextLaws → PolyLaws → (side : Bool) (p : Polyhedron) (reply : List ℕ) → IsProper p → reply ≡ line (questions.side_text side p) → TellsSystem side (set_of p) reply
 side_true texts laws false p reply proper said =
     let says = texts.constraints p.cons.dim (constraints_text p.cons) p.cons ((laws.cons p.cons p.cons proper.cons).1 refl) in
     record { text = constraints_text p.cons; said = said; list = says.list; is_text = says.is_text; are = λ v is. turn (says.same v) }
@@ -192,36 +193,44 @@ no_lack laws p kept lacks = no_element (subst (λ (list : List Generator). 0 < l
     no_element : 0 < 0 → ⊥
     no_element z = omega arith
 
-pub ine_side : (p : Polyhedron) (reply : List ℕ) → IsKept p → p.topology ≡ Closed → cons.FitDimension p.cons → reply ≡ ine_text p.cons → files.TellsSide false (set_of p) reply
+pub ine_side : (p : Polyhedron) (reply : List ℕ) → IsKept p → p.topology ≡ Closed → cons.FitDimension p.cons → reply ≡ ine_text p.cons → TellsFile false (set_of p) reply
 ine_side p reply kept closed fit said =
-    let forms = closed_forms p kept closed in (
-      p.cons.list,
-      record {
-        rows = λ i d h. for_to Closed p.cons.dim (slice_index_or p.cons.list i d) (record { wide = (fit.each i d h).wide; kind = forms.cons i d h });
-        are = λ v is. (λ x. x, λ x. x);
-      },
-      said,
-    )
+    let w = ine_writes p.cons fit (closed_forms p kept closed).cons in
+    record {
+      marked = w.marked;
+      type = w.type;
+      typed = w.typed;
+      rows = w.rows;
+      wide = w.wide;
+      marks = w.marks;
+      said = said ∙ w.text_is;
+      set = record { list = p.cons.list; say = w.says; set = record { over = closed_is_over p.cons.dim p kept (record { same_topology = closed; same_dim = refl }); points = λ v is. (λ x. x, λ x. x) } };
+    }
 
-pub ext_side : PolyLaws → (p : Polyhedron) (reply : List ℕ) → IsKept p → p.topology ≡ Closed → gens.FitDimension p.gens → reply ≡ ext_text p.gens → files.TellsSide true (set_of p) reply
+pub ext_side : PolyLaws → (p : Polyhedron) (reply : List ℕ) → IsKept p → p.topology ≡ Closed → gens.FitDimension p.gens → reply ≡ ext_text p.gens → TellsFile true (set_of p) reply
 ext_side laws p reply kept closed fit said =
-    let same = kept_dims p kept in (
-      p.gens.list,
-      record {
-        wide = subst (λ (n : ℕ). AreWideGens (generators n p.gens.list)) same (λ i d h. (fit.each i d h).wide);
-        closed = subst (λ (n : ℕ). AreClosedGens (generators n p.gens.list)) same (closed_forms p kept closed).gens;
-        point = no_lack laws p kept;
-        are = own_gens laws p kept;
-      },
-      said ∙ ap (λ (n : ℕ). ext_text (generators n p.gens.list)) same,
-    )
-
-file_side : PolyLaws → (ext : Bool) (p : Polyhedron) (reply : List ℕ) → IsProper p → p.topology ≡ Closed → reply ≡ file_of ext p → files.TellsSide ext (set_of p) reply
-file_side laws false p reply proper closed said = ine_side p reply proper.kept closed proper.cons said
-file_side laws true p reply proper closed said = ext_side laws p reply proper.kept closed proper.gens said
+    let own : IsTextOf true (ext_text p.gens) (p.gens.dim + 1) (IsVectorOf p.gens.dim) p.gens.list = ext_writes p.gens fit (λ i d h. ((closed_forms p kept closed).gens i d h).kind) in
+    let w = subst (λ (n : ℕ). IsTextOf true (ext_text p.gens) (n + 1) (IsVectorOf n) p.gens.list) (kept_dims p kept) own in
+    record {
+      marked = w.marked;
+      type = w.type;
+      typed = w.typed;
+      rows = w.rows;
+      wide = w.wide;
+      marks = w.marks;
+      said = said ∙ w.text_is;
+      set = record {
+        listed = p.gens.list;
+        say = w.says;
+        list = p.gens.list;
+        origin = as_listed (no_lack laws p kept);
+        set = record { over = closed_is_over p.cons.dim p kept (record { same_topology = closed; same_dim = refl }); points = λ v is. turn (own_gens laws p kept v is) };
+      };
+    }
 
 pub file_true : PolyLaws → (ext : Bool) (p : Polyhedron) (reply : List ℕ) → IsProper p → p.topology ≡ Closed → reply ≡ file_of ext p → TellsFile ext (set_of p) reply
-file_true laws ext p reply proper closed said = record { closed = ap is_nnc closed; tells = file_side laws ext p reply proper closed said }
+file_true laws false p reply proper closed said = ine_side p reply proper.kept closed proper.cons said
+file_true laws true p reply proper closed said = ext_side laws p reply proper.kept closed proper.gens said
 
 -- ---- a widening
 pub widen_made : PolyLaws → (p q r : Polyhedron) (others : Conditions) → IsProper p → IsProper q → IsProper r → Passes (nested p q others) → IsWidened p q r → IsWidening (set_of p) (set_of q) (set_of r)

@@ -19,8 +19,8 @@ use Rattle.script_text.specs.declared.command.Comparison.{Comparison}
 use Rattle.script_text.specs.declared.command.Comparison.TheVariants.{Contains, Equal, Disjoint}
 use Rattle.script_text.specs.declared.command.Extremum.{Extremum}
 use Rattle.script_text.specs.declared.command.Extremum.TheVariants.{Max, Min}
-use Rattle.soundness.specs.Points.{PointSet, HasNoPoint, Includes, HaveSamePoints, AreDisjoint, IsInSmallest}
-use Rattle.soundness.specs.Sets.{constraints, generators}
+use Rattle.soundness.specs.Points.{PointSet, AreAlike, HasNoPoint, Includes, HaveSamePoints, AreDisjoint, IsInSmallest}
+use Rattle.soundness.specs.Sets.{constraints, generators, Generate}
 use Rattle.soundness.specs.TextsExpressions.{ExpressionText}
 use Rattle.soundness.specs.TextsSystems.{ConstraintText, ConstraintsText, PointText, GeneratorsText}
 
@@ -52,6 +52,11 @@ LieSo Contains s t = Includes s t
 LieSo Equal s t = HaveSamePoints s t
 LieSo Disjoint s t = AreDisjoint s t
 
+-- whether two sets of one kind lie so
+pub record TellsHowTheyLie (by : Comparison) (s t : PointSet) (reply : List ℕ) : Type 0 where
+  pub operands : AreAlike s t
+  pub tells : Tells (LieSo by s t) reply
+
 -- the text with a further word, where it holds
 abbrev pub with_word : List ℕ → List ℕ → Bool → List ℕ
 with_word text word false = text
@@ -59,8 +64,8 @@ with_word [] word true = word
 with_word (c ∷ cs) word true = (c ∷ cs) ++ codes " " ++ word
 
 -- those of the four words that hold
-abbrev pub words : Bool → Bool → Bool → Bool → List ℕ
-words disjoint intersects included saturates = with_word
+abbrev pub relation_words : Bool → Bool → Bool → Bool → List ℕ
+relation_words disjoint intersects included saturates = with_word
     (with_word (with_word (with_word [] (codes "disjoint") disjoint)
     (codes "intersects") intersects) (codes "included") included) (codes "saturates") saturates
 
@@ -73,7 +78,7 @@ pub record TellsRelation (part : Part) (s : PointSet) (reply : List ℕ) : Type 
   pub intersects : Bool
   pub included : Bool
   pub saturates : Bool
-  pub said : reply ≡ line (words disjoint intersects included saturates)
+  pub said : reply ≡ line (relation_words disjoint intersects included saturates)
   pub nowhere : IsTrue disjoint ↔ HoldsNowhere s.cons constraint
   pub divided : IsTrue intersects ↔ HoldsSomewhere s.cons constraint
       × FailsSomewhere s.cons constraint
@@ -162,16 +167,16 @@ pub record TellsGenerators (s : PointSet) (reply : List ℕ) : Type 0 where
   pub are : AreGensOf list s
 
 -- constraints, or generators
-abbrev pub TellsSide : Bool → PointSet → List ℕ → Type 0
-TellsSide false s reply = TellsConstraints s reply
-TellsSide true s reply = TellsGenerators s reply
+abbrev pub TellsSystem : Bool → PointSet → List ℕ → Type 0
+TellsSystem false s reply = TellsConstraints s reply
+TellsSystem true s reply = TellsGenerators s reply
 
 -- the dimension, and how many constraints, and how many generators, stand for the points: of some
--- lists that do, so that any number passes from the least on
+-- lists that do
 pub record TellsSize (s : PointSet) (reply : List ℕ) : Type 0 where
   pub constraints_are : List Constraint
   pub generators_are : List Generator
   pub hold : AreOf constraints_are s
-  pub generate : AreGensOf generators_are s
+  pub generate : Generate generators_are s
   pub said : reply ≡ line (codes "dim " ++ decimal s.cons.dim ++ codes " constraints " ++ decimal
       (length constraints_are) ++ codes " generators " ++ decimal (length generators_are))

@@ -1,64 +1,58 @@
--- Files of constraints and of generators, in the format of cdd and lrs.
-use Rattle.std.specs.Prelude.{◌≡◌, ℕ, List, Bool, true, false, All}
-use Rattle.cdd_reading.specs.Files.{IsIneFile, IsExtFile}
-use Rattle.cdd_reading.specs.Refusals.{tests, NoneOf}
-use Rattle.cdd_text.specs.Written.{ine_text, ext_text}
-use Rattle.cons_sys.specs.Constraints.{Constraint, Constraints, In}
-use Rattle.gens_sys.specs.Generators.{Generator, Generators}
+-- Files, as they are read and written, and the sets for which they stand.
+use Rattle.std.specs.Prelude.{◌≡◌, ◌+◌, ◌<◌, ◌≤◌, ◌++◌, ℕ, List, [], ◌∷◌, length, All, Bool, true, false, pos}
+use Rattle.cons_sys.specs.Constraints.{Constraint, In}
+use Rattle.gens_sys.specs.Generators.{Generator}
 use Rattle.gens_sys.specs.Spans.{Span}
-use Rattle.stored_systems.specs.PointSets.{AreClosedGens, AreWideGens}
+use Rattle.gens_sys.specs.declared.kind.GenKind.TheVariants.{Point}
 use Rattle.poly_pair.specs.FirstLists.{LacksPoint}
-use Rattle.line_values.specs.Operands.{format_of}
-use Rattle.soundness.specs.Points.{PointSet, IsSetOf, IsConstraintFor}
+use Rattle.soundness.specs.Points.{PointSet, IsSetOf}
+use Rattle.soundness.specs.TextsExpressions.{at_column}
 use Rattle.soundness.specs.Sets.{constraints, generators}
-use Rattle.soundness.specs.Answers.{AreOf, AreGensOf}
+use Rattle.soundness.specs.FileLines.{IsRowOf, IsVectorOf, AreRows, IsNumberType, IsFile, file_text}
 
--- a file of constraints, and the set of the points at which they hold
-pub record IsOfIne (bytes : List ℕ) (s : PointSet) : Type 0 where
-  pub system : Constraints
-  pub file : IsIneFile bytes system
-  pub set : IsSetOf false system.dim (In system) s
+-- the generators that rows list; the origin is one more where there are some and none is a point
+pub data WithOrigin (dim : ℕ) (list : List Generator) : List Generator → Type 0 where
+  as_listed : ¬ (LacksPoint list) → WithOrigin dim list list
+  with_origin : LacksPoint list →
+      WithOrigin dim list (list ++ (at_column dim dim (pos 1), Point) ∷ [])
 
--- a file of generators, and the set of the points that they generate
-pub record IsOfExt (bytes : List ℕ) (s : PointSet) : Type 0 where
-  pub system : Generators
-  pub file : IsExtFile bytes system
-  pub set : IsSetOf false system.dim (Span system) s
+-- rows of constraints, and the closed set of the points at which they hold
+pub record AreIneRows (marked : List ℕ) (dim : ℕ) (rows : List (List (List ℕ)))
+    (s : PointSet) : Type 0 where
+  pub list : List Constraint
+  pub say : AreRows IsRowOf marked 1 rows list
+  pub set : IsSetOf false dim (In (constraints dim list)) s
 
--- a file of generators, or of constraints
-abbrev pub IsOfFile : Bool → List ℕ → PointSet → Type 0
-IsOfFile false bytes s = IsOfIne bytes s
-IsOfFile true bytes s = IsOfExt bytes s
+-- rows of generators, and the closed set of the points that they generate
+pub record AreExtRows (marked : List ℕ) (dim : ℕ) (rows : List (List (List ℕ)))
+    (s : PointSet) : Type 0 where
+  pub listed : List Generator
+  pub say : AreRows (IsVectorOf dim) marked 1 rows listed
+  pub list : List Generator
+  pub origin : WithOrigin dim listed list
+  pub set : IsSetOf false dim (Span (generators dim list)) s
 
--- a file that is read: no test of its lines, its heading, its numbers and its rows finds a fault
+-- rows of generators, or of constraints
+abbrev pub AreRowsOf : Bool → List ℕ → ℕ → List (List (List ℕ)) → PointSet → Type 0
+AreRowsOf false marked dim rows s = AreIneRows marked dim rows s
+AreRowsOf true marked dim rows s = AreExtRows marked dim rows s
+
+-- the bytes are a file of the set
 pub record IsRead (ext : Bool) (bytes : List ℕ) (s : PointSet) : Type 0 where
-  pub passes : NoneOf (tests (format_of ext) bytes)
-  pub file : IsOfFile ext bytes s
+  pub marked : List ℕ
+  pub dim : ℕ
+  pub rows : List (List (List ℕ))
+  pub file : IsFile ext bytes marked (dim + 1) rows
+  pub set : AreRowsOf ext marked dim rows s
 
--- ---- written files
--- constraints for a file: none is strict, each has a column for each variable and one more, and
--- they hold at the points of the set and at no others
-pub record AreForIne (list : List Constraint) (s : PointSet) : Type 0 where
-  pub rows : All (IsConstraintFor false s.cons.dim) list
-  pub are : AreOf list s
-
--- generators for a file: none is a closure point, each has a column for each variable and one more
--- and a divisor that fits its kind, some is a point where there are any, and they generate the
--- points of the set and no others
-pub record AreForExt (list : List Generator) (s : PointSet) : Type 0 where
-  pub wide : AreWideGens (generators s.cons.dim list)
-  pub closed : AreClosedGens (generators s.cons.dim list)
-  pub point : ¬ (LacksPoint list)
-  pub are : AreGensOf list s
-
--- such constraints are written, or such generators
-abbrev pub TellsSide : Bool → PointSet → List ℕ → Type 0
-TellsSide false s reply =
-    (list : List Constraint) × AreForIne list s × (reply ≡ ine_text (constraints s.cons.dim list))
-TellsSide true s reply =
-    (list : List Generator) × AreForExt list s × (reply ≡ ext_text (generators s.cons.dim list))
-
--- a closed set is written as a file
+-- rows that say the set, which is closed, laid out as a file: each has a number more than there are
+-- variables, and each mark is the number of a row
 pub record TellsFile (ext : Bool) (s : PointSet) (reply : List ℕ) : Type 0 where
-  pub closed : s.nnc ≡ false
-  pub tells : TellsSide ext s reply
+  pub marked : List ℕ
+  pub type : List ℕ
+  pub typed : IsNumberType type
+  pub rows : List (List (List ℕ))
+  pub wide : All (λ (row : List (List ℕ)). length row ≡ s.cons.dim + 1) rows
+  pub marks : All (λ (k : ℕ). (0 < k) × (k ≤ length rows)) marked
+  pub said : reply ≡ file_text ext marked (s.cons.dim + 1) type rows
+  pub set : AreRowsOf ext marked s.cons.dim rows s

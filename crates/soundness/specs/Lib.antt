@@ -9,6 +9,7 @@ pub mod Answers
 pub mod Unions
 pub mod Shapes
 pub mod Systems
+pub mod FileLines
 pub mod Files
 pub mod Commands
 pub mod Replies

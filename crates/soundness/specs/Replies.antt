@@ -1,14 +1,15 @@
 -- What is written to a script and to a file.
-use Rattle.std.specs.Prelude.{◌≡◌, ◌⊎◌, ℕ, List, [], ◌∷◌, ◌++◌, Option, None, Some, Bool, true, not, ◌==◌, codes, take, ⊤}
-use Rattle.std.specs.List.{concat, list_all}
+use Rattle.std.specs.Prelude.{◌≡◌, ◌≢◌, ◌⊎◌, ℕ, List, All, [], ◌∷◌, ◌++◌, Option, None, Some, Bool, true, not, ◌==◌, codes, take, ⊤}
+use Rattle.std.specs.List.{concat, flat_map, list_all}
 use Rattle.std.specs.Str.Lines.{lines}
-use Rattle.cdd_reading.specs.Files.{IsEnd, HasLinearityAfter}
+use Rattle.cdd_reading.specs.Tokens.{tokens}
+use Rattle.cdd_reading.specs.Files.{IsEnd}
 use Rattle.script_text.specs.declared.command.Command.{Command}
 use Rattle.script_text.specs.declared.command.Command.TheVariants.{Read}
 use Rattle.soundness.specs.Points.{PointSet}
 use Rattle.soundness.specs.Values.{Polyhedron, Names}
 use Rattle.soundness.specs.Answers.{line}
-use Rattle.soundness.specs.Files.{IsOfFile, IsRead, TellsSide}
+use Rattle.soundness.specs.Files.{IsRead, TellsFile}
 use Rattle.soundness.specs.Commands.{Makes, Does}
 use Rattle.soundness.specs.TextsLines.{Spelled}
 
@@ -57,11 +58,11 @@ file_begun other = None
 pub record IsPerformed (old : Names) (words : List ℕ) (reply : List ℕ) (new : State) : Type 0 where
   pub command : Command
   pub spelled : Spelled words command
-  pub does : Does old command reply new.names
+  pub does : Does command old reply new.names
   pub file : new.file ≡ file_begun command
 
--- the file with one line more, which ends with CR LF (of a line above the limit of 65,535 bytes the
--- first 65,536: no file with such a line is read)
+-- the file with one line more, which ends with CR LF; of a line above the limit of 65,535 bytes
+-- the first 65,536 are kept
 abbrev pub with_line : OpenFile → List ℕ → OpenFile
 with_line file text =
     record { name = file.name; ext = file.ext; text = file.text ++ take 65536 text ++ 13 ∷ 10 ∷ [] }
@@ -82,16 +83,16 @@ pub record IsEndOfFile (old : Names) (file : OpenFile) (text reply : List ℕ)
   pub shut : new.file ≡ None
 
 -- what is replied to a line that isn't refused, where no file is open, or where one is
-abbrev pub IsAnswered : Names → Option OpenFile → List ℕ → List ℕ → State → Type 0
-IsAnswered old None text reply new = IsPerformed old text reply new
-IsAnswered old (Some file) text reply new =
+abbrev pub IsUnrefused : Names → Option OpenFile → List ℕ → List ℕ → State → Type 0
+IsUnrefused old None text reply new = IsPerformed old text reply new
+IsUnrefused old (Some file) text reply new =
     IsLineOfFile old file text reply new ⊎ IsEndOfFile old file text reply new
 
 -- the reply to a line, and the state after it
 abbrev pub IsReply : State → List ℕ → List ℕ → State → Type 0
 IsReply old text reply new =
     (MayBeRefused old.file text × IsRefused old reply new)
-    ⊎ IsAnswered old.names old.file text reply new
+    ⊎ IsUnrefused old.names old.file text reply new
 
 -- ---- all lines
 -- the end of a script has no reply, and a refusal where a file is still open
@@ -112,14 +113,13 @@ pub record IsWrittenTo (script : List ℕ) (written : List ℕ) : Type 0 where
   pub are : AreReplies empty_state (lines script) replies
   pub all : written ≡ concat replies
 
--- the file is read, `linearity` doesn't stand behind it, and the other file of the same points is
+-- the file is read, no word behind it is `linearity`, and the other file of the same points is
 -- written
 pub record IsConversion (ext : Bool) (bytes written : List ℕ) : Type 0 where
   pub set : PointSet
   pub read : IsRead ext bytes set
-  pub behind : ¬ (HasLinearityAfter bytes)
-  pub tells : TellsSide (not ext) set written
-  pub file : IsOfFile (not ext) written set
+  pub behind : All (λ w. w ≢ codes "linearity") (flat_map tokens read.file.behind)
+  pub tells : TellsFile (not ext) set written
 
 -- what is written to a file: a refusal, or such a file
 abbrev pub IsConverted : Bool → List ℕ → List ℕ → Type 0

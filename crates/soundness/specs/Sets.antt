@@ -88,23 +88,20 @@ abbrev pub IsClosure : PointSet → PointSet → Type 0
 IsClosure p s = IsSetOf p.nnc p.cons.dim (IsInSmallest false p.cons.dim (IsWithin p.cons)) s
 
 -- ---- two operands
--- of the points that are in both; the smallest set that includes both; the points whose first
--- variables are in the one and whose others are in the other; the smallest set that includes all x
--- + t*y with x in the one, y in the other and t at least 0
+-- of operands of one kind, and but for concat over the same variables: the points that are in both;
+-- the smallest set that includes both; the points whose first variables are in the one and whose
+-- others are in the other; the smallest set that includes all x + t*y with x in the one, y in the
+-- other and t at least 0
 abbrev pub IsOfTwo : Operator → PointSet → PointSet → PointSet → Type 0
-IsOfTwo Meet p q s = IsSetOf p.nnc p.cons.dim (λ v. In p.cons v × In q.cons v) s
-IsOfTwo Hull p q s = IsSetOf p.nnc p.cons.dim (IsInSmallest p.nnc p.cons.dim
-    (λ v. IsWithin p.cons v ⊎ IsWithin q.cons v)) s
-IsOfTwo Concat p q s = IsSetOf p.nnc (p.cons.dim + q.cons.dim)
+IsOfTwo Meet p q s =
+    AreAlike p q × IsSetOf p.nnc p.cons.dim (λ v. In p.cons v × In q.cons v) s
+IsOfTwo Hull p q s = AreAlike p q × IsSetOf p.nnc p.cons.dim
+    (IsInSmallest p.nnc p.cons.dim (λ v. IsWithin p.cons v ⊎ IsWithin q.cons v)) s
+IsOfTwo Concat p q s = (p.nnc ≡ q.nnc) × IsSetOf p.nnc (p.cons.dim + q.cons.dim)
     (λ v. In p.cons (without p.cons.dim (p.cons.dim + q.cons.dim) v) × In q.cons
     (drop p.cons.dim v)) s
-IsOfTwo Elapse p q s =
-    IsSetOf p.nnc p.cons.dim (IsInSmallest p.nnc p.cons.dim (IsElapsed p.cons q.cons)) s
-
--- the operands are of one kind, and but for concat over the same variables
-abbrev pub AreFor : Operator → PointSet → PointSet → Type 0
-AreFor Concat p q = p.nnc ≡ q.nnc
-AreFor op p q = AreAlike p q
+IsOfTwo Elapse p q s = AreAlike p q × IsSetOf p.nnc p.cons.dim
+    (IsInSmallest p.nnc p.cons.dim (IsElapsed p.cons q.cons)) s
 
 -- a widening of two closed sets, the first of which is included in the second: it includes both
 pub record IsWidening (p q s : PointSet) : Type 0 where
@@ -163,12 +160,10 @@ pub record IsPreimage (rel : Rel) (var : ℕ) (expr : List ℤ) (divisor : ℤ) 
   pub stands : Stands rel (num *ℤ (divisor *ℤ cell v cs.dim)) (dot expr v *ℤ den)
   pub within : In cs (slice_set (scale den v) var (num *ℤ cell v cs.dim))
 
--- the points that come of the operand's by the assignment, or by which a point of it comes
-abbrev pub IsSetOfMap : Mapping → Rel → ℕ → List ℤ → ℤ → PointSet → PointSet → Type 0
-IsSetOfMap Image rel var expr divisor p s =
-    IsSetOf p.nnc p.cons.dim (IsImage rel var expr divisor p.cons) s
-IsSetOfMap Preimage rel var expr divisor p s =
-    IsSetOf p.nnc p.cons.dim (IsPreimage rel var expr divisor p.cons) s
+-- the vector comes of a point of the set by the assignment, or a point of the set of the vector
+abbrev pub ComesOf : Mapping → Rel → ℕ → List ℤ → ℤ → Constraints → List ℤ → Type 0
+ComesOf Image rel var expr divisor cs v = IsImage rel var expr divisor cs v
+ComesOf Preimage rel var expr divisor cs v = IsPreimage rel var expr divisor cs v
 
 -- where the text is the fraction, and the variable one of the operand's
 pub record IsMapped (by : Mapping) (var : ℕ) (rel : Rel) (part : Part)
@@ -178,4 +173,4 @@ pub record IsMapped (by : Mapping) (var : ℕ) (rel : Rel) (part : Part)
   pub divisor : ℕ
   pub positive : 0 < divisor
   pub text : FractionText p.cons.dim part.text expr divisor
-  pub set : IsSetOfMap by rel var expr (pos divisor) p s
+  pub set : IsSetOf p.nnc p.cons.dim (ComesOf by rel var expr (pos divisor) p.cons) s

@@ -1,5 +1,5 @@
 -- Transition systems and hybrid automata, and what their runs promise.
-use Rattle.std.specs.Prelude.{◌≡◌, ◌<◌, ◌*◌, ℕ, List, [], length, slice_get, Some, All, ℤ, false}
+use Rattle.std.specs.Prelude.{◌≡◌, ◌<◌, ◌*◌, ℕ, List, [], length, slice_get, Some, All, ℤ, false, ⊤}
 use Rattle.row_core.specs.Points.{IsPoint}
 use Rattle.cons_sys.specs.Constraints.{In}
 use Rattle.stored_systems.specs.PointSets.{IsWithin}
@@ -10,16 +10,12 @@ use Rattle.script_text.specs.declared.command.LocationPart.TheVariants.{Invarian
 use Rattle.soundness.specs.Points.{PointSet, IsOver, HasNoPoint}
 use Rattle.soundness.specs.Values.{Transition, TransitionSystem, HybridAutomaton, with_initial, with_transition, with_invariant, with_flow}
 
--- a closed set over so many variables
-abbrev pub IsClosedOver : ℕ → PointSet → Type 0
-IsClosedOver dim = IsOver false dim
-
 -- ---- making
 -- no location has an initial state, and there is no transition
 pub record IsEmptySystem (n locations : ℕ) (s : TransitionSystem) : Type 0 where
   pub dim : s.dim ≡ n
   pub as_many : length s.initial ≡ locations
-  pub over : All (IsClosedOver n) s.initial
+  pub over : All (IsOver false n) s.initial
   pub initial : All HasNoPoint s.initial
   pub transitions : s.transitions ≡ []
 
@@ -27,7 +23,7 @@ pub record IsEmptySystem (n locations : ℕ) (s : TransitionSystem) : Type 0 whe
 pub record IsWithInitial (location : ℕ) (s : TransitionSystem) (p : PointSet)
     (r : TransitionSystem) : Type 0 where
   pub there : location < length s.initial
-  pub over : IsClosedOver s.dim p
+  pub over : IsOver false s.dim p
   pub is : r ≡ with_initial s location p
 
 -- a system with one more transition between two of its locations
@@ -35,7 +31,7 @@ pub record IsWithTransition (source target : ℕ) (s : TransitionSystem) (p : Po
     (r : TransitionSystem) : Type 0 where
   pub source_there : source < length s.initial
   pub target_there : target < length s.initial
-  pub over : IsClosedOver (2 * s.dim) p
+  pub over : IsOver false (2 * s.dim) p
   pub is : r ≡ with_transition s (record { source = source; target = target; relation = p })
 
 -- the automaton of a system in which no time passes: each invariant holds everywhere, and no
@@ -44,8 +40,8 @@ pub record IsStill (s : TransitionSystem) (h : HybridAutomaton) : Type 0 where
   pub system : h.system ≡ s
   pub invariants : length h.invariants ≡ length s.initial
   pub flows : length h.flows ≡ length s.initial
-  pub invariants_over : All (IsClosedOver s.dim) h.invariants
-  pub flows_over : All (IsClosedOver s.dim) h.flows
+  pub invariants_over : All (IsOver false s.dim) h.invariants
+  pub flows_over : All (IsOver false s.dim) h.flows
   pub everywhere : All (λ (p : PointSet). (v : List ℤ) → IsPoint s.dim v → In p.cons v) h.invariants
   pub still : All HasNoPoint h.flows
 
@@ -58,63 +54,43 @@ with_part Flow h location p = with_flow h location p
 pub record IsWithPart (part : LocationPart) (location : ℕ) (h : HybridAutomaton) (p : PointSet)
     (r : HybridAutomaton) : Type 0 where
   pub there : location < length h.system.initial
-  pub over : IsClosedOver h.system.dim p
+  pub over : IsOver false h.system.dim p
   pub is : r ≡ with_part part h location p
 
 -- ---- runs
+-- the state is in the set of the location
+abbrev pub IsAt : List PointSet → ℕ → List ℤ → Type 0
+IsAt sets l v = (set : PointSet) × (slice_get sets l ≡ Some set) × IsWithin set.cons v
+
 -- a closed set for each location
 pub record AreOfLocations (s : TransitionSystem) (sets : List PointSet) : Type 0 where
   pub as_many : length sets ≡ length s.initial
-  pub over : All (IsClosedOver s.dim) sets
+  pub over : All (IsOver false s.dim) sets
 
--- each initial state is in the set of its location
-abbrev pub IncludeInitial : TransitionSystem → List PointSet → Type 0
-IncludeInitial s sets = (l : ℕ) (initial set : PointSet) → slice_get s.initial l ≡ Some initial →
-    slice_get sets l ≡ Some set → (v : List ℤ) → IsPoint s.dim v → In initial.cons v → In set.cons v
+-- each initial state that may stay at its location is in the set of it
+abbrev pub IncludeInitial : TransitionSystem → (ℕ → List ℤ → Type 0) → List PointSet → Type 0
+IncludeInitial s MayStay sets =
+    (l : ℕ) (v : List ℤ) → IsAt s.initial l v → MayStay l v → IsAt sets l v
 
--- each transition leads from the set of its source into that of its target
-abbrev pub AreClosedUnder : TransitionSystem → List PointSet → Type 0
-AreClosedUnder s sets = (k : ℕ) (t : Transition) (source target : PointSet) →
-    slice_get s.transitions k ≡ Some t → slice_get sets t.source ≡ Some source →
-    slice_get sets t.target ≡ Some target → (v : List ℤ) → IsPoint s.dim v →
-    IsStepTo source.cons t.relation.cons v → In target.cons v
+-- each transition leads from the set of its source into that of its target, or to a state that may
+-- not stay there
+abbrev pub AreClosedUnder : TransitionSystem → (ℕ → List ℤ → Type 0) → List PointSet → Type 0
+AreClosedUnder s MayStay sets = (k : ℕ) (t : Transition) (source : PointSet) (v : List ℤ) →
+    slice_get s.transitions k ≡ Some t → slice_get sets t.source ≡ Some source → IsPoint s.dim v →
+    IsStepTo source.cons t.relation.cons v → MayStay t.target v → IsAt sets t.target v
 
 -- an invariant of the system
 pub record AreInvariant (s : TransitionSystem) (sets : List PointSet) : Type 0 where
   pub are : AreOfLocations s sets
-  pub initial : IncludeInitial s sets
-  pub transitions : AreClosedUnder s sets
+  pub initial : IncludeInitial s (λ l v. ⊤) sets
+  pub transitions : AreClosedUnder s (λ l v. ⊤) sets
 
--- each initial state that is in the invariant of its location is in the set of it
-abbrev pub IncludeInitialWithin : HybridAutomaton → List PointSet → Type 0
-IncludeInitialWithin h sets = (l : ℕ) (initial invariant set : PointSet) →
-    slice_get h.system.initial l ≡ Some initial → slice_get h.invariants l ≡ Some invariant →
-    slice_get sets l ≡ Some set → (v : List ℤ) → IsPoint h.system.dim v → In initial.cons v →
-    In invariant.cons v → In set.cons v
-
--- so is each state of the invariant that a state of the set comes to as time passes with a velocity
--- of the flow
-abbrev pub AreClosedUnderFlow : HybridAutomaton → List PointSet → Type 0
-AreClosedUnderFlow h sets = (l : ℕ) (invariant flow set : PointSet) →
-    slice_get h.invariants l ≡ Some invariant → slice_get h.flows l ≡ Some flow →
-    slice_get sets l ≡ Some set → (x y v : List ℤ) → IsWithin set.cons x → IsWithin flow.cons y →
-    IsMoved h.system.dim x y v → In invariant.cons v → In set.cons v
-
--- each transition leads from the set of its source into that of its target, or out of the target's
--- invariant
-abbrev pub AreClosedUnderJumps : HybridAutomaton → List PointSet → Type 0
-AreClosedUnderJumps h sets = (k : ℕ) (t : Transition) (source target invariant : PointSet) →
-    slice_get h.system.transitions k ≡ Some t → slice_get sets t.source ≡ Some source →
-    slice_get sets t.target ≡ Some target → slice_get h.invariants t.target ≡ Some invariant →
-    (v : List ℤ) → IsPoint h.system.dim v → IsStepTo source.cons t.relation.cons v →
-    In invariant.cons v → In target.cons v
-
--- an invariant of the automaton, within the invariants of its locations
+-- an invariant of the automaton, within the invariants of its locations: it has each state too to
+-- which one of its states comes as time passes with a velocity of the flow, and which may stay
 pub record AreReached (h : HybridAutomaton) (sets : List PointSet) : Type 0 where
   pub are : AreOfLocations h.system sets
-  pub within : (l : ℕ) (invariant set : PointSet) → slice_get h.invariants l ≡ Some invariant →
-      slice_get sets l ≡ Some set → (v : List ℤ) → IsPoint h.system.dim v → In set.cons v →
-      In invariant.cons v
-  pub initial : IncludeInitialWithin h sets
-  pub flow : AreClosedUnderFlow h sets
-  pub jumps : AreClosedUnderJumps h sets
+  pub within : (l : ℕ) (v : List ℤ) → IsAt sets l v → IsAt h.invariants l v
+  pub initial : IncludeInitial h.system (IsAt h.invariants) sets
+  pub flow : (l : ℕ) (x y v : List ℤ) → IsAt sets l x → IsAt h.flows l y →
+      IsMoved h.system.dim x y v → IsAt h.invariants l v → IsAt sets l v
+  pub jumps : AreClosedUnder h.system (IsAt h.invariants) sets

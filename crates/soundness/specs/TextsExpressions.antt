@@ -50,10 +50,10 @@ pub data AreCoordinates (dim : ℕ) : Tokens → List ℤ → Type 0 where
   sum : (ts : Tokens) (row : List ℤ) → IsSum (IsMultiple dim) ts row → AreCoordinates dim ts row
 
 -- what Means tells, or that in brackets over a number above 0, the divisor; with the divisor
-pub data IsOver (Means : Tokens → List ℤ → Type 0) : Tokens → List ℤ × ℕ → Type 0 where
-  whole : (ts : Tokens) (row : List ℤ) → Means ts row → IsOver Means ts (row, 1)
+pub data IsQuotient (Means : Tokens → List ℤ → Type 0) : Tokens → List ℤ × ℕ → Type 0 where
+  whole : (ts : Tokens) (row : List ℤ) → Means ts row → IsQuotient Means ts (row, 1)
   divided : (ts : Tokens) (w : List ℕ) (row : List ℤ) (n : ℕ) → Means ts row → IsNumber w n →
-      0 < n → IsOver Means (codes "(" ∷ ts ++ codes ")" ∷ codes "/" ∷ w ∷ []) (row, n)
+      0 < n → IsQuotient Means (codes "(" ∷ ts ++ codes ")" ∷ codes "/" ∷ w ∷ []) (row, n)
 
 -- the text is an expression, and this is its row
 abbrev pub ExpressionText : ℕ → List ℕ → List ℤ → Type 0
@@ -61,4 +61,4 @@ ExpressionText dim text row = IsText (IsExpression dim) text row
 
 -- the text is an expression or one over a divisor, and these are its row and the divisor
 abbrev pub FractionText : ℕ → List ℕ → List ℤ → ℕ → Type 0
-FractionText dim text row divisor = IsText (IsOver (IsExpression dim)) text (row, divisor)
+FractionText dim text row divisor = IsText (IsQuotient (IsExpression dim)) text (row, divisor)

@@ -6,20 +6,20 @@ use Rattle.cons_sys.specs.declared.kind.ConKind.TheVariants.{Eq, Ge, Gt}
 use Rattle.gens_sys.specs.Generators.{Generator}
 use Rattle.gens_sys.specs.declared.kind.GenKind.TheVariants.{Line, Ray, Point, ClosurePoint}
 use Rattle.soundness.specs.TextsNumbers.{Tokens, IsVariable, IsText}
-use Rattle.soundness.specs.TextsExpressions.{at_column, difference, IsExpression, AreCoordinates, IsOver}
+use Rattle.soundness.specs.TextsExpressions.{at_column, difference, IsExpression, AreCoordinates, IsQuotient}
 
 -- that the difference of two sides, the greater one first, is 0, is at least 0, or is above 0
-pub data IsConstraint (dim : ℕ) : Tokens → Constraint → Type 0 where
+pub data SaysConstraint (dim : ℕ) : Tokens → Constraint → Type 0 where
   equal : (ss ts : Tokens) (u v : List ℤ) → IsExpression dim ss u → IsExpression dim ts v →
-      IsConstraint dim (ss ++ codes "=" ∷ ts) (difference u v, Eq)
+      SaysConstraint dim (ss ++ codes "=" ∷ ts) (difference u v, Eq)
   at_least : (ss ts : Tokens) (u v : List ℤ) → IsExpression dim ss u → IsExpression dim ts v →
-      IsConstraint dim (ss ++ codes ">=" ∷ ts) (difference u v, Ge)
+      SaysConstraint dim (ss ++ codes ">=" ∷ ts) (difference u v, Ge)
   at_most : (ss ts : Tokens) (u v : List ℤ) → IsExpression dim ss u → IsExpression dim ts v →
-      IsConstraint dim (ss ++ codes "<=" ∷ ts) (difference v u, Ge)
+      SaysConstraint dim (ss ++ codes "<=" ∷ ts) (difference v u, Ge)
   above : (ss ts : Tokens) (u v : List ℤ) → IsExpression dim ss u → IsExpression dim ts v →
-      IsConstraint dim (ss ++ codes ">" ∷ ts) (difference u v, Gt)
+      SaysConstraint dim (ss ++ codes ">" ∷ ts) (difference u v, Gt)
   below : (ss ts : Tokens) (u v : List ℤ) → IsExpression dim ss u → IsExpression dim ts v →
-      IsConstraint dim (ss ++ codes "<" ∷ ts) (difference v u, Gt)
+      SaysConstraint dim (ss ++ codes "<" ∷ ts) (difference v u, Gt)
 
 -- one or more, with commas between
 pub data AreListed {A : Type 0} (Means : Tokens → A → Type 0) : Tokens → List A → Type 0 where
@@ -31,7 +31,7 @@ pub data AreListed {A : Type 0} (Means : Tokens → A → Type 0) : Tokens → L
 pub data AreConstraints (dim : ℕ) : Tokens → List Constraint → Type 0 where
   always : AreConstraints dim (codes "true" ∷ []) []
   never : AreConstraints dim (codes "false" ∷ []) ((at_column dim dim (negsuc 0), Ge) ∷ [])
-  constraints : (ts : Tokens) (cs : List Constraint) → AreListed (IsConstraint dim) ts cs →
+  constraints : (ts : Tokens) (cs : List Constraint) → AreListed (SaysConstraint dim) ts cs →
       AreConstraints dim ts cs
 
 -- the coordinates, and the divisor last
@@ -40,9 +40,9 @@ over dim coordinates divisor = add coordinates (at_column dim dim (pos divisor))
 
 -- a point, a closure point, a ray or a line; last stands the divisor of a point, 0 of a direction
 pub data IsGenerator (dim : ℕ) : Tokens → Generator → Type 0 where
-  point : (ts : Tokens) (u : List ℤ) (n : ℕ) → IsOver (AreCoordinates dim) ts (u, n) →
+  point : (ts : Tokens) (u : List ℤ) (n : ℕ) → IsQuotient (AreCoordinates dim) ts (u, n) →
       IsGenerator dim (codes "p(" ∷ ts ++ codes ")" ∷ []) (over dim u n, Point)
-  closure_point : (ts : Tokens) (u : List ℤ) (n : ℕ) → IsOver (AreCoordinates dim) ts (u, n) →
+  closure_point : (ts : Tokens) (u : List ℤ) (n : ℕ) → IsQuotient (AreCoordinates dim) ts (u, n) →
       IsGenerator dim (codes "c(" ∷ ts ++ codes ")" ∷ []) (over dim u n, ClosurePoint)
   ray : (ts : Tokens) (u : List ℤ) → AreCoordinates dim ts u →
       IsGenerator dim (codes "r(" ∷ ts ++ codes ")" ∷ []) (u, Ray)
@@ -61,7 +61,7 @@ pub data IsOneVariable : Tokens → ℕ → Type 0 where
 
 -- the text is this constraint, over so many variables
 abbrev pub ConstraintText : ℕ → List ℕ → Constraint → Type 0
-ConstraintText dim text c = IsText (IsConstraint dim) text c
+ConstraintText dim text c = IsText (SaysConstraint dim) text c
 
 -- the text is these constraints
 abbrev pub ConstraintsText : ℕ → List ℕ → List Constraint → Type 0

@@ -27,7 +27,7 @@ pub record IsOfOne (p : PointSet) (u : Powerset) : Type 0 where
   pub members : (HasNoPoint p × (u.members ≡ [])) ⊎ ((¬ (HasNoPoint p)) × (u.members ≡ p ∷ []))
 
 -- two powersets of one kind and over the same variables
-pub record AreAlike (s t : Powerset) : Type 0 where
+pub record AreAlikeUnions (s t : Powerset) : Type 0 where
   pub kind : s.nnc ≡ t.nnc
   pub variables : s.dim ≡ t.dim
 
@@ -36,17 +36,12 @@ abbrev pub IsInBy : PowersetOperator → Powerset → Powerset → List ℤ → 
 IsInBy Join s t v = IsInUnion s v ⊎ IsInUnion t v
 IsInBy Meet s t v = IsInUnion s v × IsInUnion t v
 
--- a set of the powerset's kind and over its variables
-pub record IsMemberOf (u : Powerset) (p : PointSet) : Type 0 where
-  pub kind : p.nnc ≡ u.nnc
-  pub variables : p.cons.dim ≡ u.dim
-
 -- the union of two powersets, or their intersection
 pub record IsCombined (op : PowersetOperator) (s t u : Powerset) : Type 0 where
-  pub operands : AreAlike s t
+  pub operands : AreAlikeUnions s t
   pub kind : u.nnc ≡ s.nnc
   pub variables : u.dim ≡ s.dim
-  pub members : All (IsMemberOf u) u.members
+  pub members : All (λ (p : PointSet). (p.nnc ≡ u.nnc) × (p.cons.dim ≡ u.dim)) u.members
   pub points : (v : List ℤ) → IsPoint s.dim v → IsInUnion u v ↔ IsInBy op s t v
 
 -- the member with the number, where the first is member 1
@@ -69,7 +64,7 @@ pub record TellsMissing (s t : Powerset) (reply : List ℕ) : Type 0 where
 
 -- whether each point of the second is in the first, or else a point of it that isn't
 pub record TellsCover (s t : Powerset) (reply : List ℕ) : Type 0 where
-  pub operands : AreAlike s t
+  pub operands : AreAlikeUnions s t
   pub tells : (((v : List ℤ) → IsPoint s.dim v → IsInUnion t v → IsInUnion s v)
       × (reply ≡ line (codes "yes"))) ⊎ TellsMissing s t reply
 

@@ -1,6 +1,5 @@
 -- What names stand for.
 use Rattle.std.specs.Prelude.{ℕ, List, ◌∷◌, [], ◌++◌, slice_set, Bool}
-use Rattle.bd_shape.specs.Shapes.{DifferenceShape}
 use Rattle.name_table.specs.Table.{Table}
 use Rattle.soundness.specs.Points.{PointSet}
 
@@ -25,8 +24,8 @@ pub record HybridAutomaton : Type 0 where
   pub invariants : List PointSet
   pub flows : List PointSet
 
--- a powerset, the union of its members: whether they need be closed, the number of their variables,
--- and the members
+-- a powerset, the union of its members: whether these may lack points of their boundary, the number
+-- of their variables, and the members
 pub record Powerset : Type 0 where
   pub nnc : Bool
   pub dim : ℕ
@@ -37,7 +36,7 @@ pub data Value : Type 0 where
   Polyhedron : PointSet → Value
   System : TransitionSystem → Value
   Union : Powerset → Value
-  Shape : DifferenceShape → Value
+  Shape : PointSet → Value
   Automaton : HybridAutomaton → Value
 
 -- names, and what each stands for, in the order in which the names were made

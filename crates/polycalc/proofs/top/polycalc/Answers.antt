@@ -1,9 +1,10 @@
 use Rattle.std.proofs.Common.{◌≡◌, ◌∙◌, sym, subst, List, ℕ}
 use Rattle.std.specs.Prelude.{Option, Some}
+use Rattle.poly_io.specs.Counts.{HasRisen}
 use Rattle.polycalc.specs.Outcomes.{Outcome, IsAnswered}
 use Rattle.job_words.specs.declared.job.Job.TheVariants as job
 use Rattle.job_words.specs.declared.job.Job.{Job}
-use Rattle.polycalc.proofs.JobLaws.{one_job, answered, sampled, when_done, when_refused, when_unread, when_too_long, when_cut, never_usage, size_told}
+use Rattle.polycalc.proofs.JobLaws.{one_job, answered, sampled, ends_as, ends_unasked, never_usage, size_told, size_unasked}
 use Rattle.polycalc.proofs.top.polycalc.Goals as goal
 
 pub returns-in-Some-clause-answered : goal.returns-in-Some-clause-answered
@@ -42,35 +43,17 @@ returns-in-None-clause-sampled g c = λ n before words held write memory. absurd
 pub returns-in-Some-clause-unread : goal.returns-in-Some-clause-unread
 returns-in-Some-clause-unread g c = λ n words. c.do_job.ensures.unread n (one_job c.args.words.now c.in-Some.job (job.Sample n) c.in-Some.ensures words)
 
-pub returns-in-Some-clause-done : goal.returns-in-Some-clause-done
-returns-in-Some-clause-done g c =
+pub returns-in-Some-clause-ends : goal.returns-in-Some-clause-ends
+returns-in-Some-clause-ends g c =
     let o = c.do_job.ensures.outcome in
-    when_done c.args.words.now c.in-Some.job o.0 (g.S.Source.left c.args.source.now) (g.S.Source.left c.do_job.new.source) (g.W.Sink.held c.args.sink.now) (g.W.Sink.held c.do_job.new.sink) c.do_job.result c.in-Some.ensures o.1 o.2
+    let wants = g.W.Sink.wants in
+    ends_as c.args.words.now c.in-Some.job o.0 (g.S.Source.left c.args.source.now) (g.S.Source.left c.do_job.new.source) (g.W.Sink.held c.args.sink.now) (g.W.Sink.held c.do_job.new.sink) c.do_job.result c.in-Some.ensures o.1 o.2
+    (HasRisen (wants c.args.sink.now) (wants c.do_job.new.sink)) c.do_job.ensures.lines_before
 
-pub returns-in-Some-clause-refused : goal.returns-in-Some-clause-refused
-returns-in-Some-clause-refused g c =
-    let o = c.do_job.ensures.outcome in
-    when_refused c.args.words.now c.in-Some.job o.0 (g.S.Source.left c.args.source.now) (g.S.Source.left c.do_job.new.source) (g.W.Sink.held c.args.sink.now) (g.W.Sink.held c.do_job.new.sink) c.do_job.result c.in-Some.ensures o.1 o.2
-
-pub returns-in-Some-clause-whole_lines : goal.returns-in-Some-clause-whole_lines
-returns-in-Some-clause-whole_lines g c =
-    let o = c.do_job.ensures.outcome in
-    when_unread c.args.words.now c.in-Some.job o.0 (g.S.Source.left c.args.source.now) (g.S.Source.left c.do_job.new.source) (g.W.Sink.held c.args.sink.now) (g.W.Sink.held c.do_job.new.sink) c.do_job.result c.in-Some.ensures o.1 o.2
-
-pub returns-in-Some-clause-earlier_lines : goal.returns-in-Some-clause-earlier_lines
-returns-in-Some-clause-earlier_lines g c =
-    let o = c.do_job.ensures.outcome in
-    when_too_long c.args.words.now c.in-Some.job o.0 (g.S.Source.left c.args.source.now) (g.S.Source.left c.do_job.new.source) (g.W.Sink.held c.args.sink.now) (g.W.Sink.held c.do_job.new.sink) c.do_job.result c.in-Some.ensures o.1 o.2
-
-pub returns-in-Some-clause-lines_before : goal.returns-in-Some-clause-lines_before
-returns-in-Some-clause-lines_before g c = λ memory calm.
-    let p = c.do_job.ensures.lines_before memory calm in
-    record { job = c.in-Some.job; asked = c.in-Some.ensures; given = p.0; gave = p.1; writes = p.2 }
-
-pub returns-in-Some-clause-partly : goal.returns-in-Some-clause-partly
-returns-in-Some-clause-partly g c =
-    let o = c.do_job.ensures.outcome in
-    when_cut c.args.words.now c.in-Some.job o.0 (g.S.Source.left c.args.source.now) (g.S.Source.left c.do_job.new.source) (g.W.Sink.held c.args.sink.now) (g.W.Sink.held c.do_job.new.sink) c.do_job.result c.in-Some.ensures o.1 o.2
+pub returns-in-None-clause-ends : goal.returns-in-None-clause-ends
+returns-in-None-clause-ends g c =
+    let wants = g.W.Sink.wants in
+    ends_unasked c.args.words.now (HasRisen (wants c.args.sink.now) (wants c.args.sink.now)) (g.S.Source.left c.args.source.now) (g.W.Sink.held c.args.sink.now)
 
 pub returns-in-Some-clause-usage : goal.returns-in-Some-clause-usage
 returns-in-Some-clause-usage g c =
@@ -87,5 +70,7 @@ returns-in-Some-clause-untouched g c = λ e.
 pub returns-in-Some-clause-too_long : goal.returns-in-Some-clause-too_long
 returns-in-Some-clause-too_long g c =
     let o = c.do_job.ensures.outcome in
-    let told = size_told c.in-Some.job o.0 (g.S.Source.left c.do_job.new.source) (g.W.Sink.held c.args.sink.now) (g.W.Sink.held c.do_job.new.sink) c.do_job.result o.2 in
-    (o.0, o.1, told.0, told.1)
+    size_told c.in-Some.job o.0 (g.S.Source.left c.args.source.now) (g.S.Source.left c.do_job.new.source) (g.W.Sink.held c.args.sink.now) (g.W.Sink.held c.do_job.new.sink) c.do_job.result o.1 o.2
+
+pub returns-in-None-clause-too_long : goal.returns-in-None-clause-too_long
+returns-in-None-clause-too_long g c = size_unasked (g.S.Source.left c.args.source.now)
