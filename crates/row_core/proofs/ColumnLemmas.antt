@@ -6,27 +6,38 @@ use Rattle.row_core.specs.Range.{InRange, ColumnStays, DotStays}
 use Rattle.row_core.proofs.DotLemmas.{dot-take_more}
 
 -- both products are in the range, so the column is exactly where the sum is
-pub column_stays : (r : Option ℤ) (s x t y left right : ℤ) → InRange (s *ℤ x) → InRange (t *ℤ y) → left ≡ s *ℤ x → right ≡ t *ℤ y → SomeIff r (InRange (left +ℤ right)) (left +ℤ right) → SomeIff r (ColumnStays s x t y) (s *ℤ x +ℤ t *ℤ y)
+pub column_stays : (r : Option ℤ) (s x t y left right : ℤ) → InRange (s *ℤ x) → InRange (t *ℤ y) →
+    left ≡ s *ℤ x → right ≡ t *ℤ y → SomeIff r (InRange (left +ℤ right)) (left +ℤ right) →
+    SomeIff r (ColumnStays s x t y) (s *ℤ x +ℤ t *ℤ y)
 column_stays None s x t y left right p q e f h =
-    λ stays. h (subst (λ (z : ℤ). InRange (z +ℤ right)) (sym e) (subst (λ (z : ℤ). InRange (s *ℤ x +ℤ z)) (sym f) stays.sum))
+    λ stays. h (subst (λ (z : ℤ). InRange (z +ℤ right)) (sym e)
+    (subst (λ (z : ℤ). InRange (s *ℤ x +ℤ z)) (sym f) stays.sum))
 column_stays (Some z) s x t y left right p q e f h =
-    let same : left +ℤ right ≡ s *ℤ x +ℤ t *ℤ y = ap (λ (a : ℤ). a +ℤ right) e ∙ ap (λ (b : ℤ). s *ℤ x +ℤ b) f in
+    let same : left +ℤ right ≡ s *ℤ x +ℤ t *ℤ y = ap (λ (a : ℤ). a +ℤ right) e ∙
+    ap (λ (b : ℤ). s *ℤ x +ℤ b) f in
     (record { left = p; right = q; sum = subst InRange same h.0 }, h.1 ∙ same)
 
 -- the product is in the range, so the total with it is exactly where the sum is
-pub product_added : (r : Option ℤ) (total product value : ℤ) → InRange value → product ≡ value → SomeIff r (InRange (total +ℤ product)) (total +ℤ product) → SomeIff r (InRange value × InRange (total +ℤ value)) (total +ℤ value)
-product_added None total product value p e h = λ both. h (subst (λ (z : ℤ). InRange (total +ℤ z)) (sym e) both.1)
+pub product_added : (r : Option ℤ) (total product value : ℤ) → InRange value → product ≡ value →
+    SomeIff r (InRange (total +ℤ product)) (total +ℤ product) →
+    SomeIff r (InRange value × InRange (total +ℤ value)) (total +ℤ value)
+product_added None total product value p e h =
+    λ both. h (subst (λ (z : ℤ). InRange (total +ℤ z)) (sym e) both.1)
 product_added (Some z) total product value p e h =
     let same : total +ℤ product ≡ total +ℤ value = ap (λ (a : ℤ). total +ℤ a) e in
     ((p, subst InRange same h.0), h.1 ∙ same)
 
 -- the running total with one column more
-pub total_more : (u v : List ℤ) (j : ℕ) (total : ℤ) → j < length u → length u ≡ length v → total ≡ dot (take j u) (take j v) → total +ℤ cell u j *ℤ cell v j ≡ dot (take (j + 1) u) (take (j + 1) v)
+pub total_more : (u v : List ℤ) (j : ℕ) (total : ℤ) → j < length u → length u ≡ length v →
+    total ≡ dot (take j u) (take j v) →
+    total +ℤ cell u j *ℤ cell v j ≡ dot (take (j + 1) u) (take (j + 1) v)
 total_more u v j total h e same =
     ap (λ (a : ℤ). a +ℤ cell u j *ℤ cell v j) same ∙ sym (dot-take_more u v j h (omega arith))
 
 -- one column more stays
-pub stays_more : (u v : List ℤ) (j : ℕ) (total : ℤ) → j < length u → length u ≡ length v → total ≡ dot (take j u) (take j v) → InRange (cell u j *ℤ cell v j) → InRange (total +ℤ cell u j *ℤ cell v j) → DotStays u v j
+pub stays_more : (u v : List ℤ) (j : ℕ) (total : ℤ) → j < length u → length u ≡ length v →
+    total ≡ dot (take j u) (take j v) → InRange (cell u j *ℤ cell v j) →
+    InRange (total +ℤ cell u j *ℤ cell v j) → DotStays u v j
 stays_more u v j total h e same product sum =
     record {
       product = product;
@@ -34,6 +45,8 @@ stays_more u v j total h e same product sum =
     }
 
 -- what a column that stays says of the running total
-pub stays_then : (u v : List ℤ) (j : ℕ) (total : ℤ) → j < length u → length u ≡ length v → total ≡ dot (take j u) (take j v) → DotStays u v j → InRange (cell u j *ℤ cell v j) × InRange (total +ℤ cell u j *ℤ cell v j)
+pub stays_then : (u v : List ℤ) (j : ℕ) (total : ℤ) → j < length u → length u ≡ length v →
+    total ≡ dot (take j u) (take j v) → DotStays u v j →
+    InRange (cell u j *ℤ cell v j) × InRange (total +ℤ cell u j *ℤ cell v j)
 stays_then u v j total h e same stays =
     (stays.product, subst InRange (sym (total_more u v j total h e same)) stays.sum)

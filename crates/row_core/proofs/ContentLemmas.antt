@@ -17,16 +17,23 @@ abbrev pub Divides : ℕ → ℤ → Type 0
 Divides d z = d ∣ unsigned_abs z
 
 -- the greatest common divisor with one entry more divides one entry more
-pub DividesAll-more : (g h : ℕ) (v : List ℤ) (j : ℕ) → j < length v → DividesAll g (take j v) → IsGcd g (unsigned_abs (cell v j)) h → DividesAll h (take (j + 1) v)
+pub DividesAll-more : (g h : ℕ) (v : List ℤ) (j : ℕ) → j < length v → DividesAll g (take j v) →
+    IsGcd g (unsigned_abs (cell v j)) h → DividesAll h (take (j + 1) v)
 DividesAll-more g h v j within before is =
-    All-more (Divides h) v j (pos 0) within (All-weaker (Divides g) (Divides h) (λ z p. dvd_trans h is.0 p) (take j v) before) is.1
+    All-more (Divides h) v j (pos 0) within
+    (All-weaker (Divides g) (Divides h) (λ z p. dvd_trans h is.0 p) (take j v) before) is.1
 
 -- it is the greatest
-pub greatest_more : (d g h : ℕ) (v : List ℤ) (j : ℕ) → j < length v → (DividesAll d (take j v) → d ∣ g) → IsGcd g (unsigned_abs (cell v j)) h → DividesAll d (take (j + 1) v) → d ∣ h
+pub greatest_more : (d g h : ℕ) (v : List ℤ) (j : ℕ) → j < length v →
+    (DividesAll d (take j v) → d ∣ g) → IsGcd g (unsigned_abs (cell v j)) h →
+    DividesAll d (take (j + 1) v) → d ∣ h
 greatest_more d g h v j within before is all =
     is.2 d
-    (before (subst (DividesAll d) (take-take j (j + 1) v (omega arith)) (All-take (Divides d) j (take (j + 1) v) all)))
-    (subst (Divides d) (get_or-take (j + 1) v j (pos 0) (omega arith)) (All-get_or (Divides d) (take (j + 1) v) j (pos 0) (omega (arith, length-take-le (j + 1) v (omega arith))) all))
+    (before (subst (DividesAll d) (take-take j (j + 1) v (omega arith))
+    (All-take (Divides d) j (take (j + 1) v) all)))
+    (subst (Divides d) (get_or-take (j + 1) v j (pos 0) (omega arith))
+    (All-get_or (Divides d) (take (j + 1) v) j (pos 0)
+    (omega (arith, length-take-le (j + 1) v (omega arith))) all))
 
 -- a greatest common divisor is below what both numbers are below
 pub gcd_below : (a b g n : ℕ) → IsGcd a b g → a < n → b < n → g < n
@@ -58,17 +65,32 @@ swapped q d r x e z = omega (arith, ints, e, z)
 pub exact_quotient : (x d : ℤ) → unsigned_abs d ∣ unsigned_abs x → x ≡ d *ℤ int_div x d
 exact_quotient x d h = swapped (int_div x d) d (int_rem x d) x (quot-rem x d) (rem_is_zero x d h)
 
+-- 1 is the greatest common divisor of 1 and another number
+pub IsGcd-one : (a b : ℕ) → a ≡ 1 → IsGcd a b 1
+IsGcd-one a b e = (one-dvd a, one-dvd b, λ d h k. subst (λ (n : ℕ). d ∣ n) e h)
+
 -- a row whose columns are multiples of another's is that multiple
-pub scale_from_cells : (old new : List ℤ) (k : ℤ) → length old ≡ length new → ((j : ℕ) → j < length old → cell old j ≡ k *ℤ cell new j) → old ≡ scale k new
+pub scale_from_cells : (old new : List ℤ) (k : ℤ) → length old ≡ length new →
+    ((j : ℕ) → j < length old → cell old j ≡ k *ℤ cell new j) → old ≡ scale k new
 scale_from_cells old new k e cells =
-    ext_get_or (pos 0) old (scale k new) (e ∙ sym (length-scale k new)) (λ j h. cells j h ∙ sym (cell-scale k new j))
+    ext_get_or (pos 0) old (scale k new) (e ∙ sym (length-scale k new))
+    (λ j h. cells j h ∙ sym (cell-scale k new j))
 
 one_times : (a : ℤ) → a ≡ pos 1 *ℤ a
 one_times a = omega (arith, ints)
 
+-- a quotient by 1
+pub quotient_by_one : (x d : ℤ) → d ≡ pos 1 → x ≡ d *ℤ x
+quotient_by_one x d e = subst (λ (k : ℤ). x ≡ k *ℤ x) (sym e) (one_times x)
+
 -- a row is a multiple of itself
 pub IsMultipleOf-refl : (v : List ℤ) → IsMultipleOf v v
-IsMultipleOf-refl v = record { times = 1; positive = omega arith; same = scale_from_cells v v (pos 1) refl (λ j h. one_times (cell v j)) }
+IsMultipleOf-refl v = record {
+  times = 1;
+  positive = omega arith;
+  same =
+      scale_from_cells v v (pos 1) refl (λ j h. one_times (cell v j));
+}
 
 abs_zero : (z : ℤ) → unsigned_abs z ≡ 0 → z ≡ pos 0
 abs_zero (pos n) e = ap pos e
@@ -79,7 +101,8 @@ pub zero_divides : (v : List ℤ) → DividesAll 0 v → All (λ z. z ≡ pos 0)
 zero_divides v all = λ k d h. abs_zero (slice_index_or v k d) (eq-zero_of_zero-dvd (all k d h))
 
 -- a row whose greatest common divisor is 0 or 1 is primitive
-pub primitive_as_it_is : (v : List ℤ) (g : ℕ) → g < 2 → DividesAll g v → ((d : ℕ) → DividesAll d v → d ∣ g) → IsPrimitive v
+pub primitive_as_it_is : (v : List ℤ) (g : ℕ) → g < 2 → DividesAll g v →
+    ((d : ℕ) → DividesAll d v → d ∣ g) → IsPrimitive v
 primitive_as_it_is v zero h all greatest = inl (zero_divides v all)
 primitive_as_it_is v (suc g) h all greatest =
     let one : suc g ≡ 1 = omega arith in
@@ -87,17 +110,22 @@ primitive_as_it_is v (suc g) h all greatest =
 
 scaled_divides : (d g : ℕ) (z : ℤ) → d ∣ unsigned_abs z → d * g ∣ unsigned_abs (pos g *ℤ z)
 scaled_divides d g z h =
-    subst (λ (n : ℕ). d * g ∣ n) (mul_comm (unsigned_abs z) g ∙ sym (unsigned_abs-mul (pos g) z)) (mul-dvd-mul_right d h g)
+    subst (λ (n : ℕ). d * g ∣ n) (mul_comm (unsigned_abs z) g ∙ sym (unsigned_abs-mul (pos g) z))
+    (mul-dvd-mul_right d h g)
 
 one_mul_g : (g : ℕ) → g ≡ 1 * g
 one_mul_g g = omega arith
 
 -- a row divided by its greatest common divisor is primitive
-pub primitive_quotient : (old new : List ℤ) (g : ℕ) → 0 < g → old ≡ scale (pos g) new → ((d : ℕ) → DividesAll d old → d ∣ g) → IsPrimitive new
+pub primitive_quotient : (old new : List ℤ) (g : ℕ) → 0 < g → old ≡ scale (pos g) new →
+    ((d : ℕ) → DividesAll d old → d ∣ g) → IsPrimitive new
 primitive_quotient old new g positive same greatest =
     inr (λ d divides.
     let scaled : DividesAll (d * g) old = subst (DividesAll (d * g)) (sym same)
     (All-from_get_or (Divides (d * g)) (scale (pos g) new) (pos 0)
     (λ j h. subst (Divides (d * g)) (sym (cell-scale (pos g) new j))
-    (scaled_divides d g (cell new j) (All-get_or (Divides d) new j (pos 0) (omega (arith, length-scale (pos g) new)) divides)))) in
-    eq-one_of_dvd-one (dvd_of_mul-dvd-mul_right d positive (subst (λ (n : ℕ). d * g ∣ n) (one_mul_g g) (greatest (d * g) scaled))))
+    (scaled_divides d g (cell new j)
+    (All-get_or (Divides d) new j (pos 0) (omega (arith, length-scale (pos g) new))
+    divides)))) in
+    eq-one_of_dvd-one (dvd_of_mul-dvd-mul_right d positive
+    (subst (λ (n : ℕ). d * g ∣ n) (one_mul_g g) (greatest (d * g) scaled))))

@@ -12,14 +12,17 @@ dot-take_more_cons : (p a b c : ℤ) → a ≡ b +ℤ c → p +ℤ a ≡ (p +ℤ
 dot-take_more_cons p a b c e = omega (arith, ints, e)
 
 -- one column more
-pub dot-take_suc : (u v : List ℤ) (j : ℕ) → j < length u → j < length v → dot (take (suc j) u) (take (suc j) v) ≡ dot (take j u) (take j v) +ℤ cell u j *ℤ cell v j
+pub dot-take_suc : (u v : List ℤ) (j : ℕ) → j < length u → j < length v →
+    dot (take (suc j) u) (take (suc j) v) ≡ dot (take j u) (take j v) +ℤ cell u j *ℤ cell v j
 dot-take_suc [] v j h k = absurd (omega arith)
 dot-take_suc (a ∷ u) [] j h k = absurd (omega arith)
 dot-take_suc (a ∷ u) (b ∷ v) zero h k = add_zero_z (a *ℤ b)
 dot-take_suc (a ∷ u) (b ∷ v) (suc j) h k =
-    dot-take_more_cons (a *ℤ b) (dot (take (suc j) u) (take (suc j) v)) (dot (take j u) (take j v)) (cell u j *ℤ cell v j) (dot-take_suc u v j (omega arith) (omega arith))
+    dot-take_more_cons (a *ℤ b) (dot (take (suc j) u) (take (suc j) v)) (dot (take j u) (take j v))
+    (cell u j *ℤ cell v j) (dot-take_suc u v j (omega arith) (omega arith))
 
-pub dot-take_more : (u v : List ℤ) (j : ℕ) → j < length u → j < length v → dot (take (j + 1) u) (take (j + 1) v) ≡ dot (take j u) (take j v) +ℤ cell u j *ℤ cell v j
+pub dot-take_more : (u v : List ℤ) (j : ℕ) → j < length u → j < length v →
+    dot (take (j + 1) u) (take (j + 1) v) ≡ dot (take j u) (take j v) +ℤ cell u j *ℤ cell v j
 dot-take_more u v j h k = rw add-one (dot-take_suc u v j h k)
 
 pub dot_comm : (u v : List ℤ) → dot u v ≡ dot v u
@@ -32,7 +35,8 @@ dot_comm (a ∷ u) (b ∷ v) = swapped a b (dot u v) (dot v u) (dot_comm u v)
     swapped a b s t e = omega (arith, ints, e, mul_comm a b)
 
 one_column_more : (a b k d e : ℤ) → e ≡ k *ℤ d → a *ℤ (k *ℤ b) +ℤ e ≡ k *ℤ (a *ℤ b +ℤ d)
-one_column_more a b k d e same = omega (arith, ints, same, mul_left_comm a k b, mul-add k (a *ℤ b) d)
+one_column_more a b k d e same =
+    omega (arith, ints, same, mul_left_comm a k b, mul-add k (a *ℤ b) d)
 
 pub dot-scale : (u : List ℤ) (k : ℤ) (v : List ℤ) → dot u (scale k v) ≡ k *ℤ dot u v
 dot-scale [] k v = sym (mul-zero k)

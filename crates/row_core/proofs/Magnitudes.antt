@@ -1,8 +1,10 @@
 -- Magnitudes and signs of numbers.
-use Rattle.std.specs.Prelude.{◌≡◌, ◌≢◌, ℕ, zero, suc, ◌^◌, ◌<◌, ℤ, pos, negsuc, neg_ℤ, ◌*ℤ◌, ◌<ℤ◌, unsigned_abs}
+use Rattle.std.specs.Prelude.{◌≡◌, ◌≢◌, ℕ, zero, suc, ◌/◌, ◌^◌, ◌<◌, ℤ, pos, negsuc, neg_ℤ, ◌*ℤ◌, ◌<ℤ◌, unsigned_abs, int_div}
 use Rattle.std.specs.Int.{w128}
 use Rattle.std.proofs.Common.{refl, sym, ap, ◌∙◌, arith, to_z, of_z}
 use Rattle.std.proofs.lemmas.Int.{ints, to_z-of_z, to_z_pos, fits_signed_from_abs}
+use native.Mathlib.Nat.{div-le_self}
+use mir.Syntax.{Width}
 use Rattle.row_core.specs.Range.{InRange}
 use Rattle.row_core.specs.Signs.{sign}
 use Rattle.row_core.proofs.Ring.{one-mul, neg-mul}
@@ -25,6 +27,18 @@ magnitude-neg (pos zero) = refl
 magnitude-neg (pos (suc n)) = refl
 magnitude-neg (negsuc n) = refl
 
+-- a quotient by a number above 0 is of the range
+pub int_div-in_range : (x d : ℤ) → pos 0 <ℤ d → InRange x → InRange (int_div x d)
+int_div-in_range (pos a) (pos b) above h = record { size = omega (arith, div-le_self a b, h.size) }
+int_div-in_range (negsuc a) (pos b) above h =
+    record { size = omega (arith, magnitude-neg (pos (suc a / b)), div-le_self (suc a) b, h.size) }
+int_div-in_range x (negsuc b) above h = absurd above.lt
+
+-- a number above 0 isn't 0 in code
+pub of_z-above : (w : Width) (d : ℤ) → pos 0 <ℤ d → 0 < of_z w d
+of_z-above w (pos n) above = let e : 0 < n = omega (arith, ints, above) in e
+of_z-above w (negsuc n) above = absurd above.lt
+
 -- a number of the range, as code passes it on
 pub back : (z : ℤ) → InRange z → to_z w128 (of_z w128 z) ≡ z
 back z h = to_z-of_z w128 z (fits_signed_from_abs w128 z h.size)
@@ -44,7 +58,8 @@ sign_above (pos (suc n)) x h = sym (one-mul x)
 sign_above (negsuc n) x h = absurd (omega (arith, ints, h))
 
 minus_one : (x : ℤ) → neg_ℤ x ≡ neg_ℤ (pos 1) *ℤ x
-minus_one x = let e : neg_ℤ (pos 1) *ℤ x ≡ neg_ℤ (pos 1 *ℤ x) = neg-mul (pos 1) x in sym (e ∙ ap neg_ℤ (one-mul x))
+minus_one x = let e : neg_ℤ (pos 1) *ℤ x ≡ neg_ℤ (pos 1 *ℤ x) = neg-mul (pos 1) x in
+    sym (e ∙ ap neg_ℤ (one-mul x))
 
 pub sign_below : (u x : ℤ) → u <ℤ pos 0 → neg_ℤ x ≡ sign u *ℤ x
 sign_below (pos zero) x h = absurd (omega (arith, ints, h))

@@ -1,4 +1,5 @@
--- The integers as an ordered commutative ring. `simp ring (omega (arith, ints))` proves an equation between polynomials: `ring` multiplies out and sorts the factors, and `omega` compares the sums.
+-- The integers as an ordered commutative ring. `simp ring (omega (arith, ints))` proves an equation
+-- between polynomials: `ring` multiplies out and sorts the factors, and `omega` compares the sums.
 use Rattle.std.proofs.Common.{◌≡◌, ◌≢◌, ◌⊎◌, inl, inr, ℕ, zero, suc, ◌+◌, ◌*◌, ◌<◌, ℤ, pos, negsuc, ◌+ℤ◌, ◌-ℤ◌, ◌*ℤ◌, neg_ℤ, ◌≤ℤ◌, ◌<ℤ◌, unsigned_abs, refl, ap, ◌∙◌, arith, mul-pos}
 use Rattle.std.proofs.lemmas.Int.{ints}
 use borrow.Author.Differences.{up, down, same_in, sum_is_lem, product_is, neg_is}
@@ -16,7 +17,8 @@ pub mul_assoc : (a b c : ℤ) → (a *ℤ b) *ℤ c ≡ a *ℤ (b *ℤ c)
 mul_assoc a b c = same_in ((a *ℤ b) *ℤ c) (a *ℤ (b *ℤ c)) (simp (up-mul, down-mul) (omega arith))
 
 pub mul_left_comm : (a b c : ℤ) → a *ℤ (b *ℤ c) ≡ b *ℤ (a *ℤ c)
-mul_left_comm a b c = same_in (a *ℤ (b *ℤ c)) (b *ℤ (a *ℤ c)) (simp (up-mul, down-mul) (omega arith))
+mul_left_comm a b c =
+    same_in (a *ℤ (b *ℤ c)) (b *ℤ (a *ℤ c)) (simp (up-mul, down-mul) (omega arith))
 
 pub mul-add : (a b c : ℤ) → a *ℤ (b +ℤ c) ≡ a *ℤ b +ℤ a *ℤ c
 mul-add a b c =
@@ -87,7 +89,8 @@ at_least_zero_or_not (negsuc n) = inr (omega (arith, ints))
 pub same_or_not : (a b : ℤ) → (a ≡ b) ⊎ (a ≢ b)
 same_or_not a b = same_by_sign a b (by_sign (a -ℤ b))
   where
-    same_by_sign : (a b : ℤ) → (pos 0 <ℤ (a -ℤ b)) ⊎ (((a -ℤ b) <ℤ pos 0) ⊎ (a -ℤ b ≡ pos 0)) → (a ≡ b) ⊎ (a ≢ b)
+    same_by_sign : (a b : ℤ) → (pos 0 <ℤ (a -ℤ b)) ⊎ (((a -ℤ b) <ℤ pos 0) ⊎ (a -ℤ b ≡ pos 0)) →
+        (a ≡ b) ⊎ (a ≢ b)
     same_by_sign a b (inl h) = inr (λ e. omega (arith, ints))
     same_by_sign a b (inr (inl h)) = inr (λ e. omega (arith, ints))
     same_by_sign a b (inr (inr h)) = inl (omega (arith, ints))
@@ -96,14 +99,16 @@ same_or_not a b = same_by_sign a b (by_sign (a -ℤ b))
 pub at_least_zero_of_mul : (a b : ℤ) → pos 0 <ℤ a → pos 0 ≤ℤ (a *ℤ b) → pos 0 ≤ℤ b
 at_least_zero_of_mul a (pos b) h k = omega (arith, ints)
 at_least_zero_of_mul a (negsuc b) h k =
-    let p : pos 0 <ℤ (a *ℤ neg_ℤ (negsuc b)) = mul-positive a (neg_ℤ (negsuc b)) h (omega (arith, ints)) in
+    let p : pos 0 <ℤ (a *ℤ neg_ℤ (negsuc b)) =
+    mul-positive a (neg_ℤ (negsuc b)) h (omega (arith, ints)) in
     absurd (omega (arith, ints, mul-neg a (negsuc b)))
 
 pub positive_of_mul : (a b : ℤ) → pos 0 <ℤ a → pos 0 <ℤ (a *ℤ b) → pos 0 <ℤ b
 positive_of_mul a (pos zero) h k = absurd (omega (arith, ints, mul-zero a))
 positive_of_mul a (pos (suc b)) h k = omega (arith, ints)
 positive_of_mul a (negsuc b) h k =
-    let p : pos 0 <ℤ (a *ℤ neg_ℤ (negsuc b)) = mul-positive a (neg_ℤ (negsuc b)) h (omega (arith, ints)) in
+    let p : pos 0 <ℤ (a *ℤ neg_ℤ (negsuc b)) =
+    mul-positive a (neg_ℤ (negsuc b)) h (omega (arith, ints)) in
     absurd (omega (arith, ints, mul-neg a (negsuc b)))
 
 pub zero_of_mul : (a b : ℤ) → pos 0 <ℤ a → a *ℤ b ≡ pos 0 → b ≡ pos 0
@@ -112,7 +117,8 @@ zero_of_mul a (pos (suc b)) h e =
     let p : pos 0 <ℤ (a *ℤ pos (suc b)) = mul-positive a (pos (suc b)) h (omega (arith, ints)) in
     absurd (omega (arith, ints))
 zero_of_mul a (negsuc b) h e =
-    let p : pos 0 <ℤ (a *ℤ neg_ℤ (negsuc b)) = mul-positive a (neg_ℤ (negsuc b)) h (omega (arith, ints)) in
+    let p : pos 0 <ℤ (a *ℤ neg_ℤ (negsuc b)) =
+    mul-positive a (neg_ℤ (negsuc b)) h (omega (arith, ints)) in
     absurd (omega (arith, ints, mul-neg a (negsuc b)))
 
 -- not zero: the magnitude is positive, and the square
@@ -123,7 +129,9 @@ magnitude_positive (negsuc n) h = omega (arith, ints)
 
 pub square_positive : (a : ℤ) → a ≢ pos 0 → pos 0 <ℤ (a *ℤ a)
 square_positive (pos zero) h = absurd (h refl)
-square_positive (pos (suc n)) h = mul-positive (pos (suc n)) (pos (suc n)) (omega (arith, ints)) (omega (arith, ints))
+square_positive (pos (suc n)) h =
+    mul-positive (pos (suc n)) (pos (suc n)) (omega (arith, ints)) (omega (arith, ints))
 square_positive (negsuc n) h =
-    let p : pos 0 <ℤ (neg_ℤ (negsuc n) *ℤ neg_ℤ (negsuc n)) = mul-positive (neg_ℤ (negsuc n)) (neg_ℤ (negsuc n)) (omega (arith, ints)) (omega (arith, ints)) in
+    let p : pos 0 <ℤ (neg_ℤ (negsuc n) *ℤ neg_ℤ (negsuc n)) = mul-positive (neg_ℤ (negsuc n))
+    (neg_ℤ (negsuc n)) (omega (arith, ints)) (omega (arith, ints)) in
     omega (arith, ints)

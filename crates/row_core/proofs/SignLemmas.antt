@@ -13,11 +13,15 @@ negate_is : (x y : ℤ) → x ≡ neg_ℤ (pos 1) *ℤ y → x ≡ neg_ℤ y
 negate_is x y e = omega (arith, ints)
 
 cell-negative : (v : List ℤ) (j : ℕ) → cell (scale (neg_ℤ (pos 1)) v) j ≡ neg_ℤ (cell v j)
-cell-negative v j = negate_is (cell (scale (neg_ℤ (pos 1)) v) j) (cell v j) (cell-scale (neg_ℤ (pos 1)) v j)
+cell-negative v j =
+    negate_is (cell (scale (neg_ℤ (pos 1)) v) j) (cell v j) (cell-scale (neg_ℤ (pos 1)) v j)
 
 -- a row whose entries are those of another with their signs changed
-pub negated_within : (u v : List ℤ) → length v ≡ length u → ((j : ℕ) → j < length u → cell v j ≡ neg_ℤ (cell u j)) → v ≡ scale (neg_ℤ (pos 1)) u
-negated_within u v e h = ext_get_or (pos 0) v (scale (neg_ℤ (pos 1)) u) (e ∙ sym (length-scale (neg_ℤ (pos 1)) u)) (λ j b. h j (omega (arith, b, e)) ∙ sym (cell-negative u j))
+pub negated_within : (u v : List ℤ) → length v ≡ length u →
+    ((j : ℕ) → j < length u → cell v j ≡ neg_ℤ (cell u j)) → v ≡ scale (neg_ℤ (pos 1)) u
+negated_within u v e h = ext_get_or (pos 0) v (scale (neg_ℤ (pos 1)) u)
+    (e ∙ sym (length-scale (neg_ℤ (pos 1)) u))
+    (λ j b. h j (omega (arith, b, e)) ∙ sym (cell-negative u j))
 
 -- ---- primitive rows
 same_size : (x : ℤ) → unsigned_abs (neg_ℤ x) ≡ unsigned_abs x
@@ -32,10 +36,14 @@ below_negated : (v : List ℤ) (i : ℕ) → i < length (scale (neg_ℤ (pos 1))
 below_negated v i b = omega (arith, b, length-scale (neg_ℤ (pos 1)) v)
 
 divides_back : (d : ℕ) (v : List ℤ) → DividesAll d (scale (neg_ℤ (pos 1)) v) → DividesAll d v
-divides_back d v h = All-from_get_or (λ z. d ∣ unsigned_abs z) v (pos 0) (λ i b. subst (λ (n : ℕ). d ∣ n) (ap unsigned_abs (cell-negative v i) ∙ same_size (cell v i)) (h i (pos 0) (negated_below v i b)))
+divides_back d v h = All-from_get_or (λ z. d ∣ unsigned_abs z) v (pos 0)
+    (λ i b. subst (λ (n : ℕ). d ∣ n) (ap unsigned_abs (cell-negative v i) ∙ same_size (cell v i))
+    (h i (pos 0) (negated_below v i b)))
 
-zero_negated : (v : List ℤ) → All (λ z. z ≡ pos 0) v → All (λ z. z ≡ pos 0) (scale (neg_ℤ (pos 1)) v)
-zero_negated v h = All-from_get_or (λ z. z ≡ pos 0) (scale (neg_ℤ (pos 1)) v) (pos 0) (λ i b. cell-negative v i ∙ ap neg_ℤ (h i (pos 0) (below_negated v i b)))
+zero_negated : (v : List ℤ) → All (λ z. z ≡ pos 0) v →
+    All (λ z. z ≡ pos 0) (scale (neg_ℤ (pos 1)) v)
+zero_negated v h = All-from_get_or (λ z. z ≡ pos 0) (scale (neg_ℤ (pos 1)) v) (pos 0)
+    (λ i b. cell-negative v i ∙ ap neg_ℤ (h i (pos 0) (below_negated v i b)))
 
 pub primitive_negated : (v : List ℤ) → IsPrimitive v → IsPrimitive (scale (neg_ℤ (pos 1)) v)
 primitive_negated v (inl z) = inl (zero_negated v z)

@@ -6,15 +6,16 @@ use Rattle.row_core.specs.Content.{IsPrimitive}
 use Rattle.row_core.specs.Range.{CombineStays, IsFirstToLeave}
 use Rattle.row_core.specs.Signs.{sign}
 
--- of two vectors with the values u and v on a row: a positive multiple of the result is their combination that is 0 on the row, and the result is primitive and as wide as they are
+-- the primitive combination, 0 on a row, of two vectors with the values u and v on it
 pub record IsCombined (u v : ℤ) (left right result : List ℤ) : Type 0 where
   pub times : ℤ
   pub positive : pos 0 <ℤ times
-  pub same : (j : ℕ) → times *ℤ cell result j ≡ pos (unsigned_abs u) *ℤ cell right j -ℤ (sign u *ℤ v) *ℤ cell left j
+  pub same : (j : ℕ) →
+      times *ℤ cell result j ≡ pos (unsigned_abs u) *ℤ cell right j -ℤ (sign u *ℤ v) *ℤ cell left j
   pub wide : length result ≡ length right
   pub primitive : IsPrimitive result
 
--- of two vectors with the values u and v on a row, the factors of the second and of the first in their combination that is 0 on the row: the magnitudes of u and v, divided by their greatest common divisor, and the latter with the sign that makes the value 0
+-- the least factors by which two vectors, with the values u and v on a row, combine to 0 on it
 pub record AreFactors (u v second first : ℤ) : Type 0 where
   pub divisor : ℕ
   pub greatest : IsGcd (unsigned_abs u) (unsigned_abs v) divisor
@@ -22,7 +23,7 @@ pub record AreFactors (u v second first : ℤ) : Type 0 where
   pub first_is : unsigned_abs first * divisor ≡ unsigned_abs v
   pub zero : second *ℤ v +ℤ first *ℤ u ≡ pos 0
 
--- in the combination of two vectors with the values u and v on a row that is 0 on it, j is the first column at which a product or the sum leaves the range
+-- the combination of two vectors that is 0 on a row leaves the range, at column j first
 pub record CombinationLeaves (u v : ℤ) (left right : List ℤ) (j : ℕ) : Type 0 where
   pub second : ℤ
   pub first : ℤ

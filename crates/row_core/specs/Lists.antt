@@ -38,7 +38,8 @@ system_rows lines rays = map (λ l. (l, true)) lines ++ map (λ r. (r, false)) r
 -- the lists are equally long, and elements at one index are related
 pub record Pointwise {A B : Type 0} (R : A → B → Type 0) (xs : List A) (ys : List B) : Type 0 where
   pub as_many : length ys ≡ length xs
-  pub each : (i : ℕ) (d : A) (e : B) → i < length xs → R (slice_index_or xs i d) (slice_index_or ys i e)
+  pub each : (i : ℕ) (d : A) (e : B) → i < length xs →
+      R (slice_index_or xs i d) (slice_index_or ys i e)
 
 -- the row has the width, and its numbers are of the range
 pub record IsRow (width : ℕ) (row : Row) : Type 0 where
@@ -51,7 +52,8 @@ pub record FitWidth (list : Rows) : Type 0 where
   pub narrow : list.width < 2 ^ 32
 
 -- the list gained the row, made primitive, with its mark
-pub record GainsPrimitive {M : Type 0} (old new : List (List ℤ × M)) (row : List ℤ) (mark : M) : Type 0 where
+pub record GainsPrimitive {M : Type 0} (old new : List (List ℤ × M)) (row : List ℤ) (mark : M)
+    : Type 0 where
   pub stored : List ℤ
   pub primitive : IsPrimitiveOf row stored
   pub in_range : AllInRange stored

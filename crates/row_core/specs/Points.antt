@@ -1,7 +1,7 @@
 use Rattle.std.specs.Prelude.{◌≡◌, ℕ, ◌+◌, List, length, ℤ, pos, ◌<ℤ◌}
 use Rattle.row_core.specs.Vectors.{cell, scale}
 
--- the vector `(x1, .., xn, d)` has a positive divisor d, and so stands for the point `(x1/d, .., xn/d)`
+-- the vector `(x1, .., xn, d)` stands for the point `(x1/d, .., xn/d)`: its divisor d is positive
 pub record IsPoint (dim : ℕ) (v : List ℤ) : Type 0 where
   pub wide : length v ≡ dim + 1
   pub positive : pos 0 <ℤ cell v dim

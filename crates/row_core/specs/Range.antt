@@ -10,7 +10,7 @@ pub record InRange (z : ℤ) : Type 0 where
 abbrev pub AllInRange : List ℤ → Type 0
 AllInRange v = All InRange v
 
--- in a dot of two rows, the product at column j and the sum of the products up to it are in the range
+-- in a dot of two rows, the product at column j and the sum of those up to it are in the range
 pub record DotStays (u v : List ℤ) (j : ℕ) : Type 0 where
   pub product : InRange (cell u j *ℤ cell v j)
   pub sum : InRange (dot (take (j + 1) u) (take (j + 1) v))

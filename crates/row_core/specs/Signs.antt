@@ -7,7 +7,7 @@ sign (pos zero) = pos 0
 sign (pos (suc n)) = pos 1
 sign (negsuc n) = neg_ℤ (pos 1)
 
--- whether a vector on which the row has this value meets the row: 0 where the row is an equality, at least 0 otherwise
+-- whether a row with this value on a vector is met: 0 at an equality, at least 0 otherwise
 abbrev pub stays : Bool → ℤ → Bool
 stays true value = int_eq value (pos 0)
 stays false value = int_le (pos 0) value

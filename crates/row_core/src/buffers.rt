@@ -159,7 +159,8 @@ pub struct RowList {
     marked: MarkedRows<bool>,
 }
 
-// Written by hand, so that a function that drops a list calls this one, and doesn't free each part itself.
+// Written by hand, so that a function that drops a list calls this one, and doesn't free each part
+// itself.
 impl Drop for RowList {
     fn drop(self) {
         let RowList {

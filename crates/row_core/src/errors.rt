@@ -55,7 +55,8 @@ pub struct Overflow {
 }
 
 impl Overflow {
-    /// Returns the overflow that shows copies of two rows. No conversion came to it, so its step is 0.
+    /// Returns the overflow that shows copies of two rows. No conversion came to it, so its step is
+    /// 0.
     pub fn of_rows(
         alloc: Global,
         kind: OverKind,

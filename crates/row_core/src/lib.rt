@@ -2,14 +2,15 @@
 //!
 //! - [`RowBuf`], [`MarkedRows`] and [`RowList`] keep rows whose numbers are of the range, from
 //!   `-(2^127 - 1)` to `2^127 - 1`.
-//! - [`Memory`], [`Overflow`], [`PairOver`] and [`ConvErr`] are the answers that a call may refuse by.
+//! - [`Memory`], [`Overflow`], [`PairOver`] and [`ConvErr`] are the answers that a call may refuse
+//!   by.
 //! - [`Steps`] counts combinations of two rows.
-//! - [`dot`], [`combine_into`] and [`combine_onto`] give the exact numbers, or the first column that
-//!   leaves the range.
+//! - [`dot`], [`combine_into`] and [`combine_onto`] give the exact numbers, or the first column
+//!   that leaves the range.
 //! - [`product`], [`sum`] and [`combination`] give one exact number, if the range isn't left.
 //! - [`narrow_dot`] needs no such test, where [`all_narrow`] told that all numbers are small.
 //! - [`gcd`] and [`make_primitive`] divide a row by the greatest common divisor of its entries;
-//!   [`negate`] changes all signs.
+//!   [`quotient`] divides one number, and [`negate`] changes all signs.
 //! - [`LendRows`] is what lists have in common that lend rows of one width.
 //! - [`emptied`] takes a list out of its place, so that its room is used again.
 //! - [`one_primitive`] is a law of primitive rows.
@@ -37,6 +38,6 @@ pub use lending::LendRows;
 pub use linear::{combination, combine_into, dot, product, sum};
 pub use marked::{Iter, MarkedRows};
 pub use narrow::{all_narrow, narrow_dot};
-pub use primitive::{gcd, make_primitive};
+pub use primitive::{gcd, make_primitive, quotient};
 pub use reuse::emptied;
 pub use signs::negate;

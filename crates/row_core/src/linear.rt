@@ -1,4 +1,5 @@
-//! Dot products and combinations of rows, exact or refused at the first column that leaves the range.
+//! Dot products and combinations of rows, exact or refused at the first column that leaves the
+//! range.
 ghost use Rattle.std.specs.Prelude.{◌≡◌, ℕ, ◌+◌, ◌^◌, ◌<◌, length, ◌+ℤ◌, ◌*ℤ◌, SomeIff, MatchResult, IfOk, OnOk};
 ghost use Rattle.row_core.specs.Vectors.{dot, scale, add};
 ghost use Rattle.row_core.specs.Range.{InRange, AllInRange, ColumnStays, DotStays, CombineStays, IsFirstToLeave, AllStay};

@@ -57,8 +57,8 @@ impl<M: Copy> MarkedRows<M> {
         Ok(MarkedRows { cells, spans })
     }
 
-    /// Appends a row. The first one is taken over without a copy, if no room was made for it. After want
-    /// of memory the list is as before, and the row is dropped.
+    /// Appends a row. The first one is taken over without a copy, if no room was made for it. After
+    /// want of memory the list is as before, and the row is dropped.
     pub fn push(&mut self, row: RowBuf, mark: M) -> Result<(), Memory>
         ensures { MatchResult result (λ _. self.new ≡ self.old ++ (row, mark) ∷ [])
             (λ _. self.new ≡ self.old) }
@@ -208,7 +208,8 @@ impl<M: Eq> MarkedRows<M> {
         requires left { i < length self.now }
         requires right { i < length other.now }
         ensures { (d : List ℤ × M) →
-            result ≡ is_same_marked M.eq (slice_index_or self.now i d) (slice_index_or other.now i d) }
+            result ≡
+            is_same_marked M.eq (slice_index_or self.now i d) (slice_index_or other.now i d) }
     {
         let (left, right) = (&self.spans[i], &other.spans[i]);
         part(self.cells.as_slice(), left.start, left.end)

@@ -36,6 +36,24 @@ pub fn gcd(a: u128, b: u128) -> u128
     wide_gcd(a, b)
 }
 
+/// An exact quotient. One by 1 divides nothing, and small numbers are divided as words.
+#[inline]
+pub fn quotient(x: i128, divisor: i128) -> i128
+    requires in_range { InRange x }
+    requires positive { pos 0 <ℤ divisor }
+    requires divides { unsigned_abs divisor ∣ unsigned_abs x }
+    ensures value { x ≡ divisor *ℤ result }
+    ensures in_range { InRange result }
+{
+    if divisor == 1 {
+        return x;
+    }
+    if both_narrow(x, divisor) {
+        return i128::from(x as i64 / divisor as i64);
+    }
+    x / divisor
+}
+
 /// The greatest common divisor of the entries, and 0 where all are 0.
 fn content(row: &[i128]) -> u128
     requires { AllInRange row.now }
@@ -78,7 +96,8 @@ fn word_gcd(a: u64, b: u64) -> u64
     x
 }
 
-/// The greatest common divisor of numbers of two words, by Euclid's algorithm. That of 0 and 0 is 0.
+/// The greatest common divisor of numbers of two words, by Euclid's algorithm. That of 0 and 0 is
+/// 0.
 fn wide_gcd(a: u128, b: u128) -> u128
     ensures { IsGcd a b result }
 {
@@ -103,19 +122,4 @@ fn divide_all(row: &mut [i128], divisor: i128)
     for j in 0..row.len() {
         row[j] = quotient(row[j], divisor);
     }
-}
-
-/// An exact quotient.
-#[inline]
-fn quotient(x: i128, divisor: i128) -> i128
-    requires in_range { InRange x }
-    requires positive { pos 0 <ℤ divisor }
-    requires divides { unsigned_abs divisor ∣ unsigned_abs x }
-    ensures value { x ≡ divisor *ℤ result }
-    ensures in_range { InRange result }
-{
-    if both_narrow(x, divisor) {
-        return i128::from(x as i64 / divisor as i64);
-    }
-    x / divisor
 }

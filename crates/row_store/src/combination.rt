@@ -1,27 +1,14 @@
 //! The combination of two vectors that is 0 on a row, from their values on it.
 ghost use Rattle.std.specs.Prelude.{◌≡◌, ◌≢◌, ℕ, ◌+◌, ◌^◌, ◌<◌, length, pos, neg_ℤ};
 ghost use Rattle.std.specs.Prelude.{◌<ℤ◌, ◌*ℤ◌, unsigned_abs, MatchResult, OnOk};
-ghost use Prim.Native.Nat.{◌∣◌};
 ghost use Rattle.std.specs.Int.{IsGcd};
 ghost use Rattle.row_core.specs.Vectors.{scale};
 ghost use Rattle.row_core.specs.Range.{InRange, AllInRange};
 ghost use Rattle.row_core.specs.Signs.{sign};
 ghost use Rattle.row_core.specs.Combinations.{AreFactors, CombinationLeaves, IsCombined};
 
-use row_core::{Steps, combine_into, gcd, make_primitive};
+use row_core::{Steps, combine_into, gcd, make_primitive, quotient};
 use std::sync::ledger::Ledger;
-
-/// An exact quotient.
-#[inline]
-fn quotient(x: i128, divisor: i128) -> i128
-    requires in_range { InRange x }
-    requires positive { pos 0 <ℤ divisor }
-    requires divides { unsigned_abs divisor ∣ unsigned_abs x }
-    ensures value { x ≡ divisor *ℤ result }
-    ensures in_range { InRange result }
-{
-    x / divisor
-}
 
 /// The number with the other sign.
 #[inline]
@@ -43,7 +30,11 @@ fn divisor_of(u: i128, v: i128) -> i128
     ensures greatest { IsGcd (unsigned_abs u) (unsigned_abs v) (unsigned_abs result) }
     ensures in_range { InRange result }
 {
-    gcd(u.unsigned_abs(), v.unsigned_abs()) as i128
+    let (first, second) = (u.unsigned_abs(), v.unsigned_abs());
+    if first == 1 || second == 1 {
+        return 1;
+    }
+    gcd(first, second) as i128
 }
 
 /// The factors of the second and of the first of two vectors with the values `u` and `v` on a row,

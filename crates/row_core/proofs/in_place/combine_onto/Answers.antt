@@ -19,12 +19,18 @@ returns-then-rows_narrow-clause-combined g c =
     let t = to_z-of_z w128 c.args.t c.ranges.t in
     (rw (s, t) at c.narrow_onto.ensures.combined, rw (s, t) at c.narrow_onto.ensures.stays)
 
-pub returns-in_err-check_combination-clause-combined : goal.returns-in_err-check_combination-clause-combined
+pub returns-in_err-check_combination-clause-combined :
+    goal.returns-in_err-check_combination-clause-combined
 returns-in_err-check_combination-clause-combined g c =
     let p = err_from_is_err_and c.from_residual.result c.from_residual.ensures.1 in
-    rw (p.1, p.2) (refl, rw (to_z-of_z w128 c.args.s c.ranges.s, to_z-of_z w128 c.args.t c.ranges.t) at c.in_err-check_combination.ensures)
+    rw (p.1, p.2) (
+      refl,
+      rw (to_z-of_z w128 c.args.s c.ranges.s, to_z-of_z w128 c.args.t c.ranges.t) at
+          c.in_err-check_combination.ensures,
+    )
 
-pub returns-in_err-check_combination-clause-in_range : goal.returns-in_err-check_combination-clause-in_range
+pub returns-in_err-check_combination-clause-in_range :
+    goal.returns-in_err-check_combination-clause-in_range
 returns-in_err-check_combination-clause-in_range g c =
     let p = err_from_is_err_and c.from_residual.result c.from_residual.ensures.1 in
     rw p.1 tt

@@ -14,7 +14,9 @@ returns-in_default-clause-exact c =
     let refused = simp to_z-of_z at c.in_default.ensures in
     record {
       column = c.loop-j-test.true;
-      leaves = λ stays. refused (stays_then c.args.u.now c.args.v.now c.loop-j.j (to_z w128 c.loop-j.total-bits) c.loop-j-test.true c.requires.same_width c.loop-j.invariant.total stays);
+      leaves = λ stays. refused (stays_then c.args.u.now c.args.v.now c.loop-j.j
+          (to_z w128 c.loop-j.total-bits) c.loop-j-test.true c.requires.same_width
+          c.loop-j.invariant.total stays);
       before = c.loop-j.invariant.stay;
     }
 
@@ -24,10 +26,15 @@ loop-j-preserved c =
     let v_fits : SFits w128 (get_or c.args.v.now c.loop-j.j (pos 0)) = search rules in
     let given = simp to_z-of_z at c.in-Some.ensures in
     let next_in_range : InRange c.in-Some.next = subst InRange (sym given.1) given.0.1 in
-    let next_fits : SFits w128 c.in-Some.next = fits_signed_from_abs w128 c.in-Some.next next_in_range.size in
+    let next_fits : SFits w128 c.in-Some.next =
+    fits_signed_from_abs w128 c.in-Some.next next_in_range.size in
     simp to_z-of_z (record {
-      total = given.1 ∙ total_more c.args.u.now c.args.v.now c.loop-j.j (to_z w128 c.loop-j.total-bits) c.loop-j-test.true c.requires.same_width c.loop-j.invariant.total;
+      total = given.1 ∙
+          total_more c.args.u.now c.args.v.now c.loop-j.j (to_z w128 c.loop-j.total-bits)
+          c.loop-j-test.true c.requires.same_width c.loop-j.invariant.total;
       in_range = next_in_range;
       stay = below_more (DotStays c.args.u.now c.args.v.now) c.loop-j.j c.loop-j.invariant.stay
-          (stays_more c.args.u.now c.args.v.now c.loop-j.j (to_z w128 c.loop-j.total-bits) c.loop-j-test.true c.requires.same_width c.loop-j.invariant.total given.0.0 given.0.1);
+          (stays_more c.args.u.now c.args.v.now c.loop-j.j (to_z w128 c.loop-j.total-bits)
+          c.loop-j-test.true c.requires.same_width c.loop-j.invariant.total given.0.0
+          given.0.1);
     })

@@ -17,12 +17,16 @@ loop-j-preserved c =
     let v_fits : SFits w128 (get_or c.args.v.now c.loop-j.j (pos 0)) = search rules in
     let within : c.loop-j.j < length c.loop-j.dst = omega arith in
     let in_range : InRange c.combined_entry.result = c.combined_entry.ensures.in_range in
-    let result_fits : SFits w128 c.combined_entry.result = fits_signed_from_abs w128 c.combined_entry.result in_range.size in
+    let result_fits : SFits w128 c.combined_entry.result =
+    fits_signed_from_abs w128 c.combined_entry.result in_range.size in
     let value = simp to_z-of_z at c.combined_entry.ensures.value in
     let done = simp to_z-of_z at c.loop-j.invariant.done in
     simp to_z-of_z (record {
-      done = written_more (λ (k : ℕ) (z : ℤ). z ≡ c.args.s *ℤ cell c.args.u.now k +ℤ c.args.t *ℤ cell c.args.v.now k) c.loop-j.dst c.loop-j.j c.combined_entry.result within done value;
-      in_range = written_more (λ (k : ℕ) (z : ℤ). InRange z) c.loop-j.dst c.loop-j.j c.combined_entry.result within c.loop-j.invariant.in_range in_range;
+      done = written_more (λ (k : ℕ) (z : ℤ). z ≡ c.args.s *ℤ cell c.args.u.now
+          k +ℤ c.args.t *ℤ cell c.args.v.now k) c.loop-j.dst c.loop-j.j c.combined_entry.result
+          within done value;
+      in_range = written_more (λ (k : ℕ) (z : ℤ). InRange z) c.loop-j.dst c.loop-j.j
+          c.combined_entry.result within c.loop-j.invariant.in_range in_range;
     })
 
 pub returns-clause-combined : goal.returns-clause-combined
@@ -30,12 +34,14 @@ returns-clause-combined c =
     let s_fits : SFits w128 c.args.s = c.ranges.s in
     let t_fits : SFits w128 c.args.t = c.ranges.t in
     let done = simp to_z-of_z at c.loop-j.invariant.done in
-    combination_from_cells c.loop-j.dst c.args.u.now c.args.v.now c.args.s c.args.t (omega arith) c.requires.same_width.1
+    combination_from_cells c.loop-j.dst c.args.u.now c.args.v.now c.args.s c.args.t (omega arith)
+    c.requires.same_width.1
     (λ k h. done k (omega arith))
 
 pub returns-clause-in_range : goal.returns-clause-in_range
 returns-clause-in_range c =
-    All-from_get_or InRange c.loop-j.dst (pos 0) (λ k h. c.loop-j.invariant.in_range k (omega arith))
+    All-from_get_or InRange c.loop-j.dst (pos 0)
+    (λ k h. c.loop-j.invariant.in_range k (omega arith))
 
 pub combined_entry-requires : goal.combined_entry-requires
 combined_entry-requires c =
@@ -43,4 +49,5 @@ combined_entry-requires c =
     let t_fits : SFits w128 c.args.t = c.ranges.t in
     let u_fits : SFits w128 (get_or c.args.u.now c.loop-j.j (pos 0)) = search rules in
     let v_fits : SFits w128 (get_or c.args.v.now c.loop-j.j (pos 0)) = search rules in
-    simp to_z-of_z (c.requires.stays c.loop-j.j (omega (arith, c.loop-j-test.true, c.requires.same_width)))
+    simp to_z-of_z (c.requires.stays c.loop-j.j
+    (omega (arith, c.loop-j-test.true, c.requires.same_width)))

@@ -8,6 +8,13 @@ pub returns-clause-cells : goal.returns-clause-cells
 returns-clause-cells c =
     let held = c.append_row.new.cells in
     let new : List ℤ = c.make_rest_primitive.new.cells in
-    let full : length new ≡ held.len = omega (arith, held.ok.0, ap length c.as_mut_slice.ensures.value, c.make_rest_primitive.auto.cells) in
+    let full : length new ≡ held.len = omega (
+      arith,
+      held.ok.0,
+      ap length c.as_mut_slice.ensures.value,
+      c.make_rest_primitive.auto.cells,
+    ) in
     rw (take_at new (drop (length new) held.items) held.len full)
-    (primitive_appended c.args.cells.now.items c.args.row.now c.as_mut_slice.result.now new c.len-start.result (c.as_mut_slice.ensures.value ∙ c.append_row.ensures.items) (omega (arith, c.len-start.ensures, c.args.cells.now.ok.0)) c.make_rest_primitive.ensures)
+    (primitive_appended c.args.cells.now.items c.args.row.now c.as_mut_slice.result.now new
+    c.len-start.result (c.as_mut_slice.ensures.value ∙ c.append_row.ensures.items)
+    (omega (arith, c.len-start.ensures, c.args.cells.now.ok.0)) c.make_rest_primitive.ensures)

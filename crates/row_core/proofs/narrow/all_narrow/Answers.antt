@@ -16,11 +16,17 @@ loop-j-preserved c =
     All-more IsNarrow c.args.row.now c.loop-j.j (pos 0) c.loop-j-test.true c.loop-j.invariant here
 
 pub returns : goal.returns
-returns c = ((λ t. subst AllNarrow (take_all c.loop-j.j c.args.row.now (omega arith)) c.loop-j.invariant), (λ all. refl))
+returns c = (
+  (λ t. subst AllNarrow (take_all c.loop-j.j c.args.row.now (omega arith))
+      c.loop-j.invariant),
+  (λ all. refl),
+)
 
 pub returns-then-not-is_narrow : goal.returns-then-not-is_narrow
 returns-then-not-is_narrow c =
     let fits : SFits w128 (get_or c.args.row.now c.loop-j.j (pos 0)) = search rules in
     let narrow = (simp to_z-of_z at c.is_narrow.ensures).1 in
-    let no : c.is_narrow.result ≡ false = search rules in
-    ((λ t. absurd (false≢true t)), (λ all. absurd (false≢true (sym no ∙ narrow (all c.loop-j.j (pos 0) c.loop-j-test.true)))))
+    let no : c.is_narrow.result ≡ false = search rules in (
+      (λ t. absurd (false≢true t)),
+      (λ all. absurd (false≢true (sym no ∙ narrow (all c.loop-j.j (pos 0) c.loop-j-test.true)))),
+    )

@@ -18,27 +18,42 @@ pub returns-then-divisor-eq1-clause-greatest : goal.returns-then-divisor-eq1-cla
 returns-then-divisor-eq1-clause-greatest c d all =
     let fits : SFits w128 (get_or c.args.row.now c.loop-j.j (pos 0)) = search rules in
     let value = simp to_z-of_z at c.unsigned_abs.ensures.value in
-    let is : IsGcd c.loop-j.divisor (unsigned_abs (get_or c.args.row.now c.loop-j.j (pos 0))) c.divisor_with-divisor.result = subst (λ (n : ℕ). IsGcd c.loop-j.divisor n c.divisor_with-divisor.result) value c.divisor_with-divisor.ensures in
+    let is : IsGcd c.loop-j.divisor (unsigned_abs (get_or c.args.row.now c.loop-j.j (pos 0)))
+    c.divisor_with-divisor.result = subst
+    (λ (n : ℕ). IsGcd c.loop-j.divisor n c.divisor_with-divisor.result) value
+    c.divisor_with-divisor.ensures in
     let one : c.divisor_with-divisor.result ≡ 1 = omega arith in
     subst (λ (n : ℕ). d ∣ n) one
-    (greatest_more d c.loop-j.divisor c.divisor_with-divisor.result c.args.row.now c.loop-j.j c.loop-j-test.true (c.loop-j.invariant.greatest d) is (All-take (Divides d) _ c.args.row.now all))
+    (greatest_more d c.loop-j.divisor c.divisor_with-divisor.result c.args.row.now c.loop-j.j
+    c.loop-j-test.true (c.loop-j.invariant.greatest d) is
+    (All-take (Divides d) _ c.args.row.now all))
 
 pub loop-j-preserved : goal.loop-j-preserved
 loop-j-preserved c =
     let fits : SFits w128 (get_or c.args.row.now c.loop-j.j (pos 0)) = search rules in
     let value = simp to_z-of_z at c.unsigned_abs.ensures.value in
-    let is : IsGcd c.loop-j.divisor (unsigned_abs (get_or c.args.row.now c.loop-j.j (pos 0))) c.divisor_with-divisor.result = subst (λ (n : ℕ). IsGcd c.loop-j.divisor n c.divisor_with-divisor.result) value c.divisor_with-divisor.ensures in
-    let entry : InRange (get_or c.args.row.now c.loop-j.j (pos 0)) = All-get_or InRange c.args.row.now c.loop-j.j (pos 0) c.loop-j-test.true c.requires in
+    let is : IsGcd c.loop-j.divisor (unsigned_abs (get_or c.args.row.now c.loop-j.j (pos 0)))
+    c.divisor_with-divisor.result = subst
+    (λ (n : ℕ). IsGcd c.loop-j.divisor n c.divisor_with-divisor.result) value
+    c.divisor_with-divisor.ensures in
+    let entry : InRange (get_or c.args.row.now c.loop-j.j (pos 0)) =
+    All-get_or InRange c.args.row.now c.loop-j.j (pos 0) c.loop-j-test.true c.requires in
     record {
-      divides = DividesAll-more c.loop-j.divisor c.divisor_with-divisor.result c.args.row.now c.loop-j.j c.loop-j-test.true c.loop-j.invariant.divides is;
-      greatest = λ d. greatest_more d c.loop-j.divisor c.divisor_with-divisor.result c.args.row.now c.loop-j.j c.loop-j-test.true (c.loop-j.invariant.greatest d) is;
-      below = gcd_below c.loop-j.divisor (unsigned_abs (get_or c.args.row.now c.loop-j.j (pos 0))) c.divisor_with-divisor.result 170141183460469231731687303715884105728 is c.loop-j.invariant.below entry.size;
+      divides = DividesAll-more c.loop-j.divisor c.divisor_with-divisor.result c.args.row.now
+          c.loop-j.j c.loop-j-test.true c.loop-j.invariant.divides is;
+      greatest = λ d. greatest_more d c.loop-j.divisor c.divisor_with-divisor.result c.args.row.now
+          c.loop-j.j c.loop-j-test.true (c.loop-j.invariant.greatest d) is;
+      below = gcd_below c.loop-j.divisor (unsigned_abs (get_or c.args.row.now c.loop-j.j (pos 0)))
+          c.divisor_with-divisor.result 170141183460469231731687303715884105728 is
+          c.loop-j.invariant.below entry.size;
     }
 
 pub returns-clause-divides : goal.returns-clause-divides
 returns-clause-divides c =
-    subst (DividesAll c.loop-j.divisor) (take_all c.loop-j.j c.args.row.now (omega arith)) c.loop-j.invariant.divides
+    subst (DividesAll c.loop-j.divisor) (take_all c.loop-j.j c.args.row.now (omega arith))
+    c.loop-j.invariant.divides
 
 pub returns-clause-greatest : goal.returns-clause-greatest
 returns-clause-greatest c d all =
-    c.loop-j.invariant.greatest d (subst (DividesAll d) (sym (take_all c.loop-j.j c.args.row.now (omega arith))) all)
+    c.loop-j.invariant.greatest d (subst (DividesAll d)
+    (sym (take_all c.loop-j.j c.args.row.now (omega arith))) all)

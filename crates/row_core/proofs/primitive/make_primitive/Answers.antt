@@ -10,14 +10,18 @@ use Rattle.row_core.proofs.primitive.make_primitive.Goals as goal
 
 pub divide_all-requires-clause-divides : goal.divide_all-requires-clause-divides
 divide_all-requires-clause-divides c =
-    let value : to_z w128 c.content-divisor.result ≡ pos c.content-divisor.result = to_z_pos w128 c.content-divisor.result c.content-divisor.ensures.below in
-    subst (λ (z : ℤ). DividesAll (unsigned_abs z) c.args.row.now) (sym value) c.content-divisor.ensures.divides
+    let value : to_z w128 c.content-divisor.result ≡ pos c.content-divisor.result =
+    to_z_pos w128 c.content-divisor.result c.content-divisor.ensures.below in
+    subst (λ (z : ℤ). DividesAll (unsigned_abs z) c.args.row.now) (sym value)
+    c.content-divisor.ensures.divides
 
 pub returns-then-divisor-gt1-clause-primitive : goal.returns-then-divisor-gt1-clause-primitive
 returns-then-divisor-gt1-clause-primitive c =
-    let value : to_z w128 c.content-divisor.result ≡ pos c.content-divisor.result = to_z_pos w128 c.content-divisor.result c.content-divisor.ensures.below in
+    let value : to_z w128 c.content-divisor.result ≡ pos c.content-divisor.result =
+    to_z_pos w128 c.content-divisor.result c.content-divisor.ensures.below in
     primitive_quotient c.args.row.now c.divide_all.new.row c.content-divisor.result (omega arith)
-    (subst (λ (z : ℤ). c.args.row.now ≡ scale z c.divide_all.new.row) value c.divide_all.ensures.multiple)
+    (subst (λ (z : ℤ). c.args.row.now ≡ scale z c.divide_all.new.row) value
+    c.divide_all.ensures.multiple)
     c.content-divisor.ensures.greatest
 
 pub returns-else-divisor-gt1-clause-multiple : goal.returns-else-divisor-gt1-clause-multiple
@@ -25,4 +29,5 @@ returns-else-divisor-gt1-clause-multiple c = IsMultipleOf-refl c.args.row.now
 
 pub returns-else-divisor-gt1-clause-primitive : goal.returns-else-divisor-gt1-clause-primitive
 returns-else-divisor-gt1-clause-primitive c =
-    primitive_as_it_is c.args.row.now c.content-divisor.result (omega arith) c.content-divisor.ensures.divides c.content-divisor.ensures.greatest
+    primitive_as_it_is c.args.row.now c.content-divisor.result (omega arith)
+    c.content-divisor.ensures.divides c.content-divisor.ensures.greatest

@@ -1,9 +1,10 @@
 use Rattle.std.specs.Prelude.{◌≡◌, ◌<◌, ◌^◌, ℕ, pos, ℤ, ◌<ℤ◌, unsigned_abs}
 use Rattle.std.specs.Int.{IsGcd, w128}
-use Rattle.std.proofs.Common.{arith, sym, ap, subst, ◌∙◌}
+use Rattle.std.proofs.Common.{arith, sym, ap, subst, inl, inr, ◌∙◌}
 use Rattle.std.proofs.lemmas.Int.{ints, fits_signed_from_abs}
+use Rattle.std.proofs.lemmas.Nat.Gcd.{IsGcd-swap}
 use Rattle.row_core.specs.Range.{InRange}
-use Rattle.row_core.proofs.ContentLemmas.{gcd_below}
+use Rattle.row_core.proofs.ContentLemmas.{gcd_below, IsGcd-one}
 use Rattle.row_store.proofs.FactorLemmas.{gcd_positive}
 use Rattle.row_core.proofs.Magnitudes.{magnitude_above, back, back_pos}
 use Rattle.row_store.proofs.combination.divisor_of.Goals as goal
@@ -11,10 +12,10 @@ use Rattle.row_store.proofs.combination.divisor_of.Goals as goal
 -- the divisor of the two magnitudes
 divisor : (c : goal.After-gcd) → IsGcd (unsigned_abs c.args.u) (unsigned_abs c.args.v) c.gcd.result
 divisor c =
-    let first : c.unsigned_abs.result ≡ unsigned_abs c.args.u = c.unsigned_abs.ensures.value ∙ ap unsigned_abs (back c.args.u c.requires.first_in_range) in
-    let second : c.unsigned_abs-2.result ≡ unsigned_abs c.args.v = c.unsigned_abs-2.ensures.value ∙ ap unsigned_abs (back c.args.v c.requires.second_in_range) in
+    let first : c.unsigned_abs-first.result ≡ unsigned_abs c.args.u = c.unsigned_abs-first.ensures.value ∙ ap unsigned_abs (back c.args.u c.requires.first_in_range) in
+    let second : c.unsigned_abs-second.result ≡ unsigned_abs c.args.v = c.unsigned_abs-second.ensures.value ∙ ap unsigned_abs (back c.args.v c.requires.second_in_range) in
     let P : ℕ → Type 0 = λ n. IsGcd n (unsigned_abs c.args.v) c.gcd.result in
-    let Q : ℕ → Type 0 = λ n. IsGcd c.unsigned_abs.result n c.gcd.result in
+    let Q : ℕ → Type 0 = λ n. IsGcd c.unsigned_abs-first.result n c.gcd.result in
     subst P first (subst Q second c.gcd.ensures)
 
 below : (c : goal.After-gcd) → c.gcd.result < 2 ^ 127
@@ -34,3 +35,12 @@ returns-clause-greatest c =
 
 pub returns-clause-in_range : goal.returns-clause-in_range
 returns-clause-in_range c = subst InRange (sym (back_pos c.gcd.result (below c))) (record { size = below c })
+
+pub returns-then-first-eq1-clause-greatest : goal.returns-then-first-eq1-clause-greatest
+returns-then-first-eq1-clause-greatest c =
+    let first = c.unsigned_abs-first.ensures.value ∙ ap unsigned_abs (back c.args.u c.requires.first_in_range) in
+    let second = c.unsigned_abs-second.ensures.value ∙ ap unsigned_abs (back c.args.v c.requires.second_in_range) in
+    elim c.then-first-eq1.either [
+      | inl one ↦ IsGcd-one (unsigned_abs c.args.u) (unsigned_abs c.args.v) (sym first ∙ one)
+      | inr other ↦ IsGcd-swap (unsigned_abs c.args.v) (unsigned_abs c.args.u) 1 (IsGcd-one (unsigned_abs c.args.v) (unsigned_abs c.args.u) (sym second ∙ other.1))
+    ]

@@ -8,4 +8,5 @@ pub returns-clause-same : goal.returns-clause-same
 returns-clause-same c =
     subst (λ (v : List ℤ). Decides c.eq.result (v ≡ c.args.other.now)) c.self.view_is
     (subst (λ (w : List ℤ). Decides c.eq.result (c.self.inside.entries.items ≡ w)) c.other.view_is
-    (slice_eq-Decides signed_Decides c.self.inside.entries.items c.other.inside.entries.items c.eq.result c.eq.ensures))
+    (slice_eq-Decides signed_Decides c.self.inside.entries.items c.other.inside.entries.items
+    c.eq.result c.eq.ensures))

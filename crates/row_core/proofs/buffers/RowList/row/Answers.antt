@@ -5,8 +5,10 @@ use Rattle.row_core.proofs.buffers.RowList.row.Goals as goal
 
 pub returns-clause-wide : goal.returns-clause-wide
 returns-clause-wide c =
-    (IsRow-row_at c.args.self.now c.args.i (subst FitWidth c.self.view_is c.self.invariant) c.requires).wide
+    (IsRow-row_at c.args.self.now c.args.i (subst FitWidth c.self.view_is c.self.invariant)
+    c.requires).wide
 
 pub returns-clause-in_range : goal.returns-clause-in_range
 returns-clause-in_range c =
-    (IsRow-row_at c.args.self.now c.args.i (subst FitWidth c.self.view_is c.self.invariant) c.requires).in_range
+    (IsRow-row_at c.args.self.now c.args.i (subst FitWidth c.self.view_is c.self.invariant)
+    c.requires).in_range
