@@ -17,14 +17,16 @@ pub record Upto (width : ℕ) (rows : List Row) (k : ℕ) (v : List ℤ) : Type 
 abbrev pub negated : List ℤ → List ℤ
 negated v = scale (neg_ℤ (pos 1)) v
 
--- a positive multiple of the vector is a sum of multiplied lines and of rays with factors of at least 0
+-- a positive multiple of the vector is a sum of multiplied lines
+-- and of rays with factors of at least 0
 pub record Spans (lines rays : List (List ℤ)) (v : List ℤ) : Type 0 where
   pub times : ℤ
   pub positive : pos 0 <ℤ times
   pub line_factors : List ℤ
   pub ray_factors : List ℤ
   pub at_least_zero : All (λ k. pos 0 ≤ℤ k) ray_factors
-  pub sum : (j : ℕ) → times *ℤ cell v j ≡ combined line_factors lines j +ℤ combined ray_factors rays j
+  pub sum : (j : ℕ) →
+      times *ℤ cell v j ≡ combined line_factors lines j +ℤ combined ray_factors rays j
 
 -- each line, each negated line and each ray is in the set, and each vector of the set is spanned
 pub record Generates (C : List ℤ → Type 0) (lines rays : List (List ℤ)) : Type 0 where

@@ -12,7 +12,8 @@ pub fn face_of_ray()
     ensures { FaceOfRay }
 {}
 
-/// Each ray is 0 on some row on which a given vector of the cone is positive, or that vector is a multiple of the ray but for the lines.
+/// Each ray is 0 on some row on which a given vector of the cone is positive,
+/// or that vector is a multiple of the ray but for the lines.
 pub fn ray_touches()
     ensures { RayTouches }
 {}

@@ -1,4 +1,5 @@
-//! Cones of rows, what lines and rays span, and the laws of the canonical system; a cone, the rows that are valid on it, and the canonical systems of both.
+//! Cones of rows, what lines and rays span, and the laws of the canonical system;
+//! a cone, the rows that are valid on it, and the canonical systems of both.
 #![tactic(auto)]
 
 pub mod adjacency;

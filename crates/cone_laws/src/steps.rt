@@ -1,4 +1,5 @@
-//! Laws of what lines and rays span, and of the steps of the double description method (Motzkin, Raiffa, Thompson and Thrall, 1953; Chernikova, 1964).
+//! Laws of what lines and rays span, and of the steps of the double description method (Motzkin,
+//! Raiffa, Thompson and Thrall, 1953; Chernikova, 1964).
 
 ghost use Rattle.cone_laws.specs.StepLaws.{AtLeastZeroOnSpanned, DotOfMultiple, DotOfSum, LineStepGenerates, MultipleIsSpanned, SpansOfSpanned, SumIsSpanned, UnitsGenerate};
 
@@ -8,7 +9,8 @@ pub fn dot_is_linear()
     ensures multiple { DotOfMultiple }
 {}
 
-/// Sums, multiples and what spanned vectors span are spanned, and a row that is at least 0 on the system is so on all that it spans.
+/// Sums, multiples and what spanned vectors span are spanned,
+/// and a row that is at least 0 on the system is so on all that it spans.
 pub fn spanning_is_closed()
     ensures sum { SumIsSpanned }
     ensures multiple { MultipleIsSpanned }

@@ -1,4 +1,5 @@
-//! Laws of the canonical system: it is unique, and it doesn't depend on the order in which its rays are found.
+//! Laws of the canonical system:
+//! it is unique, and it doesn't depend on the order in which its rays are found.
 
 ghost use Rattle.cone_laws.specs.UniqueLaws.{SystemIsUnique, CanonIsUnique, OrderIsLexicographic, OrderKeepsSystem, SortedSystemIsCanon};
 

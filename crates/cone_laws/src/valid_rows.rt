@@ -7,7 +7,8 @@ pub fn list_of_system()
     ensures { ListOfSystem }
 {}
 
-/// A row is at least 0 on a cone exactly where it is 0 on the lines and at least 0 on the rays that generate the cone.
+/// A row is at least 0 on a cone exactly where it is 0 on the lines and at least 0
+/// on the rays that generate the cone.
 pub fn valid_is_dual()
     ensures { ValidIsDual }
 {}
@@ -22,7 +23,8 @@ pub fn spanned_by_the_list()
     ensures { SpannedByTheList }
 {}
 
-/// The canonical system of a list and the canonical system of its valid rows are each that of what the other admits.
+/// The canonical system of a list and the canonical system of its valid rows
+/// are each that of what the other admits.
 pub fn systems_are_dual()
     ensures { SystemsAreDual }
 {}

@@ -5,7 +5,6 @@ ghost use Rattle.row_core.specs.Range.{AllInRange};
 ghost use Rattle.row_core.specs.Content.{IsPrimitive};
 ghost use Rattle.row_core.specs.Lists.{vectors};
 ghost use Rattle.cone_laws.specs.Canon.{IsPivot, IsEchelon};
-ghost use Rattle.row_core.specs.Combinations.{CombinationLeaves};
 ghost use Rattle.minimise.specs.Bases.{IsCleared, IsLeading, IsReduced};
 ghost use Rattle.minimise.specs.Faults.{IsCombineFault, IsReduceFault};
 
@@ -47,35 +46,7 @@ pub(crate) fn zeros(alloc: Global, width: usize) -> Result<Vec<i128>, Memory>
 ///
 /// # Errors
 ///
-/// The first column at which a product or the sum leaves the range. The row is then as before.
-pub(crate) fn clear_at<L: Ledger>(
-    row: &mut [i128],
-    scratch: &mut [i128],
-    line: &[i128],
-    pivot: usize,
-    steps: &mut Steps<L>,
-) -> Result<(), u32>
-    requires same_width { (length row.old ≡ length line.now)
-        × (length scratch.old ≡ length line.now) }
-    requires narrow { length line.now < 2 ^ 32 }
-    requires row { AllInRange row.old × IsPrimitive row.old }
-    requires line { AllInRange line.now × IsPivot line.now pivot }
-    ensures counted { (steps.old ≤ steps.new) × (steps.new ≤ steps.old + 1) }
-    ensures widths { (length row.new ≡ length row.old) × (length scratch.new ≡ length scratch.old) }
-    ensures cleared { MatchResult result (λ _. IsCleared pivot line.now row.old row.new)
-        (λ column. (row.new ≡ row.old)
-        × CombinationLeaves (cell line.now pivot) (cell row.old pivot) line.now row.old column) }
-    ensures in_range { AllInRange row.new }
-{
-    if row[pivot] == 0 {
-        return Ok(());
-    }
-    combine(scratch, line, line[pivot], row, row[pivot], steps)?;
-    row.copy_from_slice(scratch);
-    Ok(())
-}
-
-/// Clears the row as [`clear_at`] does, and shows the combination where it leaves the range.
+/// The combination, where it leaves the range.
 pub(crate) fn clear<L: Ledger>(
     alloc: Global,
     row: &mut [i128],
@@ -95,10 +66,14 @@ pub(crate) fn clear<L: Ledger>(
         (IsCombineFault pivot line.now row.old) }
     ensures in_range { AllInRange row.new }
 {
-    match clear_at(row, scratch, line, pivot, steps) {
-        Ok(()) => Ok(()),
-        Err(column) => Err(left_of(alloc, line, row, column)?),
+    if row[pivot] == 0 {
+        return Ok(());
     }
+    if let Err(column) = combine(scratch, line, line[pivot], row, row[pivot], steps) {
+        return Err(left_of(alloc, line, row, column)?);
+    }
+    row.copy_from_slice(scratch);
+    Ok(())
 }
 
 /// A primitive row, 0 at the pivots of the lines: a positive multiple of the row and multiples of

@@ -107,23 +107,10 @@ impl Near {
         };
         let rows = search.zeros.words();
         unite(rows, search.outer, from, to, &mut self.union)?;
-        push_sharing(
-            rows,
-            &self.union,
-            search.inner,
-            least,
-            &mut self.inner,
-            level.inner,
-        )?;
+        let (union, inner, rays) = (&self.union, &mut self.inner, &mut self.rays);
+        push_sharing(rows, union, search.inner, least, inner, level.inner)?;
         if next.whole {
-            push_sharing(
-                rows,
-                &self.union,
-                &self.all,
-                least,
-                &mut self.rays,
-                level.rays,
-            )?;
+            push_sharing(rows, union, &self.all, least, rays, level.rays)?;
         }
         Ok(next)
     }

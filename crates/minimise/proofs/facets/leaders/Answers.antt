@@ -26,3 +26,17 @@ loop-index-preserved c =
           (λ x. subst (λ (row : CountedRow). IsLedBy c.args.table.now.rows c.push_leader.new.places.items row.place) (get_or_default ranked index first x c.loop-index-test.true) c.in_ok-push_leader.ensures.led) j h d;
       fewer = omega (arith, inv.fewer, c.in_ok-push_leader.ensures.at_most_one);
     }
+
+pub push_leader-requires-clause-row : goal.push_leader-requires-clause-row
+push_leader-requires-clause-row c =
+    let first : CountedRow = record { ones = 0; place = 0 } in
+    (c.requires.counted c.loop-index.index first c.loop-index-test.true).0
+
+pub push_leader-requires-clause-no_longer : goal.push_leader-requires-clause-no_longer
+push_leader-requires-clause-no_longer c =
+    let index = c.loop-index.index in
+    let first : CountedRow = record { ones = 0; place = 0 } in
+    λ k d h. omega (arith, c.loop-index.invariant.longer k d h index first (omega arith) c.loop-index-test.true, (c.requires.counted index first c.loop-index-test.true).1)
+
+pub returns-clause-led : goal.returns-clause-led
+returns-clause-led c = λ k d h. c.loop-index.invariant.led k d (omega (arith, h, c.loop-index-test.false))

@@ -1,18 +1,64 @@
-use Rattle.std.proofs.Common.{List, ℤ, refl, sym, arith, subst}
-use Rattle.row_core.specs.Vectors.{cell}
-use Rattle.row_core.specs.Combinations.{CombinationLeaves}
-use Rattle.minimise.specs.Faults.{IsCombineFault}
-use Rattle.minimise.specs.declared.fault.Fault.{Fault}
+use Rattle.std.specs.Prelude.{◌<◌, List, ℤ, pos, length}
+use Rattle.std.specs.Int.{w128}
+use Rattle.std.proofs.Common.{sym, subst, get_or, arith, ap, ◌∙◌}
+use Rattle.std.proofs.lemmas.Int.{to_z-of_z}
+use Rattle.std.proofs.lemmas.List.Elements.{All-get_or}
+use Rattle.std.proofs.lemmas.Grind.{common_steps}
+use mir.Val.{SFits, to_z}
+use Rattle.row_core.specs.Range.{InRange}
+use Rattle.row_core.proofs.SignTests.{fits}
+use Rattle.minimise.specs.Bases.{IsCleared}
+use Rattle.minimise.proofs.ClearedRows.{cleared_zero, cleared_from_combined}
+use Rattle.minimise.proofs.NarrowBases.{pivot_below}
 use Rattle.minimise.proofs.reduction.clear.Goals as goal
 
-pub left_of-requires-clause-right : goal.left_of-requires-clause-right
-left_of-requires-clause-right g c = (c.in-Err.ensures.in_range, omega (arith, c.in-Err.ensures.widths.0, c.requires.same_width.0, c.requires.narrow))
+pub returns-then-row-pivot-eq0-clause-cleared : goal.returns-then-row-pivot-eq0-clause-cleared
+returns-then-row-pivot-eq0-clause-cleared g c =
+    let line = c.args.line.now in
+    let row = c.args.row.now in
+    let below : c.args.pivot < length c.args.line.now = pivot_below line c.args.pivot c.requires.line.1 in
+    let row_fits : SFits w128 (get_or c.args.row.now c.args.pivot (pos 0)) = fits (get_or row c.args.pivot (pos 0)) (All-get_or InRange row c.args.pivot (pos 0) (omega (arith, below, c.requires.same_width.0)) c.requires.row.0) in
+    cleared_zero c.args.pivot line row c.requires.line.1.positive (sym (to_z-of_z w128 _ row_fits) ∙ ap (λ n. to_z w128 n) c.if-row-pivot-eq0.true) c.requires.row.1
 
-pub returns-in_ok-left_of-in-Err-clause-cleared : goal.returns-in_ok-left_of-in-Err-clause-cleared
-returns-in_ok-left_of-in-Err-clause-cleared g c =
-    subst (λ (fault : Fault). IsCombineFault c.args.pivot c.args.line.now c.args.row.now fault) (sym c.in_ok-left_of-in-Err.ensures)
-    (record {
-      left_is = refl;
-      right_is = c.in-Err.ensures.cleared.0;
-      leaves = subst (λ (v : List ℤ). CombinationLeaves (cell c.args.line.now c.args.pivot) (cell v c.args.pivot) c.args.line.now v c.in-Err.column) (sym c.in-Err.ensures.cleared.0) c.in-Err.ensures.cleared.1;
-    })
+pub bounds-line-pivot : goal.bounds-line-pivot
+bounds-line-pivot g c = pivot_below c.args.line.now c.args.pivot c.requires.line.1
+
+pub bounds-row-pivot : goal.bounds-row-pivot
+bounds-row-pivot g c = omega (arith, pivot_below c.args.line.now c.args.pivot c.requires.line.1, c.requires.same_width.0)
+
+pub offset_bounds-row-pivot : goal.offset_bounds-row-pivot
+offset_bounds-row-pivot g c = omega (arith, pivot_below c.args.line.now c.args.pivot c.requires.line.1, c.requires.narrow)
+
+pub offset_bounds-line-pivot : goal.offset_bounds-line-pivot
+offset_bounds-line-pivot g c = omega (arith, pivot_below c.args.line.now c.args.pivot c.requires.line.1, c.requires.narrow)
+
+pub returns-clause-cleared : goal.returns-clause-cleared
+returns-clause-cleared g c =
+    let line = c.args.line.now in
+    let row = c.args.row.now in
+    let below : c.args.pivot < length c.args.line.now = pivot_below line c.args.pivot c.requires.line.1 in
+    let line_fits : SFits w128 (get_or c.args.line.now c.args.pivot (pos 0)) = fits (get_or line c.args.pivot (pos 0)) (All-get_or InRange line c.args.pivot (pos 0) below c.requires.line.0) in
+    let row_fits : SFits w128 (get_or c.args.row.now c.args.pivot (pos 0)) = fits (get_or row c.args.pivot (pos 0)) (All-get_or InRange row c.args.pivot (pos 0) (omega (arith, below, c.requires.same_width.0)) c.requires.row.0) in
+    let combined = simp to_z-of_z at c.in_default.ensures.combined in
+    subst (λ (r : List ℤ). IsCleared c.args.pivot c.args.line.now c.args.row.now r) (sym c.copy_from_slice.ensures.after) (cleared_from_combined c.args.pivot line row c.combine.new.dst c.requires.line.1.positive combined)
+
+pub copy_from_slice-requires : goal.copy_from_slice-requires
+copy_from_slice-requires g c = c.requires.same_width.0 ∙ sym (c.combine.ensures.width ∙ c.requires.same_width.1)
+
+pub combine-requires-clause-same_width : goal.combine-requires-clause-same_width
+combine-requires-clause-same_width g c = grind (arith, common_steps)
+
+pub combine-requires-clause-narrow : goal.combine-requires-clause-narrow
+combine-requires-clause-narrow g c = grind (arith, common_steps)
+
+pub combine-requires-clause-first_in_range : goal.combine-requires-clause-first_in_range
+combine-requires-clause-first_in_range g c = grind (arith, common_steps)
+
+pub combine-requires-clause-second_in_range : goal.combine-requires-clause-second_in_range
+combine-requires-clause-second_in_range g c = grind (arith, common_steps)
+
+pub combine-requires-clause-nonzero : goal.combine-requires-clause-nonzero
+combine-requires-clause-nonzero g c = grind (arith, common_steps)
+
+pub returns-clause-in_range : goal.returns-clause-in_range
+returns-clause-in_range g c = grind (arith, common_steps)

@@ -1,7 +1,8 @@
-use Rattle.std.specs.Prelude.{◌≡◌, ℕ, List, true, length}
+use Rattle.std.specs.Prelude.{◌≡◌, ℕ, List, true, length, take}
 use Rattle.std.specs.List.{range_with_len}
-use Rattle.std.proofs.Common.{sym, ap, ◌∙◌, subst, arith}
+use Rattle.std.proofs.Common.{refl, sym, ap, ◌∙◌, subst, arith}
 use Rattle.std.proofs.lemmas.Bool.{false≢true}
+use Rattle.std.proofs.lemmas.List.{take_all}
 use Rattle.sat_matrix.specs.Near.{AreRisingFrom, IsNear, HasKept, SharesWords}
 use Rattle.sat_matrix.proofs.Unions.{shared_fits, in_words}
 use Rattle.sat_matrix.proofs.KeptPositions.{no_shorter}
@@ -86,3 +87,23 @@ returns-else-next-clause-near c =
           (subst K c.deref.ensures.value c.in_ok-push_sharing.ensures));
       near_rays = λ t. absurd (false≢true (sym c.if-next.false ∙ t));
     }
+
+pub returns-in_ok-push_sharing-2-clause-begun : goal.returns-in_ok-push_sharing-2-clause-begun
+returns-in_ok-push_sharing-2-clause-begun c = record {
+  all = refl;
+  inner = subst (λ (n : ℕ). take n c.push_sharing.new.list.items ≡ c.args.self.now.inner.items) (let e : length c.args.self.now.inner.items ≡ c.len.result = omega (arith, c.len.ensures) in e) c.in_ok-push_sharing.ensures.before;
+  rays = subst (λ (n : ℕ). take n c.push_sharing-then-next.new.list.items ≡ c.args.self.now.rays.items) (let e : length c.args.self.now.rays.items ≡ c.len-2.result = omega (arith, c.len-2.ensures) in e) c.in_ok-push_sharing-2.ensures.before;
+}
+
+pub returns-else-next-clause-begun : goal.returns-else-next-clause-begun
+returns-else-next-clause-begun c = record {
+  all = refl;
+  inner = subst (λ (n : ℕ). take n c.push_sharing.new.list.items ≡ c.args.self.now.inner.items) (let e : length c.args.self.now.inner.items ≡ c.len.result = omega (arith, c.len.ensures) in e) c.in_ok-push_sharing.ensures.before;
+  rays = take_all c.len-2.result c.args.self.now.rays.items (omega (arith, c.len-2.ensures));
+}
+
+pub is_whole_at-requires-clause-to : goal.is_whole_at-requires-clause-to
+is_whole_at-requires-clause-to c = c.requires.to.1
+
+pub unite-requires-clause-to : goal.unite-requires-clause-to
+unite-requires-clause-to c = c.requires.to
