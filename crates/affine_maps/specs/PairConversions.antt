@@ -6,10 +6,11 @@ use Rattle.row_core.specs.declared.errors.Memory.{Memory}
 use Rattle.cons_sys.specs.Constraints.{Constraints}
 use Rattle.gens_sys.specs.Generators.{Generators}
 use Rattle.poly_pair.specs.Polyhedra.{Polyhedron}
-use Rattle.poly_pair.specs.Work.{cons_work, gens_work, conv_overflow, overflow_in, IsConversion, ConvertsPair, IsPairOrList}
+use Rattle.poly_pair.specs.Work.{cons_work, gens_work, conv_overflow, overflow_in, IsConversion, ConvertsPair}
 use Rattle.mapped_systems.specs.Maps.{substituted, pulled_back}
 use Rattle.mapped_systems.specs.MappedLists.{IsMappedSystem, IsPulledSystem}
 use Rattle.mapped_systems.specs.CarriedSystems.{IsInverseRow}
+use Rattle.mapped_systems.specs.TriedPairs.{AfterPair}
 use Rattle.mapped_systems.specs.Refusals.{SomeLeavesInImage, SomeLeavesInPullback}
 use Rattle.affine_maps.specs.CarriedPairs.{CanBeCarried, LeavesInTurned, LeavesInMapped}
 
@@ -60,38 +61,20 @@ CarriesImage var expr den p old new result = IsCarriedImage var expr den p old n
     ⊎ (IsPullback p old new × IsErr result)
 
 -- ---- the image
--- the pair of the turned constraints, and the list of the mapped generators after an overflow
-pub record IsTurnedPairOrList (var : ℕ) (row : List ℤ) (size : ℤ) (p : Polyhedron) (gs : Generators)
-    (old new : ℕ) (over : Option Overflow) : Type 0 where
-  pub system : Constraints
-  pub pulled : IsPulledSystem (pulled_back var row size) p.cons.dim p.cons system
-  pub conversion : IsPairOrList system (gens_work p.topology gs) old new over
-
--- or their list at once where some constraint's map leaves the range
-pub record IsCarriedOrConverted (var : ℕ) (expr : List ℤ) (den : ℤ) (p : Polyhedron)
-    (gs : Generators) (old new : ℕ) (over : Option Overflow) : Type 0 where
-  pub can : CanBeCarried p (cell expr var)
-  pub row : List ℤ
-  pub inverse : IsInverseRow var expr den row (inverse_size var expr)
-  pub between : ℕ
-  pub pullback : IsPullback p old between
-  pub conversion : IsTurnedPairOrList var row (inverse_size var expr) p gs between new over
-      ⊎ (LeavesInTurned var row (inverse_size var expr) p
-      × IsConversion (gens_work p.topology gs) between new over)
-
--- of a set that can't be carried their list
+-- its pair is tried, and after that the list of the mapped generators
 pub record IsImageConversion (var : ℕ) (expr : List ℤ) (den : ℤ) (p : Polyhedron) (old new : ℕ)
     (over : Option Overflow) : Type 0 where
   pub system : Generators
   pub mapped : IsMappedSystem (substituted var expr den) p.cons.dim p.gens system
-  pub conversion : IsCarriedOrConverted var expr den p system old new over
-      ⊎ ((¬ (CanBeCarried p (cell expr var)))
-      × IsConversion (gens_work p.topology system) old new over)
+  pub pair : Result (Option Polyhedron) Memory
+  pub between : ℕ
+  pub tried : CarriesImage var expr den p old between pair
+  pub after : AfterPair (IsConversion (gens_work p.topology system)) pair between new over
 
--- nothing was converted: memory ran out before, or some generator's map leaves the range
+-- nothing was tried: memory ran out before, or some generator's map leaves the range
 pub record IsMappedInVain (var : ℕ) (expr : List ℤ) (den : ℤ) (p : Polyhedron) (old new : ℕ)
     (over : Option Overflow) : Type 0 where
-  pub pullback : IsPullback p old new
+  pub same : new ≡ old
   pub leaves : IfSome over (SomeLeavesInImage var expr den p.gens.list)
 
 abbrev pub ConvertsImage : ℕ → List ℤ → ℤ → Polyhedron → ℕ → ℕ → Result Polyhedron ConvErr → Type 0
@@ -118,28 +101,19 @@ CarriesPreimage var expr den p cs old new result =
     ⊎ ((new ≡ old) × IsErr result)
 
 -- ---- the preimage
--- the pair of the mapped constraints, and their list after an overflow, or at once where some generator's map leaves the range
-pub record IsPairOrConverted (var : ℕ) (expr : List ℤ) (den : ℤ) (p : Polyhedron) (cs : Constraints)
-    (old new : ℕ) (over : Option Overflow) : Type 0 where
-  pub can : CanBeCarried p (cell expr var)
-  pub row : List ℤ
-  pub inverse : IsInverseRow var expr den row (inverse_size var expr)
-  pub conversion : IsPairOrList cs (cons_work p.topology cs) old new over
-      ⊎ (LeavesInMapped var row (inverse_size var expr) p
-      × IsConversion (cons_work p.topology cs) old new over)
-
--- the constraints are mapped, and then converted so, or their list at once where the set can't be carried
+-- the constraints are mapped, then the pair is tried, and after that their list
 pub record IsPreimageConversion (var : ℕ) (expr : List ℤ) (den : ℤ) (p : Polyhedron) (old new : ℕ)
     (over : Option Overflow) : Type 0 where
-  pub between : ℕ
-  pub pullback : IsPullback p old between
+  pub first : ℕ
+  pub pullback : IsPullback p old first
   pub system : Constraints
   pub pulled : IsPulledSystem (pulled_back var expr den) p.cons.dim p.cons system
-  pub conversion : IsPairOrConverted var expr den p system between new over
-      ⊎ ((¬ (CanBeCarried p (cell expr var)))
-      × IsConversion (cons_work p.topology system) between new over)
+  pub pair : Result (Option Polyhedron) Memory
+  pub second : ℕ
+  pub tried : CarriesPreimage var expr den p system first second pair
+  pub after : AfterPair (IsConversion (cons_work p.topology system)) pair second new over
 
--- nothing was converted: memory ran out before, or some constraint's map leaves the range
+-- nothing was tried: memory ran out before, or some constraint's map leaves the range
 pub record IsPulledInVain (var : ℕ) (expr : List ℤ) (den : ℤ) (p : Polyhedron) (old new : ℕ)
     (over : Option Overflow) : Type 0 where
   pub pullback : IsPullback p old new

@@ -6,9 +6,10 @@ use Rattle.cons_sys.specs.Constraints.{Constraints}
 use Rattle.gens_sys.specs.Generators.{Generators}
 use Rattle.poly_pair.specs.Polyhedra.{Polyhedron}
 use Rattle.poly_pair.specs.Starts.{CanStart}
-use Rattle.poly_pair.specs.Work.{cons_work, gens_work, conv_overflow, overflow_in, IsConversion, ConvertsPair, IsPairOrList}
+use Rattle.poly_pair.specs.Work.{cons_work, gens_work, conv_overflow, overflow_in, IsConversion, ConvertsPair}
 use Rattle.mapped_systems.specs.Maps.{with_zeros}
 use Rattle.mapped_systems.specs.MappedLists.{IsMappedSystem, IsPulledSystem}
+use Rattle.mapped_systems.specs.TriedPairs.{AfterPair}
 use Rattle.dimensions.specs.AddedVariables.{AreZeroBehind}
 
 -- ---- the stored pair with more variables
@@ -33,29 +34,25 @@ ConvertsZeroPair count p old new result = IsZeroPairConversion count p old new r
     ⊎ ((new ≡ old) × IsErr result)
 
 -- ---- the calls
--- the constraints with free variables: the pair of a closed set with a point, and their list after an overflow; of another set their list
+-- the pair with free variables is tried, and after that the list of the constraints
 pub record IsEmbeddingConversion (count : ℕ) (p : Polyhedron) (old new : ℕ)
     (over : Option Overflow) : Type 0 where
   pub system : Constraints
   pub pulled : IsPulledSystem (with_zeros p.cons.dim count) (p.cons.dim + count) p.cons system
-  pub conversion : (CanStart p × IsPairOrList system (cons_work p.topology system) old new over)
-      ⊎ ((¬ (CanStart p)) × IsConversion (cons_work p.topology system) old new over)
+  pub pair : Result (Option Polyhedron) Memory
+  pub between : ℕ
+  pub tried : ConvertsFreePair p system old between pair
+  pub after : AfterPair (IsConversion (cons_work p.topology system)) pair between new over
 
--- the pair of a closed set with a point, with variables that are 0, and the list of the generators after an overflow
-pub record IsZeroPairOrList (count : ℕ) (p : Polyhedron) (gs : Generators) (old new : ℕ)
-    (over : Option Overflow) : Type 0 where
-  pub start : CanStart p
-  pub system : Constraints
-  pub zero : AreZeroBehind count p.cons system
-  pub conversion : IsPairOrList system (gens_work p.topology gs) old new over
-
--- of another set their list
+-- the pair with variables that are 0 is tried, and after that the list of the generators
 pub record IsProjectionConversion (count : ℕ) (p : Polyhedron) (old new : ℕ)
     (over : Option Overflow) : Type 0 where
   pub system : Generators
   pub mapped : IsMappedSystem (with_zeros p.cons.dim count) (p.cons.dim + count) p.gens system
-  pub conversion : IsZeroPairOrList count p system old new over
-      ⊎ ((¬ (CanStart p)) × IsConversion (gens_work p.topology system) old new over)
+  pub pair : Result (Option Polyhedron) Memory
+  pub between : ℕ
+  pub tried : ConvertsZeroPair count p old between pair
+  pub after : AfterPair (IsConversion (gens_work p.topology system)) pair between new over
 
 -- a call that converts these, or nothing where memory runs out before they are made
 abbrev pub ConvertsEmbedding : ℕ → Polyhedron → ℕ → ℕ → Result Polyhedron ConvErr → Type 0

@@ -12,3 +12,4 @@ pub mod CarriedSystems
 pub mod InverseMaps
 pub mod CarriedLists
 pub mod StoredPairs
+pub mod AfterPairs

@@ -3,3 +3,4 @@ pub mod MappedLists
 pub mod Sources
 pub mod CarriedSystems
 pub mod Refusals
+pub mod TriedPairs

@@ -1,5 +1,5 @@
 use Rattle.std.proofs.Common.{inl, inr, ℕ, ◌<◌, ℤ, pos, ◌<ℤ◌, refl, sym, ap, ◌∙◌, subst, ◌⊎◌, arith}
-use Rattle.std.specs.Prelude.{⊤, Option, IfSome, MatchOption}
+use Rattle.std.specs.Prelude.{⊤, Option, Ok, Err, IfSome, MatchOption}
 use Rattle.poly_pair.specs.declared.topology.Topology.{Topology}
 use Rattle.poly_pair.specs.Parts.{AreStoredOfGenerators}
 use Rattle.std.proofs.lemmas.Result.{IfOk-weaker, IfErr-weaker, err_from_is_err_and}
@@ -19,8 +19,9 @@ use Rattle.affine_maps.specs.SubstitutedSets.{IsSubstitutedImage, IsStoredOfSubs
 use Rattle.row_core.specs.Refusals.{IsOverflowIn}
 use Rattle.mapped_systems.specs.Refusals.{SomeLeavesInImage}
 use Rattle.affine_maps.specs.SubstitutedSets.{LeavesOnSubstituted}
-use Rattle.poly_pair.specs.Work.{conv_overflow, overflow_in}
-use Rattle.affine_maps.proofs.PairConversions.{image_pair_leaves, image_refused, image_stopped, mapped_in_vain, image_found, image_none}
+use Rattle.poly_pair.specs.Work.{gens_work, conv_overflow, overflow_in, IsConversion}
+use Rattle.mapped_systems.proofs.AfterPairs.{after_found, after_none}
+use Rattle.affine_maps.proofs.PairConversions.{image_pair_leaves, mapped_in_vain}
 use Rattle.affine_maps.proofs.MappedPolyhedra.{lent_generators, mapped_kinds, mapped_point, image_points, mapped_overflow, either_overflow}
 use Rattle.affine_maps.proofs.images.substituted_image.Goals as goal
 
@@ -117,7 +118,7 @@ returns-in_err-image g c =
     let p = c.args.p.now in
     let m : IsMappedSystem (substituted c.args.var c.args.expr.now c.args.den) p.cons.dim p.gens c.in-Ok.mapped = lent_generators (λ n. substituted c.args.var c.args.expr.now c.args.den) (λ n. n) p c.gens.result.now c.in-Ok.mapped c.gens.ensures.value c.gens.ensures.kept (simp to_z-of_z at c.in-Ok.ensures.system) in
     let carried = simp to_z-of_z at c.in_err-image.ensures.conversion in
-    rw (e.1, e.2) (record { points = tt; stored = tt; overflow = tt; conversion = image_stopped c.args.var c.args.expr.now c.args.den p c.args.steps.now c.carried_image.new.steps (image_refused c.args.var c.args.expr.now c.args.den p c.in-Ok.mapped m c.args.steps.now c.carried_image.new.steps c.in_err-image.field-0.0 carried) })
+    rw (e.1, e.2) (record { points = tt; stored = tt; overflow = tt; conversion = inr (record { system = c.in-Ok.mapped; mapped = m; pair = Err c.in_err-image.field-0.0; between = c.carried_image.new.steps; tried = carried; after = (refl, refl) }) })
 
 pub returns-in-Err-clause-conversion : goal.returns-in-Err-clause-conversion
 returns-in-Err-clause-conversion g c =
@@ -131,7 +132,14 @@ returns-in-Some-clause-conversion g c =
     let p = c.args.p.now in
     let m : IsMappedSystem (substituted c.args.var c.args.expr.now c.args.den) p.cons.dim p.gens c.in-Ok.mapped = lent_generators (λ n. substituted c.args.var c.args.expr.now c.args.den) (λ n. n) p c.gens.result.now c.in-Ok.mapped c.gens.ensures.value c.gens.ensures.kept (simp to_z-of_z at c.in-Ok.ensures.system) in
     let carried = simp to_z-of_z at c.in_ok-image.ensures.conversion in
-    inr (image_found c.args.var c.args.expr.now c.args.den p c.in-Ok.mapped m c.args.steps.now c.carried_image.new.steps c.in_ok-image.field-0 c.in-Some.image c.in-Some.is carried)
+    inr (record {
+      system = c.in-Ok.mapped;
+      mapped = m;
+      pair = Ok c.in_ok-image.field-0;
+      between = c.carried_image.new.steps;
+      tried = carried;
+      after = after_found (IsConversion (gens_work p.topology c.in-Ok.mapped)) c.in_ok-image.field-0 c.in-Some.image c.in-Some.is c.carried_image.new.steps;
+    })
 
 pub returns-clause-conversion : goal.returns-clause-conversion
 returns-clause-conversion g c =
@@ -139,4 +147,13 @@ returns-clause-conversion g c =
     let p = c.args.p.now in
     let m : IsMappedSystem (substituted c.args.var c.args.expr.now c.args.den) p.cons.dim p.gens c.in-Ok.mapped = lent_generators (λ n. substituted c.args.var c.args.expr.now c.args.den) (λ n. n) p c.gens.result.now c.in-Ok.mapped c.gens.ensures.value c.gens.ensures.kept (simp to_z-of_z at c.in-Ok.ensures.system) in
     let carried = simp to_z-of_z at c.in_ok-image.ensures.conversion in
-    inr (image_none c.args.var c.args.expr.now c.args.den p c.in-Ok.mapped m c.args.steps.now c.carried_image.new.steps c.from_gens_with_point.new.steps (overflow_in conv_overflow c.from_gens_with_point.result) c.in_ok-image.field-0 c.in_default.not-Some c.topology.result c.topology.ensures.value carried c.from_gens_with_point.ensures.conversion)
+    let over = overflow_in conv_overflow c.from_gens_with_point.result in
+    let list = subst (λ (t : Topology). IsConversion (gens_work t c.in-Ok.mapped) c.carried_image.new.steps c.from_gens_with_point.new.steps over) c.topology.ensures.value c.from_gens_with_point.ensures.conversion in
+    inr (record {
+      system = c.in-Ok.mapped;
+      mapped = m;
+      pair = Ok c.in_ok-image.field-0;
+      between = c.carried_image.new.steps;
+      tried = carried;
+      after = after_none (IsConversion (gens_work p.topology c.in-Ok.mapped)) c.in_ok-image.field-0 c.in_default.not-Some c.carried_image.new.steps c.from_gens_with_point.new.steps over list;
+    })

@@ -1,5 +1,5 @@
 use Rattle.std.proofs.Common.{inl, inr, ◌⊎◌, ℕ, ◌<◌, ℤ, pos, ◌<ℤ◌, refl, sym, ap, subst, arith}
-use Rattle.std.specs.Prelude.{⊤, Option, MatchOption}
+use Rattle.std.specs.Prelude.{⊤, Option, Ok, Err, MatchOption}
 use Rattle.std.specs.Int.{w128}
 use Rattle.std.proofs.lemmas.Int.{to_z-of_z}
 use Rattle.std.proofs.lemmas.Result.{IfOk-weaker, IfErr-weaker, err_from_is_err_and}
@@ -18,8 +18,9 @@ use Rattle.mapped_systems.specs.Maps.{pulled_back}
 use Rattle.mapped_systems.specs.MappedLists.{IsPulledSystem}
 use Rattle.affine_maps.specs.SubstitutedSets.{IsSubstitutedPreimage, IsStoredOfPulledBack, LeavesOnPulledBack}
 use Rattle.affine_maps.proofs.MappedPolyhedra.{pulled_kinds, preimage_points, pulled_overflow, either_overflow}
-use Rattle.poly_pair.specs.Work.{conv_overflow, overflow_in}
-use Rattle.affine_maps.proofs.PairConversions.{pullback_of, preimage_refused, preimage_stopped, pulled_in_vain, preimage_found, preimage_none}
+use Rattle.poly_pair.specs.Work.{cons_work, conv_overflow, overflow_in, IsConversion}
+use Rattle.mapped_systems.proofs.AfterPairs.{after_found, after_none}
+use Rattle.affine_maps.proofs.PairConversions.{pullback_of, pulled_in_vain}
 use Rattle.affine_maps.proofs.images.substituted_preimage.Goals as goal
 
 pub from_cons-requires-clause-kinds : goal.from_cons-requires-clause-kinds
@@ -105,7 +106,7 @@ returns-in_err-preimage g c =
     let m : IsPulledSystem (pulled_back c.args.var c.args.expr.now c.args.den) p.cons.dim p.cons c.in-Ok.pulled = subst (λ (cs : Constraints). IsPulledSystem (pulled_back c.args.var c.args.expr.now c.args.den) cs.dim cs c.in-Ok.pulled) c.cons.ensures.value s in
     let b = pullback_of p c.cons.result.now c.args.steps.now c.preimage_constraints.new.steps c.cons.ensures.value c.preimage_constraints.ensures.no_fewer c.preimage_constraints.ensures.counted in
     let carried = simp to_z-of_z at c.in_err-preimage.ensures.conversion in
-    rw (e.1, e.2) (record { points = tt; stored = tt; overflow = tt; conversion = preimage_stopped c.args.var c.args.expr.now c.args.den p c.args.steps.now c.carried_preimage.new.steps (preimage_refused c.args.var c.args.expr.now c.args.den p c.in-Ok.pulled m c.args.steps.now c.preimage_constraints.new.steps b c.carried_preimage.new.steps c.in_err-preimage.field-0.0 carried) })
+    rw (e.1, e.2) (record { points = tt; stored = tt; overflow = tt; conversion = inr (record { first = c.preimage_constraints.new.steps; pullback = b; system = c.in-Ok.pulled; pulled = m; pair = Err c.in_err-preimage.field-0.0; second = c.carried_preimage.new.steps; tried = carried; after = (refl, refl) }) })
 
 pub returns-in-Err-clause-conversion : goal.returns-in-Err-clause-conversion
 returns-in-Err-clause-conversion g c =
@@ -123,7 +124,16 @@ returns-in-Some-clause-conversion g c =
     let m : IsPulledSystem (pulled_back c.args.var c.args.expr.now c.args.den) p.cons.dim p.cons c.in-Ok.pulled = subst (λ (cs : Constraints). IsPulledSystem (pulled_back c.args.var c.args.expr.now c.args.den) cs.dim cs c.in-Ok.pulled) c.cons.ensures.value s in
     let b = pullback_of p c.cons.result.now c.args.steps.now c.preimage_constraints.new.steps c.cons.ensures.value c.preimage_constraints.ensures.no_fewer c.preimage_constraints.ensures.counted in
     let carried = simp to_z-of_z at c.in_ok-preimage.ensures.conversion in
-    inr (preimage_found c.args.var c.args.expr.now c.args.den p c.in-Ok.pulled m c.args.steps.now c.preimage_constraints.new.steps b c.carried_preimage.new.steps c.in_ok-preimage.field-0 c.in-Some.preimage c.in-Some.is carried)
+    inr (record {
+      first = c.preimage_constraints.new.steps;
+      pullback = b;
+      system = c.in-Ok.pulled;
+      pulled = m;
+      pair = Ok c.in_ok-preimage.field-0;
+      second = c.carried_preimage.new.steps;
+      tried = carried;
+      after = after_found (IsConversion (cons_work p.topology c.in-Ok.pulled)) c.in_ok-preimage.field-0 c.in-Some.preimage c.in-Some.is c.carried_preimage.new.steps;
+    })
 
 pub returns-clause-conversion : goal.returns-clause-conversion
 returns-clause-conversion g c =
@@ -133,4 +143,15 @@ returns-clause-conversion g c =
     let m : IsPulledSystem (pulled_back c.args.var c.args.expr.now c.args.den) p.cons.dim p.cons c.in-Ok.pulled = subst (λ (cs : Constraints). IsPulledSystem (pulled_back c.args.var c.args.expr.now c.args.den) cs.dim cs c.in-Ok.pulled) c.cons.ensures.value s in
     let b = pullback_of p c.cons.result.now c.args.steps.now c.preimage_constraints.new.steps c.cons.ensures.value c.preimage_constraints.ensures.no_fewer c.preimage_constraints.ensures.counted in
     let carried = simp to_z-of_z at c.in_ok-preimage.ensures.conversion in
-    inr (preimage_none c.args.var c.args.expr.now c.args.den p c.in-Ok.pulled m c.args.steps.now c.preimage_constraints.new.steps b c.carried_preimage.new.steps c.from_cons.new.steps (overflow_in conv_overflow c.from_cons.result) c.in_ok-preimage.field-0 c.in_default.not-Some c.topology.result c.topology.ensures.value carried c.from_cons.ensures.conversion)
+    let over = overflow_in conv_overflow c.from_cons.result in
+    let list = subst (λ (t : Topology). IsConversion (cons_work t c.in-Ok.pulled) c.carried_preimage.new.steps c.from_cons.new.steps over) c.topology.ensures.value c.from_cons.ensures.conversion in
+    inr (record {
+      first = c.preimage_constraints.new.steps;
+      pullback = b;
+      system = c.in-Ok.pulled;
+      pulled = m;
+      pair = Ok c.in_ok-preimage.field-0;
+      second = c.carried_preimage.new.steps;
+      tried = carried;
+      after = after_none (IsConversion (cons_work p.topology c.in-Ok.pulled)) c.in_ok-preimage.field-0 c.in_default.not-Some c.carried_preimage.new.steps c.from_cons.new.steps over list;
+    })

@@ -1,5 +1,5 @@
-use Rattle.std.proofs.Common.{ℕ, ◌+◌, inl, inr, refl, subst, arith}
-use Rattle.std.specs.Prelude.{⊤, Option, MatchOption}
+use Rattle.std.proofs.Common.{ℕ, ◌+◌, None, inl, inr, refl, subst, arith}
+use Rattle.std.specs.Prelude.{⊤, Option, Ok, Err, MatchOption}
 use Rattle.std.proofs.lemmas.Result.{IfOk-weaker, err_from_is_err_and}
 use Rattle.cons_sys.specs.Constraints.{Constraints}
 use Rattle.poly_pair.specs.Polyhedra.{Polyhedron, IsOfConstraints}
@@ -8,8 +8,11 @@ use Rattle.mapped_systems.specs.MappedLists.{IsPulledSystem}
 use Rattle.dimensions.specs.Results.{IsPreimage}
 use Rattle.dimensions.proofs.PulledResults.{pulled_kinds, preimage_points}
 use Rattle.mapped_systems.proofs.PulledSets.{padded_meets}
-use Rattle.poly_pair.specs.Work.{conv_overflow, overflow_in}
-use Rattle.dimensions.proofs.PairConversions.{free_refused, free_found, free_none, free_fewer}
+use Rattle.poly_pair.specs.declared.topology.Topology.{Topology}
+use Rattle.poly_pair.specs.Work.{cons_work, conv_overflow, overflow_in, IsConversion}
+use Rattle.mapped_systems.proofs.AfterPairs.{after_found, after_none}
+use Rattle.dimensions.specs.PairConversions.{IsEmbeddingConversion}
+use Rattle.dimensions.proofs.PairConversions.{free_fewer}
 use Rattle.dimensions.proofs.changes.embed.Goals as goal
 
 pub from_cons-requires-clause-kinds : goal.from_cons-requires-clause-kinds
@@ -46,7 +49,7 @@ returns-in_err-embedding g c =
     let q = c.args.p.now in
     let m : IsPulledSystem (with_zeros c.dim.result c.args.count) (q.cons.dim + c.args.count) q.cons c.in_ok-padded.padded = subst (λ (cs : Constraints). IsPulledSystem (with_zeros c.dim.result c.args.count) (cs.dim + c.args.count) cs c.in_ok-padded.padded) c.cons.ensures.value c.in_ok-padded.ensures in
     let n : IsPulledSystem (with_zeros q.cons.dim c.args.count) (q.cons.dim + c.args.count) q.cons c.in_ok-padded.padded = subst (λ (d : ℕ). IsPulledSystem (with_zeros d c.args.count) (q.cons.dim + c.args.count) q.cons c.in_ok-padded.padded) c.dim.ensures.value m in
-    let done = free_refused c.args.count q c.in_ok-padded.padded n c.args.steps.now c.embedded_pair.new.steps c.in_err-embedding.field-0.0 c.in_err-embedding.ensures.conversion in
+    let done : IsEmbeddingConversion c.args.count q c.args.steps.now c.embedded_pair.new.steps None = record { system = c.in_ok-padded.padded; pulled = n; pair = Err c.in_err-embedding.field-0.0; between = c.embedded_pair.new.steps; tried = c.in_err-embedding.ensures.conversion; after = (refl, refl) } in
     rw (p.1, p.2) (record { points = tt; stored = tt; overflow = tt; no_fewer = free_fewer q c.in_ok-padded.padded c.args.steps.now c.embedded_pair.new.steps c.embedded_pair.result c.embedded_pair.ensures.conversion; conversion = inr done })
 
 pub returns-in-Some-clause-conversion : goal.returns-in-Some-clause-conversion
@@ -54,7 +57,14 @@ returns-in-Some-clause-conversion g c =
     let q = c.args.p.now in
     let m : IsPulledSystem (with_zeros c.dim.result c.args.count) (q.cons.dim + c.args.count) q.cons c.in_ok-padded.padded = subst (λ (cs : Constraints). IsPulledSystem (with_zeros c.dim.result c.args.count) (cs.dim + c.args.count) cs c.in_ok-padded.padded) c.cons.ensures.value c.in_ok-padded.ensures in
     let n : IsPulledSystem (with_zeros q.cons.dim c.args.count) (q.cons.dim + c.args.count) q.cons c.in_ok-padded.padded = subst (λ (d : ℕ). IsPulledSystem (with_zeros d c.args.count) (q.cons.dim + c.args.count) q.cons c.in_ok-padded.padded) c.dim.ensures.value m in
-    inr (free_found c.args.count q c.in_ok-padded.padded n c.args.steps.now c.embedded_pair.new.steps c.in_ok-embedding.field-0 c.in-Some.embedding c.in-Some.is c.in_ok-embedding.ensures.conversion)
+    inr (record {
+      system = c.in_ok-padded.padded;
+      pulled = n;
+      pair = Ok c.in_ok-embedding.field-0;
+      between = c.embedded_pair.new.steps;
+      tried = c.in_ok-embedding.ensures.conversion;
+      after = after_found (IsConversion (cons_work q.topology c.in_ok-padded.padded)) c.in_ok-embedding.field-0 c.in-Some.embedding c.in-Some.is c.embedded_pair.new.steps;
+    })
 
 pub returns-in-Some-clause-no_fewer : goal.returns-in-Some-clause-no_fewer
 returns-in-Some-clause-no_fewer g c = free_fewer c.args.p.now c.in_ok-padded.padded c.args.steps.now c.embedded_pair.new.steps c.embedded_pair.result c.embedded_pair.ensures.conversion
@@ -64,7 +74,16 @@ returns-clause-conversion g c =
     let q = c.args.p.now in
     let m : IsPulledSystem (with_zeros c.dim.result c.args.count) (q.cons.dim + c.args.count) q.cons c.in_ok-padded.padded = subst (λ (cs : Constraints). IsPulledSystem (with_zeros c.dim.result c.args.count) (cs.dim + c.args.count) cs c.in_ok-padded.padded) c.cons.ensures.value c.in_ok-padded.ensures in
     let n : IsPulledSystem (with_zeros q.cons.dim c.args.count) (q.cons.dim + c.args.count) q.cons c.in_ok-padded.padded = subst (λ (d : ℕ). IsPulledSystem (with_zeros d c.args.count) (q.cons.dim + c.args.count) q.cons c.in_ok-padded.padded) c.dim.ensures.value m in
-    inr (free_none c.args.count q c.in_ok-padded.padded n c.args.steps.now c.embedded_pair.new.steps c.from_cons.new.steps (overflow_in conv_overflow c.from_cons.result) c.in_ok-embedding.field-0 c.in_default.not-Some c.topology.result c.topology.ensures.value c.in_ok-embedding.ensures.conversion c.from_cons.ensures.conversion)
+    let over = overflow_in conv_overflow c.from_cons.result in
+    let list = subst (λ (t : Topology). IsConversion (cons_work t c.in_ok-padded.padded) c.embedded_pair.new.steps c.from_cons.new.steps over) c.topology.ensures.value c.from_cons.ensures.conversion in
+    inr (record {
+      system = c.in_ok-padded.padded;
+      pulled = n;
+      pair = Ok c.in_ok-embedding.field-0;
+      between = c.embedded_pair.new.steps;
+      tried = c.in_ok-embedding.ensures.conversion;
+      after = after_none (IsConversion (cons_work q.topology c.in_ok-padded.padded)) c.in_ok-embedding.field-0 c.in_default.not-Some c.embedded_pair.new.steps c.from_cons.new.steps over list;
+    })
 
 pub returns-clause-no_fewer : goal.returns-clause-no_fewer
 returns-clause-no_fewer g c = omega (arith, free_fewer c.args.p.now c.in_ok-padded.padded c.args.steps.now c.embedded_pair.new.steps c.embedded_pair.result c.embedded_pair.ensures.conversion, c.from_cons.ensures.conversion.no_fewer)

@@ -1,5 +1,5 @@
-use Rattle.std.proofs.Common.{◌+◌, None, inl, inr, refl, subst, arith}
-use Rattle.std.specs.Prelude.{⊤, Option, MatchOption}
+use Rattle.std.proofs.Common.{◌+◌, inl, inr, refl, subst, arith}
+use Rattle.std.specs.Prelude.{⊤, Option, Ok, Err, MatchOption}
 use Rattle.std.proofs.lemmas.Result.{IfOk-weaker, IfErr-weaker, err_from_is_err_and}
 use Rattle.gens_sys.specs.Generators.{FitDimension}
 use Rattle.poly_pair.specs.Polyhedra.{Polyhedron, IsOfGenerators}
@@ -14,8 +14,9 @@ use Rattle.poly_pair.specs.Starts.{CanStart}
 use Rattle.mapped_systems.proofs.StoredPairs.{always_in, any_error}
 use Rattle.dimensions.specs.AddedVariables.{LeavesWithZeros}
 use Rattle.dimensions.proofs.MappedResults.{lent_generators, mapped_kinds, mapped_point, image_points, mapped_overflow, projection_points}
-use Rattle.poly_pair.specs.Work.{conv_overflow, overflow_in}
-use Rattle.dimensions.proofs.PairConversions.{zero_fewer, zero_leaves, zero_refused, zero_found, zero_none}
+use Rattle.poly_pair.specs.Work.{gens_work, conv_overflow, overflow_in, IsConversion}
+use Rattle.mapped_systems.proofs.AfterPairs.{after_found, after_none}
+use Rattle.dimensions.proofs.PairConversions.{zero_fewer, zero_leaves}
 use Rattle.dimensions.proofs.changes.project.Goals as goal
 
 pub from_gens_with_point-requires-clause-kinds : goal.from_gens_with_point-requires-clause-kinds
@@ -90,7 +91,7 @@ returns-in_err-projection g c =
       overflow = tt;
       pair = tt;
       no_fewer = zero_fewer c.args.count p c.args.steps.now c.projected_pair.new.steps c.projected_pair.result c.projected_pair.ensures.conversion;
-      conversion = zero_refused c.args.count p new m c.args.steps.now c.projected_pair.new.steps c.in_err-projection.field-0.0 None refl c.in_err-projection.ensures.conversion;
+      conversion = inr (record { system = new; mapped = m; pair = Err c.in_err-projection.field-0.0; between = c.projected_pair.new.steps; tried = c.in_err-projection.ensures.conversion; after = (refl, refl) });
     })
 
 pub returns-in-Some-clause-conversion : goal.returns-in-Some-clause-conversion
@@ -98,7 +99,14 @@ returns-in-Some-clause-conversion g c =
     let p = c.args.p.now in
     let new = c.in_ok-padded.padded in
     let m : IsMappedSystem (with_zeros p.cons.dim c.args.count) (p.cons.dim + c.args.count) p.gens new = lent_generators (λ n. with_zeros n c.args.count) (λ n. n + c.args.count) p c.gens.result.now new c.gens.ensures.value c.gens.ensures.kept c.in_ok-padded.ensures.system in
-    inr (zero_found c.args.count p new m c.args.steps.now c.projected_pair.new.steps c.in_ok-projection.field-0 c.in-Some.projection c.in-Some.is c.in_ok-projection.ensures.conversion)
+    inr (record {
+      system = new;
+      mapped = m;
+      pair = Ok c.in_ok-projection.field-0;
+      between = c.projected_pair.new.steps;
+      tried = c.in_ok-projection.ensures.conversion;
+      after = after_found (IsConversion (gens_work p.topology new)) c.in_ok-projection.field-0 c.in-Some.projection c.in-Some.is c.projected_pair.new.steps;
+    })
 
 pub returns-in-Some-clause-no_fewer : goal.returns-in-Some-clause-no_fewer
 returns-in-Some-clause-no_fewer g c = zero_fewer c.args.count c.args.p.now c.args.steps.now c.projected_pair.new.steps c.projected_pair.result c.projected_pair.ensures.conversion
@@ -108,7 +116,16 @@ returns-clause-conversion g c =
     let p = c.args.p.now in
     let new = c.in_ok-padded.padded in
     let m : IsMappedSystem (with_zeros p.cons.dim c.args.count) (p.cons.dim + c.args.count) p.gens new = lent_generators (λ n. with_zeros n c.args.count) (λ n. n + c.args.count) p c.gens.result.now new c.gens.ensures.value c.gens.ensures.kept c.in_ok-padded.ensures.system in
-    inr (zero_none c.args.count p new m c.args.steps.now c.projected_pair.new.steps c.from_gens_with_point.new.steps (overflow_in conv_overflow c.from_gens_with_point.result) c.in_ok-projection.field-0 c.in_default.not-Some c.topology.result c.topology.ensures.value c.in_ok-projection.ensures.conversion c.from_gens_with_point.ensures.conversion)
+    let over = overflow_in conv_overflow c.from_gens_with_point.result in
+    let list = subst (λ (t : Topology). IsConversion (gens_work t new) c.projected_pair.new.steps c.from_gens_with_point.new.steps over) c.topology.ensures.value c.from_gens_with_point.ensures.conversion in
+    inr (record {
+      system = new;
+      mapped = m;
+      pair = Ok c.in_ok-projection.field-0;
+      between = c.projected_pair.new.steps;
+      tried = c.in_ok-projection.ensures.conversion;
+      after = after_none (IsConversion (gens_work p.topology new)) c.in_ok-projection.field-0 c.in_default.not-Some c.projected_pair.new.steps c.from_gens_with_point.new.steps over list;
+    })
 
 pub returns-clause-no_fewer : goal.returns-clause-no_fewer
 returns-clause-no_fewer g c = omega (arith, zero_fewer c.args.count c.args.p.now c.args.steps.now c.projected_pair.new.steps c.projected_pair.result c.projected_pair.ensures.conversion, c.from_gens_with_point.ensures.conversion.no_fewer)
