@@ -1,5 +1,5 @@
 //! The shape of constraints.
-ghost use Rattle.std.specs.Prelude.{◌≡◌, ◌↔◌, ◌+◌, ◌<◌, ◌≤◌, List, ℤ, length, pos, neg_ℤ, ◌<ℤ◌, Err, MatchBool, IfOk, IfErr, OnOk};
+ghost use Rattle.std.specs.Prelude.{◌≡◌, ◌↔◌, ◌+◌, ◌<◌, ◌≤◌, List, ℤ, length, pos, ◌<ℤ◌, Err, MatchBool, IfOk, IfErr, OnOk};
 ghost use Rattle.row_core.specs.Points.{IsPoint};
 ghost use Rattle.row_core.specs.Range.{InRange};
 ghost use Rattle.row_core.specs.Refusals.{IsOverflowIn};
@@ -45,30 +45,6 @@ fn take(
     bounds.lower(alloc, i, j, bound)
 }
 
-/// Lowers the bound of place `i` less place `j` to the negative of a fraction.
-fn take_negated(
-    alloc: Global,
-    bounds: &mut BoundTable,
-    i: usize,
-    j: usize,
-    num: i128,
-    den: i128,
-) -> Result<(), ConvErr>
-    requires first { i < bounds.old.places }
-    requires second { j < bounds.old.places }
-    requires num { InRange num }
-    requires den { InRange den }
-    requires positive { pos 0 <ℤ den }
-    ensures places { bounds.new.places ≡ bounds.old.places }
-    ensures lowered { OnOk result
-        (IsLowered bounds.old bounds.new i j (record { num = neg_ℤ num; den = den })) }
-    ensures overflow { IfErr result
-        (IsOverflowIn
-        (LeavesInTaking (bounds_of bounds.old) i j (record { num = neg_ℤ num; den = den }))) }
-{
-    take(alloc, bounds, i, j, -num, den)
-}
-
 /// Takes the bounds that constraint `k` gives, which is that of a difference.
 fn take_difference(
     bounds: &mut BoundTable,
@@ -91,7 +67,7 @@ fn take_difference(
     take(alloc, bounds, minus, plus, constant, factor)?;
     let _upper = bounds.places();
     match cons.kind(k) {
-        ConKind::Eq => take_negated(alloc, bounds, plus, minus, constant, factor),
+        ConKind::Eq => take(alloc, bounds, plus, minus, -constant, factor),
         ConKind::Ge => Ok(()),
         ConKind::Gt => Ok(()),
     }

@@ -125,7 +125,7 @@ impl BoundTable {
     }
 
     /// Puts the least totals of walks in the place of the bounds, and answers whether some values
-    /// meet them. Where none do, the bounds that are left say nothing.
+    /// meet them. Where none do, and after an error, the bounds that are left say nothing.
     ///
     /// # Errors
     ///

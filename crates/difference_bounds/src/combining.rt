@@ -1,5 +1,5 @@
 //! Two tables of bounds for the same places.
-ghost use Rattle.std.specs.Prelude.{◌≡◌, ◌⊎◌, ◌+◌, ℕ, ◌<◌, ◌↔◌, IsTrue, IfOk, IfErr, OnOk};
+ghost use Rattle.std.specs.Prelude.{◌≡◌, ◌⊎◌, ◌+◌, ℕ, ◌<◌, ◌↔◌, IsTrue, IfOk, IfErr, OnOk, OnErr};
 ghost use Rattle.row_core.specs.Refusals.{IsOverflowIn};
 ghost use Rattle.difference_bounds.specs.Fractions.{IsFraction};
 ghost use Rattle.difference_bounds.specs.Walks.{Bounds};
@@ -33,6 +33,7 @@ impl BoundTable {
             (IsLesser (bounds_of self.old i j) fraction (bounds_of self.new i j)) }
         ensures elsewhere { OnOk result
             (AreKept self.old.places i j (bounds_of self.old) (bounds_of self.new)) }
+        ensures unchanged { OnErr result (self.new ≡ self.old) }
         ensures overflow { IfErr result
             (IsOverflowIn (LeavesInLesser (bounds_of self.old i j) fraction)) }
     {
@@ -140,7 +141,8 @@ impl BoundTable {
         Ok(())
     }
 
-    /// Lowers each bound to that of another table, where it is above it.
+    /// Lowers each bound to that of another table, where it is above it. After an error the bounds
+    /// that are left say nothing.
     pub fn lower_all(&mut self, alloc: Global, other: &BoundTable) -> Result<(), ConvErr>
         requires { other.now.places ≡ self.old.places }
         ensures places { self.new.places ≡ self.old.places }
@@ -162,7 +164,8 @@ impl BoundTable {
         self.combine(alloc, Choice::Lesser, other)
     }
 
-    /// Raises each bound to that of another table, where it is below it.
+    /// Raises each bound to that of another table, where it is below it. After an error the bounds
+    /// that are left say nothing.
     pub fn raise_all(&mut self, alloc: Global, other: &BoundTable) -> Result<(), ConvErr>
         requires { other.now.places ≡ self.old.places }
         ensures places { self.new.places ≡ self.old.places }

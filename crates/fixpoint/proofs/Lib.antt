@@ -1,1 +1,2 @@
 pub mod SystemTurns
+pub mod PostConversions

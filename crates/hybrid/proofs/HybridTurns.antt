@@ -33,11 +33,11 @@ module _ (h : HybridAutomaton) where
   above_turn : (turn : Turn) (sets : List Polyhedron) (old joined : Polyhedron) → AreSetsOf h.system.dim (length h.system.initial) sets → slice_get sets (place_of turn) ≡ Some old → Joins h turn sets joined → IsAbove h.system.dim old joined
   above_turn (time l) sets old joined are at j =
       subst (λ (p : Polyhedron). IsAbove h.system.dim p joined) (same_at sets l j.old old j.has_old at)
-      (hull_above (IsTimePost j.old j.inv j.flow) h.system.dim j.old (set_at sets l j.old are j.has_old) joined j.is_joined)
+      (hull_above (IsTimePost j.old j.inv j.flow) h.system.dim j.old (set_at sets l j.old are j.has_old) joined j.holds)
   above_turn (jump None) sets old joined are at j = absurd j
   above_turn (jump (Some t)) sets old joined are at j =
       subst (λ (p : Polyhedron). IsAbove h.system.dim p joined) (same_at sets t.target j.old old j.has_old at)
-      (hull_above (IsJumpPost j.source j.inv t.relation j.target_inv) h.system.dim j.old (set_at sets t.target j.old are j.has_old) joined j.is_joined)
+      (hull_above (IsJumpPost j.source j.inv t.relation j.target_inv) h.system.dim j.old (set_at sets t.target j.old are j.has_old) joined j.holds)
 
   module _ (kept : IsKeptHybrid h) where
     place_below : (k : ℕ) → k < length h.system.initial + length h.system.transitions → (k < length h.system.initial) ⊎ ¬ (k < length h.system.initial) → place_of (turn_at h k) < length h.system.initial
@@ -68,15 +68,15 @@ module _ (h : HybridAutomaton) where
     pub found_time : (o : Option Polyhedron) → IsFound (IsHullWithPost (IsTimePost old inv flow) old) old o → (other : Polyhedron) → slice_get sets l ≡ Some other → IsFound (IsOfTime h l sets) other o
     found_time o f other at =
         subst (λ (p : Polyhedron). IsFound (IsOfTime h l sets) p o) (same_at sets l old other has_old at)
-        (found_as (IsHullWithPost (IsTimePost old inv flow) old) (IsOfTime h l sets) (λ joined j. record { old = old; inv = inv; flow = flow; has_old = has_old; has_inv = has_inv; has_flow = has_flow; is_joined = j }) old o f)
+        (found_as (IsHullWithPost (IsTimePost old inv flow) old) (IsOfTime h l sets) (λ joined j. record { old = old; inv = inv; flow = flow; has_old = has_old; has_inv = has_inv; has_flow = has_flow; holds = j }) old o f)
 
     pub leaves_time : (e : ConvErr) → IsOverflowIn (λ over. LeavesOnTime old inv flow over ⊎ LeavesAfter (IsTimePost old inv flow) old over) e → IsOverflowIn (LeavesInTime h l sets) e
-    leaves_time (conversion.Overflow over) p = record { old = old; inv = inv; flow = flow; has_old = has_old; has_inv = has_inv; has_flow = has_flow; leaves = p }
+    leaves_time (conversion.Overflow over) p = record { old = old; inv = inv; flow = flow; has_old = has_old; has_inv = has_inv; has_flow = has_flow; holds = p }
     leaves_time conversion.Memory p = tt
 
   module _ (sets : List Polyhedron) (t : Transition) (source inv old target_inv : Polyhedron) (has_source : slice_get sets t.source ≡ Some source) (has_inv : slice_get h.invariants t.source ≡ Some inv) (has_old : slice_get sets t.target ≡ Some old) (has_target_inv : slice_get h.invariants t.target ≡ Some target_inv) where
     of_jump : (joined : Polyhedron) → IsHullWithPost (IsJumpPost source inv t.relation target_inv) old joined → IsOfJump h t sets joined
-    of_jump joined j = record { source = source; inv = inv; old = old; target_inv = target_inv; has_source = has_source; has_inv = has_inv; has_old = has_old; has_target_inv = has_target_inv; is_joined = j }
+    of_jump joined j = record { source = source; inv = inv; old = old; target_inv = target_inv; has_source = has_source; has_inv = has_inv; has_old = has_old; has_target_inv = has_target_inv; holds = j }
 
     pub found_jump : (i : ℕ) → slice_get h.system.transitions i ≡ Some t → (o : Option Polyhedron) → IsFound (IsHullWithPost (IsJumpPost source inv t.relation target_inv) old) old o → (u : Transition) (other : Polyhedron) → slice_get h.system.transitions i ≡ Some u → slice_get sets u.target ≡ Some other → IsFound (IsOfJump h u sets) other o
     found_jump i at o f u other has at_other =
@@ -84,7 +84,7 @@ module _ (h : HybridAutomaton) where
         (λ p at_p. subst (λ (q : Polyhedron). IsFound (IsOfJump h t sets) q o) (same_at sets t.target old p has_old at_p) (found_as (IsHullWithPost (IsJumpPost source inv t.relation target_inv) old) (IsOfJump h t sets) of_jump old o f)) other at_other
 
     pub leaves_jump : (i : ℕ) → slice_get h.system.transitions i ≡ Some t → (e : ConvErr) → IsOverflowIn (λ over. LeavesOnJump source inv t.relation target_inv over ⊎ LeavesAfter (IsJumpPost source inv t.relation target_inv) old over) e → IsOverflowIn (λ over. (u : Transition) → slice_get h.system.transitions i ≡ Some u → LeavesInJump h u sets over) e
-    leaves_jump i at (conversion.Overflow over) p = λ u has. subst (λ (x : Transition). LeavesInJump h x sets over) (same_at h.system.transitions i t u at has) (record { source = source; inv = inv; old = old; target_inv = target_inv; has_source = has_source; has_inv = has_inv; has_old = has_old; has_target_inv = has_target_inv; leaves = p })
+    leaves_jump i at (conversion.Overflow over) p = λ u has. subst (λ (x : Transition). LeavesInJump h x sets over) (same_at h.system.transitions i t u at has) (record { source = source; inv = inv; old = old; target_inv = target_inv; has_source = has_source; has_inv = has_inv; has_old = has_old; has_target_inv = has_target_inv; holds = p })
     leaves_jump i at conversion.Memory p = tt
 
   -- ---- the turn behind those of time

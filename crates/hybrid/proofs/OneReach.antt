@@ -78,19 +78,19 @@ module _ (h : HybridAutomaton) (kept : IsKeptHybrid h) where
       let inv : k.inv ≡ j.inv = same_at h.invariants l k.inv j.inv k.has_inv j.has_inv in
       let flow : k.flow ≡ j.flow = same_at h.flows l k.flow j.flow k.has_flow j.has_flow in
       let closed = set_at h sets l j.old are j.has_old in
-      one_hull (IsTimePost j.old j.inv j.flow) (λ a b. one_time h.system.dim j.old j.inv j.flow a b closed (inv_closed l j.inv j.has_inv)) h.system.dim j.old one other closed j.is_joined
-      (subst (λ (p : Polyhedron). IsHullWithPost (IsTimePost j.old j.inv p) j.old other) flow (subst (λ (p : Polyhedron). IsHullWithPost (IsTimePost j.old p k.flow) j.old other) inv (subst (λ (p : Polyhedron). IsHullWithPost (IsTimePost p k.inv k.flow) p other) old k.is_joined)))
+      one_hull (IsTimePost j.old j.inv j.flow) (λ a b. one_time h.system.dim j.old j.inv j.flow a b closed (inv_closed l j.inv j.has_inv)) h.system.dim j.old one other closed j.holds
+      (subst (λ (p : Polyhedron). IsHullWithPost (IsTimePost j.old j.inv p) j.old other) flow (subst (λ (p : Polyhedron). IsHullWithPost (IsTimePost j.old p k.flow) j.old other) inv (subst (λ (p : Polyhedron). IsHullWithPost (IsTimePost p k.inv k.flow) p other) old k.holds)))
   one_of_turn (jump None) sets one other are j k = absurd j
   one_of_turn (jump (Some t)) sets one other are j k =
       let source : k.source ≡ j.source = same_at sets t.source k.source j.source k.has_source j.has_source in
       let inv : k.inv ≡ j.inv = same_at h.invariants t.source k.inv j.inv k.has_inv j.has_inv in
       let old : k.old ≡ j.old = same_at sets t.target k.old j.old k.has_old j.has_old in
       let target : k.target_inv ≡ j.target_inv = same_at h.invariants t.target k.target_inv j.target_inv k.has_target_inv j.has_target_inv in
-      one_hull (IsJumpPost j.source j.inv t.relation j.target_inv) (λ a b. one_jump h.system.dim j.source j.inv t.relation j.target_inv a b (set_at h sets t.source j.source are j.has_source) (inv_closed t.target j.target_inv j.has_target_inv)) h.system.dim j.old one other (set_at h sets t.target j.old are j.has_old) j.is_joined
+      one_hull (IsJumpPost j.source j.inv t.relation j.target_inv) (λ a b. one_jump h.system.dim j.source j.inv t.relation j.target_inv a b (set_at h sets t.source j.source are j.has_source) (inv_closed t.target j.target_inv j.has_target_inv)) h.system.dim j.old one other (set_at h sets t.target j.old are j.has_old) j.holds
       (subst (λ (p : Polyhedron). IsHullWithPost (IsJumpPost j.source j.inv t.relation p) j.old other) target
       (subst (λ (p : Polyhedron). IsHullWithPost (IsJumpPost j.source p t.relation k.target_inv) j.old other) inv
       (subst (λ (p : Polyhedron). IsHullWithPost (IsJumpPost p k.inv t.relation k.target_inv) j.old other) source
-      (subst (λ (p : Polyhedron). IsHullWithPost (IsJumpPost k.source k.inv t.relation k.target_inv) p other) old k.is_joined))))
+      (subst (λ (p : Polyhedron). IsHullWithPost (IsJumpPost k.source k.inv t.relation k.target_inv) p other) old k.holds))))
 
   join_one : JoinOne (turns_of h)
   join_one k sets one other below are j l = one_of_turn (turn_at h k) sets one other are j l

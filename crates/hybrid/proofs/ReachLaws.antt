@@ -109,12 +109,12 @@ module _ (h : HybridAutomaton) (kept : IsKeptHybrid h) (sets parts : List Polyhe
         let flow_is : j.flow ≡ flow = same_at h.flows l j.flow flow j.has_flow has_flow in
         let old_closed = set_at h sets l j.old are j.has_old in
         let inv_closed = inv_at l j.inv j.has_inv in
-        let c = time_closed d j.old j.inv j.flow j.is_joined.post old_closed inv_closed j.is_joined.is_post in
-        let in_post : In j.is_joined.post.cons v =
-        time_takes d j.old j.inv j.flow j.is_joined.post old_closed inv_closed j.is_joined.is_post x q v pt (subst (λ (p : Polyhedron). In p.cons x) (sym old) both.0) (subst (λ (p : Polyhedron). In p.cons x) (sym inv_is) both.1) (subst (λ (p : Polyhedron). IsWithin p.cons q) (sym flow_is) w) moved (subst (λ (p : Polyhedron). In p.cons v) (sym inv_is) inside) in
-        let above = hull_above (IsTimePost j.old j.inv j.flow) d j.old old_closed here.0 j.is_joined in
+        let c = time_closed d j.old j.inv j.flow j.holds.post old_closed inv_closed j.holds.is_post in
+        let in_post : In j.holds.post.cons v =
+        time_takes d j.old j.inv j.flow j.holds.post old_closed inv_closed j.holds.is_post x q v pt (subst (λ (p : Polyhedron). In p.cons x) (sym old) both.0) (subst (λ (p : Polyhedron). In p.cons x) (sym inv_is) both.1) (subst (λ (p : Polyhedron). IsWithin p.cons q) (sym flow_is) w) moved (subst (λ (p : Polyhedron). In p.cons v) (sym inv_is) inside) in
+        let above = hull_above (IsTimePost j.old j.inv j.flow) d j.old old_closed here.0 j.holds in
         let in_set : In set.0.cons v =
-        here.1.1 v (point_at d here.0.cons.dim v (sym above.closed.over.same_dim) moved.point) (hull_takes (IsTimePost j.old j.inv j.flow) d j.old old_closed here.0 j.is_joined c v moved.point in_post) in
+        here.1.1 v (point_at d here.0.cons.dim v (sym above.closed.over.same_dim) moved.point) (hull_takes (IsTimePost j.old j.inv j.flow) d j.old old_closed here.0 j.holds c v moved.point in_post) in
         part_takes d set.0 inv part set_closed is_part v moved.point in_set inside
 
     jump_taken : (k : ℕ) (t : Transition) → slice_get h.system.transitions k ≡ Some t → (set : Polyhedron) → slice_get sets t.target ≡ Some set → (joined : Polyhedron) × (IsOfJump h t sets joined × IsIncluded joined set)
@@ -139,12 +139,12 @@ module _ (h : HybridAutomaton) (kept : IsKeptHybrid h) (sets parts : List Polyhe
         let source_closed = set_at h sets t.source j.source are j.has_source in
         let inv_closed = inv_at t.target j.target_inv j.has_target_inv in
         let is_source = of.each t.source source has_source j.inv j.source j.has_inv j.has_source in
-        let c = jump_closed d j.source j.inv t.relation j.target_inv j.is_joined.post inv_closed j.is_joined.is_post in
-        let in_post : In j.is_joined.post.cons y =
-        jump_takes d j.source j.inv t.relation j.target_inv j.is_joined.post source source_closed inv_closed is_source j.is_joined.is_post y pt step (subst (λ (p : Polyhedron). In p.cons y) (sym inv_is) inside) in
-        let above = hull_above (IsJumpPost j.source j.inv t.relation j.target_inv) d j.old old_closed here.0 j.is_joined in
+        let c = jump_closed d j.source j.inv t.relation j.target_inv j.holds.post inv_closed j.holds.is_post in
+        let in_post : In j.holds.post.cons y =
+        jump_takes d j.source j.inv t.relation j.target_inv j.holds.post source source_closed inv_closed is_source j.holds.is_post y pt step (subst (λ (p : Polyhedron). In p.cons y) (sym inv_is) inside) in
+        let above = hull_above (IsJumpPost j.source j.inv t.relation j.target_inv) d j.old old_closed here.0 j.holds in
         let in_set : In set.0.cons y =
-        here.1.1 y (point_at d here.0.cons.dim y (sym above.closed.over.same_dim) pt) (hull_takes (IsJumpPost j.source j.inv t.relation j.target_inv) d j.old old_closed here.0 j.is_joined c y pt in_post) in
+        here.1.1 y (point_at d here.0.cons.dim y (sym above.closed.over.same_dim) pt) (hull_takes (IsJumpPost j.source j.inv t.relation j.target_inv) d j.old old_closed here.0 j.holds c y pt in_post) in
         part_takes d set.0 inv target set_closed (of.each t.target target has_target inv set.0 has_inv set.1) y pt in_set inside
 
 -- an overflow at one location is one at some

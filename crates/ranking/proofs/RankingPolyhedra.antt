@@ -1,9 +1,10 @@
 -- The polyhedron of the constraints of the generators is that of the ranking functions.
-use Rattle.std.proofs.Common.{◌≡◌, inr, ℕ, ◌+◌, ◌/◌, ◌%◌, List, length, ℤ, sym, ap, ◌∙◌, subst, arith, All}
+use Rattle.std.proofs.Common.{◌≡◌, inr, ℕ, ◌+◌, ◌/◌, ◌%◌, List, length, ℤ, Option, refl, sym, ap, ◌∙◌, subst, arith, All}
 use Rattle.std.specs.Prelude.{Result, Ok, Err, IfOk, IfErr}
 use Rattle.row_core.specs.Points.{IsPoint}
 use Rattle.row_core.specs.declared.errors.ConvErr.{ConvErr}
 use Rattle.row_core.specs.declared.errors.ConvErr.TheVariants as conversion
+use Rattle.row_core.specs.declared.errors.Overflow.{Overflow}
 use Rattle.cons_sys.specs.declared.kind.ConKind.TheVariants.{Ge}
 use Rattle.cons_sys.specs.Constraints.{Constraint, Constraints, In, Satisfies}
 use Rattle.gens_sys.specs.Generators.{Generator, Generators, FitDimension}
@@ -13,6 +14,7 @@ use Rattle.set_laws.specs.Asking.{IsTrueOn}
 use Rattle.poly_pair.specs.declared.topology.Topology.TheVariants.{Closed}
 use Rattle.poly_pair.specs.Polyhedra.{Polyhedron, IsKept, IsOfConstraints}
 use Rattle.poly_pair.specs.Refusals.{IsOverflowOn}
+use Rattle.poly_pair.specs.Work.{cons_work, conv_overflow, IsConversion}
 use Rattle.poly_pair.proofs.StoredLemmas.{kept_dim}
 use Rattle.poly_pair.proofs.PairedSystems.{kept_paired}
 use Rattle.set_laws.proofs.GeneratorLaws.{true_on_law}
@@ -21,7 +23,7 @@ use Rattle.row_core.specs.Refusals.{IsOverflowIn}
 use Rattle.ranking.specs.Functions.{IsRanking}
 use Rattle.ranking.specs.RankingRows.{ranking_rows, IsRankingSystem}
 use Rattle.ranking.specs.Rankings.{IsRankingSet}
-use Rattle.ranking.specs.Refusals.{LeavesInRanking}
+use Rattle.ranking.specs.Refusals.{SomeLeavesInDifferences, LeavesInRanking, IsRankingConversion, IsUnconverted}
 use Rattle.ranking.proofs.PairValues.{bound_of, fall_of}
 use Rattle.ranking.proofs.RankingSets.{reduced_hold, hold_reduced, reduced_closed, rows_closed, rows_hold, rows_bound, rows_fall, ranks_of, bound_ranks, fall_ranks}
 
@@ -94,3 +96,15 @@ module _ (relation : Polyhedron) (k : IsKept relation) (gs : Generators) (same :
   pub lent_list_refusal : (system : Constraints) → IsRankingSystem (d / 2) gs system → (r : Result Polyhedron ConvErr) → IfErr r (IsOverflowOn (system.dim + 1) system.dim (constraint_list system)) → IfErr r (IsOverflowIn (LeavesInRanking (relation.cons.dim / 2) relation.gens))
   lent_list_refusal system s (Ok result) leaves = tt
   lent_list_refusal system s (Err cause) leaves = list_refusal (relation.cons.dim / 2) relation.gens system cause (lent_system system s) leaves
+
+  pub lent_conversion : (system : Constraints) → IsRankingSystem (d / 2) gs system → (old new : ℕ) (over : Option Overflow) → IsConversion (cons_work Closed system) old new over → IsRankingConversion (relation.cons.dim / 2) relation.gens old new over
+  lent_conversion system s old new over c = record { system = system; is_system = lent_system system s; conversion = c }
+
+  pub lent_unconverted : (steps : ℕ) (cause : ConvErr) → IsOverflowIn (SomeLeavesInDifferences (d / 2) gs.list) cause → IsUnconverted (relation.cons.dim / 2) relation.gens steps steps (conv_overflow cause)
+  lent_unconverted steps (conversion.Overflow over) l = record {
+    same = refl;
+    leaves =
+        subst (λ (m : ℕ). SomeLeavesInDifferences (m / 2) relation.gens.list over) dim_is
+        (subst (λ (hs : Generators). SomeLeavesInDifferences (d / 2) hs.list over) same l);
+  }
+  lent_unconverted steps conversion.Memory l = record { same = refl; leaves = tt }

@@ -3,7 +3,7 @@ ghost use Rattle.std.specs.Prelude.{◌≡◌, ◌/◌, ◌%◌, ◌≤◌, IfOk
 ghost use Rattle.poly_pair.specs.declared.topology.Topology.TheVariants.{Closed};
 ghost use Rattle.row_core.specs.Refusals.{IsOverflowIn};
 ghost use Rattle.ranking.specs.Rankings.{IsRankingSet};
-ghost use Rattle.ranking.specs.Refusals.{LeavesInRanking};
+ghost use Rattle.ranking.specs.Refusals.{LeavesInRanking, ConvertsRanking};
 
 use crate::systems::ranking_system;
 use poly_pair::{Poly, Topology};
@@ -32,6 +32,8 @@ pub fn ranking_set<L: Ledger>(
     ensures overflow { IfErr result
         (IsOverflowIn (LeavesInRanking (relation.now.cons.dim / 2) relation.now.gens)) }
     ensures no_fewer { steps.old ≤ steps.new }
+    ensures conversion { ConvertsRanking (relation.now.cons.dim / 2) relation.now.gens
+        steps.old steps.new result }
 {
     let states = relation.dim() / 2;
     let system = match ranking_system(alloc, relation.gens(), states) {
