@@ -99,7 +99,8 @@ fn copies(alloc: Global, first: &[u8], second: &[u8]) -> Result<(Text, Text), Me
     Ok((first, second))
 }
 
-/// Copies of the first two words.
+/// Copies of the first two words, made where the caller keeps them.
+#[inline(always)]
 fn two_texts(alloc: Global, rest: &[u8]) -> Result<(Text, Text), Memory>
     ensures { IfOk result (λ t. (t.0 ≡ nth_word 0 rest.now) × (t.1 ≡ nth_word 1 rest.now)) }
 {
@@ -119,7 +120,8 @@ fn three_texts(alloc: Global, rest: &[u8]) -> Result<(Text, Text, Text), Memory>
     Ok((first, second, third))
 }
 
-/// A copy of the first word, and the part behind the colon.
+/// A copy of the first word, and the part behind the colon, made where the caller keeps them.
+#[inline(always)]
 fn text_and_part(alloc: Global, rest: &[u8]) -> Result<(Text, Part), Memory>
     ensures first { IfOk result (λ t. t.0 ≡ nth_word 0 rest.now) }
     ensures part { IfOk result (λ t. t.1 ≡ part_from (part_of rest.now)) }
@@ -349,8 +351,8 @@ fn of_space_part(alloc: Global, kind: SpaceAndPart, rest: &[u8]) -> Result<Comma
 fn of_two_names_number(alloc: Global, kind: TwoNamesNumber, rest: &[u8]) -> Result<Command, ReadErr>
     ensures { IsMade (form.TwoNamesNumber kind) rest.now result }
 {
-    let (out, p) = two_texts(alloc, rest)?;
-    let (_, _, third) = three_words(rest);
+    let (first, second, third) = three_words(rest);
+    let (out, p) = copies(alloc, first, second)?;
     let n = number(third);
     Ok(match kind {
         TwoNamesNumber::Embed => Command::Extend {
@@ -374,8 +376,8 @@ fn of_map(alloc: Global, kind: TwoNamesMap, rest: &[u8]) -> Result<Command, Read
     ensures { IsMade (form.TwoNamesMap kind) rest.now result }
 {
     let frac = part(alloc, rest)?;
-    let (out, p) = two_texts(alloc, rest)?;
-    let (_, _, third) = three_words(rest);
+    let (first, second, third) = three_words(rest);
+    let (out, p) = copies(alloc, first, second)?;
     let v = variable(third);
     let rel = relation(sign_of(rest));
     Ok(match kind {
