@@ -6,7 +6,6 @@ pub mod Line
 pub mod Meanings
 pub mod Parts
 pub mod Powersets
-pub mod Rankings
 pub mod Reading
 pub mod Runs
 pub mod Shapes

@@ -5,14 +5,14 @@ use Rattle.powerset.specs.Powersets.{FinitePowerset}
 use Rattle.bd_shape.specs.Shapes.{DifferenceShape}
 use Rattle.script_text.specs.declared.command.Command.{Command}
 use Rattle.name_table.specs.Table.{entry_of, has_no_room}
-use Rattle.line_values.specs.Effects.{puts, tells}
+use Rattle.line_values.specs.Effects.{puts, tells, drop_of}
 use Rattle.line_values.specs.Meaning.{Meaning, on_one, on_two, says}
-use Rattle.poly_commands.specs.Names.{drop_of}
-use Rattle.poly_commands.specs.Meanings.{made as made_of_polyhedra, added, said}
+use Rattle.poly_makers.specs.Meanings.{made as made_of_polyhedra, added}
+use Rattle.poly_questions.specs.Meanings.{said}
 use Rattle.calc_state.specs.Table.{Table, Change, poly_of, system_of, powerset_of, shape_of, hybrid_of, as_poly, as_system, as_powerset, as_shape, as_hybrid}
 use Rattle.calc_state.specs.Systems.{system, fixpoint}
 use Rattle.calc_state.specs.Powersets.{pset, of_two_powersets, member, psize, covers}
-use Rattle.calc_state.specs.Rankings.{rank, ranking}
+use Rattle.ranking_commands.specs.Rankings.{rank, ranking}
 use Rattle.calc_state.specs.Shapes.{shape as shape_of_set, bounds, of_two_shapes, shape_contains, shape_print, shape_poly}
 use Rattle.calc_state.specs.Hybrids.{hybrid, reach}
 use Rattle.calc_state.specs.Parts.{init, trans, set_part}

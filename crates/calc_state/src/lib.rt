@@ -17,7 +17,6 @@ mod part_tests;
 mod parts;
 mod perform;
 mod powersets;
-mod rankings;
 mod shapes;
 mod systems;
 

@@ -13,18 +13,19 @@ use crate::operands::{hybrid_at, powerset_at, shape_at, system_at};
 use crate::part_tests::{added_transition, replaced_initial, replaced_part};
 use crate::parts::PartChange;
 use crate::powersets::{covers, member, of_two_powersets, pset, psize};
-use crate::rankings::{rank, ranking};
 use crate::shapes::{bounds, of_two_shapes, shape_contains, shape_of_set, shape_poly, shape_print};
 use crate::systems::{fixpoint, system};
 use bd_shape::Shape;
 use command_tasks::{
     Asked, Made, PartTask, PolyMaker, PowersetMaker, Running, ShapeMaker, TableTask,
 };
-use line_values::{Change, StepErr, is_full, poly_at, put_numbered, put_poly, say};
+use line_values::{Change, StepErr, drop_name, is_full, poly_at, put_numbered, put_poly, say};
 use name_table::Names;
-use poly_commands::{add_to, ask, drop_name, make};
+use poly_makers::{add_to, make};
 use poly_pair::Poly;
+use poly_questions::ask;
 use powerset::Powerset;
+use ranking_commands::{rank, ranking};
 use reply_text::Text;
 use row_core::Steps;
 use std::alloc::Global;

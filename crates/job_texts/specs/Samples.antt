@@ -11,7 +11,7 @@ use Rattle.optimum.specs.declared.outcome.Sup.{Sup}
 use Rattle.optimum.specs.declared.outcome.Sup.TheVariants as sup
 use Rattle.sample_rows.specs.Samples.{IsSample}
 use Rattle.line_values.specs.Overflows.{LeavesOnConstraints}
-use Rattle.poly_commands.specs.Optima.{SearchLeaves, ShowsValues}
+use Rattle.poly_questions.specs.Optima.{SearchLeaves, ShowsValues}
 use Rattle.line_values.specs.Meaning.{line}
 use Rattle.line_values.specs.Proper.{IsProper}
 use Rattle.line_values.specs.Replies.{Reply, Answered, Refused, Overflows, GivesReply}

@@ -1,7 +1,9 @@
 mod ChangeLemmas
 pub mod EffectLemmas
 pub mod FaultOrder
+pub mod FoundOperands
 mod FractionTexts
+pub mod PairLemmas
 pub mod PerformedLemmas
 mod StrictTexts
 mod TextFaults

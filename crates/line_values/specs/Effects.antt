@@ -1,5 +1,5 @@
 -- What a command does in a table of names: what is said, put or taken out.
-use Rattle.std.specs.Prelude.{◌≡◌, ℕ, List, [], ◌∷◌, ◌++◌, map, Option, Some, MatchOption, Result, Ok, Err, Vec, codes}
+use Rattle.std.specs.Prelude.{◌≡◌, ℕ, List, [], ◌∷◌, ◌++◌, map, Option, None, Some, MatchOption, Result, Ok, Err, Vec, codes}
 use Rattle.std.specs.declared.alloc.Global.{Global}
 use Rattle.row_core.specs.declared.errors.Memory.{Memory}
 use Rattle.poly_pair.specs.Polyhedra.{Polyhedron}
@@ -7,7 +7,7 @@ use Rattle.name_table.specs.Table.{Table, put, put_each, without, numbered_entri
 use Rattle.line_values.specs.declared.refusal.StepErr.{StepErr}
 use Rattle.line_values.specs.declared.change.Change.{Change}
 use Rattle.line_values.specs.declared.change.Change.TheVariants.{Says, Puts, PutsAll, TakesOut}
-use Rattle.line_values.specs.Meaning.{Meaning}
+use Rattle.line_values.specs.Meaning.{Meaning, no_fault, no_overflow, unknown}
 
 -- ---- changes
 -- the reply is a text with this property, and nothing changes
@@ -30,6 +30,12 @@ AreAllPut out Are other = ⊥
 abbrev pub IsTakenOut : {E : Type 0} → List ℕ → Change E → Type 0
 IsTakenOut name (TakesOut taken) = taken ≡ name
 IsTakenOut name other = ⊥
+
+-- drop NAME
+abbrev pub drop_of : {E : Type 0} → List ℕ → Option E → Meaning (Change E)
+drop_of name None = unknown
+drop_of name (Some e) =
+    record { conditions = no_fault; overflows = no_overflow; does = IsTakenOut name }
 
 -- ---- what a command makes or says
 -- what the command makes is put under the name, as an entry of its kind

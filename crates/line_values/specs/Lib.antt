@@ -3,6 +3,7 @@ pub mod Meaning
 pub mod Operands
 pub mod Order
 pub mod Overflows
+pub mod Pairs
 pub mod Performed
 pub mod Proper
 pub mod Refusals

@@ -1,14 +1,16 @@
 //! What an accepted command does to a table of names.
 ghost use Rattle.std.specs.Prelude.{◌≡◌, map, IfOk};
-ghost use Rattle.line_values.specs.Effects.{Shows, ok_line, placed, all_placed, replied};
+ghost use Rattle.name_table.specs.Table.{entry_of};
+ghost use Rattle.line_values.specs.Effects.{Shows, ok_line, drop_of, placed, all_placed, replied};
 ghost use Rattle.line_values.specs.Meaning.{line};
+ghost use Rattle.line_values.specs.Performed.{IsPerformed};
 ghost use Rattle.line_values.specs.declared.change.Change.TheVariants as changes;
 
 use crate::entry::PolyEntry;
 use crate::refusal::StepErr;
 use name_table::Names;
 use poly_pair::Poly;
-use reply_text::Text;
+use reply_text::{Fault, Text};
 use row_core::Memory;
 use std::alloc::Global;
 
@@ -104,6 +106,16 @@ fn take_out<E: PolyEntry>(alloc: Global, names: &mut Names<E>, name: &Text) -> R
     let reply = ok(alloc)?;
     names.take_out(name.bytes());
     Ok(reply)
+}
+
+/// The name is taken out, where it is there.
+pub fn drop_name<E: PolyEntry>(names: &Names<E>, name: Text) -> Result<Change<E>, StepErr>
+    ensures { IsPerformed (drop_of name (entry_of names.now name)) result }
+{
+    match names.get(name.bytes()) {
+        Some(_) => Ok(Change::TakesOut(name)),
+        None => Err(StepErr::Input(Fault::UnknownName)),
+    }
 }
 
 /// Puts the polyhedron that was made under the name.

@@ -1,11 +1,15 @@
 //! Why a line was not accepted.
-ghost use Rattle.std.specs.Prelude.{◌≡◌};
+ghost use Rattle.std.specs.Prelude.{◌≡◌, ◌<◌, length};
 ghost use Rattle.line_values.specs.Refusals.{refusal_of_reading, refusal_of_text, refusal_of_conversion, refusal_of_generators};
+ghost use Rattle.line_values.specs.Pairs.{IsRefusalOfPair};
 ghost use Rattle.line_values.specs.declared.refusal.StepErr.TheVariants;
 
+use cons_sys::ConsSys;
+use gens_sys::GensSys;
 use poly_pair::GenErr;
 use reply_text::{Fault, ReadErr};
-use row_core::{ConvErr, Memory, Overflow};
+use row_core::{ConvErr, Memory, Overflow, PairOver};
+use std::alloc::Global;
 use term_text::ValueErr;
 use thiserror::Error;
 
@@ -75,5 +79,18 @@ impl From<GenErr> for StepErr {
             GenErr::Overflow(over) => StepErr::Overflow(over),
             GenErr::Memory => StepErr::Memory,
         }
+    }
+}
+
+/// The refusal that shows the rows of a pair that leaves the range.
+pub fn refusal_of_pair(alloc: Global, cons: &ConsSys, gens: &GensSys, pair: PairOver) -> StepErr
+    requires left { pair.left < length cons.now.list }
+    requires right { pair.right < length gens.now.list }
+    ensures { IsRefusalOfPair cons.now gens.now pair result }
+{
+    let (left, right) = (cons.row(pair.left), gens.row(pair.right));
+    match Overflow::of_rows(alloc, pair.kind, left, right, pair.column) {
+        Ok(over) => StepErr::Overflow(over),
+        Err(cause) => StepErr::from(cause),
     }
 }

@@ -9,11 +9,11 @@ use Rattle.reply_text.specs.declared.faults.Fault.TheVariants as fault
 use Rattle.open_files.specs.OpenFiles.{OpenFile}
 use Rattle.calc_state.specs.State.{State}
 use Rattle.line_values.specs.Replies.{Reply, Refused}
-use Rattle.polycalc.specs.Replies.{Written, with_reply, reply_bytes, replies_bytes}
+use Rattle.written_replies.specs.Replies.{Written, with_reply, reply_bytes, replies_bytes}
 use Rattle.calc_state.specs.Runs.{cut_off, at_end}
 use Rattle.polycalc.specs.Endings.{Closes, done, refused, unwritten, unmade}
-use Rattle.polycalc.specs.declared.status.Status.{Status}
-use Rattle.polycalc.specs.declared.status.Status.TheVariants as status
+use Rattle.written_replies.specs.declared.status.Status.{Status}
+use Rattle.written_replies.specs.declared.status.Status.TheVariants as status
 
 -- ---- no file is open
 pub closes_done : (state : State) (clean : Bool) (held : Option (List ℕ)) → state.file ≡ None → clean ≡ true → Closes (at_end state) clean held held status.Done

@@ -5,7 +5,7 @@ use Rattle.line_values.specs.declared.refusal.StepErr.TheVariants as err
 use Rattle.line_values.specs.Replies.{Reply, Answered, Refused, Overflows, GivesReply}
 use Rattle.calc_state.specs.State.{State}
 use Rattle.calc_state.specs.Line.{Step, Gives}
-use Rattle.polycalc.specs.Replies.{Written, with_reply, Adds}
+use Rattle.written_replies.specs.Replies.{Written, with_reply, Adds}
 
 -- what was given and added is one reply
 pub reply_added : (Is : Reply → Type 0) (given : Result (List ℕ) StepErr) (old new : Written) → GivesReply Is given → Adds given old new → (reply : Reply) × Is reply × (new ≡ with_reply old reply)

@@ -13,8 +13,8 @@ use Rattle.calc_state.specs.Runs.{RunsAreComplete}
 use Rattle.polycalc.specs.Outcomes.{Completes, Converts, Samples, IsReadOut, Finishes, WritesFront, AnswersRead, AnswersFront, GivesUp, Outcome, Ends, Stops, EndsAs, TellsSize, IsRunAnswered, IsFileAnswered, IsSampleAnswered, IsAnswered}
 use Rattle.job_words.specs.declared.job.Job.{Job}
 use Rattle.job_words.specs.declared.job.Job.TheVariants as job
-use Rattle.polycalc.specs.declared.status.Status.{Status}
-use Rattle.polycalc.specs.declared.status.Status.TheVariants.{Done, Refused, Usage, ReadFault, WriteFault, Memory, InputTooLong}
+use Rattle.written_replies.specs.declared.status.Status.{Status}
+use Rattle.written_replies.specs.declared.status.Status.TheVariants.{Done, Refused, Usage, ReadFault, WriteFault, Memory, InputTooLong}
 use Rattle.poly_io.proofs.Known.{prepend_known-nil}
 use Rattle.job_texts.proofs.ConversionLaws.{must_convert}
 use Rattle.job_texts.proofs.SampleLaws.{must_sample}

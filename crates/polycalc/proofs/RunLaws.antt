@@ -8,7 +8,7 @@ use Rattle.std.proofs.lemmas.List.{append-nil}
 use Rattle.calc_state.specs.State.{State}
 use Rattle.line_values.specs.Replies.{Reply, is_answer}
 use Rattle.calc_state.specs.Line.{Step}
-use Rattle.polycalc.specs.Replies.{Written, written, with_reply, reply_bytes}
+use Rattle.written_replies.specs.Replies.{Written, written, with_reply, reply_bytes}
 use Rattle.calc_state.specs.Runs.{Run}
 
 -- a run goes on by one step

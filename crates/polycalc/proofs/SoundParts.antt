@@ -1,5 +1,5 @@
 -- Systems, automata, powersets, shapes and ranking functions are those that are said.
-use Rattle.std.proofs.Common.{false, ◌≡◌, ◌≢◌, ◌⊎◌, inl, inr, ◌↔◌, ℕ, ◌+◌, ◌-◌, ◌*◌, ◌/◌, ◌%◌, ◌<◌, ◌≤◌, List, [], ◌∷◌, ◌++◌, map, length, take, refl, ap, sym, ◌∙◌, subst, slice_get, slice_set, All, Contains, ℤ, codes, arith}
+use Rattle.std.proofs.Common.{false, ◌≡◌, ◌⊎◌, inl, inr, ◌↔◌, ℕ, ◌+◌, ◌-◌, ◌*◌, ◌/◌, ◌%◌, ◌<◌, ◌≤◌, List, [], ◌∷◌, ◌++◌, map, length, take, refl, ap, sym, ◌∙◌, subst, slice_get, slice_set, All, Contains, ℤ, codes, arith}
 use Rattle.std.specs.Prelude.{Option, None, Some, decimal, slice_index_or, ⊤}
 use Rattle.std.specs.Option.{option_map}
 use Rattle.std.proofs.lemmas.Bool.{cases_lt}
@@ -15,6 +15,7 @@ use Rattle.poly_pair.specs.Polyhedra as poly
 use Rattle.poly_pair.specs.Polyhedra.{Polyhedron}
 use Rattle.poly_pair.specs.ClosedPolyhedra as closed
 use Rattle.trans_sys.specs.Systems as trans
+use Rattle.trans_sys.specs.declared.transition.Transition as declared
 use Rattle.fixpoint.specs.RunLaws as fixpoint
 use Rattle.hybrid.specs.Reaches as reaches
 use Rattle.hybrid.specs.Turns.{turns_of}
@@ -53,22 +54,22 @@ use Rattle.calc_state.specs.Systems as made
 use Rattle.calc_state.specs.Hybrids as made_automata
 use Rattle.calc_state.specs.Parts as parts
 use Rattle.calc_state.specs.Powersets as made_powersets
-use Rattle.calc_state.specs.Rankings as made_rankings
+use Rattle.ranking_commands.specs.Rankings as made_rankings
 use Rattle.calc_state.specs.Shapes as made_shapes
 use Rattle.elapse.specs.ElapsedPoints.{IsMoved}
 use Rattle.soundness.specs.Points.{PointSet, HasNoPoint, IsOver}
 use Rattle.soundness.specs.Values.{Transition, TransitionSystem, HybridAutomaton}
 use Rattle.script_text.specs.declared.command.Comparison.TheVariants as comparison
-use Rattle.soundness.specs.Sets.{constraints, IsOfConstraints, IsCopy}
+use Rattle.soundness.specs.Sets.{constraints, IsCopy}
 use Rattle.soundness.specs.Answers.{line, LieSo, TellsHowTheyLie, TellsConstraints}
 use Rattle.soundness.specs.Unions as unions
-use Rattle.soundness.specs.Shapes.{IsInSmallestShape, IsSmallestShape, IsOfTwoShapes}
+use Rattle.soundness.specs.Shapes.{IsInSmallestShape, IsOfBounds, IsSmallestShape, IsOfTwoShapes}
 use Rattle.soundness.specs.Systems.{IsEmptySystem, IsWithInitial, IsWithTransition, IsStill, with_part, IsWithPart, IsAt, IncludeInitial, AreClosedUnder, AreInvariant, AreReached}
-use Rattle.soundness.proofs.PointLaws.{TextLaws, via, turn, is_nnc, set_of, is_over, closed_is_over, set_is, moved, within}
+use Rattle.soundness.proofs.PointLaws.{TextLaws, via, turn, is_nnc, set_of, is_over, closed_is_over, set_is, moved}
 use Rattle.soundness.proofs.Operands.{one_topology, one_number, below}
 use Rattle.soundness.proofs.TrueAnswers.{told}
 use Rattle.soundness.proofs.ShapeRows.{shape_fits}
-use Rattle.soundness.proofs.ShapeSets.{shape_set, in_shape, within_shape, shape_is, smallest_from, smallest_to, hull_to, smallest_same}
+use Rattle.soundness.proofs.ShapeSets.{shape_set, in_shape, within_shape, shape_is, own_shape, smallest_from, smallest_to, hull_to, smallest_same}
 use Rattle.polycalc.proofs.SoundValues.{transition_of, system_of, automaton_of, powerset_of}
 
 -- ---- places of a list
@@ -157,15 +158,24 @@ initial_included s sets each are h l v on stays =
     let x = set_at s.dim (length s.initial) sets are l (slice_get_within s.initial l i.0 i.1) in
     put_at s.dim (length s.initial) sets are l v x.0 x.1 (moved i.0.cons.dim s.dim v (dim_at s.dim s.initial l i.0 each i.1) i.2.point) (h l i.0 x.0 i.1 x.1 v i.2.point i.2.holds)
 
+-- a step by a transition that is said is one by a transition of the list
+module _ (transitions : List declared.Transition) (sets : List Polyhedron) (Stays : ℕ → Type 0) (v : List ℤ) (each : (k : ℕ) (old : declared.Transition) (from : Polyhedron) → slice_get transitions k ≡ Some old → slice_get sets old.source ≡ Some from → IsStepTo from.cons old.relation.cons v → Stays old.target → IsAt (map set_of sets) old.target v) where
+  from_set : (k : ℕ) (old : declared.Transition) (source : PointSet) → slice_get transitions k ≡ Some old → Mapped set_of sets old.source source → IsStepTo source.cons old.relation.cons v → Stays old.target → IsAt (map set_of sets) old.target v
+  from_set k old source at m step stays = each k old m.source at m.at (subst (λ (y : PointSet). IsStepTo y.cons old.relation.cons v) (sym m.is) step) stays
+
+  from_transition : (k : ℕ) (t : Transition) (source : PointSet) → Mapped transition_of transitions k t → slice_get (map set_of sets) t.source ≡ Some source → IsStepTo source.cons t.relation.cons v → Stays t.target → IsAt (map set_of sets) t.target v
+  from_transition k t source m =
+      subst (λ (y : Transition). slice_get (map set_of sets) y.source ≡ Some source → IsStepTo source.cons y.relation.cons v → Stays y.target → IsAt (map set_of sets) y.target v) m.is
+      (λ at_source. from_set k m.source source m.at (mapped set_of sets m.source.source source at_source))
+
 transitions_closed : (s : trans.TransitionSystem) (sets : List Polyhedron) → All (trans.IsTransition (length s.initial) s.dim) s.transitions → AreSets s.dim (length s.initial) sets → fixpoint.AreClosedUnder s.transitions sets → AreClosedUnder (system_of s) (λ l v. ⊤) (map set_of sets)
-transitions_closed s sets each are h k t source v at_t at_source is step stays =
-    let m = mapped transition_of s.transitions k t at_t in
-    let x = mapped set_of sets m.source.source source (subst (λ (y : Transition). slice_get (map set_of sets) y.source ≡ Some source) (sym m.is) at_source) in
-    let z = set_at s.dim (length s.initial) sets are m.source.target (all_at (trans.IsTransition (length s.initial) s.dim) s.transitions k m.source each m.at).target in
-    let step_m : IsStepTo source.cons m.source.relation.cons v = subst (λ (y : Transition). IsStepTo source.cons y.relation.cons v) (sym m.is) step in
-    let step_x : IsStepTo x.source.cons m.source.relation.cons v = subst (λ (y : PointSet). IsStepTo y.cons m.source.relation.cons v) (sym x.is) step_m in
-    subst (λ (y : Transition). IsAt (map set_of sets) y.target v) m.is
-    (put_at s.dim (length s.initial) sets are m.source.target v z.0 z.1 is (h k m.source x.source z.0 m.at x.at z.1 v (moved s.dim x.source.cons.dim v (sym (are.dims m.source.source x.source x.at)) is) step_x))
+transitions_closed s sets each are h k t source v at_t at_source is step stays = from_transition s.transitions sets (λ l. ⊤) v closed k t source (mapped transition_of s.transitions k t at_t) at_source step tt
+  where
+    lands : (n : ℕ) (old : declared.Transition) (from : Polyhedron) → slice_get s.transitions n ≡ Some old → slice_get sets old.source ≡ Some from → IsStepTo from.cons old.relation.cons v → (z : (p : Polyhedron) × (slice_get sets old.target ≡ Some p)) → IsAt (map set_of sets) old.target v
+    lands n old from at there go z = put_at s.dim (length s.initial) sets are old.target v z.0 z.1 is (h n old from z.0 at there z.1 v (moved s.dim from.cons.dim v (sym (are.dims old.source from there)) is) go)
+
+    closed : (n : ℕ) (old : declared.Transition) (from : Polyhedron) → slice_get s.transitions n ≡ Some old → slice_get sets old.source ≡ Some from → IsStepTo from.cons old.relation.cons v → ⊤ → IsAt (map set_of sets) old.target v
+    closed n old from at there go free = lands n old from at there go (set_at s.dim (length s.initial) sets are old.target (all_at (trans.IsTransition (length s.initial) s.dim) s.transitions n old each at).target)
 
 pub fixpoint_made : (s : trans.TransitionSystem) (delay : ℕ) (sets : List Polyhedron) → trans.IsKeptSystem s → made.AreReached s delay sets → AreInvariant (system_of s) (map set_of sets)
 fixpoint_made s delay sets kept h =
@@ -253,14 +263,13 @@ flow_reached h sets parts each l x y v on flows moves stays =
 
 jumps_reached : (h : hybrid.HybridAutomaton) (sets : List Polyhedron) → hybrid.IsKeptHybrid h → ArePartsOver h sets → reaches.AreClosedUnderJumps h sets → AreClosedUnder (automaton_of h).system (IsAt (automaton_of h).invariants) (map set_of sets)
 jumps_reached h sets kept parts each k t source v at_t at_source is step stays =
-    let m = mapped transition_of h.system.transitions k t at_t in
-    let x = mapped set_of sets m.source.source source (subst (λ (y : Transition). slice_get (map set_of sets) y.source ≡ Some source) (sym m.is) at_source) in
-    let z = set_at h.system.dim (length h.system.initial) sets (sets_of h sets parts) m.source.target (all_at (trans.IsTransition (length h.system.initial) h.system.dim) h.system.transitions k m.source kept.system.transitions m.at).target in
-    let j = at_from h.invariants m.source.target v (subst (λ (y : Transition). IsAt (map set_of h.invariants) y.target v) (sym m.is) stays) in
-    let step_m : IsStepTo source.cons m.source.relation.cons v = subst (λ (y : Transition). IsStepTo source.cons y.relation.cons v) (sym m.is) step in
-    let step_x : IsStepTo x.source.cons m.source.relation.cons v = subst (λ (y : PointSet). IsStepTo y.cons m.source.relation.cons v) (sym x.is) step_m in
-    subst (λ (y : Transition). IsAt (map set_of sets) y.target v) m.is
-    (put_at h.system.dim (length h.system.initial) sets (sets_of h sets parts) m.source.target v z.0 z.1 is (each k m.source x.source z.0 j.0 m.at x.at z.1 j.1 v is step_x j.2.holds))
+    from_transition h.system.transitions sets (λ l. IsAt (map set_of h.invariants) l v) v closed k t source (mapped transition_of h.system.transitions k t at_t) at_source step stays
+  where
+    lands : (n : ℕ) (old : declared.Transition) (from : Polyhedron) → slice_get h.system.transitions n ≡ Some old → slice_get sets old.source ≡ Some from → IsStepTo from.cons old.relation.cons v → (z : (p : Polyhedron) × (slice_get sets old.target ≡ Some p)) → (j : (p : Polyhedron) × (slice_get h.invariants old.target ≡ Some p) × IsWithin p.cons v) → IsAt (map set_of sets) old.target v
+    lands n old from at there go z j = put_at h.system.dim (length h.system.initial) sets (sets_of h sets parts) old.target v z.0 z.1 is (each n old from z.0 j.0 at there z.1 j.1 v is go j.2.holds)
+
+    closed : (n : ℕ) (old : declared.Transition) (from : Polyhedron) → slice_get h.system.transitions n ≡ Some old → slice_get sets old.source ≡ Some from → IsStepTo from.cons old.relation.cons v → IsAt (map set_of h.invariants) old.target v → IsAt (map set_of sets) old.target v
+    closed n old from at there go on = lands n old from at there go (set_at h.system.dim (length h.system.initial) sets (sets_of h sets parts) old.target (all_at (trans.IsTransition (length h.system.initial) h.system.dim) h.system.transitions n old kept.system.transitions at).target) (at_from h.invariants old.target v on)
 
 within_reached : (h : hybrid.HybridAutomaton) (sets : List Polyhedron) → hybrid.IsKeptHybrid h → ArePartsOver h sets → (l : ℕ) (v : List ℤ) → IsAt (map set_of sets) l v → IsAt (automaton_of h).invariants l v
 within_reached h sets kept parts l v on =
@@ -418,18 +427,20 @@ shape_made p s others is passes h = record {
   ));
 }
 
-pub bounds_made : TextLaws → (n : ℕ) (part : Part) (s : DifferenceShape) → IsShape s → texts.SaysConstraints n part (λ cs. made_shapes.IsShapeOfConstraints cs s) → IsOfConstraints false n part (shape_set s)
+pub bounds_made : TextLaws → (n : ℕ) (part : Part) (s : DifferenceShape) → IsShape s → texts.SaysConstraints n part (λ cs. made_shapes.IsShapeOfConstraints cs s) → IsOfBounds n part.text (shape_set s)
 bounds_made laws n part s is h =
     let says = laws.constraints n part.text h.system h.read in
-    let same : h.system.dim ≡ n = h.read.holds.over in
-    record {
-      list = says.list;
-      text = says.is_text;
-      set = shape_is n (In (constraints n says.list)) s is (h.holds.dim ∙ same) (λ v point. (
-        λ on. (says.same v).0 ((h.holds.points v).0 on).1,
-        λ holds. (h.holds.points v).1 (moved n h.system.dim v (sym same) point, (says.same v).1 holds),
-      ));
-    }
+    let same : h.system.dim ≡ n = h.read.holds.over in (
+      record {
+        list = says.list;
+        says = says.is_text;
+        set = shape_is n (In (constraints n says.list)) s is (h.holds.dim ∙ same) (λ v point. (
+          λ on. (says.same v).0 ((h.holds.points v).0 on).1,
+          λ holds. (h.holds.points v).1 (moved n h.system.dim v (sym same) point, (says.same v).1 holds),
+        ));
+      },
+      own_shape n s is (h.holds.dim ∙ same),
+    )
 
 -- the point is in one of two shapes
 abbrev IsInEither : DifferenceShape → DifferenceShape → List ℤ → Type 0
@@ -480,4 +491,4 @@ inclusion_true s t reply others is_s is_t passes h =
 pub sprint_true : TextLaws → ConstraintsAreReadBack → (s : DifferenceShape) (reply : List ℕ) → IsShape s → reply ≡ line (constraints_text (shape_constraints s)) → TellsConstraints (shape_set s) reply
 sprint_true laws law s reply is h =
     let says = laws.constraints s.dim (constraints_text (shape_constraints s)) (shape_constraints s) ((law (shape_constraints s) (shape_constraints s) (shape_fits s is)).1 refl) in
-    record { text = constraints_text (shape_constraints s); said = h; list = says.list; is_text = says.is_text; are = λ v point. turn (says.same v) }
+    record { text = constraints_text (shape_constraints s); said = h; is = record { list = says.list; says = says.is_text; set = shape_is s.dim (In (constraints s.dim says.list)) s is refl (λ v point. via (turn (in_shape s is v point)) (says.same v)) } }

@@ -34,12 +34,12 @@ use Rattle.script_text.specs.Line.{Spells}
 use Rattle.cdd_reading.specs.Files.{IsEnd}
 use Rattle.calc_state.specs.Line.{file_after, StepFrom}
 use Rattle.calc_state.specs.Runs.{Run, cut_off, at_end}
-use Rattle.polycalc.specs.Replies.{reply_bytes, replies_bytes}
+use Rattle.written_replies.specs.Replies.{reply_bytes, replies_bytes}
 use Rattle.polycalc.specs.Outcomes.{IsAnswered}
 use Rattle.polycalc.specs.Sound.{IsTrueOf, IsSound}
 use Rattle.job_words.specs.declared.job.Job.{Job}
 use Rattle.job_words.specs.declared.job.Job.TheVariants as job
-use Rattle.polycalc.specs.declared.status.Status.{Status}
+use Rattle.written_replies.specs.declared.status.Status.{Status}
 use Rattle.soundness.specs.Files.{IsRead}
 use Rattle.soundness.specs.Replies.{OpenFile, State, MayBeRefused, IsRefusal, file_begun, IsReply, IsEndReply, AreReplies, IsWrittenTo}
 use Rattle.soundness.proofs.PointLaws.{turn, set_of, closed_is_over}

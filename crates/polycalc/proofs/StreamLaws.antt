@@ -17,14 +17,14 @@ use Rattle.poly_io.proofs.Known.{append_known-append, append_known-nil}
 use Rattle.calc_state.specs.State.{State, closed}
 use Rattle.line_values.specs.Replies.{Reply, is_answer}
 use Rattle.calc_state.specs.Line.{Step}
-use Rattle.polycalc.specs.Replies.{Written, written, with_reply, reply_bytes, replies_bytes, is_clean}
+use Rattle.written_replies.specs.Replies.{Written, written, with_reply, reply_bytes, replies_bytes, is_clean}
 use Rattle.calc_state.specs.Runs.{Run, at_end}
 use Rattle.poly_io.specs.Counts.{HasRisen}
 use Rattle.polycalc.specs.Outcomes.{Completes, WritesPrefix, AnswersWhole, AnswersEarlier, AnswersFirst, Outcome}
 use Rattle.polycalc.specs.Endings.{Closes, done, refused, unwritten, unmade}
 use Rattle.job_words.specs.declared.job.Job.TheVariants as job
-use Rattle.polycalc.specs.declared.status.Status.{Status}
-use Rattle.polycalc.specs.declared.status.Status.TheVariants.{Done, Refused, Usage, ReadFault, WriteFault, Memory, InputTooLong}
+use Rattle.written_replies.specs.declared.status.Status.{Status}
+use Rattle.written_replies.specs.declared.status.Status.TheVariants.{Done, Refused, Usage, ReadFault, WriteFault, Memory, InputTooLong}
 use Rattle.polycalc.proofs.RunLaws.{Run-then, written-more}
 use Rattle.polycalc.proofs.CutRuns.{run_of_cut, parts_of_cut, one_of_cut, run_of_part}
 use Rattle.polycalc.proofs.FirstLines.{AreWholeWhenCut, first_of_parts, line_of_fed, all_lines, bool_cases}

@@ -4,14 +4,14 @@ use Rattle.std.specs.Prelude.{Option}
 use Rattle.std.specs.Io.KnownBytes.{IsAtEnd}
 use Rattle.cdd_reading.specs.declared.format.Format.{Format}
 use Rattle.line_values.specs.Replies.{Reply}
-use Rattle.polycalc.specs.Replies.{Written, written, with_reply}
+use Rattle.written_replies.specs.Replies.{Written, written, with_reply}
 use Rattle.job_texts.specs.Conversions.{ConvertsTo}
 use Rattle.job_texts.specs.Samples.{SamplesTo}
-use Rattle.polycalc.specs.Endings.{Writes}
+use Rattle.written_replies.specs.Endings.{Writes}
 use Rattle.polycalc.specs.Outcomes.{Outcome}
 use Rattle.job_words.specs.declared.job.Job.TheVariants as job
-use Rattle.polycalc.specs.declared.status.Status.{Status}
-use Rattle.polycalc.specs.declared.status.Status.TheVariants.{Done, Refused, Usage, ReadFault, WriteFault, Memory, InputTooLong}
+use Rattle.written_replies.specs.declared.status.Status.{Status}
+use Rattle.written_replies.specs.declared.status.Status.TheVariants.{Done, Refused, Usage, ReadFault, WriteFault, Memory, InputTooLong}
 
 -- ---- files
 one_converted : (want : Format) (file : List ℕ) (left old new : Option (List ℕ)) (reply : Reply) (s : Status) → ConvertsTo want file reply → length file ≤ 2 ^ 26 → IsAtEnd left → Writes (with_reply (written []) reply) old new s → Outcome (job.Convert want) file left old new s

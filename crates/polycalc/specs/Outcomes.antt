@@ -6,14 +6,14 @@ use Rattle.line_values.specs.Replies.{Reply, is_answer}
 use Rattle.cdd_reading.specs.declared.format.Format.{Format}
 use Rattle.poly_io.specs.declared.line_reader.TheConstants.{INPUT_LIMIT}
 use Rattle.job_words.specs.Words.{IsAskedBy}
-use Rattle.polycalc.specs.Replies.{reply_bytes, replies_bytes, is_clean}
+use Rattle.written_replies.specs.Replies.{reply_bytes, replies_bytes, is_clean}
 use Rattle.job_texts.specs.Conversions.{ConvertsTo, MustConvert}
 use Rattle.job_texts.specs.Samples.{SamplesTo, MustSample}
 use Rattle.calc_state.specs.Runs.{Run, IsComplete, at_end}
 use Rattle.job_words.specs.declared.job.Job.{Job}
 use Rattle.job_words.specs.declared.job.Job.TheVariants as job
-use Rattle.polycalc.specs.declared.status.Status.{Status}
-use Rattle.polycalc.specs.declared.status.Status.TheVariants.{Done, Refused, Usage, ReadFault, WriteFault, Memory, InputTooLong}
+use Rattle.written_replies.specs.declared.status.Status.{Status}
+use Rattle.written_replies.specs.declared.status.Status.TheVariants.{Done, Refused, Usage, ReadFault, WriteFault, Memory, InputTooLong}
 
 -- behind what was held stand the replies of a run over the whole script, and whether all are clean
 pub record Completes (script : List ℕ) (clean : Bool) (old new : Option (List ℕ)) : Type 0 where

@@ -5,7 +5,7 @@ use Rattle.soundness.specs.Replies.{IsWrittenTo, IsConverted}
 use Rattle.polycalc.specs.Outcomes.{IsAnswered}
 use Rattle.job_words.specs.declared.job.Job.{Job}
 use Rattle.job_words.specs.declared.job.Job.TheVariants as job
-use Rattle.polycalc.specs.declared.status.Status.{Status}
+use Rattle.written_replies.specs.declared.status.Status.{Status}
 
 -- what is written to a script is the replies to its lines; to a file a refusal, or the other file
 -- of the same points; nothing is said of a sample

@@ -1,11 +1,11 @@
 //! The program's arguments as words.
-use crate::status::Status;
 use job_words::Words;
 use row_core::Memory;
 use std::alloc::Global;
 use std::env;
 use std::env::Env;
 use std::io::ErrorKind;
+use written_replies::Status;
 
 /// The arguments without the program's own name. Where one isn't UTF-8 the words have no meaning.
 pub fn words_of(rt: &HostRuntime) -> Result<Words, Status> {

@@ -11,17 +11,14 @@ ghost use Rattle.job_words.specs.declared.job.Job.{Job as AnyJob};
 mod arguments;
 mod completeness;
 mod conversions;
-mod replies;
 mod runs;
 mod samples;
-mod status;
 mod top;
 mod truth;
 
 use job_words::Words;
 use poly_io::{StdSink, StdSource};
 use row_core::Steps;
-use status::{Status, exit_code};
 use std::alloc::Global;
 use std::io::{Stderr, Stdin, Stdout, Write};
 use std::marker::Brand;
@@ -29,6 +26,7 @@ use std::process::ExitCode;
 use std::sync::ledger::{Blank, Ledger};
 use top::polycalc;
 use usage_text::usage;
+use written_replies::{Status, exit_code};
 
 fn main(rt: HostRuntime) -> ExitCode {
     let mut source = StdSource::new(rt.stdin());

@@ -4,15 +4,13 @@ ghost use Rattle.std.specs.Io.KnownBytes.{append_known, prepend_known};
 ghost use Rattle.poly_io.specs.Counts.{HasRisen};
 ghost use Rattle.line_values.specs.Replies.{Reply};
 ghost use Rattle.calc_state.specs.Line.{Step, Gives};
-ghost use Rattle.polycalc.specs.Replies.{written, with_reply};
+ghost use Rattle.written_replies.specs.Replies.{written, with_reply};
 ghost use Rattle.calc_state.specs.State.{closed};
 ghost use Rattle.calc_state.specs.Runs.{at_end};
 ghost use Rattle.polycalc.specs.Endings.{Closes};
 ghost use Rattle.polycalc.specs.Outcomes.{Outcome, GivesUp};
 ghost use Rattle.job_words.specs.declared.job.Job.TheVariants as job;
 
-use crate::replies::Replies;
-use crate::status::Status;
 use calc_state::Calc;
 use line_values::StepErr;
 use poly_io::{LineAns, LineReader, Sink, Source, WriteAllErr, write_all};
@@ -20,6 +18,7 @@ use reply_text::Text;
 use row_core::{Memory, Steps};
 use std::alloc::Global;
 use std::sync::ledger::Ledger;
+use written_replies::{Replies, Status};
 
 /// Answers the lines of a source, and writes the replies before more is read.
 pub fn run_lines<S: Source, W: Sink, L: Ledger>(

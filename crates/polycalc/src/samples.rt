@@ -4,13 +4,12 @@ ghost use Rattle.poly_io.specs.Counts.{HasRisen};
 ghost use Rattle.polycalc.specs.Outcomes.{Outcome};
 ghost use Rattle.job_words.specs.declared.job.Job.TheVariants as job;
 
-use crate::replies::Replies;
-use crate::status::Status;
 use job_texts::sampled;
 use poly_io::Sink;
 use row_core::Steps;
 use std::alloc::Global;
 use std::sync::ledger::Ledger;
+use written_replies::{Replies, Status};
 
 /// Converts the sample of `n` rows, and writes its line, or that of an overflow.
 pub fn write_sample<W: Sink, L: Ledger>(

@@ -12,13 +12,13 @@ use crate::completeness::runs_are_complete;
 use crate::conversions::convert_file;
 use crate::runs::run_lines;
 use crate::samples::write_sample;
-use crate::status::Status;
 use crate::truth::answers_are_sound;
 use job_words::{Job, Words};
 use poly_io::{Sink, Source};
 use row_core::Steps;
 use std::alloc::Global;
 use std::sync::ledger::Ledger;
+use written_replies::Status;
 
 /// Does what the words ask for.
 ///

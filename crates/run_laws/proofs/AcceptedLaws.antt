@@ -31,11 +31,11 @@ use Rattle.script_text.specs.declared.command.Command.TheVariants.{Nothing, Has,
 use Rattle.script_text.specs.Line.{SpellsOne}
 use Rattle.name_table.specs.Table.{HasDistinctNames}
 use Rattle.line_values.specs.Meaning.{answer_line, line}
-use Rattle.poly_commands.specs.Questions.{size_text, side_text}
-use Rattle.poly_commands.specs.Optima.{with_word, relation_text, bound_text}
+use Rattle.poly_questions.specs.Questions.{size_text, side_text}
+use Rattle.poly_questions.specs.Optima.{with_word, relation_text, bound_text}
 use Rattle.line_values.specs.Operands.{is_max}
 use Rattle.calc_state.specs.Powersets.{members_text}
-use Rattle.poly_commands.specs.Files.{file_of}
+use Rattle.poly_questions.specs.Files.{file_of}
 use Rattle.calc_state.specs.declared.entry.Entry.{Entry}
 use Rattle.calc_state.specs.declared.entry.Entry.TheVariants as entry
 use Rattle.line_values.specs.Proper.{IsProper}

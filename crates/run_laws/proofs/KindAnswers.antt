@@ -1,6 +1,6 @@
 -- What is asked of powersets, relations and shapes that are the same has the same answers.
 use Rattle.std.proofs.Common.{◌≡◌, ◌⊎◌, inl, inr, ℕ, ◌<◌, List, ◌++◌, length, get_or, ap, sym, ◌∙◌, subst, arith, codes, decimal}
-use Rattle.std.specs.Prelude.{ℤ, ◌/◌, ◌+◌, ◌-◌}
+use Rattle.std.specs.Prelude.{ℤ, ◌/◌, ◌-◌}
 use Rattle.std.proofs.lemmas.Bool.{cases_order}
 use Rattle.std.proofs.lemmas.List.Elements.{Contains-get_or}
 use Rattle.row_core.specs.Points.{IsPoint}

@@ -3,6 +3,7 @@ pub mod DistinctNames
 pub mod TableLaws
 pub mod OneForm
 pub mod OneResult
+pub mod MovedPoints
 pub mod OneMap
 pub mod OneSystem
 pub mod OneUnion
@@ -20,3 +21,9 @@ pub mod SameTables
 pub mod KindAnswers
 pub mod AcceptedLaws
 pub mod UniquePrints
+pub mod AllowedSets
+pub mod AllowedAnswers
+pub mod AllowedFiles
+pub mod AllowedLines
+pub mod AllowedRuns
+pub mod AllowedPrints

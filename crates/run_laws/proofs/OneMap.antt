@@ -1,11 +1,8 @@
 -- Operands that are the same give the same images, preimages, products and time elapses.
-use Rattle.std.proofs.Common.{◌≡◌, ◌≢◌, ℕ, zero, suc, ◌+◌, ◌<◌, ◌≤◌, List, [], ◌∷◌, drop, length, refl, ap, sym, ◌∙◌, subst, arith}
+use Rattle.std.proofs.Common.{◌≡◌, ◌≢◌, ℕ, ◌+◌, ◌<◌, List, drop, length, refl, ap, sym, ◌∙◌, subst, arith}
 use Rattle.std.specs.Prelude.{◌↔◌, ℤ, pos, ◌*ℤ◌, ◌<ℤ◌}
 use Rattle.std.proofs.lemmas.Int.{ints}
-use Rattle.std.proofs.lemmas.List.{get_or-set_other, length-set}
-use Rattle.row_core.specs.Vectors.{cell, dot, scale}
-use Rattle.row_core.proofs.CellLemmas.{cell-scale, length-scale}
-use Rattle.row_core.proofs.Ring.{mul-positive}
+use Rattle.row_core.specs.Vectors.{cell, dot}
 use Rattle.row_core.specs.Points.{IsPoint}
 use Rattle.cons_sys.specs.Constraints.{In}
 use Rattle.term_text.specs.Texts.{IsFrac}
@@ -18,7 +15,6 @@ use Rattle.affine_maps.specs.Relations.{Stands, IsRelatedImage, IsRelatedPreimag
 use Rattle.mapped_systems.specs.Maps.{without, remaining, kept_variables}
 use Rattle.mapped_systems.specs.Sources.{HasSource}
 use Rattle.dimensions.specs.Results.{IsImage, IsPreimage, IsPadded, IsProjection, IsOfBoth, IsProduct}
-use Rattle.mapped_systems.proofs.ColumnLemmas.{length-without}
 use Rattle.elapse.specs.ElapsedPoints.{IsMoved, IsElapsed, IsInElapse}
 use Rattle.elapse.specs.Elapses.{IsElapse}
 use Rattle.script_text.specs.declared.command.Part.{Part}
@@ -29,45 +25,14 @@ use Rattle.script_text.specs.declared.command.Operator.{Operator}
 use Rattle.script_text.specs.declared.command.Operator.TheVariants as operator
 use Rattle.script_text.specs.declared.command.Extension.{Extension}
 use Rattle.script_text.specs.declared.command.Extension.TheVariants.{Embed, Project}
-use Rattle.poly_commands.specs.Affine.{SaysReplacement, IsRemoved, image_rel, IsSetOfMap, IsMapped, IsMappedBy}
-use Rattle.poly_commands.specs.Operators.{Fits, IsMadeBy, IsExtended}
+use Rattle.poly_makers.specs.Affine.{SaysReplacement, IsRemoved, image_rel, IsSetOfMap, IsMapped, IsMappedBy}
+use Rattle.poly_makers.specs.Operators.{Fits, IsMadeBy, IsExtended}
 use Rattle.line_values.specs.Proper.{IsProper}
 use Rattle.run_laws.specs.Sets.{IsOfFit}
 use Rattle.run_laws.specs.Sameness.{AreSamePolyhedra}
+use Rattle.run_laws.proofs.MovedPoints.{front_point, back_point, replaced_point}
 use Rattle.run_laws.proofs.OneForm.{OneForm}
 use Rattle.run_laws.proofs.OneResult.{same_back, one_of_same, one_meet, one_hull}
-
--- ---- points that lose variables
-cell_dropped : (n j m : ℕ) (v : List ℤ) → m ≡ n + j → cell (drop n v) j ≡ cell v m
-cell_dropped zero j m v e = ap (cell v) (omega (arith, e))
-cell_dropped (suc n) j zero v e = absurd (omega (arith, e))
-cell_dropped (suc n) j (suc m) [] e = refl
-cell_dropped (suc n) j (suc m) (x ∷ v) e = cell_dropped n j m v (omega (arith, e))
-
-cell_kept : (column end : ℕ) (v : List ℤ) → column ≤ end → end < length v → cell (without column end v) column ≡ cell v end
-cell_kept zero end v h l = cell_dropped end 0 end v (omega arith)
-cell_kept (suc column) zero v h l = absurd (omega (arith, h))
-cell_kept (suc column) (suc end) [] h l = absurd (omega (arith, l))
-cell_kept (suc column) (suc end) (x ∷ v) h l = cell_kept column end v (omega (arith, h)) (omega (arith, l))
-
-length_dropped : (n : ℕ) (v : List ℤ) → n ≤ length v → length (drop n v) + n ≡ length v
-length_dropped zero v l = omega arith
-length_dropped (suc n) [] l = absurd (omega (arith, l))
-length_dropped (suc n) (x ∷ v) l = let e = length_dropped n v (omega (arith, l)) in omega (arith, e)
-
--- a point without its last variables
-front_point : (dim count : ℕ) (v : List ℤ) → IsPoint (dim + count) v → IsPoint dim (without dim (dim + count) v)
-front_point dim count v is = record {
-  wide = (let w = is.wide in let e = length-without dim count v (omega (arith, w)) in omega (arith, w, e));
-  positive = (let w = is.wide in subst (λ (z : ℤ). pos 0 <ℤ z) (sym (cell_kept dim (dim + count) v (omega arith) (omega (arith, w)))) is.positive);
-}
-
--- a point without its first variables
-back_point : (dim count : ℕ) (v : List ℤ) → IsPoint (dim + count) v → IsPoint count (drop dim v)
-back_point dim count v is = record {
-  wide = (let w = is.wide in let e = length_dropped dim v (omega (arith, w)) in omega (arith, w, e));
-  positive = subst (λ (z : ℤ). pos 0 <ℤ z) (sym (cell_dropped dim count (dim + count) v refl)) is.positive;
-}
 
 -- ---- points of the same sets
 within_same : (x y : Polyhedron) (v : List ℤ) → AreSamePolyhedra x y → IsWithin x.cons v → IsWithin y.cons v
@@ -174,12 +139,6 @@ related_image_same rel var expr den x y v same h = record {
   within = within_same x y h.source same h.within;
   others = subst (λ (d : ℕ). (j : ℕ) → j < d → j ≢ var → cell v j *ℤ cell h.source d ≡ cell h.source j *ℤ cell v d) same.dim h.others;
   stands = subst (λ (d : ℕ). Stands rel (cell v var *ℤ (den *ℤ cell h.source d)) (dot expr h.source *ℤ cell v d)) same.dim h.stands;
-}
-
-replaced_point : (dim var : ℕ) (num below : ℤ) (v : List ℤ) → var < dim → pos 0 <ℤ below → IsPoint dim v → IsPoint dim (replaced dim var num below v)
-replaced_point dim var num below v h positive is = record {
-  wide = length-set (scale below v) var (num *ℤ cell v dim) ∙ length-scale below v ∙ is.wide;
-  positive = subst (λ (z : ℤ). pos 0 <ℤ z) (sym (get_or-set_other (scale below v) var dim (num *ℤ cell v dim) (pos 0) (λ e. omega (arith, e, h)) ∙ cell-scale below v dim)) (mul-positive below (cell v dim) positive is.positive);
 }
 
 related_preimage_same : (rel : ImageRel) (var : ℕ) (expr : List ℤ) (den : ℤ) (x y : Polyhedron) (v : List ℤ) → var < x.cons.dim → IsPoint x.cons.dim v → AreSamePolyhedra x y → IsRelatedPreimage rel var expr den x.cons v → IsRelatedPreimage rel var expr den y.cons v

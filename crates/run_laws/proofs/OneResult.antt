@@ -15,7 +15,7 @@ use Rattle.calc_state.specs.declared.entry.Entry.{Entry}
 use Rattle.calc_state.specs.declared.entry.Entry.TheVariants as entry
 use Rattle.line_values.specs.Proper.{IsProper}
 use Rattle.calc_state.specs.Entries.{IsKeptEntry}
-use Rattle.poly_commands.specs.Results.{IsResultOfClosure}
+use Rattle.poly_makers.specs.Results.{IsResultOfClosure}
 use Rattle.run_laws.specs.Sets.{IsMadeOfOne, IsMadeOfTwo, IsOfNested}
 use Rattle.run_laws.specs.Sameness.{AreSamePolyhedra, AreSameEntries}
 use Rattle.run_laws.proofs.OneForm.{OneForm, one_of_points}

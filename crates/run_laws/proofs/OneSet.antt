@@ -32,11 +32,11 @@ use Rattle.calc_state.specs.declared.entry.Entry.TheVariants as entry
 use Rattle.open_files.specs.OpenFiles.{OpenFile}
 use Rattle.line_values.specs.Proper.{IsProper}
 use Rattle.calc_state.specs.Entries.{IsKeptEntry}
-use Rattle.poly_commands.specs.Makers.{more_generators, IsSpace}
+use Rattle.poly_makers.specs.Makers.{more_generators, IsSpace}
 use Rattle.line_values.specs.Texts.{SaysConstraints, SaysGenerators}
-use Rattle.poly_commands.specs.Results.{IsResultOfConstraints, IsResultOfGenerators, IsResultOfClosure}
-use Rattle.poly_commands.specs.Operators.{Fits, IsMadeBy, IsExtended}
-use Rattle.poly_commands.specs.Affine.{IsRemoved, IsMappedBy}
+use Rattle.poly_makers.specs.Results.{IsResultOfConstraints, IsResultOfGenerators, IsResultOfClosure}
+use Rattle.poly_makers.specs.Operators.{Fits, IsMadeBy, IsExtended}
+use Rattle.poly_makers.specs.Affine.{IsRemoved, IsMappedBy}
 use Rattle.calc_state.specs.Systems.{AreReached}
 use Rattle.calc_state.specs.Powersets.{IsPowersetOf}
 use Rattle.calc_state.specs.Shapes.{IsShapeOfSet, IsShapeOfConstraints, IsShapeBy, IsPolyOfShape}

@@ -9,11 +9,11 @@ use Rattle.bd_shape.specs.Shapes.{DifferenceShape}
 use Rattle.script_text.specs.declared.command.Operator.{Operator}
 use Rattle.line_values.specs.Order.{Conditions, Passes}
 use Rattle.line_values.specs.Meaning.{alike}
-use Rattle.poly_commands.specs.Operators.{adds_dims, fitting_by, fitting, FitDimsBy, Fits}
+use Rattle.poly_makers.specs.Operators.{adds_dims, fitting_by, fitting, FitDimsBy, Fits}
 use Rattle.calc_state.specs.Powersets.{alike_unions, misses_member}
-use Rattle.calc_state.specs.Rankings.{relates_states}
+use Rattle.ranking_commands.specs.Rankings.{relates_states}
 use Rattle.calc_state.specs.Shapes.{closed, of_one_dim}
-use Rattle.poly_commands.specs.Widening.{nested, IsWidened}
+use Rattle.poly_makers.specs.Widening.{nested, IsWidened}
 use Rattle.run_laws.specs.Sets.{AreAlikePowersets, HaveOneDim, IsOfNested}
 
 -- ---- the operands of a command that passes its tests

@@ -1,5 +1,5 @@
 -- After a run the table has the entries and the names that the accepted commands give.
-use Rattle.std.proofs.Common.{◌≡◌, ℕ, ◌-◌, List, [], ◌∷◌, refl, ap, sym, ◌∙◌, subst, arith, Bool, true, false, cond}
+use Rattle.std.proofs.Common.{◌≡◌, ℕ, List, [], ◌∷◌, refl, ap, sym, ◌∙◌, subst, arith, Bool, true, false, cond}
 use Rattle.std.specs.Prelude.{length, Option, None, Some, MatchBool, All}
 use Rattle.std.specs.Str.{bytes_eq}
 use Rattle.std.specs.Map.{keys_of}
@@ -21,27 +21,26 @@ use Rattle.name_table.specs.Table.{entry_of, put, put_each, numbered, has_no_roo
 use Rattle.calc_state.specs.Table.{Table, as_poly, poly_of, as_system, system_of, as_powerset, powerset_of, as_shape, shape_of, as_hybrid, hybrid_of, numbered_sets, Change}
 use Rattle.line_values.specs.Order.{Passes}
 use Rattle.line_values.specs.Meaning.{Meaning, on_one, on_two, room, says}
-use Rattle.line_values.specs.Effects.{IsReply, IsPutAs, AreAllPut, IsTakenOut, puts, tells}
+use Rattle.line_values.specs.Effects.{IsReply, IsPutAs, AreAllPut, IsTakenOut, puts, tells, drop_of}
 use Rattle.line_values.specs.Operands.{topology_of, is_max, format_of}
 use Rattle.calc_state.specs.Meanings.{meaning}
-use Rattle.poly_commands.specs.Makers.{more_constraints, IsSpace, copy, add, addgen}
+use Rattle.poly_makers.specs.Makers.{more_constraints, IsSpace, copy, add, addgen, closure}
 use Rattle.line_values.specs.Texts.{SaysConstraints, SaysGenerators}
-use Rattle.poly_commands.specs.Names.{names as tell_names, drop_of}
-use Rattle.poly_commands.specs.Questions.{has, size, print}
-use Rattle.poly_commands.specs.Optima.{relation, bound}
-use Rattle.poly_commands.specs.Lattice.{closure, compared, isempty}
-use Rattle.poly_commands.specs.Operators.{Fits, operated, IsMadeBy, extended, IsExtended}
-use Rattle.poly_commands.specs.Affine.{mapped_by, remove, IsRemoved, IsMappedBy}
-use Rattle.poly_commands.specs.Results.{IsResultOfConstraints, IsResultOfGenerators, IsResultOfClosure}
-use Rattle.poly_commands.specs.Widening.{widen}
+use Rattle.poly_questions.specs.Questions.{names as tell_names, has, size, print}
+use Rattle.poly_questions.specs.Optima.{relation, bound}
+use Rattle.poly_questions.specs.Lattice.{compared, isempty}
+use Rattle.poly_makers.specs.Operators.{Fits, operated, IsMadeBy, extended, IsExtended}
+use Rattle.poly_makers.specs.Affine.{mapped_by, remove, IsRemoved, IsMappedBy}
+use Rattle.poly_makers.specs.Results.{IsResultOfConstraints, IsResultOfGenerators, IsResultOfClosure}
+use Rattle.poly_makers.specs.Widening.{widen}
 use Rattle.calc_state.specs.Systems.{IsEmptySystem, AreReached, fixpoint}
 use Rattle.calc_state.specs.Parts.{init, trans, set_part, with_part}
 use Rattle.calc_state.specs.Powersets.{pset, of_two_powersets, IsPowersetOf, member, psize, covers}
-use Rattle.calc_state.specs.Rankings.{rank, ranking}
+use Rattle.ranking_commands.specs.Rankings.{rank, ranking}
 use Rattle.calc_state.specs.Shapes.{shape, IsShapeOfSet, IsShapeOfConstraints, of_two_shapes, IsShapeBy, shape_contains, shape_print, shape_poly, IsPolyOfShape}
 use Rattle.calc_state.specs.Hybrids.{hybrid, IsStill, reach, AreReachedParts}
 use Rattle.widening.proofs.Places.{all_at}
-use Rattle.poly_commands.specs.Files.{write}
+use Rattle.poly_questions.specs.Files.{write}
 use Rattle.open_files.specs.OpenFiles.{OpenFile}
 use Rattle.calc_state.specs.State.{State, closed}
 use Rattle.calc_state.specs.Reading.{IsRead}

@@ -1,5 +1,5 @@
 -- In each run the answers are true of the entries that accepted commands and files give.
-use Rattle.std.proofs.Common.{◌≡◌, ℕ, ◌-◌, List, [], ◌++◌, length, refl, ap, sym, ◌∙◌, subst, Bool, true, false}
+use Rattle.std.proofs.Common.{◌≡◌, ℕ, List, [], ◌++◌, length, refl, ap, sym, ◌∙◌, subst, Bool, true, false}
 use Rattle.std.specs.Prelude.{Option, None, Some, Ok, ℤ, codes, decimal}
 use Rattle.std.specs.Map.{keys_of}
 use Rattle.std.proofs.lemmas.Map.Entries.{length-keys_of}
@@ -27,28 +27,27 @@ use Rattle.name_table.specs.Table.{entry_of, has_no_room, HasDistinctNames}
 use Rattle.calc_state.specs.Table.{Table, as_poly, poly_of, as_system, system_of, as_powerset, powerset_of, as_shape, shape_of, as_hybrid, hybrid_of, Change}
 use Rattle.line_values.specs.Order.{Passes}
 use Rattle.line_values.specs.Meaning.{Meaning, on_one, on_two, no_fault, line, says, IsTold}
-use Rattle.line_values.specs.Effects.{IsPutAs, AreAllPut, IsTakenOut, puts, tells, lines_of, ok_line}
+use Rattle.line_values.specs.Effects.{IsPutAs, AreAllPut, IsTakenOut, puts, tells, lines_of, ok_line, drop_of}
 use Rattle.line_values.specs.Operands.{topology_of, is_max}
 use Rattle.calc_state.specs.Meanings.{meaning}
-use Rattle.poly_commands.specs.Makers.{cons, gens, space_of, copy, add, addgen}
+use Rattle.poly_makers.specs.Makers.{cons, gens, space_of, copy, add, addgen, closure}
 use Rattle.name_table.specs.Listing.{spaced, names_text}
-use Rattle.poly_commands.specs.Names.{names as tell_names, drop_of}
-use Rattle.poly_commands.specs.Questions.{has, size, print, size_text, side_text}
-use Rattle.poly_commands.specs.Optima.{relation, bound}
-use Rattle.poly_commands.specs.Lattice.{closure, compared, isempty}
-use Rattle.poly_commands.specs.Operators.{operated, extended}
-use Rattle.poly_commands.specs.Affine.{mapped_by, remove}
+use Rattle.poly_questions.specs.Questions.{names as tell_names, has, size, print, size_text, side_text}
+use Rattle.poly_questions.specs.Optima.{relation, bound}
+use Rattle.poly_questions.specs.Lattice.{compared, isempty}
+use Rattle.poly_makers.specs.Operators.{operated, extended}
+use Rattle.poly_makers.specs.Affine.{mapped_by, remove}
 use Rattle.calc_state.specs.Step.{IsAccepted}
 use Rattle.line_values.specs.Replies.{Reply}
-use Rattle.poly_commands.specs.Widening.{widen}
+use Rattle.poly_makers.specs.Widening.{widen}
 use Rattle.calc_state.specs.Systems.{system, AreReached, fixpoint}
 use Rattle.calc_state.specs.Parts.{init, trans, set_part, with_part}
 use Rattle.trans_sys.specs.Systems.{with_initial, with_transition}
 use Rattle.calc_state.specs.Powersets.{pset, of_two_powersets, member, psize, members_text, covers}
-use Rattle.calc_state.specs.Rankings.{rank, ranking}
+use Rattle.ranking_commands.specs.Rankings.{rank, ranking}
 use Rattle.calc_state.specs.Shapes.{shape, bounds, of_two_shapes, shape_contains, shape_print, shape_poly}
 use Rattle.calc_state.specs.Hybrids.{hybrid, reach, AreReachedParts}
-use Rattle.poly_commands.specs.Files.{write, file_of}
+use Rattle.poly_questions.specs.Files.{write, file_of}
 use Rattle.calc_state.specs.State.{State, closed}
 use Rattle.calc_state.specs.Laws.{KeepsNamesDistinct}
 use Rattle.calc_state.proofs.SaysOnce.{reply_is}

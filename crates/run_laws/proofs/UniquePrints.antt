@@ -17,7 +17,7 @@ use Rattle.poly_pair.specs.Polyhedra.{Polyhedron, IsStoredAs, HaveSamePoints}
 use Rattle.poly_pair.specs.declared.topology.Topology.{Topology}
 use Rattle.poly_pair.specs.declared.topology.Topology.TheVariants.{Closed}
 use Rattle.line_values.specs.Meaning.{line}
-use Rattle.poly_commands.specs.Questions.{side_text}
+use Rattle.poly_questions.specs.Questions.{side_text}
 use Rattle.line_values.specs.Proper.{IsProper}
 use Rattle.run_laws.specs.Prints.{PrintsTellPoints}
 

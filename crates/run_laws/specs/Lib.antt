@@ -4,3 +4,4 @@ pub mod Sameness
 pub mod Truth
 pub mod Laws
 pub mod Prints
+pub mod Allowed

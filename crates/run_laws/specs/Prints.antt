@@ -3,7 +3,7 @@ use Rattle.std.specs.Prelude.{◌≡◌, ◌↔◌, Bool}
 use Rattle.poly_pair.specs.Polyhedra.{Polyhedron, HaveSamePoints}
 use Rattle.poly_pair.specs.declared.topology.Topology.TheVariants.{Closed}
 use Rattle.line_values.specs.Meaning.{line}
-use Rattle.poly_commands.specs.Questions.{side_text}
+use Rattle.poly_questions.specs.Questions.{side_text}
 use Rattle.line_values.specs.Proper.{IsProper}
 
 -- two closed polyhedra of one dimension have the same points exactly where `print cons` shows equal bytes, and exactly where `print gens` does

@@ -23,11 +23,11 @@ use Rattle.calc_state.specs.declared.entry.Entry.TheVariants as entry
 use Rattle.line_values.specs.Proper.{IsProper}
 use Rattle.calc_state.specs.Entries.{IsKeptEntry}
 use Rattle.name_table.specs.Table.{numbered}
-use Rattle.poly_commands.specs.Makers.{more_constraints, more_generators, IsSpace}
+use Rattle.poly_makers.specs.Makers.{more_constraints, more_generators, IsSpace}
 use Rattle.line_values.specs.Texts.{SaysConstraints, SaysGenerators}
-use Rattle.poly_commands.specs.Results.{IsResult, IsResultOfConstraints, IsResultOfGenerators, IsResultOfClosure}
-use Rattle.poly_commands.specs.Operators.{Fits, IsMadeBy, IsExtended}
-use Rattle.poly_commands.specs.Affine.{IsRemoved, IsMappedBy}
+use Rattle.poly_makers.specs.Results.{IsResult, IsResultOfConstraints, IsResultOfGenerators, IsResultOfClosure}
+use Rattle.poly_makers.specs.Operators.{Fits, IsMadeBy, IsExtended}
+use Rattle.poly_makers.specs.Affine.{IsRemoved, IsMappedBy}
 use Rattle.calc_state.specs.Systems.{IsEmptySystem, AreReached}
 use Rattle.calc_state.specs.Powersets.{IsPowersetOf}
 use Rattle.calc_state.specs.Shapes.{IsShapeOfSet, IsShapeOfConstraints, IsShapeBy, IsPolyOfShape}

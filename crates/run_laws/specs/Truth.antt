@@ -37,12 +37,12 @@ use Rattle.script_text.specs.declared.command.Command.TheVariants.{Nothing, Has,
 use Rattle.calc_state.specs.declared.entry.Entry.{Entry}
 use Rattle.calc_state.specs.declared.entry.Entry.TheVariants as entry
 use Rattle.line_values.specs.Meaning.{answer_line, line}
-use Rattle.poly_commands.specs.Questions.{size_text}
+use Rattle.poly_questions.specs.Questions.{size_text}
 use Rattle.name_table.specs.Listing.{spaced}
-use Rattle.poly_commands.specs.Optima.{relation_text, bound_text}
+use Rattle.poly_questions.specs.Optima.{relation_text, bound_text}
 use Rattle.line_values.specs.Operands.{is_max}
 use Rattle.calc_state.specs.Powersets.{members_text, cover_line}
-use Rattle.poly_commands.specs.Files.{file_of}
+use Rattle.poly_questions.specs.Files.{file_of}
 use Rattle.line_values.specs.Effects.{ok_line}
 use Rattle.run_laws.specs.Acts.{Act, Did, Took, Accepted, acts}
 use Rattle.run_laws.specs.Sets.{IsMade, AreAlikePowersets, HaveOneDim, IsEntryOf, names_of}

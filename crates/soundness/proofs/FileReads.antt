@@ -8,7 +8,7 @@ use Rattle.std.proofs.Math.Seq.{take-append_seam, drop-append_seam, get_or-appen
 use Rattle.std.proofs.Math.Nat.{mul-div_cancel}
 use Rattle.std.proofs.Math.Dec.{eqb-suc-zero}
 use Rattle.std.proofs.lemmas.Int.{ints}
-use Rattle.std.proofs.lemmas.Bool.{and_parts, or_parts, cases_lt}
+use Rattle.std.proofs.lemmas.Bool.{and_parts, or_parts}
 use Rattle.std.proofs.lemmas.Bool.Decides.{Decides-eqb}
 use Rattle.std.proofs.lemmas.Slice.Eq.{bytes_eq-Decides}
 use Rattle.std.proofs.lemmas.List.{map-append, take-append-drop, length-take-le, length-map}
@@ -24,7 +24,7 @@ use Rattle.gens_sys.specs.declared.kind.GenKind.{GenKind}
 use Rattle.gens_sys.specs.declared.kind.GenKind.TheVariants.{Line, Ray, Point, ClosurePoint}
 use Rattle.reply_text.specs.declared.faults.Fault.TheVariants as fault
 use Rattle.plain_text.specs.Digits.{is_nat, number}
-use Rattle.cdd_reading.specs.Tokens.{tokens, Token, numbered, texts, has_some, is_negative}
+use Rattle.cdd_reading.specs.Tokens.{tokens, Token, numbered, texts, has_some, unsigned, is_negative, is_integer}
 use Rattle.cdd_reading.specs.Fractions.{is_fraction, numerator, denominator, signed, times, common, integers, cut_rows, AllDivide}
 use Rattle.cdd_reading.specs.Scaling as scaling
 use Rattle.cdd_reading.specs.Bodies.{is_number, type_word, HasType}
@@ -44,8 +44,9 @@ use Rattle.gens_sys.specs.Kinds as kinds
 use Rattle.poly_pair.specs.FirstLists.{HasNoPointKind, LacksPoint}
 use Rattle.soundness.specs.TextsExpressions.{at_column}
 use Rattle.soundness.specs.Files.{WithOrigin, as_listed, with_origin}
-use Rattle.soundness.specs.FileLines.{IsFraction, IsTimes, AreNumbersOf, IsRowOf, IsVectorOf, AreRows, IsNumberType, kind_name, IsBeforeBegin, NamesNoRow, NamesRows, HaveMarks, AreTableWords, IsFile}
-use Rattle.soundness.proofs.FileNumbers.{digits_number, fraction_is, integer_form}
+use Rattle.soundness.specs.FileLines.{IsFraction, IsTimes, AreNumbersOf, IsRowOf, IsVectorOf, AreRows, IsInteger, IsTypeOf, kind_name, IsBeforeBegin, NamesNoRow, NamesRows, HaveMarks, AreTableWords, IsFile}
+use Rattle.soundness.proofs.FileNumbers.{digits_number, integer_is, fraction_is, integer_form}
+use Rattle.soundness.proofs.Operands.{at_most, below, no_less, all_of}
 
 -- ---- tokens
 texts_of : (n : ℕ) (ts : List (List ℕ)) → texts (map (λ t. (n, t)) ts) ≡ ts
@@ -288,14 +289,21 @@ number_forms Rational (w ∷ ws) n e = let p = and_parts (is_number Rational w) 
 number_forms Real (w ∷ ws) n e = absurd (n refl)
 
 all_divide : (numbers : List (List ℕ)) → ¬ (¬ (AllDivide numbers)) → AllDivide numbers
-all_divide [] h = All-nil (λ w. 0 < denominator w)
-all_divide (w ∷ ws) h =
-    All-cons (λ w. 0 < denominator w) w ws (by (cases_lt 0 (denominator w)))
-    (all_divide ws (λ n. h (λ all. n (All-tail (λ w. 0 < denominator w) w ws all))))
-  where
-    by : (0 < denominator w) ⊎ (denominator w ≤ 0) → 0 < denominator w
-    by (inl k) = k
-    by (inr k) = absurd (h (λ all. (let here = All-head (λ w. 0 < denominator w) w ws all in absurd (omega (arith, k, here)))))
+all_divide numbers h = all_of (λ w. 0 < denominator w) (λ w n. below (denominator w) 0 (λ least. n (no_less (denominator w) 0 least))) numbers h
+
+-- the words of rows of integers
+integer_words : (ws : List (List ℕ)) (others : List (List ℕ)) → list_all is_integer (ws ++ others) ≡ true → All (λ w. (z : ℤ) × IsInteger w z) ws × (list_all is_integer others ≡ true)
+integer_words [] others e = (All-nil (λ w. (z : ℤ) × IsInteger w z), e)
+integer_words (w ∷ ws) others e =
+    let p = and_parts (is_integer w) (list_all is_integer (ws ++ others)) e in
+    let rest = integer_words ws others p.1 in
+    (All-cons (λ w. (z : ℤ) × IsInteger w z) w ws (signed (is_negative w) (number (unsigned w)), integer_is w p.0) rest.0, rest.1)
+
+integer_rows : (rows : List (List (List ℕ))) → list_all is_integer (flat_map (λ (row : List (List ℕ)). row) rows) ≡ true → All (λ row. All (λ w. (z : ℤ) × IsInteger w z) row) rows
+integer_rows [] e = All-nil (λ row. All (λ w. (z : ℤ) × IsInteger w z) row)
+integer_rows (ws ∷ rows) e =
+    let p = integer_words ws (flat_map (λ (row : List (List ℕ)). row) rows) e in
+    All-cons (λ row. All (λ w. (z : ℤ) × IsInteger w z) row) ws rows p.0 (integer_rows rows p.1)
 
 abbrev table_of : Contents → List (List (List ℕ))
 table_of c = first_chunks c.sizes.columns c.sizes.rows c.numbers
@@ -341,14 +349,17 @@ module _ (ext : Bool) (want : Format) (word : kind_in (kind_name (not ext) ∷ [
         is = sym (texts_numbered (length are.before + 2) are.behind) ∙ body.tokens ∙ ap (λ (l : List (List ℕ)). body.m ∷ body.d ∷ body.t ∷ l) cut.whole;
         rows_counted = subst (λ (n : ℕ). IsNumber body.m n) (sym (cut.count ∙ body.sizes.rows)) (digits_number body.m body.sizes.rows_form);
         columns_counted = subst (λ (n : ℕ). IsNumber body.d n) (sym body.sizes.columns) (digits_number body.d body.sizes.columns_form);
-        typed = type_by c.sizes.number_type body.t body.sizes.number_type not_real;
+        typed = type_by c.sizes.number_type body.t body.sizes.number_type not_real body.forms;
         wide = cut.wide;
       }
     where
-      type_by : (t : NumberType) (w : List ℕ) → w ≡ type_word t → t ≢ Real → IsNumberType w
-      type_by Integer w e n = inl e
-      type_by Rational w e n = inr e
-      type_by Real w e n = absurd (n refl)
+      type_by : (t : NumberType) (w : List ℕ) → w ≡ type_word t → t ≢ Real → list_all (is_number t) c.numbers ≡ true → IsTypeOf (table_of c) w
+      type_by Integer w e n forms = inr (e, integer_rows (table_of c) (subst (λ (ts : List (List ℕ)). list_all is_integer ts ≡ true) cut.whole forms))
+      type_by Rational w e n forms = inl e
+      type_by Real w e n forms = absurd (n refl)
+
+  short : All (λ line. length line ≤ 65535) says.0
+  short = all_of (λ line. length line ≤ 65535) (λ line n. at_most 65535 (length line) (λ more. n (λ most. no_less (length line) 65535 most more))) says.0 (λ n. passes.1.0 fault.LineTooLong (refl, (says.0, says.1, says.2, n)))
 
   -- the lines of the file
   file_is : IsFile ext bytes (indices c) c.sizes.columns (table_of c)
@@ -365,7 +376,7 @@ module _ (ext : Bool) (want : Format) (word : kind_in (kind_name (not ext) ∷ [
         before = before_begin ext (other want) word are.before head.says.without_begin (subst (λ (l : List Format). All (λ g. g ≢ other want) l) (sym head.says.kind) (other_kinds (other want) c.heading.kind own_kind));
         marks = have_marks are.before c.heading.linearity head.says.linearity;
         begins = begins_so (tokens head.line) head.begins;
-        unended = subst (λ (l : List (List ℕ)). All (λ line. ¬ (IsEnd line)) l) head.cut file.unended;
+        each = subst (λ (l : List (List ℕ)). All (λ line. (length line ≤ 65535) × ¬ (IsEnd line)) l) head.cut (λ i d h. (short i d h, file.unended i d h));
         words = table_words;
         ends = file.ends;
       }
@@ -417,7 +428,7 @@ pub nothing_behind : (ext : Bool) (bytes marked : List ℕ) (columns : ℕ) (row
 nothing_behind ext bytes marked columns rows f none = by (list_any (λ t. bytes_eq t (codes "linearity")) (flat_map tokens f.behind)) refl
   where
     file : old.IsFile bytes (f.head ++ f.begin ∷ f.table) f.behind
-    file = record { last = f.end; cut = f.cut ∙ sym (append_assoc f.head (f.begin ∷ f.table) (f.end ∷ f.behind)); unended = f.unended; ends = f.ends }
+    file = record { last = f.end; cut = f.cut ∙ sym (append_assoc f.head (f.begin ∷ f.table) (f.end ∷ f.behind)); unended = λ i d h. (f.each i d h).1; ends = f.ends }
 
     by : (b : Bool) → list_any (λ t. bytes_eq t (codes "linearity")) (flat_map tokens f.behind) ≡ b → All (λ w. w ≢ codes "linearity") (flat_map tokens f.behind)
     by true e = absurd (none (f.head ++ f.begin ∷ f.table, f.behind, file, ap (λ (l : List (List ℕ)). list_any (λ t. bytes_eq t (codes "linearity")) l) (texts_numbered 1 f.behind) ∙ e))

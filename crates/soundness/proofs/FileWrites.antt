@@ -1,5 +1,5 @@
 -- Written files have the marks and rows that are said.
-use Rattle.std.proofs.Common.{◌≡◌, ℕ, ◌+◌, ◌-◌, ◌*◌, ◌/◌, ◌^◌, ◌<◌, ◌≤◌, ◌==◌, ◌||◌, Bool, true, false, List, [], ◌∷◌, ◌++◌, length, map, take, drop, cond, refl, sym, ◌∙◌, ap, subst, arith, inl, inr, codes, suc, zero, length-append, eq-eqb}
+use Rattle.std.proofs.Common.{◌≡◌, ℕ, ◌+◌, ◌-◌, ◌*◌, ◌/◌, ◌^◌, ◌<◌, ◌≤◌, ◌==◌, ◌||◌, Bool, true, false, not, List, [], ◌∷◌, ◌++◌, length, map, take, drop, cond, refl, sym, ◌∙◌, ap, subst, arith, inl, inr, codes, suc, zero, length-append, eq-eqb}
 use Rattle.std.specs.Prelude.{All, ℤ, pos, negsuc, ◌*ℤ◌, ◌<ℤ◌, unsigned_abs, int_div, decimal, if◌then◌else◌, slice_index_or}
 use Rattle.std.proofs.Math.IntN.{neg_ℤ}
 use Rattle.std.specs.Fmt.{signed_decimal}
@@ -10,7 +10,8 @@ use Rattle.std.proofs.lemmas.Int.{ints}
 use Rattle.std.proofs.lemmas.Fmt.{decimal_digit}
 use Rattle.std.proofs.lemmas.Bool.Decides.{Decides-eqb}
 use Rattle.std.proofs.lemmas.List.{map-append, append-nil, length-map}
-use Rattle.std.proofs.lemmas.List.Elements.{All-nil, All-cons, All-head, All-tail, All-map}
+use Rattle.std.proofs.lemmas.Bool.{or_parts}
+use Rattle.std.proofs.lemmas.List.Elements.{All-nil, All-cons, All-head, All-tail, All-append, All-take, All-drop, All-map}
 use Rattle.std.proofs.lemmas.Slice.Zip.{AllZip-long}
 use Rattle.row_core.specs.Vectors.{cell}
 use Rattle.row_core.specs.Range.{InRange, AllInRange}
@@ -33,7 +34,7 @@ use Rattle.cdd_reading.specs.declared.format.NumberType.TheVariants.{Integer, Ra
 use Rattle.cdd_text.specs.Written as old
 use Rattle.cdd_text.specs.Written.{line_of, marked_from, turned_back, row_words, divisor_text, fraction_word, point_words, is_equality_constraint, is_line_generator, generator_words, type_of, has_divisor, ine_text, ext_text}
 use Rattle.soundness.specs.TextsNumbers.{IsNumber}
-use Rattle.soundness.specs.FileLines.{IsInteger, whole, minus, IsFraction, integer, fraction, IsTimes, AreNumbersOf, IsRowOf, IsVectorOf, AreRows, IsNumberType, kind_name, file_text}
+use Rattle.soundness.specs.FileLines.{IsInteger, whole, minus, IsFraction, integer, fraction, IsTimes, AreNumbersOf, IsRowOf, IsVectorOf, AreRows, IsTypeOf, kind_name, file_text}
 use Rattle.soundness.proofs.FileNumbers.{digits_number}
 
 -- ---- numbers
@@ -245,8 +246,8 @@ module _ {A : Type 0} (P : A → Type 0) (Says : Bool → List (List ℕ) → A 
 pub record IsTextOf {A : Type 0} (ext : Bool) (text : List ℕ) (columns : ℕ) (Says : Bool → List (List ℕ) → A → Type 0) (list : List A) : Type 0 where
   pub marked : List ℕ
   pub type : List ℕ
-  pub typed : IsNumberType type
   pub rows : List (List (List ℕ))
+  pub typed : IsTypeOf rows type
   pub wide : All (λ (row : List (List ℕ)). length row ≡ columns) rows
   pub marks : All (λ (k : ℕ). (0 < k) × (k ≤ length rows)) marked
   pub text_is : text ≡ file_text ext marked columns type rows
@@ -292,6 +293,52 @@ both : {A : Type 0} (P Q : A → Type 0) (list : List A) → All P list → All 
 both P Q [] h k = All-nil (λ a. P a × Q a)
 both P Q (a ∷ list) h k = All-cons (λ a. P a × Q a) a list (All-head P a list h, All-head Q a list k) (both P Q list (All-tail P a list h) (All-tail Q a list k))
 
+-- ---- words that are integers
+abbrev IsIntegerWord : List ℕ → Type 0
+IsIntegerWord w = (z : ℤ) × IsInteger w z
+
+row_integers : (row : List ℤ) → AllInRange row → All IsIntegerWord (row_words row)
+row_integers row h =
+    All-map IsIntegerWord signed_decimal (turned_back row)
+    (λ i d l. (slice_index_or (turned_back row) i d, signed_is (slice_index_or (turned_back row) i d) (All-append InRange (drop (length row - 1) row) (take (length row - 1) row) (All-drop InRange (length row - 1) row h) (All-take InRange (length row - 1) row h) i d l)))
+
+-- a number over 1
+whole_word : (x : ℤ) → InRange x → IsIntegerWord (fraction_word 1 x)
+whole_word x r =
+    let g = gcd (unsigned_abs x) 1 in
+    let low = lowest_terms (unsigned_abs x) 1 (omega arith) in
+    let q = int_div x (pos g) in
+    let is = quotient 1 x r (omega arith) in
+    let fewer : 1 / g ≤ 1 = div-le_self 1 g in
+    let one : 1 ≡ 1 / g = only_one (1 / g) low.positive fewer in
+    (q, subst (λ (k : ℕ). IsInteger (signed_decimal q ++ divisor_text k) q) one (subst (λ (w : List ℕ). IsInteger w q) (sym (append-nil (signed_decimal q))) (signed_is q is.range)))
+  where
+    only_one : (n : ℕ) → 0 < n → n ≤ 1 → 1 ≡ n
+    only_one n some most = omega (arith, some, most)
+
+point_integers : (v : List ℤ) → AllInRange v → has_divisor (v, Point) ≡ false → All IsIntegerWord (point_words v)
+point_integers v h e =
+    let last = length v - 1 in
+    let one : 1 ≡ unsigned_abs (cell v last) = sym ((Decides-eqb (unsigned_abs (cell v last)) 1).0 (not_not (unsigned_abs (cell v last) == 1) e)) in
+    All-cons IsIntegerWord (codes "1") (map (fraction_word (unsigned_abs (cell v last))) (take last v)) (pos 1, whole (codes "1") 1 one_is)
+    (subst (λ (d : ℕ). All IsIntegerWord (map (fraction_word d) (take last v))) one (All-map IsIntegerWord (fraction_word 1) (take last v) (λ i d l. whole_word (slice_index_or (take last v) i d) (All-take InRange last v h i d l))))
+  where
+    not_not : (b : Bool) → not b ≡ false → b ≡ true
+    not_not true f = refl
+    not_not false f = cc
+
+generator_integers : (dim : ℕ) (g : Generator) → FitsGen dim g → has_divisor g ≡ false → All IsIntegerWord (generator_words g)
+generator_integers dim (v, Line) h e = row_integers v h.0.in_range
+generator_integers dim (v, Ray) h e = row_integers v h.0.in_range
+generator_integers dim (v, Point) h e = point_integers v h.0.in_range e
+generator_integers dim (v, ClosurePoint) h e = absurd h.1
+
+generators_integers : (dim : ℕ) (list : List Generator) → All (FitsGen dim) list → list_any has_divisor list ≡ false → All (λ row. All IsIntegerWord row) (map generator_words list)
+generators_integers dim [] h e = All-nil (λ row. All IsIntegerWord row)
+generators_integers dim (g ∷ list) h e =
+    let p = or_parts (has_divisor g) (list_any has_divisor list) e in
+    All-cons (λ row. All IsIntegerWord row) (generator_words g) (map generator_words list) (generator_integers dim g (All-head (FitsGen dim) g list h) p.0) (generators_integers dim list (All-tail (FitsGen dim) g list h) p.1)
+
 text_by : {A : Type 0} (ext : Bool) (dim : ℕ) (t : NumberType) (is_marked : A → Bool) (words : A → List (List ℕ)) (list : List A) → old.file_text (kind_name ext) (map is_marked list) dim t (map words list) ≡ file_text ext (marked_from 1 (map is_marked list)) (dim + 1) (type_word t) (map words list)
 text_by ext dim t is_marked words list =
     ap (λ (n : ℕ). line_of (kind_name ext ∷ []) ++ old.linearity_text (map is_marked list) ++ line_of (codes "begin" ∷ []) ++ line_of (decimal n ∷ decimal (dim + 1) ∷ type_word t ∷ []) ++ flat_map line_of (map words list) ++ line_of (codes "end" ∷ []))
@@ -301,7 +348,7 @@ pub ine_writes : (cs : Constraints) → cons.FitDimension cs → AreClosed cs �
 ine_writes cs fit closed = record {
   marked = marked_from 1 (map is_equality_constraint cs.list);
   type = codes "integer";
-  typed = inl refl;
+  typed = inr (refl, All-map (λ row. All IsIntegerWord row) (λ c. row_words c.0) cs.list (λ i d h. row_integers (slice_index_or cs.list i d).0 (fit.each i d h).in_range));
   rows = map (λ c. row_words c.0) cs.list;
   wide = All-map (λ (row : List (List ℕ)). length row ≡ cs.dim + 1) (λ c. row_words c.0) cs.list (λ i d h. constraint_wide cs.dim (slice_index_or cs.list i d) (fit.each i d h, closed i d h));
   marks = marks_fit is_equality_constraint (λ c. row_words c.0) cs.list;
@@ -309,15 +356,15 @@ ine_writes cs fit closed = record {
   says = rows_written (Fits cs.dim) IsRowOf is_equality_constraint (λ c. row_words c.0) (constraint_step cs.dim) (marked_from 1 (map is_equality_constraint cs.list)) 1 cs.list (both (cons.IsConstraint cs.dim) (λ c. IsClosedKind c.1) cs.list fit.each closed) (λ j less. refl);
 }
 
-type_is : (b : Bool) → IsNumberType (type_word (if b then Rational else Integer))
-type_is true = inr refl
-type_is false = inl refl
+type_is : (dim : ℕ) (list : List Generator) → All (FitsGen dim) list → (b : Bool) → list_any has_divisor list ≡ b → IsTypeOf (map generator_words list) (type_word (if b then Rational else Integer))
+type_is dim list h true e = inl refl
+type_is dim list h false e = inr (refl, generators_integers dim list h e)
 
 pub ext_writes : (gs : Generators) → gens.FitDimension gs → AreClosedKinds gs → IsTextOf true (ext_text gs) (gs.dim + 1) (IsVectorOf gs.dim) gs.list
 ext_writes gs fit closed = record {
   marked = marked_from 1 (map is_line_generator gs.list);
   type = type_word (type_of gs.list);
-  typed = type_is (list_any has_divisor gs.list);
+  typed = type_is gs.dim gs.list (both (gens.IsGenerator gs.dim) (λ g. IsClosedGenKind g.1) gs.list fit.each closed) (list_any has_divisor gs.list) refl;
   rows = map generator_words gs.list;
   wide = All-map (λ (row : List (List ℕ)). length row ≡ gs.dim + 1) generator_words gs.list (λ i d h. generator_wide gs.dim (slice_index_or gs.list i d) (fit.each i d h, closed i d h));
   marks = marks_fit is_line_generator generator_words gs.list;

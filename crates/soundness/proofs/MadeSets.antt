@@ -34,10 +34,10 @@ use Rattle.script_text.specs.declared.command.Rel.TheVariants as rel
 use Rattle.line_values.specs.Texts as texts
 use Rattle.line_values.specs.Operands.{topology_of}
 use Rattle.line_values.specs.Proper.{IsProper}
-use Rattle.poly_commands.specs.Makers as makers
-use Rattle.poly_commands.specs.Results as results
-use Rattle.poly_commands.specs.Operators as operators
-use Rattle.poly_commands.specs.Affine as affine
+use Rattle.poly_makers.specs.Makers as makers
+use Rattle.poly_makers.specs.Results as results
+use Rattle.poly_makers.specs.Operators as operators
+use Rattle.poly_makers.specs.Affine as affine
 use Rattle.soundness.specs.Points.{IsSetOf, IsInSmallest}
 use Rattle.soundness.specs.Sets.{constraints, generators, IsOfConstraints, IsOfGenerators, IsSpace, IsCopy, IsAdded, IsGeneratorFor, Generate, IsJoined, IsClosure, IsOfTwo, IsFrontIn, IsExtended, IsRemoved, Stands, IsImage, IsPreimage, ComesOf, IsMapped}
 use Rattle.soundness.specs.TextsSystems.{GeneratorsText}
@@ -49,40 +49,40 @@ nnc_of : (top : Bool) → is_nnc (topology_of top) ≡ top
 nnc_of false = refl
 nnc_of true = refl
 
-of_constraints : TextLaws → (t : Topology) (n : ℕ) (part : Part) (r : Polyhedron) → IsProper r → texts.SaysConstraints n part (λ cs. results.IsResultOfConstraints t cs r) → IsOfConstraints (is_nnc t) n part (set_of r)
+of_constraints : TextLaws → (t : Topology) (n : ℕ) (part : Part) (r : Polyhedron) → IsProper r → texts.SaysConstraints n part (λ cs. results.IsResultOfConstraints t cs r) → IsOfConstraints (is_nnc t) n part.text (set_of r)
 of_constraints laws t n part r fit h =
     let says = laws.constraints n part.text h.system h.read in
     let same : h.system.dim ≡ n = h.read.holds.over in
     record {
       list = says.list;
-      text = says.is_text;
+      says = says.is_text;
       set = record {
         over = is_over t n r fit (record { same_topology = h.holds.set.over.same_topology; same_dim = h.holds.set.over.same_dim ∙ same });
         points = λ v is. via (turn (h.holds.set.points v (moved n h.system.dim v (sym same) is))) (says.same v);
       };
     }
 
-pub cons_made : TextLaws → (top : Bool) (n : ℕ) (part : Part) (r : Polyhedron) → IsProper r → texts.SaysConstraints n part (λ cs. results.IsResultOfConstraints (topology_of top) cs r) → IsOfConstraints top n part (set_of r)
-cons_made laws top n part r fit h = subst (λ (b : Bool). IsOfConstraints b n part (set_of r)) (nnc_of top) (of_constraints laws (topology_of top) n part r fit h)
+pub cons_made : TextLaws → (top : Bool) (n : ℕ) (part : Part) (r : Polyhedron) → IsProper r → texts.SaysConstraints n part (λ cs. results.IsResultOfConstraints (topology_of top) cs r) → IsOfConstraints top n part.text (set_of r)
+cons_made laws top n part r fit h = subst (λ (b : Bool). IsOfConstraints b n part.text (set_of r)) (nnc_of top) (of_constraints laws (topology_of top) n part r fit h)
 
 span_over : (m n : ℕ) (list : List Generator) (v : List ℤ) → m ≡ n → Span (generators m list) v ↔ Span (generators n list) v
 span_over m n list v e = subst (λ (k : ℕ). Span (generators m list) v ↔ Span (generators k list) v) e (λ x. x, λ x. x)
 
-of_generators : TextLaws → (t : Topology) (n : ℕ) (part : Part) (r : Polyhedron) → IsProper r → texts.SaysGenerators n part (λ gs. results.IsResultOfGenerators t gs r) → IsOfGenerators (is_nnc t) n part (set_of r)
+of_generators : TextLaws → (t : Topology) (n : ℕ) (part : Part) (r : Polyhedron) → IsProper r → texts.SaysGenerators n part (λ gs. results.IsResultOfGenerators t gs r) → IsOfGenerators (is_nnc t) n part.text (set_of r)
 of_generators laws t n part r fit h =
     let says = laws.generators n part.text h.system h.read in
     let same : h.system.dim ≡ n = h.read.holds.over in
     record {
       list = says.list;
-      text = says.is_text;
+      says = says.is_text;
       set = record {
         over = is_over t n r fit (record { same_topology = h.holds.set.over.same_topology; same_dim = h.holds.set.over.same_dim ∙ same });
         points = λ v is. via (turn (h.holds.set.points v (moved n h.system.dim v (sym same) is))) (via (span_over h.system.dim n h.system.list v same) (says.same [] v));
       };
     }
 
-pub gens_made : TextLaws → (top : Bool) (n : ℕ) (part : Part) (r : Polyhedron) → IsProper r → texts.SaysGenerators n part (λ gs. results.IsResultOfGenerators (topology_of top) gs r) → IsOfGenerators top n part (set_of r)
-gens_made laws top n part r fit h = subst (λ (b : Bool). IsOfGenerators b n part (set_of r)) (nnc_of top) (of_generators laws (topology_of top) n part r fit h)
+pub gens_made : TextLaws → (top : Bool) (n : ℕ) (part : Part) (r : Polyhedron) → IsProper r → texts.SaysGenerators n part (λ gs. results.IsResultOfGenerators (topology_of top) gs r) → IsOfGenerators top n part.text (set_of r)
+gens_made laws top n part r fit h = subst (λ (b : Bool). IsOfGenerators b n part.text (set_of r)) (nnc_of top) (of_generators laws (topology_of top) n part r fit h)
 
 space_is : (space : Space) (t : Topology) (n : ℕ) (r : Polyhedron) → IsProper r → makers.IsSpace space t n r → IsSpace space (is_nnc t) n (set_of r)
 space_is Universe t n r fit h = set_is t n (IsPoint n) r fit h.over (λ v is. (λ x. is, λ x. h.points v is))

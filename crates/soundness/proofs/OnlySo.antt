@@ -313,19 +313,19 @@ variable_form ts j (systems.variable t i is) w h = one_token var t w (var_form t
 
 -- ---- texts
 pub expression_has_form : (dim : ℕ) (text : List ℕ) (row : List ℤ) → ExpressionText dim text row → Matches (alone expr_cases) text
-expression_has_form dim text row t = expr_form dim t.tokens row t.means text t.split
+expression_has_form dim text row t = expr_form dim t.pieces row t.means text t.split
 
 pub fraction_has_form : (dim : ℕ) (text : List ℕ) (row : List ℤ) (n : ℕ) → FractionText dim text row n → Matches (alone frac_cases) text
-fraction_has_form dim text row n t = over_form expr_cases (IsExpression dim) (expr_form dim) t.tokens (row, n) t.means text t.split
+fraction_has_form dim text row n t = over_form expr_cases (IsExpression dim) (expr_form dim) t.pieces (row, n) t.means text t.split
 
 pub constraint_has_form : (dim : ℕ) (text : List ℕ) (c : Constraint) → ConstraintText dim text c → Matches (alone con_cases) text
-constraint_has_form dim text c t = con_form dim t.tokens c t.means text t.split
+constraint_has_form dim text c t = con_form dim t.pieces c t.means text t.split
 
 pub constraints_have_form : (dim : ℕ) (text : List ℕ) (cs : List Constraint) → ConstraintsText dim text cs → Matches (alone cons_cases) text
-constraints_have_form dim text cs t = cons_form dim t.tokens cs t.means text t.split
+constraints_have_form dim text cs t = cons_form dim t.pieces cs t.means text t.split
 
 pub generators_have_form : (dim : ℕ) (text : List ℕ) (gs : List Generator) → GeneratorsText dim text gs → Matches (alone gens_cases) text
-generators_have_form dim text gs t = gens_form dim t.tokens gs t.means text t.split
+generators_have_form dim text gs t = gens_form dim t.pieces gs t.means text t.split
 
 pub variables_have_form : (text vs : List ℕ) → VariablesText text vs → Matches (alone vars) text
-variables_have_form text vs t = list_form var IsOneVariable variable_form t.tokens vs t.means text t.split
+variables_have_form text vs t = list_form var IsOneVariable variable_form t.pieces vs t.means text t.split

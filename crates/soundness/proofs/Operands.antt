@@ -8,7 +8,7 @@ use Rattle.poly_pair.specs.declared.topology.Topology.TheVariants.{Closed, Nnc}
 use Rattle.script_text.specs.declared.command.Operator.{Operator}
 use Rattle.line_values.specs.Order.{Conditions, Passes}
 use Rattle.line_values.specs.Meaning.{alike}
-use Rattle.poly_commands.specs.Operators.{adds_dims, fitting_by, fitting, FitDimsBy, Fits}
+use Rattle.poly_makers.specs.Operators.{adds_dims, fitting_by, fitting, FitDimsBy, Fits}
 use Rattle.soundness.specs.Points.{AreAlike}
 use Rattle.soundness.proofs.PointLaws.{is_nnc, set_of}
 
@@ -32,7 +32,7 @@ below m n h =
       | inr least ↦ absurd (h (omega (arith, least)))
     ]
 
-no_less : (m n : ℕ) → m ≤ n → n < m → ⊥
+pub no_less : (m n : ℕ) → m ≤ n → n < m → ⊥
 no_less m n most less = omega (arith, most, less)
 
 pub one_number : (m n : ℕ) → ¬ (m ≢ n) → m ≡ n
@@ -45,13 +45,14 @@ one_number m n h =
       ]
     ]
 
+-- what isn't false of all elements is true of each
+pub all_of : {A : Type 0} (P : A → Type 0) → ((a : A) → ¬ (¬ (P a)) → P a) → (xs : List A) → ¬ (¬ (All P xs)) → All P xs
+all_of P decide [] h = All-nil P
+all_of P decide (x ∷ xs) h = All-cons P x xs (decide x (λ n. h (λ all. n (All-head P x xs all)))) (all_of P decide xs (λ n. h (λ all. n (All-tail P x xs all))))
+
 -- numbers of which none is too large
 pub all_below : (dim : ℕ) (vars : List ℕ) → ¬ (¬ (All (λ (i : ℕ). i < dim) vars)) → All (λ (i : ℕ). i < dim) vars
-all_below dim [] h = All-nil (λ (i : ℕ). i < dim)
-all_below dim (v ∷ vars) h =
-    All-cons (λ (i : ℕ). i < dim) v vars
-    (below dim v (λ most. h (λ all. no_less dim v most (All-head (λ (i : ℕ). i < dim) v vars all))))
-    (all_below dim vars (λ n. h (λ all. n (All-tail (λ (i : ℕ). i < dim) v vars all))))
+all_below dim vars h = all_of (λ (i : ℕ). i < dim) (λ v n. below dim v (λ most. n (no_less dim v most))) vars h
 
 -- two polyhedra
 pub are_alike : (p q : Polyhedron) (others : Conditions) → Passes (alike p q others) → AreAlike (set_of p) (set_of q)

@@ -80,6 +80,13 @@ smallest_from r is Has includes v point least = record { point = point; within =
           least i j f.num f.den (omega (arith, l)) (omega (arith, m)) fraction.positive (λ u h. (subst (λ (o : Option Table). IsInBounds o r.dim u) e (includes u h).within).each i j l m f g));
     }
 
+-- a shape is the smallest that includes its own points
+pub own_shape : (dim : ℕ) (s : DifferenceShape) → IsShape s → s.dim ≡ dim → IsSetOf false dim (IsInSmallestShape dim (IsWithin (shape_constraints s))) (shape_set s)
+own_shape dim s is e = shape_is dim (IsInSmallestShape dim (IsWithin (shape_constraints s))) s is e (λ v point. (
+  λ on. λ i j num den li lj positive valid. valid v ((within_shape s is v).1 on),
+  λ least. smallest_from s is (IsWithin (shape_constraints s)) (λ u w. (within_shape s is u).0 w) v (moved dim s.dim v (sym e) point) (subst (λ (n : ℕ). IsInSmallestShape n (IsWithin (shape_constraints s)) v) (sym e) least),
+))
+
 -- ---- the smallest shape of a set
 sign_of : (num : ℤ) → (pos 0 ≤ℤ num) ⊎ (num <ℤ pos 0)
 sign_of (pos n) = inl (omega (arith, ints))

@@ -66,21 +66,21 @@ module _ (dim : ℕ) where
   gens_law : (w : List ℕ) (m : Matches gens_cases w) (stored : List Generator) → AreRelated (IsGood dim) (gens_by w m) stored → HaveRelated (AreGenerators dim) IsScaled w stored
   gens_law w (inl no_generator) [] good = record {
     elements = [];
-    are = record { tokens = codes "none" ∷ []; split = token_is w (codes "none") no_generator; means = systems.no_generator };
+    are = record { pieces = codes "none" ∷ []; split = token_is w (codes "none") no_generator; means = systems.no_generator };
     related = tt;
   }
   gens_law w (inl no_generator) (r ∷ rs) good = absurd good
   gens_law w (inr (first, v, e, is_first, (n, others))) stored good =
       let h : HaveRelated (AreListed (IsGenerator dim)) IsScaled w stored = listed_law gen_cases gen_by (IsGenerator dim) IsScaled (IsGood dim) gen_element n w first v is_first others e stored
       (subst (λ (gs : List GeneratorTerms). AreRelated (IsGood dim) (gen_by first is_first ∷ gs) stored) (further_same n v others) good) in
-      record { elements = h.elements; are = record { tokens = h.are.tokens; split = h.are.split; means = systems.generators h.are.tokens h.elements h.are.means }; related = h.related }
+      record { elements = h.elements; are = record { pieces = h.are.pieces; split = h.are.split; means = systems.generators h.are.pieces h.elements h.are.means }; related = h.related }
 
 gens_alone : (dim : ℕ) (text : List ℕ) (system : Generators) (m : Matches (alone gens_cases) text) → IsGensOf dim (alone_by gens_cases gens_by text m) system → SaysGenerators dim text system
 gens_alone dim text system (b1, w1, e1, before, (x, b2, e2, is, behind)) h =
     let q : HaveRelated (AreGenerators dim) IsScaled x system.list = gens_law dim x is system.list (good_gens dim (gens_by x is) system.list h.within h.stay h.divisors h.stored) in
     record {
       list = q.elements;
-      is_text = record { tokens = q.are.tokens; split = alone_tokens q.are.tokens text b1 w1 x b2 e1 before e2 behind q.are.split; means = q.are.means };
+      is_text = record { pieces = q.are.pieces; split = alone_tokens q.are.pieces text b1 w1 x b2 e1 before e2 behind q.are.split; means = q.are.means };
       same = λ own v. scaled_span (record { dim = dim; list = own ++ q.elements }) (record { dim = dim; list = own ++ system.list }) (behind_own own q.elements system.list q.related) v;
     }
 

@@ -6,12 +6,10 @@ use Rattle.std.specs.Str.{bytes_eq}
 use Rattle.std.specs.Bool.{Decides}
 use Rattle.std.proofs.lemmas.Slice.Eq.{bytes_eq-Decides}
 use Rattle.grammar.specs.Form.{Form, Matches, Times}
-use Rattle.grammar.specs.Grammar.{◌·◌, ◌∣◌, ◌⋯◌, symbol, blanks, perhaps, comment, nat, var, vars, rel, expr, frac, con, cons, point, gens}
-use Rattle.grammar.specs.Grammar.{name as name_form}
+use Rattle.grammar.specs.Grammar.{◌·◌, ◌∣◌, ◌⋯◌, symbol, blanks, perhaps, comment, nat, var, vars, rel, expr, frac, con, cons, point, gens, name as name_form}
 use Rattle.line_forms.specs.CommandWords.{CommandWord, command_words, HasForm}
 use Rattle.line_forms.specs.Fields.{words_by, fields_from, fields_by, fields_of}
-use Rattle.line_forms.specs.Layouts.{Layout, plain, with_part, with_relation, words_form, layout_form, top, stored_list, format}
-use Rattle.line_forms.specs.Layouts.{prefix as prefix_form}
+use Rattle.line_forms.specs.Layouts.{Layout, plain, with_part, with_relation, words_form, layout_form, top, stored_list, format, prefix as prefix_form}
 use Rattle.line_forms.specs.Words.{is_word}
 use Rattle.line_forms.proofs.Listed.{passes}
 use Rattle.line_forms.specs.declared.form.LineForm.{LineForm}
@@ -34,7 +32,7 @@ use Rattle.script_text.specs.declared.command.Command.{Command}
 use Rattle.plain_text.specs.Digits.{number}
 use Rattle.soundness.specs.TextsSystems as systems
 use Rattle.soundness.specs.TextsSystems.{IsOneVariable, AreListed}
-use Rattle.soundness.specs.TextsLines.{Word, Count, Variable, kept, IsWord, AreWords, Tail, Nothing, Part, Variables, IsTail, IsComment, IsSpelled, signs, spelling, Spelled}
+use Rattle.soundness.specs.TextsLines.{Word, Count, Variable, kept, IsWord, AreWords, Tail, Nothing, Behind, Variables, IsTail, IsComment, IsSpelled, signs, spelling, Spelled}
 use Rattle.soundness.specs.TextsLines as lines
 use Rattle.soundness.proofs.TextTokens.{no_blanks, symbol_is, token, blanks_are, gap_is, alone_tokens}
 use Rattle.soundness.proofs.TextNumbers.{nat_is, var_is, name_is}
@@ -109,7 +107,7 @@ comment_is w (inl e) = subst IsComment (sym e) tt
 comment_is w (inr (u, v, e, mark, more)) = subst IsComment (sym (e ∙ ap (λ (t : List ℕ). t ++ v) (symbol_is 35 u mark))) refl
 
 -- a part behind one of the signs
-part_tail : (f : Form) (signs_of : List (List ℕ)) (t b x sign y c z text d : List ℕ) → t ≡ b ++ x → Matches blanks b → x ≡ sign ++ y → Contains signs_of sign → y ≡ c ++ z → Matches blanks c → z ≡ text ++ d → Matches blanks d → IsTail (Part signs_of text) t
+part_tail : (f : Form) (signs_of : List (List ℕ)) (t b x sign y c z text d : List ℕ) → t ≡ b ++ x → Matches blanks b → x ≡ sign ++ y → Contains signs_of sign → y ≡ c ++ z → Matches blanks c → z ≡ text ++ d → Matches blanks d → IsTail (Behind signs_of text) t
 part_tail f signs_of t b x sign y c z text d e before e2 is e3 behind e4 end = (
   b,
   sign,
@@ -148,7 +146,7 @@ variable_element w m b e =
     let v = var_is w m in
     record {
       element = v.variable;
-      is = record { tokens = w ∷ []; split = token w; means = systems.variable w v.variable v.is };
+      is = record { pieces = w ∷ []; split = token w; means = systems.variable w v.variable v.is };
       related = subst (λ (t : List ℕ). IsKept v.variable t) e v.number_kept;
     }
 
@@ -194,8 +192,8 @@ words_in layout line (b, x, e, before, (command, rest, e2, is, (ws, y, e3, words
 line_law : (layout : Layout) (xs : List (List ℕ → Word)) → AreRead layout.words xs → (k : List ℕ) → layout.command ≡ k → (tail_is : Tail) (line : List ℕ) (m : LineOf layout line) → IsTail tail_is (m.4.4.4.0) → IsSpelled (record { first = k; words = made xs (words_in layout line m); tail = tail_is }) line
 line_law layout xs reads k same tail_is line (b, x, e, before, (command, rest, e2, is, (ws, y, e3, words, (t, c, e4, tail, commented)))) told = record {
   before = b;
-  words = ws;
-  tail = t;
+  words_text = ws;
+  tail_text = t;
   comment = c;
   same = e ∙ (ap (λ (u : List ℕ). b ++ u) (e2 ∙ (ap (λ (u : List ℕ). u ++ rest) (is ∙ same) ∙ ap (λ (u : List ℕ). k ++ u) (e3 ∙ ap (λ (u : List ℕ). ws ++ u) e4)))
       ∙ (sym (append_assoc b k (ws ++ (t ++ c))) ∙ (sym (append_assoc (b ++ k) ws (t ++ c)) ∙ sym (append_assoc ((b ++ k) ++ ws) t c))));
@@ -210,15 +208,15 @@ plain_line : (command : List ℕ) (fs : List Form) (xs : List (List ℕ → Word
 plain_line command fs xs reads k same line m = line_law (plain command fs) xs reads k same Nothing line m (blanks_are m.4.4.4.0 m.4.4.4.3)
 
 -- a command with a part behind a colon
-part_line : (command : List ℕ) (fs : List Form) (f : Form) (xs : List (List ℕ → Word)) → AreRead fs xs → (k : List ℕ) → command ≡ k → (line : List ℕ) (m : LineOf (with_part command fs f) line) → IsSpelled (record { first = k; words = made xs (words_in (with_part command fs f) line m); tail = Part (codes ":" ∷ []) (fields_by (with_part command fs f) line m).part }) line
+part_line : (command : List ℕ) (fs : List Form) (f : Form) (xs : List (List ℕ → Word)) → AreRead fs xs → (k : List ℕ) → command ≡ k → (line : List ℕ) (m : LineOf (with_part command fs f) line) → IsSpelled (record { first = k; words = made xs (words_in (with_part command fs f) line m); tail = Behind (codes ":" ∷ []) (fields_by (with_part command fs f) line m).part }) line
 part_line command fs f xs reads k same line (b, x, e, before, (command_text, rest, e2, is, (ws, y, e3, words, (t, c, e4, (b2, x2, f1, before2, (colon, y2, f2, is_colon, (c2, z2, f3, behind2, (text, d2, f4, is_text, end2)))), commented)))) =
-    line_law (with_part command fs f) xs reads k same (Part (codes ":" ∷ []) text) line (b, x, e, before, (command_text, rest, e2, is, (ws, y, e3, words, (t, c, e4, (b2, x2, f1, before2, (colon, y2, f2, is_colon, (c2, z2, f3, behind2, (text, d2, f4, is_text, end2)))), commented))))
+    line_law (with_part command fs f) xs reads k same (Behind (codes ":" ∷ []) text) line (b, x, e, before, (command_text, rest, e2, is, (ws, y, e3, words, (t, c, e4, (b2, x2, f1, before2, (colon, y2, f2, is_colon, (c2, z2, f3, behind2, (text, d2, f4, is_text, end2)))), commented))))
     (part_tail f (codes ":" ∷ []) t b2 x2 colon y2 c2 z2 text d2 f1 before2 f2 (colon_in colon is_colon) f3 behind2 f4 end2)
 
 -- a command with a part behind a colon or a relation
-related_line : (command : List ℕ) (fs : List Form) (f : Form) (xs : List (List ℕ → Word)) → AreRead fs xs → (k : List ℕ) → command ≡ k → (line : List ℕ) (m : LineOf (with_relation command fs f) line) → IsSpelled (record { first = k; words = made xs (words_in (with_relation command fs f) line m); tail = Part (signs (relation_of (fields_by (with_relation command fs f) line m).sign)) (fields_by (with_relation command fs f) line m).part }) line
+related_line : (command : List ℕ) (fs : List Form) (f : Form) (xs : List (List ℕ → Word)) → AreRead fs xs → (k : List ℕ) → command ≡ k → (line : List ℕ) (m : LineOf (with_relation command fs f) line) → IsSpelled (record { first = k; words = made xs (words_in (with_relation command fs f) line m); tail = Behind (signs (relation_of (fields_by (with_relation command fs f) line m).sign)) (fields_by (with_relation command fs f) line m).part }) line
 related_line command fs f xs reads k same line (b, x, e, before, (command_text, rest, e2, is, (ws, y, e3, words, (t, c, e4, (b2, x2, f1, before2, (sign, y2, f2, is_sign, (c2, z2, f3, behind2, (text, d2, f4, is_text, end2)))), commented)))) =
-    line_law (with_relation command fs f) xs reads k same (Part (signs (relation_of sign)) text) line (b, x, e, before, (command_text, rest, e2, is, (ws, y, e3, words, (t, c, e4, (b2, x2, f1, before2, (sign, y2, f2, is_sign, (c2, z2, f3, behind2, (text, d2, f4, is_text, end2)))), commented))))
+    line_law (with_relation command fs f) xs reads k same (Behind (signs (relation_of sign)) text) line (b, x, e, before, (command_text, rest, e2, is, (ws, y, e3, words, (t, c, e4, (b2, x2, f1, before2, (sign, y2, f2, is_sign, (c2, z2, f3, behind2, (text, d2, f4, is_text, end2)))), commented))))
     (part_tail f (signs (relation_of sign)) t b2 x2 sign y2 c2 z2 text d2 f1 before2 f2 (sign_in sign is_sign) f3 behind2 f4 end2)
 
 -- a command with variables behind a colon
@@ -231,16 +229,16 @@ variables_line variables_listed command fs xs reads k same line (b, x, e, before
       h.variables,
       f1 ∙ (ap (λ (u : List ℕ). b2 ++ u) (f2 ∙ ap (λ (u : List ℕ). u ++ y2) (symbol_is 58 colon is_colon)) ∙ sym (append_assoc b2 (codes ":") y2)),
       blanks_are b2 before2,
-      record { tokens = h.is.tokens; split = alone_tokens h.is.tokens y2 c2 z2 text d2 f3 behind2 f4 end2 h.is.split; means = h.is.means },
+      record { pieces = h.is.pieces; split = alone_tokens h.is.pieces y2 c2 z2 text d2 f3 behind2 f4 end2 h.is.split; means = h.is.means },
       h.are_kept,
     )
 
 -- a blank line, or a comment alone
-nothing_line : (line : List ℕ) → Matches (blanks · perhaps comment) line → IsSpelled (lines.words [] []) line
+nothing_line : (line : List ℕ) → Matches (blanks · perhaps comment) line → IsSpelled (lines.of_words [] []) line
 nothing_line line (b, c, e, before, commented) = record {
   before = [];
-  words = [];
-  tail = b;
+  words_text = [];
+  tail_text = b;
   comment = c;
   same = e;
   blank = no_blanks;

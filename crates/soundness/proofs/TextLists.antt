@@ -62,9 +62,9 @@ module _ {T A B : Type 0} (f : Form) (by : (w : List ℕ) → Matches f w → T)
       record {
         elements = h.element ∷ [];
         are = record {
-          tokens = h.is.tokens ++ [];
-          split = tokens_of h.is.tokens [] w u v e h.is.split (subst (AreTokens []) (sym none) no_blanks);
-          means = subst (λ (ts : Tokens). AreListed Means ts (h.element ∷ [])) (sym (append-nil h.is.tokens)) (systems.last h.is.tokens h.element h.is.means);
+          pieces = h.is.pieces ++ [];
+          split = tokens_of h.is.pieces [] w u v e h.is.split (subst (AreTokens []) (sym none) no_blanks);
+          means = subst (λ (ts : Tokens). AreListed Means ts (h.element ∷ [])) (sym (append-nil h.is.pieces)) (systems.last h.is.pieces h.element h.is.means);
         };
         related = (h.related, tt);
       }
@@ -77,12 +77,12 @@ module _ {T A B : Type 0} (f : Form) (by : (w : List ℕ) → Matches f w → T)
       record {
         elements = h.element ∷ q.elements;
         are = record {
-          tokens = h.is.tokens ++ codes "," ∷ q.are.tokens;
-          split = tokens_of h.is.tokens (codes "," ∷ q.are.tokens) w u v e h.is.split
-              (behind_blanks (codes "," ∷ q.are.tokens) v b1 (w1 ++ y) (e0 ∙ (ap (λ (t : List ℕ). t ++ y) e1 ∙ append_assoc b1 w1 y)) blanks1
-              (token_before (codes ",") q.are.tokens (w1 ++ y) comma (w2 ++ y) (ap (λ (t : List ℕ). t ++ y) e2 ∙ append_assoc comma w2 y) (symbol_is 44 comma is_comma)
-              (behind_blanks q.are.tokens (w2 ++ y) b2 (z ++ y) (ap (λ (t : List ℕ). t ++ y) e3 ∙ append_assoc b2 z y) blanks2 q.are.split)));
-          means = systems.next h.is.tokens q.are.tokens h.element q.elements h.is.means q.are.means;
+          pieces = h.is.pieces ++ codes "," ∷ q.are.pieces;
+          split = tokens_of h.is.pieces (codes "," ∷ q.are.pieces) w u v e h.is.split
+              (behind_blanks (codes "," ∷ q.are.pieces) v b1 (w1 ++ y) (e0 ∙ (ap (λ (t : List ℕ). t ++ y) e1 ∙ append_assoc b1 w1 y)) blanks1
+              (token_before (codes ",") q.are.pieces (w1 ++ y) comma (w2 ++ y) (ap (λ (t : List ℕ). t ++ y) e2 ∙ append_assoc comma w2 y) (symbol_is 44 comma is_comma)
+              (behind_blanks q.are.pieces (w2 ++ y) b2 (z ++ y) (ap (λ (t : List ℕ). t ++ y) e3 ∙ append_assoc b2 z y) blanks2 q.are.split)));
+          means = systems.next h.is.pieces q.are.pieces h.element q.elements h.is.means q.are.means;
         };
         related = (h.related, q.related);
       }
@@ -130,14 +130,14 @@ module _ (dim : ℕ) where
   cons_law : (w : List ℕ) (m : Matches cons_cases w) (stored : List Constraint) → AreRelated (IsGoodCon dim) (cons_by w m) stored → HaveRelated (AreConstraints dim) IsWritten w stored
   cons_law w (inl always) [] good = record {
     elements = [];
-    are = record { tokens = codes "true" ∷ []; split = token_is w (codes "true") always; means = systems.always };
+    are = record { pieces = codes "true" ∷ []; split = token_is w (codes "true") always; means = systems.always };
     related = tt;
   }
   cons_law w (inl always) (r ∷ rs) good = absurd good
   cons_law w (inr (inl empty)) [] good = absurd good
   cons_law w (inr (inl empty)) (r ∷ []) good = record {
     elements = (at_column dim dim (negsuc 0), Ge) ∷ [];
-    are = record { tokens = codes "false" ∷ []; split = token_is w (codes "false") empty; means = systems.never };
+    are = record { pieces = codes "false" ∷ []; split = token_is w (codes "false") empty; means = systems.never };
     related = (
       record {
         multiple = subst (λ (v : List ℤ). IsPrimitiveOf v r.0) (sym (never_row dim good.0.is.row good.0.is.sums)) good.0.is.primitive;
@@ -150,7 +150,7 @@ module _ (dim : ℕ) where
   cons_law w (inr (inr (first, v, e, is_first, (n, others)))) stored good =
       let h : HaveRelated (AreListed (SaysConstraint dim)) IsWritten w stored = listed_law con_cases con_by (SaysConstraint dim) IsWritten (IsGoodCon dim) con_element n w first v is_first others e stored
       (subst (λ (cs : List Comparison). AreRelated (IsGoodCon dim) (con_by first is_first ∷ cs) stored) (further_same n v others) good) in
-      record { elements = h.elements; are = record { tokens = h.are.tokens; split = h.are.split; means = systems.constraints h.are.tokens h.elements h.are.means }; related = h.related }
+      record { elements = h.elements; are = record { pieces = h.are.pieces; split = h.are.split; means = systems.constraints h.are.pieces h.elements h.are.means }; related = h.related }
 
 -- ---- the points of both lists
 positive_times : (n : ℕ) → 0 < n → pos 0 <ℤ pos n
@@ -194,7 +194,7 @@ cons_alone dim text system (b1, w1, e1, before, (x, b2, e2, is, behind)) h =
     let q : HaveRelated (AreConstraints dim) IsWritten x system.list = cons_law dim x is system.list (good_cons dim (cons_by x is) system.list h.within h.stay h.list) in
     record {
       list = q.elements;
-      is_text = record { tokens = q.are.tokens; split = alone_tokens q.are.tokens text b1 w1 x b2 e1 before e2 behind q.are.split; means = q.are.means };
+      is_text = record { pieces = q.are.pieces; split = alone_tokens q.are.pieces text b1 w1 x b2 e1 before e2 behind q.are.split; means = q.are.means };
       same = λ v. all_satisfied v q.elements system.list q.related;
     }
 

@@ -27,19 +27,19 @@ signed true row = opposite row
 
 -- the text is tokens that mean a row with these cells
 pub record Reads (Means : Tokens → List ℤ → Type 0) (dim : ℕ) (w : List ℕ) (s : ℕ → ℤ) : Type 0 where
-  pub tokens : Tokens
+  pub pieces : Tokens
   pub row : List ℤ
-  pub split : AreTokens tokens w
-  pub means : Means tokens row
+  pub split : AreTokens pieces w
+  pub means : Means pieces row
   pub wide : length row ≡ dim + 1
   pub cells : (j : ℕ) → j ≤ dim → cell row j ≡ s j
 
 -- the same, where a sign stands before the text
 pub record ReadsSigned (Means : Tokens → List ℤ → Type 0) (dim : ℕ) (w : List ℕ) (negative : Bool) (s : ℕ → ℤ) : Type 0 where
-  pub tokens : Tokens
+  pub pieces : Tokens
   pub row : List ℤ
-  pub split : AreTokens tokens w
-  pub means : Means tokens row
+  pub split : AreTokens pieces w
+  pub means : Means pieces row
   pub wide : length row ≡ dim + 1
   pub cells : (j : ℕ) → j ≤ dim → cell (signed negative row) j ≡ s j
 
@@ -67,7 +67,7 @@ module _ (dim : ℕ) where
   -- a variable times a number
   multiple_row : (negative : Bool) (w : List ℕ) (ts : Tokens) (n size j index : ℕ) → size ≡ n → index ≡ j → j < dim → AreTokens ts w → IsMultiple dim ts (at_column dim j (pos n)) → ReadsSigned (IsMultiple dim) dim w negative (part dim (variable_term negative size index))
   multiple_row negative w ts n size j index e f h split means = record {
-    tokens = ts;
+    pieces = ts;
     row = at_column dim j (pos n);
     split = split;
     means = means;
@@ -99,11 +99,11 @@ module _ (dim : ℕ) where
   vterm_law negative w (inr variable) within short = variable_law negative w variable within
 
   as_term : (negative : Bool) (w : List ℕ) (s : ℕ → ℤ) → ReadsSigned (IsMultiple dim) dim w negative s → ReadsSigned (IsTerm dim) dim w negative s
-  as_term negative w s r = record { tokens = r.tokens; row = r.row; split = r.split; means = expressions.multiple r.tokens r.row r.means; wide = r.wide; cells = r.cells }
+  as_term negative w s r = record { pieces = r.pieces; row = r.row; split = r.split; means = expressions.multiple r.pieces r.row r.means; wide = r.wide; cells = r.cells }
 
   constant_law : (negative : Bool) (w : List ℕ) (m : Matches nat w) → size_of w < 2 ^ 127 → ReadsSigned (IsTerm dim) dim w negative (part dim (number_term negative (size_of w)))
   constant_law negative w m short = record {
-    tokens = w ∷ [];
+    pieces = w ∷ [];
     row = at_column dim dim (pos (number w));
     split = token w;
     means = expressions.constant w (number w) (nat_is w m);
@@ -118,10 +118,10 @@ module _ (dim : ℕ) where
 
 -- the tokens go on, and the row with them
 record GoesOn (Means : Tokens → List ℤ → Type 0) (dim : ℕ) (before : Tokens) (old : List ℤ) (w : List ℕ) (s : ℕ → ℤ) : Type 0 where
-  tokens : Tokens
+  pieces : Tokens
   row : List ℤ
-  split : AreTokens tokens w
-  means : Means (before ++ tokens) row
+  split : AreTokens pieces w
+  means : Means (before ++ pieces) row
   wide : length row ≡ dim + 1
   cells : (j : ℕ) → j ≤ dim → cell row j ≡ cell old j +ℤ s j
 
@@ -135,14 +135,14 @@ module _ (dim : ℕ) (f : Form) (by : TermBy f) (Means : Tokens → List ℤ →
   first_law : (w : List ℕ) (m : Matches (f ∣ (symbol 45 ⋯ f)) w) → IsWithin dim (first_by f by w m) → IsShort (first_by f by w m) → Reads (IsSum Means) dim w (part dim (first_by f by w m))
   first_law w (inl is) within short =
       let r = law false w is within short in
-      record { tokens = r.tokens; row = r.row; split = r.split; means = expressions.one r.tokens r.row r.means; wide = r.wide; cells = r.cells }
+      record { pieces = r.pieces; row = r.row; split = r.split; means = expressions.one r.pieces r.row r.means; wide = r.wide; cells = r.cells }
   first_law w (inr (minus, x, e, is_minus, (b, t, g, between, is))) within short =
       let r = law true t is within short in
       record {
-        tokens = codes "-" ∷ r.tokens;
+        pieces = codes "-" ∷ r.pieces;
         row = opposite r.row;
-        split = token_before (codes "-") r.tokens w minus x e (symbol_is 45 minus is_minus) (behind_blanks r.tokens x b t g between r.split);
-        means = expressions.minus_one r.tokens r.row r.means;
+        split = token_before (codes "-") r.pieces w minus x e (symbol_is 45 minus is_minus) (behind_blanks r.pieces x b t g between r.split);
+        means = expressions.minus_one r.pieces r.row r.means;
         wide = opposite_wide r.row ∙ r.wide;
         cells = r.cells;
       }
@@ -151,27 +151,27 @@ module _ (dim : ℕ) (f : Form) (by : TermBy f) (Means : Tokens → List ℤ →
   signed_law before old so_far wide w (inl (plus, x, e, is_plus, (b, t, g, between, is))) within short =
       let r = law false t is within short in
       record {
-        tokens = codes "+" ∷ r.tokens;
+        pieces = codes "+" ∷ r.pieces;
         row = add old r.row;
-        split = token_before (codes "+") r.tokens w plus x e (symbol_is 43 plus is_plus) (behind_blanks r.tokens x b t g between r.split);
-        means = expressions.plus before r.tokens old r.row so_far r.means;
+        split = token_before (codes "+") r.pieces w plus x e (symbol_is 43 plus is_plus) (behind_blanks r.pieces x b t g between r.split);
+        means = expressions.plus before r.pieces old r.row so_far r.means;
         wide = add_wide (dim + 1) old r.row wide r.wide;
         cells = λ j le. cell-add old r.row j ∙ ap (λ (z : ℤ). cell old j +ℤ z) (r.cells j le);
       }
   signed_law before old so_far wide w (inr (minus, x, e, is_minus, (b, t, g, between, is))) within short =
       let r = law true t is within short in
       record {
-        tokens = codes "-" ∷ r.tokens;
+        pieces = codes "-" ∷ r.pieces;
         row = difference old r.row;
-        split = token_before (codes "-") r.tokens w minus x e (symbol_is 45 minus is_minus) (behind_blanks r.tokens x b t g between r.split);
-        means = expressions.minus before r.tokens old r.row so_far r.means;
+        split = token_before (codes "-") r.pieces w minus x e (symbol_is 45 minus is_minus) (behind_blanks r.pieces x b t g between r.split);
+        means = expressions.minus before r.pieces old r.row so_far r.means;
         wide = difference_wide (dim + 1) old r.row wide r.wide;
         cells = λ j le. cell-add old (opposite r.row) j ∙ ap (λ (z : ℤ). cell old j +ℤ z) (r.cells j le);
       }
 
   further_law : (n : ℕ) (before : Tokens) (old : List ℤ) → IsSum Means before old → length old ≡ dim + 1 → (w : List ℕ) (m : Times (Matches (blanks · ((symbol 43 ⋯ f) ∣ (symbol 45 ⋯ f)))) n w) → AreWithin dim (further_by f by n w m) → All IsShort (further_by f by n w m) → GoesOn (IsSum Means) dim before old w (total dim (further_by f by n w m))
   further_law zero before old so_far wide w none within short = record {
-    tokens = [];
+    pieces = [];
     row = old;
     split = subst (AreTokens []) (sym none) no_blanks;
     means = subst (λ (ts : Tokens). IsSum Means ts old) (sym (append-nil before)) so_far;
@@ -182,12 +182,12 @@ module _ (dim : ℕ) (f : Form) (by : TermBy f) (Means : Tokens → List ℤ →
       let t : Term = signed_by f by x signed_text in
       let ts : List Term = further_by f by n v others in
       let r = signed_law before old so_far wide x signed_text (All-head (IsWithin dim) t ts within) (All-head IsShort t ts short) in
-      let q = further_law n (before ++ r.tokens) r.row r.means r.wide v others (All-tail (IsWithin dim) t ts within) (All-tail IsShort t ts short) in
+      let q = further_law n (before ++ r.pieces) r.row r.means r.wide v others (All-tail (IsWithin dim) t ts within) (All-tail IsShort t ts short) in
       record {
-        tokens = r.tokens ++ q.tokens;
+        pieces = r.pieces ++ q.pieces;
         row = q.row;
-        split = tokens_of r.tokens q.tokens w u v e (behind_blanks r.tokens u b x g between r.split) q.split;
-        means = subst (λ (us : Tokens). IsSum Means us q.row) (append_assoc before r.tokens q.tokens) q.means;
+        split = tokens_of r.pieces q.pieces w u v e (behind_blanks r.pieces u b x g between r.split) q.split;
+        means = subst (λ (us : Tokens). IsSum Means us q.row) (append_assoc before r.pieces q.pieces) q.means;
         wide = q.wide;
         cells = λ j le. q.cells j le ∙ (ap (λ (z : ℤ). z +ℤ total dim ts j) (r.cells j le) ∙ plus_assoc (cell old j) (part dim t j) (total dim ts j));
       }
@@ -197,11 +197,11 @@ module _ (dim : ℕ) (f : Form) (by : TermBy f) (Means : Tokens → List ℤ →
       let t : Term = first_by f by u first in
       let ts : List Term = further_by f by n v others in
       let r = first_law u first (All-head (IsWithin dim) t ts within) (All-head IsShort t ts short) in
-      let q = further_law n r.tokens r.row r.means r.wide v others (All-tail (IsWithin dim) t ts within) (All-tail IsShort t ts short) in
+      let q = further_law n r.pieces r.row r.means r.wide v others (All-tail (IsWithin dim) t ts within) (All-tail IsShort t ts short) in
       record {
-        tokens = r.tokens ++ q.tokens;
+        pieces = r.pieces ++ q.pieces;
         row = q.row;
-        split = tokens_of r.tokens q.tokens w u v e r.split q.split;
+        split = tokens_of r.pieces q.pieces w u v e r.split q.split;
         means = q.means;
         wide = q.wide;
         cells = λ j le. q.cells j le ∙ ap (λ (z : ℤ). z +ℤ total dim ts j) (r.cells j le);
@@ -215,7 +215,7 @@ module _ (dim : ℕ) where
   -- the coordinates of a point or of a direction
   pub coordinates_law : (w : List ℕ) (m : Matches vexpr_cases w) → AreWithin dim (vexpr_by w m) → All IsShort (vexpr_by w m) → Reads (AreCoordinates dim) dim w (total dim (vexpr_by w m))
   coordinates_law w (inl zero_alone) within short = record {
-    tokens = codes "0" ∷ [];
+    pieces = codes "0" ∷ [];
     row = at_column dim dim (pos 0);
     split = token_is w (codes "0") (symbol_is 48 w zero_alone);
     means = expressions.origin;
@@ -224,14 +224,14 @@ module _ (dim : ℕ) where
   }
   coordinates_law w (inr m) within short =
       let r = sum_law dim vterm vterm_by (IsMultiple dim) (vterm_law dim) w m within short in
-      record { tokens = r.tokens; row = r.row; split = r.split; means = expressions.sum r.tokens r.row r.means; wide = r.wide; cells = r.cells }
+      record { pieces = r.pieces; row = r.row; split = r.split; means = expressions.sum r.pieces r.row r.means; wide = r.wide; cells = r.cells }
 
 -- the text is tokens that mean a row with these cells over this divisor
 pub record ReadsOver (Means : Tokens → List ℤ → Type 0) (dim : ℕ) (w : List ℕ) (s : ℕ → ℤ) (divisor : ℕ) : Type 0 where
-  pub tokens : Tokens
+  pub pieces : Tokens
   pub row : List ℤ
-  pub split : AreTokens tokens w
-  pub means : IsQuotient Means tokens (row, divisor)
+  pub split : AreTokens pieces w
+  pub means : IsQuotient Means pieces (row, divisor)
   pub wide : length row ≡ dim + 1
   pub cells : (j : ℕ) → j ≤ dim → cell row j ≡ s j
 
@@ -239,7 +239,7 @@ pub record ReadsOver (Means : Tokens → List ℤ → Type 0) (dim : ℕ) (w : L
 pub over_law : (dim : ℕ) (f : Form) (by : (w : List ℕ) → Matches f w → List Term) (Means : Tokens → List ℤ → Type 0) → ((w : List ℕ) (m : Matches f w) → AreWithin dim (by w m) → All IsShort (by w m) → Reads Means dim w (total dim (by w m))) → (w : List ℕ) (m : Matches (over_nat f) w) → AreWithin dim (ratio_by f by w m).terms → All IsShort (ratio_by f by w m).terms → (ratio_by f by w m).divisor < 2 ^ 127 → 0 < (ratio_by f by w m).divisor → ReadsOver Means dim w (total dim (ratio_by f by w m).terms) (ratio_by f by w m).divisor
 over_law dim f by Means law w (inl is) within short low positive =
     let r = law w is within short in
-    record { tokens = r.tokens; row = r.row; split = r.split; means = expressions.whole r.tokens r.row r.means; wide = r.wide; cells = r.cells }
+    record { pieces = r.pieces; row = r.row; split = r.split; means = expressions.whole r.pieces r.row r.means; wide = r.wide; cells = r.cells }
 over_law dim f by Means law w (inr (opening, w1, e1, is_opening, (b1, w2, e2, blanks1, (expr, w3, e3, is_expr, (b2, w4, e4, blanks2, (closing, w5, e5, is_closing, (b3, w6, e6, blanks3, (slash, w7, e7, is_slash, (b4, digits, e8, blanks4, is_digits))))))))) within short low positive =
     let r = law expr is_expr within short in
     let last : AreTokens (codes ")" ∷ codes "/" ∷ digits ∷ []) w4 =
@@ -248,13 +248,13 @@ over_law dim f by Means law w (inr (opening, w1, e1, is_opening, (b1, w2, e2, bl
     (token_before (codes "/") (digits ∷ []) w6 slash w7 e7 (symbol_is 47 slash is_slash)
     (behind_blanks (digits ∷ []) w7 b4 digits e8 blanks4 (token digits)))) in
     record {
-      tokens = codes "(" ∷ r.tokens ++ codes ")" ∷ codes "/" ∷ digits ∷ [];
+      pieces = codes "(" ∷ r.pieces ++ codes ")" ∷ codes "/" ∷ digits ∷ [];
       row = r.row;
-      split = token_before (codes "(") (r.tokens ++ codes ")" ∷ codes "/" ∷ digits ∷ []) w opening w1 e1 (symbol_is 40 opening is_opening)
-          (behind_blanks (r.tokens ++ codes ")" ∷ codes "/" ∷ digits ∷ []) w1 b1 w2 e2 blanks1
-          (tokens_of r.tokens (codes ")" ∷ codes "/" ∷ digits ∷ []) w2 expr w3 e3 r.split (behind_blanks (codes ")" ∷ codes "/" ∷ digits ∷ []) w3 b2 w4 e4 blanks2 last)));
-      means = subst (λ (n : ℕ). IsQuotient Means (codes "(" ∷ r.tokens ++ codes ")" ∷ codes "/" ∷ digits ∷ []) (r.row, n)) (sym (small_size digits (size_of digits) refl low))
-          (expressions.divided r.tokens digits r.row (number digits) r.means (nat_is digits is_digits) (subst (λ (n : ℕ). 0 < n) (small_size digits (size_of digits) refl low) positive));
+      split = token_before (codes "(") (r.pieces ++ codes ")" ∷ codes "/" ∷ digits ∷ []) w opening w1 e1 (symbol_is 40 opening is_opening)
+          (behind_blanks (r.pieces ++ codes ")" ∷ codes "/" ∷ digits ∷ []) w1 b1 w2 e2 blanks1
+          (tokens_of r.pieces (codes ")" ∷ codes "/" ∷ digits ∷ []) w2 expr w3 e3 r.split (behind_blanks (codes ")" ∷ codes "/" ∷ digits ∷ []) w3 b2 w4 e4 blanks2 last)));
+      means = subst (λ (n : ℕ). IsQuotient Means (codes "(" ∷ r.pieces ++ codes ")" ∷ codes "/" ∷ digits ∷ []) (r.row, n)) (sym (small_size digits (size_of digits) refl low))
+          (expressions.divided r.pieces digits r.row (number digits) r.means (nat_is digits is_digits) (subst (λ (n : ℕ). 0 < n) (small_size digits (size_of digits) refl low) positive));
       wide = r.wide;
       cells = r.cells;
     }

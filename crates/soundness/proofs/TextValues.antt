@@ -36,9 +36,9 @@ module _ (dim : ℕ) where
       let r = expression_law dim x is h.within h.stay.numbers in
       let same : r.row ≡ row = same_rows dim r.row row r.wide h.sums.wide (λ j le. r.cells j le ∙ sym (h.sums.cells j le)) in
       record {
-        tokens = r.tokens;
-        split = alone_tokens r.tokens text b1 w1 x b2 e1 before e2 behind r.split;
-        means = subst (IsExpression dim r.tokens) same r.means;
+        pieces = r.pieces;
+        split = alone_tokens r.pieces text b1 w1 x b2 e1 before e2 behind r.split;
+        means = subst (IsExpression dim r.pieces) same r.means;
       }
 
   pub expression_text : (text : List ℕ) (row : List ℤ) → IsExpr dim text row → ExpressionText dim text row
@@ -51,9 +51,9 @@ module _ (dim : ℕ) where
       let n : ℕ = (frac_by x is).divisor in (
         n,
         record {
-          tokens = r.tokens;
-          split = alone_tokens r.tokens text b1 w1 x b2 e1 before e2 behind r.split;
-          means = subst (λ (v : List ℤ). IsQuotient (IsExpression dim) r.tokens (v, n)) same r.means;
+          pieces = r.pieces;
+          split = alone_tokens r.pieces text b1 w1 x b2 e1 before e2 behind r.split;
+          means = subst (λ (v : List ℤ). IsQuotient (IsExpression dim) r.pieces (v, n)) same r.means;
         },
         h.same,
         h.positive,
@@ -135,9 +135,9 @@ enclosed_tokens cs ts w opening w1 b1 w2 x w3 b2 closing e1 is_opening e2 blanks
 
 -- the text is tokens that mean this
 pub record Is {A : Type 0} (Means : Tokens → A → Type 0) (w : List ℕ) (a : A) : Type 0 where
-  pub tokens : Tokens
-  pub split : AreTokens tokens w
-  pub means : Means tokens a
+  pub pieces : Tokens
+  pub split : AreTokens pieces w
+  pub means : Means pieces a
 
 module _ (dim : ℕ) where
   -- a point of either kind, whose coordinates and divisor were read
@@ -149,22 +149,22 @@ module _ (dim : ℕ) where
   enclosed_over cs kind case w (opening, w1, e1, is_opening, (b1, w2, e2, blanks1, (frac, w3, e3, is_frac, (b2, close, e4, blanks2, is_close)))) row within short low positive wide cells last =
       let r = vfrac_law frac is_frac within short low positive in
       let ratio : Ratio = ratio_by vexpr_cases vexpr_by frac is_frac in
-      let same : over dim r.row ratio.divisor ≡ row = point_row dim ratio.divisor r.row row (total dim ratio.terms) r.wide (over_end dim r.tokens r.row ratio.divisor r.means) r.cells wide cells last in
+      let same : over dim r.row ratio.divisor ≡ row = point_row dim ratio.divisor r.row row (total dim ratio.terms) r.wide (over_end dim r.pieces r.row ratio.divisor r.means) r.cells wide cells last in
       record {
-        tokens = cs ∷ r.tokens ++ codes ")" ∷ [];
-        split = enclosed_tokens cs r.tokens w opening w1 b1 w2 frac w3 b2 close e1 is_opening e2 blanks1 e3 e4 blanks2 is_close r.split;
-        means = subst (λ (v : List ℤ). IsGenerator dim (cs ∷ r.tokens ++ codes ")" ∷ []) (v, kind)) same (case r.tokens r.row ratio.divisor r.means);
+        pieces = cs ∷ r.pieces ++ codes ")" ∷ [];
+        split = enclosed_tokens cs r.pieces w opening w1 b1 w2 frac w3 b2 close e1 is_opening e2 blanks1 e3 e4 blanks2 is_close r.split;
+        means = subst (λ (v : List ℤ). IsGenerator dim (cs ∷ r.pieces ++ codes ")" ∷ []) (v, kind)) same (case r.pieces r.row ratio.divisor r.means);
       }
 
   -- a ray or a line, in its opening word and a closing bracket
   pub enclosed_direction : (cs : List ℕ) (kind : GenKind) → ((ts : Tokens) (u : List ℤ) → AreCoordinates dim ts u → IsGenerator dim (cs ∷ ts ++ codes ")" ∷ []) (u, kind)) → (w : List ℕ) (m : Matches (word cs ⋯ vexpr_cases ⋯ symbol 41) w) (row : List ℤ) → AreWithin dim (enclosed_by cs vexpr_cases vexpr_by w m) → All IsShort (enclosed_by cs vexpr_cases vexpr_by w m) → length row ≡ dim + 1 → ((j : ℕ) → j < dim → cell row j ≡ total dim (enclosed_by cs vexpr_cases vexpr_by w m) j) → cell row dim ≡ pos 0 → Is (IsGenerator dim) w (row, kind)
   enclosed_direction cs kind case w (opening, w1, e1, is_opening, (b1, w2, e2, blanks1, (x, w3, e3, is, (b2, close, e4, blanks2, is_close)))) row within short wide cells last =
       let r = coordinates_law dim x is within short in
-      let same : r.row ≡ row = direction_row dim r.row row (total dim (vexpr_by x is)) r.wide (coordinates_end dim r.tokens r.row r.means) r.cells wide cells last in
+      let same : r.row ≡ row = direction_row dim r.row row (total dim (vexpr_by x is)) r.wide (coordinates_end dim r.pieces r.row r.means) r.cells wide cells last in
       record {
-        tokens = cs ∷ r.tokens ++ codes ")" ∷ [];
-        split = enclosed_tokens cs r.tokens w opening w1 b1 w2 x w3 b2 close e1 is_opening e2 blanks1 e3 e4 blanks2 is_close r.split;
-        means = subst (λ (v : List ℤ). IsGenerator dim (cs ∷ r.tokens ++ codes ")" ∷ []) (v, kind)) same (case r.tokens r.row r.means);
+        pieces = cs ∷ r.pieces ++ codes ")" ∷ [];
+        split = enclosed_tokens cs r.pieces w opening w1 b1 w2 x w3 b2 close e1 is_opening e2 blanks1 e3 e4 blanks2 is_close r.split;
+        means = subst (λ (v : List ℤ). IsGenerator dim (cs ∷ r.pieces ++ codes ")" ∷ []) (v, kind)) same (case r.pieces r.row r.means);
       }
 
   pub point_law : (w : List ℕ) (m : Matches point_cases w) (row : List ℤ) → AreWithin dim (point_by w m).terms → All IsShort (point_by w m).terms → (point_by w m).divisor < 2 ^ 127 → 0 < (point_by w m).divisor → length row ≡ dim + 1 → ((j : ℕ) → j < dim → cell row j ≡ total dim (point_by w m).terms j) → cell row dim ≡ pos (point_by w m).divisor → Is (IsGenerator dim) w (row, Point)
@@ -177,7 +177,7 @@ module _ (dim : ℕ) where
   point_alone : (text : List ℕ) (row : List ℤ) (m : Matches (alone point_cases) text) → IsPointOf dim (alone_by point_cases point_by text m) row → PointText dim text row × IsPointVector dim row
   point_alone text row (b1, w1, e1, before, (x, b2, e2, is, behind)) h =
       let r = point_law x is row h.within h.stay.terms.numbers h.stay.divisor h.positive h.wide h.coordinates h.last in (
-        record { tokens = r.tokens; split = alone_tokens r.tokens text b1 w1 x b2 e1 before e2 behind r.split; means = r.means },
+        record { pieces = r.pieces; split = alone_tokens r.pieces text b1 w1 x b2 e1 before e2 behind r.split; means = r.means },
         record { wide = h.wide; positive = above (cell row dim) (point_by x is).divisor h.last h.positive },
       )
 
@@ -248,29 +248,29 @@ module _ (dim : ℕ) where
 
   compared : (w left w1 b1 w2 between w3 b2 right : List ℕ) (is_left : Matches expr_cases left) (is_between : Matches rel between) (is_right : Matches expr_cases right) → w ≡ left ++ w1 → w1 ≡ b1 ++ w2 → Matches blanks b1 → w2 ≡ between ++ w3 → w3 ≡ b2 ++ right → Matches blanks b2 → Reads (IsExpression dim) dim left (total dim (expr_by left is_left)) → Reads (IsExpression dim) dim right (total dim (expr_by right is_right)) → (row : List ℤ) → IsConRow dim (record { terms = expr_by left is_left ++ map turned (expr_by right is_right); relation = relation_by between is_between }) row → Is (SaysConstraint dim) w (row, kind_of (relation_by between is_between))
   compared w left w1 b1 w2 between w3 b2 right is_left (inl equal) is_right e1 e2 blanks1 e3 e4 blanks2 l r row is = record {
-    tokens = l.tokens ++ codes "=" ∷ r.tokens;
-    split = related (codes "=") l.tokens r.tokens w left w1 b1 w2 between w3 b2 right e1 e2 blanks1 e3 (symbol_is 61 between equal) e4 blanks2 l.split r.split;
-    means = subst (λ (v : List ℤ). SaysConstraint dim (l.tokens ++ codes "=" ∷ r.tokens) (v, Eq)) (straight_row l.row r.row row (expr_by left is_left) (expr_by right is_right) l.wide r.wide l.cells r.cells is.wide is.cells) (systems.equal l.tokens r.tokens l.row r.row l.means r.means);
+    pieces = l.pieces ++ codes "=" ∷ r.pieces;
+    split = related (codes "=") l.pieces r.pieces w left w1 b1 w2 between w3 b2 right e1 e2 blanks1 e3 (symbol_is 61 between equal) e4 blanks2 l.split r.split;
+    means = subst (λ (v : List ℤ). SaysConstraint dim (l.pieces ++ codes "=" ∷ r.pieces) (v, Eq)) (straight_row l.row r.row row (expr_by left is_left) (expr_by right is_right) l.wide r.wide l.cells r.cells is.wide is.cells) (systems.equal l.pieces r.pieces l.row r.row l.means r.means);
   }
   compared w left w1 b1 w2 between w3 b2 right is_left (inr (inl at_least)) is_right e1 e2 blanks1 e3 e4 blanks2 l r row is = record {
-    tokens = l.tokens ++ codes ">=" ∷ r.tokens;
-    split = related (codes ">=") l.tokens r.tokens w left w1 b1 w2 between w3 b2 right e1 e2 blanks1 e3 at_least e4 blanks2 l.split r.split;
-    means = subst (λ (v : List ℤ). SaysConstraint dim (l.tokens ++ codes ">=" ∷ r.tokens) (v, Ge)) (straight_row l.row r.row row (expr_by left is_left) (expr_by right is_right) l.wide r.wide l.cells r.cells is.wide is.cells) (systems.at_least l.tokens r.tokens l.row r.row l.means r.means);
+    pieces = l.pieces ++ codes ">=" ∷ r.pieces;
+    split = related (codes ">=") l.pieces r.pieces w left w1 b1 w2 between w3 b2 right e1 e2 blanks1 e3 at_least e4 blanks2 l.split r.split;
+    means = subst (λ (v : List ℤ). SaysConstraint dim (l.pieces ++ codes ">=" ∷ r.pieces) (v, Ge)) (straight_row l.row r.row row (expr_by left is_left) (expr_by right is_right) l.wide r.wide l.cells r.cells is.wide is.cells) (systems.at_least l.pieces r.pieces l.row r.row l.means r.means);
   }
   compared w left w1 b1 w2 between w3 b2 right is_left (inr (inr (inl at_most))) is_right e1 e2 blanks1 e3 e4 blanks2 l r row is = record {
-    tokens = l.tokens ++ codes "<=" ∷ r.tokens;
-    split = related (codes "<=") l.tokens r.tokens w left w1 b1 w2 between w3 b2 right e1 e2 blanks1 e3 at_most e4 blanks2 l.split r.split;
-    means = subst (λ (v : List ℤ). SaysConstraint dim (l.tokens ++ codes "<=" ∷ r.tokens) (v, Ge)) (turned_row l.row r.row row (expr_by left is_left) (expr_by right is_right) l.wide r.wide l.cells r.cells is.wide is.cells) (systems.at_most l.tokens r.tokens l.row r.row l.means r.means);
+    pieces = l.pieces ++ codes "<=" ∷ r.pieces;
+    split = related (codes "<=") l.pieces r.pieces w left w1 b1 w2 between w3 b2 right e1 e2 blanks1 e3 at_most e4 blanks2 l.split r.split;
+    means = subst (λ (v : List ℤ). SaysConstraint dim (l.pieces ++ codes "<=" ∷ r.pieces) (v, Ge)) (turned_row l.row r.row row (expr_by left is_left) (expr_by right is_right) l.wide r.wide l.cells r.cells is.wide is.cells) (systems.at_most l.pieces r.pieces l.row r.row l.means r.means);
   }
   compared w left w1 b1 w2 between w3 b2 right is_left (inr (inr (inr (inl above)))) is_right e1 e2 blanks1 e3 e4 blanks2 l r row is = record {
-    tokens = l.tokens ++ codes ">" ∷ r.tokens;
-    split = related (codes ">") l.tokens r.tokens w left w1 b1 w2 between w3 b2 right e1 e2 blanks1 e3 (symbol_is 62 between above) e4 blanks2 l.split r.split;
-    means = subst (λ (v : List ℤ). SaysConstraint dim (l.tokens ++ codes ">" ∷ r.tokens) (v, Gt)) (straight_row l.row r.row row (expr_by left is_left) (expr_by right is_right) l.wide r.wide l.cells r.cells is.wide is.cells) (systems.above l.tokens r.tokens l.row r.row l.means r.means);
+    pieces = l.pieces ++ codes ">" ∷ r.pieces;
+    split = related (codes ">") l.pieces r.pieces w left w1 b1 w2 between w3 b2 right e1 e2 blanks1 e3 (symbol_is 62 between above) e4 blanks2 l.split r.split;
+    means = subst (λ (v : List ℤ). SaysConstraint dim (l.pieces ++ codes ">" ∷ r.pieces) (v, Gt)) (straight_row l.row r.row row (expr_by left is_left) (expr_by right is_right) l.wide r.wide l.cells r.cells is.wide is.cells) (systems.above l.pieces r.pieces l.row r.row l.means r.means);
   }
   compared w left w1 b1 w2 between w3 b2 right is_left (inr (inr (inr (inr below)))) is_right e1 e2 blanks1 e3 e4 blanks2 l r row is = record {
-    tokens = l.tokens ++ codes "<" ∷ r.tokens;
-    split = related (codes "<") l.tokens r.tokens w left w1 b1 w2 between w3 b2 right e1 e2 blanks1 e3 (symbol_is 60 between below) e4 blanks2 l.split r.split;
-    means = subst (λ (v : List ℤ). SaysConstraint dim (l.tokens ++ codes "<" ∷ r.tokens) (v, Gt)) (turned_row l.row r.row row (expr_by left is_left) (expr_by right is_right) l.wide r.wide l.cells r.cells is.wide is.cells) (systems.below l.tokens r.tokens l.row r.row l.means r.means);
+    pieces = l.pieces ++ codes "<" ∷ r.pieces;
+    split = related (codes "<") l.pieces r.pieces w left w1 b1 w2 between w3 b2 right e1 e2 blanks1 e3 (symbol_is 60 between below) e4 blanks2 l.split r.split;
+    means = subst (λ (v : List ℤ). SaysConstraint dim (l.pieces ++ codes "<" ∷ r.pieces) (v, Gt)) (turned_row l.row r.row row (expr_by left is_left) (expr_by right is_right) l.wide r.wide l.cells r.cells is.wide is.cells) (systems.below l.pieces r.pieces l.row r.row l.means r.means);
   }
 
   pub con_law : (w : List ℕ) (m : Matches con_cases w) (row : List ℤ) → AreWithin dim (con_by w m).terms → All IsShort (con_by w m).terms → IsConRow dim (con_by w m) row → Is (SaysConstraint dim) w (row, kind_of (con_by w m).relation)
@@ -286,9 +286,9 @@ module _ (dim : ℕ) where
   constraint_alone text row kind (b1, w1, e1, before, (x, b2, e2, is, behind)) h =
       let r = con_law x is row h.within h.stay.numbers h.sums in
       record {
-        tokens = r.tokens;
-        split = alone_tokens r.tokens text b1 w1 x b2 e1 before e2 behind r.split;
-        means = subst (λ (k : ConKind). SaysConstraint dim r.tokens (row, k)) (sym h.same) r.means;
+        pieces = r.pieces;
+        split = alone_tokens r.pieces text b1 w1 x b2 e1 before e2 behind r.split;
+        means = subst (λ (k : ConKind). SaysConstraint dim r.pieces (row, k)) (sym h.same) r.means;
       }
 
   -- a constraint that a text means

@@ -1,5 +1,5 @@
 -- The answers to questions about polyhedra are true of their points.
-use Rattle.std.proofs.Common.{◌≡◌, inl, inr, ◌↔◌, ℕ, ◌+◌, ◌<◌, List, [], ◌++◌, length, arith, refl, ap, sym, ◌∙◌, subst, Bool, true, false, IsTrue, ℤ, Ok, codes}
+use Rattle.std.proofs.Common.{◌≡◌, inl, inr, ◌↔◌, ℕ, ◌+◌, ◌<◌, List, [], ◌∷◌, ◌++◌, length, arith, refl, ap, sym, ◌∙◌, subst, Bool, true, false, IsTrue, ℤ, Ok, codes}
 use Rattle.std.specs.Fmt.{signed_decimal}
 use Rattle.cdd_text.specs.Written.{ine_text, ext_text}
 use Rattle.row_core.specs.Points.{IsPoint}
@@ -19,7 +19,7 @@ use Rattle.poly_pair.specs.ClosedPolyhedra.{IsClosedOver}
 use Rattle.poly_pair.specs.KeptLaws.{KeptIsPair, KeptIsEmpty}
 use Rattle.poly_pair.specs.FirstLists.{LacksPoint}
 use Rattle.poly_pair.specs.Polyhedra.{Polyhedron, IsKept, IsStoredAs}
-use Rattle.expr_text.specs.Printed.{constraints_text, generators_text, generator_text}
+use Rattle.expr_text.specs.Printed.{constraints_text, generators_text, generator_list_text, generator_text}
 use Rattle.expr_text.specs.ReadBack.{ConstraintsAreReadBack, GeneratorsAreReadBack}
 use Rattle.expr_text.specs.GeneratorSystems.{IsGens}
 use Rattle.optimum.specs.Laws.{GeneratorIsWitness}
@@ -37,19 +37,21 @@ use Rattle.line_values.specs.Proper.{IsProper}
 use Rattle.line_values.specs.Meaning.{IsTold, answer_line}
 use Rattle.line_values.specs.Operands as operands
 use Rattle.line_values.specs.Order.{Conditions, Passes}
-use Rattle.poly_commands.specs.Questions as questions
-use Rattle.poly_commands.specs.Optima as optima
-use Rattle.poly_commands.specs.Lattice.{compared}
-use Rattle.poly_commands.specs.Files.{file_of}
-use Rattle.poly_commands.specs.Widening.{nested, IsWidened}
-use Rattle.soundness.specs.Points.{AreAlike, Includes}
-use Rattle.soundness.specs.Sets.{generators, IsWidening}
-use Rattle.soundness.specs.Answers.{line, Tells, TellsWhether, LieSo, TellsRelation, is_max, attained_text, witness_kind, IsWitness, TellsExtremeOf, TellsExtreme, AreGensOf, TellsSystem, TellsSize}
+use Rattle.poly_questions.specs.Questions as questions
+use Rattle.poly_questions.specs.Optima as optima
+use Rattle.poly_questions.specs.Lattice.{compared}
+use Rattle.poly_questions.specs.Files.{file_of}
+use Rattle.poly_makers.specs.Widening.{nested, IsWidened}
+use Rattle.soundness.specs.Points.{IsSetOf, AreAlike, Includes}
+use Rattle.soundness.specs.Sets.{constraints, generators, IsWidening}
+use Rattle.soundness.specs.Answers.{line, Tells, TellsWhether, LieSo, TellsRelation, is_max, attained_text, witness_kind, IsWitness, TellsExtremeOf, TellsExtreme, TellsGenerators, TellsSystem, TellsSize}
+use Rattle.soundness.specs.TextsSystems.{GeneratorsText, no_generator}
 use Rattle.soundness.specs.FileLines.{IsVectorOf}
 use Rattle.soundness.specs.Files.{TellsFile, as_listed}
 use Rattle.soundness.proofs.FileWrites.{IsTextOf, ine_writes, ext_writes}
 use Rattle.soundness.proofs.MadeSets.{own_generate}
-use Rattle.soundness.proofs.PointLaws.{TextLaws, via, turn, is_nnc, set_of, is_over, closed_is_over, moved, for_from}
+use Rattle.soundness.proofs.PointLaws.{TextLaws, via, turn, is_nnc, set_of, set_is, is_over, closed_is_over, moved, for_from}
+use Rattle.soundness.proofs.TextTokens.{token_is}
 use Rattle.soundness.proofs.Operands.{one_topology, one_number}
 
 -- the laws that are cited: both stored systems hold the same points, and there is no generator where there is none; what is printed is read back; the generator of a bound shows it; a widening includes the larger set
@@ -161,21 +163,43 @@ extreme_true texts laws extremum part p reply proper h = record {
 }
 
 -- ---- systems
-own_gens : PolyLaws → (p : Polyhedron) → IsKept p → AreGensOf p.gens.list (set_of p)
+own_gens : PolyLaws → (p : Polyhedron) → IsKept p → (v : List ℤ) → IsPoint p.cons.dim v → Span (generators p.cons.dim p.gens.list) v ↔ In p.cons v
 own_gens laws p kept v is =
     turn (via (laws.pair p kept v is) (subst (λ (n : ℕ). Span p.gens v ↔ Span (generators n p.gens.list) v) (kept_dims p kept) (λ x. x, λ x. x)))
 
+-- the set of a polyhedron, where these are its points
+own_set : (p : Polyhedron) → IsProper p → (Has : List ℤ → Type 0) → ((v : List ℤ) → IsPoint p.cons.dim v → In p.cons v ↔ Has v) → IsSetOf (is_nnc p.topology) p.cons.dim Has (set_of p)
+own_set p proper Has points = set_is p.topology p.cons.dim Has p proper (record { same_topology = refl; same_dim = refl }) points
+
 pub size_true : PolyLaws → (p : Polyhedron) (reply : List ℕ) → IsProper p → reply ≡ line (questions.size_text p) → TellsSize (set_of p) reply
-size_true laws p reply proper said = record { constraints_are = p.cons.list; generators_are = p.gens.list; hold = λ v is. (λ x. x, λ x. x); generate = own_generate p proper (same_dims p proper) (laws.pair p proper.kept) (laws.empty p proper.kept).1; said = said }
+size_true laws p reply proper said = record { constraints_are = p.cons.list; generators_are = p.gens.list; hold = own_set p proper (In p.cons) (λ v is. (λ x. x, λ x. x)); generate = own_generate p proper (same_dims p proper) (laws.pair p proper.kept) (laws.empty p proper.kept).1; said = said }
+
+no_text : (dim : ℕ) → GeneratorsText dim (codes "none") []
+no_text dim = record { pieces = codes "none" ∷ []; split = token_is (codes "none") (codes "none") refl; means = no_generator }
+
+-- the generators that are printed; none where none is stored
+gens_told : TextLaws → PolyLaws → (p : Polyhedron) (reply : List ℕ) (list : List Generator) → p.gens.list ≡ list → IsProper p → reply ≡ line (generators_text p.gens) → TellsGenerators (set_of p) reply
+gens_told texts laws p reply [] e proper said = record {
+  text = codes "none";
+  said = said ∙ ap (λ (l : List Generator). line (generator_list_text p.gens.dim l)) e;
+  is = record { list = []; says = no_text p.cons.dim; set = own_set p proper (Span (generators p.cons.dim [])) (λ v is. turn (subst (λ (l : List Generator). Span (generators p.cons.dim l) v ↔ In p.cons v) e (own_gens laws p proper.kept v is))) };
+  none = λ empty. refl;
+}
+gens_told texts laws p reply (g ∷ list) e proper said =
+    let read = subst (λ (n : ℕ). IsGens n (generators_text p.gens) p.gens) (same_dims p proper) ((laws.gens p.gens p.gens proper.gens).1 refl) in
+    let says = texts.generators p.cons.dim (generators_text p.gens) p.gens read in
+    record {
+      text = generators_text p.gens;
+      said = said;
+      is = record { list = says.list; says = says.is_text; set = own_set p proper (Span (generators p.cons.dim says.list)) (λ v is. via (turn (own_gens laws p proper.kept v is)) (says.same [] v)) };
+      none = λ empty. (let no : g ∷ list ≡ [] = sym e ∙ (laws.empty p proper.kept).1 empty in cc);
+    }
 
 pub side_true : TextLaws → PolyLaws → (side : Bool) (p : Polyhedron) (reply : List ℕ) → IsProper p → reply ≡ line (questions.side_text side p) → TellsSystem side (set_of p) reply
 side_true texts laws false p reply proper said =
     let says = texts.constraints p.cons.dim (constraints_text p.cons) p.cons ((laws.cons p.cons p.cons proper.cons).1 refl) in
-    record { text = constraints_text p.cons; said = said; list = says.list; is_text = says.is_text; are = λ v is. turn (says.same v) }
-side_true texts laws true p reply proper said =
-    let read = subst (λ (n : ℕ). IsGens n (generators_text p.gens) p.gens) (same_dims p proper) ((laws.gens p.gens p.gens proper.gens).1 refl) in
-    let says = texts.generators p.cons.dim (generators_text p.gens) p.gens read in
-    record { text = generators_text p.gens; said = said; list = says.list; is_text = says.is_text; are = λ v is. via (turn (says.same [] v)) (own_gens laws p proper.kept v is) }
+    record { text = constraints_text p.cons; said = said; is = record { list = says.list; says = says.is_text; set = own_set p proper (In (constraints p.cons.dim says.list)) (λ v is. says.same v) } }
+side_true texts laws true p reply proper said = gens_told texts laws p reply p.gens.list refl proper said
 
 -- ---- files
 closed_forms : (p : Polyhedron) → IsKept p → p.topology ≡ Closed → AreClosedForms p.cons p.gens
@@ -199,8 +223,8 @@ ine_side p reply kept closed fit said =
     record {
       marked = w.marked;
       type = w.type;
-      typed = w.typed;
       rows = w.rows;
+      typed = w.typed;
       wide = w.wide;
       marks = w.marks;
       said = said ∙ w.text_is;
@@ -214,8 +238,8 @@ ext_side laws p reply kept closed fit said =
     record {
       marked = w.marked;
       type = w.type;
-      typed = w.typed;
       rows = w.rows;
+      typed = w.typed;
       wide = w.wide;
       marks = w.marks;
       said = said ∙ w.text_is;

@@ -9,20 +9,19 @@ use Rattle.cons_sys.specs.Constraints.{Constraint, In}
 use Rattle.gens_sys.specs.declared.kind.GenKind.{GenKind}
 use Rattle.gens_sys.specs.declared.kind.GenKind.TheVariants.{Point, ClosurePoint}
 use Rattle.gens_sys.specs.Generators.{Generator}
-use Rattle.gens_sys.specs.Spans.{Span}
 use Rattle.expr_text.specs.Printed.{generator_text}
 use Rattle.stored_systems.specs.PointSets.{IsWithin}
 use Rattle.optimum.specs.Relations.{HoldsThroughout, HoldsNowhere, HoldsSomewhere, FailsSomewhere}
 use Rattle.optimum.specs.Suprema.{ExceedsAll, IsSupremum}
 use Rattle.script_text.specs.declared.command.Part.{Part}
 use Rattle.script_text.specs.declared.command.Comparison.{Comparison}
-use Rattle.script_text.specs.declared.command.Comparison.TheVariants.{Contains, Equal, Disjoint}
+use Rattle.script_text.specs.declared.command.Comparison.TheVariants as comparison
 use Rattle.script_text.specs.declared.command.Extremum.{Extremum}
 use Rattle.script_text.specs.declared.command.Extremum.TheVariants.{Max, Min}
-use Rattle.soundness.specs.Points.{PointSet, AreAlike, HasNoPoint, Includes, HaveSamePoints, AreDisjoint, IsInSmallest}
-use Rattle.soundness.specs.Sets.{constraints, generators, Generate}
+use Rattle.soundness.specs.Points.{PointSet, IsSetOf, AreAlike, HasNoPoint, Includes, HaveSamePoints, AreDisjoint, IsInSmallest}
+use Rattle.soundness.specs.Sets.{constraints, IsOfConstraints, IsOfGenerators, Generate}
 use Rattle.soundness.specs.TextsExpressions.{ExpressionText}
-use Rattle.soundness.specs.TextsSystems.{ConstraintText, ConstraintsText, PointText, GeneratorsText}
+use Rattle.soundness.specs.TextsSystems.{ConstraintText, PointText}
 
 -- ---- replies
 -- one line
@@ -48,9 +47,9 @@ pub record TellsWhether (part : Part) (s : PointSet) (reply : List ℕ) : Type 0
 
 -- each point of the second is in the first; both have the same points; no point is in both
 abbrev pub LieSo : Comparison → PointSet → PointSet → Type 0
-LieSo Contains s t = Includes s t
-LieSo Equal s t = HaveSamePoints s t
-LieSo Disjoint s t = AreDisjoint s t
+LieSo comparison.Contains s t = Includes s t
+LieSo comparison.Equal s t = HaveSamePoints s t
+LieSo comparison.Disjoint s t = AreDisjoint s t
 
 -- whether two sets of one kind lie so
 pub record TellsHowTheyLie (by : Comparison) (s t : PointSet) (reply : List ℕ) : Type 0 where
@@ -140,31 +139,18 @@ pub record TellsExtreme (extremum : Extremum) (part : Part) (s : PointSet)
   pub tells : TellsExtremeOf (is_max extremum) row s reply
 
 -- ---- systems
--- the constraints hold at the points of the set and at no others
-abbrev pub AreOf : List Constraint → PointSet → Type 0
-AreOf list s =
-    (v : List ℤ) → IsPoint s.cons.dim v → In (constraints s.cons.dim list) v ↔ In s.cons v
-
--- the generators generate these points and no others
-abbrev pub AreGensOf : List Generator → PointSet → Type 0
-AreGensOf list s =
-    (v : List ℤ) → IsPoint s.cons.dim v → Span (generators s.cons.dim list) v ↔ In s.cons v
-
--- the text of such constraints
+-- the text of constraints that hold at the points of the set and at no others
 pub record TellsConstraints (s : PointSet) (reply : List ℕ) : Type 0 where
   pub text : List ℕ
   pub said : reply ≡ line text
-  pub list : List Constraint
-  pub is_text : ConstraintsText s.cons.dim text list
-  pub are : AreOf list s
+  pub is : IsOfConstraints s.nnc s.cons.dim text s
 
--- the text of such generators
+-- the text of generators that generate these points and no others; of none where there is no point
 pub record TellsGenerators (s : PointSet) (reply : List ℕ) : Type 0 where
   pub text : List ℕ
   pub said : reply ≡ line text
-  pub list : List Generator
-  pub is_text : GeneratorsText s.cons.dim text list
-  pub are : AreGensOf list s
+  pub is : IsOfGenerators s.nnc s.cons.dim text s
+  pub none : HasNoPoint s → is.list ≡ []
 
 -- constraints, or generators
 abbrev pub TellsSystem : Bool → PointSet → List ℕ → Type 0
@@ -176,7 +162,7 @@ TellsSystem true s reply = TellsGenerators s reply
 pub record TellsSize (s : PointSet) (reply : List ℕ) : Type 0 where
   pub constraints_are : List Constraint
   pub generators_are : List Generator
-  pub hold : AreOf constraints_are s
+  pub hold : IsSetOf s.nnc s.cons.dim (In (constraints s.cons.dim constraints_are)) s
   pub generate : Generate generators_are s
   pub said : reply ≡ line (codes "dim " ++ decimal s.cons.dim ++ codes " constraints " ++ decimal
       (length constraints_are) ++ codes " generators " ++ decimal (length generators_are))

@@ -1,17 +1,17 @@
 -- What each command makes, changes or answers.
-use Rattle.std.specs.Prelude.{◌≡◌, ℕ, List, [], ◌++◌, length, map, Some, codes, decimal, false}
+use Rattle.std.specs.Prelude.{◌≡◌, ℕ, List, [], ◌++◌, length, map, Some, codes, decimal}
 use Rattle.std.specs.Map.{keys_of}
 use Rattle.name_table.specs.Table.{entry_of, put, put_each, without, numbered_entries}
 use Rattle.name_table.specs.Listing.{spaced}
 use Rattle.script_text.specs.declared.command.Command.{Command}
 use Rattle.script_text.specs.declared.command.Command.TheVariants as command
-use Rattle.script_text.specs.declared.command.Comparison.TheVariants.{Contains}
+use Rattle.script_text.specs.declared.command.Comparison.TheVariants as comparison
 use Rattle.soundness.specs.Points.{PointSet, HasNoPoint}
 use Rattle.soundness.specs.Values.{Value, Polyhedron, System, Union, Shape, Automaton, Names}
 use Rattle.soundness.specs.Sets.{IsOfConstraints, IsOfGenerators, IsSpace, IsCopy, IsAdded, IsJoined, IsClosure, IsOfTwo, IsWidening, IsExtended, IsRemoved, IsMapped}
 use Rattle.soundness.specs.Answers.{line, ok, Tells, TellsWhether, TellsHowTheyLie, TellsRelation, TellsExtreme, TellsConstraints, TellsSystem, TellsSize}
 use Rattle.soundness.specs.Unions.{IsOfOne, IsCombined, IsMember, TellsMembers, TellsCover, AreRankings, TellsRanking}
-use Rattle.soundness.specs.Shapes.{IsSmallestShape, IsOfTwoShapes}
+use Rattle.soundness.specs.Shapes.{IsOfBounds, IsSmallestShape, IsOfTwoShapes}
 use Rattle.soundness.specs.Systems.{IsEmptySystem, IsWithInitial, IsWithTransition, IsStill, IsWithPart, AreInvariant, AreReached}
 use Rattle.soundness.specs.Files.{TellsFile}
 
@@ -72,8 +72,8 @@ pub record TellsNames (old : Names) (reply : List ℕ) (new : Names) : Type 0 wh
 -- what each command does
 abbrev pub Does : Command → Act
 Does command.Nothing = Asks (λ reply. reply ≡ [])
-Does (command.Cons out nnc n part) = Makes Polyhedron out (IsOfConstraints nnc n part)
-Does (command.Gens out nnc n part) = Makes Polyhedron out (IsOfGenerators nnc n part)
+Does (command.Cons out nnc n part) = Makes Polyhedron out (IsOfConstraints nnc n part.text)
+Does (command.Gens out nnc n part) = Makes Polyhedron out (IsOfGenerators nnc n part.text)
 Does (command.Space space out nnc n) = Makes Polyhedron out (IsSpace space nnc n)
 Does (command.Copy out p) = OfOne Polyhedron p (λ x. Makes Polyhedron out (IsCopy x))
 Does (command.Drop name) = TakesOut name
@@ -113,10 +113,11 @@ Does (command.Covers s t) = OfTwo Union s t (λ x y. Asks (TellsCover x y))
 Does (command.Rank out r) = OfOne Polyhedron r (λ x. Makes Polyhedron out (AreRankings x))
 Does (command.Ranking r) = OfOne Polyhedron r (λ x. Asks (TellsRanking x))
 Does (command.ShapeOf out p) = OfOne Polyhedron p (λ x. Makes Shape out (IsSmallestShape x))
-Does (command.Bounds out n part) = Makes Shape out (IsOfConstraints false n part)
+Does (command.Bounds out n part) = Makes Shape out (IsOfBounds n part.text)
 Does (command.OfTwoShapes op out s t) =
     OfTwo Shape s t (λ x y. Makes Shape out (IsOfTwoShapes op x y))
-Does (command.ShapeContains s t) = OfTwo Shape s t (λ x y. Asks (TellsHowTheyLie Contains x y))
+Does (command.ShapeContains s t) =
+    OfTwo Shape s t (λ x y. Asks (TellsHowTheyLie comparison.Contains x y))
 Does (command.ShapePrint s) = OfOne Shape s (λ x. Asks (TellsConstraints x))
 Does (command.ShapePoly out s) = OfOne Shape s (λ x. Makes Polyhedron out (IsCopy x))
 Does (command.Hybrid out s) = OfOne System s (λ x. Makes Automaton out (IsStill x))

@@ -1,5 +1,5 @@
 -- The format of files: lines of words, a head, rows of numbers between `begin` and `end`.
-use Rattle.std.specs.Prelude.{◌≡◌, ◌≢◌, ◌<◌, ◌+◌, ◌⊎◌, ◌==◌, ℕ, List, [], ◌∷◌, ◌++◌, length, map, Bool, true, false, not, if◌then◌else◌, codes, decimal, ℤ, pos, ◌*ℤ◌, ◌<ℤ◌, All}
+use Rattle.std.specs.Prelude.{◌≡◌, ◌≢◌, ◌<◌, ◌≤◌, ◌+◌, ◌⊎◌, ◌==◌, ℕ, List, [], ◌∷◌, ◌++◌, length, map, Bool, true, false, not, if◌then◌else◌, codes, decimal, ℤ, pos, ◌*ℤ◌, ◌<ℤ◌, All}
 use Rattle.std.proofs.Math.IntN.{neg_ℤ}
 use Rattle.std.specs.List.{flat_map, list_any, AllZip}
 use Rattle.std.specs.Str.Lines.{lines}
@@ -75,9 +75,10 @@ kind_name true = codes "V-representation"
 abbrev pub IsBeforeBegin : Bool → List ℕ → Type 0
 IsBeforeBegin ext line = ¬ (IsOnly (codes "begin") line) × ¬ (IsOnly (kind_name (not ext)) line)
 
--- the type of the numbers
-abbrev pub IsNumberType : List ℕ → Type 0
-IsNumberType type = (type ≡ codes "integer") ⊎ (type ≡ codes "rational")
+-- the type of the words of the rows: integers alone, or fractions too
+abbrev pub IsTypeOf : List (List (List ℕ)) → List ℕ → Type 0
+IsTypeOf rows type = (type ≡ codes "rational") ⊎ ((type ≡ codes "integer")
+    × All (λ row. All (λ w. (z : ℤ) × IsInteger w z) row) rows)
 
 -- the first word of the line is another than `linearity`
 abbrev pub NamesNoRow : List ℕ → Type 0
@@ -106,11 +107,11 @@ pub record AreTableWords (words : List (List ℕ)) (columns : ℕ)
   pub is : words ≡ m ∷ d ∷ type ∷ flat_map (λ row. row) rows
   pub rows_counted : IsNumber m (length rows)
   pub columns_counted : IsNumber d columns
-  pub typed : IsNumberType type
+  pub typed : IsTypeOf rows type
   pub wide : All (λ (row : List (List ℕ)). length row ≡ columns) rows
 
 -- the file, of generators or of constraints, has these marks and rows: the lines of its head,
--- `begin`, those of its table, and the first line `end`
+-- `begin`, those of its table, and the first line `end`; none has more than 65,535 bytes
 pub record IsFile (ext : Bool) (bytes marked : List ℕ) (columns : ℕ)
     (rows : List (List (List ℕ))) : Type 0 where
   pub head : List (List ℕ)
@@ -122,7 +123,7 @@ pub record IsFile (ext : Bool) (bytes marked : List ℕ) (columns : ℕ)
   pub before : All (IsBeforeBegin ext) head
   pub marks : HaveMarks head marked
   pub begins : IsOnly (codes "begin") begin
-  pub unended : All (λ line. ¬ (IsEnd line)) (head ++ begin ∷ table)
+  pub each : All (λ line. (length line ≤ 65535) × ¬ (IsEnd line)) (head ++ begin ∷ table)
   pub words : AreTableWords (flat_map tokens table) columns rows
   pub ends : IsEnd end
 

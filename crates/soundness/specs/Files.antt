@@ -8,7 +8,7 @@ use Rattle.poly_pair.specs.FirstLists.{LacksPoint}
 use Rattle.soundness.specs.Points.{PointSet, IsSetOf}
 use Rattle.soundness.specs.TextsExpressions.{at_column}
 use Rattle.soundness.specs.Sets.{constraints, generators}
-use Rattle.soundness.specs.FileLines.{IsRowOf, IsVectorOf, AreRows, IsNumberType, IsFile, file_text}
+use Rattle.soundness.specs.FileLines.{IsRowOf, IsVectorOf, AreRows, IsTypeOf, IsFile, file_text}
 
 -- the generators that rows list; the origin is one more where there are some and none is a point
 pub data WithOrigin (dim : ℕ) (list : List Generator) : List Generator → Type 0 where
@@ -50,8 +50,8 @@ pub record IsRead (ext : Bool) (bytes : List ℕ) (s : PointSet) : Type 0 where
 pub record TellsFile (ext : Bool) (s : PointSet) (reply : List ℕ) : Type 0 where
   pub marked : List ℕ
   pub type : List ℕ
-  pub typed : IsNumberType type
   pub rows : List (List (List ℕ))
+  pub typed : IsTypeOf rows type
   pub wide : All (λ (row : List (List ℕ)). length row ≡ s.cons.dim + 1) rows
   pub marks : All (λ (k : ℕ). (0 < k) × (k ≤ length rows)) marked
   pub said : reply ≡ file_text ext marked (s.cons.dim + 1) type rows

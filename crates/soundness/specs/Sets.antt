@@ -36,15 +36,15 @@ abbrev pub generators : ℕ → List Generator → Generators
 generators dim list = record { dim = dim; list = list }
 
 -- the points at which the constraints of the text hold
-pub record IsOfConstraints (nnc : Bool) (dim : ℕ) (part : Part) (s : PointSet) : Type 0 where
+pub record IsOfConstraints (nnc : Bool) (dim : ℕ) (text : List ℕ) (s : PointSet) : Type 0 where
   pub list : List Constraint
-  pub text : ConstraintsText dim part.text list
+  pub says : ConstraintsText dim text list
   pub set : IsSetOf nnc dim (In (constraints dim list)) s
 
 -- the points that the generators of the text generate: none where there is no point among them
-pub record IsOfGenerators (nnc : Bool) (dim : ℕ) (part : Part) (s : PointSet) : Type 0 where
+pub record IsOfGenerators (nnc : Bool) (dim : ℕ) (text : List ℕ) (s : PointSet) : Type 0 where
   pub list : List Generator
-  pub text : GeneratorsText dim part.text list
+  pub says : GeneratorsText dim text list
   pub set : IsSetOf nnc dim (Span (generators dim list)) s
 
 -- all points, or none

@@ -7,7 +7,7 @@ use Rattle.script_text.specs.declared.command.Operator.TheVariants as operator
 use Rattle.script_text.specs.declared.command.ShapeOperator.{ShapeOperator}
 use Rattle.script_text.specs.declared.command.ShapeOperator.TheVariants.{Meet, Hull}
 use Rattle.soundness.specs.Points.{PointSet, IsSetOf, AreAlike}
-use Rattle.soundness.specs.Sets.{IsOfTwo}
+use Rattle.soundness.specs.Sets.{IsOfConstraints, IsOfTwo}
 
 -- at the point the value of one place, less that of another, is at most num / den
 abbrev pub HasBound : ℕ → ℕ → ℕ → ℤ → ℤ → List ℤ → Type 0
@@ -18,6 +18,11 @@ HasBound dim i j num den v = (den *ℤ (place_value v i -ℤ place_value v j)) �
 abbrev pub IsInSmallestShape : ℕ → (List ℤ → Type 0) → List ℤ → Type 0
 IsInSmallestShape dim Has v = (i j : ℕ) (num den : ℤ) → i ≤ dim → j ≤ dim → pos 0 <ℤ den →
     ((u : List ℤ) → Has u → HasBound dim i j num den u) → HasBound dim i j num den v
+
+-- the shape of the bounds of the text: its points are those at which these hold
+abbrev pub IsOfBounds : ℕ → List ℕ → PointSet → Type 0
+IsOfBounds dim text s = IsOfConstraints false dim text s
+    × IsSetOf false dim (IsInSmallestShape dim (IsWithin s.cons)) s
 
 -- the smallest shape that includes the closed set
 pub record IsSmallestShape (p s : PointSet) : Type 0 where

@@ -55,6 +55,6 @@ AreTokens (t ∷ ts) text =
 
 -- the text is tokens that say this, where Means tells what tokens say
 pub record IsText {A : Type 0} (Means : Tokens → A → Type 0) (text : List ℕ) (a : A) : Type 0 where
-  pub tokens : Tokens
-  pub split : AreTokens tokens text
-  pub means : Means tokens a
+  pub pieces : Tokens
+  pub split : AreTokens pieces text
+  pub means : Means pieces a

@@ -1,6 +1,6 @@
 use Rattle.std.proofs.Common.{refl}
 use Rattle.calc_state.specs.declared.entry.Entry.TheVariants as entry
-use Rattle.poly_commands.specs.Meanings.{added}
+use Rattle.poly_makers.specs.Meanings.{added}
 use Rattle.calc_state.specs.Table.{as_poly}
 use Rattle.calc_state.specs.Meanings.{answered, on_table}
 use Rattle.line_values.proofs.EffectLemmas.{performed_as, put_found, say_none}

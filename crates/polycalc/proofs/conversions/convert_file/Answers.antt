@@ -1,5 +1,5 @@
 use Rattle.std.proofs.Common.{ap, Err, inl, refl, ◌∙◌}
-use Rattle.polycalc.specs.Replies.{Written, with_reply}
+use Rattle.written_replies.specs.Replies.{Written, with_reply}
 use Rattle.job_texts.specs.Conversions.{ConvertsTo}
 use Rattle.polycalc.proofs.GivenReplies.{reply_added}
 use Rattle.polycalc.proofs.WriteLaws.{conversion_written, writes_unread}

@@ -8,12 +8,12 @@ use Rattle.poly_io.proofs.CutLaws.{lacks_unless}
 use Rattle.poly_io.proofs.Known.{prepend_known-then, prepend_known-nil}
 use Rattle.calc_state.specs.Line.{Step}
 use Rattle.calc_state.specs.State.{State}
-use Rattle.polycalc.specs.Replies.{Written, written}
+use Rattle.written_replies.specs.Replies.{Written, written}
 use Rattle.polycalc.proofs.StreamLaws.{Goes, start_reading, goes_start, goes_line, goes_written, front_of_goes, goes_end, written_at_end, ends_script, goes_failed, goes_too_long, goes_earlier, goes_unanswered, goes_before, ended_before, few_taken, size_given, match_true, risen_since}
 use Rattle.calc_state.specs.Runs.{at_end}
 use Rattle.polycalc.specs.Outcomes.{AnswersFirst, GivesUp}
 use Rattle.job_words.specs.declared.job.Job.TheVariants as job
-use Rattle.polycalc.specs.declared.status.Status.TheVariants.{ReadFault, WriteFault, Memory}
+use Rattle.written_replies.specs.declared.status.Status.TheVariants.{ReadFault, WriteFault, Memory}
 use Rattle.polycalc.proofs.EndLaws.{never_unread}
 use Rattle.polycalc.proofs.runs.answer_lines.Goals as goal
 

@@ -1,5 +1,5 @@
 use Rattle.std.proofs.Common.{ap, ◌∙◌}
-use Rattle.polycalc.specs.Replies.{Written, with_reply}
+use Rattle.written_replies.specs.Replies.{Written, with_reply}
 use Rattle.job_texts.specs.Samples.{SamplesTo}
 use Rattle.polycalc.proofs.GivenReplies.{reply_added}
 use Rattle.polycalc.proofs.WriteLaws.{sample_written}

@@ -1,0 +1,5 @@
+mod FractionLemmas
+mod MakerLemmas
+mod MapLemmas
+pub mod OperatorLemmas
+mod WideningLemmas

@@ -1,0 +1,13 @@
+use Rattle.std.specs.Prelude.{ℕ}
+use Rattle.written_replies.specs.declared.status.Status.{Status}
+use Rattle.written_replies.specs.declared.status.Status.TheVariants.{Done, Refused, Usage, ReadFault, WriteFault, Memory, InputTooLong}
+
+-- the program's exit code
+abbrev pub code_of : Status → ℕ
+code_of Done = 0
+code_of Refused = 1
+code_of Usage = 2
+code_of ReadFault = 3
+code_of WriteFault = 4
+code_of Memory = 5
+code_of InputTooLong = 6
