@@ -1,6 +1,6 @@
 //! Steps of a conversion with many pairs of rays, against a search over all pairs.
 ghost use Rattle.std.specs.Prelude.{◌≡◌, ◌<◌, ◌^◌, length, IfOk};
-ghost use Rattle.row_core.specs.Range.{InRange};
+ghost use Rattle.row_core.specs.Range.{InRange, AllInRange};
 
 use chernikova::{add_rows, convert};
 use row_core::{Memory, RowList, Steps};
@@ -54,8 +54,8 @@ fn last_entries(alloc: Global, rays: &RowList) -> Result<Vec<i128>, Memory>
     Ok(values)
 }
 
-// Converts the rows, and then takes the last one, which is 1 in the last column alone. Gives how many rays
-// there were before it.
+// Converts the rows, and then takes the last one, which is 1 in the last column alone. Gives how
+// many rays there were before it.
 fn check_last_step<L: Ledger>(
     rt: &impl Abort,
     alloc: Global,
@@ -109,8 +109,8 @@ fn push_points(rows: &mut RowList, times: u64) -> Result<(), Memory>
     Ok(())
 }
 
-// A cyclic polytope has simple facets, and crowded ones where there are points between neighbours too: of one,
-// two, three, four and five words.
+// A cyclic polytope has simple facets, and crowded ones where there are points between neighbours
+// too: of one, two, three, four and five words.
 fn check_curve<L: Ledger>(rt: &impl Abort, alloc: Global, blank: Blank) -> Result<(), Fail>
     requires name { blank.name ≡ L.name }
     requires parts { blank.parts ≡ L.parts }
@@ -130,4 +130,68 @@ fn check_curve<L: Ledger>(rt: &impl Abort, alloc: Global, blank: Blank) -> Resul
 #[test]
 fn points_of_a_curve(rt: HostRuntime) -> Result<(), Fail> {
     check_curve::<Brand>(&rt, rt.alloc(), Blank::new(1))
+}
+
+// The pairs of six points, each as the set of its bits.
+const PAIRS: [u32; 15] = [
+    0b000011, 0b000101, 0b001001, 0b010001, 0b100001, 0b000110, 0b001010, 0b010010, 0b100010,
+    0b001100, 0b010100, 0b100100, 0b011000, 0b101000, 0b110000,
+];
+
+// How many of two sets part the points of a pair.
+fn parting(one: u32, other: u32, pair: u32) -> i128
+    ensures { InRange result }
+{
+    let by_one = (one & pair).count_ones() & 1;
+    let by_other = (other & pair).count_ones() & 1;
+    i128::from(by_one.wrapping_add(by_other))
+}
+
+// The sum of two cuts of six points, each by the set of its bits: how many part each pair.
+fn sum_of_cuts(alloc: Global, one: u32, other: u32) -> Result<Vec<i128>, Memory>
+    ensures width { IfOk result (λ row. length row.items ≡ 15) }
+    ensures in_range { IfOk result (λ row. AllInRange row.items) }
+{
+    let mut row = Vec::new(alloc);
+    for index in 0..PAIRS.len() {
+        row.push(parting(one, other, PAIRS[index]))?;
+    }
+    Ok(row)
+}
+
+// The sums of a cut and each one that isn't empty.
+fn push_cuts(alloc: Global, rows: &mut RowList, cut: u32) -> Result<(), Memory>
+    requires { rows.old.width ≡ 15 }
+    ensures { rows.new.width ≡ 15 }
+{
+    for other in 1..32 {
+        let row = sum_of_cuts(alloc, cut, other)?;
+        rows.push(&row, false)?;
+    }
+    Ok(())
+}
+
+// Most facets of the cone of cuts are crowded: by the cuts alone, of one word, and with their
+// sums, of sixteen.
+fn check_cuts<L: Ledger>(rt: &impl Abort, alloc: Global, blank: Blank) -> Result<(), Fail>
+    requires name { blank.name ≡ L.name }
+    requires parts { blank.parts ≡ L.parts }
+    requires shared { 0 < blank.parts }
+{
+    let mut steps = Steps::<L>::new(blank);
+    let mut last = RowList::new(alloc, 15);
+    last.push(&[0, 0, 0, 0, 0, 0, 0, 0, 0, 0, 0, 0, 0, 0, 1], false)?;
+    let mut rows = RowList::new(alloc, 15);
+    push_cuts(alloc, &mut rows, 0)?;
+    assert_eq!(rt; check_last_step(rt, alloc, &rows, &last, &mut steps)?, 210);
+    for cut in 1..32 {
+        push_cuts(alloc, &mut rows, cut)?;
+    }
+    assert_eq!(rt; check_last_step(rt, alloc, &rows, &last, &mut steps)?, 210);
+    Ok(())
+}
+
+#[test]
+fn cuts_of_six_points(rt: HostRuntime) -> Result<(), Fail> {
+    check_cuts::<Brand>(&rt, rt.alloc(), Blank::new(1))
 }
