@@ -1,9 +1,9 @@
 """The converters that the comparisons of conversions run, and what one run of a converter takes."""
 import os
+import resource
 import shutil
 import signal
 import subprocess
-import threading
 from collections import namedtuple
 
 HERE = os.path.dirname(os.path.abspath(__file__))
@@ -37,14 +37,17 @@ def ours(polycalc, path):
 
 
 def run(command, path, limit=None):
-    """One run on the file: all of the process, with reading and printing; nothing where it took longer than the limit."""
+    """One run on the file: all of the process, with reading and printing; nothing where it took more seconds of the
+    processor than the limit."""
+    def limited():
+        if limit:
+            resource.setrlimit(resource.RLIMIT_CPU, (limit, limit))
+
     with open(path) as file:
-        process = subprocess.Popen(command, stdin=file, stdout=subprocess.PIPE, stderr=subprocess.DEVNULL)
-        timer = threading.Timer(limit or 1e6, process.send_signal, [signal.SIGKILL])
-        timer.start()
+        pipes = {"stdin": file, "stdout": subprocess.PIPE, "stderr": subprocess.DEVNULL}
+        process = subprocess.Popen(command, preexec_fn=limited, **pipes)
         output = process.stdout.read()
         _, status, usage = os.wait4(process.pid, 0)
-        timer.cancel()
         process.returncode = os.waitstatus_to_exitcode(status)
     if process.returncode == -signal.SIGKILL:
         return None
