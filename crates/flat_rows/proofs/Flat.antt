@@ -1,8 +1,8 @@
 -- Rows of one width, one after another.
-use Rattle.std.proofs.Common.{◌≡◌, ◌≢◌, ℕ, suc, zero, ◌+◌, ◌-◌, ◌*◌, ◌<◌, ◌≤◌, Bool, true, false, List, [], ◌∷◌, ◌++◌, length, get_or, set, take, drop, refl, sym, ap, inl, inr, ◌⊎◌, subst, ◌∙◌, arith, length-take, length-drop, length-append, add-one}
+use Rattle.std.proofs.Common.{◌≡◌, ◌≢◌, ℕ, suc, zero, ◌+◌, ◌-◌, ◌*◌, ◌<◌, ◌≤◌, Bool, true, false, List, [], ◌∷◌, ◌++◌, length, get_or, set, take, drop, refl, sym, ap, inl, inr, ◌⊎◌, subst, ◌∙◌, arith, length-take, length-drop, length-append, replicate, add-one}
 use Rattle.std.specs.Prelude.{All}
 use Rattle.std.specs.List.{range_with_len, copy_within, refill}
-use Rattle.std.proofs.lemmas.List.{ext_get_or, get_or-drop, drop_at, take-append-le, drop-append-le, get_or-set_same, get_or-set_other, length-set, take_more_set, drop-drop, take_all, take_at, take-take, drop-take, take-append-drop, append_assoc, append-nil, take-set-le, drop-set-lt, drop-set-add}
+use Rattle.std.proofs.lemmas.List.{ext_get_or, get_or-drop, drop_at, take-append-le, drop-append-le, get_or-set_same, get_or-set_other, length-set, take_more_set, drop-drop, take_all, take_at, take-take, drop-take, take-append-drop, append_assoc, append-nil, length-replicate, replicate-append-replicate, replicate_more, take-set-le, drop-set-lt, drop-set-add}
 use Rattle.std.proofs.lemmas.List.Elements.{All-nil, All-head, All-tail, All-append, All-map, All-take, All-drop}
 use Rattle.std.proofs.lemmas.List.FromFn.{length-map-range_with_len, get_or-map-range_with_len, take-map-range_with_len, map-range_with_len_more}
 use Rattle.std.proofs.lemmas.Bool.{cases_eq, cases_lt}
@@ -126,6 +126,12 @@ push_copy_seen {X = X} w n s len room i cells t laid wide e in_i =
 
 pub length-fitted : {X : Type 0} (width : ℕ) (rest : X) (row : List X) → length (fitted width rest row) ≡ width
 length-fitted width rest row = length-map-range_with_len (λ k. get_or row k rest) 0 width
+
+-- a row of the width is fitted
+pub fitted_whole : {X : Type 0} (width : ℕ) (rest : X) (row : List X) → length row ≡ width → fitted width rest row ≡ row
+fitted_whole width rest row wide =
+    ext_get_or rest (fitted width rest row) row (length-fitted width rest row ∙ sym wide)
+    (λ k h. get_or-map-range_with_len (λ i. get_or row i rest) 0 width k k rest (omega (arith, h, length-fitted width rest row)) (omega arith))
 
 -- one entry more
 pub fitted_more : {X : Type 0} (k : ℕ) (rest : X) (old cells row : List X) (entry : X) → cells ≡ old ++ fitted k rest row → entry ≡ get_or row k rest → cells ++ entry ∷ [] ≡ old ++ fitted (k + 1) rest row
@@ -304,6 +310,42 @@ laid_out-take w n s len room k laid within = record {
   room = omega (arith, laid.room, mul-le-mul_right w (let le : k + s ≤ n + s = omega arith in le));
   counted = omega (arith, laid.counted);
 }
+
+-- ---- rows of one entry that are appended
+rows_of-fill : {X : Type 0} (w n k : ℕ) (xs : List X) (entry : X) → length xs ≡ n * w → rows_of w (n + k) (xs ++ replicate (k * w) entry) ≡ rows_of w n xs ++ replicate k (replicate w entry)
+rows_of-fill {X = X} w n zero xs entry wide =
+    let none : 0 * w ≡ 0 = omega arith in
+    let same : n + 0 ≡ n = omega arith in
+    ap (λ (m : ℕ). rows_of w (n + 0) (xs ++ replicate m entry)) none ∙ ap (λ (m : ℕ). rows_of w m (xs ++ [])) same ∙ ap (λ (ys : List X). rows_of w n ys) (append-nil xs) ∙ sym (append-nil (rows_of w n xs))
+rows_of-fill {X = X} w n (suc k) xs entry wide =
+    let row : List X = replicate w entry in
+    let before : List X = xs ++ replicate (k * w) entry in
+    let cells : suc k * w ≡ k * w + w = omega arith in
+    let count : n + suc k ≡ n + k + 1 = omega arith in
+    let more : k + 1 ≡ suc k = omega arith in
+    let long : length before ≡ (n + k) * w = omega (arith, length-append xs (replicate (k * w) entry), length-replicate (k * w) entry, wide) in
+    let parted : xs ++ replicate (suc k * w) entry ≡ before ++ row =
+    ap (λ (m : ℕ). xs ++ replicate m entry) cells
+    ∙ ap (λ (ys : List X). xs ++ ys) (sym (replicate-append-replicate (k * w) w entry))
+    ∙ sym (append_assoc xs (replicate (k * w) entry) row) in
+    ap (λ (m : ℕ). rows_of w m (xs ++ replicate (suc k * w) entry)) count
+    ∙ ap (λ (ys : List X). rows_of w (n + k + 1) ys) parted
+    ∙ rows_of-push w (n + k) before row long (length-replicate w entry)
+    ∙ ap (λ (rs : List (List X)). rs ++ row ∷ []) (rows_of-fill w n k xs entry wide)
+    ∙ append_assoc (rows_of w n xs) (replicate k row) (row ∷ [])
+    ∙ ap (λ (rs : List (List X)). rows_of w n xs ++ rs) (replicate_more k row)
+    ∙ ap (λ (m : ℕ). rows_of w n xs ++ replicate m row) more
+
+pub fill_seen : {X : Type 0} (w n s len room k : ℕ) (cells : List X) (t : Flat X) (entry : X) → IsLaidOut w n s len room → length cells ≡ len → seen_flat w n s cells ≡ t → rows_of w (n + k) (take ((n + k) * w) cells ++ replicate ((n + k) * w - len) entry) ≡ t.rows ++ replicate k (replicate t.width entry)
+fill_seen {X = X} w n s len room k cells t entry laid long e =
+    let P : Flat X → Type 0 = λ u. rows_of w (n + k) (take ((n + k) * w) cells ++ replicate ((n + k) * w - len) entry) ≡ u.rows ++ replicate k (replicate u.width entry) in
+    let rest : (n + k) * w - len ≡ k * w = omega (arith, laid.taken) in
+    let all : length cells ≤ (n + k) * w = omega (arith, laid.taken, long) in
+    subst P e (
+    ap (λ (ys : List X). rows_of w (n + k) (ys ++ replicate ((n + k) * w - len) entry)) (take_all ((n + k) * w) cells all)
+    ∙ ap (λ (m : ℕ). rows_of w (n + k) (cells ++ replicate m entry)) rest
+    ∙ rows_of-fill w n k cells entry (long ∙ laid.taken)
+    )
 
 -- ---- rows that are kept
 pub marked_skip : {X : Type 0} (i : ℕ) (keep : List Bool) (xs : List X) → i < length keep → i < length xs → get_or keep i false ≡ false → marked (take (suc i) keep) (take (suc i) xs) ≡ marked (take i keep) (take i xs)

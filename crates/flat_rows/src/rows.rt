@@ -1,6 +1,7 @@
 //! Rows of one width in one buffer.
 ghost use Rattle.std.specs.Prelude.{◌≡◌, ◌+◌, ◌*◌, ◌^◌, ◌<◌, ◌≤◌, List, [], ◌∷◌, ◌++◌, length};
-ghost use Rattle.std.specs.Prelude.{max, take, slice_index_or, slice_set, vec_len, vec_capacity};
+ghost use Rattle.std.specs.Prelude.{max, take, replicate, slice_index_or, slice_set};
+ghost use Rattle.std.specs.Prelude.{vec_len, vec_capacity};
 ghost use Rattle.std.specs.Prelude.{IfOk, OnOk, OnErr};
 ghost use Rattle.std.specs.Borrow.{sem};
 ghost use Rattle.flat_rows.specs.Flat.{Flat, entries_at, rows_of, fitted, window, AreCells};
@@ -46,6 +47,28 @@ impl<T: Copy> FlatRows<T> {
             spare: 0,
             cells: Vec::new(alloc),
         }
+    }
+
+    /// Takes the cells of so many rows over, without a copy.
+    pub fn of_cells(width: usize, count: usize, cells: Vec<T>) -> FlatRows<T>
+        requires { vec_len cells ≡ count * width }
+        ensures width { result.width ≡ width }
+        ensures rows { result.rows ≡ rows_of width count cells.items }
+        ensures spare { result.spare ≡ 0 }
+    {
+        FlatRows {
+            width,
+            count,
+            spare: 0,
+            cells,
+        }
+    }
+
+    /// Gives the cells up, one row after another, without a copy.
+    pub fn into_cells(self) -> Vec<T>
+        ensures { AreCells self result.items }
+    {
+        self.cells
     }
 
     /// Returns a copy, with nothing reserved.
@@ -144,6 +167,22 @@ impl<T: Copy> FlatRows<T> {
         let places = total.checked_mul(self.width).ok_or(AllocError)?;
         self.cells.reserve(places - self.cells.len())?;
         self.spare = rows;
+        Ok(())
+    }
+
+    /// Appends so many rows of one entry; nothing is reserved. Out of memory, all is as before.
+    pub fn fill(&mut self, rows: usize, entry: T) -> Result<(), AllocError>
+        ensures width { self.new.width ≡ self.old.width }
+        ensures rows { OnOk result (self.new.rows ≡
+            self.old.rows ++ replicate rows (replicate self.old.width entry)) }
+        ensures spare { OnOk result (self.new.spare ≡ 0) }
+        ensures err { OnErr result (self.new ≡ self.old) }
+    {
+        let total = self.count.checked_add(rows).ok_or(AllocError)?;
+        let places = total.checked_mul(self.width).ok_or(AllocError)?;
+        self.cells.resize(places, entry)?;
+        self.count = total;
+        self.spare = 0;
         Ok(())
     }
 
@@ -271,8 +310,12 @@ fn append_fitted<T: Copy>(cells: &mut Vec<T>, row: &[T], rest: T, width: usize)
     requires { vec_len cells.old + width ≤ vec_capacity cells.old }
     ensures items { cells.new.items ≡ cells.old.items ++ fitted width rest row.now }
     ensures len { vec_len cells.new ≡ vec_len cells.old + width }
-    ensures capacity { vec_capacity cells.new ≡ vec_capacity cells.old }
+    ensures capacity { vec_capacity cells.old ≤ vec_capacity cells.new }
 {
+    if row.len() == width {
+        append_row(cells, row);
+        return;
+    }
     for place in 0..width {
         cells.push_reserved(entry_or(row, place, rest));
     }

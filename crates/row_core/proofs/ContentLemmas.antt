@@ -1,4 +1,4 @@
-use Rattle.std.specs.Prelude.{◌≡◌, ℕ, ◌+◌, ◌*◌, ◌<◌, zero, suc, List, length, take, ℤ, pos, negsuc, ◌+ℤ◌, ◌*ℤ◌, neg_ℤ, All, unsigned_abs, int_div, int_rem, slice_index_or}
+use Rattle.std.specs.Prelude.{◌≡◌, ℕ, ◌+◌, ◌*◌, ◌<◌, ◌≤◌, zero, suc, List, length, take, ℤ, pos, negsuc, ◌+ℤ◌, ◌*ℤ◌, neg_ℤ, All, unsigned_abs, int_div, int_rem, slice_index_or}
 use Prim.Native.Nat.{◌∣◌}
 use Rattle.std.specs.Int.{IsGcd}
 use Rattle.std.proofs.Common.{arith, sym, ◌∙◌, ap, refl, subst, inl, inr}
@@ -7,7 +7,7 @@ use Rattle.std.proofs.lemmas.Bool.{cases_lt}
 use Rattle.std.proofs.lemmas.Int.{ints, quot-rem, unsigned_abs-mul}
 use Rattle.std.proofs.lemmas.List.{ext_get_or, take-take, get_or-take, length-take-le}
 use Rattle.std.proofs.lemmas.List.Elements.{All-more, All-weaker, All-take, All-get_or, All-from_get_or}
-use Rattle.std.proofs.lemmas.Nat.Gcd.{IsGcd-from_zero, same_from_IsGcd, dvd_trans, le_of_dvd, mod-eq-zero_of_dvd}
+use Rattle.std.proofs.lemmas.Nat.Gcd.{IsGcd-from_zero, same_from_IsGcd, dvd_refl, dvd_trans, le_of_dvd, mod-eq-zero_of_dvd}
 use Rattle.row_core.specs.Vectors.{cell, scale}
 use Rattle.row_core.specs.Content.{DividesAll, IsPrimitive, IsMultipleOf}
 use Rattle.row_core.proofs.CellLemmas.{cell-scale, length-scale}
@@ -107,6 +107,18 @@ primitive_as_it_is v zero h all greatest = inl (zero_divides v all)
 primitive_as_it_is v (suc g) h all greatest =
     let one : suc g ≡ 1 = omega arith in
     inr (λ d divides. eq-one_of_dvd-one (subst (λ (n : ℕ). d ∣ n) one (greatest d divides)))
+
+-- 0 divides each entry where all are 0
+DividesAll-zero : (v : List ℤ) → All (λ z. z ≡ pos 0) v → DividesAll 0 v
+DividesAll-zero v zeros =
+    λ k d h. subst (λ (z : ℤ). 0 ∣ unsigned_abs z) (sym (zeros k d h)) (dvd_refl 0)
+
+-- the greatest common divisor of a primitive row is 0 or 1
+pub content-primitive : (v : List ℤ) (g : ℕ) → DividesAll g v →
+    ((d : ℕ) → DividesAll d v → d ∣ g) → IsPrimitive v → g ≤ 1
+content-primitive v g all greatest (inl zeros) =
+    omega (arith, eq-zero_of_zero-dvd (greatest 0 (DividesAll-zero v zeros)))
+content-primitive v g all greatest (inr one) = omega (arith, one g all)
 
 scaled_divides : (d g : ℕ) (z : ℤ) → d ∣ unsigned_abs z → d * g ∣ unsigned_abs (pos g *ℤ z)
 scaled_divides d g z h =

@@ -8,7 +8,7 @@ pub mod CellLemmas
 pub mod ContentLemmas
 pub mod OnePrimitive
 pub mod SamenessLemmas
-pub mod SpanLemmas
+pub mod MarkedCellLemmas
 pub mod RefusalLemmas
 pub mod PointwiseLemmas
 pub mod SignLemmas

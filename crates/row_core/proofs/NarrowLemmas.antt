@@ -1,15 +1,16 @@
 -- Sizes of sums and products, and that narrow numbers keep them in the range.
-use Rattle.std.specs.Prelude.{◌≡◌, ℕ, zero, suc, ◌+◌, ◌*◌, ◌^◌, ◌<◌, ◌≤◌, List, [], ◌∷◌, length, take, get_or, ℤ, pos, negsuc, ◌+ℤ◌, ◌≤ℤ◌, unsigned_abs}
+use Rattle.std.specs.Prelude.{◌≡◌, ℕ, zero, suc, ◌+◌, ◌*◌, ◌^◌, ◌<◌, ◌≤◌, List, [], ◌∷◌, length, take, drop, ℤ, pos, negsuc, ◌+ℤ◌, ◌≤ℤ◌, unsigned_abs}
 use Rattle.std.specs.Prelude.{neg_ℤ}
 use Rattle.std.specs.Int.{w64}
-use Rattle.std.proofs.Common.{arith, refl, sym, subst, add-one}
+use Rattle.std.proofs.Common.{arith, refl, subst, add-one}
 use Rattle.std.proofs.Math.IntN.{◌*ℤ◌}
 use Rattle.std.proofs.Math.Nat.{mul-le-mul}
 use Rattle.std.proofs.lemmas.Int.{ints, unsigned_abs-mul, fits_signed_from_abs}
-use Rattle.std.proofs.lemmas.List.Elements.{All-get_or, All-more}
+use Rattle.std.proofs.lemmas.List.Elements.{All-get_or, All-nil, All-cons, All-tail, All-append, All-take, All-drop}
 use mir.Val.{SFits}
 use Rattle.row_core.specs.Vectors.{cell, dot}
 use Rattle.row_core.specs.Range.{ColumnStays, CombineStays, DotStays, AllStay}
+use Rattle.row_core.specs.MarkedCells.{marked_rows, cells_of}
 use Rattle.row_core.specs.Narrow.{IsNarrow, AllNarrow, AreNarrow}
 use Rattle.row_core.proofs.ColumnLemmas.{total_more, stays_more}
 
@@ -94,17 +95,19 @@ module _ (u v : List ℤ) (e : length u ≡ length v) (left : AllNarrow u) (righ
       })
 
 -- ---- rows that are narrow
--- each of them
-pub AllNarrow-row : {M : Type 0} (rows : List (List ℤ × M)) (i : ℕ) (row : List ℤ) →
-    i < length rows → ((d : List ℤ × M) → row ≡ (get_or rows i d).0) → AreNarrow rows →
-    AllNarrow row
-AllNarrow-row [] i row h at all = absurd (omega (arith, h))
-AllNarrow-row (x ∷ rows) i row h at all = subst AllNarrow (sym (at x)) (all i x h)
+-- their cells are
+pub AllNarrow-cells_of : {M : Type 0} (rows : List (List ℤ × M)) → AreNarrow rows →
+    AllNarrow (cells_of rows)
+AllNarrow-cells_of [] all = All-nil IsNarrow
+AllNarrow-cells_of {M} (row ∷ rows) all =
+    All-append IsNarrow row.0 (cells_of rows) (all 0 row (omega arith))
+    (AllNarrow-cells_of rows (All-tail (λ (r : List ℤ × M). AllNarrow r.0) row rows all))
 
--- one more
-pub AreNarrow-more : {M : Type 0} (rows : List (List ℤ × M)) (i : ℕ) (row : List ℤ) →
-    i < length rows → ((d : List ℤ × M) → row ≡ (get_or rows i d).0) → AreNarrow (take i rows) →
-    AllNarrow row → AreNarrow (take (i + 1) rows)
-AreNarrow-more [] i row h at before here = absurd (omega (arith, h))
-AreNarrow-more (x ∷ rows) i row h at before here =
-    All-more (λ r. AllNarrow r.0) (x ∷ rows) i x h before (subst AllNarrow (at x) here)
+-- the rows of narrow cells
+pub AreNarrow-marked_rows : {M : Type 0} (width : ℕ) (cells : List ℤ) (marks : List M) →
+    AllNarrow cells → AreNarrow (marked_rows width cells marks)
+AreNarrow-marked_rows {M} width cells [] all = All-nil (λ (r : List ℤ × M). AllNarrow r.0)
+AreNarrow-marked_rows {M} width cells (mark ∷ marks) all =
+    All-cons (λ (r : List ℤ × M). AllNarrow r.0) (take width cells, mark)
+    (marked_rows width (drop width cells) marks) (All-take IsNarrow width cells all)
+    (AreNarrow-marked_rows width (drop width cells) marks (All-drop IsNarrow width cells all))

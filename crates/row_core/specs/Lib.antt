@@ -8,7 +8,7 @@ pub mod Pairs
 pub mod Orders
 pub mod Laws
 pub mod Sameness
-pub mod Spans
+pub mod MarkedCells
 pub mod Refusals
 pub mod Signs
 pub mod Combinations

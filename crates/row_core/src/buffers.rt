@@ -1,5 +1,7 @@
 //! One row, and a list of rows of one width, on the heap.
-ghost use Rattle.std.specs.Prelude.{◌≡◌, ◌^◌, ◌<◌, ◌==◌, List, [], ◌∷◌, ◌++◌, length, ℤ, pos, neg_ℤ, Decides, MatchResult, IfOk, OnOk};
+ghost use Rattle.std.specs.Prelude.{◌≡◌, ◌*◌, ◌^◌, ◌<◌, ◌≤◌, ◌==◌, List, [], ◌∷◌, ◌++◌, length, ℤ, pos, neg_ℤ};
+ghost use Rattle.std.specs.Prelude.{slice_set, remove, Decides, MatchResult, IfOk};
+ghost use Rattle.std.specs.List.{insert};
 ghost use Rattle.std.specs.Cmp;
 ghost use Rattle.std.specs.Cmp.Lexicographic.{pointwise};
 ghost use Rattle.std.specs.Ordering.{int_eq};
@@ -8,7 +10,8 @@ ghost use Rattle.row_core.specs.Range.{AllInRange};
 ghost use Rattle.row_core.specs.Vectors.{scale};
 ghost use Rattle.row_core.specs.Content.{IsPrimitive, IsPrimitiveOf};
 ghost use Rattle.row_core.specs.Sameness.{is_same_list, same_list_equiv};
-ghost use Rattle.row_core.specs.Lists.{Rows, FitWidth, row_at, is_eq_at};
+ghost use Rattle.row_core.specs.MarkedCells.{cells_of, IsLaid};
+ghost use Rattle.row_core.specs.Lists.{Rows, FitWidth, AreMarked, row_at, is_eq_at};
 
 use crate::errors::Memory;
 use crate::marked::{Iter, MarkedRows};
@@ -201,7 +204,46 @@ impl RowList {
         Ok(RowList { width, marked })
     }
 
-    /// Appends a copy of a row. After want of memory the list is as before.
+    /// Takes the cells of so many rows over, without a copy. All have the mark.
+    pub fn of_cells(
+        alloc: Global,
+        width: usize,
+        rows: usize,
+        cells: Vec<i128>,
+        eq: bool,
+    ) -> Result<RowList, Memory>
+        requires { IsLaid width rows cells.items }
+        ensures width { IfOk result (λ list. list.width ≡ width) }
+        ensures as_many { IfOk result (λ list. length list.rows ≡ rows) }
+        ensures cells { IfOk result (λ list. cells_of list.rows ≡ cells.items) }
+        ensures marked { IfOk result (λ list. AreMarked eq list.rows) }
+    {
+        let marks = vec![in alloc; eq; rows]?;
+        Ok(RowList {
+            width,
+            marked: MarkedRows::of_cells(width, cells, marks),
+        })
+    }
+
+    /// Gives the cells up, one row after another, without a copy.
+    pub fn into_cells(self) -> Vec<i128>
+        ensures value { result.items ≡ cells_of self.rows }
+        ensures laid { IsLaid self.width (length self.rows) result.items }
+        ensures fit { FitWidth self }
+    {
+        self.into_marked().into_cells()
+    }
+
+    /// Gives the rows up with their marks, without a copy.
+    pub fn into_marked(self) -> MarkedRows<bool>
+        ensures value { result ≡ self.rows }
+        ensures fit { FitWidth self }
+    {
+        let RowList { width: _, marked } = self;
+        marked
+    }
+
+    /// Appends a copy of a row. Out of memory, the list is as before.
     pub fn push(&mut self, row: &[i128], eq: bool) -> Result<(), Memory>
         requires wide { length row.now ≡ self.old.width }
         requires in_range { AllInRange row.now }
@@ -213,7 +255,7 @@ impl RowList {
         Ok(())
     }
 
-    /// Appends a row. After want of memory the list is as before, and the row is dropped.
+    /// Appends a row. Out of memory, the list is as before, and the row is dropped.
     pub fn push_row(&mut self, row: RowBuf, eq: bool) -> Result<(), Memory>
         requires { length row ≡ self.old.width }
         ensures width { self.new.width ≡ self.old.width }
@@ -224,16 +266,59 @@ impl RowList {
         Ok(())
     }
 
-    /// Appends copies of all rows of another list, with their marks.
+    /// Appends copies of all rows of another list, with their marks. Out of memory, the list is as
+    /// before.
     pub fn push_all(&mut self, list: &RowList) -> Result<(), Memory>
         requires { list.now.width ≡ self.old.width }
         ensures width { self.new.width ≡ self.old.width }
-        ensures rows { OnOk result (self.new.rows ≡ self.old.rows ++ list.now.rows) }
+        ensures rows { MatchResult result (λ _. self.new.rows ≡ self.old.rows ++ list.now.rows)
+            (λ _. self.new.rows ≡ self.old.rows) }
     {
-        for index in 0..list.len() {
-            self.push(list.row(index), list.is_eq(index))?;
-        }
-        Ok(())
+        self.marked.append_copies(&list.marked)
+    }
+
+    /// Appends the rows of another list, with their marks. Where there is none yet, they are taken
+    /// over without a copy. Out of memory, the list is as before, and the others are dropped.
+    pub fn append(&mut self, list: RowList) -> Result<(), Memory>
+        requires { list.width ≡ self.old.width }
+        ensures width { self.new.width ≡ self.old.width }
+        ensures rows { MatchResult result (λ _. self.new.rows ≡ self.old.rows ++ list.rows)
+            (λ _. self.new.rows ≡ self.old.rows) }
+    {
+        self.marked.append(list.into_marked())
+    }
+
+    /// Puts a copy of a row before row `i`, or at the end. Out of memory, the list is as before.
+    pub fn insert(&mut self, i: usize, row: &[i128], eq: bool) -> Result<(), Memory>
+        requires place { i ≤ length self.old.rows }
+        requires wide { length row.now ≡ self.old.width }
+        requires in_range { AllInRange row.now }
+        ensures width { self.new.width ≡ self.old.width }
+        ensures rows { MatchResult result (λ _. self.new.rows ≡ insert self.old.rows i (row.now, eq))
+            (λ _. self.new.rows ≡ self.old.rows) }
+    {
+        self.marked.insert(i, row, eq)
+    }
+
+    /// Takes row `i` out.
+    pub fn remove(&mut self, i: usize)
+        requires { i < length self.old.rows }
+        ensures width { self.new.width ≡ self.old.width }
+        ensures rows { self.new.rows ≡ remove self.old.rows i }
+    {
+        self.marked.remove(i);
+    }
+
+    /// Writes a row over row `i`. Its mark stays.
+    pub fn put(&mut self, i: usize, row: &[i128])
+        requires place { i < length self.old.rows }
+        requires wide { length row.now ≡ self.old.width }
+        requires in_range { AllInRange row.now }
+        ensures width { self.new.width ≡ self.old.width }
+        ensures rows { self.new.rows
+            ≡ slice_set self.old.rows i (row.now, is_eq_at self.old.rows i) }
+    {
+        self.marked.put(i, row);
     }
 
     /// The width of each row.

@@ -7,7 +7,7 @@ use crate::buffers::RowBuf;
 use std::alloc::{AllocError, AllocFailed, Global};
 use thiserror::Error;
 
-/// Want of memory.
+/// Out of memory.
 #[derive(Clone, Copy, Debug, PartialEq, Eq, Error)]
 #[error("out of memory")]
 pub struct Memory;

@@ -9,8 +9,9 @@
 //!   that leaves the range.
 //! - [`product`], [`sum`] and [`combination`] give one exact number, if the range isn't left.
 //! - [`narrow_dot`] needs no such test, where [`all_narrow`] told that all numbers are small.
-//! - [`gcd`] and [`make_primitive`] divide a row by the greatest common divisor of its entries;
-//!   [`quotient`] divides one number, and [`negate`] changes all signs.
+//! - [`gcd`] and [`make_primitive`] divide a row by the greatest common divisor of its entries, and
+//!   [`is_primitive`] tells whether there is none above 1; [`quotient`] divides one number, and
+//!   [`negate`] changes all signs.
 //! - [`LendRows`] is what lists have in common that lend rows of one width.
 //! - [`emptied`] takes a list out of its place, so that its room is used again.
 //! - [`one_primitive`] is a law of primitive rows.
@@ -38,6 +39,6 @@ pub use lending::LendRows;
 pub use linear::{combination, combine_into, dot, product, sum};
 pub use marked::{Iter, MarkedRows};
 pub use narrow::{all_narrow, narrow_dot};
-pub use primitive::{gcd, make_primitive, quotient};
+pub use primitive::{gcd, is_primitive, make_primitive, quotient};
 pub use reuse::emptied;
 pub use signs::negate;

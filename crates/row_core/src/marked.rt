@@ -1,12 +1,16 @@
 //! Rows, each with a mark, whose cells stand in one buffer.
-ghost use Rattle.std.specs.Prelude.{◌≡◌, ◌+◌, ◌^◌, ◌<◌, ◌≤◌, ◌==◌, ◌↔◌, List, [], ◌∷◌, ◌++◌, length, map, drop, All, ℤ, IsTrue, OnOk, MatchResult, IfOk, slice_index_or, vec_len, vec_capacity};
+ghost use Rattle.std.specs.Prelude.{◌≡◌, ◌+◌, ◌*◌, ◌^◌, ◌<◌, ◌≤◌, ◌==◌, ◌↔◌, List, [], ◌∷◌, ◌++◌};
+ghost use Rattle.std.specs.Prelude.{length, take, drop, All, ℤ, IsTrue, OnOk, MatchResult, IfOk};
+ghost use Rattle.std.specs.Prelude.{slice_index_or, slice_set, remove, vec_len, vec_capacity};
+ghost use Rattle.std.specs.List.{insert};
 ghost use Rattle.std.specs.Cmp;
 ghost use Rattle.std.specs.Cmp.Lexicographic.{pointwise};
 ghost use Rattle.std.specs.Iterator.{YieldsFirstBy, item_count};
 ghost use Rattle.std.specs.Borrow.{Bor};
 ghost use Rattle.row_core.specs.Range.{AllInRange};
 ghost use Rattle.row_core.specs.Narrow.{AreNarrow};
-ghost use Rattle.row_core.specs.Spans.{part, IsSpan, IsRestPrimitive, IsPrimitiveAppended};
+ghost use Rattle.row_core.specs.MarkedCells.{marked_rows, cells_of, remarked, AreWide, HaveOneWidth, IsLaid};
+ghost use Rattle.row_core.specs.MarkedCells.{IsRestPrimitive, IsPrimitiveAppended};
 ghost use Rattle.row_core.specs.Lists.{GainsPrimitive};
 ghost use Rattle.row_core.specs.Sameness.{is_same_marked, same_marked_equiv};
 
@@ -20,20 +24,21 @@ use std::marker::Model;
 /// How many rows the first one makes room for where none was made before.
 const LEAST_ROWS: usize = 4;
 
-/// Rows in order, each with a mark. Their cells stand in one buffer.
+/// Rows of one width in order, each with a mark. Their cells stand in one buffer, one row after
+/// another.
 #[derive(Debug, Drop)]
 pub struct MarkedRows<M> {
+    width: usize,
     cells: Vec<i128>,
-    spans: Vec<Span<M>>,
+    marks: Vec<M>,
 }
 
 impl<M> Model for MarkedRows<M> {
     ghost Value = { List (List ℤ × M) };
 
-    ghost view = { λ l. map (λ s. (part s.start s.end l.cells.items, s.mark)) l.spans.items };
+    ghost view = { λ l. marked_rows l.width l.cells.items l.marks.items };
 
-    ghost invariant = { λ l. All (λ s. IsSpan (length l.cells.items) s.start s.end) l.spans.items
-        × AllInRange l.cells.items };
+    ghost invariant = { λ l. IsLaid l.width (length l.marks.items) l.cells.items };
 }
 
 impl<M: Copy> MarkedRows<M> {
@@ -42,8 +47,9 @@ impl<M: Copy> MarkedRows<M> {
         ensures { result ≡ [] }
     {
         MarkedRows {
+            width: 0,
             cells: Vec::new(alloc),
-            spans: Vec::new(alloc),
+            marks: Vec::new(alloc),
         }
     }
 
@@ -53,81 +59,175 @@ impl<M: Copy> MarkedRows<M> {
     {
         let places = rows.checked_mul(width).ok_or(Memory)?;
         let cells = Vec::with_capacity(alloc, places)?;
-        let spans = Vec::with_capacity(alloc, rows)?;
-        Ok(MarkedRows { cells, spans })
+        let marks = Vec::with_capacity(alloc, rows)?;
+        Ok(MarkedRows {
+            width: 0,
+            cells,
+            marks,
+        })
     }
 
-    /// Appends a row. The first one is taken over without a copy, if no room was made for it. After
-    /// want of memory the list is as before, and the row is dropped.
+    /// Appends a row as wide as the others. The first one is taken over without a copy, if no room
+    /// was made for it. Out of memory, the list is as before, and the row is dropped.
     pub fn push(&mut self, row: RowBuf, mark: M) -> Result<(), Memory>
+        requires wide { AreWide (length row) self.old }
         ensures { MatchResult result (λ _. self.new ≡ self.old ++ (row, mark) ∷ [])
             (λ _. self.new ≡ self.old) }
     {
-        if self.cells.capacity() > 0 || !self.spans.is_empty() {
+        if self.cells.capacity() > 0 || !self.marks.is_empty() {
             return self.push_copy(row.cells(), mark);
         }
-        self.spans.reserve(1)?;
-        let end = row.len();
+        self.marks.reserve(1)?;
+        self.width = row.len();
         self.cells = row.into_vec();
-        self.spans.push_reserved(Span {
-            start: 0,
-            end,
-            mark,
-        });
+        self.marks.push_reserved(mark);
         Ok(())
     }
 
-    /// Appends a copy of a row. After want of memory the list is as before.
+    /// Appends a copy of a row as wide as the others. Out of memory, the list is as before.
     pub fn push_copy(&mut self, row: &[i128], mark: M) -> Result<(), Memory>
+        requires wide { AreWide (length row.now) self.old }
         requires in_range { AllInRange row.now }
         requires narrow { length row.now < 2 ^ 32 }
         ensures { MatchResult result (λ _. self.new ≡ self.old ++ (row.now, mark) ∷ [])
             (λ _. self.new ≡ self.old) }
     {
         make_room(&mut self.cells, row.len())?;
-        self.spans.reserve(1)?;
-        let start = self.cells.len();
+        self.marks.reserve(1)?;
+        self.width = row.len();
         append_row(&mut self.cells, row);
-        let end = self.cells.len();
-        self.spans.push_reserved(Span { start, end, mark });
+        self.marks.push_reserved(mark);
         Ok(())
     }
 
-    /// Appends a copy of a row, made primitive. After want of memory the list is as before.
+    /// Appends a copy of a row as wide as the others, made primitive. Out of memory, the list is as
+    /// before.
     pub fn push_primitive(&mut self, row: &[i128], mark: M) -> Result<(), Memory>
+        requires wide { AreWide (length row.now) self.old }
         requires in_range { AllInRange row.now }
         requires narrow { length row.now < 2 ^ 32 }
         ensures { MatchResult result (λ _. GainsPrimitive self.old self.new row.now mark)
             (λ _. self.new ≡ self.old) }
     {
         make_room(&mut self.cells, row.len())?;
-        self.spans.reserve(1)?;
-        let start = self.cells.len();
+        self.marks.reserve(1)?;
+        self.width = row.len();
         append_primitive(&mut self.cells, row);
-        let end = self.cells.len();
-        self.spans.push_reserved(Span { start, end, mark });
+        self.marks.push_reserved(mark);
         Ok(())
     }
 
-    /// Makes room for the rows of another list.
-    fn reserve_for(&mut self, later: &MarkedRows<M>) -> Result<(), Memory>
-        ensures { self.new ≡ self.old }
+    /// Takes the cells of some rows over, without a copy.
+    pub fn of_cells(width: usize, cells: Vec<i128>, marks: Vec<M>) -> MarkedRows<M>
+        requires { IsLaid width (length marks.items) cells.items }
+        ensures { result ≡ marked_rows width cells.items marks.items }
+    {
+        MarkedRows {
+            width,
+            cells,
+            marks,
+        }
+    }
+
+    /// Gives the cells up, without a copy.
+    pub fn into_cells(self) -> Vec<i128>
+        ensures value { result.items ≡ cells_of self }
+        ensures in_range { AllInRange result.items }
+    {
+        self.cells
+    }
+
+    /// These rows with other marks, without a copy.
+    pub fn with_marks<N: Copy>(self, marks: Vec<N>) -> MarkedRows<N>
+        requires { length marks.items ≡ length self }
+        ensures { result ≡ remarked self marks.items }
+    {
+        MarkedRows {
+            width: self.width,
+            cells: self.cells,
+            marks,
+        }
+    }
+
+    /// Appends the rows of another list of this width. Where there is none yet, they are taken over
+    /// without a copy. Out of memory, the list is as before, and the others are dropped.
+    pub fn append(&mut self, later: MarkedRows<M>) -> Result<(), Memory>
+        requires { HaveOneWidth self.old later }
+        ensures { MatchResult result (λ _. self.new ≡ self.old ++ later) (λ _. self.new ≡ self.old) }
+    {
+        if self.marks.is_empty() {
+            *self = later;
+            return Ok(());
+        }
+        self.append_copies(&later)
+    }
+
+    /// Appends copies of the rows of another list of this width. Out of memory, the list is as
+    /// before.
+    pub fn append_copies(&mut self, later: &MarkedRows<M>) -> Result<(), Memory>
+        requires { HaveOneWidth self.old later.now }
+        ensures { MatchResult result (λ _. self.new ≡ self.old ++ later.now)
+            (λ _. self.new ≡ self.old) }
     {
         self.cells.reserve(later.cells.len())?;
-        self.spans.reserve(later.spans.len())?;
+        self.marks.reserve(later.marks.len())?;
+        let width = if self.marks.is_empty() {
+            later.width
+        } else {
+            self.width
+        };
+        self.width = width;
+        append_row(&mut self.cells, later.cells.as_slice());
+        append_marks(&mut self.marks, later.marks.as_slice());
         Ok(())
     }
 
-    /// Returns these rows and then the later ones.
+    /// Returns these rows and then the later ones, all of one width.
     pub fn followed_by(&self, later: &MarkedRows<M>) -> Result<MarkedRows<M>, Memory>
+        requires { HaveOneWidth self.now later.now }
         ensures { IfOk result (λ both. both ≡ self.now ++ later.now) }
     {
         let mut both = self.clone()?;
-        both.reserve_for(later)?;
-        for i in 0..later.len() {
-            both.push_copy(later.row(i), later.mark(i))?;
-        }
+        both.append_copies(later)?;
         Ok(both)
+    }
+
+    /// Puts a copy of a row as wide as the others before row `i`, or at the end. Out of memory, the
+    /// list is as before.
+    pub fn insert(&mut self, i: usize, row: &[i128], mark: M) -> Result<(), Memory>
+        requires place { i ≤ length self.old }
+        requires wide { AreWide (length row.now) self.old }
+        requires in_range { AllInRange row.now }
+        requires narrow { length row.now < 2 ^ 32 }
+        ensures { MatchResult result (λ _. self.new ≡ insert self.old i (row.now, mark))
+            (λ _. self.new ≡ self.old) }
+    {
+        make_room(&mut self.cells, row.len())?;
+        self.marks.reserve(1)?;
+        self.width = row.len();
+        insert_row(&mut self.cells, i * row.len(), row);
+        self.marks.insert(i, mark)?;
+        Ok(())
+    }
+
+    /// Takes row `i` out.
+    pub fn remove(&mut self, i: usize)
+        requires { i < length self.old }
+        ensures { self.new ≡ remove self.old i }
+    {
+        remove_row(&mut self.cells, i * self.width, self.width);
+        let _mark = self.marks.remove(i);
+    }
+
+    /// Writes a row as wide as the others over row `i`. Its mark stays.
+    pub fn put(&mut self, i: usize, row: &[i128])
+        requires place { i < length self.old }
+        requires wide { AreWide (length row.now) self.old }
+        requires in_range { AllInRange row.now }
+        ensures { (d : List ℤ × M) →
+            self.new ≡ slice_set self.old i (row.now, (slice_index_or self.old i d).1) }
+    {
+        put_row(&mut self.cells, i * self.width, row);
     }
 
     /// The number of rows.
@@ -135,7 +235,7 @@ impl<M: Copy> MarkedRows<M> {
     pub fn len(&self) -> usize
         ensures { result ≡ length self.now }
     {
-        self.spans.len()
+        self.marks.len()
     }
 
     /// Whether there is no row.
@@ -143,7 +243,7 @@ impl<M: Copy> MarkedRows<M> {
     pub fn is_empty(&self) -> bool
         ensures { result ≡ (length self.now == 0) }
     {
-        self.spans.is_empty()
+        self.marks.is_empty()
     }
 
     /// Lends row `i`.
@@ -154,8 +254,8 @@ impl<M: Copy> MarkedRows<M> {
         ensures in_range { AllInRange result.now }
         ensures narrow { length result.now < 2 ^ 32 }
     {
-        let span = &self.spans[i];
-        part(self.cells.as_slice(), span.start, span.end)
+        let start = i * self.width;
+        &self.cells[start..start + self.width]
     }
 
     /// The mark of row `i`.
@@ -164,19 +264,14 @@ impl<M: Copy> MarkedRows<M> {
         requires { i < length self.now }
         ensures { (d : List ℤ × M) → result ≡ (slice_index_or self.now i d).1 }
     {
-        self.spans[i].mark
+        self.marks[i]
     }
 
     /// Whether the numbers of all rows are narrow.
     pub fn is_narrow(&self) -> bool
         ensures { IsTrue result ↔ AreNarrow self.now }
     {
-        for i in 0..self.len() {
-            if !all_narrow(self.row(i)) {
-                return false;
-            }
-        }
-        true
+        all_narrow(self.cells.as_slice())
     }
 
     /// Lends the rows in order, each with its mark.
@@ -185,8 +280,9 @@ impl<M: Copy> MarkedRows<M> {
         ensures { result ≡ self.now }
     {
         Iter {
+            width: self.width,
             cells: self.cells.as_slice(),
-            rest: self.spans.as_slice(),
+            rest: self.marks.as_slice(),
         }
     }
 }
@@ -195,26 +291,12 @@ impl<M: Copy> Clone for MarkedRows<M> {
     ghost is_clone = { λ list copy. copy ≡ list };
 
     fn clone(&self) -> Result<MarkedRows<M>, AllocError> {
+        let alloc = *self.cells.allocator();
         Ok(MarkedRows {
-            cells: self.cells.clone()?,
-            spans: self.spans.clone()?,
+            width: self.width,
+            cells: Vec::from_slice(alloc, self.cells.as_slice())?,
+            marks: Vec::from_slice(alloc, self.marks.as_slice())?,
         })
-    }
-}
-
-impl<M: Eq> MarkedRows<M> {
-    /// Whether row `i` of both lists, and its mark, are the same.
-    fn is_same_at(&self, other: &MarkedRows<M>, i: usize) -> bool
-        requires left { i < length self.now }
-        requires right { i < length other.now }
-        ensures { (d : List ℤ × M) →
-            result ≡
-            is_same_marked M.eq (slice_index_or self.now i d) (slice_index_or other.now i d) }
-    {
-        let (left, right) = (&self.spans[i], &other.spans[i]);
-        part(self.cells.as_slice(), left.start, left.end)
-            == part(other.cells.as_slice(), right.start, right.end)
-            && left.mark == right.mark
     }
 }
 
@@ -224,15 +306,7 @@ impl<M: Eq> PartialEq for MarkedRows<M> {
     ghost laws = { Cmp.partial_equiv_from_equiv (same_marked_equiv M.Eq.laws) };
 
     fn eq(&self, other: &MarkedRows<M>) -> bool {
-        if self.spans.len() != other.spans.len() {
-            return false;
-        }
-        for i in 0..self.spans.len() {
-            if !self.is_same_at(other, i) {
-                return false;
-            }
-        }
-        true
+        self.marks == other.marks && self.cells == other.cells
     }
 }
 
@@ -243,16 +317,17 @@ impl<M: Eq> Eq for MarkedRows<M> {
 /// The rows of a list that are still to come, each with its mark.
 #[derive(Debug, Drop)]
 pub struct Iter<'a, M> {
+    width: usize,
     cells: &'a [i128],
-    rest: &'a [Span<M>],
+    rest: &'a [M],
 }
 
 impl<'a, M> Model for Iter<'a, M> {
     ghost Value = { List (List ℤ × M) };
 
-    ghost view = { λ a. map (λ s. (part s.start s.end a.cells.now, s.mark)) a.rest.now };
+    ghost view = { λ a. marked_rows a.width a.cells.now a.rest.now };
 
-    ghost invariant = { λ a. All (λ s. IsSpan (length a.cells.now) s.start s.end) a.rest.now };
+    ghost invariant = { λ a. length a.cells.now ≡ length a.rest.now * a.width };
 }
 
 impl<'a, M: Copy> Iterator for Iter<'a, M> {
@@ -266,42 +341,14 @@ impl<'a, M: Copy> Iterator for Iter<'a, M> {
     #[inline]
     fn next(&mut self) -> Option<(&'a [i128], M)> {
         let (first, rest) = self.rest.split_first()?;
+        let (row, cells) = self.cells.split_at(self.width);
         self.rest = rest;
-        Some((part(self.cells, first.start, first.end), first.mark))
+        self.cells = cells;
+        Some((row, *first))
     }
 }
 
-/// Where the cells of a row stand, and its mark.
-#[derive(Debug, Drop)]
-struct Span<M> {
-    start: usize,
-    end: usize,
-    mark: M,
-}
-
-impl<M: Copy> Clone for Span<M> {
-    ghost is_clone = { λ span copy. copy ≡ span };
-
-    fn clone(&self) -> Result<Span<M>, AllocError> {
-        Ok(Span {
-            start: self.start,
-            end: self.end,
-            mark: self.mark,
-        })
-    }
-}
-
-/// Lends the cells from one place to another.
-#[inline]
-fn part(cells: &[i128], start: usize, end: usize) -> &[i128]
-    requires { IsSpan (length cells.now) start end }
-    ensures value { result.now ≡ part start end cells.now }
-    ensures narrow { length result.now < 2 ^ 32 }
-{
-    &cells[start..end]
-}
-
-/// Makes room for one more row. After want of memory the cells are as before.
+/// Makes room for one more row. Out of memory, the cells are as before.
 fn make_room(cells: &mut Vec<i128>, width: usize) -> Result<(), AllocError>
     requires { width < 2 ^ 32 }
     ensures items { cells.new.items ≡ cells.old.items }
@@ -335,6 +382,37 @@ fn append_row(cells: &mut Vec<i128>, row: &[i128])
     let _appended = cells.extend_from_slice(row);
 }
 
+/// Puts a row, for which there is room, before the cells from a place on.
+fn insert_row(cells: &mut Vec<i128>, start: usize, row: &[i128])
+    requires room { vec_len cells.old + length row.now ≤ vec_capacity cells.old }
+    requires within { start ≤ length cells.old.items }
+    ensures { cells.new.items
+        ≡ take start cells.old.items ++ (row.now ++ drop start cells.old.items) }
+{
+    append_row(cells, row);
+    cells[start..].rotate_right(row.len());
+}
+
+/// Takes so many cells from a place on out.
+fn remove_row(cells: &mut Vec<i128>, start: usize, width: usize)
+    requires { start + width ≤ length cells.old.items }
+    ensures { cells.new.items
+        ≡ take start cells.old.items ++ drop (start + width) cells.old.items }
+{
+    let end = cells.len();
+    cells.copy_within(start + width..end, start);
+    cells.truncate(end - width);
+}
+
+/// Writes a row over the cells from a place on.
+fn put_row(cells: &mut Vec<i128>, start: usize, row: &[i128])
+    requires { start + length row.now ≤ length cells.old.items }
+    ensures { cells.new.items ≡ take start cells.old.items
+        ++ (row.now ++ drop (start + length row.now) cells.old.items) }
+{
+    cells[start..start + row.len()].copy_from_slice(row);
+}
+
 /// Makes the cells from one place on primitive.
 fn make_rest_primitive(cells: &mut [i128], start: usize)
     requires within { start ≤ length cells.old }
@@ -342,4 +420,12 @@ fn make_rest_primitive(cells: &mut [i128], start: usize)
     ensures { IsRestPrimitive start cells.old cells.new }
 {
     make_primitive(&mut cells[start..]);
+}
+
+/// Appends marks, for which there is room.
+fn append_marks<M: Copy>(marks: &mut Vec<M>, later: &[M])
+    requires { vec_len marks.old + length later.now ≤ vec_capacity marks.old }
+    ensures { marks.new.items ≡ marks.old.items ++ later.now }
+{
+    let _appended = marks.extend_from_slice(later);
 }

@@ -1,5 +1,5 @@
 //! Greatest common divisors, and rows divided by that of their entries.
-ghost use Rattle.std.specs.Prelude.{◌≡◌, ℕ, ◌^◌, ◌<◌, length, pos, unsigned_abs, ◌<ℤ◌, ◌*ℤ◌};
+ghost use Rattle.std.specs.Prelude.{◌≡◌, ◌↔◌, ℕ, ◌^◌, ◌<◌, length, pos, unsigned_abs, ◌<ℤ◌, ◌*ℤ◌, IsTrue};
 ghost use Rattle.std.specs.Int.{IsGcd};
 ghost use Prim.Native.Nat.{◌∣◌};
 ghost use Rattle.row_core.specs.Vectors.{scale};
@@ -24,6 +24,14 @@ pub fn make_primitive(row: &mut [i128])
     if divisor > 1 {
         divide_all(row, divisor as i128);
     }
+}
+
+/// Whether the row is primitive: its entries have no common divisor above 1, or all are 0.
+pub fn is_primitive(row: &[i128]) -> bool
+    requires { AllInRange row.now }
+    ensures { IsTrue result ↔ IsPrimitive row.now }
+{
+    content(row) <= 1
 }
 
 /// The greatest common divisor, by Euclid's algorithm. That of 0 and 0 is 0.

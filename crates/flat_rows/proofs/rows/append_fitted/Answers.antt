@@ -1,5 +1,5 @@
-use Rattle.std.proofs.Common.{arith, ◌∙◌}
-use Rattle.flat_rows.proofs.Flat.{fitted_more}
+use Rattle.std.proofs.Common.{◌++◌, List, arith, ap, sym, ◌∙◌}
+use Rattle.flat_rows.proofs.Flat.{fitted_more, fitted_whole}
 use Rattle.flat_rows.proofs.rows.append_fitted.Goals as goal
 
 pub loop-place-preserved : goal.loop-place-preserved
@@ -8,3 +8,8 @@ loop-place-preserved g c = record {
   len = omega (arith, c.push_reserved.ensures.len, c.loop-place.invariant.len);
   capacity = omega (arith, c.push_reserved.ensures.capacity, c.loop-place.invariant.capacity);
 }
+
+pub returns-then-row-width-clause-items : goal.returns-then-row-width-clause-items
+returns-then-row-width-clause-items g c =
+    let same = fitted_whole c.args.width c.args.rest c.args.row.now (omega arith) in
+    c.append_row.ensures.items ∙ ap (λ (row : List g.row.T.Denot). c.args.cells.now.items ++ row) (sym same)

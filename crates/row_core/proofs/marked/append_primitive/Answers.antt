@@ -1,7 +1,7 @@
 use Rattle.std.specs.Prelude.{◌≡◌, List, ℤ, length, drop}
 use Rattle.std.proofs.Common.{arith, ap, ◌∙◌}
 use Rattle.std.proofs.lemmas.List.{take_at}
-use Rattle.row_core.proofs.SpanLemmas.{primitive_appended}
+use Rattle.row_core.proofs.MarkedCellLemmas.{primitive_appended}
 use Rattle.row_core.proofs.marked.append_primitive.Goals as goal
 
 pub returns-clause-cells : goal.returns-clause-cells

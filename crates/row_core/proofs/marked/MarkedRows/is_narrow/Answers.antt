@@ -1,28 +1,16 @@
-use Rattle.std.specs.Prelude.{◌≡◌, false}
-use Rattle.std.proofs.Common.{arith, rules, refl, sym, ◌∙◌, subst}
-use Rattle.std.proofs.lemmas.Bool.{false≢true}
-use Rattle.std.proofs.lemmas.List.{take_all}
-use Rattle.row_core.specs.Narrow.{AreNarrow}
-use Rattle.row_core.proofs.NarrowLemmas.{AllNarrow-row, AreNarrow-more}
+use Rattle.std.proofs.Common.{sym, ◌∙◌, subst}
+use Rattle.row_core.specs.Narrow.{AllNarrow, AreNarrow}
+use Rattle.row_core.proofs.MarkedCellLemmas.{cells_of-marked_rows}
+use Rattle.row_core.proofs.NarrowLemmas.{AllNarrow-cells_of, AreNarrow-marked_rows}
 use Rattle.row_core.proofs.marked.MarkedRows.is_narrow.Goals as goal
 
-pub loop-i-preserved : goal.loop-i-preserved
-loop-i-preserved g c =
-    AreNarrow-more c.args.self.now c.loop-i.i c.row.result.now (omega arith) c.row.ensures.value
-    c.loop-i.invariant (c.all_narrow.ensures.0 (search rules))
-
 pub returns : goal.returns
-returns g c = (
-  (λ t. subst AreNarrow (take_all c.loop-i.i c.args.self.now (omega arith))
-      c.loop-i.invariant),
-  (λ all. refl),
-)
-
-pub returns-then-not-all_narrow : goal.returns-then-not-all_narrow
-returns-then-not-all_narrow g c =
-    let no : c.all_narrow.result ≡ false = search rules in (
-      (λ t. absurd (false≢true t)),
-      (λ all. absurd (false≢true (sym no ∙
-          c.all_narrow.ensures.1 (AllNarrow-row c.args.self.now c.loop-i.i c.row.result.now
-          (omega arith) c.row.ensures.value all)))),
+returns g c =
+    let cells = cells_of-marked_rows c.self.inside.width c.self.inside.cells.items c.self.inside.marks.items
+    c.self.invariant.taken in (
+      (λ t. subst AreNarrow c.self.view_is
+          (AreNarrow-marked_rows c.self.inside.width c.self.inside.cells.items c.self.inside.marks.items
+          (subst AllNarrow c.as_slice.ensures.value (c.all_narrow.ensures.0 t)))),
+      (λ all. c.all_narrow.ensures.1 (subst AllNarrow (cells ∙ sym c.as_slice.ensures.value)
+          (AllNarrow-cells_of _ (subst AreNarrow (sym c.self.view_is) all)))),
     )
