@@ -2,3 +2,4 @@ pub mod WordLemmas
 pub mod BlockLemmas
 pub mod PlaceLemmas
 pub mod CountLemmas
+pub mod CellLemmas

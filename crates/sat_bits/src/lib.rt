@@ -1,10 +1,12 @@
 //! Rows of truth values, 64 in each word, by lanes of words.
 #![tactic(auto)]
 
+mod cells;
 mod counts;
 mod kernels;
 mod places;
 
+pub use cells::{fill_front, mark_column, mark_zeros, write_behind};
 pub use counts::{count, count_and};
 pub use kernels::{and_into, is_subset_of_and, or_into, some_other_covers};
 pub use places::{get, is_subset, set, with_bit};

@@ -1,5 +1,5 @@
 -- Rows of truth values in rows of words.
-use Rattle.std.proofs.Common.{◌≡◌, ◌≢◌, ℕ, suc, zero, ◌+◌, ◌/◌, ◌%◌, ◌<◌, ◌≤◌, Bool, false, ◌&&◌, bit_and, IsTrue, List, [], ◌∷◌, ◌++◌, length, get_or, set, map, replicate, nat_eq, refl, sym, ap, inl, inr, ◌⊎◌, subst, ◌∙◌, arith}
+use Rattle.std.proofs.Common.{◌≡◌, ◌≢◌, ◌↔◌, ℕ, suc, zero, ◌+◌, ◌/◌, ◌%◌, ◌<◌, ◌≤◌, Bool, false, ◌&&◌, bit_and, IsTrue, List, [], ◌∷◌, ◌++◌, length, get_or, set, map, replicate, nat_eq, refl, sym, ap, inl, inr, ◌⊎◌, subst, ◌∙◌, arith}
 use Rattle.std.specs.Prelude.{All}
 use Rattle.std.proofs.lemmas.List.{ext_get_or, get_or-map, length-map, map-append, map-set, length-set, get_or-set_same, get_or-set_other, length-replicate, get_or-replicate}
 use Rattle.std.proofs.lemmas.Nat.Bits.{bit_at-zero}
@@ -11,9 +11,9 @@ use Rattle.sat_bits.proofs.PlaceLemmas.{places_and}
 use Rattle.flat_rows.proofs.WordRows.{length-and_words}
 use Rattle.flat_rows.specs.Flat.{Flat, entries_at, HasOneWidth, marked}
 pub use Rattle.flat_rows.proofs.Marked.{marked-map, all_marked}
-use Rattle.sat_matrix.specs.Tables.{Table, bits_of, bit_at, conjunction, Covers}
+use Rattle.sat_matrix.specs.Tables.{Table, bits_of, bit_at, conjunction, Covers, IsCoveredAmong}
 use Rattle.flat_rows.specs.Words.{and_words}
-use Rattle.sat_matrix.specs.Words.{bits_in, IsPadded, IsTable, IsPlaceSet}
+use Rattle.sat_matrix.specs.Words.{bits_in, IsPadded, IsTable, IsPlaceSet, HasCoveringRow}
 
 pub length-conjunction : (xs ys : List Bool) → length xs ≡ length ys → length (conjunction xs ys) ≡ length xs
 length-conjunction [] ys e = refl
@@ -99,6 +99,22 @@ covers_seen columns words t i j k a b c S table e in_i in_j in_k ea eb ec r =
       λ h. Covers_along (bits_in columns a) (bits_in columns b) (bits_in columns c) (bits_of t.rows i) (bits_of t.rows j) (bits_of t.rows k) ra rb rc (covers_to columns a b c (r.0 h)),
       λ h. r.1 (covers_from columns a b c padded (Covers_along (bits_of t.rows i) (bits_of t.rows j) (bits_of t.rows k) (bits_in columns a) (bits_in columns b) (bits_in columns c) (sym ra) (sym rb) (sym rc) h)),
     )
+
+-- a row that the list names covers another in bits where it does in words
+pub covering_seen : (columns : ℕ) (words : Flat ℕ) (t : Table) (i : ℕ) (among : List ℕ) (S : Type 0) → IsTable columns words → seen_bits columns words ≡ t → i < length t.rows → ((q : ℕ) → q < length among → get_or among q 0 < length t.rows)
+    → (S → HasCoveringRow words i among) × (HasCoveringRow words i among → S) → (S → IsCoveredAmong t.rows i among) × (IsCoveredAmong t.rows i among → S)
+covering_seen columns words t i among S table e in_i within r = (λ h. to (r.0 h), λ h. r.1 (from h))
+  where
+    both : (q : ℕ) → q < length among → IsSubsetOfAnd (entries_at words.rows i) (entries_at words.rows i) (entries_at words.rows (get_or among q 0)) ↔ Covers (bits_of t.rows i) (bits_of t.rows i) (bits_of t.rows (get_or among q 0))
+    both q h =
+        covers_seen columns words t i i (get_or among q 0) (entries_at words.rows i) (entries_at words.rows i) (entries_at words.rows (get_or among q 0)) (IsSubsetOfAnd (entries_at words.rows i) (entries_at words.rows i) (entries_at words.rows (get_or among q 0)))
+        table e in_i in_i (within q h) refl refl refl (λ x. x, λ x. x)
+
+    to : HasCoveringRow words i among → IsCoveredAmong t.rows i among
+    to h = (h.0, h.1, h.2.0, (both h.0 h.1).0 h.2.1)
+
+    from : IsCoveredAmong t.rows i among → HasCoveringRow words i among
+    from h = (h.0, h.1, (h.2, (both h.0 h.1).1 h.3))
 
 -- ---- one place
 pub place_set : (words : List ℕ) (c word : ℕ) (bit : Bool) → c / 64 < length words → bit_in word (c % 64) ≡ bit → ((k : ℕ) → k < 64 → k ≢ c % 64 → bit_in word k ≡ bit_in (get_or words (c / 64) 0) k) → IsPlaceSet c bit words (set words (c / 64) word)
@@ -212,6 +228,12 @@ bits_in_zeros columns n =
     ext_get_or false (bits_in columns (replicate n 0)) (replicate columns false) (length-bits_in columns (replicate n 0) ∙ sym (length-replicate columns false))
     (λ k h. let l : k < columns = omega (arith, h, length-bits_in columns (replicate n 0)) in
     bit_is columns (replicate n 0) k l ∙ none_in_zeros n k ∙ sym (get_or-replicate columns k false false l))
+
+pub zero_rows : (columns width n : ℕ) → map (bits_in columns) (replicate n (replicate width 0)) ≡ replicate n (replicate columns false)
+zero_rows columns width zero = refl
+zero_rows columns width (suc n) =
+    ap (λ (r : List Bool). r ∷ map (bits_in columns) (replicate n (replicate width 0))) (bits_in_zeros columns width)
+    ∙ ap (λ (rs : List (List Bool)). replicate columns false ∷ rs) (zero_rows columns width n)
 
 pub false_seen : (columns n : ℕ) (words new : Flat ℕ) (t : Table) → seen_bits columns words ≡ t → new.rows ≡ words.rows ++ replicate n 0 ∷ [] → map (bits_in columns) new.rows ≡ t.rows ++ replicate t.columns false ∷ []
 false_seen columns n words new t e rows =

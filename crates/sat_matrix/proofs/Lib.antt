@@ -1,5 +1,6 @@
 pub mod BitRows
 pub mod Columns
+pub mod WordCells
 pub mod WrittenRows
 pub mod Counting
 pub mod SingleWords

@@ -1,4 +1,6 @@
-use Rattle.std.specs.Prelude.{◌≡◌, ◌≢◌, ℕ, ◌+◌, ◌-◌, ◌<◌, ◌≤◌, Bool, true, false, List, [], ◌∷◌, ◌++◌, length}
+use Rattle.std.specs.Prelude.{◌≡◌, ◌≢◌, ℕ, ◌+◌, ◌-◌, ◌<◌, ◌≤◌, Bool, true, false, List, [], ◌∷◌, ◌++◌, length, map, ℤ, pos}
+use Rattle.std.specs.Ordering.{int_eq}
+use Rattle.sat_matrix.specs.Columns.{HasLastZeros}
 use Rattle.std.proofs.Common.{refl, sym, ap, ◌∙◌, arith, inl, inr, get_or, set, take}
 use Rattle.std.proofs.lemmas.List.{get_or_append_left, get_or_push, length_push, length-take, length-set, get_or-set_same, get_or-set_other, get_or-map, length-map, get_or-take, set_at}
 use Rattle.std.proofs.lemmas.Bool.{cases_lt, cases_eq}
@@ -119,3 +121,17 @@ pairs_more pairs i p n old cur columns rows last inside is in_p in_n h at same s
 pub last_written : (rows : List (List Bool)) (row : List Bool) (at last : ℕ) (bit : Bool) → length rows ≡ at → set (rows ++ row ∷ []) at (set (bits_of (rows ++ row ∷ []) at) last bit) ≡ rows ++ set row last bit ∷ []
 last_written rows row at last bit size =
     set_at rows row [] (set (bits_of (rows ++ row ∷ []) at) last bit) at size ∙ ap (λ r. rows ++ set r last bit ∷ []) (bits_of-push_last rows row at size)
+
+-- a last column that tells of the values whether they are 0, where it was false
+pub zeros_told : (values : List ℤ) (before old new : Table) → HasFalseColumn before old → IsRectangular before → length values ≡ length old.rows → HasLastZeros values old new → HasColumn (map (λ value. int_eq value (pos 0)) values) before new
+zeros_told values before old new wide narrow as_many told = record {
+  columns = told.large.columns ∙ wide.columns;
+  as_many = told.large.as_many ∙ widened_count before old wide;
+  each = λ i h.
+      let zero : Bool = int_eq (get_or values i (pos 0)) (pos 0) in
+      let at : bits_of old.rows i ≡ bits_of before.rows i ++ false ∷ [] = ap (λ rs. bits_of rs i) wide.rows ∙ get_or-map (λ (row : List Bool). row ++ false ∷ []) before.rows i [] [] h in
+      told.each i (omega (arith, h, widened_count before old wide))
+      ∙ ap (λ (r : List Bool). set r (old.columns - 1) zero) at
+      ∙ set_at (bits_of before.rows i) false [] zero (old.columns - 1) (omega (arith, narrow i h, wide.columns))
+      ∙ ap (λ (b : Bool). bits_of before.rows i ++ b ∷ []) (sym (get_or-map (λ (value : ℤ). int_eq value (pos 0)) values i (pos 0) false (omega (arith, as_many, h, widened_count before old wide))));
+}

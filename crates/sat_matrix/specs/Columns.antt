@@ -1,6 +1,8 @@
-use Rattle.std.specs.Prelude.{◌≡◌, ◌≢◌, ◌↔◌, ◌⊎◌, ℕ, ◌/◌, ◌%◌, length, IsTrue}
-use Rattle.sat_bits.specs.Places.{bit_in}
+use Rattle.std.specs.Prelude.{◌≡◌, ◌≢◌, ◌↔◌, ◌⊎◌, ℕ, ◌-◌, ◌<◌, List, length, IsTrue, ℤ, pos}
+use Rattle.std.specs.Prelude.{slice_index_or, slice_set}
+use Rattle.std.specs.Ordering.{int_eq}
 use Rattle.sat_matrix.specs.Tables.{Table, bits_of, bit_at}
+use Rattle.sat_matrix.specs.TableSteps.{IsAsLarge}
 
 -- places of one column became true, at the rows that are named, and no place else changed
 pub record IsColumnMarked (column : ℕ) (IsNamed : ℕ → Type 0) (old new : Table) : Type 0 where
@@ -12,7 +14,9 @@ pub record IsColumnMarked (column : ℕ) (IsNamed : ℕ → Type 0) (old new : T
       IsTrue (bit_at new.rows i column) ↔ (IsTrue (bit_at old.rows i column) ⊎ IsNamed i)
   pub others : (i j : ℕ) → j ≢ column → bit_at new.rows i j ≡ bit_at old.rows i j
 
--- place i is a bit of the word at the index, and the bit is set
-pub record IsBitOf (index word i : ℕ) : Type 0 where
-  pub at : i / 64 ≡ index
-  pub set : IsTrue (bit_in word (i % 64))
+-- the last column tells which of the values are 0, and no place else changed
+pub record HasLastZeros (values : List ℤ) (old new : Table) : Type 0 where
+  pub large : IsAsLarge old new
+  pub each : (i : ℕ) → i < length old.rows → bits_of new.rows i ≡
+      slice_set (bits_of old.rows i) (old.columns - 1)
+      (int_eq (slice_index_or values i (pos 0)) (pos 0))

@@ -45,6 +45,11 @@ pub record IsThird (table : Table) (i j k : ℕ) : Type 0 where
 abbrev pub HasThird : Table → ℕ → ℕ → Type 0
 HasThird table i j = (k : ℕ) × IsThird table i j k
 
+-- a row other than i at a place of the list is true wherever row i is
+abbrev pub IsCoveredAmong : List (List Bool) → ℕ → List ℕ → Type 0
+IsCoveredAmong rows i among = (q : ℕ) × (q < length among) × (slice_index_or among q 0 ≢ i) ×
+    Covers (bits_of rows i) (bits_of rows i) (bits_of rows (slice_index_or among q 0))
+
 -- each row has a place for each column
 abbrev pub IsRectangular : Table → Type 0
 IsRectangular table = (i : ℕ) → i < length table.rows →

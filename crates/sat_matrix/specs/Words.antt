@@ -1,5 +1,5 @@
 use Rattle.std.specs.Prelude.{◌≡◌, ◌≢◌, ℕ, ◌*◌, ◌^◌, ◌<◌, ◌≤◌, Bool, false, List, All, map}
-use Rattle.std.specs.Prelude.{length}
+use Rattle.std.specs.Prelude.{length, slice_index_or}
 use Rattle.std.specs.List.{range_with_len}
 use Rattle.sat_bits.specs.Places.{place, IsSubsetOfAnd}
 use Rattle.sat_matrix.specs.Tables.{Table}
@@ -46,3 +46,13 @@ pub record IsThirdRow (words : Flat ℕ) (i j k : ℕ) : Type 0 where
 -- some row other than i and j has each bit that both have
 abbrev pub HasThirdRow : Flat ℕ → ℕ → ℕ → Type 0
 HasThirdRow words i j = (k : ℕ) × IsThirdRow words i j k
+
+-- the row that the list names at position q is another than row i, and has each bit of it
+abbrev pub IsCoveringRow : Flat ℕ → ℕ → List ℕ → ℕ → Type 0
+IsCoveringRow words i among q = (slice_index_or among q 0 ≢ i) ×
+    IsSubsetOfAnd (entries_at words.rows i) (entries_at words.rows i)
+    (entries_at words.rows (slice_index_or among q 0))
+
+-- another row that the list names has each bit of row i
+abbrev pub HasCoveringRow : Flat ℕ → ℕ → List ℕ → Type 0
+HasCoveringRow words i among = (q : ℕ) × (q < length among) × IsCoveringRow words i among q

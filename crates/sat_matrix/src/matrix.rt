@@ -1,20 +1,23 @@
 //! The table.
 ghost use Rattle.std.specs.Prelude.{◌≡◌, ℕ, ◌+◌, ◌<◌, ◌≤◌, ◌↔◌, List, [], ◌∷◌, ◌++◌, length, map};
-ghost use Rattle.std.specs.Prelude.{max, replicate, Bool, true, false, ◌-◌, slice_set, IsTrue};
+ghost use Rattle.std.specs.Prelude.{max, drop, replicate, Bool, true, false, ◌-◌, slice_set, IsTrue};
 ghost use Rattle.std.specs.Prelude.{OnOk, OnErr, IfOk, slice_index_or};
 ghost use Rattle.flat_rows.specs.Flat.{marked};
 ghost use Rattle.sat_bits.specs.Places.{place};
-ghost use Rattle.sat_matrix.specs.Columns.{IsBitOf, IsColumnMarked};
+ghost use Rattle.sat_matrix.specs.Columns.{HasLastZeros, IsColumnMarked};
 ghost use Rattle.sat_matrix.specs.Tables.{Table, bits_of, bit_at, conjunction, transposed, Covers};
-ghost use Rattle.sat_matrix.specs.Tables.{HasThird, IsRectangular};
+ghost use Rattle.sat_matrix.specs.Tables.{HasThird, IsCoveredAmong, IsRectangular};
 ghost use Rattle.sat_matrix.specs.Counts.{ones};
 ghost use Rattle.sat_matrix.specs.Words.{bits_in, AreWordsOf, IsTable};
 ghost use Rattle.sat_matrix.specs.Searches.{IsFirstFrom, Shares};
 
-use crate::searches::{has_third_row, next_sharing};
+use crate::searches::{has_covering_row, has_third_row, next_sharing};
 use flat_rows::{FlatRows, push_and, widened};
 use row_core::Memory;
-use sat_bits::{count, count_and, get, is_subset_of_and, with_bit};
+use sat_bits::{
+    count, count_and, fill_front, get, is_subset_of_and, mark_column, mark_zeros, with_bit,
+    write_behind,
+};
 use std::alloc::{AllocError, Global};
 use std::marker::Model;
 
@@ -104,7 +107,7 @@ impl SatMatrix {
         self.words.put(row, column / 64, with_bit(word, (column % 64) as u32, bit));
     }
 
-    /// Makes room for `rows` more rows. After want of memory the table is as before.
+    /// Makes room for `rows` more rows. Out of memory, the table is as before.
     pub fn reserve(&mut self, rows: usize) -> Result<(), Memory>
         ensures ok { OnOk result (self.new ≡ record self.old { spare = max self.old.spare rows }) }
         ensures err { OnErr result (self.new ≡ self.old) }
@@ -119,23 +122,24 @@ impl SatMatrix {
         ensures rows { self.new.rows ≡ self.old.rows ++ replicate self.old.columns bit ∷ [] }
         ensures spare { self.new.spare + 1 ≡ self.old.spare }
     {
-        let row = self.len();
+        let (row, columns) = (self.len(), self.columns());
         self.push_false();
         if bit {
-            self.fill_row(row);
+            self.fill_front(row, columns);
         }
     }
 
-    // Makes all places of a row true.
-    fn fill_row(&mut self, row: usize)
-        requires { row < length self.old.rows }
+    // Makes the first places of a row true, so many.
+    fn fill_front(&mut self, row: usize, count: usize)
+        requires row { row < length self.old.rows }
+        requires count { count ≤ self.old.columns }
         ensures { self.new ≡ record self.old {
-          rows = slice_set self.old.rows row (replicate self.old.columns true);
+          rows = slice_set self.old.rows row
+              (replicate count true ++ drop count (bits_of self.old.rows row));
         } }
     {
-        for column in 0..self.columns() {
-            self.set(row, column, true);
-        }
+        let width = self.words.width();
+        fill_front(self.words.cells_mut(), width, row, count);
     }
 
     // Appends a row of false.
@@ -173,8 +177,38 @@ impl SatMatrix {
         self.words.push_fitted(other.words.row(i), 0);
     }
 
-    /// Appends a column of false. Afterwards nothing is reserved. After want of memory the table is
-    /// as before.
+    /// Appends row `i` of another table behind so many places that are true.
+    pub fn push_row_behind(&mut self, front: usize, other: &SatMatrix, i: usize)
+        requires spare { 0 < self.old.spare }
+        requires columns { self.old.columns ≡ front + other.now.columns }
+        requires row { i < length other.now.rows }
+        ensures columns { self.new.columns ≡ self.old.columns }
+        ensures rows { self.new.rows ≡
+            self.old.rows ++ (replicate front true ++ bits_of other.now.rows i) ∷ [] }
+        ensures spare { self.new.spare + 1 ≡ self.old.spare }
+    {
+        let (row, _columns) = (self.len(), other.columns());
+        self.push_false();
+        self.write_behind(row, front, other.words.row(i));
+    }
+
+    // Writes a row of words behind so many places that are true over a row of false.
+    fn write_behind(&mut self, row: usize, front: usize, words: &[u64])
+        requires row { row < length self.old.rows }
+        requires front { front ≤ self.old.columns }
+        requires none { bits_of self.old.rows row ≡ replicate self.old.columns false }
+        requires within { (j : ℕ) → IsTrue (place words.now j) → front + j < self.old.columns }
+        ensures { self.new ≡ record self.old {
+          rows = slice_set self.old.rows row
+              (replicate front true ++ bits_in (self.old.columns - front) words.now);
+        } }
+    {
+        let (width, _columns) = (self.words.width(), self.columns());
+        write_behind(self.words.cells_mut(), width, row, front, words);
+    }
+
+    /// Appends a column of false. Afterwards nothing is reserved. Out of memory, the table is as
+    /// before.
     pub fn add_column(&mut self) -> Result<(), Memory>
         ensures ok { OnOk result (self.new ≡ record {
           columns = self.old.columns + 1;
@@ -229,24 +263,18 @@ impl SatMatrix {
         requires within { (i : ℕ) → IsTrue (place words.now i) → i < length self.old.rows }
         ensures { IsColumnMarked column (λ i. IsTrue (place words.now i)) self.old self.new }
     {
-        for index in 0..words.len() {
-            self.mark_word(column, index, words[index]);
-        }
+        let width = self.words.width();
+        mark_column(self.words.cells_mut(), width, column, words);
     }
 
-    // Makes the places of a column true at the rows that the bits of the word at an index number.
-    fn mark_word(&mut self, column: usize, index: usize, word: u64)
-        requires column { column < self.old.columns }
-        requires within { (i : ℕ) → IsBitOf index word i → i < length self.old.rows }
-        ensures { IsColumnMarked column (IsBitOf index word) self.old self.new }
+    /// Makes the last column true where the values are 0, and false where they aren't.
+    pub(crate) fn mark_last(&mut self, values: &[i128])
+        requires columns { 0 < self.old.columns }
+        requires as_many { length values.now ≡ length self.old.rows }
+        ensures { HasLastZeros values.now self.old self.new }
     {
-        let (_rows, _columns) = (self.len(), self.columns());
-        let mut rest = word;
-        while rest != 0 {
-            let bit = rest.trailing_zeros();
-            self.set(index * 64 + bit as usize, column, true);
-            rest &= !(1 << bit);
-        }
+        let (width, last) = (self.words.width(), self.columns - 1);
+        mark_zeros(self.words.cells_mut(), width, last, values);
     }
 
     /// Lends the words of the rows.
@@ -303,6 +331,16 @@ impl SatMatrix {
         next_sharing(&self.words, i, among, from, least)
     }
 
+    /// Whether a row at another of the places is true wherever row `i` is.
+    pub fn covered_among(&self, i: usize, among: &[usize]) -> bool
+        requires row { i < length self.now.rows }
+        requires among { (q : ℕ) → q < length among.now →
+            slice_index_or among.now q 0 < length self.now.rows }
+        ensures { IsTrue result ↔ IsCoveredAmong self.now.rows i among.now }
+    {
+        has_covering_row(&self.words, i, among)
+    }
+
     /// Whether row `k` is true wherever rows `i` and `j` both are.
     #[inline]
     pub fn covers(&self, i: usize, j: usize, k: usize) -> bool
@@ -334,10 +372,11 @@ fn all_false(alloc: Global, columns: usize, rows: usize) -> Result<SatMatrix, Me
     ensures rows { IfOk result (λ table. table.rows ≡ replicate rows (replicate columns false)) }
     ensures spare { IfOk result (λ table. table.spare ≡ 0) }
 {
-    let mut table = SatMatrix::new(alloc, columns);
-    table.reserve(rows)?;
-    for _row in 0..rows {
-        table.push_false();
-    }
-    Ok(table)
+    let mut words = FlatRows::new(alloc, columns / 64 + 1);
+    words.fill(rows, 0)?;
+    Ok(SatMatrix {
+        alloc,
+        columns,
+        words,
+    })
 }

@@ -2,7 +2,7 @@
 ghost use Rattle.std.specs.Prelude.{◌≡◌, ◌↔◌, ℕ, ◌^◌, ◌<◌, ◌≤◌, IsTrue, OnOk, length};
 ghost use Rattle.std.specs.Prelude.{slice_index_or};
 ghost use Rattle.flat_rows.specs.Flat.{entries_at};
-ghost use Rattle.sat_matrix.specs.Words.{HasThirdRow};
+ghost use Rattle.sat_matrix.specs.Words.{HasCoveringRow, HasThirdRow};
 ghost use Rattle.sat_matrix.specs.Searches.{IsFirstFrom, SharesPlaces, shared_places};
 ghost use Rattle.sat_matrix.specs.Pairs.{index_at};
 ghost use Rattle.sat_matrix.specs.Near.{AreRisingFrom, HasKept, IsUnionOf, SharesWords};
@@ -111,6 +111,41 @@ fn has_third_as_wide(rows: &FlatRows<u64>, width: usize, i: usize, j: usize) -> 
     for k in 0..rows.len() {
         let row = rows.row_as_wide(width, k);
         if is_subset_of_and(first, second, row) && k != i && k != j {
+            return true;
+        }
+    }
+    false
+}
+
+/// Whether another row that the list names has each bit of row `i`.
+pub(crate) fn has_covering_row(rows: &FlatRows<u64>, i: usize, among: &[usize]) -> bool
+    requires row { i < length rows.now.rows }
+    requires among { (q : ℕ) → q < length among.now →
+        slice_index_or among.now q 0 < length rows.now.rows }
+    ensures { IsTrue result ↔ HasCoveringRow rows.now i among.now }
+{
+    match rows.width() {
+        1 => has_covering_as_wide(rows, 1, i, among),
+        2 => has_covering_as_wide(rows, 2, i, among),
+        3 => has_covering_as_wide(rows, 3, i, among),
+        4 => has_covering_as_wide(rows, 4, i, among),
+        width => has_covering_as_wide(rows, width, i, among),
+    }
+}
+
+/// The same, with the width handed over.
+#[inline(always)]
+fn has_covering_as_wide(rows: &FlatRows<u64>, width: usize, i: usize, among: &[usize]) -> bool
+    requires width { width ≡ rows.now.width }
+    requires row { i < length rows.now.rows }
+    requires among { (q : ℕ) → q < length among.now →
+        slice_index_or among.now q 0 < length rows.now.rows }
+    ensures { IsTrue result ↔ HasCoveringRow rows.now i among.now }
+{
+    let row = rows.row_as_wide(width, i);
+    for q in 0..among.len() {
+        let other = rows.row_as_wide(width, among[q]);
+        if among[q] != i && is_subset_of_and(row, row, other) {
             return true;
         }
     }

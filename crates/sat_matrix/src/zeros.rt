@@ -16,10 +16,8 @@ pub fn mark_zeros(zeros: &mut SatMatrix, values: &[i128])
         (before : Table) → HasFalseColumn before zeros.old → HasColumn column before zeros.new }
     ensures kept { IsAsLarge zeros.old zeros.new }
 {
-    let last = zeros.columns() - 1;
-    for row in 0..values.len() {
-        zeros.set(row, last, values[row] == 0);
-    }
+    let _columns = zeros.columns();
+    zeros.mark_last(values);
 }
 
 /// Makes the last column true.
