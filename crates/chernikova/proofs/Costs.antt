@@ -9,7 +9,7 @@ use Rattle.chernikova.proofs.Counts.{counted_start, counted_start_from}
 use Rattle.chernikova.proofs.Prefixes.{overflow_any}
 
 -- ---- the whole list
--- no row was taken in, for want of memory
+-- out of memory before a row was taken in
 pub rows_not_begun : {T : Type 0} (width : ℕ) (rows : List Row) (steps : ℕ) → ConvertsRows {T = T} width rows steps steps (Err Memory)
 rows_not_begun width rows steps = record { overflow = tt; no_fewer = omega arith; counted = counted_start width rows _ (omega arith); counted_before = tt }
 
@@ -17,7 +17,7 @@ rows_not_begun width rows steps = record { overflow = tt; no_fewer = omega arith
 pub rows_done : {T U : Type 0} (width : ℕ) (rows : List Row) (old new : ℕ) (x : T) (y : U) → ConvertsRows width rows old new (Ok x) → ConvertsRows width rows old new (Ok y)
 rows_done width rows old new x y h = record { overflow = tt; no_fewer = h.no_fewer; counted = h.counted; counted_before = tt }
 
--- and what came after was refused for want of memory
+-- all rows were taken in, and then memory ran out
 pub rows_then_memory : {T U : Type 0} (width : ℕ) (rows : List Row) (old new : ℕ) (x : T) → ConvertsRows width rows old new (Ok x) → ConvertsRows {T = U} width rows old new (Err Memory)
 rows_then_memory width rows old new x h = record { overflow = tt; no_fewer = h.no_fewer; counted = h.counted; counted_before = tt }
 

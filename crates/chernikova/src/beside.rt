@@ -166,7 +166,7 @@ impl Beside {
     }
 
     // Finds what the next row asks for, unless it is known, where the search looks at fewer rays
-    // than so many. An overflow or want of memory ends it.
+    // than so many. An overflow ends it, or that memory runs out.
     fn plan_next(&mut self, looks_left: u64)
         requires row { self.old.taken < length self.old.rows.rows }
         requires state { let rows = self.old.rows in
@@ -195,7 +195,7 @@ impl Beside {
     }
 
     // Takes in the next row, if it is known what it asks for and the slack allows its
-    // combinations. An overflow or want of memory ends it.
+    // combinations. An overflow ends it, or that memory runs out.
     fn take_in<L: Ledger>(&mut self, slack: &mut u128, steps: &mut Steps<L>)
         requires row { self.old.taken < length self.old.rows.rows }
         requires state { let rows = self.old.rows in
@@ -289,5 +289,26 @@ impl Beside {
             return false;
         }
         self.taken == list.len()
+    }
+
+    /// Gives up the system and the place of each row of the list, without a copy.
+    pub(crate) fn into_system(self) -> (System, Vec<usize>)
+        ensures system { result.0 ≡ self.system }
+        ensures places { result.1.items ≡ self.places.items }
+    {
+        let Self {
+            begun: _,
+            running: _,
+            rows: _,
+            places,
+            system,
+            scratch: _,
+            taken: _,
+            looked: _,
+            awaited: _,
+            plan: _,
+            needed: _,
+        } = self;
+        (system, places)
     }
 }

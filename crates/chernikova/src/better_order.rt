@@ -22,7 +22,7 @@
 //!   bound holds for both together; the pairs that it found wait until they do.
 //! - *Overflows.* An overflow of the second conversion ends it and is never shown. If the list's
 //!   order overflows first, the second goes on as far as the slack allows, and may still answer.
-ghost use Rattle.std.specs.Prelude.{◌≡◌, ◌+◌, ◌-◌, ◌^◌, ◌<◌, ◌≤◌, true, false, length, map, All, IfOk, IfErr, MatchBool};
+ghost use Rattle.std.specs.Prelude.{◌≡◌, ◌+◌, ◌-◌, ◌^◌, ◌<◌, ◌≤◌, false, length, map, All, IfOk, IfErr, MatchBool};
 ghost use Rattle.row_core.specs.Lists.{vectors, AreMarked};
 ghost use Rattle.cone_laws.specs.SystemLaws.{HasSystemOf};
 ghost use Rattle.chernikova.specs.Conversion.{IsState, IsAtStep, IsRealOverflow, IsConverted, ConvertsRows};
@@ -75,9 +75,9 @@ pub fn convert_in_better_order<L: Ledger>(
     };
     let other = race.run(rows, steps)?;
     if other {
-        return Ok(cone_of_other_order(alloc, &race.beside)?);
+        return Ok(cone_of_other_order(alloc, race.beside)?);
     }
-    Ok(sorted_cone(alloc, &race.system)?)
+    Ok(sorted_cone(alloc, race.system)?)
 }
 
 /// A race of two conversions of a list: the system of the rows in the list's order, the
@@ -181,15 +181,15 @@ fn in_list_order(alloc: Global, sat: &SatMatrix, places: &[usize]) -> Result<Sat
 }
 
 /// What a conversion in another order gives, with the columns of its table in the list's order.
-fn cone_of_other_order(alloc: Global, beside: &Beside) -> Result<Cone, Memory>
-    requires as_many { length beside.now.system.sat.rows ≡ length beside.now.system.rays.rows }
-    requires lines { AreMarked true beside.now.system.lines.rows }
-    requires rays { AreMarked false beside.now.system.rays.rows }
-    requires places { All (λ i. i < beside.now.system.sat.columns) beside.now.places.items }
-    ensures { IfOk result (IsPlaced beside.now.system beside.now.places.items) }
+fn cone_of_other_order(alloc: Global, beside: Beside) -> Result<Cone, Memory>
+    requires as_many { length beside.system.sat.rows ≡ length beside.system.rays.rows }
+    requires rays { AreMarked false beside.system.rays.rows }
+    requires places { All (λ i. i < beside.system.sat.columns) beside.places.items }
+    ensures { IfOk result (IsPlaced beside.system beside.places.items) }
 {
-    let Cone { lines, rays, sat } = sorted_cone(alloc, &beside.system)?;
-    let listed = in_list_order(alloc, &sat, &beside.places)?;
+    let (system, places) = beside.into_system();
+    let Cone { lines, rays, sat } = sorted_cone(alloc, system)?;
+    let listed = in_list_order(alloc, &sat, &places)?;
     Ok(Cone {
         lines,
         rays,

@@ -42,7 +42,7 @@ pub fn convert<L: Ledger>(
 {
     let mut cone = start(alloc, width, rows)?;
     take_rows(alloc, &mut cone, rows, 0, steps)?;
-    Ok(sorted_cone(alloc, &cone)?)
+    Ok(sorted_cone(alloc, cone)?)
 }
 
 /// What [`convert`] gives on the rows that were taken, followed by more rows, from the canonical
@@ -68,10 +68,10 @@ pub fn add_rows<L: Ledger>(
 {
     let rows = rows_of_both(taken, more)?;
     prove!(rows.width() < 0x1_0000_0000);
-    let mut system = system_of_copy(alloc, cone)?;
+    let mut system = system_of_copy(cone)?;
     let from = taken.len();
     take_rows(alloc, &mut system, &rows, from, steps)?;
-    Ok(sorted_cone(alloc, &system)?)
+    Ok(sorted_cone(alloc, system)?)
 }
 
 /// What [`convert`] gives on a list, from the system of its first `from` rows with its table, and
@@ -103,9 +103,9 @@ pub fn add_rows_from<L: Ledger>(
         ConvertsFrom list.width list.rows from steps.old steps.new result }
 {
     prove!(rows.width() < 0x1_0000_0000);
-    let mut system = system_of_cone(alloc, cone)?;
+    let mut system = system_of_cone(cone);
     let changed = take_rows(alloc, &mut system, rows, from, steps)?;
-    let cone = sorted_cone(alloc, &system)?;
+    let cone = sorted_cone(alloc, system)?;
     Ok(Added { cone, changed })
 }
 

@@ -1,4 +1,6 @@
 //! The system of the rows that were taken in.
+ghost use Rattle.std.specs.Prelude.{◌≡◌};
+
 use row_store::VectorList;
 use sat_matrix::SatMatrix;
 
@@ -19,5 +21,17 @@ impl Drop for System {
             rays: _,
             sat: _,
         } = self;
+    }
+}
+
+impl System {
+    /// Gives up the lines, the rays and the table, without a copy.
+    pub(crate) fn into_parts(self) -> (VectorList, VectorList, SatMatrix)
+        ensures lines { result.0 ≡ self.lines }
+        ensures rays { result.1 ≡ self.rays }
+        ensures sat { result.2 ≡ self.sat }
+    {
+        let Self { lines, rays, sat } = self;
+        (lines, rays, sat)
     }
 }

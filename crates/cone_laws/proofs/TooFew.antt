@@ -1,5 +1,5 @@
 -- Two rays on both of which too few rows are 0 have a third ray between them: linear equations in more unknowns than there are of them have a solution that isn't 0.
-use Rattle.std.proofs.Common.{◌≡◌, ◌≢◌, ◌⊎◌, inl, inr, ℕ, zero, suc, ◌+◌, ◌<◌, ◌≤◌, List, [], ◌∷◌, ◌++◌, length, slice_index_or, Bool, true, false, All, Contains, ℤ, pos, ◌+ℤ◌, ◌*ℤ◌, neg_ℤ, ◌≤ℤ◌, ◌<ℤ◌, refl, sym, ap, ◌∙◌, subst, arith}
+use Rattle.std.proofs.Common.{◌≡◌, ◌≢◌, ◌⊎◌, inl, inr, ℕ, zero, suc, ◌+◌, ◌<◌, ◌≤◌, List, [], ◌∷◌, ◌++◌, length, slice_index_or, Bool, true, false, All, ℤ, pos, ◌+ℤ◌, ◌*ℤ◌, neg_ℤ, ◌≤ℤ◌, ◌<ℤ◌, refl, sym, ap, ◌∙◌, subst, arith}
 use Rattle.std.proofs.lemmas.Int.{ints}
 use Rattle.std.proofs.lemmas.List.{length-append}
 use Rattle.std.proofs.lemmas.List.Elements.{All-nil, All-cons, All-head, All-tail, All-contains, Contains-get_or, Contains-append_left, Contains-append_right}
@@ -7,7 +7,7 @@ use Rattle.row_core.specs.Vectors.{cell, dot, add}
 use Rattle.row_core.specs.Lists.{Row, row_at, vector_at}
 use Rattle.cone_laws.specs.Cones.{Upto, Spans}
 use Rattle.cone_laws.specs.Steps.{NoThird}
-use Rattle.cone_laws.specs.AdjacencyLaws.{IsMinimal, TooFewLaw}
+use Rattle.cone_laws.specs.AdjacencyLaws.{IsMinimal, HoldsCommonRows, TooFewLaw}
 use Rattle.row_core.proofs.Ring.{mul-zero, neg-mul, by_sign, same_or_not, zero_of_mul}
 use Rattle.cone_laws.proofs.Sums.{V, same_value, SpansBy, sums_zero}
 use Rattle.cone_laws.proofs.Columns.{value, value_linear, dot_is, dot_comm, dot-add, length-add}
@@ -157,7 +157,7 @@ asks_combined : (eq : Bool) (a b z x y r : ℤ) → Asks eq a → Asks eq b → 
 asks_combined true a b z x y r p q h e least = e ∙ zero_sum x y (a +ℤ b) z (omega (arith, ints, p, q)) (h p q)
 asks_combined false a b z x y r p q h e least = least
 
-module _ (width : ℕ) (rows : List Row) (k : ℕ) (lines rays : List (List ℤ)) (p n : ℕ) (common : List (List ℤ)) (fits : k ≤ length rows) (minimal : IsMinimal (Upto width rows k) lines rays) (bp : p < length rays) (bn : n < length rays) (holds : (m : ℕ) → m < k → dot (row_at rows m) (vector_at rays p) ≡ pos 0 → dot (row_at rows m) (vector_at rays n) ≡ pos 0 → Contains common (row_at rows m)) (few : length common + length lines + 2 < width) (alone : NoThird rows k rays p n) where
+module _ (width : ℕ) (rows : List Row) (k : ℕ) (lines rays : List (List ℤ)) (p n : ℕ) (common : List (List ℤ)) (fits : k ≤ length rows) (minimal : IsMinimal (Upto width rows k) lines rays) (bp : p < length rays) (bn : n < length rays) (holds : HoldsCommonRows rows k (vector_at rays p) (vector_at rays n) common) (few : length common + length lines + 2 < width) (alone : NoThird rows k rays p n) where
   abbrev first : List ℤ
   first = vector_at rays p
 

@@ -86,6 +86,13 @@ OneMoreLaw = (width : ℕ) (rows : List Row) (k : ℕ) (lines rays : List (List 
     IsOneMore rows k (vector_at rays p) (vector_at rays n) m →
     NoThird rows k rays p n
 
+-- the list holds each of the first k rows on which both vectors are 0
+abbrev pub HoldsCommonRows : List Row → ℕ → List ℤ → List ℤ → List (List ℤ) → Type 0
+HoldsCommonRows rows k first second common = (m : ℕ) → m < k →
+    dot (row_at rows m) first ≡ pos 0 →
+    dot (row_at rows m) second ≡ pos 0 →
+    Contains common (row_at rows m)
+
 -- where a list holds each of the first k rows on which two rays both are 0, and the list,
 -- the lines and the two are fewer than the columns, a third ray stands between the two
 abbrev pub TooFewLaw : Type 0
@@ -95,9 +102,6 @@ TooFewLaw = (width : ℕ) (rows : List Row) (k : ℕ) (lines rays : List (List �
     IsMinimal (Upto width rows k) lines rays →
     p < length rays →
     n < length rays →
-    ((m : ℕ) → m < k →
-    dot (row_at rows m) (vector_at rays p) ≡ pos 0 →
-    dot (row_at rows m) (vector_at rays n) ≡ pos 0 →
-    Contains common (row_at rows m)) →
+    HoldsCommonRows rows k (vector_at rays p) (vector_at rays n) common →
     length common + length lines + 2 < width →
     ¬ (NoThird rows k rays p n)

@@ -3,6 +3,7 @@ pub mod ChangedRows
 pub mod FactorLemmas
 pub mod CombinedRows
 pub mod MarkedVectors
+pub mod TakenCells
 pub mod ValueLemmas
 pub mod ChangeLemmas
 pub mod FaultLemmas

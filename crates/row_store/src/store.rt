@@ -5,7 +5,8 @@ ghost use Rattle.std.specs.Prelude.{OnOk, OnErr, MatchResult, IsTrue};
 ghost use Rattle.row_core.specs.Content.{IsPrimitiveOf};
 ghost use Rattle.row_core.specs.Range.{AllInRange};
 ghost use Rattle.row_core.specs.Narrow.{AllNarrow};
-ghost use Rattle.flat_rows.specs.Flat.{Flat, entries_at, marked, HasOneWidth};
+ghost use Rattle.row_core.specs.MarkedCells.{IsLaid};
+ghost use Rattle.flat_rows.specs.Flat.{Flat, entries_at, marked, AreCells, HasOneWidth};
 ghost use Rattle.row_store.specs.Stores.{IsKept, IsNegated, IsCombinedWith, IsRefusedAt};
 ghost use Rattle.row_store.specs.Stores.{IsRowChanged};
 
@@ -43,6 +44,27 @@ impl RowStore {
         }
     }
 
+    /// Takes the cells of so many rows over, without a copy.
+    pub(crate) fn of_cells(width: usize, count: usize, cells: Vec<i128>) -> RowStore
+        requires { IsLaid width count cells.items }
+        ensures width { result.width ≡ width }
+        ensures as_many { length result.rows ≡ count }
+        ensures cells { AreCells result cells.items }
+        ensures spare { result.spare ≡ 0 }
+    {
+        RowStore {
+            rows: FlatRows::of_cells(width, count, cells),
+        }
+    }
+
+    /// Gives the cells up, one row after another, without a copy.
+    pub(crate) fn into_cells(self) -> Vec<i128>
+        ensures cells { AreCells self result.items }
+        ensures kept { IsKept self }
+    {
+        self.rows.into_cells()
+    }
+
     /// The width of each row.
     #[inline]
     pub fn width(&self) -> usize
@@ -69,7 +91,7 @@ impl RowStore {
         all_narrow(self.rows.cells())
     }
 
-    /// Makes room for `n` more rows. After want of memory the list is as before.
+    /// Makes room for `n` more rows. Out of memory, the list is as before.
     pub fn reserve(&mut self, n: usize) -> Result<(), Memory>
         ensures ok { OnOk result (self.new ≡ record self.old { spare = max self.old.spare n }) }
         ensures err { OnErr result (self.new ≡ self.old) }

@@ -14,7 +14,7 @@ ghost use Rattle.row_store.specs.Vectors.{Vectors, as_rows, with_mark, IsAppende
 
 use crate::combining::{append_combination, append_lowered, append_upward};
 use crate::store::RowStore;
-use row_core::{LendRows, Memory, Steps, all_narrow};
+use row_core::{LendRows, Memory, RowList, Steps, all_narrow};
 use std::alloc::Global;
 use std::marker::Model;
 use std::sync::ledger::Ledger;
@@ -82,7 +82,32 @@ impl VectorList {
         })
     }
 
-    /// Makes room for some more vectors. After want of memory the list is as before.
+    /// Takes the rows of a list over, without a copy. All have the mark.
+    pub fn of_list(list: RowList, eq: bool) -> VectorList
+        requires { AreMarked eq list.rows }
+        ensures rows { as_rows result ≡ list }
+        ensures spare { result.spare ≡ 0 }
+    {
+        let (width, count) = (list.width(), list.len());
+        let store = RowStore::of_cells(width, count, list.into_cells());
+        VectorList {
+            eq,
+            narrow: store.is_narrow(),
+            store,
+        }
+    }
+
+    /// Gives the vectors up as a list of rows, without a copy.
+    pub fn into_list(self, alloc: Global) -> Result<RowList, Memory>
+        ensures { IfOk result (λ list. list ≡ as_rows self) }
+    {
+        let (width, count) = (self.store.width(), self.store.len());
+        let list = RowList::of_cells(alloc, width, count, self.store.into_cells(), self.eq)?;
+        let _width = list.width();
+        Ok(list)
+    }
+
+    /// Makes room for some more vectors. Out of memory, the list is as before.
     pub fn reserve(&mut self, vectors: usize) -> Result<(), Memory>
         ensures ok { let spare = max self.old.spare vectors in
             OnOk result (self.new ≡ record self.old { spare = spare }) }
@@ -128,7 +153,7 @@ impl VectorList {
         self.store.row(i)
     }
 
-    /// Appends a copy of a vector. After want of memory the list is as before.
+    /// Appends a copy of a vector. Out of memory, the list is as before.
     pub fn push(&mut self, row: &[i128], eq: bool) -> Result<(), Memory>
         requires wide { length row.now ≡ self.old.width }
         requires in_range { AllInRange row.now }

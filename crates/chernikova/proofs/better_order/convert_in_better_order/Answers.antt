@@ -40,13 +40,6 @@ cone_of_other_order-requires-clause-as_many g c =
     let done : IsDone width rows c.run.new.self.beside = first_of c.in_ok-other.other (IsDone width rows c.run.new.self.beside) (IsState width rows (length rows) c.run.new.self.system) c.if-other.true c.in_ok-other.ensures.done in
     (done_state width rows c.run.new.self.beside done).zeros.each.as_many ∙ length-vectors c.run.new.self.beside.system.rays.rows
 
-pub cone_of_other_order-requires-clause-lines : goal.cone_of_other_order-requires-clause-lines
-cone_of_other_order-requires-clause-lines g c =
-    let width = c.args.rows.now.width in
-    let rows = c.args.rows.now.rows in
-    let done : IsDone width rows c.run.new.self.beside = first_of c.in_ok-other.other (IsDone width rows c.run.new.self.beside) (IsState width rows (length rows) c.run.new.self.system) c.if-other.true c.in_ok-other.ensures.done in
-    (done_state width rows c.run.new.self.beside done).lists.lines_marked
-
 pub cone_of_other_order-requires-clause-rays : goal.cone_of_other_order-requires-clause-rays
 cone_of_other_order-requires-clause-rays g c =
     let width = c.args.rows.now.width in
@@ -60,13 +53,6 @@ sorted_cone-requires-clause-as_many g c =
     let rows = c.args.rows.now.rows in
     let state : IsState width rows (length rows) c.run.new.self.system = second_of c.in_ok-other.other (IsDone width rows c.run.new.self.beside) (IsState width rows (length rows) c.run.new.self.system) c.if-other.false c.in_ok-other.ensures.done in
     state.zeros.each.as_many ∙ length-vectors c.run.new.self.system.rays.rows
-
-pub sorted_cone-requires-clause-lines : goal.sorted_cone-requires-clause-lines
-sorted_cone-requires-clause-lines g c =
-    let width = c.args.rows.now.width in
-    let rows = c.args.rows.now.rows in
-    let state : IsState width rows (length rows) c.run.new.self.system = second_of c.in_ok-other.other (IsDone width rows c.run.new.self.beside) (IsState width rows (length rows) c.run.new.self.system) c.if-other.false c.in_ok-other.ensures.done in
-    state.lists.lines_marked
 
 pub sorted_cone-requires-clause-rays : goal.sorted_cone-requires-clause-rays
 sorted_cone-requires-clause-rays g c =
