@@ -18,7 +18,7 @@ use Rattle.sat_matrix.proofs.TurnedTables.{TellsRows}
 use Rattle.cone_laws.specs.Canon.{IsSystem}
 use Rattle.cone_laws.specs.Members.{ConeOf}
 use Rattle.minimise.specs.FlatRows.{IsZeroOnAll, TellsFlat}
-use Rattle.minimise.specs.Facets.{KeepsZeros, AreFacets, IsFull, TellsFull, IsWithin, IsLedBy, IsUneven, AreApart, AreGreatest, counted_row, IsCounted, AreFalling}
+use Rattle.minimise.specs.Facets.{KeepsZeros, AreFacets, IsFull, TellsFull, IsWithin, IsLedBy, IsUneven, AreUneven, AreApart, AreGreatest, counted_row, IsCounted, AreFalling}
 use Rattle.minimise.specs.declared.facets.CountedRow.{CountedRow}
 use Rattle.minimise.proofs.FlatRows.{flat_is_zero_on_rays}
 
@@ -270,12 +270,12 @@ counted_moved rows places ranked u moved = All-permutation (IsCounted rows) (map
 counted_among : (rows : List (List Bool)) (places : List ℕ) (i : ℕ) → Contains places i → Contains (map (counted_row rows) places) (counted_row rows i)
 counted_among rows places i c = (c.0, omega (arith, c.1, length-map places (counted_row rows)), get_or-map (counted_row rows) places c.0 i (counted_row rows i) c.1 ∙ ap (counted_row rows) c.2)
 
-pub greatest_moved : (rows : List (List Bool)) (marks : List Bool) (f : TellsFull rows marks) (ranked : List CountedRow) (found new : List ℕ) → IsPermutation (map (counted_row rows) (marked (map not marks) (range_with_len 0 (length marks)))) ranked → All (IsUneven rows) found → AreApart rows found → All (λ (row : CountedRow). IsLedBy rows found row.place) ranked → IsPermutation found new → AreGreatest rows new
-greatest_moved rows marks f ranked found new ranking uneven apart led moved = record {
+pub greatest_moved : (rows : List (List Bool)) (places : List ℕ) (ranked : List CountedRow) (found new : List ℕ) → AreUneven rows places → IsPermutation (map (counted_row rows) places) ranked → All (IsUneven rows) found → AreApart rows found → All (λ (row : CountedRow). IsLedBy rows found row.place) ranked → IsPermutation found new → AreGreatest rows new
+greatest_moved rows places ranked found new all ranking uneven apart led moved = record {
   uneven = All-permutation (IsUneven rows) found new moved uneven;
   apart = IsPermutation-keeps found (AreApart rows) apart (λ l i j hi hj a. apart_swapped l i j hi hj rows a) new moved;
   each = λ i u.
       led_moved rows found new i moved
       (All-contains (λ (row : CountedRow). IsLedBy rows found row.place) ranked (counted_row rows i) led
-      (Contains-permutation (map (counted_row rows) (marked (map not marks) (range_with_len 0 (length marks)))) ranked (counted_row rows i) ranking (counted_among rows (marked (map not marks) (range_with_len 0 (length marks))) i (uneven_among rows marks f i u))));
+      (Contains-permutation (map (counted_row rows) places) ranked (counted_row rows i) ranking (counted_among rows places i (all.each i u))));
 }

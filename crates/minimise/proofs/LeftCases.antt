@@ -1,13 +1,11 @@
 -- The combinations that leave the range.
-use Rattle.std.proofs.Common.{◌≡◌, inl, inr, ℕ, zero, suc, ◌-◌, ◌<◌, ◌≤◌, Bool, true, false, List, [], ◌∷◌, ◌++◌, length, take, drop, slice_index_or, ℤ, neg_ℤ, ◌+ℤ◌, ◌-ℤ◌, ◌*ℤ◌, refl, sym, ap, ◌∙◌, subst, arith, length-append}
+use Rattle.std.proofs.Common.{◌≡◌, inl, inr, ℕ, suc, ◌-◌, ◌<◌, ◌≤◌, List, [], ◌∷◌, ◌++◌, length, take, drop, slice_index_or, ℤ, neg_ℤ, ◌+ℤ◌, ◌-ℤ◌, ◌*ℤ◌, refl, sym, ap, ◌∙◌, subst, arith, length-append}
 use Rattle.std.specs.Prelude.{All, remove}
 use Rattle.std.proofs.lemmas.Int.{ints}
-use Rattle.std.proofs.lemmas.Bool.{false≢true}
 use Rattle.std.proofs.lemmas.List.{length-take-le, take-append-drop, get_or-append_right}
 use Rattle.std.proofs.lemmas.List.Edits.{remove-append_right}
 use Rattle.std.proofs.Math.Seq.{take-suc}
 use Rattle.row_core.specs.Vectors.{cell}
-use Rattle.flat_rows.specs.Flat.{marked}
 use Rattle.row_core.specs.Lists.{Row, row_at, Pointwise, vector_at}
 use Rattle.row_core.proofs.Ring.{neg-mul}
 use Rattle.row_core.proofs.CellLemmas.{length-scale}
@@ -114,29 +112,3 @@ module _ (rows : List Row) (flat lines : List (List ℤ)) (j : ℕ) (within : j 
         right_is = inl ((λ (e : suc j ≡ 0). omega (arith, e)), record { lines = lines; basis = subst (λ (m : ℕ). IsBasis (take m flat) lines) (let z : j ≡ suc j - 1 = omega arith in z) basis; line = g.taking.clearing.right_in });
         leaves = g.taking.clearing.leaves;
       }
-
--- ---- the first marked rows
-pub marked_front : {X : Type 0} (i : ℕ) (marks : List Bool) (xs : List X) → marked (take i marks) (take i xs) ≡ take (length (marked (take i marks) (take i xs))) (marked marks xs)
-marked_front zero marks xs = refl
-marked_front (suc i) [] xs = refl
-marked_front (suc i) (true ∷ marks) [] = refl
-marked_front (suc i) (false ∷ marks) [] = refl
-marked_front (suc i) (true ∷ marks) (x ∷ xs) = ap (λ ys. x ∷ ys) (marked_front i marks xs)
-marked_front (suc i) (false ∷ marks) (x ∷ xs) = marked_front i marks xs
-
-pub length-marked_front : {X : Type 0} (i : ℕ) (marks : List Bool) (xs : List X) → length (marked (take i marks) (take i xs)) ≤ length (marked marks xs)
-length-marked_front zero marks xs = omega arith
-length-marked_front (suc i) [] xs = omega arith
-length-marked_front (suc i) (true ∷ marks) [] = omega arith
-length-marked_front (suc i) (false ∷ marks) [] = omega arith
-length-marked_front (suc i) (true ∷ marks) (x ∷ xs) = omega (arith, length-marked_front i marks xs)
-length-marked_front (suc i) (false ∷ marks) (x ∷ xs) = length-marked_front i marks xs
-
--- a marked element stands behind the marked ones before it
-pub marked_next : {X : Type 0} (i : ℕ) (marks : List Bool) (xs : List X) (d : X) → i < length marks → i < length xs → slice_index_or marks i false ≡ true → (length (marked (take i marks) (take i xs)) < length (marked marks xs)) × (slice_index_or (marked marks xs) (length (marked (take i marks) (take i xs))) d ≡ slice_index_or xs i d)
-marked_next i [] xs d h k e = absurd (omega (arith, h))
-marked_next i (m ∷ marks) [] d h k e = absurd (omega (arith, k))
-marked_next zero (true ∷ marks) (x ∷ xs) d h k e = (omega arith, refl)
-marked_next zero (false ∷ marks) (x ∷ xs) d h k e = absurd (false≢true e)
-marked_next (suc i) (true ∷ marks) (x ∷ xs) d h k e = let n = marked_next i marks xs d (omega (arith, h)) (omega (arith, k)) e in (omega (arith, n.0), n.1)
-marked_next (suc i) (false ∷ marks) (x ∷ xs) d h k e = marked_next i marks xs d (omega (arith, h)) (omega (arith, k)) e

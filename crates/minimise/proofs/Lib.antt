@@ -13,9 +13,10 @@ pub mod ClearedRows
 pub mod Totals
 pub mod Places
 pub mod PointwiseLists
-pub mod MarkedRows
 pub mod SecondTables
 pub mod FaultCases
 pub mod Widths
-pub mod FlatBases
 pub mod ValidSystems
+pub mod PlacedRows
+pub mod Splits
+pub mod TurnedRows

@@ -7,7 +7,7 @@ use Rattle.std.proofs.lemmas.List.{get_or_past}
 use Rattle.row_core.specs.Vectors.{cell}
 use Rattle.cone_laws.specs.Canon.{IsPivot, IsEchelon}
 use Rattle.row_core.specs.Lists.{vector_at}
-use Rattle.minimise.specs.Bases.{IsLeading, EchelonIsNarrow}
+use Rattle.minimise.specs.Bases.{EchelonIsNarrow}
 
 -- a pivot is a column
 pub pivot_below : (v : List ℤ) (j : ℕ) → IsPivot v j → j < length v
@@ -16,14 +16,6 @@ pivot_below v j p = by_order (cases_lt j (length v))
     by_order : (j < length v) ⊎ (length v ≤ j) → j < length v
     by_order (inl h) = h
     by_order (inr h) = absurd (let e : cell v j ≡ pos 0 = get_or_past v j (pos 0) h in let q : pos 0 <ℤ cell v j = p.positive in omega (arith, ints, e, q))
-
--- so is the first column at which a vector isn't 0
-pub leading_below : (v : List ℤ) (j : ℕ) → IsLeading v j → j < length v
-leading_below v j lead = by_order (cases_lt j (length v))
-  where
-    by_order : (j < length v) ⊎ (length v ≤ j) → j < length v
-    by_order (inl h) = h
-    by_order (inr h) = absurd (lead.nonzero (get_or_past v j (pos 0) h))
 
 module _ (lines rays : List (List ℤ)) (e : IsEchelon lines rays) where
   pivot_least : (i : ℕ) → i < length lines → i ≤ e.pivot i

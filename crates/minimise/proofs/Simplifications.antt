@@ -20,7 +20,7 @@ use Rattle.minimise.specs.FlatRows.{IsZeroOnAll}
 use Rattle.minimise.specs.Bases.{IsBasis, IsReduced}
 use Rattle.minimise.specs.Facets.{TellsFull, AreFacets, AreGreatest}
 use Rattle.minimise.specs.SecondSystems.{behind_lines}
-use Rattle.minimise.specs.Parts.{AreParts, AreArranged, IsArranged}
+use Rattle.minimise.specs.Parts.{rays_of, AreParts, AreArranged, IsArranged}
 use Rattle.minimise.specs.declared.parts.Parts.{Parts}
 use Rattle.minimise.specs.Simplified.{IsSystemOf, IsDone}
 use Rattle.minimise.specs.declared.second_system.Simplified.{Simplified}
@@ -121,8 +121,8 @@ behind_tells width lines rays list v bits is member wide told = record {
         subst (λ (b : Bool). IsTrue b ↔ (dot (row_at list j) v ≡ pos 0)) (sym bit) (subst (λ (a : List ℤ). IsTrue (slice_index_or bits (j - length lines) false) ↔ (dot a v ≡ pos 0)) (sym (ray_at j l h)) (told (j - length lines) (ray_below j l h)))
 
 -- ---- the whole
-module _ (rows lines rays : Rows) (sat table : Table) (flat : List Bool) (parts : Parts) (p : AreParts rows table flat parts) (sys : IsSystem (ConeOf rows.width rows.rows) (vectors lines.rows) (vectors rays.rows)) (lists : AreLists rows.width lines rays)
-    (zeros : IsZeroTable rows.rows (length rows.rows) (vectors rays.rows) sat) (turned : table ≡ record { columns = length sat.rows; rows = transposed sat.columns sat.rows; spare = 0 }) (full : TellsFull table.rows flat) where
+module _ (rows lines rays : Rows) (sat table : Table) (flat : List ℕ) (marks : List Bool) (parts : Parts) (p : AreParts rows table flat parts) (sys : IsSystem (ConeOf rows.width rows.rows) (vectors lines.rows) (vectors rays.rows)) (lists : AreLists rows.width lines rays)
+    (zeros : IsZeroTable rows.rows (length rows.rows) (vectors rays.rows) sat) (turned : table ≡ record { columns = length sat.rows; rows = transposed sat.columns sat.rows; spare = 0 }) (full : TellsFull table.rows marks) (marked_are : map (row_at rows.rows) flat ≡ marked marks (vectors rows.rows)) where
   pub tells : TellsRows rows.rows (vectors rays.rows) table.rows
   tells = subst (λ (bs : List (List Bool)). TellsRows rows.rows (vectors rays.rows) bs) (sym (ap (λ (t : Table). t.rows) turned)) (turned_tells rows.rows (vectors rays.rows) sat zeros)
 
@@ -132,41 +132,44 @@ module _ (rows lines rays : Rows) (sat table : Table) (flat : List Bool) (parts 
   equalities_wide : All (λ (l : List ℤ). length l ≡ rows.width) (vectors parts.equalities.rows)
   equalities_wide = vectors_wide rows.width parts.equalities p.equalities_fit p.equalities_width
 
-  unsorted : IsSystem (ConeOf rows.width (system_rows (vectors lines.rows) (vectors rays.rows))) (vectors parts.equalities.rows) (vectors parts.reduced.rows)
-  unsorted = second_is_system rows.width rows.rows (vectors lines.rows) (vectors rays.rows) table.rows flat (vectors parts.equalities.rows) (vectors parts.reduced.rows) parts.facets.items rows_wide sys tells full equalities_wide p.basis p.greatest p.made
+  marked_basis : IsBasis (marked marks (vectors rows.rows)) (vectors parts.equalities.rows)
+  marked_basis = subst (λ (vs : List (List ℤ)). IsBasis vs (vectors parts.equalities.rows)) marked_are p.basis
+
+  unsorted : IsSystem (ConeOf rows.width (system_rows (vectors lines.rows) (vectors rays.rows))) (vectors parts.equalities.rows) (vectors (rays_of rows parts).rows)
+  unsorted = second_is_system rows.width rows.rows (vectors lines.rows) (vectors rays.rows) table.rows marks (vectors parts.equalities.rows) (vectors (rays_of rows parts).rows) parts.facets.items rows_wide sys tells full equalities_wide marked_basis p.greatest p.made
 
   same_list : system_rows (vectors lines.rows) (vectors rays.rows) ≡ lines.rows ++ rays.rows
   same_list = system_as lines.rows rays.rows lists.lines_marked lists.rays_marked
 
-  reduced_size : length parts.reduced.rows ≡ length parts.facets.items
-  reduced_size = sym (length-vectors parts.reduced.rows) ∙ p.made.as_many
+  reduced_size : length (rays_of rows parts).rows ≡ length parts.facets.items
+  reduced_size = sym (length-vectors (rays_of rows parts).rows) ∙ p.made.as_many
 
-  module _ (new_lines new_rays : Rows) (second : Table) (a : AreArranged (length lines.rows) table parts new_lines new_rays second) where
+  module _ (new_rays : Rows) (second : Table) (a : AreArranged (length lines.rows) table parts.facets.items (rays_of rows parts) new_rays second) where
     canon : Canon (ConeOf rows.width (lines.rows ++ rays.rows)) (vectors parts.equalities.rows) (vectors new_rays.rows)
     canon =
         subst (λ (vs : List (List ℤ)). Canon (ConeOf rows.width (lines.rows ++ rays.rows)) (vectors parts.equalities.rows) vs) (sym a.picked)
-        (subst (λ (rs : List Row). Canon (ConeOf rows.width rs) (vectors parts.equalities.rows) (map (row_at parts.reduced.rows) a.order)) same_list
-        (upto_canon_from_sorted rows.width (system_rows (vectors lines.rows) (vectors rays.rows)) (length (system_rows (vectors lines.rows) (vectors rays.rows))) (vectors parts.equalities.rows) (vectors parts.reduced.rows) (map (row_at parts.reduced.rows) a.order) unsorted a.is_order.permutation a.is_order.in_order))
+        (subst (λ (rs : List Row). Canon (ConeOf rows.width rs) (vectors parts.equalities.rows) (map (row_at (rays_of rows parts).rows) a.order)) same_list
+        (upto_canon_from_sorted rows.width (system_rows (vectors lines.rows) (vectors rays.rows)) (length (system_rows (vectors lines.rows) (vectors rays.rows))) (vectors parts.equalities.rows) (vectors (rays_of rows parts).rows) (map (row_at (rays_of rows parts).rows) a.order) unsorted a.is_order.permutation a.is_order.in_order))
 
     table_row : (m : ℕ) → m < length a.order → TellsZeros (lines.rows ++ rays.rows) (length (lines.rows ++ rays.rows)) (vector_at (vectors new_rays.rows) m) (bits_of second.rows m)
     table_row m h =
         let n : ℕ = slice_index_or a.order m 0 in
-        let in_reduced : n < length parts.reduced.rows = a.is_order.within m 0 h in
+        let in_reduced : n < length (rays_of rows parts).rows = a.is_order.within m 0 h in
         let in_indices : n < length parts.facets.items = omega (arith, in_reduced, reduced_size) in
-        let member : ConeOf rows.width (system_rows (vectors lines.rows) (vectors rays.rows)) (vector_at (vectors parts.reduced.rows) n) = unsorted.generates.rays_within n [] (omega (arith, in_reduced, length-vectors parts.reduced.rows)) in
-        let told : TellsZeros (lines.rows ++ rays.rows) (length (lines.rows ++ rays.rows)) (vector_at (vectors parts.reduced.rows) n) (behind_lines (length (vectors lines.rows)) (bits_of table.rows (slice_index_or parts.facets.items n 0))) =
-        behind_tells rows.width (vectors lines.rows) (vectors rays.rows) (lines.rows ++ rays.rows) (vector_at (vectors parts.reduced.rows) n) (bits_of table.rows (slice_index_or parts.facets.items n 0)) (sym same_list) member
-        (second_bits_wide rows.width rows.rows (vectors lines.rows) (vectors rays.rows) table.rows flat (vectors parts.equalities.rows) (vectors parts.reduced.rows) parts.facets.items rows_wide sys tells full equalities_wide p.basis p.greatest p.made n in_indices)
-        (λ j b. second_zero rows.width rows.rows (vectors lines.rows) (vectors rays.rows) table.rows flat (vectors parts.equalities.rows) (vectors parts.reduced.rows) parts.facets.items rows_wide sys tells full equalities_wide p.basis p.greatest p.made n j in_indices b) in
-        let vector : vector_at (vectors new_rays.rows) m ≡ vector_at (vectors parts.reduced.rows) n = ap (λ (vs : List (List ℤ)). vector_at vs m) a.picked ∙ get_or-map (row_at parts.reduced.rows) a.order m 0 [] h ∙ sym (vector_at-vectors parts.reduced.rows n) in
+        let member : ConeOf rows.width (system_rows (vectors lines.rows) (vectors rays.rows)) (vector_at (vectors (rays_of rows parts).rows) n) = unsorted.generates.rays_within n [] (omega (arith, in_reduced, length-vectors (rays_of rows parts).rows)) in
+        let told : TellsZeros (lines.rows ++ rays.rows) (length (lines.rows ++ rays.rows)) (vector_at (vectors (rays_of rows parts).rows) n) (behind_lines (length (vectors lines.rows)) (bits_of table.rows (slice_index_or parts.facets.items n 0))) =
+        behind_tells rows.width (vectors lines.rows) (vectors rays.rows) (lines.rows ++ rays.rows) (vector_at (vectors (rays_of rows parts).rows) n) (bits_of table.rows (slice_index_or parts.facets.items n 0)) (sym same_list) member
+        (second_bits_wide rows.width rows.rows (vectors lines.rows) (vectors rays.rows) table.rows marks (vectors parts.equalities.rows) (vectors (rays_of rows parts).rows) parts.facets.items rows_wide sys tells full equalities_wide marked_basis p.greatest p.made n in_indices)
+        (λ j b. second_zero rows.width rows.rows (vectors lines.rows) (vectors rays.rows) table.rows marks (vectors parts.equalities.rows) (vectors (rays_of rows parts).rows) parts.facets.items rows_wide sys tells full equalities_wide marked_basis p.greatest p.made n j in_indices b) in
+        let vector : vector_at (vectors new_rays.rows) m ≡ vector_at (vectors (rays_of rows parts).rows) n = ap (λ (vs : List (List ℤ)). vector_at vs m) a.picked ∙ get_or-map (row_at (rays_of rows parts).rows) a.order m 0 [] h ∙ sym (vector_at-vectors (rays_of rows parts).rows n) in
         let bits : bits_of second.rows m ≡ behind_lines (length (vectors lines.rows)) (bits_of table.rows (slice_index_or parts.facets.items n 0)) =
         ap (λ (bs : List (List Bool)). bits_of bs m) a.rows ∙ get_or-map (λ (i : ℕ). behind_lines (length lines.rows) (bits_of table.rows (slice_index_or parts.facets.items i 0))) a.order m 0 [] h
         ∙ ap (λ (k : ℕ). behind_lines k (bits_of table.rows (slice_index_or parts.facets.items n 0))) (sym (length-vectors lines.rows)) in
         subst (λ (v : List ℤ). TellsZeros (lines.rows ++ rays.rows) (length (lines.rows ++ rays.rows)) v (bits_of second.rows m)) (sym vector)
-        (subst (λ (bs : List Bool). TellsZeros (lines.rows ++ rays.rows) (length (lines.rows ++ rays.rows)) (vector_at (vectors parts.reduced.rows) n) bs) (sym bits) told)
+        (subst (λ (bs : List Bool). TellsZeros (lines.rows ++ rays.rows) (length (lines.rows ++ rays.rows)) (vector_at (vectors (rays_of rows parts).rows) n) bs) (sym bits) told)
 
     rays_size : length (vectors new_rays.rows) ≡ length a.order
-    rays_size = ap (λ (vs : List (List ℤ)). length vs) a.picked ∙ length-map a.order (row_at parts.reduced.rows)
+    rays_size = ap (λ (vs : List (List ℤ)). length vs) a.picked ∙ length-map a.order (row_at (rays_of rows parts).rows)
 
     table_size : length second.rows ≡ length a.order
     table_size = ap (λ (bs : List (List Bool)). length bs) a.rows ∙ length-map a.order (λ (i : ℕ). behind_lines (length lines.rows) (bits_of table.rows (slice_index_or parts.facets.items i 0)))
@@ -183,14 +186,14 @@ module _ (rows lines rays : Rows) (sat table : Table) (flat : List Bool) (parts 
       };
     }
 
-    pub whole : IsSystemOf rows.width (lines.rows ++ rays.rows) new_lines new_rays second
-    whole = subst (λ (ls : Rows). IsSystemOf rows.width (lines.rows ++ rays.rows) ls new_rays second) (sym a.lines_are) (record {
+    pub whole : (new_lines : Rows) → new_lines ≡ parts.equalities → IsSystemOf rows.width (lines.rows ++ rays.rows) new_lines new_rays second
+    whole new_lines is = subst (λ (ls : Rows). IsSystemOf rows.width (lines.rows ++ rays.rows) ls new_rays second) (sym is) (record {
       canon = canon;
-      lists = record { lines_wide = p.equalities_width; rays_wide = a.width ∙ p.reduced_width; lines_marked = p.equalities_marked; rays_marked = a.marks };
+      lists = record { lines_wide = p.equalities_width; rays_wide = a.width ∙ p.rays_width; lines_marked = p.equalities_marked; rays_marked = a.marks };
       zeros = zero_table;
     })
 
   -- the answer of the arrangement
-  pub done_from_arranged : (simplified : Simplified) → IsArranged (length lines.rows) table parts simplified → IsDone rows.width (lines.rows ++ rays.rows) simplified
-  done_from_arranged (Done new_lines new_rays second) a = whole new_lines new_rays second a
+  pub done_from_arranged : (simplified : Simplified) → IsArranged (length lines.rows) rows table parts simplified → IsDone rows.width (lines.rows ++ rays.rows) simplified
+  done_from_arranged (Done new_lines new_rays second) a = whole new_rays second a.1 new_lines a.0
   done_from_arranged (Left left right column) a = absurd a

@@ -2,7 +2,7 @@ use Rattle.std.specs.Prelude.{◌≡◌, ◌≢◌, ℕ, ◌<◌, ◌≤◌, ◌
 use Rattle.std.proofs.Math.IntN.{◌*ℤ◌}
 use Rattle.row_core.specs.Vectors.{cell, scale, combined}
 use Rattle.row_core.specs.Content.{IsPrimitive}
-use Rattle.row_core.specs.Lists.{Row, Pointwise, row_at, vector_at}
+use Rattle.row_core.specs.Lists.{Row, Pointwise, row_at, is_eq_at, vector_at}
 use Rattle.cone_laws.specs.Cones.{Spans}
 use Rattle.cone_laws.specs.Canon.{IsPivot, IsEchelon}
 use Rattle.row_core.specs.Signs.{sign}
@@ -61,11 +61,20 @@ pub record IsCleared (c : ℕ) (l w r : List ℤ) : Type 0 where
   pub wide : length r ≡ length w
   pub primitive : IsPrimitive r
 
--- the first lines, up to an index, cleared at the pivot of a line
+-- row i was cleared at the pivot of a line, and the others are as before
+pub record IsLineCleared (c : ℕ) (line : List ℤ) (rows : List Row) (i : ℕ)
+    (new : List Row) : Type 0 where
+  pub as_many : length new ≡ length rows
+  pub cleared : IsCleared c line (row_at rows i) (row_at new i)
+  pub others : (k : ℕ) → k ≢ i → row_at new k ≡ row_at rows k
+  pub marks : (k : ℕ) → is_eq_at new k ≡ is_eq_at rows k
+
+-- the lines before an index were cleared at the pivot of a line, and the others are as before
 pub record AreCleared (c : ℕ) (line : List ℤ) (lines : List (List ℤ)) (end : ℕ)
     (new : List (List ℤ)) : Type 0 where
-  pub as_many : length new ≡ end
+  pub as_many : length new ≡ length lines
   pub each : (i : ℕ) → i < end → IsCleared c line (vector_at lines i) (vector_at new i)
+  pub behind : (i : ℕ) → end ≤ i → vector_at new i ≡ vector_at lines i
 
 -- the place at which a line with the pivot stands between lines with lesser and with greater pivots
 pub record IsPlace (lines : List (List ℤ)) (c k : ℕ) : Type 0 where

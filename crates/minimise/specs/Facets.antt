@@ -1,4 +1,6 @@
-use Rattle.std.specs.Prelude.{◌≡◌, ◌≢◌, ℕ, ◌<◌, ◌≤◌, ◌↔◌, Bool, false, List, length, ℤ, pos, All, IsTrue, slice_index_or}
+use Rattle.std.specs.Prelude.{◌≡◌, ◌≢◌, ℕ, ◌<◌, ◌≤◌, ◌↔◌, Bool, false, not, List, length, map, ℤ, pos, All, Contains, IsTrue, slice_index_or}
+use Rattle.std.specs.List.{range_with_len}
+use Rattle.flat_rows.specs.Flat.{marked}
 use Rattle.row_core.specs.Vectors.{dot}
 use Rattle.row_core.specs.Lists.{Row, row_at}
 use Rattle.sat_matrix.specs.Tables.{bits_of, Covers}
@@ -31,6 +33,13 @@ pub record TellsFull (rows : List (List Bool)) (marks : List Bool) : Type 0 wher
   pub tells : (i : ℕ) → i < length rows
       → IsTrue (slice_index_or marks i false) ↔ IsFull (bits_of rows i)
 
+-- the places of the rows of the table that are true at each place, and those of the others
+pub record AreSplit (rows : List (List Bool)) (full others : List ℕ) : Type 0 where
+  pub marks : List Bool
+  pub tells : TellsFull rows marks
+  pub full_are : full ≡ marked marks (range_with_len 0 (length marks))
+  pub others_are : others ≡ marked (map not marks) (range_with_len 0 (length marks))
+
 -- the second row is true wherever the first is
 abbrev pub IsWithin : List Bool → List Bool → Type 0
 IsWithin first second = Covers first first second
@@ -43,6 +52,11 @@ IsLedBy rows places m = (q : ℕ) × (q < length places)
 -- the place is that of a row of the table that isn't true everywhere
 abbrev pub IsUneven : List (List Bool) → ℕ → Type 0
 IsUneven rows p = (p < length rows) × ¬ (IsFull (bits_of rows p))
+
+-- the places are those of the rows of the table that aren't true everywhere
+pub record AreUneven (rows : List (List Bool)) (places : List ℕ) : Type 0 where
+  pub uneven : All (IsUneven rows) places
+  pub each : (i : ℕ) → IsUneven rows i → Contains places i
 
 -- no row at one of the places is true only where one at another is
 abbrev pub AreApart : List (List Bool) → List ℕ → Type 0

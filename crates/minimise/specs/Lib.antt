@@ -5,4 +5,6 @@ pub mod Faults
 pub mod Facets
 pub mod SecondSystems
 pub mod Simplified
+pub mod Rays
 pub mod Parts
+pub mod Buffers

@@ -1,20 +1,46 @@
 //! The reduced echelon basis of the rows that are 0 on the whole cone.
-ghost use Rattle.std.specs.Prelude.{◌≡◌, ◌≢◌, ℕ, ◌+◌, ◌*◌, ◌^◌, ◌<◌, ◌≤◌, true, [], ◌∷◌, ◌++◌, length, drop, pos, All, MatchResult, IfOk, OnOk};
+ghost use Rattle.std.specs.Prelude.{◌≡◌, ◌≢◌, ℕ, ◌+◌, ◌*◌, ◌^◌, ◌<◌, ◌≤◌, true, [], length, map, pos, All, MatchResult, IfOk, OnOk};
 ghost use Rattle.row_core.specs.Vectors.{cell};
 ghost use Rattle.row_core.specs.Range.{AllInRange};
 ghost use Rattle.row_core.specs.Content.{IsPrimitive};
-ghost use Rattle.flat_rows.specs.Flat.{marked};
-ghost use Rattle.row_core.specs.Lists.{vectors, AreMarked, vector_at};
+ghost use Rattle.row_core.specs.Lists.{row_at, vectors, AreMarked, vector_at};
 ghost use Rattle.cone_laws.specs.Canon.{IsPivot, IsEchelon};
-ghost use Rattle.minimise.specs.Bases.{IsBasis, IsLeading, IsPlace, HasTaken, IsCleared, AreCleared, IsNewLine, IsGrown, turned_up};
+ghost use Rattle.minimise.specs.Bases.{IsBasis, IsPlace, HasTaken, AreCleared, IsLineCleared, IsNewLine, IsGrown, turned_up};
+ghost use Rattle.minimise.specs.Buffers.{HasBuffers};
 ghost use Rattle.minimise.specs.Faults.{IsCombineFault, IsClearFault, IsTakeFault, IsGrowFault, IsListFault};
 
 use crate::fault::Fault;
 use crate::reduction::{clear, leading, pivot_of, reduce, zeros};
-use row_core::{Memory, RowBuf, RowList, Steps};
-use row_store::write_upward;
+use row_core::{Memory, RowList, Steps, negate};
 use std::alloc::Global;
 use std::sync::ledger::Ledger;
+
+/// The basis of the rows at the places, which are taken in in their order.
+pub(crate) fn basis<L: Ledger>(
+    alloc: Global,
+    rows: &RowList,
+    places: &[usize],
+    steps: &mut Steps<L>,
+) -> Result<RowList, Fault>
+    requires within { All (λ p. p < length rows.now.rows) places.now }
+    ensures counted { (steps.old ≤ steps.new)
+        × (steps.new ≤ steps.old + 2 * (length places.now * rows.now.width)) }
+    ensures basis { let flat = map (row_at rows.now.rows) places.now in
+        MatchResult result (λ lines. IsBasis flat (vectors lines.rows))
+        (IsListFault rows.now.rows flat) }
+    ensures list { IfOk result
+        (λ lines. (lines.width ≡ rows.now.width) × AreMarked true lines.rows) }
+{
+    let width = rows.width();
+    if places.is_empty() {
+        return Ok(RowList::new(alloc, width));
+    }
+    let mut basis = GrowingBasis::new(alloc, width)?;
+    for index in 0..places.len() {
+        basis.take(alloc, rows.row(places[index]), steps)?;
+    }
+    Ok(basis.lines)
+}
 
 /// How many lines have a pivot before the column, which is none of the pivots.
 fn place_of(lines: &RowList, column: usize) -> usize
@@ -31,184 +57,185 @@ fn place_of(lines: &RowList, column: usize) -> usize
     lines.len()
 }
 
-/// The row, cleared at the pivot of a line.
-fn cleared<L: Ledger>(
-    alloc: Global,
-    row: &[i128],
-    scratch: &mut [i128],
-    line: &[i128],
-    pivot: usize,
-    steps: &mut Steps<L>,
-) -> Result<RowBuf, Fault>
-    requires same_width { (length row.now ≡ length line.now)
-        × (length scratch.old ≡ length line.now) }
-    requires narrow { length line.now < 2 ^ 32 }
-    requires row { AllInRange row.now × IsPrimitive row.now }
-    requires line { AllInRange line.now × IsPivot line.now pivot }
-    ensures counted { (steps.old ≤ steps.new) × (steps.new ≤ steps.old + 1) }
-    ensures scratch { length scratch.new ≡ length scratch.old }
-    ensures cleared { MatchResult result (IsCleared pivot line.now row.now)
-        (IsCombineFault pivot line.now row.now) }
+/// Gives the vector the sign with which it is positive at a column.
+fn turn_up(vector: &mut [i128], column: usize)
+    requires in_range { AllInRange vector.old }
+    requires column { column < length vector.old }
+    requires nonzero { cell vector.old column ≢ pos 0 }
+    ensures turned { vector.new ≡ turned_up vector.old column }
+    ensures in_range { AllInRange vector.new }
 {
-    let mut new = RowBuf::new(alloc, row)?.into_vec();
-    clear(alloc, &mut new, scratch, line, pivot, steps)?;
-    Ok(RowBuf::from_vec(new))
-}
-
-/// The lines before an index, cleared at the pivot of a line.
-fn cleared_before<L: Ledger>(
-    alloc: Global,
-    lines: &RowList,
-    end: usize,
-    line: &[i128],
-    pivot: usize,
-    steps: &mut Steps<L>,
-) -> Result<RowList, Fault>
-    requires end { end ≤ length lines.now.rows }
-    requires primitive { All IsPrimitive (vectors lines.now.rows) }
-    requires wide { length line.now ≡ lines.now.width }
-    requires line { AllInRange line.now × IsPivot line.now pivot }
-    ensures counted { (steps.old ≤ steps.new) × (steps.new ≤ steps.old + end) }
-    ensures cleared { MatchResult result
-        (λ new. AreCleared pivot line.now (vectors lines.now.rows) end (vectors new.rows))
-        (IsClearFault pivot line.now (vectors lines.now.rows)) }
-    ensures list { IfOk result (λ new. (new.width ≡ lines.now.width) × AreMarked true new.rows) }
-{
-    let mut new = RowList::new(alloc, lines.width());
-    let mut scratch = zeros(alloc, lines.width())?;
-    for index in 0..end {
-        let row = cleared(alloc, lines.row(index), &mut scratch, line, pivot, steps)?;
-        new.push_row(row, true)?;
+    if vector[column] > 0 {
+        return;
     }
-    Ok(new)
+    negate(vector);
 }
 
-/// Appends the lines from an index on.
-fn push_from(into: &mut RowList, lines: &RowList, start: usize) -> Result<(), Memory>
-    requires width { lines.now.width ≡ into.old.width }
-    requires start { start ≤ length lines.now.rows }
-    ensures width { into.new.width ≡ into.old.width }
-    ensures rows { OnOk result
-        (vectors into.new.rows ≡ vectors into.old.rows ++ drop start (vectors lines.now.rows)) }
-    ensures marked { OnOk result (AreMarked true into.old.rows → AreMarked true into.new.rows) }
-{
-    for index in start..lines.len() {
-        into.push(lines.row(index), true)?;
-    }
-    Ok(())
-}
-
-/// The basis with a line that is 0 at its pivots.
-fn with_line<L: Ledger>(
-    alloc: Global,
-    lines: &RowList,
-    line: &[i128],
-    pivot: usize,
-    steps: &mut Steps<L>,
-) -> Result<RowList, Fault>
-    requires echelon { IsEchelon (vectors lines.now.rows) [] }
-    requires primitive { All IsPrimitive (vectors lines.now.rows) }
-    requires wide { length line.now ≡ lines.now.width }
-    requires in_range { AllInRange line.now }
-    requires line { IsNewLine (vectors lines.now.rows) line.now pivot }
-    ensures counted { (steps.old ≤ steps.new) × (steps.new ≤ steps.old + length lines.now.rows) }
-    ensures taken { MatchResult result
-        (λ new. HasTaken pivot (vectors lines.now.rows) line.now (vectors new.rows))
-        (IsTakeFault pivot (vectors lines.now.rows) line.now) }
-    ensures list { IfOk result (λ new. (new.width ≡ lines.now.width) × AreMarked true new.rows) }
-{
-    let place = place_of(lines, pivot);
-    let mut new = cleared_before(alloc, lines, place, line, pivot, steps)?;
-    new.push(line, true)?;
-    push_from(&mut new, lines, place)?;
-    Ok(new)
-}
-
-/// The vector with the sign with which it is positive at a column.
-fn turn_up(alloc: Global, vector: &[i128], column: usize) -> Result<Vec<i128>, Memory>
-    requires in_range { AllInRange vector.now }
-    requires column { column < length vector.now }
-    requires nonzero { cell vector.now column ≢ pos 0 }
-    ensures turned { IfOk result (λ v. v.items ≡ turned_up vector.now column) }
-    ensures in_range { IfOk result (λ v. AllInRange v.items) }
-{
-    let mut turned = zeros(alloc, vector.len())?;
-    write_upward(&mut turned, vector, vector[column]);
-    Ok(turned)
-}
-
-/// The basis with a row that is 0 at its pivots, with the sign with which it is positive at the
-/// first column at which it isn't 0.
-fn with_reduced<L: Ledger>(
-    alloc: Global,
-    lines: &RowList,
-    reduced: &[i128],
-    pivot: usize,
-    steps: &mut Steps<L>,
-) -> Result<RowList, Fault>
-    requires echelon { IsEchelon (vectors lines.now.rows) [] }
-    requires primitive { All IsPrimitive (vectors lines.now.rows) }
-    requires wide { length reduced.now ≡ lines.now.width }
-    requires in_range { AllInRange reduced.now }
-    requires leading { IsLeading reduced.now pivot }
-    requires line { IsNewLine (vectors lines.now.rows) (turned_up reduced.now pivot) pivot }
-    ensures counted { (steps.old ≤ steps.new) × (steps.new ≤ steps.old + length lines.now.rows) }
-    ensures taken { MatchResult result (λ new. HasTaken pivot (vectors lines.now.rows)
-        (turned_up reduced.now pivot) (vectors new.rows))
-        (IsTakeFault pivot (vectors lines.now.rows) (turned_up reduced.now pivot)) }
-    ensures list { IfOk result (λ new. (new.width ≡ lines.now.width) × AreMarked true new.rows) }
-{
-    let line = turn_up(alloc, reduced, pivot)?;
-    with_line(alloc, lines, &line, pivot, steps)
-}
-
-/// The basis with one more row.
-fn grown<L: Ledger>(
-    alloc: Global,
+/// A reduced echelon basis that takes rows in, and the rows on which it works.
+#[derive(Drop)]
+struct GrowingBasis {
     lines: RowList,
-    row: &[i128],
-    steps: &mut Steps<L>,
-) -> Result<RowList, Fault>
-    requires echelon { IsEchelon (vectors lines.rows) [] }
-    requires primitive { All IsPrimitive (vectors lines.rows) }
-    requires wide { length row.now ≡ lines.width }
-    requires in_range { AllInRange row.now }
-    requires marked { AreMarked true lines.rows }
-    ensures counted { (steps.old ≤ steps.new) × (steps.new ≤ steps.old + 2 * lines.width) }
-    ensures grown { MatchResult result
-        (λ new. IsGrown (vectors lines.rows) row.now (vectors new.rows))
-        (IsGrowFault (vectors lines.rows) row.now) }
-    ensures list { IfOk result (λ new. (new.width ≡ lines.width) × AreMarked true new.rows) }
-{
-    let _width = lines.width();
-    let reduced = reduce(alloc, &lines, row, steps)?;
-    let Some(pivot) = leading(&reduced) else {
-        return Ok(lines);
-    };
-    with_reduced(alloc, &lines, &reduced, pivot, steps)
+    /// The row that is taken in, reduced by the lines.
+    reduced: Vec<i128>,
+    /// A line that is cleared.
+    cleared: Vec<i128>,
+    scratch: Vec<i128>,
 }
 
-/// The basis of the marked rows, which are taken in in their order.
-pub(crate) fn basis<L: Ledger>(
-    alloc: Global,
-    rows: &RowList,
-    flat: &[bool],
-    steps: &mut Steps<L>,
-) -> Result<RowList, Fault>
-    requires as_many { length flat.now ≡ length rows.now.rows }
-    ensures counted { (steps.old ≤ steps.new) × (steps.new ≤ steps.old
-        + 2 * (length (marked flat.now (vectors rows.now.rows)) * rows.now.width)) }
-    ensures basis { MatchResult result
-        (λ lines. IsBasis (marked flat.now (vectors rows.now.rows)) (vectors lines.rows))
-        (IsListFault rows.now.rows (marked flat.now (vectors rows.now.rows))) }
-    ensures list { IfOk result
-        (λ lines. (lines.width ≡ rows.now.width) × AreMarked true lines.rows) }
-{
-    let mut lines = RowList::new(alloc, rows.width());
-    for index in 0..rows.len() {
-        if flat[index] {
-            lines = grown(alloc, lines, rows.row(index), steps)?;
-        }
+impl GrowingBasis {
+    /// The basis of no row.
+    fn new(alloc: Global, width: usize) -> Result<GrowingBasis, Memory>
+        requires { width < 2 ^ 32 }
+        ensures buffers { IfOk result HasBuffers }
+        ensures width { IfOk result (λ basis. basis.lines.width ≡ width) }
+        ensures empty { IfOk result (λ basis. basis.lines.rows ≡ []) }
+    {
+        let lines = RowList::new(alloc, width);
+        let reduced = zeros(alloc, width)?;
+        let cleared = zeros(alloc, width)?;
+        let scratch = zeros(alloc, width)?;
+        Ok(GrowingBasis {
+            lines,
+            reduced,
+            cleared,
+            scratch,
+        })
     }
-    Ok(lines)
+
+    /// Takes a row in.
+    fn take<L: Ledger>(
+        &mut self,
+        alloc: Global,
+        row: &[i128],
+        steps: &mut Steps<L>,
+    ) -> Result<(), Fault>
+        requires buffers { HasBuffers self.old }
+        requires echelon { IsEchelon (vectors self.old.lines.rows) [] }
+        requires primitive { All IsPrimitive (vectors self.old.lines.rows) }
+        requires wide { length row.now ≡ self.old.lines.width }
+        requires in_range { AllInRange row.now }
+        ensures counted { (steps.old ≤ steps.new)
+            × (steps.new ≤ steps.old + 2 * self.old.lines.width) }
+        ensures buffers { HasBuffers self.new }
+        ensures width { self.new.lines.width ≡ self.old.lines.width }
+        ensures grown { MatchResult result
+            (λ _. IsGrown (vectors self.old.lines.rows) row.now (vectors self.new.lines.rows))
+            (IsGrowFault (vectors self.old.lines.rows) row.now) }
+        ensures marked { OnOk result
+            (AreMarked true self.old.lines.rows → AreMarked true self.new.lines.rows) }
+    {
+        let _width = self.lines.width();
+        reduce(
+            alloc,
+            &self.lines,
+            row,
+            &mut self.reduced,
+            &mut self.scratch,
+            steps,
+        )?;
+        let Some(pivot) = leading(&self.reduced) else {
+            return Ok(());
+        };
+        turn_up(&mut self.reduced, pivot);
+        self.take_line(alloc, pivot, steps)?;
+        Ok(())
+    }
+
+    /// Takes the reduced row in, which is 0 at the pivots of the lines.
+    fn take_line<L: Ledger>(
+        &mut self,
+        alloc: Global,
+        pivot: usize,
+        steps: &mut Steps<L>,
+    ) -> Result<(), Fault>
+        requires buffers { HasBuffers self.old }
+        requires echelon { IsEchelon (vectors self.old.lines.rows) [] }
+        requires primitive { All IsPrimitive (vectors self.old.lines.rows) }
+        requires in_range { AllInRange self.old.reduced.items }
+        requires line { IsNewLine (vectors self.old.lines.rows) self.old.reduced.items pivot }
+        ensures counted { (steps.old ≤ steps.new)
+            × (steps.new ≤ steps.old + length self.old.lines.rows) }
+        ensures buffers { HasBuffers self.new }
+        ensures width { self.new.lines.width ≡ self.old.lines.width }
+        ensures taken { MatchResult result
+            (λ _. HasTaken pivot (vectors self.old.lines.rows) self.old.reduced.items
+            (vectors self.new.lines.rows))
+            (IsTakeFault pivot (vectors self.old.lines.rows) self.old.reduced.items) }
+        ensures marked { OnOk result
+            (AreMarked true self.old.lines.rows → AreMarked true self.new.lines.rows) }
+    {
+        let place = place_of(&self.lines, pivot);
+        self.clear_before(alloc, place, pivot, steps)?;
+        self.lines.insert(place, &self.reduced, true)?;
+        Ok(())
+    }
+
+    /// Clears the lines before an index at the pivot of the reduced row.
+    fn clear_before<L: Ledger>(
+        &mut self,
+        alloc: Global,
+        end: usize,
+        pivot: usize,
+        steps: &mut Steps<L>,
+    ) -> Result<(), Fault>
+        requires buffers { HasBuffers self.old }
+        requires end { end ≤ length self.old.lines.rows }
+        requires primitive { All IsPrimitive (vectors self.old.lines.rows) }
+        requires in_range { AllInRange self.old.reduced.items }
+        requires pivot { IsPivot self.old.reduced.items pivot }
+        ensures counted { (steps.old ≤ steps.new) × (steps.new ≤ steps.old + end) }
+        ensures buffers { HasBuffers self.new }
+        ensures width { self.new.lines.width ≡ self.old.lines.width }
+        ensures same { self.new.reduced.items ≡ self.old.reduced.items }
+        ensures cleared { MatchResult result
+            (λ _. AreCleared pivot self.old.reduced.items (vectors self.old.lines.rows) end
+            (vectors self.new.lines.rows))
+            (IsClearFault pivot self.old.reduced.items (vectors self.old.lines.rows)) }
+        ensures marked { OnOk result
+            (AreMarked true self.old.lines.rows → AreMarked true self.new.lines.rows) }
+    {
+        for index in 0..end {
+            self.clear_line(alloc, index, pivot, steps)?;
+        }
+        Ok(())
+    }
+
+    /// Clears a line at the pivot of the reduced row. One that is 0 there stays as it is.
+    fn clear_line<L: Ledger>(
+        &mut self,
+        alloc: Global,
+        index: usize,
+        pivot: usize,
+        steps: &mut Steps<L>,
+    ) -> Result<(), Fault>
+        requires buffers { HasBuffers self.old }
+        requires index { index < length self.old.lines.rows }
+        requires primitive { IsPrimitive (row_at self.old.lines.rows index) }
+        requires in_range { AllInRange self.old.reduced.items }
+        requires pivot { IsPivot self.old.reduced.items pivot }
+        ensures counted { (steps.old ≤ steps.new) × (steps.new ≤ steps.old + 1) }
+        ensures buffers { HasBuffers self.new }
+        ensures width { self.new.lines.width ≡ self.old.lines.width }
+        ensures same { self.new.reduced.items ≡ self.old.reduced.items }
+        ensures cleared { MatchResult result
+            (λ _. IsLineCleared pivot self.old.reduced.items self.old.lines.rows index
+            self.new.lines.rows)
+            (IsCombineFault pivot self.old.reduced.items (row_at self.old.lines.rows index)) }
+    {
+        let _width = self.lines.width();
+        if self.lines.row(index)[pivot] == 0 {
+            return Ok(());
+        }
+        self.cleared.copy_from_slice(self.lines.row(index));
+        clear(
+            alloc,
+            &mut self.cleared,
+            &mut self.scratch,
+            &self.reduced,
+            pivot,
+            steps,
+        )?;
+        self.lines.put(index, &self.cleared);
+        Ok(())
+    }
 }

@@ -1,10 +1,7 @@
 //! The rows that aren't 0 on the whole cone, one for each greatest set of zeros.
-ghost use Rattle.std.specs.Prelude.{◌≡◌, ℕ, ◌+◌, ◌<◌, ◌≤◌, ◌↔◌, length, map, not, reverse, Bool, List, All, Contains, IsPermutation, IsTrue, IfOk, OnOk};
-ghost use Rattle.std.specs.List.{range_with_len};
+ghost use Rattle.std.specs.Prelude.{◌≡◌, ℕ, ◌+◌, ◌<◌, ◌≤◌, ◌↔◌, [], ◌∷◌, ◌++◌, length, map, not, All, IsPermutation, IsTrue, IfOk, OnOk};
 ghost use Rattle.flat_rows.specs.Flat.{marked};
-ghost use Rattle.sat_matrix.specs.Tables.{bits_of};
-ghost use Rattle.sat_matrix.specs.Counts.{ones};
-ghost use Rattle.minimise.specs.Facets.{TellsFull, AreGreatest, IsLedBy, IsUneven, AreApart, counted_row, IsCounted, AreFalling, IsNoLonger};
+ghost use Rattle.minimise.specs.Facets.{AreSplit, AreUneven, AreGreatest, IsLedBy, IsUneven, AreApart, counted_row, IsCounted, AreFalling, IsNoLonger};
 
 use sat_matrix::SatMatrix;
 use std::alloc::{AllocError, Global};
@@ -16,55 +13,57 @@ pub(crate) struct CountedRow {
     place: usize,
 }
 
-/// Of the rows that aren't marked, the places of one for each greatest set of true
-/// places, in order.
+/// Of the rows at the places, the places of one for each greatest set of true places, in order.
 pub(crate) fn facets_of(
     alloc: Global,
     table: &SatMatrix,
-    marks: &[bool],
+    places: &[usize],
 ) -> Result<Vec<usize>, AllocError>
-    requires { TellsFull table.now.rows marks.now }
+    requires { AreUneven table.now.rows places.now }
     ensures greatest { IfOk result (λ v. AreGreatest table.now.rows v.items) }
-    ensures fewer { let range = range_with_len 0 (length marks.now) in
-        IfOk result (λ v. length v.items ≤ length (marked (map not marks.now) range)) }
+    ensures fewer { IfOk result (λ v. length v.items ≤ length places.now) }
 {
-    let keep = unmarked(alloc, marks)?;
-    let places = marked_indices(alloc, &keep)?;
-    let ranked = ranked_rows(alloc, table, &places)?;
+    let ranked = ranked_rows(alloc, table, places)?;
     let mut facets = leaders(alloc, table, &ranked)?;
     facets.sort_unstable();
     Ok(facets)
 }
 
-/// Which rows of the table are true at each place.
-pub(crate) fn full_rows(alloc: Global, table: &SatMatrix) -> Result<Vec<bool>, AllocError>
-    ensures { IfOk result (λ v. TellsFull table.now.rows v.items) }
+/// The places of the rows of the table that are true at each place, and those of the others.
+pub(crate) fn full_places(
+    alloc: Global,
+    table: &SatMatrix,
+) -> Result<(Vec<usize>, Vec<usize>), AllocError>
+    ensures { IfOk result (λ places. AreSplit table.now.rows places.0.items places.1.items) }
 {
     let mut full = Vec::new(alloc);
+    let mut others = Vec::with_capacity(alloc, table.len())?;
     for row in 0..table.len() {
-        full.push(table.ones(row) == table.columns())?;
+        let is_full = table.ones(row) == table.columns();
+        push_place(&mut full, &mut others, row, is_full)?;
     }
-    Ok(full)
+    Ok((full, others))
 }
 
-/// The marks, turned.
-fn unmarked(alloc: Global, marks: &[bool]) -> Result<Vec<bool>, AllocError>
-    ensures { IfOk result (λ v. v.items ≡ map not marks.now) }
+/// Appends a place to the first list where the row is true at each place, and else to the second.
+#[inline]
+fn push_place(
+    full: &mut Vec<usize>,
+    others: &mut Vec<usize>,
+    place: usize,
+    is_full: bool,
+) -> Result<(), AllocError>
+    ensures first { OnOk result
+        (full.new.items ≡ full.old.items ++ marked (is_full ∷ []) (place ∷ [])) }
+    ensures second { OnOk result
+        (others.new.items ≡ others.old.items ++ marked (not is_full ∷ []) (place ∷ [])) }
 {
-    marks.iter().map(|mark| !*mark).collect(alloc)
-}
-
-/// The indices that are marked.
-fn marked_indices(alloc: Global, marks: &[bool]) -> Result<Vec<usize>, AllocError>
-    ensures { IfOk result (λ v. v.items ≡ marked marks.now (range_with_len 0 (length marks.now))) }
-{
-    let mut indices = Vec::new(alloc);
-    for index in 0..marks.len() {
-        if marks[index] {
-            indices.push(index)?;
-        }
+    if is_full {
+        full.push(place)?;
+    } else {
+        others.push(place)?;
     }
-    Ok(indices)
+    Ok(())
 }
 
 /// The rows at the places, each with the number of its true places.

@@ -9,6 +9,7 @@ mod facets;
 mod fault;
 mod laws;
 mod parts;
+mod rays;
 mod reduction;
 mod second_system;
 mod second_table;

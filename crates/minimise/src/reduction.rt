@@ -1,5 +1,5 @@
 //! Rows reduced by the lines of a basis.
-ghost use Rattle.std.specs.Prelude.{◌≡◌, ℕ, ◌+◌, ◌^◌, ◌<◌, ◌≤◌, ◌<ℤ◌, [], length, pos, replicate, MatchOption, MatchResult, IfOk};
+ghost use Rattle.std.specs.Prelude.{◌≡◌, ℕ, ◌+◌, ◌^◌, ◌<◌, ◌≤◌, [], length, pos, MatchOption, MatchResult, IfOk};
 ghost use Rattle.row_core.specs.Vectors.{cell};
 ghost use Rattle.row_core.specs.Range.{AllInRange};
 ghost use Rattle.row_core.specs.Content.{IsPrimitive};
@@ -9,7 +9,7 @@ ghost use Rattle.minimise.specs.Bases.{IsCleared, IsLeading, IsReduced};
 ghost use Rattle.minimise.specs.Faults.{IsCombineFault, IsReduceFault};
 
 use crate::fault::{Fault, left_of};
-use row_core::{Memory, RowBuf, RowList, Steps};
+use row_core::{Memory, RowList, Steps, make_primitive};
 use row_store::combine;
 use std::alloc::Global;
 use std::sync::ledger::Ledger;
@@ -76,35 +76,35 @@ pub(crate) fn clear<L: Ledger>(
     Ok(())
 }
 
-/// A primitive row, 0 at the pivots of the lines: a positive multiple of the row and multiples of
-/// the lines. The lines are taken in their order.
+/// Writes a primitive row over `reduced`, 0 at the pivots of the lines: a positive multiple of the
+/// row and multiples of the lines. The lines are taken in their order.
 pub(crate) fn reduce<L: Ledger>(
     alloc: Global,
     lines: &RowList,
     row: &[i128],
+    reduced: &mut [i128],
+    scratch: &mut [i128],
     steps: &mut Steps<L>,
-) -> Result<Vec<i128>, Fault>
+) -> Result<(), Fault>
     requires wide { length row.now ≡ lines.now.width }
+    requires buffers { (length reduced.old ≡ lines.now.width)
+        × (length scratch.old ≡ lines.now.width) }
     requires in_range { AllInRange row.now }
     requires echelon { IsEchelon (vectors lines.now.rows) [] }
     ensures counted { (steps.old ≤ steps.new) × (steps.new ≤ steps.old + length lines.now.rows) }
-    ensures reduced { MatchResult result (λ v. IsReduced (vectors lines.now.rows) row.now v.items)
+    ensures widths { (length reduced.new ≡ length reduced.old)
+        × (length scratch.new ≡ length scratch.old) }
+    ensures reduced { MatchResult result
+        (λ _. IsReduced (vectors lines.now.rows) row.now reduced.new)
         (IsReduceFault (vectors lines.now.rows) row.now) }
-    ensures in_range { IfOk result (λ v. AllInRange v.items) }
+    ensures in_range { AllInRange reduced.new }
 {
-    let width = lines.width();
-    let mut reduced = RowBuf::primitive(alloc, row)?.into_vec();
-    let mut scratch = zeros(alloc, width)?;
+    let _width = lines.width();
+    reduced.copy_from_slice(row);
+    make_primitive(reduced);
     for index in 0..lines.len() {
         let line = lines.row(index);
-        clear(
-            alloc,
-            &mut reduced,
-            &mut scratch,
-            line,
-            pivot_of(line),
-            steps,
-        )?;
+        clear(alloc, reduced, scratch, line, pivot_of(line), steps)?;
     }
-    Ok(reduced)
+    Ok(())
 }

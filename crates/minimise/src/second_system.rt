@@ -6,15 +6,16 @@ ghost use Rattle.cone_laws.specs.Members.{ConeOf};
 ghost use Rattle.row_core.specs.MarkedLists.{AreLists};
 ghost use Rattle.sat_matrix.specs.ZeroTables.{IsZeroTable};
 ghost use Rattle.minimise.specs.Faults.{IsLeftFault};
-ghost use Rattle.minimise.specs.Parts.{AreArranged, IsArranged};
+ghost use Rattle.minimise.specs.Parts.{rays_of, AreArranged, IsArranged};
 ghost use Rattle.minimise.specs.Simplified.{IsSimplified, IsDone, IsSystemOfValid};
 
-use crate::facets::full_rows;
+use crate::facets::full_places;
 use crate::fault::Fault;
 use crate::parts::{Parts, parts_of};
+use crate::rays::{PlacedRows, Rays};
 use crate::second_table::second_table;
 use ray_order::{descending_order, rays_at};
-use row_core::{Memory, RowBuf, RowList, Steps};
+use row_core::{LendRows, Memory, RowBuf, RowList, Steps};
 use sat_matrix::SatMatrix;
 use std::alloc::Global;
 use std::sync::ledger::Ledger;
@@ -39,37 +40,61 @@ pub enum Simplified {
     },
 }
 
-/// The rays of the parts in descending order, and the table of the second system.
-fn arranged_rays(
+/// The rays in descending order, and the table of the second system.
+fn arranged_rays<R: LendRows>(
     alloc: Global,
+    lines: usize,
+    table: &SatMatrix,
+    facets: &[usize],
+    rays: &R,
+) -> Result<(RowList, SatMatrix), Memory>
+    requires as_many { length facets.now ≡ length (R.list rays.now).rows }
+    requires within { All (λ p. p < length table.now.rows) facets.now }
+    ensures { IfOk result
+        (λ s. AreArranged lines table.now facets.now (R.list rays.now) s.0 s.1) }
+{
+    let order = descending_order(alloc, rays)?;
+    let sorted = rays_at(alloc, rays, &order)?;
+    let sat = second_table(alloc, lines, table, facets, &order)?;
+    Ok((sorted, sat))
+}
+
+/// The rays of the parts of the rows in descending order, and the table of the second system.
+fn sorted_rays(
+    alloc: Global,
+    rows: &RowList,
     lines: usize,
     table: &SatMatrix,
     parts: &Parts,
 ) -> Result<(RowList, SatMatrix), Memory>
-    requires as_many { length parts.now.facets.items ≡ length parts.now.reduced.rows }
+    requires as_many { length parts.now.facets.items ≡ length (rays_of rows.now parts.now).rows }
+    requires listed { All (λ p. p < length rows.now.rows) parts.now.facets.items }
     requires within { All (λ p. p < length table.now.rows) parts.now.facets.items }
-    ensures { IfOk result
-        (λ s. AreArranged lines table.now parts.now parts.now.equalities s.0 s.1) }
+    ensures { let unsorted = rays_of rows.now parts.now in IfOk result
+        (λ s. AreArranged lines table.now parts.now.facets.items unsorted s.0 s.1) }
 {
-    let order = descending_order(alloc, &parts.reduced)?;
-    let rays = rays_at(alloc, &parts.reduced, &order)?;
-    let sat = second_table(alloc, lines, table, &parts.facets, &order)?;
-    Ok((rays, sat))
+    let places: &[usize] = &parts.facets;
+    match &parts.rays {
+        Rays::Listed => { arranged_rays(alloc, lines, table, places, &PlacedRows { rows, places }) }
+        Rays::Reduced(rays) => arranged_rays(alloc, lines, table, places, rays),
+    }
 }
 
-/// The parts with the rays in descending order, and their table against as many lines and the rays
-/// of the first system.
+/// The parts of the rows with the rays in descending order, and their table against as many lines
+/// and the rays of the first system.
 fn arranged(
     alloc: Global,
+    rows: &RowList,
     lines: usize,
     table: &SatMatrix,
     parts: Parts,
 ) -> Result<Simplified, Memory>
-    requires as_many { length parts.facets.items ≡ length parts.reduced.rows }
+    requires as_many { length parts.facets.items ≡ length (rays_of rows.now parts).rows }
+    requires listed { All (λ p. p < length rows.now.rows) parts.facets.items }
     requires within { All (λ p. p < length table.now.rows) parts.facets.items }
-    ensures { IfOk result (IsArranged lines table.now parts) }
+    ensures { IfOk result (IsArranged lines rows.now table.now parts) }
 {
-    let (rays, sat) = arranged_rays(alloc, lines, table, &parts)?;
+    let (rays, sat) = sorted_rays(alloc, rows, lines, table, &parts)?;
     Ok(Simplified::Done {
         lines: parts.equalities,
         rays,
@@ -98,9 +123,9 @@ fn second_system<L: Ledger>(
     ensures counted { steps.new ≤ steps.old + 2 * (length rows.now.rows * rows.now.width) }
 {
     let table = sat.transpose()?;
-    let flat = full_rows(alloc, &table)?;
-    let parts = parts_of(alloc, rows, &table, &flat, steps)?;
-    Ok(arranged(alloc, lines.len(), &table, parts)?)
+    let (flat, others) = full_places(alloc, &table)?;
+    let parts = parts_of(alloc, rows, &table, &flat, &others, steps)?;
+    Ok(arranged(alloc, rows, lines.len(), &table, parts)?)
 }
 
 /// The canonical system of all rows that are valid on the cone of `rows`, from the canonical system

@@ -1,16 +1,20 @@
-use Rattle.std.specs.Prelude.{◌*◌, ◌<◌, ℕ, List, length, All}
-use Rattle.std.specs.List.{range_with_len}
+use Rattle.std.specs.Prelude.{◌*◌, ◌<◌, ℕ, List, length, map, All}
 use Rattle.std.proofs.Common.{arith, sym, ap, subst}
 use Rattle.std.proofs.lemmas.Result.{err_from_is_err_and}
-use Rattle.std.proofs.lemmas.List.FromFn.{length-range_with_len}
-use Rattle.flat_rows.specs.Flat.{marked}
-use Rattle.row_core.specs.Lists.{row_at, vectors, Pointwise}
-use Rattle.row_core.proofs.RowListLemmas.{length-vectors}
-use Rattle.minimise.specs.Bases.{IsReduced}
-use Rattle.minimise.proofs.FacetLemmas.{length-both}
+use Rattle.row_core.specs.Lists.{row_at, vectors}
 use Rattle.minimise.proofs.FaultCases.{list_fault_of_row}
+use Rattle.minimise.proofs.PlacedRows.{reduced_at, rays_wide_at}
+use Rattle.minimise.proofs.Splits.{full_within, others_uneven, split_size}
 use Rattle.minimise.proofs.Totals.{total_bound}
 use Rattle.minimise.proofs.parts.parts_of.Goals as goal
+
+pub basis-requires : goal.basis-requires
+basis-requires g c =
+    let within = full_within c.args.table.now.rows c.args.flat.now c.args.others.now c.requires.split in
+    record { within = λ k d h. omega (arith, within k d h, c.requires.as_many) }
+
+pub facets_of-requires : goal.facets_of-requires
+facets_of-requires g c = others_uneven c.args.table.now.rows c.args.flat.now c.args.others.now c.requires.split
 
 pub reduced_rows-requires-clause-within : goal.reduced_rows-requires-clause-within
 reduced_rows-requires-clause-within g c =
@@ -22,12 +26,9 @@ reduced_rows-requires-clause-echelon g c = c.in_ok-equalities.ensures.basis.eche
 
 pub returns-in_err-equalities-clause-counted : goal.returns-in_err-equalities-clause-counted
 returns-in_err-equalities-clause-counted g c =
-    let flat = c.args.flat.now in
-    let rows = c.args.rows.now.rows in
     let width = c.args.rows.now.width in
-    let range = range_with_len 0 (length flat) in
-    let both = length-both flat (vectors rows) range (omega (arith, c.requires.full.as_many, c.requires.as_many, length-vectors rows)) (sym (length-range_with_len 0 (length flat))) in
-    let most = total_bound (length (marked flat (vectors rows))) 0 width width (length rows) (omega arith) (omega (arith, both, length-vectors rows)) in
+    let both = split_size c.args.table.now.rows c.args.flat.now c.args.others.now c.requires.split in
+    let most = total_bound (length c.args.flat.now) 0 width width (length c.args.rows.now.rows) (omega arith) (omega (arith, both, c.requires.as_many)) in
     (omega (arith, c.basis.ensures.counted), omega (arith, c.basis.ensures.counted, most))
 
 pub returns-in_err-equalities-clause-parts : goal.returns-in_err-equalities-clause-parts
@@ -37,40 +38,31 @@ returns-in_err-equalities-clause-parts g c =
 
 pub returns-in_err-facets-clause-counted : goal.returns-in_err-facets-clause-counted
 returns-in_err-facets-clause-counted g c =
-    let flat = c.args.flat.now in
-    let rows = c.args.rows.now.rows in
     let width = c.args.rows.now.width in
-    let range = range_with_len 0 (length flat) in
-    let both = length-both flat (vectors rows) range (omega (arith, c.requires.full.as_many, c.requires.as_many, length-vectors rows)) (sym (length-range_with_len 0 (length flat))) in
-    let most = total_bound (length (marked flat (vectors rows))) 0 width width (length rows) (omega arith) (omega (arith, both, length-vectors rows)) in
+    let both = split_size c.args.table.now.rows c.args.flat.now c.args.others.now c.requires.split in
+    let most = total_bound (length c.args.flat.now) 0 width width (length c.args.rows.now.rows) (omega arith) (omega (arith, both, c.requires.as_many)) in
     (omega (arith, c.basis.ensures.counted), omega (arith, c.basis.ensures.counted, most))
 
-pub returns-in_err-reduced-clause-counted : goal.returns-in_err-reduced-clause-counted
-returns-in_err-reduced-clause-counted g c =
-    let flat = c.args.flat.now in
-    let rows = c.args.rows.now.rows in
+pub returns-in_err-rays-clause-counted : goal.returns-in_err-rays-clause-counted
+returns-in_err-rays-clause-counted g c =
     let width = c.args.rows.now.width in
-    let range = range_with_len 0 (length flat) in
     let kept = c.in_ok-facets.facets.items in
-    let both = length-both flat (vectors rows) range (omega (arith, c.requires.full.as_many, c.requires.as_many, length-vectors rows)) (sym (length-range_with_len 0 (length flat))) in
-    let most = total_bound (length (marked flat (vectors rows))) (length kept) width width (length rows) (omega arith) (omega (arith, both, length-vectors rows, c.in_ok-facets.ensures.fewer)) in
+    let both = split_size c.args.table.now.rows c.args.flat.now c.args.others.now c.requires.split in
+    let most = total_bound (length c.args.flat.now) (length kept) width width (length c.args.rows.now.rows) (omega arith) (omega (arith, both, c.requires.as_many, c.in_ok-facets.ensures.fewer)) in
     let size = ap (λ (is : List ℕ). length is * c.args.rows.now.width) c.deref.ensures.value in
     (omega (arith, c.basis.ensures.counted, c.reduced_rows.ensures.counted), omega (arith, c.basis.ensures.counted, c.reduced_rows.ensures.counted, size, most))
 
-pub returns-in_err-reduced-clause-parts : goal.returns-in_err-reduced-clause-parts
-returns-in_err-reduced-clause-parts g c =
-    let p = err_from_is_err_and c.from_residual-in_err-reduced.result c.from_residual-in_err-reduced.ensures.1 in
-    rw (p.1, p.2) (list_fault_of_row c.args.rows.now.rows (marked c.args.flat.now (vectors c.args.rows.now.rows)) (vectors c.in_ok-equalities.equalities.rows) _ c.in_ok-equalities.ensures.basis c.in_err-reduced.ensures.reduced)
+pub returns-in_err-rays-clause-parts : goal.returns-in_err-rays-clause-parts
+returns-in_err-rays-clause-parts g c =
+    let p = err_from_is_err_and c.from_residual-in_err-rays.result c.from_residual-in_err-rays.ensures.1 in
+    rw (p.1, p.2) (list_fault_of_row c.args.rows.now.rows (map (row_at c.args.rows.now.rows) c.args.flat.now) (vectors c.in_ok-equalities.equalities.rows) _ c.in_ok-equalities.ensures.basis c.in_err-rays.ensures.reduced)
 
 pub returns-clause-counted : goal.returns-clause-counted
 returns-clause-counted g c =
-    let flat = c.args.flat.now in
-    let rows = c.args.rows.now.rows in
     let width = c.args.rows.now.width in
-    let range = range_with_len 0 (length flat) in
     let kept = c.in_ok-facets.facets.items in
-    let both = length-both flat (vectors rows) range (omega (arith, c.requires.full.as_many, c.requires.as_many, length-vectors rows)) (sym (length-range_with_len 0 (length flat))) in
-    let most = total_bound (length (marked flat (vectors rows))) (length kept) width width (length rows) (omega arith) (omega (arith, both, length-vectors rows, c.in_ok-facets.ensures.fewer)) in
+    let both = split_size c.args.table.now.rows c.args.flat.now c.args.others.now c.requires.split in
+    let most = total_bound (length c.args.flat.now) (length kept) width width (length c.args.rows.now.rows) (omega arith) (omega (arith, both, c.requires.as_many, c.in_ok-facets.ensures.fewer)) in
     let size = ap (λ (is : List ℕ). length is * c.args.rows.now.width) c.deref.ensures.value in
     (omega (arith, c.basis.ensures.counted, c.reduced_rows.ensures.counted), omega (arith, c.basis.ensures.counted, c.reduced_rows.ensures.counted, size, most))
 
@@ -82,6 +74,6 @@ returns-clause-parts g c = record {
   equalities_width = c.in_ok-equalities.ensures.list.0;
   equalities_marked = c.in_ok-equalities.ensures.list.1;
   greatest = c.in_ok-facets.ensures.greatest;
-  made = subst (λ (is : List ℕ). Pointwise (λ i r. IsReduced (vectors c.in_ok-equalities.equalities.rows) (row_at c.args.rows.now.rows i) r) is (vectors c.in_ok-reduced.reduced.rows)) c.deref.ensures.value c.in_ok-reduced.ensures.reduced;
-  reduced_width = c.in_ok-reduced.ensures.list.0;
+  made = reduced_at c.args.rows.now (vectors c.in_ok-equalities.equalities.rows) c.deref.result.now c.in_ok-facets.facets.items c.in_ok-rays.rays c.deref.ensures.value c.in_ok-rays.ensures.reduced;
+  rays_width = rays_wide_at c.args.rows.now c.deref.result.now c.in_ok-facets.facets.items c.in_ok-rays.rays c.deref.ensures.value c.in_ok-rays.ensures.width;
 }
