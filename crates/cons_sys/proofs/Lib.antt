@@ -1,3 +1,4 @@
 pub mod Signs
 pub mod SystemLemmas
+pub mod RowLemmas
 pub mod AnswerLemmas

@@ -1,11 +1,12 @@
-use Rattle.std.specs.Prelude.{◌≡◌, ℕ, ◌+◌, ◌-◌, ◌^◌, ◌<◌, List, [], ◌∷◌, ◌++◌, length, ℤ, All, slice_index_or}
+use Rattle.std.specs.Prelude.{◌≡◌, ℕ, ◌+◌, ◌-◌, ◌^◌, ◌<◌, true, false, List, [], ◌∷◌, ◌++◌, length, ℤ, All, slice_index_or}
 use Rattle.row_core.specs.Vectors.{dot}
 use Rattle.row_core.specs.Range.{AllInRange}
 use Rattle.row_core.specs.Content.{IsPrimitive, IsPrimitiveOf}
+use Rattle.row_core.specs.Lists.{Row}
 use Rattle.row_core.specs.Points.{IsSamePoint}
 use Rattle.cons_sys.specs.Kinds.{Allows}
 use Rattle.cons_sys.specs.declared.kind.ConKind.{ConKind}
-use Rattle.cons_sys.specs.declared.kind.ConKind.TheVariants.{Eq}
+use Rattle.cons_sys.specs.declared.kind.ConKind.TheVariants.{Eq, Ge}
 
 -- the row `(a1, .., an, b)` and what is asked of `a1*x1 + .. + an*xn + b*d`
 abbrev pub Constraint : Type 0
@@ -44,6 +45,11 @@ pub record Gains (old new : List Constraint) (row : List ℤ) (kind : ConKind) :
   pub stored : List ℤ
   pub primitive : IsPrimitiveOf row stored
   pub list : new ≡ old ++ (stored, kind) ∷ []
+
+-- the constraint of a row: that its value is 0 where it is marked as an equality, and else that it is at least 0
+abbrev pub constraint_of : Row → Constraint
+constraint_of (row, true) = (row, Eq)
+constraint_of (row, false) = (row, Ge)
 
 -- the constraint holds at the vector
 abbrev pub Satisfies : List ℤ → Constraint → Type 0

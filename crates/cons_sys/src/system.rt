@@ -1,16 +1,19 @@
 //! A list of constraints over one dimension.
-ghost use Rattle.std.specs.Prelude.{◌≡◌, ◌+◌, ◌-◌, ◌^◌, ◌<◌, ◌==◌, ◌↔◌, [], ◌∷◌, ◌++◌, length, MatchResult, IfOk, IsTrue, Err, Contains};
+ghost use Rattle.std.specs.Prelude.{◌≡◌, ◌+◌, ◌-◌, ◌^◌, ◌<◌, ◌==◌, ◌↔◌, List, [], ◌∷◌, ◌++◌};
+ghost use Rattle.std.specs.Prelude.{length, map, ℤ, All, MatchResult, IfOk, IsTrue, Err, Contains};
 ghost use Rattle.row_core.specs.Range.{AllInRange};
 ghost use Rattle.row_core.specs.Narrow.{AreNarrow};
 ghost use Rattle.row_core.specs.Content.{IsPrimitive};
+ghost use Rattle.row_core.specs.Lists.{vectors};
 ghost use Rattle.row_core.specs.Points.{IsPoint};
 ghost use Rattle.row_core.specs.declared.PairOver.{PairOver};
-ghost use Rattle.cons_sys.specs.Constraints.{Constraints, FitDimension, Gains, In, constraint_at, row_at, kind_at};
+ghost use Rattle.cons_sys.specs.Constraints.{Constraints, FitDimension, Gains, In};
+ghost use Rattle.cons_sys.specs.Constraints.{constraint_of, constraint_at, row_at, kind_at};
 ghost use Rattle.cons_sys.specs.declared.kind.ConKind.{ConKind};
 ghost use Rattle.cons_sys.specs.Testing.{Answers, AnswersAt, LeavesRange};
 
 use crate::kind::ConKind;
-use row_core::{MarkedRows, Memory, OverKind, PairOver, RowBuf, dot};
+use row_core::{MarkedRows, Memory, OverKind, PairOver, RowBuf, RowList, dot};
 use std::alloc::{AllocError, Global};
 use std::marker::Model;
 
@@ -69,8 +72,26 @@ impl ConsSys {
         Ok(ConsSys { alloc, dim, rows })
     }
 
-    /// Appends a copy of the constraint, its row made primitive. After want of memory the list is
-    /// as before.
+    /// The constraints over `dim` variables of rows that are primitive already: equalities where
+    /// they are marked so, and else that the value is at least 0. The rows are taken over without a
+    /// copy.
+    pub fn of_rows(alloc: Global, dim: usize, rows: RowList) -> Result<ConsSys, Memory>
+        requires narrow { dim < 2 ^ 32 - 2 }
+        requires wide { rows.width ≡ dim + 1 }
+        requires primitive { All IsPrimitive (vectors rows.rows) }
+        ensures dim { IfOk result (λ system. system.dim ≡ dim) }
+        ensures list { IfOk result (λ system. system.list ≡ map constraint_of rows.rows) }
+    {
+        let mut kinds = Vec::with_capacity(alloc, rows.len())?;
+        for index in 0..rows.len() {
+            kinds.push_reserved(kind_of(rows.is_eq(index)));
+        }
+        let rows = rows.into_marked().with_marks(kinds);
+        Ok(ConsSys { alloc, dim, rows })
+    }
+
+    /// Appends a copy of the constraint, its row made primitive. Out of memory, the list is as
+    /// before.
     pub fn push(&mut self, row: &[i128], kind: ConKind) -> Result<(), Memory>
         requires wide { length row.now ≡ self.old.dim + 1 }
         requires in_range { AllInRange row.now }
@@ -82,8 +103,8 @@ impl ConsSys {
         Ok(())
     }
 
-    /// Appends a copy of a constraint whose row is primitive already. After want of memory the list
-    /// is as before.
+    /// Appends a copy of a constraint whose row is primitive already. Out of memory, the list is as
+    /// before.
     pub fn push_primitive(&mut self, row: &[i128], kind: ConKind) -> Result<(), Memory>
         requires wide { length row.now ≡ self.old.dim + 1 }
         requires in_range { AllInRange row.now }
@@ -98,7 +119,7 @@ impl ConsSys {
     }
 
     /// Appends the constraint, its row made primitive; that of the first one is taken over without
-    /// a copy. After want of memory the list is as before, and the row is dropped.
+    /// a copy. Out of memory, the list is as before, and the row is dropped.
     pub fn push_row(&mut self, row: RowBuf, kind: ConKind) -> Result<(), Memory>
         requires { length row ≡ self.old.dim + 1 }
         ensures dim { self.new.dim ≡ self.old.dim }
@@ -285,4 +306,11 @@ impl<'a> IntoIterator for &'a ConsSys {
     fn into_iter(self) -> Iter<'a> {
         self.iter()
     }
+}
+
+/// The kind of a row that is marked as an equality, or isn't.
+fn kind_of(eq: bool) -> ConKind
+    ensures { (row : List ℤ) → constraint_of (row, eq) ≡ (row, result) }
+{
+    if eq { ConKind::Eq } else { ConKind::Ge }
 }

@@ -47,7 +47,7 @@ pub(crate) fn generators_alone<L: Ledger>(
 {
     let made = {
         let system = constraint_system(alloc, cons, steps)?;
-        generators_of_system(alloc, cons, &system)
+        generators_of_system(alloc, cons, system)
     };
     Ok(made?)
 }
@@ -79,26 +79,36 @@ pub(crate) fn constraints_alone<L: Ledger>(
     let made = {
         let dim = gens.dim();
         let system = generator_system(alloc, gens, steps)?;
-        stored_constraints(alloc, dim, &system.lines, &system.rays)
+        let Cone {
+            lines,
+            rays,
+            sat: _,
+        } = system;
+        stored_constraints(alloc, dim, lines, rays)
     };
     Ok(made?)
 }
 
 /// The generators that the closed polyhedron of the constraints stores, from the canonical system
 /// of their list.
-fn generators_of_system(alloc: Global, cons: &ConsSys, system: &Cone) -> Result<GensSys, Memory>
+fn generators_of_system(alloc: Global, cons: &ConsSys, system: Cone) -> Result<GensSys, Memory>
     requires narrow { cons.now.dim ≤ MAX_DIM }
     requires closed { AreClosed cons.now }
-    requires lists { AreLists (cons.now.dim + 1) system.now.lines system.now.rays }
+    requires lists { AreLists (cons.now.dim + 1) system.lines system.rays }
     requires canon { Canon (ConeOf (cons.now.dim + 1) (constraint_list cons.now))
-        (vectors system.now.lines.rows) (vectors system.now.rays.rows) }
+        (vectors system.lines.rows) (vectors system.rays.rows) }
     ensures { IfOk result (AreStoredGenerators cons.now) }
 {
     let dim = cons.dim();
     if !has_point(dim, &system.rays) {
         return Ok(GensSys::new(alloc, dim));
     }
-    stored_generators(alloc, dim, &system.lines, &system.rays)
+    let Cone {
+        lines,
+        rays,
+        sat: _,
+    } = system;
+    stored_generators(alloc, dim, lines, rays)
 }
 
 /// The canonical system of the constraint list of a closed polyhedron.

@@ -1,3 +1,4 @@
 pub mod SystemLemmas
+pub mod RowLemmas
 pub mod MultipleLemmas
 pub mod SpanLemmas

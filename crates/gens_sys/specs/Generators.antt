@@ -1,10 +1,11 @@
-use Rattle.std.specs.Prelude.{◌≡◌, ℕ, ◌+◌, ◌-◌, ◌^◌, ◌<◌, List, [], ◌∷◌, ◌++◌, length, map, ℤ, All, slice_index_or}
+use Rattle.std.specs.Prelude.{◌≡◌, ℕ, zero, true, false, pos, ◌+◌, ◌-◌, ◌^◌, ◌<◌, List, [], ◌∷◌, ◌++◌, length, map, ℤ, All, slice_index_or}
 use Rattle.row_core.specs.Vectors.{cell}
 use Rattle.row_core.specs.Range.{AllInRange}
+use Rattle.row_core.specs.Lists.{Row}
 use Rattle.row_core.specs.Content.{IsPrimitive, IsPrimitiveOf}
 use Rattle.gens_sys.specs.Kinds.{HasBadDivisor, IsZeroDirection}
 use Rattle.gens_sys.specs.declared.kind.GenKind.{GenKind}
-use Rattle.gens_sys.specs.declared.kind.GenKind.TheVariants.{Line}
+use Rattle.gens_sys.specs.declared.kind.GenKind.TheVariants.{Line, Ray, Point}
 
 -- the vector `(x1, .., xn, d)`, with its kind
 abbrev pub Generator : Type 0
@@ -38,6 +39,16 @@ pub record IsGenerator (dim : ℕ) (g : Generator) : Type 0 where
   pub primitive : IsPrimitive g.0
   pub divisor : ¬ (HasBadDivisor g.1 (cell g.0 dim))
   pub nonzero : ¬ (IsZeroDirection g.1 g.0)
+
+-- the kind of a ray of a cone with the last entry: a ray, or a point of the set
+abbrev pub vector_kind : ℤ → GenKind
+vector_kind (pos zero) = Ray
+vector_kind d = Point
+
+-- the generator of a row: a line where it is marked so, and else a ray or a point by its last entry
+abbrev pub generator_of : ℕ → Row → Generator
+generator_of dim (row, true) = (row, Line)
+generator_of dim (row, false) = (row, vector_kind (cell row dim))
 
 -- each vector fits the dimension and its kind, and a u32 names each column
 pub record FitDimension (gs : Generators) : Type 0 where

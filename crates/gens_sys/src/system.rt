@@ -1,15 +1,17 @@
 //! A list of generators over one dimension.
-ghost use Rattle.std.specs.Prelude.{◌≡◌, ◌+◌, ◌-◌, ◌^◌, ◌<◌, ◌==◌, ◌↔◌, [], ◌∷◌, ◌++◌, length, MatchResult, IfOk, IsTrue, Err};
+ghost use Rattle.std.specs.Prelude.{◌≡◌, ℕ, ◌+◌, ◌-◌, ◌^◌, ◌<◌, ◌==◌, ◌↔◌, List, [], ◌∷◌, ◌++◌};
+ghost use Rattle.std.specs.Prelude.{length, map, ℤ, All, MatchResult, IfOk, IsTrue, Err};
 ghost use Rattle.row_core.specs.Vectors.{cell};
 ghost use Rattle.row_core.specs.Range.{AllInRange};
 ghost use Rattle.row_core.specs.Narrow.{AreNarrow};
 ghost use Rattle.gens_sys.specs.Kinds.{HasBadDivisor, IsZeroDirection};
-ghost use Rattle.gens_sys.specs.Generators.{Generators, IsGenerator, FitDimension, Gains, generator_at, row_at, kind_at};
+ghost use Rattle.gens_sys.specs.Generators.{Generators, IsGenerator, FitDimension, Gains};
+ghost use Rattle.gens_sys.specs.Generators.{generator_of, generator_at, row_at, kind_at};
 ghost use Rattle.gens_sys.specs.declared.kind.GenKind.{GenKind};
 ghost use Rattle.gens_sys.specs.Refusals.{Refusal};
 
 use crate::kind::{GenKind, GenPushErr};
-use row_core::{MarkedRows, Memory, RowBuf};
+use row_core::{MarkedRows, Memory, RowBuf, RowList};
 use std::alloc::{AllocError, Global};
 use std::marker::Model;
 
@@ -68,6 +70,24 @@ impl GensSys {
         Ok(GensSys { alloc, dim, rows })
     }
 
+    /// The generators over `dim` variables of rows that are primitive already and fit their kinds:
+    /// lines where they are marked so, and else rays and points by their last entries. The rows are
+    /// taken over without a copy.
+    pub fn of_rows(alloc: Global, dim: usize, rows: RowList) -> Result<GensSys, Memory>
+        requires narrow { dim < 2 ^ 32 - 2 }
+        requires wide { rows.width ≡ dim + 1 }
+        requires generators { All (λ row. IsGenerator dim (generator_of dim row)) rows.rows }
+        ensures dim { IfOk result (λ system. system.dim ≡ dim) }
+        ensures list { IfOk result (λ system. system.list ≡ map (generator_of dim) rows.rows) }
+    {
+        let mut kinds = Vec::with_capacity(alloc, rows.len())?;
+        for index in 0..rows.len() {
+            kinds.push_reserved(kind_of(rows.is_eq(index), rows.row(index)[dim]));
+        }
+        let rows = rows.into_marked().with_marks(kinds);
+        Ok(GensSys { alloc, dim, rows })
+    }
+
     /// Appends a copy of the vector, made primitive.
     ///
     /// # Errors
@@ -90,8 +110,8 @@ impl GensSys {
         Ok(())
     }
 
-    /// Appends a copy of a vector that is primitive already and fits its kind. After want of memory
-    /// the list is as before.
+    /// Appends a copy of a vector that is primitive already and fits its kind. Out of memory, the
+    /// list is as before.
     pub fn push_primitive(&mut self, row: &[i128], kind: GenKind) -> Result<(), Memory>
         requires { IsGenerator self.old.dim (row.now, kind) }
         ensures dim { self.new.dim ≡ self.old.dim }
@@ -263,5 +283,19 @@ impl<'a> IntoIterator for &'a GensSys {
 
     fn into_iter(self) -> Iter<'a> {
         self.iter()
+    }
+}
+
+/// The kind of a row that is marked as a line, or isn't, with the last entry.
+fn kind_of(line: bool, divisor: i128) -> GenKind
+    ensures { (dim : ℕ) (row : List ℤ) → cell row dim ≡ divisor →
+        generator_of dim (row, line) ≡ (row, result) }
+{
+    if line {
+        GenKind::Line
+    } else if divisor == 0 {
+        GenKind::Ray
+    } else {
+        GenKind::Point
     }
 }

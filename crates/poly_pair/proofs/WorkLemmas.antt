@@ -19,7 +19,7 @@ use Rattle.chernikova.specs.Conversion.{ConvertsRows, ConvertsFrom}
 use Rattle.chernikova.proofs.Counts.{counted_start_from}
 use Rattle.poly_pair.specs.Starts.{CanStart}
 use Rattle.poly_pair.specs.Refusals.{as_gen_err, IsOverflowOn, IsCountedBeforeOnFrom, IsGenOverflowOn}
-use Rattle.poly_pair.specs.Work.{Work, rows_work, cons_work, begun_cons, known_rows, added_cons, added_gens, conv_overflow, gen_overflow, IsConversion, IsFirstConversion, IsSecondListConversion, IsPairConversion, IsPairOrList, Converts, ConvertsPair, GenConverts, ConvertsFirst, ConvertsSecondList}
+use Rattle.poly_pair.specs.Work.{Work, rows_work, cons_work, begun_cons, known_rows, added_cons, added_gens, conv_overflow, gen_overflow, IsConversion, IsFirstConversion, IsSecondListConversion, IsPairConversion, Converts, ConvertsPair, GenConverts, ConvertsFirst, ConvertsSecondList}
 use Rattle.poly_pair.proofs.CountLemmas.{after_none, after_simplified, after_left, counted_first, counted_both, none_between}
 use Rattle.poly_pair.proofs.Additions.{moved, from_none, closed_fewer, closed_generators_fewer}
 
@@ -201,7 +201,3 @@ pub pair_fewer : {T : Type 0} (cs : Constraints) (old new : ℕ) (r : Result (Op
 pair_fewer cs old new (Ok None) h = h.conversion.no_fewer
 pair_fewer cs old new (Ok (Some x)) h = h.no_fewer
 pair_fewer cs old new (Err e) h = h.no_fewer
-
-pub tried_fewer : (cs : Constraints) (work : Work) (old new : ℕ) (over : Option Overflow) → IsPairOrList cs work old new over → old ≤ new
-tried_fewer cs work old new over (inl h) = h.1.no_fewer
-tried_fewer cs work old new over (inr h) = omega (arith, h.given_up.conversion.no_fewer, h.conversion.no_fewer)

@@ -1,4 +1,4 @@
-use Rattle.std.specs.Prelude.{◌≡◌, ◌⊎◌, ℕ, ◌+◌, ◌-◌, ◌≤◌, List, [], ◌∷◌, length, Option, Some, None, Result, Ok, Err, IfSome}
+use Rattle.std.specs.Prelude.{ℕ, ◌+◌, ◌-◌, ◌≤◌, List, [], ◌∷◌, length, Option, Some, None, Result, Ok, Err, IfSome}
 use Rattle.row_core.specs.Lists.{Row}
 use Rattle.row_core.specs.declared.errors.Overflow.{Overflow}
 use Rattle.row_core.specs.declared.errors.ConvErr.{ConvErr}
@@ -154,15 +154,3 @@ abbrev pub ConvertsPair : {T : Type 0} → Constraints → ℕ → ℕ → Resul
 ConvertsPair cs old new (Ok None) = IsPairGivenUp cs old new
 ConvertsPair cs old new (Ok (Some x)) = IsPairConversion cs old new None
 ConvertsPair cs old new (Err e) = IsPairConversion cs old new None
-
--- and then a list was converted
-pub record IsPairThenList (cs : Constraints) (work : Work) (old new : ℕ)
-    (over : Option Overflow) : Type 0 where
-  pub between : ℕ
-  pub given_up : IsPairGivenUp cs old between
-  pub conversion : IsConversion work between new over
-
--- a list is converted only where the pair was given up
-abbrev pub IsPairOrList : Constraints → Work → ℕ → ℕ → Option Overflow → Type 0
-IsPairOrList cs work old new over =
-    ((over ≡ None) × IsPairConversion cs old new None) ⊎ IsPairThenList cs work old new over

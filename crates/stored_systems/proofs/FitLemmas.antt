@@ -1,19 +1,18 @@
 -- Generators of a dual pair fit their kinds.
-use Rattle.std.proofs.Common.{◌≡◌, refl, ◌∙◌, ◌∷◌, map, ℕ, zero, suc, ◌+◌, ◌<◌, List, [], length, ℤ, pos, ◌<ℤ◌, sym, subst, arith, All}
+use Rattle.std.proofs.Common.{◌≡◌, refl, ◌∷◌, map, ℕ, zero, suc, ◌+◌, List, [], length, ℤ, pos, ◌<ℤ◌, arith, All}
 use Rattle.std.proofs.lemmas.Int.{ints}
 use Rattle.std.proofs.lemmas.List.Elements.{All-from_get_or, All-get_or, All-head, All-tail}
 use Rattle.row_core.specs.Vectors.{cell}
-use Rattle.row_core.specs.Lists.{Row, row_at, vectors, system_rows}
+use Rattle.row_core.specs.Lists.{system_rows}
 use Rattle.cone_laws.specs.Canon.{vector_at, IsSystem}
 use Rattle.cone_laws.proofs.FaceLists.{rays_not_zero}
-use Rattle.row_core.proofs.RowListLemmas.{length-vectors, vector_at-vectors}
 use Rattle.gens_sys.specs.declared.kind.GenKind.{GenKind}
 use Rattle.gens_sys.specs.declared.kind.GenKind.TheVariants.{Line, Ray, Point, ClosurePoint}
 use Rattle.gens_sys.specs.Kinds.{IsZeroDirection}
-use Rattle.gens_sys.specs.Generators.{Generator}
+use Rattle.gens_sys.specs.Generators.{Generator, vector_kind}
 use Rattle.cone_laws.specs.Members.{ConeOf}
 use Rattle.stored_systems.specs.PointSets.{IsClosedGen}
-use Rattle.stored_systems.specs.StoredForms.{vector_kind, AreClosedSystems}
+use Rattle.stored_systems.specs.StoredForms.{AreClosedSystems}
 use Rattle.stored_systems.proofs.ListLemmas.{All-map_first, All-map_rest, All-unmap}
 use Rattle.stored_systems.proofs.StoredPair.{gens_closed}
 use Rattle.stored_systems.specs.Entries.{FitsKind}
@@ -60,9 +59,3 @@ module _ (dim : ℕ) (lines rays equalities inequalities : List (List ℤ)) (pai
     divisor = (All-get_or (λ r. IsClosedGen dim (r, vector_kind (cell r dim))) rays i [] h rays_closed).divisor;
     nonzero = λ z. rays_not_zero lines rays i system.irredundant h (zero_cells (vector_kind (cell (vector_at rays i) dim)) (vector_at rays i) z);
   })
-
-pub line_fits : (m n : ℕ) (rows : List Row) (i : ℕ) (v : List ℤ) → m ≡ n → i < length rows → All (λ l. FitsKind n (l, Line)) (vectors rows) → v ≡ row_at rows i → FitsKind m (v, Line)
-line_fits m n rows i v e h all is = subst (λ (k : ℕ). FitsKind k (v, Line)) (sym e) (subst (λ (w : List ℤ). FitsKind n (w, Line)) (sym (is ∙ sym (vector_at-vectors rows i))) (All-get_or (λ l. FitsKind n (l, Line)) (vectors rows) i [] (omega (arith, h, length-vectors rows)) all))
-
-pub ray_fits : (m n : ℕ) (rows : List Row) (i : ℕ) (v : List ℤ) → m ≡ n → i < length rows → All (λ r. FitsKind n (r, vector_kind (cell r n))) (vectors rows) → v ≡ row_at rows i → FitsKind m (v, vector_kind (cell v m))
-ray_fits m n rows i v e h all is = subst (λ (k : ℕ). FitsKind k (v, vector_kind (cell v k))) (sym e) (subst (λ (w : List ℤ). FitsKind n (w, vector_kind (cell w n))) (sym (is ∙ sym (vector_at-vectors rows i))) (All-get_or (λ r. FitsKind n (r, vector_kind (cell r n))) (vectors rows) i [] (omega (arith, h, length-vectors rows)) all))

@@ -19,13 +19,13 @@ use Rattle.cone_laws.proofs.Bipolar.{admitted_is_spanned, spanned_is_admitted}
 use Rattle.cons_sys.specs.declared.kind.ConKind.TheVariants.{Eq, Ge}
 use Rattle.cons_sys.specs.Constraints.{Constraint, Constraints, Satisfies, In}
 use Rattle.gens_sys.specs.declared.kind.GenKind.TheVariants.{Line}
-use Rattle.gens_sys.specs.Generators.{Generator, Generators}
+use Rattle.gens_sys.specs.Generators.{Generator, Generators, vector_kind}
 use Rattle.gens_sys.specs.Spans.{Span}
 use Rattle.cone_laws.specs.Members.{ConeOf}
 use Rattle.cone_laws.proofs.SystemLists.{lines_of-system_rows, rays_of-system_rows}
 use Rattle.stored_systems.specs.WorkLists.{divisor_row, constraint_row, constraint_list, generator_row, generator_list}
 use Rattle.stored_systems.specs.PointSets.{IsClosedKind, AreClosed, IsWithin}
-use Rattle.stored_systems.specs.StoredForms.{is_divisor_row, vector_kind, stored_constraints, stored_generators, AreClosedSystems}
+use Rattle.stored_systems.specs.StoredForms.{is_divisor_row, stored_constraints, stored_generators, AreClosedSystems}
 use Rattle.stored_systems.specs.StoredLaws.{AreIrredundantConstraints, AreIrredundantGenerators}
 use Rattle.stored_systems.proofs.DivisorRow.{length-divisor, cell-divisor_last, divisor_primitive, kept_other}
 use Rattle.stored_systems.proofs.Directions.{above_everywhere}

@@ -16,6 +16,7 @@ pub mod Touching
 pub mod PairedSystems
 pub mod RowLemmas
 pub mod FitLemmas
+pub mod TakenRows
 pub mod ZeroTables
 pub mod UniverseLemmas
 pub mod Divisors

@@ -14,7 +14,7 @@ use Rattle.cons_sys.specs.declared.kind.ConKind.TheVariants.{Eq, Ge}
 use Rattle.cons_sys.specs.Constraints.{Constraint, Constraints, Satisfies, In}
 use Rattle.gens_sys.specs.Kinds.{HasBadDivisor}
 use Rattle.gens_sys.specs.declared.kind.GenKind.TheVariants.{Line}
-use Rattle.gens_sys.specs.Generators.{Generators}
+use Rattle.gens_sys.specs.Generators.{Generators, vector_kind}
 use Rattle.gens_sys.specs.Spans.{Span}
 use Rattle.cone_laws.specs.Members.{ConeOf}
 use Rattle.cone_laws.proofs.SystemLists.{lines_of-system_rows, rays_of-system_rows, zero_on_lines, least_on_rays, cone_of_row}
@@ -23,7 +23,7 @@ use Rattle.cone_laws.proofs.ValidRows.{valid_of_row, row_of_valid}
 use Rattle.stored_systems.specs.WorkLists.{divisor_row, constraint_row, constraint_list, generator_row}
 use Rattle.gens_sys.specs.Kinds.{is_line}
 use Rattle.stored_systems.specs.PointSets.{IsClosedKind, AreClosed, AreWide, IsClosedGenKind, IsClosedGen, AreClosedGens, IsWithin, IsValid, IsInCone, HoldSame}
-use Rattle.stored_systems.specs.StoredForms.{is_divisor_row, vector_kind, stored_constraints, stored_generators, AreClosedSystems}
+use Rattle.stored_systems.specs.StoredForms.{is_divisor_row, stored_constraints, stored_generators, AreClosedSystems}
 use Rattle.stored_systems.specs.StoredLaws.{IsPair, IsCanonicalPair}
 use Rattle.stored_systems.proofs.ListLemmas.{All-map_first, All-map_rest, All-unmap}
 use Rattle.stored_systems.proofs.DivisorRow.{dot_divisor, all_from_kept}

@@ -11,12 +11,12 @@ use Rattle.cone_laws.proofs.Columns.{dot_comm}
 use Rattle.cons_sys.specs.declared.kind.ConKind.TheVariants.{Eq, Ge}
 use Rattle.cons_sys.specs.Constraints.{Constraint, Constraints}
 use Rattle.gens_sys.specs.declared.kind.GenKind.TheVariants.{Line, Point}
-use Rattle.gens_sys.specs.Generators.{Generator, Generators, generator_at}
+use Rattle.gens_sys.specs.Generators.{Generator, Generators, generator_at, vector_kind}
 use Rattle.cone_laws.specs.ExtremeRays.{Touches}
 use Rattle.cone_laws.proofs.ExtremeRays.{ray_touches}
 use Rattle.cone_laws.proofs.LikeRays.{like_ray_is_same}
 use Rattle.stored_systems.specs.WorkLists.{divisor_row, generator_row}
-use Rattle.stored_systems.specs.StoredForms.{is_divisor_row, vector_kind, stored_constraints, stored_generators, AreClosedSystems}
+use Rattle.stored_systems.specs.StoredForms.{is_divisor_row, stored_constraints, stored_generators, AreClosedSystems}
 use Rattle.stored_systems.specs.StoredLaws.{TouchesPoint, StoredInequalitiesTouch}
 use Rattle.stored_systems.proofs.DivisorRow.{dot_divisor, length-divisor, cell-divisor_last, divisor_primitive, kept_other}
 use Rattle.stored_systems.proofs.StoredPair.{all_plain, kept_rows, gen_list_stored, lines_flat}

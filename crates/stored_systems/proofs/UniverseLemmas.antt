@@ -14,12 +14,12 @@ use Rattle.cone_laws.proofs.EchelonForm.{primitive_from_one}
 use Rattle.cons_sys.specs.Constraints.{Constraints}
 use Rattle.cons_sys.specs.declared.kind.ConKind.TheVariants.{Ge}
 use Rattle.gens_sys.specs.declared.kind.GenKind.TheVariants.{Line, Point}
-use Rattle.gens_sys.specs.Generators.{Generator, Generators}
+use Rattle.gens_sys.specs.Generators.{Generator, Generators, vector_kind}
 use Rattle.cone_laws.specs.Members.{ConeOf}
 use Rattle.row_core.specs.Lists.{system_rows}
 use Rattle.cone_laws.proofs.MemberLemmas.{cone_from, cone_meets}
 use Rattle.stored_systems.specs.WorkLists.{divisor_row}
-use Rattle.stored_systems.specs.StoredForms.{stored_constraints, stored_generators, vector_kind, AreClosedSystems, IsStored}
+use Rattle.stored_systems.specs.StoredForms.{stored_constraints, stored_generators, AreClosedSystems, IsStored}
 use Rattle.stored_systems.proofs.ListLemmas.{All-map_first, All-map_rest}
 use Rattle.stored_systems.proofs.DivisorRow.{dot_divisor, length-divisor, cell-divisor_last, cell-divisor_other, divisor_primitive, is_divisor}
 use Rattle.stored_systems.specs.Entries.{FitsKind}

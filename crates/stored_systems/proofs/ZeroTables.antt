@@ -212,6 +212,11 @@ vectors-system_rows [] [] = refl
 vectors-system_rows [] (r ∷ rays) = ap (λ vs. r ∷ vs) (vectors-system_rows [] rays)
 vectors-system_rows (l ∷ lines) rays = ap (λ vs. l ∷ vs) (vectors-system_rows lines rays)
 
+-- where there is no line
+pub zeros_alone : (list : List Row) (first rest : List (List ℤ)) (sat turned : Table) → length first ≡ 0 → IsZeroTable list (length list) rest sat → turned ≡ record { columns = length sat.rows; rows = transposed sat.columns sat.rows; spare = 0 } → IsZeroTable (system_rows first rest) (length (system_rows first rest)) (vectors list) turned
+zeros_alone list [] rest sat turned none h e = zeros_turned list (system_rows [] rest) sat turned (subst (λ (vs : List (List ℤ)). IsZeroTable list (length list) vs sat) (sym (vectors-system_rows [] rest)) h) e
+zeros_alone list (l ∷ first) rest sat turned none h e = absurd (omega (arith, none))
+
 -- with true places for lines in front of its columns
 pub zeros_behind : (list : List Row) (first rest : List (List ℤ)) (lines : ℕ) (sat blank full whole turned : Table) → blank.columns ≡ sat.columns → blank.rows ≡ [] → full.columns ≡ blank.columns → full.rows ≡ blank.rows ++ replicate lines (replicate blank.columns true) → whole.columns ≡ full.columns → whole.rows ≡ full.rows ++ sat.rows → turned ≡ record { columns = length whole.rows; rows = transposed whole.columns whole.rows; spare = 0 } → length first ≡ lines → AreZeroOn list first → IsZeroTable list (length list) rest sat → IsZeroTable (system_rows first rest) (length (system_rows first rest)) (vectors list) turned
 zeros_behind list first rest lines sat blank full whole turned c none fc fe wc we te size flat h =

@@ -46,6 +46,7 @@ abbrev pub AreWideGens : Generators → Type 0
 AreWideGens gs = All (λ g. length g.0 ≡ gs.dim + 1) gs.list
 
 -- ---- the set of the points at which constraints hold
+-- the vector is a point over the variables of the constraints, and these hold at it
 pub record IsWithin (cs : Constraints) (p : List ℤ) : Type 0 where
   pub point : IsPoint cs.dim p
   pub holds : In cs p

@@ -4,9 +4,8 @@ use Rattle.std.specs.Ordering.{int_eq}
 use Rattle.row_core.specs.Vectors.{cell}
 use Rattle.cons_sys.specs.declared.kind.ConKind.TheVariants.{Eq, Ge}
 use Rattle.cons_sys.specs.Constraints.{Constraint, Constraints}
-use Rattle.gens_sys.specs.declared.kind.GenKind.{GenKind}
-use Rattle.gens_sys.specs.declared.kind.GenKind.TheVariants.{Line, Ray, Point}
-use Rattle.gens_sys.specs.Generators.{Generator, Generators}
+use Rattle.gens_sys.specs.declared.kind.GenKind.TheVariants.{Line}
+use Rattle.gens_sys.specs.Generators.{Generator, Generators, vector_kind}
 use Rattle.cone_laws.specs.Members.{ConeOf}
 use Rattle.cone_laws.specs.DualSystems.{IsDual}
 use Rattle.stored_systems.specs.WorkLists.{divisor_row, HasPoint}
@@ -23,11 +22,6 @@ is_divisor_row (suc dim) (a ∷ v) = int_eq a (pos 0) && is_divisor_row dim v
 abbrev pub stored_constraints : ℕ → List (List ℤ) → List (List ℤ) → List Constraint
 stored_constraints dim equalities inequalities = map (λ l. (l, Eq)) equalities ++ map (λ r. (r, Ge))
     (filter (λ r. not (is_divisor_row dim r)) inequalities)
-
--- the kind of a ray with the last entry
-abbrev pub vector_kind : ℤ → GenKind
-vector_kind (pos zero) = Ray
-vector_kind d = Point
 
 -- the generators of a canonical system of vectors
 abbrev pub stored_generators : ℕ → List (List ℤ) → List (List ℤ) → List Generator

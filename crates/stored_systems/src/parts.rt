@@ -3,7 +3,7 @@ ghost use Rattle.std.specs.Prelude.{◌≡◌, ◌+◌, ◌-◌, ◌^◌, ◌<�
 ghost use Rattle.row_core.specs.Range.{AllInRange};
 ghost use Rattle.stored_systems.specs.Marks.{has_mark};
 ghost use Rattle.stored_systems.specs.Trimmed.{IsTrimmed};
-ghost use Rattle.stored_systems.specs.WorkLists.{divisor_row, constraint_row, constraint_list, generator_list};
+ghost use Rattle.stored_systems.specs.WorkLists.{constraint_row, constraint_list, generator_list};
 
 use crate::lists::{divisor_row, is_equality_kind, is_line_kind};
 use cons_sys::ConsSys;
@@ -86,8 +86,10 @@ pub fn trimmed_rays(
     requires first { 0 < length sat.old.rows }
     ensures { IfOk result (λ new. IsTrimmed dim rays sat.old new sat.new) }
 {
+    let mut rays = rays;
     if !sat.third_between(0, 0) {
-        return behind_divisor(alloc, dim, &rays);
+        rays.insert(0, &divisor_row(alloc, dim)?, false)?;
+        return Ok(rays);
     }
     sat.keep_rows(&all_but_first(alloc, sat.len())?);
     Ok(rays)
@@ -118,17 +120,4 @@ fn all_but_first(alloc: Global, count: usize) -> Result<Vec<bool>, AllocError>
         marks.push(true)?;
     }
     Ok(marks)
-}
-
-/// The rows behind `(0, .., 0, 1)`.
-fn behind_divisor(alloc: Global, dim: usize, rows: &RowList) -> Result<RowList, Memory>
-    requires narrow { dim < 2 ^ 32 - 2 }
-    requires width { rows.now.width ≡ dim + 1 }
-    ensures width { IfOk result (λ list. list.width ≡ dim + 1) }
-    ensures rows { IfOk result (λ list. list.rows ≡ (divisor_row dim, false) ∷ rows.now.rows) }
-{
-    let mut list = RowList::with_room(alloc, dim + 1, rows.len().saturating_add(1))?;
-    list.push(&divisor_row(alloc, dim)?, false)?;
-    list.push_all(rows)?;
-    Ok(list)
 }

@@ -1,11 +1,11 @@
 //! The constraints that a canonical system stands for.
-ghost use Rattle.std.specs.Prelude.{◌≡◌, ℕ, ◌+◌, ◌-◌, ◌^◌, ◌<◌, ◌++◌, ◌∷◌, [], not, length, map, filter, All, IfOk, OnOk, pos};
+ghost use Rattle.std.specs.Prelude.{◌≡◌, ◌+◌, ◌-◌, ◌^◌, ◌<◌, ◌∷◌, [], not, length, filter, All, IfOk, pos};
 ghost use Rattle.std.specs.Ordering.{int_eq};
 ghost use Rattle.row_core.specs.Range.{AllInRange};
 ghost use Rattle.row_core.specs.Content.{IsPrimitive};
 ghost use Rattle.row_core.specs.Lists.{vectors};
 ghost use Rattle.row_core.specs.MarkedLists.{AreLists};
-ghost use Rattle.cons_sys.specs.declared.kind.ConKind.TheVariants.{Eq, Ge};
+ghost use Rattle.cons_sys.specs.declared.kind.ConKind.TheVariants.{Ge};
 ghost use Rattle.stored_systems.specs.Entries.{is_zero, is_last_one};
 ghost use Rattle.stored_systems.specs.StoredForms.{stored_constraints, false_row, is_divisor_row};
 
@@ -13,27 +13,25 @@ use cons_sys::{ConKind, ConsSys};
 use row_core::{Memory, RowList};
 use std::alloc::Global;
 
-/// The constraints that a canonical system of rows stands for.
+/// The constraints that a canonical system of rows stands for: its lines as equalities, and its
+/// rays but `(0, .., 0, 1)` as inequalities. The rows are taken over without a copy.
 pub fn stored_constraints(
     alloc: Global,
     dim: usize,
-    lines: &RowList,
-    rays: &RowList,
+    lines: RowList,
+    rays: RowList,
 ) -> Result<ConsSys, Memory>
     requires narrow { dim < 2 ^ 32 - 2 }
-    requires lists { AreLists (dim + 1) lines.now rays.now }
-    requires primitive_lines { All IsPrimitive (vectors lines.now.rows) }
-    requires primitive_rays { All IsPrimitive (vectors rays.now.rows) }
+    requires lists { AreLists (dim + 1) lines rays }
+    requires primitive_lines { All IsPrimitive (vectors lines.rows) }
+    requires primitive_rays { All IsPrimitive (vectors rays.rows) }
     ensures dim { IfOk result (λ cons. cons.dim ≡ dim) }
     ensures list { IfOk result
-        (λ cons. cons.list
-        ≡ stored_constraints dim (vectors lines.now.rows) (vectors rays.now.rows)) }
+        (λ cons. cons.list ≡ stored_constraints dim (vectors lines.rows) (vectors rays.rows)) }
 {
-    let constraints = lines.len().saturating_add(rays.len());
-    let mut cons = ConsSys::with_room(alloc, dim, constraints)?;
-    push_rows(&mut cons, lines, ConKind::Eq)?;
-    push_kept(&mut cons, rays)?;
-    Ok(cons)
+    let mut rows = lines;
+    rows.append(without_divisor(dim, rays))?;
+    ConsSys::of_rows(alloc, dim, rows)
 }
 
 /// The constraint that holds at no point.
@@ -69,50 +67,21 @@ fn is_one(entry: i128) -> bool
     entry == 1
 }
 
-/// Appends all rows as constraints of a kind.
-fn push_rows(cons: &mut ConsSys, rows: &RowList, kind: ConKind) -> Result<(), Memory>
-    requires wide { rows.now.width ≡ cons.old.dim + 1 }
-    requires primitive { All IsPrimitive (vectors rows.now.rows) }
-    ensures dim { cons.new.dim ≡ cons.old.dim }
-    ensures list { OnOk result
-        (cons.new.list ≡ cons.old.list ++ map (λ r. (r, kind)) (vectors rows.now.rows)) }
+/// The rows without `(0, .., 0, 1)`.
+fn without_divisor(dim: usize, rays: RowList) -> RowList
+    requires { rays.width ≡ dim + 1 }
+    ensures width { result.width ≡ dim + 1 }
+    ensures rows { result.rows ≡ filter (λ row. not (is_divisor_row dim row.0)) rays.rows }
 {
-    for index in 0..rows.len() {
-        cons.push_primitive(rows.row(index), kind)?;
+    let mut rows = rays;
+    let mut index = rows.len();
+    while index > 0 {
+        index -= 1;
+        if is_divisor(dim, rows.row(index)) {
+            rows.remove(index);
+        }
     }
-    Ok(())
-}
-
-/// Appends the row as an inequality if it isn't `(0, .., 0, 1)`.
-fn push_unless_divisor(cons: &mut ConsSys, row: &[i128]) -> Result<(), Memory>
-    requires wide { length row.now ≡ cons.old.dim + 1 }
-    requires in_range { AllInRange row.now }
-    requires primitive { IsPrimitive row.now }
-    ensures dim { cons.new.dim ≡ cons.old.dim }
-    ensures list { OnOk result
-        (cons.new.list ≡ cons.old.list ++ map (λ r. (r, Ge))
-        (filter (λ r. not (is_divisor_row cons.old.dim r)) (row.now ∷ []))) }
-{
-    if is_divisor(cons.dim(), row) {
-        return Ok(());
-    }
-    cons.push_primitive(row, ConKind::Ge)?;
-    Ok(())
-}
-
-/// Appends all rows but `(0, .., 0, 1)` as inequalities.
-fn push_kept(cons: &mut ConsSys, rows: &RowList) -> Result<(), Memory>
-    requires wide { rows.now.width ≡ cons.old.dim + 1 }
-    requires primitive { All IsPrimitive (vectors rows.now.rows) }
-    ensures dim { cons.new.dim ≡ cons.old.dim }
-    ensures list { OnOk result
-        (cons.new.list ≡ cons.old.list ++ map (λ r. (r, Ge))
-        (filter (λ r. not (is_divisor_row cons.old.dim r)) (vectors rows.now.rows))) }
-{
-    for index in 0..rows.len() {
-        push_unless_divisor(cons, rows.row(index))?;
-    }
-    Ok(())
+    rows
 }
 
 /// The row `(0, .., 0, -1)`.

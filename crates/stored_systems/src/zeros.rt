@@ -34,7 +34,8 @@ pub fn pair_zeros(
         IfOk result (IsZeroTable list (length list)
         (divisor_row gens.now.dim ∷ vectors lines.now.rows ++ kept)) }
 {
-    let mut table = divisor_zeros(alloc, gens)?;
+    let more = lines.len().saturating_add(rays.len());
+    let mut table = zeros_with_room(alloc, gens, more)?;
     push_full_rows(&mut table, lines.len())?;
     push_kept_rows(&mut table, gens.dim(), rays, zeros, from)?;
     Ok(table)
@@ -49,7 +50,11 @@ pub fn turned_zeros(alloc: Global, lines: usize, sat: &SatMatrix) -> Result<SatM
         → IsZeroTable (system_rows first rest) (length (system_rows first rest)) (vectors list)
         turned) }
 {
+    if lines == 0 {
+        return sat.transpose();
+    }
     let mut whole = SatMatrix::new(alloc, sat.columns());
+    whole.reserve(lines.saturating_add(sat.len()))?;
     push_full_rows(&mut whole, lines)?;
     push_rows_of(&mut whole, sat)?;
     whole.transpose()
@@ -61,8 +66,18 @@ pub fn divisor_zeros(alloc: Global, gens: &GensSys) -> Result<SatMatrix, Memory>
         (IsZeroTable (generator_list gens.now) (length (generator_list gens.now))
         (divisor_row gens.now.dim ∷ [])) }
 {
+    zeros_with_room(alloc, gens, 0)
+}
+
+/// The table of one row: the generators on which `(0, .., 0, 1)` is 0. There is room for some more
+/// rows.
+fn zeros_with_room(alloc: Global, gens: &GensSys, more: usize) -> Result<SatMatrix, Memory>
+    ensures { IfOk result
+        (IsZeroTable (generator_list gens.now) (length (generator_list gens.now))
+        (divisor_row gens.now.dim ∷ [])) }
+{
     let mut table = SatMatrix::new(alloc, gens.len());
-    table.reserve(1)?;
+    table.reserve(more.saturating_add(1))?;
     table.push_reserved(false);
     for index in 0..gens.len() {
         table.set(0, index, gens.row(index)[gens.dim()] == 0);

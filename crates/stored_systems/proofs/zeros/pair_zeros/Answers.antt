@@ -17,5 +17,5 @@ returns c =
     let list = generator_list c.args.gens.now in
     subst (λ (n : ℕ). IsZeroTable list (length list) (divisor_row c.args.gens.now.dim ∷ lines ++ kept_inequalities n rays) c.push_kept_rows.new.table) c.dim.ensures.value
     (zeros_kept list c.dim.result c.args.from (divisor_row c.args.gens.now.dim ∷ lines) rays c.args.zeros.now c.push_full_rows.new.table c.push_kept_rows.new.table
-    (zeros_full list (divisor_row c.args.gens.now.dim ∷ []) lines c.in_ok-table.table c.push_full_rows.new.table c.len.result c.in_ok-table.ensures c.requires.equalities (c.len.ensures ∙ sym (length-vectors c.args.lines.now.rows)) c.push_full_rows.ensures.columns c.in_ok-push_full_rows.ensures.rows)
+    (zeros_full list (divisor_row c.args.gens.now.dim ∷ []) lines c.in_ok-table.table c.push_full_rows.new.table c.len-3.result c.in_ok-table.ensures c.requires.equalities (c.len-3.ensures ∙ sym (length-vectors c.args.lines.now.rows)) c.push_full_rows.ensures.columns c.in_ok-push_full_rows.ensures.rows)
     c.requires.inequalities c.push_kept_rows.ensures.columns c.in_ok-push_kept_rows.ensures.rows)

@@ -3,7 +3,12 @@ use Rattle.std.proofs.Common.{arith, ap, ◌∙◌}
 use Rattle.std.proofs.lemmas.Result.{MatchResult-from_err}
 use Rattle.cons_sys.specs.Constraints.{Constraints}
 use Rattle.cons_sys.proofs.SystemLemmas.{FitDimension-push}
+use Rattle.cons_sys.proofs.RowLemmas.{FitDimension-wide}
 use Rattle.cons_sys.proofs.system.ConsSys.push.Goals as goal
+
+pub push_primitive-requires-clause-wide : goal.push_primitive-requires-clause-wide
+push_primitive-requires-clause-wide c =
+    FitDimension-wide _ _ c.self.invariant (omega (arith, c.requires.wide, ap (λ (cs : Constraints). cs.dim) c.self.view_is))
 
 pub invariant_of-self-2 : goal.invariant_of-self-2
 invariant_of-self-2 c =

@@ -1,8 +1,13 @@
 use Rattle.std.specs.Prelude.{◌≡◌, ℕ}
-use Rattle.std.proofs.Common.{ap, sym, subst}
+use Rattle.std.proofs.Common.{arith, ap, sym, subst}
 use Rattle.gens_sys.specs.Generators.{Generators, IsGenerator}
 use Rattle.gens_sys.proofs.SystemLemmas.{FitDimension-push}
+use Rattle.gens_sys.proofs.RowLemmas.{FitDimension-wide}
 use Rattle.gens_sys.proofs.system.GensSys.push_primitive.Goals as goal
+
+pub push_copy-requires-clause-wide : goal.push_copy-requires-clause-wide
+push_copy-requires-clause-wide c =
+    FitDimension-wide _ _ c.self.invariant (omega (arith, c.requires.wide, ap (λ (gs : Generators). gs.dim) c.self.view_is))
 
 pub invariant_of-self-2 : goal.invariant_of-self-2
 invariant_of-self-2 c =

@@ -5,8 +5,13 @@ use Rattle.row_core.specs.Vectors.{cell}
 use Rattle.gens_sys.specs.Kinds.{HasBadDivisor}
 use Rattle.gens_sys.specs.Generators.{Generators}
 use Rattle.gens_sys.proofs.SystemLemmas.{FitDimension-push}
+use Rattle.gens_sys.proofs.RowLemmas.{FitDimension-wide}
 use Rattle.gens_sys.proofs.MultipleLemmas.{HasBadDivisor-multiple, IsZeroDirection-multiple}
 use Rattle.gens_sys.proofs.system.GensSys.store.Goals as goal
+
+pub push_primitive-requires-clause-wide : goal.push_primitive-requires-clause-wide
+push_primitive-requires-clause-wide c =
+    FitDimension-wide _ _ c.self.invariant (omega (arith, c.requires.wide, ap (λ (gs : Generators). gs.dim) c.self.view_is))
 
 pub invariant_of-self-2 : goal.invariant_of-self-2
 invariant_of-self-2 c =

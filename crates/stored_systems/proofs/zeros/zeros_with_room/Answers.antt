@@ -1,7 +1,7 @@
 use Rattle.std.proofs.Common.{List, Bool, false, ◌∷◌, [], ◌++◌, ℕ, replicate, sym, ap, ◌∙◌, arith, rules}
 use Rattle.sat_matrix.specs.Tables.{Table}
 use Rattle.stored_systems.proofs.ZeroTables.{divisor_start, divisor_more, divisor_end}
-use Rattle.stored_systems.proofs.zeros.divisor_zeros.Goals as goal
+use Rattle.stored_systems.proofs.zeros.zeros_with_room.Goals as goal
 
 pub loop-index-init : goal.loop-index-init
 loop-index-init c =
