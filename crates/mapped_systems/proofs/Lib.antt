@@ -1,4 +1,5 @@
 pub mod ColumnLemmas
+pub mod WrittenRows
 pub mod LinearMaps
 pub mod Weights
 pub mod MappedSets

@@ -1,27 +1,29 @@
 //! Rows with more columns, or with fewer.
-ghost use Rattle.std.specs.Prelude.{◌≡◌, ℕ, ◌+◌, ◌^◌, ◌<◌, ◌≤◌, length, All, IfOk};
+ghost use Rattle.std.specs.Prelude.{◌≡◌, ℕ, ◌+◌, ◌^◌, ◌<◌, ◌≤◌, length, All, IfOk, OnOk};
 ghost use Rattle.row_core.specs.Range.{AllInRange};
 ghost use Rattle.mapped_systems.specs.Maps.{with_zeros, kept_variables, picked};
 
-use row_core::{Memory, RowBuf};
+use row_core::Memory;
 use std::alloc::Global;
 
-/// The row with zeros before a column.
-pub(crate) fn with_zeros(
-    alloc: Global,
+/// Writes the row with zeros before a column into the buffer, in place of what it held.
+pub(crate) fn put_with_zeros(
+    buffer: &mut Vec<i128>,
     column: usize,
     count: usize,
     row: &[i128],
-) -> Result<RowBuf, Memory>
+) -> Result<(), Memory>
     requires column { column ≤ length row.now }
     requires narrow { length row.now + count < 2 ^ 32 }
     requires in_range { AllInRange row.now }
-    ensures { IfOk result (λ padded. padded ≡ with_zeros column count row.now) }
+    ensures row { OnOk result (buffer.new.items ≡ with_zeros column count row.now) }
+    ensures in_range { OnOk result (AllInRange buffer.new.items) }
 {
-    let mut entries = Vec::from_slice(alloc, &row[..column])?;
-    entries.extend_from_slice(&vec![in alloc; 0i128; count]?)?;
-    entries.extend_from_slice(&row[column..])?;
-    Ok(RowBuf::from_vec(entries))
+    buffer.clear();
+    buffer.extend_from_slice(&row[..column])?;
+    buffer.resize(column + count, 0)?;
+    buffer.extend_from_slice(&row[column..])?;
+    Ok(())
 }
 
 /// The variables that aren't named, in order.
@@ -41,23 +43,26 @@ pub(crate) fn kept_variables(
     Ok(kept)
 }
 
-/// The row's entries at the columns, and then that of the divisor.
-pub(crate) fn picked(
-    alloc: Global,
+/// Writes the row's entries at the columns, and then that of the divisor, into the buffer, in place
+/// of what it held.
+pub(crate) fn put_picked(
+    buffer: &mut Vec<i128>,
     columns: &[usize],
     divisor: usize,
     row: &[i128],
-) -> Result<RowBuf, Memory>
+) -> Result<(), Memory>
     requires columns { All (λ (j : ℕ). j < length row.now) columns.now }
     requires divisor { divisor < length row.now }
     requires narrow { length columns.now + 1 < 2 ^ 32 }
     requires in_range { AllInRange row.now }
-    ensures { IfOk result (λ entries. entries ≡ picked columns.now divisor row.now) }
+    ensures row { OnOk result (buffer.new.items ≡ picked columns.now divisor row.now) }
+    ensures in_range { OnOk result (AllInRange buffer.new.items) }
 {
-    let mut entries = Vec::new(alloc);
+    buffer.clear();
+    buffer.reserve(columns.len() + 1)?;
     for column in columns {
-        entries.push(row[*column])?;
+        buffer.push_reserved(row[*column]);
     }
-    entries.push(row[divisor])?;
-    Ok(RowBuf::from_vec(entries))
+    buffer.push_reserved(row[divisor]);
+    Ok(())
 }

@@ -9,20 +9,21 @@ ghost use Rattle.mapped_systems.specs.MappedLists.{GainsMapped, IsMappedSystem};
 ghost use Rattle.row_core.specs.Refusals.{IsOverflowIn};
 ghost use Rattle.mapped_systems.specs.Refusals.{SomeLeavesInImage};
 
-use crate::columns::{kept_variables, picked, with_zeros};
-use crate::substitution::image_row;
+use crate::columns::{kept_variables, put_picked, put_with_zeros};
+use crate::substitution::put_image;
 use gens_sys::{GenKind, GenPushErr, GensSys};
-use row_core::{ConvErr, Memory, RowBuf};
+use row_core::{ConvErr, Memory};
 use std::alloc::Global;
 
 /// Appends a mapped vector, made primitive. A line or a ray that became 0 is left out.
-fn push_mapped(gens: &mut GensSys, row: RowBuf, kind: GenKind) -> Result<(), Memory>
-    requires wide { length row ≡ gens.old.dim + 1 }
-    requires divisor { ¬ (HasBadDivisor kind (cell row gens.old.dim)) }
+fn push_mapped(gens: &mut GensSys, row: &[i128], kind: GenKind) -> Result<(), Memory>
+    requires wide { length row.now ≡ gens.old.dim + 1 }
+    requires in_range { AllInRange row.now }
+    requires divisor { ¬ (HasBadDivisor kind (cell row.now gens.old.dim)) }
     ensures dim { gens.new.dim ≡ gens.old.dim }
-    ensures list { OnOk result (GainsMapped gens.old.list gens.new.list row kind) }
+    ensures list { OnOk result (GainsMapped gens.old.list gens.new.list row.now kind) }
 {
-    match gens.push_row(row, kind) {
+    match gens.push(row, kind) {
         Ok(()) => Ok(()),
         Err(GenPushErr::ZeroVector) => Ok(()),
         Err(GenPushErr::Memory) => Err(Memory),
@@ -50,12 +51,13 @@ pub fn image_generators(
         (IsOverflowIn (SomeLeavesInImage var expr.now den gens.now.list)) }
 {
     let mut mapped = GensSys::with_room(alloc, gens.dim(), gens.len())?;
+    let mut image = Vec::with_capacity(alloc, gens.dim() + 1)?;
     for index in 0..gens.len() {
-        let row = match image_row(alloc, var, expr, den, gens.row(index)) {
-            Ok(row) => row,
+        match put_image(&mut image, var, expr, den, gens.row(index)) {
+            Ok(()) => {}
             Err(cause) => return Err(cause),
-        };
-        push_mapped(&mut mapped, row, gens.kind(index))?;
+        }
+        push_mapped(&mut mapped, &image, gens.kind(index))?;
     }
     Ok(mapped)
 }
@@ -68,9 +70,10 @@ pub fn padded_generators(alloc: Global, gens: &GensSys, count: usize) -> Result<
         (gens.now.dim + count) gens.now) }
 {
     let mut mapped = GensSys::with_room(alloc, gens.dim() + count, gens.len())?;
+    let mut image = Vec::with_capacity(alloc, gens.dim() + count + 1)?;
     for index in 0..gens.len() {
-        let row = with_zeros(alloc, gens.dim(), count, gens.row(index))?;
-        push_mapped(&mut mapped, row, gens.kind(index))?;
+        put_with_zeros(&mut image, gens.dim(), count, gens.row(index))?;
+        push_mapped(&mut mapped, &image, gens.kind(index))?;
     }
     Ok(mapped)
 }
@@ -89,9 +92,10 @@ pub fn picked_generators(
 {
     let divisor = gens.dim();
     let mut mapped = GensSys::with_room(alloc, columns.len(), gens.len())?;
+    let mut image = Vec::with_capacity(alloc, columns.len() + 1)?;
     for index in 0..gens.len() {
-        let row = picked(alloc, columns, divisor, gens.row(index))?;
-        push_mapped(&mut mapped, row, gens.kind(index))?;
+        put_picked(&mut image, columns, divisor, gens.row(index))?;
+        push_mapped(&mut mapped, &image, gens.kind(index))?;
     }
     Ok(mapped)
 }

@@ -7,8 +7,8 @@ ghost use Rattle.mapped_systems.specs.MappedLists.{IsPulledSystem, IsJoinedSyste
 ghost use Rattle.row_core.specs.Refusals.{IsOverflowIn};
 ghost use Rattle.mapped_systems.specs.Refusals.{SomeLeavesInPullback};
 
-use crate::columns::with_zeros;
-use crate::substitution::pulled_row;
+use crate::columns::put_with_zeros;
+use crate::substitution::put_pulled;
 use cons_sys::ConsSys;
 use row_core::{ConvErr, Memory, Steps};
 use std::alloc::Global;
@@ -36,12 +36,13 @@ pub fn preimage_constraints<L: Ledger>(
     ensures counted { steps.new ≤ steps.old + length cons.now.list }
 {
     let mut pulled = ConsSys::with_room(alloc, cons.dim(), cons.len())?;
+    let mut buffer = Vec::with_capacity(alloc, cons.dim() + 1)?;
     for index in 0..cons.len() {
-        let row = match pulled_row(alloc, var, expr, den, cons.row(index), steps) {
-            Ok(row) => row,
+        match put_pulled(&mut buffer, var, expr, den, cons.row(index), steps) {
+            Ok(()) => {}
             Err(cause) => return Err(cause),
-        };
-        pulled.push_row(row, cons.kind(index))?;
+        }
+        pulled.push(&buffer, cons.kind(index))?;
     }
     Ok(pulled)
 }
@@ -59,9 +60,10 @@ pub fn padded_constraints(
         (cons.now.dim + count) cons.now) }
 {
     let mut padded = ConsSys::with_room(alloc, cons.dim() + count, cons.len())?;
+    let mut buffer = Vec::with_capacity(alloc, cons.dim() + count + 1)?;
     for index in 0..cons.len() {
-        let row = with_zeros(alloc, column, count, cons.row(index))?;
-        padded.push_row(row, cons.kind(index))?;
+        put_with_zeros(&mut buffer, column, count, cons.row(index))?;
+        padded.push_primitive(&buffer, cons.kind(index))?;
     }
     Ok(padded)
 }

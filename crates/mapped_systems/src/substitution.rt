@@ -9,7 +9,7 @@ ghost use Rattle.row_core.specs.Refusals.{IsOverflowIn};
 ghost use Rattle.row_core.specs.declared.errors.OverKind.TheVariants.{Scale};
 
 use crate::refusals::shown;
-use row_core::{ConvErr, Memory, OverKind, Overflow, RowBuf, Steps, combine_onto, dot, product};
+use row_core::{ConvErr, Memory, OverKind, Overflow, Steps, combine_onto, dot, product};
 use std::alloc::Global;
 use std::sync::ledger::Ledger;
 
@@ -41,12 +41,17 @@ fn scale_all(row: &mut [i128], factor: i128) -> Result<(), u32>
 fn write_image(row: &mut [i128], var: usize, den: i128, value: i128) -> Result<(), u32>
     requires var { var < length row.old }
     requires narrow { length row.old < 2 ^ 32 }
-    requires in_range { InRange value }
+    requires in_range { AllInRange row.old }
+    requires value_in_range { InRange value }
     ensures width { length row.new ≡ length row.old }
     ensures written { MatchResult result (λ _. (row.new ≡ slice_set (scale den row.old) var value)
         × AllInRange row.new) (IsFirstToLeave (EntryStays var den row.old) (length row.old)) }
     ensures stays { OnOk result (AllStay (EntryStays var den row.old) (length row.old)) }
 {
+    if den == 1 {
+        row[var] = value;
+        return Ok(());
+    }
     row[var] = 0;
     scale_all(row, den)?;
     row[var] = value;
@@ -82,29 +87,32 @@ fn shown_scale(
     shown(alloc, OverKind::Scale, row, &right, column)
 }
 
-/// The vector with its variable replaced by the expression's value, and all else times the divisor.
+/// Writes the vector into the buffer, in place of what it held, with its variable replaced by the
+/// expression's value, and all else times the divisor.
 ///
 /// # Errors
 ///
 /// An overflow shows the expression and the vector where their dot leaves the range, or else the
 /// vector and the fraction where the divisor's product with an entry does.
-pub(crate) fn image_row(
-    alloc: Global,
+pub(crate) fn put_image(
+    buffer: &mut Vec<i128>,
     var: usize,
     expr: &[i128],
     den: i128,
     v: &[i128],
-) -> Result<RowBuf, ConvErr>
+) -> Result<(), ConvErr>
     requires var { var < length v.now }
     requires wide { length expr.now ≡ length v.now }
     requires narrow { length v.now + 1 < 2 ^ 32 }
     requires in_range { AllInRange v.now }
     requires expr_in_range { AllInRange expr.now }
     requires den_in_range { InRange den }
-    ensures row { IfOk result (λ row. row ≡ substituted var expr.now den v.now) }
+    ensures row { OnOk result (buffer.new.items ≡ substituted var expr.now den v.now) }
+    ensures in_range { OnOk result (AllInRange buffer.new.items) }
     ensures stays { OnOk result (StaysInImage var expr.now den v.now) }
     ensures overflow { IfErr result (IsOverflowIn (LeavesInImage var expr.now den v.now)) }
 {
+    let alloc = *buffer.allocator();
     let value = match dot(expr, v) {
         Ok(value) => value,
         Err(column) => {
@@ -112,47 +120,52 @@ pub(crate) fn image_row(
             return Err(ConvErr::Overflow(over));
         }
     };
-    let mut entries = Vec::from_slice(alloc, v)?;
-    if let Err(column) = write_image(&mut entries, var, den, value) {
+    buffer.clear();
+    buffer.extend_from_slice(v)?;
+    if let Err(column) = write_image(buffer.as_mut_slice(), var, den, value) {
         let over = shown_scale(alloc, v, expr, den, column)?;
         return Err(ConvErr::Overflow(over));
     }
-    Ok(RowBuf::from_vec(entries))
+    Ok(())
 }
 
-/// The row whose value at a vector is that of the given row where the vector's variable is
-/// replaced. It is one combination of the row without its variable and the expression.
+/// Writes a row into the buffer, in place of what it held: the one whose value at a vector is that
+/// of the given row where the vector's variable is replaced. It is one combination of the row
+/// without its variable and the expression.
 ///
 /// # Errors
 ///
 /// An overflow shows the row and the fraction, and the first column at which a product or the sum
 /// leaves the range.
-pub(crate) fn pulled_row<L: Ledger>(
-    alloc: Global,
+pub(crate) fn put_pulled<L: Ledger>(
+    buffer: &mut Vec<i128>,
     var: usize,
     expr: &[i128],
     den: i128,
     row: &[i128],
     steps: &mut Steps<L>,
-) -> Result<RowBuf, ConvErr>
+) -> Result<(), ConvErr>
     requires var { var < length row.now }
     requires wide { length expr.now ≡ length row.now }
     requires narrow { length row.now + 1 < 2 ^ 32 }
     requires in_range { AllInRange row.now }
     requires expr_in_range { AllInRange expr.now }
     requires den_in_range { InRange den }
-    ensures row { IfOk result (λ pulled. pulled ≡ pulled_back var expr.now den row.now) }
+    ensures row { OnOk result (buffer.new.items ≡ pulled_back var expr.now den row.now) }
+    ensures in_range { OnOk result (AllInRange buffer.new.items) }
     ensures stays { OnOk result (StaysInPullback var expr.now den row.now) }
     ensures overflow { IfErr result (IsOverflowIn (LeavesInPullback var expr.now den row.now)) }
     ensures no_fewer { steps.old ≤ steps.new }
     ensures counted { steps.new ≤ steps.old + 1 }
 {
+    let alloc = *buffer.allocator();
     let factor = row[var];
-    let mut entries = Vec::from_slice(alloc, row)?;
-    entries[var] = 0;
-    if let Err(column) = combine_onto(&mut entries, den, expr, factor, steps) {
+    buffer.clear();
+    buffer.extend_from_slice(row)?;
+    buffer[var] = 0;
+    if let Err(column) = combine_onto(buffer.as_mut_slice(), den, expr, factor, steps) {
         let over = shown_scale(alloc, row, expr, den, column)?;
         return Err(ConvErr::Overflow(over));
     }
-    Ok(RowBuf::from_vec(entries))
+    Ok(())
 }

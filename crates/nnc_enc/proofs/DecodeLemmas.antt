@@ -1,6 +1,6 @@
 use Rattle.std.proofs.Common.{◌≡◌, ◌≢◌, ◌⊎◌, inl, inr, ℕ, zero, suc, ◌+◌, ◌<◌, Bool, true, false, List, [], ◌∷◌, ◌++◌, length, refl, sym, ap, ◌∙◌, subst, arith, ℤ}
 use Rattle.std.specs.Prelude.{slice_index_or, replicate, if◌then◌else◌}
-use Rattle.std.proofs.lemmas.List.{get_or_append_left, get_or_push}
+use Rattle.std.proofs.lemmas.List.{get_or_append_left, get_or_push, length_push}
 use Rattle.std.proofs.lemmas.Bool.{false≢true}
 use Rattle.cone_laws.proofs.ThirdRay.{same_number}
 use Rattle.row_core.specs.Content.{IsPrimitiveOf}
@@ -8,10 +8,6 @@ use Rattle.row_core.specs.Lists.{Row, row_at}
 use Rattle.nnc_enc.specs.Encoding.{lowered}
 use Rattle.nnc_enc.specs.StrongRows.{kept_at}
 use Rattle.nnc_enc.specs.Decoding.{index_at, Stands, Grew, AreListed, IsNamed, AreKept, Rise}
-
-length_push : {A : Type 0} (xs : List A) (x : A) → length (xs ++ x ∷ []) ≡ length xs + 1
-length_push [] x = refl
-length_push (y ∷ xs) x = omega (arith, length_push xs x)
 
 module _ {K : Type 0} (d : List ℤ × K) (dim : ℕ) where
   pub grew_more : (old cur new : List (List ℤ × K)) (n : ℕ) (row : ℕ → List ℤ) (kind : ℕ → K) (r : List ℤ) (k : K) (stored : List ℤ) → Grew d dim old cur n row kind → r ≡ row n → k ≡ kind n → IsPrimitiveOf (lowered dim r) stored → new ≡ cur ++ (stored, k) ∷ [] → Grew d dim old new (n + 1) row kind

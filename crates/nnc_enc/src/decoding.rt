@@ -29,17 +29,22 @@ pub(crate) fn variables(list: &RowList) -> usize
     list.width() - 2
 }
 
-/// A copy of the row without column e.
-pub(crate) fn lowered_row(alloc: Global, dim: usize, row: &[i128]) -> Result<Vec<i128>, AllocError>
+/// Puts the row without column e in a buffer, in place of what is there.
+pub(crate) fn put_lowered(
+    buffer: &mut Vec<i128>,
+    dim: usize,
+    row: &[i128],
+) -> Result<(), AllocError>
     requires wide { length row.now ≡ dim + 2 }
     requires in_range { AllInRange row.now }
-    ensures items { IfOk result (λ v. v.items ≡ lowered dim row.now) }
-    ensures wide { IfOk result (λ v. length v.items ≡ dim + 1) }
-    ensures in_range { IfOk result (λ v. AllInRange v.items) }
+    ensures items { OnOk result (buffer.new.items ≡ lowered dim row.now) }
+    ensures wide { OnOk result (length buffer.new.items ≡ dim + 1) }
+    ensures in_range { OnOk result (AllInRange buffer.new.items) }
 {
-    let mut lowered = Vec::from_slice(alloc, row)?;
-    let _height = lowered.remove(dim);
-    Ok(lowered)
+    buffer.clear();
+    buffer.extend_from_slice(&row[..dim])?;
+    buffer.extend_from_slice(&row[dim + 1..])?;
+    Ok(())
 }
 
 /// Appends an index where it is kept.
@@ -72,14 +77,14 @@ fn with_variables(alloc: Global, dim: usize, rays: &RowList) -> Result<Vec<bool>
 {
     let mut keep = Vec::with_capacity(alloc, rays.len())?;
     for index in 0..rays.len() {
-        keep.push(has_variable(dim, rays.row(index)))?;
+        keep.push_reserved(has_variable(dim, rays.row(index)));
     }
     Ok(keep)
 }
 
 /// Appends the constraint of a row.
 fn push_con(
-    alloc: Global,
+    buffer: &mut Vec<i128>,
     dim: usize,
     cons: &mut ConsSys,
     row: &[i128],
@@ -91,13 +96,13 @@ fn push_con(
     ensures dim { cons.new.dim ≡ cons.old.dim }
     ensures list { OnOk result (ConGains cons.old.list cons.new.list (lowered dim row.now) kind) }
 {
-    let row = lowered_row(alloc, dim, row)?;
-    cons.push(&row, kind)
+    put_lowered(buffer, dim, row)?;
+    cons.push(buffer, kind)
 }
 
 /// Appends the constraints of all lines.
 fn push_con_lines(
-    alloc: Global,
+    buffer: &mut Vec<i128>,
     dim: usize,
     cons: &mut ConsSys,
     lines: &RowList,
@@ -109,7 +114,7 @@ fn push_con_lines(
         (length lines.now.rows) (λ i. row_at lines.now.rows i) (λ i. Eq)) }
 {
     for index in 0..lines.len() {
-        push_con(alloc, dim, cons, lines.row(index), ConKind::Eq)?;
+        push_con(buffer, dim, cons, lines.row(index), ConKind::Eq)?;
     }
     Ok(())
 }
@@ -131,7 +136,7 @@ fn kind_of_row(dim: usize, row: &[i128]) -> ConKind
 
 /// Appends the constraints of the rays at the indices.
 fn push_con_rays(
-    alloc: Global,
+    buffer: &mut Vec<i128>,
     dim: usize,
     cons: &mut ConsSys,
     rays: &RowList,
@@ -147,7 +152,7 @@ fn push_con_rays(
 {
     for index in 0..order.len() {
         let row = rays.row(order[index]);
-        push_con(alloc, dim, cons, row, kind_of_row(dim, row))?;
+        push_con(buffer, dim, cons, row, kind_of_row(dim, row))?;
     }
     Ok(())
 }
@@ -168,9 +173,10 @@ pub(crate) fn constraints_of(
     ensures list { IfOk result
         (λ cons. AreConstraintsOf dim lines.now.rows rays.now.rows order.now cons.list) }
 {
+    let mut buffer = Vec::with_capacity(alloc, dim + 1)?;
     let mut cons = ConsSys::with_room(alloc, dim, lines.len().saturating_add(order.len()))?;
-    push_con_lines(alloc, dim, &mut cons, lines)?;
-    push_con_rays(alloc, dim, &mut cons, rays, order)?;
+    push_con_lines(&mut buffer, dim, &mut cons, lines)?;
+    push_con_rays(&mut buffer, dim, &mut cons, rays, order)?;
     Ok(cons)
 }
 
@@ -207,7 +213,7 @@ pub fn decode_cons(alloc: Global, lines: &RowList, rays: &RowList) -> Result<Con
 
 /// Appends the generator of a vector.
 fn push_gen(
-    alloc: Global,
+    buffer: &mut Vec<i128>,
     dim: usize,
     gens: &mut GensSys,
     row: &[i128],
@@ -220,8 +226,8 @@ fn push_gen(
     ensures dim { gens.new.dim ≡ gens.old.dim }
     ensures list { OnOk result (GenGains gens.old.list gens.new.list (lowered dim row.now) kind) }
 {
-    let row = lowered_row(alloc, dim, row)?;
-    match gens.push(&row, kind) {
+    put_lowered(buffer, dim, row)?;
+    match gens.push(buffer, kind) {
         Ok(()) => Ok(()),
         Err(GenPushErr::Memory) => Err(Memory),
         Err(GenPushErr::ZeroVector | GenPushErr::BadDivisor) => unreachable!(),
@@ -230,7 +236,7 @@ fn push_gen(
 
 /// Appends the generators of all lines.
 fn push_gen_lines(
-    alloc: Global,
+    buffer: &mut Vec<i128>,
     dim: usize,
     gens: &mut GensSys,
     lines: &RowList,
@@ -244,7 +250,7 @@ fn push_gen_lines(
         (length lines.now.rows) (λ i. row_at lines.now.rows i) (λ i. Line)) }
 {
     for index in 0..lines.len() {
-        push_gen(alloc, dim, gens, lines.row(index), GenKind::Line)?;
+        push_gen(buffer, dim, gens, lines.row(index), GenKind::Line)?;
     }
     Ok(())
 }
@@ -272,7 +278,7 @@ fn kind_of_vector(dim: usize, row: &[i128]) -> GenKind
 
 /// Appends the generators of the rays at the indices.
 fn push_gen_rays(
-    alloc: Global,
+    buffer: &mut Vec<i128>,
     dim: usize,
     gens: &mut GensSys,
     rays: &RowList,
@@ -290,7 +296,7 @@ fn push_gen_rays(
 {
     for index in 0..order.len() {
         let row = rays.row(order[index]);
-        push_gen(alloc, dim, gens, row, kind_of_vector(dim, row))?;
+        push_gen(buffer, dim, gens, row, kind_of_vector(dim, row))?;
     }
     Ok(())
 }
@@ -312,9 +318,10 @@ pub(crate) fn generators_of(
     ensures list { IfOk result
         (λ gens. AreGeneratorsOf dim lines.now.rows rays.now.rows order.now gens.list) }
 {
+    let mut buffer = Vec::with_capacity(alloc, dim + 1)?;
     let mut gens = GensSys::with_room(alloc, dim, lines.len().saturating_add(order.len()))?;
-    push_gen_lines(alloc, dim, &mut gens, lines)?;
-    push_gen_rays(alloc, dim, &mut gens, rays, order)?;
+    push_gen_lines(&mut buffer, dim, &mut gens, lines)?;
+    push_gen_rays(&mut buffer, dim, &mut gens, rays, order)?;
     Ok(gens)
 }
 

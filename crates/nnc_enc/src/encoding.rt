@@ -11,25 +11,32 @@ ghost use Rattle.gens_sys.specs.Generators.{generator_at};
 use cons_sys::{ConKind, ConsSys};
 use gens_sys::{GenKind, GensSys};
 use row_core::{Memory, RowList};
-use std::alloc::Global;
+use std::alloc::{AllocError, Global};
 
-/// A copy of the row with a number before its last entry.
-fn raised_row(alloc: Global, dim: usize, row: &[i128], height: i128) -> Result<Vec<i128>, Memory>
+/// Puts the row with a number before its last entry in a buffer, in place of what is there.
+fn put_raised(
+    buffer: &mut Vec<i128>,
+    dim: usize,
+    row: &[i128],
+    height: i128,
+) -> Result<(), AllocError>
     requires wide { length row.now ≡ dim + 1 }
     requires in_range { AllInRange row.now }
     requires height { InRange height }
-    ensures items { IfOk result (λ v. v.items ≡ raised dim row.now height) }
-    ensures wide { IfOk result (λ v. length v.items ≡ dim + 2) }
-    ensures in_range { IfOk result (λ v. AllInRange v.items) }
+    ensures items { OnOk result (buffer.new.items ≡ raised dim row.now height) }
+    ensures wide { OnOk result (length buffer.new.items ≡ dim + 2) }
+    ensures in_range { OnOk result (AllInRange buffer.new.items) }
 {
-    let mut raised = Vec::from_slice(alloc, row)?;
-    raised.insert(dim, height)?;
-    Ok(raised)
+    buffer.clear();
+    buffer.extend_from_slice(&row[..dim])?;
+    buffer.push(height)?;
+    buffer.extend_from_slice(&row[dim..])?;
+    Ok(())
 }
 
 /// Appends the row with a number before its last entry.
 fn push_raised(
-    alloc: Global,
+    buffer: &mut Vec<i128>,
     list: &mut RowList,
     dim: usize,
     row: &[i128],
@@ -44,9 +51,8 @@ fn push_raised(
     ensures rows { OnOk result
         (list.new.rows ≡ list.old.rows ++ (raised dim row.now height, eq) ∷ []) }
 {
-    let raised = raised_row(alloc, dim, row, height)?;
-    list.push(&raised, eq)?;
-    Ok(())
+    put_raised(buffer, dim, row, height)?;
+    list.push(buffer, eq)
 }
 
 /// What a constraint of the kind has in column e.
@@ -71,29 +77,43 @@ fn is_equality(kind: ConKind) -> bool
 }
 
 /// Appends the row that is 1 in column e alone.
-fn push_height_row(alloc: Global, list: &mut RowList, dim: usize) -> Result<(), Memory>
+fn push_height_row(
+    alloc: Global,
+    buffer: &mut Vec<i128>,
+    list: &mut RowList,
+    dim: usize,
+) -> Result<(), Memory>
     requires width { list.old.width ≡ dim + 2 }
     requires narrow { dim < 2 ^ 32 - 2 }
     ensures width { list.new.width ≡ list.old.width }
     ensures rows { OnOk result (list.new.rows ≡ list.old.rows ++ height_row dim ∷ []) }
 {
     let zeros = vec![in alloc; 0i128; dim + 1]?;
-    push_raised(alloc, list, dim, &zeros, 1, false)
+    push_raised(buffer, list, dim, &zeros, 1, false)
 }
 
 /// Appends the row that is 1 in column d and -1 in column e.
-fn push_bound_row(alloc: Global, list: &mut RowList, dim: usize) -> Result<(), Memory>
+fn push_bound_row(
+    alloc: Global,
+    buffer: &mut Vec<i128>,
+    list: &mut RowList,
+    dim: usize,
+) -> Result<(), Memory>
     requires { list.old.width ≡ dim + 2 }
     ensures width { list.new.width ≡ list.old.width }
     ensures rows { OnOk result (list.new.rows ≡ list.old.rows ++ bound_row dim ∷ []) }
 {
     let mut row = vec![in alloc; 0i128; dim]?;
     row.push(1)?;
-    push_raised(alloc, list, dim, &row, -1, false)
+    push_raised(buffer, list, dim, &row, -1, false)
 }
 
 /// Appends the rows of constraints.
-fn push_constraints(alloc: Global, list: &mut RowList, cons: &ConsSys) -> Result<(), Memory>
+fn push_constraints(
+    buffer: &mut Vec<i128>,
+    list: &mut RowList,
+    cons: &ConsSys,
+) -> Result<(), Memory>
     requires { list.old.width ≡ cons.now.dim + 2 }
     ensures width { list.new.width ≡ list.old.width }
     ensures rows { OnOk result
@@ -103,7 +123,7 @@ fn push_constraints(alloc: Global, list: &mut RowList, cons: &ConsSys) -> Result
     for index in 0..cons.len() {
         let kind = cons.kind(index);
         push_raised(
-            alloc,
+            buffer,
             list,
             dim,
             cons.row(index),
@@ -121,9 +141,10 @@ pub fn encode_cons(alloc: Global, cons: &ConsSys) -> Result<RowList, Memory>
 {
     let dim = cons.dim();
     let mut list = RowList::with_room(alloc, dim + 2, cons.len().saturating_add(2))?;
-    push_height_row(alloc, &mut list, dim)?;
-    push_bound_row(alloc, &mut list, dim)?;
-    push_constraints(alloc, &mut list, cons)?;
+    let mut buffer = Vec::with_capacity(alloc, dim + 2)?;
+    push_height_row(alloc, &mut buffer, &mut list, dim)?;
+    push_bound_row(alloc, &mut buffer, &mut list, dim)?;
+    push_constraints(&mut buffer, &mut list, cons)?;
     Ok(list)
 }
 
@@ -135,13 +156,14 @@ pub fn encode_further_cons(alloc: Global, cons: &ConsSys) -> Result<RowList, Mem
         (λ list. list.rows ≡ map (encoded_constraint cons.now.dim) cons.now.list) }
 {
     let mut list = RowList::with_room(alloc, cons.dim() + 2, cons.len())?;
-    push_constraints(alloc, &mut list, cons)?;
+    let mut buffer = Vec::with_capacity(alloc, cons.dim() + 2)?;
+    push_constraints(&mut buffer, &mut list, cons)?;
     Ok(list)
 }
 
 /// Appends the vectors of a generator.
 fn push_encoded(
-    alloc: Global,
+    buffer: &mut Vec<i128>,
     list: &mut RowList,
     dim: usize,
     row: &[i128],
@@ -155,11 +177,11 @@ fn push_encoded(
         (list.new.rows ≡ list.old.rows ++ encoded_generator dim (row.now, kind)) }
 {
     match kind {
-        GenKind::Line => push_raised(alloc, list, dim, row, 0, true),
-        GenKind::Ray | GenKind::ClosurePoint => push_raised(alloc, list, dim, row, 0, false),
+        GenKind::Line => push_raised(buffer, list, dim, row, 0, true),
+        GenKind::Ray | GenKind::ClosurePoint => push_raised(buffer, list, dim, row, 0, false),
         GenKind::Point => {
-            push_raised(alloc, list, dim, row, row[dim], false)?;
-            push_raised(alloc, list, dim, row, 0, false)
+            push_raised(buffer, list, dim, row, row[dim], false)?;
+            push_raised(buffer, list, dim, row, 0, false)
         }
     }
 }
@@ -171,8 +193,15 @@ pub fn encode_gens(alloc: Global, gens: &GensSys) -> Result<RowList, Memory>
 {
     let dim = gens.dim();
     let mut list = RowList::with_room(alloc, dim + 2, gens.len().saturating_mul(2))?;
+    let mut buffer = Vec::with_capacity(alloc, dim + 2)?;
     for index in 0..gens.len() {
-        push_encoded(alloc, &mut list, dim, gens.row(index), gens.kind(index))?;
+        push_encoded(
+            &mut buffer,
+            &mut list,
+            dim,
+            gens.row(index),
+            gens.kind(index),
+        )?;
     }
     Ok(list)
 }

@@ -42,10 +42,10 @@ pub(crate) fn marks(
     requires { list.now.width ≡ dim + 2 }
     ensures { IfOk result (λ v. AreTold mark dim list.now.rows v.items (length list.now.rows)) }
 {
-    let mut marks = Vec::new(alloc);
+    let mut marks = Vec::with_capacity(alloc, list.len())?;
     for index in 0..list.len() {
         let row = list.row(index);
-        marks.push(tells(mark, row[dim], row[dim + 1]))?;
+        marks.push_reserved(tells(mark, row[dim], row[dim + 1]));
     }
     Ok(marks)
 }

@@ -75,9 +75,9 @@ fn first_rows(
     ensures { IfOk result (λ v. AreFirstRows dim rays.now.rows strict.now places.now sat.now.rows
         v.items (length sat.now.rows)) }
 {
-    let mut keep = Vec::new(alloc);
+    let mut keep = Vec::with_capacity(alloc, sat.len())?;
     for index in 0..sat.len() {
-        keep.push(stays_at_first(dim, rays, strict, places, sat, index))?;
+        keep.push_reserved(stays_at_first(dim, rays, strict, places, sat, index));
     }
     Ok(keep)
 }
@@ -94,9 +94,9 @@ fn first_vectors(
     ensures { IfOk result
         (λ v. AreFirstVectors places.now strict.now sat.now.rows v.items (length sat.now.rows)) }
 {
-    let mut keep = Vec::new(alloc);
+    let mut keep = Vec::with_capacity(alloc, sat.len())?;
     for index in 0..sat.len() {
-        keep.push(!is_marked_clear(places, strict, sat, index))?;
+        keep.push_reserved(!is_marked_clear(places, strict, sat, index));
     }
     Ok(keep)
 }

@@ -28,13 +28,16 @@ pub push_mapped-requires-clause-wide : goal.push_mapped-requires-clause-wide
 push_mapped-requires-clause-wide c =
     let den_fits : SFits w128 c.args.den = c.ranges.den in
     let r = simp to_z-of_z at c.in-Ok.ensures.row in
-    step_wide c.args.gens.now.dim c.args.gens.now.dim c.loop-index.mapped.dim (substituted c.args.var c.args.expr.now c.args.den) (substitution_linear c.args.gens.now.dim c.args.var c.args.expr.now c.args.den c.requires.var c.requires.positive) (generator_at c.args.gens.now.list c.loop-index.index) c.row.ensures.generator c.in-Ok.row c.loop-index.invariant.dim (r ∙ ap (substituted c.args.var c.args.expr.now c.args.den) c.row.ensures.value)
+    step_wide c.args.gens.now.dim c.args.gens.now.dim c.loop-index.mapped.dim (substituted c.args.var c.args.expr.now c.args.den) (substitution_linear c.args.gens.now.dim c.args.var c.args.expr.now c.args.den c.requires.var c.requires.positive) (generator_at c.args.gens.now.list c.loop-index.index) c.row.ensures.generator c.deref.result.now c.loop-index.invariant.dim (c.deref.ensures.value ∙ r ∙ ap (substituted c.args.var c.args.expr.now c.args.den) c.row.ensures.value)
+
+pub push_mapped-requires-clause-in_range : goal.push_mapped-requires-clause-in_range
+push_mapped-requires-clause-in_range c = subst AllInRange (sym c.deref.ensures.value) c.in-Ok.ensures.in_range
 
 pub push_mapped-requires-clause-divisor : goal.push_mapped-requires-clause-divisor
 push_mapped-requires-clause-divisor c =
     let den_fits : SFits w128 c.args.den = c.ranges.den in
     let r = simp to_z-of_z at c.in-Ok.ensures.row in
-    step_divisor c.args.gens.now.dim c.args.gens.now.dim c.loop-index.mapped.dim (substituted c.args.var c.args.expr.now c.args.den) (substitution_linear c.args.gens.now.dim c.args.var c.args.expr.now c.args.den c.requires.var c.requires.positive) (generator_at c.args.gens.now.list c.loop-index.index) c.row.ensures.generator c.in-Ok.row c.kind.result c.loop-index.invariant.dim (r ∙ ap (substituted c.args.var c.args.expr.now c.args.den) c.row.ensures.value) c.kind.ensures
+    step_divisor c.args.gens.now.dim c.args.gens.now.dim c.loop-index.mapped.dim (substituted c.args.var c.args.expr.now c.args.den) (substitution_linear c.args.gens.now.dim c.args.var c.args.expr.now c.args.den c.requires.var c.requires.positive) (generator_at c.args.gens.now.list c.loop-index.index) c.row.ensures.generator c.deref.result.now c.kind.result c.loop-index.invariant.dim (c.deref.ensures.value ∙ r ∙ ap (substituted c.args.var c.args.expr.now c.args.den) c.row.ensures.value) c.kind.ensures
 
 pub loop-index-preserved : goal.loop-index-preserved
 loop-index-preserved c =
@@ -45,12 +48,12 @@ loop-index-preserved c =
     let stays = simp to_z-of_z at c.in-Ok.ensures.stays in
     simp to_z-of_z (record {
       dim = c.in_ok-push_mapped.ensures.dim ∙ c.loop-index.invariant.dim;
-      mapped = mapped_step (substituted c.args.var c.args.expr.now c.args.den) c.args.gens.now.list c.loop-index.mapped.list c.push_mapped.new.gens.list c.loop-index.index c.in-Ok.row c.kind.result (omega arith) (r ∙ ap (substituted c.args.var c.args.expr.now c.args.den) c.row.ensures.value) c.kind.ensures m c.in_ok-push_mapped.ensures.list;
+      mapped = mapped_step (substituted c.args.var c.args.expr.now c.args.den) c.args.gens.now.list c.loop-index.mapped.list c.push_mapped.new.gens.list c.loop-index.index c.deref.result.now c.kind.result (omega arith) (c.deref.ensures.value ∙ r ∙ ap (substituted c.args.var c.args.expr.now c.args.den) c.row.ensures.value) c.kind.ensures m c.in_ok-push_mapped.ensures.list;
       earlier = below_more (λ (i : ℕ). StaysInImage c.args.var c.args.expr.now c.args.den (row_at c.args.gens.now.list i)) c.loop-index.index earlier (subst (StaysInImage c.args.var c.args.expr.now c.args.den) c.row.ensures.value stays);
     })
 
-pub image_row-requires : goal.image_row-requires
-image_row-requires c =
+pub put_image-requires : goal.put_image-requires
+put_image-requires c =
     let wide = ap length c.row.ensures.value in
     record {
       var = omega (arith, wide, c.row.ensures.wide, c.requires.var);

@@ -25,12 +25,15 @@ loop-index-init g c =
       counted = omega arith;
     })
 
-pub push_row-requires : goal.push_row-requires
-push_row-requires g c =
+pub push-requires : goal.push-requires
+push-requires g c =
     let den_fits : SFits w128 c.args.den = c.ranges.den in
     let r = simp to_z-of_z at c.in-Ok.ensures.row in
-    let e = ap length r ∙ length-pulled_back c.args.var c.args.expr.now c.args.den c.row.result.now (omega (arith, c.requires.wide, ap length c.row.ensures.value, c.row.ensures.wide)) in
-    omega (arith, e, ap length c.row.ensures.value, c.row.ensures.wide, c.loop-index.invariant.dim)
+    let e = ap length (c.deref.ensures.value ∙ r) ∙ length-pulled_back c.args.var c.args.expr.now c.args.den c.row.result.now (omega (arith, c.requires.wide, ap length c.row.ensures.value, c.row.ensures.wide)) in
+    record {
+      wide = omega (arith, e, ap length c.row.ensures.value, c.row.ensures.wide, c.loop-index.invariant.dim);
+      in_range = subst AllInRange (sym c.deref.ensures.value) c.in-Ok.ensures.in_range;
+    }
 
 pub loop-index-preserved : goal.loop-index-preserved
 loop-index-preserved g c =
@@ -40,15 +43,15 @@ loop-index-preserved g c =
     let earlier = simp to_z-of_z at c.loop-index.invariant.earlier in
     let stays = simp to_z-of_z at c.in-Ok.ensures.stays in
     simp to_z-of_z (record {
-      dim = c.in_ok-push_row.ensures.dim ∙ c.loop-index.invariant.dim;
-      pulled = pulled_step (pulled_back c.args.var c.args.expr.now c.args.den) c.args.cons.now.list c.loop-index.pulled.list c.push_row.new.self.list c.loop-index.index c.in-Ok.row c.kind.result (omega arith) (r ∙ ap (pulled_back c.args.var c.args.expr.now c.args.den) c.row.ensures.value) c.kind.ensures p c.in_ok-push_row.ensures.list;
+      dim = c.in_ok-push.ensures.dim ∙ c.loop-index.invariant.dim;
+      pulled = pulled_step (pulled_back c.args.var c.args.expr.now c.args.den) c.args.cons.now.list c.loop-index.pulled.list c.push.new.self.list c.loop-index.index c.deref.result.now c.kind.result (omega arith) (c.deref.ensures.value ∙ r ∙ ap (pulled_back c.args.var c.args.expr.now c.args.den) c.row.ensures.value) c.kind.ensures p c.in_ok-push.ensures.list;
       earlier = below_more (λ (i : ℕ). StaysInPullback c.args.var c.args.expr.now c.args.den (row_at c.args.cons.now.list i)) c.loop-index.index earlier (subst (StaysInPullback c.args.var c.args.expr.now c.args.den) c.row.ensures.value stays);
       no_fewer = omega (arith, c.loop-index.invariant.no_fewer, c.in-Ok.ensures.no_fewer);
       counted = omega (arith, c.loop-index.invariant.counted, c.in-Ok.ensures.counted);
     })
 
-pub pulled_row-requires : goal.pulled_row-requires
-pulled_row-requires g c =
+pub put_pulled-requires : goal.put_pulled-requires
+put_pulled-requires g c =
     let wide = ap length c.row.ensures.value in
     record {
       var = omega (arith, wide, c.row.ensures.wide, c.requires.var);

@@ -1,4 +1,4 @@
-use Rattle.std.proofs.Common.{◌≡◌, ◌∙◌, ℕ, List, ℤ, pos, length, drop, slice_set, ap, sym, subst, arith}
+use Rattle.std.proofs.Common.{◌≡◌, ◌∙◌, ℕ, List, ℤ, pos, ◌++◌, length, drop, slice_set, ap, sym, subst, arith}
 use Rattle.std.proofs.lemmas.List.{length-set, take_at}
 use Rattle.std.proofs.lemmas.List.Elements.{All-get_or}
 use Rattle.std.proofs.lemmas.Int.{to_z-of_z, fits_signed_from_abs}
@@ -6,17 +6,7 @@ use Rattle.std.specs.Int.{w128}
 use mir.Val.{SFits}
 use Rattle.row_core.specs.Vectors.{cell, scale, add}
 use Rattle.row_core.specs.Range.{InRange, AllInRange, AllStay, CombineStays, IsFirstToLeave}
-use Rattle.mapped_systems.proofs.substitution.pulled_row.Goals as goal
-
-pub from_vec-requires : goal.from_vec-requires
-from_vec-requires g c =
-    let new = c.combine_onto.new.dst in
-    let width : length new ≡ c.in_ok-entries.entries.len = omega (arith, c.in_default.ensures.width, c.deref_mut.ensures.len) in
-    let written = take_at new (drop (length new) (slice_set c.in_ok-entries.entries.items c.args.var (pos 0))) c.in_ok-entries.entries.len width in
-    record {
-      in_range = subst AllInRange (sym written) c.in_default.ensures.in_range;
-      narrow = omega (arith, ap length written, width, c.in_ok-entries.ensures.len, c.requires.narrow);
-    }
+use Rattle.mapped_systems.proofs.substitution.put_pulled.Goals as goal
 
 pub returns : goal.returns
 returns g c =
@@ -26,12 +16,15 @@ returns g c =
     let den_fits : SFits w128 c.args.den = c.ranges.den in
     let entry_in_range : InRange (cell row var) = All-get_or InRange row var (pos 0) c.requires.var c.requires.in_range in
     let entry_fits : SFits w128 (cell row var) = fits_signed_from_abs w128 (cell row var) entry_in_range.size in
-    let width : length new ≡ c.in_ok-entries.entries.len = omega (arith, c.in_default.ensures.width, c.deref_mut.ensures.len) in
-    let cleared : c.deref_mut.result.now ≡ slice_set row var (pos 0) = c.deref_mut.ensures.value ∙ ap (λ (v : List ℤ). slice_set v var (pos 0)) c.in_ok-entries.ensures.items in
+    let held = c.extend_from_slice.new.self in
+    let width : length new ≡ held.len = omega (arith, c.in_default.ensures.width, c.as_mut_slice.ensures.len) in
+    let whole = take_at new (drop (length new) (slice_set held.items var (pos 0))) held.len width in
+    let cleared : c.as_mut_slice.result.now ≡ slice_set row var (pos 0) = c.as_mut_slice.ensures.value ∙ ap (λ (v : List ℤ). slice_set v var (pos 0)) (c.in_ok-extend_from_slice.ensures.items ∙ ap (λ (v : List ℤ). v ++ row) c.clear.ensures.items) in
     let combined = simp to_z-of_z at c.in_default.ensures.combined.0 in
     record {
-      row = c.from_vec.ensures ∙ take_at new (drop (length new) (slice_set c.in_ok-entries.entries.items var (pos 0))) c.in_ok-entries.entries.len width ∙ combined ∙ ap (λ (v : List ℤ). add (scale c.args.den v) (scale (cell row var) c.args.expr.now)) cleared;
+      row = whole ∙ combined ∙ ap (λ (v : List ℤ). add (scale c.args.den v) (scale (cell row var) c.args.expr.now)) cleared;
       stays = subst (AllStay (CombineStays (slice_set row var (pos 0)) c.args.den c.args.expr.now (cell row var))) (length-set row var (pos 0)) (subst (λ (v : List ℤ). AllStay (CombineStays v c.args.den c.args.expr.now (cell row var)) (length v)) cleared (simp to_z-of_z at c.in_default.ensures.combined.1));
+      in_range = subst AllInRange (sym whole) c.in_default.ensures.in_range;
       overflow = tt;
       no_fewer = omega (arith, c.in_default.ensures.counted);
       counted = omega (arith, c.in_default.ensures.counted);
@@ -45,12 +38,13 @@ returns-in-Err g c =
     let den_fits : SFits w128 c.args.den = c.ranges.den in
     let entry_in_range : InRange (cell row var) = All-get_or InRange row var (pos 0) c.requires.var c.requires.in_range in
     let entry_fits : SFits w128 (cell row var) = fits_signed_from_abs w128 (cell row var) entry_in_range.size in
-    let cleared : c.deref_mut.result.now ≡ slice_set row var (pos 0) = c.deref_mut.ensures.value ∙ ap (λ (v : List ℤ). slice_set v var (pos 0)) c.in_ok-entries.ensures.items in
+    let cleared : c.as_mut_slice.result.now ≡ slice_set row var (pos 0) = c.as_mut_slice.ensures.value ∙ ap (λ (v : List ℤ). slice_set v var (pos 0)) (c.in_ok-extend_from_slice.ensures.items ∙ ap (λ (v : List ℤ). v ++ row) c.clear.ensures.items) in
     let leaves = simp to_z-of_z at c.in-Err.ensures.combined.1 in
     let of_cleared : IsFirstToLeave (CombineStays (slice_set row var (pos 0)) c.args.den expr (cell row var)) (length (slice_set row var (pos 0))) c.in-Err.column = subst (λ (v : List ℤ). IsFirstToLeave (CombineStays v c.args.den expr (cell row var)) (length v) c.in-Err.column) cleared leaves in
     let shown = simp to_z-of_z at c.in_ok-over.ensures.rows in
     record {
       row = tt;
+      in_range = tt;
       stays = tt;
       overflow = record {
         shown = shown;
