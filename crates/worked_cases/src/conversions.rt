@@ -43,8 +43,8 @@ fn all_rows(alloc: Global) -> Result<RowList, Memory>
     Ok(rows)
 }
 
-// At the last row the ray (1, -K, 0) has the value -K and the ray (0, 0, 1) the value 2: K times the one and 2
-// times the other leaves the range in the second column.
+// At the last row the ray (1, -K, 0) has the value -K and the ray (0, 0, 1) the value 2: K times
+// the one and 2 times the other leaves the range in the second column.
 fn leaves_at_the_last_row(rt: &impl Abort, converted: Result<Cone, ConvErr>) {
     match converted {
         Err(ConvErr::Overflow(over)) => {
@@ -174,7 +174,12 @@ fn left_constraints(alloc: Global) -> Result<ConsSys, Memory>
 fn are_closed(cons: &ConsSys) -> bool
     ensures { IsTrue result ↔ AreClosed cons.now }
 {
-    cons.iter().all(|con| con.1 != ConKind::Gt)
+    for index in 0..cons.len() {
+        if cons.kind(index) == ConKind::Gt {
+            return false;
+        }
+    }
+    true
 }
 
 fn check_left<L: Ledger>(rt: &impl Abort, alloc: Global, blank: Blank) -> Result<(), Fail>

@@ -1,7 +1,8 @@
-//! Worked cases of the lower crates, through their public calls: what is read and refused, what is printed, what is kept.
+//! Worked cases of the lower crates, through their public calls: what is read and refused, what is
+//! printed, what is kept.
 //!
-//! Nothing stands here but tests. They stand in a crate of their own so that no crate is proved a second time for its
-//! tests; cases that reach the program stand in its stored run.
+//! Nothing stands here but tests. They stand in a crate of their own so that no crate is proved a
+//! second time for its tests; cases that reach the program stand in its stored run.
 #![tactic(auto)]
 
 #[cfg(test)]

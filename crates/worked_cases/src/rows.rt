@@ -138,15 +138,45 @@ fn kept_rows(rt: HostRuntime) -> Result<(), Fail> {
 #[test]
 fn marked_rows(rt: HostRuntime) -> Result<(), Fail> {
     let mut rows = MarkedRows::new(rt.alloc());
-    rows.push_copy(&[7], true)?;
+    rows.push_copy(&[7, 0], true)?;
+    let first = rows.clone()?;
     rows.push_primitive(&[4, -6], false)?;
-    let both = rows.followed_by(&rows)?;
-    assert_eq!(rt; both.len(), 4);
-    assert_eq!(rt; both.row(2), [7].as_slice());
-    assert_eq!(rt; both.row(3), [2, -3].as_slice());
-    assert!(rt; both.mark(2) && !both.mark(3));
+    assert_eq!(rt; rows.len(), 2);
+    assert_eq!(rt; rows.row(0), [7, 0].as_slice());
+    assert_eq!(rt; rows.row(1), [2, -3].as_slice());
+    assert!(rt; rows.mark(0) && !rows.mark(1));
     let copy = rows.clone()?;
-    assert!(rt; copy == rows && copy != both);
+    assert!(rt; copy == rows && copy != first);
+    Ok(())
+}
+
+#[test]
+fn rows_in_place(rt: HostRuntime) -> Result<(), Fail> {
+    let mut list = RowList::new(rt.alloc(), 2);
+    list.push(&[1, 2], false)?;
+    list.insert(0, &[5, 6], true)?;
+    list.insert(1, &[3, 4], false)?;
+    list.put(2, &[7, 8]);
+    list.remove(0);
+    assert_eq!(rt; list.len(), 2);
+    assert_eq!(rt; list.row(0), [3, 4].as_slice());
+    assert_eq!(rt; list.row(1), [7, 8].as_slice());
+    assert!(rt; !list.is_eq(0) && !list.is_eq(1));
+    Ok(())
+}
+
+#[test]
+fn rows_taken_over(rt: HostRuntime) -> Result<(), Fail> {
+    let cells = vec![in rt.alloc(); 1, 2, 3, 4]?;
+    let mut lines = RowList::of_cells(rt.alloc(), 2, 2, cells, true)?;
+    let mut rays = RowList::new(rt.alloc(), 2);
+    rays.push(&[5, 6], false)?;
+    lines.append(rays)?;
+    let mut others = RowList::new(rt.alloc(), 2);
+    others.append(lines)?;
+    assert_eq!(rt; others.row(2), [5, 6].as_slice());
+    assert!(rt; others.is_eq(1) && !others.is_eq(2));
+    assert_eq!(rt; others.into_cells(), vec![in rt.alloc(); 1, 2, 3, 4, 5, 6]?);
     Ok(())
 }
 
