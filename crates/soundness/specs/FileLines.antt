@@ -47,7 +47,8 @@ pub record AreNumbersOf (words : List (List ℕ)) (row : List ℤ) : Type 0 wher
 abbrev pub IsRowOf : Bool → List (List ℕ) → Constraint → Type 0
 IsRowOf marked words c = AreNumbersOf words c.0 × (c.1 ≡ (if marked then Eq else Ge))
 
--- `t x1 .. xn` is a point where t is above 0; where t is 0 it is a ray, or a line if it is marked
+-- `t x1 .. xn` is the point (x1/t, .., xn/t) where t is above 0; where t is 0 it is a ray, or a line
+-- if it is marked
 abbrev pub IsVectorOf : ℕ → Bool → List (List ℕ) → Generator → Type 0
 IsVectorOf dim marked words (v, Point) =
     AreNumbersOf words v × (pos 0 <ℤ cell v dim) × (marked ≡ false)

@@ -120,13 +120,15 @@ signs rel.Le = codes "<=" ∷ []
 signs rel.Gt = codes ">" ∷ []
 signs rel.Lt = codes "<" ∷ []
 
--- a command with so many names
+-- a command with one name
 abbrev pub one : List ℕ → List ℕ → Spelling
 one first p = of_words first (name p ∷ [])
 
+-- a command with two names
 abbrev pub two : List ℕ → List ℕ → List ℕ → Spelling
 two first p q = of_words first (name p ∷ name q ∷ [])
 
+-- a command with three names
 abbrev pub three : List ℕ → List ℕ → List ℕ → List ℕ → Spelling
 three first p q r = of_words first (name p ∷ name q ∷ name r ∷ [])
 

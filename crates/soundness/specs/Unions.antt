@@ -80,7 +80,7 @@ pub record AreRankings (r s : PointSet) : Type 0 where
   pub relation : IsRelation r
   pub set : IsSetOf false (r.cons.dim / 2 + 1) (IsRanking (r.cons.dim / 2) r.cons) s
 
--- one of these functions is shown
+-- a function that ranks the relation is shown
 pub record TellsFunction (r : PointSet) (reply : List ℕ) : Type 0 where
   pub function : List ℤ
   pub point : IsPoint (r.cons.dim / 2 + 1) function
@@ -91,7 +91,7 @@ pub record TellsFunction (r : PointSet) (reply : List ℕ) : Type 0 where
   pub is_text : FractionText (r.cons.dim / 2) text (take (r.cons.dim / 2 + 1) function) divisor
   pub said : reply ≡ line text
 
--- or that there is none
+-- a function that ranks the relation is shown, or it is said that there is none
 pub record TellsRanking (r : PointSet) (reply : List ℕ) : Type 0 where
   pub relation : IsRelation r
   pub tells : TellsFunction r reply ⊎ (((f : List ℤ) → IsPoint (r.cons.dim / 2 + 1) f → ¬
