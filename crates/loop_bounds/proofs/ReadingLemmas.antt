@@ -1,14 +1,16 @@
 -- What lines say, and why they are refused.
 use Rattle.std.proofs.Common.{◌≡◌, ◌⊎◌, inl, inr, ℕ, ◌+◌, ◌-◌, ◌^◌, ◌<◌, ◌≤◌, List, [], ◌∷◌, ◌++◌, length, take, drop, min, ℤ, pos, ◌<ℤ◌, Option, Some, None, MatchOption, ok_or, Result, Ok, Err, MatchResult, refl, sym, ap, ◌∙◌, subst, arith}
-use Rattle.std.specs.Prelude.{get_or}
+use Rattle.std.specs.Prelude.{get_or, All, ◌≢◌, zero, suc}
 use Rattle.std.proofs.lemmas.Int.{ints}
 use Rattle.std.proofs.lemmas.Bool.{cases_order}
 use Rattle.std.proofs.lemmas.List.{take-append-drop, take_more, take_all, drop_more, length-take-le}
 use Rattle.grammar.specs.Cases.{expr_cases, frac_cases, cons_cases}
 use Rattle.row_core.specs.Vectors.{cell}
 use Rattle.row_core.specs.Range.{InRange, AllInRange}
-use Rattle.cons_sys.specs.Constraints.{Constraints}
-use Rattle.stored_systems.specs.PointSets.{AreClosed}
+use Rattle.cons_sys.specs.Constraints.{Constraint, Constraints, kind_at}
+use Rattle.cons_sys.specs.declared.kind.ConKind.{ConKind}
+use Rattle.cons_sys.specs.declared.kind.ConKind.TheVariants.{Eq, Ge, Gt}
+use Rattle.stored_systems.specs.PointSets.{AreClosed, IsClosedKind}
 use Rattle.poly_pair.specs.declared.topology.TheConstants.{MAX_DIM}
 use Rattle.reply_text.specs.declared.faults.Fault.{Fault}
 use Rattle.reply_text.specs.declared.faults.Fault.TheVariants.{Syntax, TooManyDims, StrictInClosed, Truncated}
@@ -40,6 +42,18 @@ pub assignment_read : (dim variable : ℕ) (word line part : List ℕ) → varia
 assignment_read dim variable word line part known named e = shown_part word line part (λ a text. IsValue dim variable a text × IsAssignment dim a) (IsVariableFault dim variable) (λ a. IsAssignmentLine dim line a × IsAssignment dim a) (IsAssignmentFault dim line) e
     (λ a is. ((variable, record { part = part; behind = e ∙ ap (λ (w : List ℕ). w ++ part) named; holds = is.0 }), is.1))
     (λ fault is. inr (variable, known, subst (λ (w : List ℕ). IsPartFault w line (IsVariableFault dim variable) fault) named is))
+
+-- ---- constraints that aren't strict
+closed_kind : (kind : ConKind) → kind ≢ Gt → IsClosedKind kind
+closed_kind Eq other = tt
+closed_kind Ge other = tt
+closed_kind Gt other = absurd (other refl)
+
+-- none of a list is
+pub none_strict : (list : List Constraint) → ((i : ℕ) → i < length list → kind_at list i ≢ Gt) → All (λ (c : Constraint). IsClosedKind c.1) list
+none_strict [] others k d h = absurd (omega (arith, h))
+none_strict (c ∷ list) others zero d h = closed_kind c.1 (others 0 (omega arith))
+none_strict (c ∷ list) others (suc k) d h = none_strict list (λ i below. others (suc i) (omega (arith, below))) k d (omega (arith, h))
 
 -- ---- the number of variables
 one_cell : (row : List ℤ) → length row ≡ 1 → row ≡ cell row 0 ∷ []

@@ -150,7 +150,7 @@ HasFault (Started start) line fault =
     IsLineFault (codes "while ") line (IsConstraintFault start.dim) fault
 HasFault (Whole l) line fault = IsAssignmentFault l.dim line fault
 
--- a refusal is for such a fault; want of memory needs no cause
+-- a refusal is for such a fault, or memory ran out
 abbrev pub IsRefusedFor : (Fault → Type 0) → ReadErr → Type 0
 IsRefusedFor P (Input fault) = P fault
 IsRefusedFor P Memory = ⊤

@@ -32,7 +32,7 @@ pub enum Draft {
 pub struct LoopErr {
     /// The first line that is refused, counted from 1.
     pub line: u64,
-    /// Its fault, or want of memory.
+    /// Its fault, or that memory ran out.
     pub cause: ReadErr,
 }
 
@@ -92,7 +92,12 @@ fn read_dimension(alloc: Global, line: &[u8]) -> Result<usize, ReadErr>
 fn are_closed(cons: &ConsSys) -> bool
     ensures { IsTrue result ↔ AreClosed cons.now }
 {
-    cons.iter().all(|con| con.1 != ConKind::Gt)
+    for index in 0..cons.len() {
+        if cons.kind(index) == ConKind::Gt {
+            return false;
+        }
+    }
+    true
 }
 
 /// Constraints of which none is strict.
