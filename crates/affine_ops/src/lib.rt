@@ -1,7 +1,7 @@
 //! Images, preimages, posts and changes of the dimension of polyhedra, from one crate.
 //!
-//! [`affine_maps`] has images, preimages, shadows and posts, [`dimensions`] the calls that add and take away
-//! variables, and [`mapped_systems`] the systems that both make.
+//! [`affine_maps`] has images, preimages, shadows and posts, [`dimensions`] the calls that add and
+//! take away variables, and [`mapped_systems`] the systems that both make.
 #![tactic(auto)]
 
 pub use affine_maps::{

@@ -50,7 +50,7 @@ pub enum HybridChange {
     Flow(usize, Poly),
 }
 
-/// Changes a part of the entry under the name. After want of memory the table is as before.
+/// Changes a part of the entry under the name. Out of memory, the table is as before.
 pub fn change_under(names: &mut Names<Entry>, name: &[u8], change: PartChange) -> Result<(), Memory>
     requires there { IsSome (entry_of names.old name.now) }
     requires fits { (e : AnyEntry) → entry_of names.old name.now ≡ Some e → FitsPart e change }
@@ -67,7 +67,7 @@ pub fn change_under(names: &mut Names<Entry>, name: &[u8], change: PartChange) -
 }
 
 impl PartChange {
-    /// Makes the change, where the entry is of the kind that it is for. After want of memory the
+    /// Makes the change, where the entry is of the kind that it is for. Out of memory, the
     /// entry is as before.
     pub fn apply(self, entry: &mut Entry) -> Result<(), Memory>
         requires { FitsPart entry.old self }
@@ -92,7 +92,7 @@ impl PartChange {
 }
 
 impl SystemChange {
-    /// Makes the change. After want of memory the system is as before.
+    /// Makes the change. Out of memory, the system is as before.
     pub fn apply(self, system: &mut System) -> Result<(), Memory>
         requires { FitsSystem system.old self }
         ensures ok { OnOk result (system.new ≡ changed_system system.old self) }

@@ -22,7 +22,7 @@ pub record IsMoved (dim : ℕ) (x y v : List ℤ) : Type 0 where
   pub positive : pos 0 <ℤ den
   pub columns : (j : ℕ) → j < dim → IsMovedAt dim x y num den v j
 
--- and x is a point of the one set, y one of the other
+-- the vector is such a point x + t*y, where x is a point of the one set and y one of the other
 pub record IsElapsed (cs ds : Constraints) (v : List ℤ) : Type 0 where
   pub start : List ℤ
   pub start_within : IsWithin cs start

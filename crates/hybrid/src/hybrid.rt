@@ -52,7 +52,7 @@ fn universes(alloc: Global, dim: usize, count: usize) -> Result<Vec<Poly>, Memor
 
 impl Hybrid {
     /// The automaton of the system with the universe as each invariant and empty flows, so that no
-    /// time passes. On want of memory the system is dropped.
+    /// time passes. Out of memory, the system is dropped.
     pub fn new(alloc: Global, system: System) -> Result<Hybrid, Memory>
         ensures system { IfOk result (λ h. h.system ≡ system) }
         ensures invariants { IfOk result (λ h. All (IsUniverse Closed system.dim) h.invariants) }

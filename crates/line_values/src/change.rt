@@ -28,7 +28,7 @@ pub enum Change<E> {
 }
 
 impl<E: PolyEntry> Change<E> {
-    /// Makes the change, and gives its lines. After want of memory the table is as before.
+    /// Makes the change, and gives its lines. Out of memory, the table is as before.
     pub fn apply(self, alloc: Global, names: &mut Names<E>) -> Result<Text, Memory>
         ensures { Shows E.of_poly names.old self result names.new }
     {
@@ -69,7 +69,7 @@ fn poly_entries<E: PolyEntry>(alloc: Global, sets: Vec<Poly>) -> Result<Vec<E>, 
     Ok(entries)
 }
 
-/// Puts the entry under the name. After want of memory the table is as before.
+/// Puts the entry under the name. Out of memory, the table is as before.
 pub fn put_entry<E: PolyEntry>(
     alloc: Global,
     names: &mut Names<E>,
@@ -99,7 +99,7 @@ fn put_sets<E: PolyEntry>(
     Ok(reply)
 }
 
-/// Takes the name out. After want of memory the table is as before.
+/// Takes the name out. Out of memory, the table is as before.
 fn take_out<E: PolyEntry>(alloc: Global, names: &mut Names<E>, name: &Text) -> Result<Text, Memory>
     ensures { Shows E.of_poly names.old (changes.TakesOut name.now) result names.new }
 {

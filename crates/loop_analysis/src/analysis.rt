@@ -96,8 +96,8 @@ fn behind<L: Ledger>(
 /// Bounds of the variables that hold along each run of the loop.
 ///
 /// The set at the head grows, by rounds, from the start to one that a round doesn't leave; later it
-/// is widened (P. Cousot and N. Halbwachs, 1978). The bounds are those of the start and a last round
-/// from it.
+/// is widened (P. Cousot and N. Halbwachs, 1978). The bounds are those of the start and a last
+/// round from it.
 ///
 /// # Errors
 ///

@@ -51,8 +51,8 @@ impl<E: Drop> Names<E> {
         self.entries.get(name)
     }
 
-    /// Puts the entry under the name. A name that is there keeps its place, for which no memory is wanted, and a new
-    /// one goes last. After want of memory the table is as before.
+    /// Puts the entry under the name. A name that is there keeps its place, for which no memory is
+    /// wanted, and a new one goes last. Out of memory, the table is as before.
     pub fn put(&mut self, name: &[u8], entry: E) -> Result<(), Memory>
         ensures ok { OnOk result (self.new ≡ put self.old name.now entry) }
         ensures err { OnErr result (self.new ≡ self.old) }
@@ -67,7 +67,7 @@ impl<E: Drop> Names<E> {
     }
 
     /// Puts the entries in order, each under the name of the prefix and its number. A name that is
-    /// there keeps its place, and new ones go last. After want of memory the table is as before.
+    /// there keeps its place, and new ones go last. Out of memory, the table is as before.
     pub fn put_all(&mut self, prefix: &[u8], entries: Vec<E>) -> Result<(), Memory>
         ensures ok { OnOk result (self.new
             ≡ put_each self.old (entries_numbered prefix.now 0 entries.items)) }

@@ -79,7 +79,7 @@ impl OpenFile {
         })
     }
 
-    /// Adds a line. After want of memory the file is as before.
+    /// Adds a line. Out of memory, the file is as before.
     pub fn add_line(&mut self, alloc: Global, line: &[u8]) -> Result<(), Memory>
         ensures ok { OnOk result (self.new ≡ with_line self.old line.now) }
         ensures err { OnErr result (self.new ≡ self.old) }

@@ -15,21 +15,21 @@ use Rattle.optimum.specs.declared.relating.Sides.{Sides}
 use Rattle.optimum.specs.declared.outcome.Relation.{Relation}
 
 -- ---- the points of the set
--- the constraint holds at each point
+-- the constraint holds at each point of the set
 abbrev pub HoldsThroughout : Constraints → Constraint → Type 0
 HoldsThroughout cs c = (p : List ℤ) → IsWithin cs p → Satisfies p c
 
--- at no point
+-- the constraint holds at no point of the set
 abbrev pub HoldsNowhere : Constraints → Constraint → Type 0
 HoldsNowhere cs c = (p : List ℤ) → IsWithin cs p → ¬ (Satisfies p c)
 
--- a point at which it holds
+-- a point of the set at which the constraint holds
 pub record HoldsSomewhere (cs : Constraints) (c : Constraint) : Type 0 where
   pub point : List ℤ
   pub within : IsWithin cs point
   pub holds : Satisfies point c
 
--- a point at which it doesn't
+-- a point of the set at which the constraint doesn't hold
 pub record FailsSomewhere (cs : Constraints) (c : Constraint) : Type 0 where
   pub point : List ℤ
   pub within : IsWithin cs point

@@ -10,7 +10,7 @@ abbrev pub Writes : Option (List ℕ) → Option (List ℕ) → List ℕ → Wri
 -- the first bytes are appended to what was held, one at least
 Writes old new bytes (Took n) =
     (1 ≤ n) × (n ≤ length bytes) × (new ≡ append_known old (take n bytes))
--- a failure, or want of memory, appends nothing
+-- a failure appends nothing, nor does running out of memory
 Writes old new bytes Failed = new ≡ old
 Writes old new bytes Memory = new ≡ old
 

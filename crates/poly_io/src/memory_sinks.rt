@@ -9,7 +9,8 @@ use super::writing::{Sink, WriteAns};
 use std::alloc::{AllocError, Global};
 use std::marker::Model;
 
-/// Gathers bytes in memory. No write fails but for want of memory, and how often it was refused is counted.
+/// Gathers bytes in memory. No write fails except out of memory, and how often it was refused is
+/// counted.
 #[derive(Drop)]
 pub struct SafeSink {
     bytes: Vec<u8>,

@@ -1,7 +1,7 @@
 //! The commands that make polyhedra, or add to one: what each makes, or why it is refused.
 //!
-//! - [`make`] makes what a `Maker` says, of the parts of its line or of polyhedra that are looked up
-//!   in a table of which some entries are polyhedra.
+//! - [`make`] makes what a `Maker` says, of the parts of its line or of polyhedra that are looked
+//!   up in a table of which some entries are polyhedra.
 //! - [`add_to`] gives a polyhedron with what an `Addition` says.
 //!
 //! A maker is told whether the table of names is full. Each does what its meaning says: the first

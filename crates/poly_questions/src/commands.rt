@@ -1,5 +1,5 @@
-//! What answers each question, from the table as it stands: its operands are looked up here, and here
-//! alone.
+//! What answers each question, from the table as it stands: its operands are looked up here, and
+//! here alone.
 ghost use Rattle.std.specs.Option.{option_copied};
 ghost use Rattle.line_values.specs.Meaning.{on_one};
 ghost use Rattle.line_values.specs.Performed.{IsPerformed};

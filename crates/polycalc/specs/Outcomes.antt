@@ -145,7 +145,7 @@ AnswersFront job.Run script left old new = AnswersEarlier script old new
 AnswersFront (job.Convert want) file left old new = new ≡ old
 AnswersFront (job.Sample n) given left old new = ⊥
 
--- what is written after want of memory: the replies to the lines before; of other jobs nothing
+-- what is written where memory ran out: the replies to the lines before; of other jobs nothing
 abbrev pub AnswersBefore : Job → List ℕ → Option (List ℕ) → Option (List ℕ) → Option (List ℕ)
     → Type 0
 AnswersBefore job.Run script left old new = AnswersFirst script left old new

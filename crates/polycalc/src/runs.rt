@@ -118,7 +118,7 @@ fn end_script<W: Sink>(calc: &mut Calc, replies: &mut Replies, sink: &mut W) -> 
     }
 }
 
-// The end of a run for want of memory: the replies to the lines before are written.
+// The end of a run out of memory: the replies to the lines before are written.
 fn give_up<W: Sink>(sink: &mut W, replies: &Replies) -> Status
     ensures status { (result ≡ Status.WriteFault) ⊎ (result ≡ Status.Memory) }
     ensures partly { (count : ℕ) × (W.held sink.new ≡ append_known (W.held sink.old)
@@ -135,7 +135,7 @@ fn give_up<W: Sink>(sink: &mut W, replies: &Replies) -> Status
     }
 }
 
-// One line's step, and its reply. After want of memory the replies are as before.
+// One line's step, and its reply. Out of memory, the replies are as before.
 fn reply_to<L: Ledger>(
     calc: &mut Calc,
     line: &[u8],

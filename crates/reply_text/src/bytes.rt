@@ -41,7 +41,7 @@ impl Text {
         }
     }
 
-    /// Appends the bytes. After want of memory the text is as before.
+    /// Appends the bytes. Out of memory, the text is as before.
     pub fn push(&mut self, bytes: &[u8]) -> Result<(), Memory>
         ensures { MatchResult result
             (λ _. self.new ≡ self.old ++ bytes.now)
@@ -51,7 +51,7 @@ impl Text {
         Ok(())
     }
 
-    /// Appends a byte. After want of memory the text is as before.
+    /// Appends a byte. Out of memory, the text is as before.
     #[inline]
     pub fn push_byte(&mut self, byte: u8) -> Result<(), Memory>
         ensures { MatchResult result
@@ -62,7 +62,7 @@ impl Text {
         Ok(())
     }
 
-    /// Appends a number in decimal digits. After want of memory the text is as before.
+    /// Appends a number in decimal digits. Out of memory, the text is as before.
     pub fn push_unsigned(&mut self, number: u64) -> Result<(), Memory>
         ensures { MatchResult result
             (λ _. self.new ≡ self.old ++ decimal number)
@@ -71,7 +71,7 @@ impl Text {
         self.push(Buffer::new().format(number).as_bytes())
     }
 
-    /// Appends a number in decimal digits, with `-` before a negative one. After want of memory the
+    /// Appends a number in decimal digits, with `-` before a negative one. Out of memory, the
     /// text is as before.
     pub fn push_signed(&mut self, number: i128) -> Result<(), Memory>
         ensures { MatchResult result

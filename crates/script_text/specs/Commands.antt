@@ -148,7 +148,7 @@ command_of form.System f = command.System f.first (number_of f.second) (number_o
 command_of form.Trans f = command.Trans f.first (number_of f.second) (number_of f.third) f.fourth
 command_of form.Bounds f = command.Bounds f.first (number_of f.second) (part_from f.part)
 
--- the command of a line of the form with this behind its command word, or want of memory
+-- the command of a line of the form with this behind its command word, or that memory ran out
 abbrev pub IsMade : LineForm → List ℕ → Result Command ReadErr → Type 0
 IsMade form rest result =
     MatchResult result (λ c. c ≡ command_of form (fields_in rest)) (λ e. e ≡ read_err.Memory)

@@ -28,7 +28,7 @@ impl VarList {
         }
     }
 
-    /// Appends a number. After want of memory the list is as before.
+    /// Appends a number. Out of memory, the list is as before.
     pub fn push(&mut self, number: u64) -> Result<(), Memory>
         ensures { MatchResult result
             (λ _. self.new ≡ self.old ++ number ∷ [])

@@ -114,7 +114,7 @@ impl System {
         self.initial[location] = p;
     }
 
-    /// Appends a transition. After want of memory the system is as before, and the
+    /// Appends a transition. Out of memory, the system is as before, and the
     /// relation is dropped.
     pub fn push_trans(&mut self, from: usize, to: usize, relation: Poly) -> Result<(), Memory>
         requires source { from < length self.old.initial }
