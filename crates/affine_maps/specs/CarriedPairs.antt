@@ -16,7 +16,8 @@ use Rattle.mapped_systems.specs.Refusals.{SomeLeavesInImage, SomeLeavesInPullbac
 abbrev pub HaveNoLine : List Generator → Type 0
 HaveNoLine list = (i : ℕ) → i < length list → kind_at list i ≢ Line
 
--- a closed set with a point and without a line, and a map whose variable has a part in its expression
+-- a closed set with a point and without a line, and a map whose variable has a part in its
+-- expression
 pub record CanBeCarried (p : Polyhedron) (part : ℤ) : Type 0 where
   pub start : CanStart p
   pub part_is : part ≢ pos 0
@@ -38,7 +39,8 @@ pub record LeavesInMapped (var : ℕ) (row : List ℤ) (size : ℤ) (p : Polyhed
   pub over : Overflow
   pub leaves : SomeLeavesInImage var row size p.gens.list over
 
--- the pair of a mapped polyhedron isn't found in the range: its constraints are mapped by the expression that undoes the map
+-- the pair of a mapped polyhedron isn't found in the range: its constraints are mapped by the
+-- expression that undoes the map
 pub record ImagePairLeaves (var : ℕ) (expr : List ℤ) (den : ℤ) (p : Polyhedron) : Type 0 where
   pub row : List ℤ
   pub inverse : IsInverseRow var expr den row (pos (unsigned_abs (cell expr var)))

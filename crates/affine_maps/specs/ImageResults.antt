@@ -13,7 +13,8 @@ use Rattle.affine_maps.specs.Relations.{IsStoredOfRelation, LeavesOnRelation, Is
 use Rattle.affine_maps.specs.PairConversions.{ConvertsImage, ConvertsPreimage}
 
 -- ---- images
--- what is stored: for equality of the list of the mapped generators, and else of that of the generators of the constraints with one more variable
+-- what is stored: for equality of the list of the mapped generators, and else of that of the
+-- generators of the constraints with one more variable
 abbrev pub IsStoredOfImage : ImageRel → ℕ → List ℤ → ℤ → Polyhedron → Polyhedron → Type 0
 IsStoredOfImage Eq var expr den p image = IsStoredOfSubstituted var expr den p image
 IsStoredOfImage Ge var expr den p image = IsStoredOfRelation (with_zeros p.cons.dim 1)
@@ -25,7 +26,8 @@ IsStoredOfImage Gt var expr den p image = IsStoredOfRelation (with_zeros p.cons.
 IsStoredOfImage Lt var expr den p image = IsStoredOfRelation (with_zeros p.cons.dim 1)
     (image_columns p.cons.dim var) Lt expr den p image
 
--- the overflow is of a generator's map or of the list of the mapped generators for equality, and else of the lists of the constraints with one more variable
+-- the overflow is of a generator's map or of the list of the mapped generators for equality, and
+-- else of the lists of the constraints with one more variable
 abbrev pub LeavesInImageBy : ImageRel → ℕ → List ℤ → ℤ → Polyhedron → Overflow → Type 0
 LeavesInImageBy Eq var expr den p over = SomeLeavesInImage var expr den p.gens.list over
     ⊎ LeavesOnSubstituted var expr den p over
@@ -38,7 +40,8 @@ LeavesInImageBy Gt var expr den p over = LeavesOnRelation (with_zeros p.cons.dim
 LeavesInImageBy Lt var expr den p over = LeavesOnRelation (with_zeros p.cons.dim 1)
     (image_columns p.cons.dim var) Lt expr den p over
 
--- what the call costs and shows: for equality what mapping the stored pair, or the generators, costs, and else the lists of the constraints with one more variable
+-- what the call costs and shows: for equality what mapping the stored pair, or the generators,
+-- costs, and else the lists of the constraints with one more variable
 abbrev pub ConvertsImageBy : ImageRel → ℕ → List ℤ → ℤ → Polyhedron → ℕ → ℕ
     → Result Polyhedron ConvErr → Type 0
 ConvertsImageBy Eq var expr den p old new result = ConvertsImage var expr den p old new result
@@ -52,7 +55,8 @@ ConvertsImageBy Lt var expr den p old new result = ConvertsRelation (with_zeros 
     (image_columns p.cons.dim var) Lt expr den p old new result
 
 -- ---- preimages
--- what is stored: for equality of the list of the mapped constraints, and else of that of the generators of the constraints with one more variable
+-- what is stored: for equality of the list of the mapped constraints, and else of that of the
+-- generators of the constraints with one more variable
 abbrev pub IsStoredOfPreimage : ImageRel → ℕ → List ℤ → ℤ → Polyhedron → Polyhedron → Type 0
 IsStoredOfPreimage Eq var expr den p preimage = IsStoredOfPulledBack var expr den p preimage
 IsStoredOfPreimage Ge var expr den p preimage = IsStoredOfRelation (moved p.cons.dim var)
@@ -64,7 +68,8 @@ IsStoredOfPreimage Gt var expr den p preimage = IsStoredOfRelation (moved p.cons
 IsStoredOfPreimage Lt var expr den p preimage = IsStoredOfRelation (moved p.cons.dim var)
     (range_with_len 0 p.cons.dim) Lt expr den p preimage
 
--- the overflow is of a constraint's map or of the list of the mapped constraints for equality, and else of the lists of the constraints with one more variable
+-- the overflow is of a constraint's map or of the list of the mapped constraints for equality, and
+-- else of the lists of the constraints with one more variable
 abbrev pub LeavesInPreimageBy : ImageRel → ℕ → List ℤ → ℤ → Polyhedron → Overflow → Type 0
 LeavesInPreimageBy Eq var expr den p over = SomeLeavesInPullback var expr den p.cons.list over
     ⊎ LeavesOnPulledBack var expr den p over
@@ -77,7 +82,8 @@ LeavesInPreimageBy Gt var expr den p over = LeavesOnRelation (moved p.cons.dim v
 LeavesInPreimageBy Lt var expr den p over = LeavesOnRelation (moved p.cons.dim var)
     (range_with_len 0 p.cons.dim) Lt expr den p over
 
--- what the call costs and shows: for equality what mapping the stored pair, or the constraints, costs, and else the lists of the constraints with one more variable
+-- what the call costs and shows: for equality what mapping the stored pair, or the constraints,
+-- costs, and else the lists of the constraints with one more variable
 abbrev pub ConvertsPreimageBy : ImageRel → ℕ → List ℤ → ℤ → Polyhedron → ℕ → ℕ
     → Result Polyhedron ConvErr → Type 0
 ConvertsPreimageBy Eq var expr den p old new result = ConvertsPreimage var expr den p old new result
@@ -91,7 +97,8 @@ ConvertsPreimageBy Lt var expr den p old new result = ConvertsRelation (moved p.
     (range_with_len 0 p.cons.dim) Lt expr den p old new result
 
 -- ---- equality
--- the image by equality is that by the map that replaces the variable by the expression over the divisor
+-- the image by equality is that by the map that replaces the variable by the expression over the
+-- divisor
 abbrev pub EqualImageIsSubstituted : Type 0
 EqualImageIsSubstituted = (var : ℕ) (expr : List ℤ) (den : ℤ) (p image : Polyhedron)
     → var < p.cons.dim → pos 0 <ℤ den → IsImageBy Eq var expr den p image

@@ -28,7 +28,8 @@ abbrev pub inverse_size : ℕ → List ℤ → ℤ
 inverse_size var expr = pos (unsigned_abs (cell expr var))
 
 -- ---- the pair of an image
--- the constraints with the variable replaced by the row over the size, and then at most the second list of the pair
+-- the constraints with the variable replaced by the row over the size, and then at most the second
+-- list of the pair
 pub record IsTurnedPair (var : ℕ) (row : List ℤ) (size : ℤ) (p : Polyhedron) (old new : ℕ)
     (result : Result (Option Polyhedron) Memory) : Type 0 where
   pub between : ℕ
@@ -83,7 +84,8 @@ ConvertsImage var expr den p old new result =
     ⊎ IsImageConversion var expr den p old new (overflow_in conv_overflow result)
 
 -- ---- the pair of a preimage
--- of a set that can be carried: its generators are mapped the other way, and at most the second list of the pair is converted
+-- of a set that can be carried: its generators are mapped the other way, and at most the second
+-- list of the pair is converted
 pub record IsCarriedPreimage (var : ℕ) (expr : List ℤ) (den : ℤ) (p : Polyhedron) (cs : Constraints)
     (old new : ℕ) (result : Result (Option Polyhedron) Memory) : Type 0 where
   pub can : CanBeCarried p (cell expr var)

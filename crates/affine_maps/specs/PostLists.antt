@@ -29,14 +29,17 @@ pub record IsStepSystem (p relation steps : Constraints) : Type 0 where
 abbrev pub later : ℕ → List ℕ
 later n = range_with_len n n
 
--- the conversion of the constraint list of a relation and a set leaves the range, or that of the list of the generators which its system stands for, without the first variables, or of the second list of the latter
+-- the conversion of the constraint list of a relation and a set leaves the range, or that of the
+-- list of the generators which its system stands for, without the first variables, or of the second
+-- list of the latter
 pub record LeavesOnSteps (p relation : Polyhedron) (over : Overflow) : Type 0 where
   pub steps : Constraints
   pub are_steps : IsStepSystem p.cons relation.cons steps
   pub leaves : LeavesOnShadow Closed (picked (later p.cons.dim) steps.dim) p.cons.dim steps over
 
 -- ---- what a call costs and shows
--- the conversion of the list of a relation's constraints and then a set's, from the stored pair of the relation, and then that of their successors
+-- the conversion of the list of a relation's constraints and then a set's, from the stored pair of
+-- the relation, and then that of their successors
 pub record IsStepConversion (p relation : Polyhedron) (old new : ℕ)
     (over : Option Overflow) : Type 0 where
   pub steps : Constraints

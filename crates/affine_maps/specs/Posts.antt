@@ -9,7 +9,8 @@ use Rattle.poly_pair.specs.FirstLists.{LacksPoint}
 use Rattle.poly_pair.specs.Polyhedra.{Polyhedron, IsOver}
 use Rattle.mapped_systems.specs.Maps.{without}
 
--- some pair of a state and a successor is in the relation, where the state, which is its first variables with the divisor, is in the set, and the successor, which is the others, is the point
+-- some pair of a state and a successor is in the relation, where the state, which is its first
+-- variables with the divisor, is in the set, and the successor, which is the others, is the point
 pub record IsStepTo (p relation : Constraints) (y : List ℤ) : Type 0 where
   pub pair : List ℤ
   pub related : IsWithin relation pair

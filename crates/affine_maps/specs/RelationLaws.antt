@@ -8,7 +8,8 @@ use Rattle.mapped_systems.specs.Maps.{with_zeros, picked}
 use Rattle.mapped_systems.specs.Sources.{HasSource}
 use Rattle.affine_maps.specs.Relations.{IsRelatedImage, IsRelatedPreimage, IsExtended, moved, image_columns}
 
--- the points that the extended constraints become where the new variable takes the place of the variable are the image by the relation
+-- the points that the extended constraints become where the new variable takes the place of the
+-- variable are the image by the relation
 abbrev pub ImageIsShadow : Type 0
 ImageIsShadow = (rel : ImageRel) (var : ℕ) (expr : List ℤ) (den : ℤ) (cs extended : Constraints)
     (v : List ℤ) → var < cs.dim → length expr ≡ cs.dim + 1

@@ -30,7 +30,9 @@ Stands Gt x y = y <ℤ x
 Stands Lt x y = x <ℤ y
 
 -- ---- sets
--- some point of the set has the same values in all other variables, and the value of the variable at the vector stands in the relation to that of the expression over the divisor at this point; all is multiplied out by the divisors
+-- some point of the set has the same values in all other variables, and the value of the variable
+-- at the vector stands in the relation to that of the expression over the divisor at this point;
+-- all is multiplied out by the divisors
 pub record IsRelatedImage (rel : ImageRel) (var : ℕ) (expr : List ℤ) (den : ℤ) (cs : Constraints)
     (v : List ℤ) : Type 0 where
   pub source : List ℤ
@@ -44,7 +46,8 @@ pub record IsRelatedImage (rel : ImageRel) (var : ℕ) (expr : List ℤ) (den : 
 abbrev pub replaced : ℕ → ℕ → ℤ → ℤ → List ℤ → List ℤ
 replaced dim var num below v = slice_set (scale below v) var (num *ℤ cell v dim)
 
--- some fraction stands in the relation to the value of the expression over the divisor at the vector, and with it as the value of the variable the vector is in the set
+-- some fraction stands in the relation to the value of the expression over the divisor at the
+-- vector, and with it as the value of the variable the vector is in the set
 pub record IsRelatedPreimage (rel : ImageRel) (var : ℕ) (expr : List ℤ) (den : ℤ) (cs : Constraints)
     (v : List ℤ) : Type 0 where
   pub num : ℤ
@@ -114,7 +117,8 @@ pub record IsPreimageBy (rel : ImageRel) (var : ℕ) (expr : List ℤ) (den : �
   pub points : (v : List ℤ) → IsPoint p.cons.dim v → In preimage.cons v
       ↔ IsRelatedPreimage rel var expr den p.cons v
 
--- the conversion of the list of the extended constraints, of that of their generators at the columns, or of the second list of the latter leaves the range
+-- the conversion of the list of the extended constraints, of that of their generators at the
+-- columns, or of the second list of the latter leaves the range
 pub record LeavesOnRelation (h : List ℤ → List ℤ) (columns : List ℕ) (rel : ImageRel)
     (expr : List ℤ) (den : ℤ) (p : Polyhedron) (over : Overflow) : Type 0 where
   pub extended : Constraints
@@ -122,7 +126,8 @@ pub record LeavesOnRelation (h : List ℤ → List ℤ) (columns : List ℕ) (re
   pub leaves : LeavesOnShadow p.topology (picked columns extended.dim) (length columns)
       extended over
 
--- what is stored: of the system of the extended constraints' generators at the columns, where these constraints hold somewhere
+-- what is stored: of the system of the extended constraints' generators at the columns, where these
+-- constraints hold somewhere
 pub record IsStoredOfRelation (h : List ℤ → List ℤ) (columns : List ℕ) (rel : ImageRel)
     (expr : List ℤ) (den : ℤ) (p result : Polyhedron) : Type 0 where
   pub extended : Constraints
@@ -131,7 +136,8 @@ pub record IsStoredOfRelation (h : List ℤ → List ℤ) (columns : List ℕ) (
       extended result
 
 -- ---- what a call costs and shows
--- the conversions of the list of the extended constraints and of that of their generators at the columns
+-- the conversions of the list of the extended constraints and of that of their generators at the
+-- columns
 pub record IsRelationConversion (h : List ℤ → List ℤ) (columns : List ℕ) (rel : ImageRel)
     (expr : List ℤ) (den : ℤ) (p : Polyhedron) (old new : ℕ) (over : Option Overflow) : Type 0 where
   pub extended : Constraints

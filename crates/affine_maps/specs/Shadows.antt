@@ -84,7 +84,8 @@ abbrev pub IsSecondConversion : Topology → (List ℤ → List ℤ) → ℕ →
 IsSecondConversion topology f dim cs old new over =
     ((new ≡ old) × (over ≡ None)) ⊎ IsSystemConversion topology f dim cs old new over
 
--- the conversion of the constraint list without its second list, and then that of the mapped generators
+-- the conversion of the constraint list without its second list, and then that of the mapped
+-- generators
 pub record AreBothConversions (work : Work) (topology : Topology) (f : List ℤ → List ℤ) (dim : ℕ)
     (cs : Constraints) (old new : ℕ) (over : Option Overflow) : Type 0 where
   pub between : ℕ

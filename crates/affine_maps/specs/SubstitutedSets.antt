@@ -44,7 +44,8 @@ pub record IsStoredOfPulledBack (var : ℕ) (expr : List ℤ) (den : ℤ)
   pub stored : AreStoredOfRows p.topology p.cons.dim (constraints_of p.topology system) preimage
 
 -- ---- refusals
--- the conversion of the list of those generators, or of its second list, leaves the range, and so does the stored pair where it can be mapped
+-- the conversion of the list of those generators, or of its second list, leaves the range, and so
+-- does the stored pair where it can be mapped
 pub record LeavesOnSubstituted (var : ℕ) (expr : List ℤ) (den : ℤ) (p : Polyhedron)
     (over : Overflow) : Type 0 where
   pub system : Generators

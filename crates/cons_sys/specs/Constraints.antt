@@ -29,7 +29,8 @@ row_at list i = (constraint_at list i).0
 abbrev pub kind_at : List Constraint → ℕ → ConKind
 kind_at list i = (constraint_at list i).1
 
--- the row has a column for each variable and one more, its numbers are of the range, and it is primitive
+-- the row has a column for each variable and one more, its numbers are of the range, and it is
+-- primitive
 pub record IsConstraint (dim : ℕ) (c : Constraint) : Type 0 where
   pub wide : length c.0 ≡ dim + 1
   pub in_range : AllInRange c.0
@@ -46,7 +47,8 @@ pub record Gains (old new : List Constraint) (row : List ℤ) (kind : ConKind) :
   pub primitive : IsPrimitiveOf row stored
   pub list : new ≡ old ++ (stored, kind) ∷ []
 
--- the constraint of a row: that its value is 0 where it is marked as an equality, and else that it is at least 0
+-- the constraint of a row: that its value is 0 where it is marked as an equality, and else that it
+-- is at least 0
 abbrev pub constraint_of : Row → Constraint
 constraint_of (row, true) = (row, Eq)
 constraint_of (row, false) = (row, Ge)

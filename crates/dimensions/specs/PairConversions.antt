@@ -13,7 +13,8 @@ use Rattle.mapped_systems.specs.TriedPairs.{AfterPair}
 use Rattle.dimensions.specs.AddedVariables.{AreZeroBehind}
 
 -- ---- the stored pair with more variables
--- the constraints with free variables: at most the second list of the pair is converted, and that of a closed set with a point alone
+-- the constraints with free variables: at most the second list of the pair is converted, and that
+-- of a closed set with a point alone
 abbrev pub ConvertsFreePair : Polyhedron → Constraints → ℕ → ℕ → Result (Option Polyhedron) Memory
     → Type 0
 ConvertsFreePair p cs old new result = (CanStart p × ConvertsPair cs old new result)

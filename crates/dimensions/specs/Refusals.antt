@@ -46,7 +46,8 @@ pub record IsJoinedConversion (p q : Polyhedron) (old new : ℕ)
   pub joined : IsJoinedSystem p.cons q.cons system
   pub conversion : IsConversion (cons_work p.topology system) old new over
 
--- a call that converts the list of the mapped generators, or nothing where memory runs out before they are made
+-- a call that converts the list of the mapped generators, or nothing where memory runs out before
+-- they are made
 abbrev pub ConvertsMapped : (List ℤ → List ℤ) → ℕ → Polyhedron → ℕ → ℕ → Result Polyhedron ConvErr
     → Type 0
 ConvertsMapped f dim p old new result =

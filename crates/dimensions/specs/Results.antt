@@ -32,7 +32,8 @@ pub record IsProjection (count : ℕ) (p projection : Polyhedron) : Type 0 where
   pub points : (v : List ℤ) → IsPoint (p.cons.dim + count) v → In projection.cons v
       ↔ IsPadded p.cons.dim (p.cons.dim + count) p v
 
--- the first variables, with the divisor, are in the one set, and the others, with the divisor, in the other
+-- the first variables, with the divisor, are in the one set, and the others, with the divisor, in
+-- the other
 pub record IsOfBoth (p q : Polyhedron) (v : List ℤ) : Type 0 where
   pub front : In p.cons (without p.cons.dim (p.cons.dim + q.cons.dim) v)
   pub back : In q.cons (drop p.cons.dim v)

@@ -32,7 +32,8 @@ kind_at list i = (generator_at list i).1
 abbrev pub rows_of : List Generator → List (List ℤ)
 rows_of list = map (λ g. g.0) list
 
--- the vector has a column for each variable and one more, its numbers are of the range, it is primitive, its last entry fits its kind, and it is no direction of length 0
+-- the vector has a column for each variable and one more, its numbers are of the range, it is
+-- primitive, its last entry fits its kind, and it is no direction of length 0
 pub record IsGenerator (dim : ℕ) (g : Generator) : Type 0 where
   pub wide : length g.0 ≡ dim + 1
   pub in_range : AllInRange g.0

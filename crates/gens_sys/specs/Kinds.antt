@@ -2,7 +2,8 @@ use Rattle.std.specs.Prelude.{◌≡◌, Bool, true, false, List, ℤ, pos, ◌�
 use Rattle.gens_sys.specs.declared.kind.GenKind.{GenKind}
 use Rattle.gens_sys.specs.declared.kind.GenKind.TheVariants.{Line, Ray, Point, ClosurePoint}
 
--- the last entry of a line or a ray is 0, and that of a point of either kind is at least 1; this one isn't so
+-- the last entry of a line or a ray is 0, and that of a point of either kind is at least 1; this
+-- one isn't so
 abbrev pub HasBadDivisor : GenKind → ℤ → Type 0
 HasBadDivisor Line divisor = ¬ (divisor ≡ pos 0)
 HasBadDivisor Ray divisor = ¬ (divisor ≡ pos 0)

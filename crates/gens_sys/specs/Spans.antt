@@ -13,7 +13,8 @@ pub record HasPointFactor (list : List Generator) (factors : List ℤ) : Type 0 
   pub kind : kind_at list index ≡ Point
   pub positive : pos 0 <ℤ cell factors index
 
--- a positive multiple of the vector is the sum of the multiplied generators: no factor is negative except on lines, and that of some point is positive
+-- a positive multiple of the vector is the sum of the multiplied generators: no factor is negative
+-- except on lines, and that of some point is positive
 pub record Span (gs : Generators) (v : List ℤ) : Type 0 where
   pub times : ℤ
   pub positive : pos 0 <ℤ times

@@ -6,7 +6,8 @@ use Rattle.row_core.specs.Lists.{Row, Pointwise}
 use Rattle.cone_laws.specs.Canon.{IsEchelon, IsSystem}
 use Rattle.cone_laws.specs.Members.{ConeOf}
 
--- each column of the result for a vector of the one width is the value of a row, and the result has the other width
+-- each column of the result for a vector of the one width is the value of a row, and the result has
+-- the other width
 pub record IsLinearOn (from to : ℕ) (f : List ℤ → List ℤ) : Type 0 where
   pub rows : ℕ → List ℤ
   pub values : (v : List ℤ) → length v ≡ from → (j : ℕ) → cell (f v) j ≡ dot (rows j) v
@@ -34,7 +35,8 @@ abbrev pub AdmitSources : ℕ → ℕ → (List ℤ → List ℤ) → List Row �
 AdmitSources from to h rows others =
     (v : List ℤ) → length v ≡ to → ConeOf to others v ↔ ConeOf from rows (h v)
 
--- a map that can be undone takes the system of a cone to one of the cone's image, where what it gives is in reduced echelon form
+-- a map that can be undone takes the system of a cone to one of the cone's image, where what it
+-- gives is in reduced echelon form
 abbrev pub SystemIsCarried : Type 0
 SystemIsCarried = (width : ℕ) (f h : List ℤ → List ℤ) (rows others : List Row)
     (lines rays new_lines new_rays : List (List ℤ)) → AreInverse width f h
@@ -42,7 +44,8 @@ SystemIsCarried = (width : ℕ) (f h : List ℤ → List ℤ) (rows others : Lis
     → AreCarried f rays new_rays → IsEchelon new_lines new_rays
     → IsSystem (ConeOf width rows) lines rays → IsSystem (ConeOf width others) new_lines new_rays
 
--- the map that replaces the variable by the row over the size undoes the one that replaces it by the expression over the divisor
+-- the map that replaces the variable by the row over the size undoes the one that replaces it by
+-- the expression over the divisor
 pub record IsInverseRow (var : ℕ) (expr : List ℤ) (den : ℤ) (row : List ℤ) (size : ℤ) : Type 0 where
   pub sign : ℤ
   pub size_is : size ≡ sign *ℤ cell expr var

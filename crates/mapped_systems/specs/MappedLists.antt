@@ -8,7 +8,8 @@ use Rattle.gens_sys.specs.Generators.{Generator, Generators, Gains}
 use Rattle.mapped_systems.specs.Maps.{with_zeros}
 
 -- ---- generators
--- the new generators are those that the map gives of the old ones, in order: each made primitive, without the lines and rays that became 0
+-- the new generators are those that the map gives of the old ones, in order: each made primitive,
+-- without the lines and rays that became 0
 pub data AreMapped (f : List ℤ → List ℤ) : List Generator → List Generator → Type 0 where
   nothing : AreMapped f [] []
   left_out : {v : List ℤ} {kind : GenKind} {old new : List Generator} → IsZeroDirection kind (f v)
@@ -17,7 +18,8 @@ pub data AreMapped (f : List ℤ → List ℤ) : List Generator → List Generat
       → ¬ (IsZeroDirection kind (f v)) → IsPrimitiveOf (f v) stored → AreMapped f old new
       → AreMapped f ((v, kind) ∷ old) ((stored, kind) ∷ new)
 
--- the list gained the mapped vector so, or the vector is a line or a ray that became 0 and the list is as before
+-- the list gained the mapped vector so, or the vector is a line or a ray that became 0 and the list
+-- is as before
 abbrev pub GainsMapped : List Generator → List Generator → List ℤ → GenKind → Type 0
 GainsMapped old new row kind = (IsZeroDirection kind row × (new ≡ old))
     ⊎ ((¬ (IsZeroDirection kind row)) × Gains old new row kind)
@@ -28,7 +30,8 @@ pub record IsMappedSystem (f : List ℤ → List ℤ) (dim : ℕ) (old new : Gen
   pub mapped : AreMapped f old.list new.list
 
 -- ---- constraints
--- the new constraints are those that the map gives of the rows of the old ones, in order: each made primitive
+-- the new constraints are those that the map gives of the rows of the old ones, in order: each made
+-- primitive
 pub data ArePulled (f : List ℤ → List ℤ) : List Constraint → List Constraint → Type 0 where
   none_pulled : ArePulled f [] []
   one_pulled : {row stored : List ℤ} {kind : ConKind} {old new : List Constraint}
@@ -40,7 +43,8 @@ pub record IsPulledSystem (f : List ℤ → List ℤ) (dim : ℕ) (old new : Con
   pub same_dim : new.dim ≡ dim
   pub pulled : ArePulled f old.list new.list
 
--- the constraints of the one on the first variables, and then those of the other on the variables behind these
+-- the constraints of the one on the first variables, and then those of the other on the variables
+-- behind these
 pub record IsJoinedSystem (first second new : Constraints) : Type 0 where
   pub same_dim : new.dim ≡ first.dim + second.dim
   pub front : List Constraint

@@ -27,7 +27,8 @@ pub record ExpressionLeaves (expr v : List ℤ) (over : Overflow) : Type 0 where
   pub shown : ShowsPair Dot expr v over
   pub column : IsFirstToLeave (DotStays expr v) (length expr) over.column
 
--- the dot doesn't, and the divisor's product with an entry does; the row shown is that of the expression and then the divisor
+-- the dot doesn't, and the divisor's product with an entry does; the row shown is that of the
+-- expression and then the divisor
 pub record LeavesInScale (var : ℕ) (expr : List ℤ) (den : ℤ) (v : List ℤ)
     (over : Overflow) : Type 0 where
   pub dot : AllStay (DotStays expr v) (length expr)
@@ -42,7 +43,8 @@ pub record StaysInImage (var : ℕ) (expr : List ℤ) (den : ℤ) (v : List ℤ)
   pub dot : AllStay (DotStays expr v) (length expr)
   pub entries : AllStay (EntryStays var den v) (length v)
 
--- the divisor times the row without the variable, plus the variable's entry times the expression, leaves the range
+-- the divisor times the row without the variable, plus the variable's entry times the expression,
+-- leaves the range
 pub record LeavesInPullback (var : ℕ) (expr : List ℤ) (den : ℤ) (row : List ℤ)
     (over : Overflow) : Type 0 where
   pub shown : ShowsPair Scale row (expr ++ den ∷ []) over

@@ -14,7 +14,8 @@ abbrev pub entry_of : {E : Type 0} → Table E → List ℕ → Option E
 entry_of [] name = None
 entry_of (e ∷ table) name = if bytes_eq name e.0 then Some e.1 else entry_of table name
 
--- the table with the entry under the name: a name that is there keeps its place, and a new one goes last
+-- the table with the entry under the name: a name that is there keeps its place, and a new one goes
+-- last
 abbrev pub put : {E : Type 0} → Table E → List ℕ → E → Table E
 put [] name new = (name, new) ∷ []
 put (e ∷ table) name new = if bytes_eq name e.0 then (e.0, new) ∷ table else e ∷ put table name new

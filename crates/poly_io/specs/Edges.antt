@@ -12,8 +12,8 @@ Means old new buffer (Got n) = (1 ≤ n) × (n ≤ length buffer) × Consumes ol
 Means old new buffer End = 0 < length buffer → IsAtEnd new
 Means old new buffer ReadFailed = Keeps old new
 
--- what a sink's answer says of the writer behind it, as far as the writer's bytes are known: what was taken
--- reached it, and it never wants for memory
+-- what a sink's answer says of the writer behind it, as far as the writer's bytes are known: what
+-- was taken reached it, and it never wants for memory
 abbrev pub Sends : Option (List ℕ) → Option (List ℕ) → List ℕ → WriteAns → Type 0
 Sends old new bytes (Took n) = Appends old new (take n bytes)
 Sends old new bytes WriteFailed = Unit {0}

@@ -13,7 +13,8 @@ pub record Feed : Type 0 where
   pub stock : Stock
   pub faults : Faults
 
--- bytes that are gathered in memory: those that are held, the most that one call takes, and how often memory was refused
+-- bytes that are gathered in memory: those that are held, the most that one call takes, and how
+-- often memory was refused
 pub record Store : Type 0 where
   pub held : List ℕ
   pub piece : ℕ

@@ -7,8 +7,8 @@ use Rattle.poly_io.specs.declared.reading.ReadAns.TheVariants.{Got, End, Failed}
 abbrev pub Gave : Option (List ℕ) → Option (List ℕ) → (List ℕ → Type 0) → Type 0
 Gave old new Are = (given : List ℕ) × (old ≡ prepend_known given new) × Are given
 
--- what a read may answer, from the bytes that were left to those that still are, with the buffer after it;
--- a source that doesn't tell its bytes goes on not telling them
+-- what a read may answer, from the bytes that were left to those that still are, with the buffer
+-- after it; a source that doesn't tell its bytes goes on not telling them
 abbrev pub Reads : Option (List ℕ) → Option (List ℕ) → List ℕ → ReadAns → Type 0
 -- the first bytes of what was left are moved to the front of the buffer, one at least
 Reads old new buffer (Got n) =

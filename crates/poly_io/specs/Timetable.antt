@@ -1,7 +1,8 @@
 use Rattle.std.specs.Prelude.{ℕ, List, Contains}
 use Rattle.poly_io.specs.Counts.{next_count}
 
--- calls that fail: their numbers, counted from 1, how many calls there were, and how many of them failed
+-- calls that fail: their numbers, counted from 1, how many calls there were, and how many of them
+-- failed
 pub record Faults : Type 0 where
   pub fails : List ℕ
   pub calls : ℕ

@@ -8,7 +8,8 @@ pub record IsClosedOver (dim : ℕ) (p : Polyhedron) : Type 0 where
   pub kept : IsKept p
   pub over : IsOver Closed dim p
 
--- two of them have the same points exactly where their constraints are one list, and exactly where their generators are
+-- two of them have the same points exactly where their constraints are one list, and exactly where
+-- their generators are
 abbrev pub ClosedListsTell : Type 0
 ClosedListsTell = (dim : ℕ) (p q : Polyhedron) → IsClosedOver dim p → IsClosedOver dim q
     → AreToldByLists p.cons q.cons p.gens q.gens

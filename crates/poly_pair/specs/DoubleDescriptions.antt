@@ -14,7 +14,8 @@ use Rattle.poly_pair.specs.FirstLists.{HasPointKind}
 use Rattle.poly_pair.specs.Parts.{AreStoredOfRows, AreStoredOfGenerators}
 use Rattle.poly_pair.specs.Polyhedra.{Polyhedron, IsOfConstraints, IsOfGenerators}
 
--- constraints of a set with a point, generators that are the system of their list, and the table of the zeros of the one on the other
+-- constraints of a set with a point, generators that are the system of their list, and the table of
+-- the zeros of the one on the other
 pub record IsDoubleDescription (cs : Constraints) (gs : Generators) (table : Table) : Type 0 where
   pub same_dim : gs.dim ≡ cs.dim
   pub closed : AreClosed cs

@@ -20,7 +20,8 @@ use Rattle.poly_pair.specs.Additions.{with_constraints, with_generators}
 use Rattle.poly_pair.specs.Conversions.{IsCountedFrom, IsCountedAfter, IsCountedBeforeEnd, IsCountedBeforeOverflow}
 
 -- ---- what is converted
--- a list of rows, its columns and the one of the divisor; the system of the rows before `from` is known
+-- a list of rows, its columns and the one of the divisor; the system of the rows before `from` is
+-- known
 pub record Work : Type 0 where
   pub width : ℕ
   pub column : ℕ
@@ -40,13 +41,15 @@ abbrev pub gens_work : Topology → Generators → Work
 gens_work t gs =
     record { width = list_width t gs.dim; column = gs.dim; rows = generators_of t gs; from = 0 }
 
--- how many rows needn't be converted: those of a closed polyhedron with a point, and none of another
+-- how many rows needn't be converted: those of a closed polyhedron with a point, and none of
+-- another
 abbrev pub known_rows : Topology → List Generator → ℕ → ℕ
 known_rows Closed (g ∷ gs) n = n
 known_rows Closed [] n = 0
 known_rows Nnc gs n = 0
 
--- the list of constraints that begin with those of a polyhedron: its row of the divisor is known too
+-- the list of constraints that begin with those of a polyhedron: its row of the divisor is known
+-- too
 abbrev pub begun_cons : Polyhedron → Constraints → Work
 begun_cons p cs = record (cons_work p.topology cs)
     { from = known_rows p.topology p.gens.list (length p.cons.list + 1) }
@@ -65,7 +68,8 @@ abbrev pub added_gens : Polyhedron → Generators → Work
 added_gens p more = begun_gens p (with_generators p more)
 
 -- ---- what is stored of it
--- the systems that a polyhedron of the topology stores are those of the list, as far as it is a list of constraints
+-- the systems that a polyhedron of the topology stores are those of the list, as far as it is a
+-- list of constraints
 abbrev pub AreStored : Topology → Work → Polyhedron → Type 0
 AreStored t work p = AreStoredOfRows t work.column work.rows p
 
@@ -86,11 +90,13 @@ overflow_in over_of (Err e) = over_of e
 -- ---- what a conversion costs and shows
 -- of a list, and of its second list
 pub record IsConversion (work : Work) (old new : ℕ) (over : Option Overflow) : Type 0 where
-  -- an overflow shows a number outside the range in the conversion of the list, or of its second list
+  -- an overflow shows a number outside the range in the conversion of the list, or of its second
+  -- list
   pub overflow : IfSome over (LeavesOn work.width work.column work.rows)
   -- the count of combinations never falls
   pub no_fewer : old ≤ new
-  -- it grows by at most the sizes of the systems of the list from that row on, and what making the second system takes
+  -- it grows by at most the sizes of the systems of the list from that row on, and what making the
+  -- second system takes
   pub counted : IsCountedFrom work.width work.column work.rows work.from (new - old)
   -- at an overflow by those up to its step
   pub counted_before : IfSome over

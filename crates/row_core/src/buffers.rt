@@ -55,17 +55,6 @@ impl RowBuf {
         RowBuf { entries: cells }
     }
 
-    /// Returns a copy of the cells, made primitive.
-    pub fn primitive(alloc: Global, cells: &[i128]) -> Result<RowBuf, Memory>
-        requires in_range { AllInRange cells.now }
-        requires narrow { length cells.now < 2 ^ 32 }
-        ensures primitive { IfOk result (IsPrimitiveOf cells.now) }
-        ensures in_range { IfOk result AllInRange }
-        ensures width { IfOk result (λ row. length row ≡ length cells.now) }
-    {
-        Ok(RowBuf::new(alloc, cells)?.into_primitive())
-    }
-
     /// Returns a copy of the cells with all signs changed.
     pub fn negated(alloc: Global, cells: &[i128]) -> Result<RowBuf, Memory>
         requires in_range { AllInRange cells.now }
@@ -294,7 +283,8 @@ impl RowList {
         requires wide { length row.now ≡ self.old.width }
         requires in_range { AllInRange row.now }
         ensures width { self.new.width ≡ self.old.width }
-        ensures rows { MatchResult result (λ _. self.new.rows ≡ insert self.old.rows i (row.now, eq))
+        ensures rows { MatchResult result
+            (λ _. self.new.rows ≡ insert self.old.rows i (row.now, eq))
             (λ _. self.new.rows ≡ self.old.rows) }
     {
         self.marked.insert(i, row, eq)

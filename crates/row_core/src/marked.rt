@@ -153,7 +153,8 @@ impl<M: Copy> MarkedRows<M> {
     /// without a copy. Out of memory, the list is as before, and the others are dropped.
     pub fn append(&mut self, later: MarkedRows<M>) -> Result<(), Memory>
         requires { HaveOneWidth self.old later }
-        ensures { MatchResult result (λ _. self.new ≡ self.old ++ later) (λ _. self.new ≡ self.old) }
+        ensures { MatchResult result (λ _. self.new ≡ self.old ++ later)
+            (λ _. self.new ≡ self.old) }
     {
         if self.marks.is_empty() {
             *self = later;

@@ -20,7 +20,11 @@ constant q = pos (1 + q % 100)
 
 -- the row of the next four draws: three coefficients, and then the constant
 abbrev pub row_from : ℕ → List ℤ
-row_from x = coefficient (drawn (next x)) ∷ coefficient (drawn (next (next x))) ∷ coefficient (drawn (next (next (next x)))) ∷ constant (drawn (next (next (next (next x))))) ∷ []
+row_from x =
+    coefficient (drawn (next x)) ∷
+    coefficient (drawn (next (next x))) ∷
+    coefficient (drawn (next (next (next x)))) ∷
+    constant (drawn (next (next (next (next x))))) ∷ []
 
 -- the number before row i: 1 before the first one, and four draws further before each later one
 abbrev pub before_row : ℕ → ℕ

@@ -18,6 +18,9 @@ GenerateSame gs hs = (v : List ℤ) → IsPoint gs.dim v → Span gs v ↔ Span 
 abbrev pub joined : Generators → List Generator → Generators
 joined gs added = record { dim = gs.dim; list = gs.list ++ added }
 
--- generators of one dimension that generate the same points do so with the same further generators behind each
+-- generators of one dimension that generate the same points do so with the same further generators
+-- behind each
 abbrev pub JoinedSetsAreSame : Type 0
-JoinedSetsAreSame = (gs hs : Generators) (added : List Generator) → AreOfSet gs → AreOfSet hs → gs.dim ≡ hs.dim → GenerateSame gs hs → GenerateSame (joined gs added) (joined hs added)
+JoinedSetsAreSame =
+    (gs hs : Generators) (added : List Generator) → AreOfSet gs → AreOfSet hs → gs.dim ≡ hs.dim →
+    GenerateSame gs hs → GenerateSame (joined gs added) (joined hs added)

@@ -24,13 +24,15 @@ abbrev pub GeneratorListSpans : Type 0
 GeneratorListSpans = (gs : Generators) (p : List ℤ) → AreClosedGens gs → IsPoint gs.dim p
     → Span gs p ↔ Spans (lines_of (generator_list gs)) (rays_of (generator_list gs)) p
 
--- where no ray of the system of the constraint list has a positive last entry, the constraints hold at no point
+-- where no ray of the system of the constraint list has a positive last entry, the constraints hold
+-- at no point
 abbrev pub NoPointInConstraints : Type 0
 NoPointInConstraints = (cs : Constraints) (lines rays : List (List ℤ)) → AreClosed cs
     → Canon (ConeOf (cs.dim + 1) (constraint_list cs)) lines rays
     → All (λ r. ¬ (pos 0 <ℤ cell r cs.dim)) rays → (p : List ℤ) → ¬ (IsWithin cs p)
 
--- where some ray has, the two systems of the list are dual, and what is stored of them holds where the constraints hold
+-- where some ray has, the two systems of the list are dual, and what is stored of them holds where
+-- the constraints hold
 abbrev pub PairOfConstraints : Type 0
 PairOfConstraints = (cs : Constraints) (lines rays equalities inequalities : List (List ℤ))
     → AreClosed cs
@@ -46,7 +48,8 @@ PointOfGenerators = (gs : Generators) (equalities inequalities : List (List ℤ)
     → Canon (ConeOf (gs.dim + 1) (generator_list gs)) equalities inequalities → k < length gs.list
     → kind_at gs.list k ≡ Point → HasPoint gs.dim inequalities
 
--- the two systems of such a list are dual, and what is stored of them generates what the generators generate
+-- the two systems of such a list are dual, and what is stored of them generates what the generators
+-- generate
 abbrev pub PairOfGenerators : Type 0
 PairOfGenerators = (gs : Generators) (equalities inequalities lines rays : List (List ℤ)) (k : ℕ)
     → AreClosedGens gs → AreWideGens gs

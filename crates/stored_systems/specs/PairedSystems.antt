@@ -13,7 +13,8 @@ pub record ArePaired (cs : Constraints) (gs : Generators) : Type 0 where
   pub some : (gs.list ≡ []) ⊎ ((p : List ℤ) × IsWithin cs p)
 
 -- ---- one list of each kind for each closed set
--- both hold the same points exactly where their constraints are one list, and exactly where their generators are
+-- both hold the same points exactly where their constraints are one list, and exactly where their
+-- generators are
 pub record AreToldByLists (cs ds : Constraints) (gs hs : Generators) : Type 0 where
   pub constraints : HoldSame cs ds ↔ (cs.list ≡ ds.list)
   pub generators : HoldSame cs ds ↔ (gs.list ≡ hs.list)

@@ -29,7 +29,8 @@ stored_generators dim lines rays =
     map (λ l. (l, Line)) lines ++ map (λ r. (r, vector_kind (cell r dim))) rays
 
 -- ---- what a closed polyhedron stores
--- dual systems of a set with a point: no vector has a negative last entry, and some ray has a positive one
+-- dual systems of a set with a point: no vector has a negative last entry, and some ray has a
+-- positive one
 pub record AreClosedSystems (dim : ℕ)
     (lines rays equalities inequalities : List (List ℤ)) : Type 0 where
   pub dual : IsDual (dim + 1) lines rays equalities inequalities

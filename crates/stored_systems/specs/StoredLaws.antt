@@ -50,7 +50,8 @@ StoredIsIrredundant = (cs : Constraints) (gs : Generators) → IsStored cs gs
     → AreIrredundantConstraints cs × AreIrredundantGenerators gs
 
 -- ---- canonical systems of the set
--- the canonical systems of a set with a point: of its valid rows, without that of the divisor, and of the vectors on which these are at least 0
+-- the canonical systems of a set with a point: of its valid rows, without that of the divisor, and
+-- of the vectors on which these are at least 0
 pub record IsCanonicalPair (cs : Constraints) (gs : Generators) : Type 0 where
   pub same_dim : gs.dim ≡ cs.dim
   pub equalities : List (List ℤ)

@@ -3,7 +3,8 @@ use Rattle.row_core.specs.Lists.{Rows}
 use Rattle.sat_matrix.specs.Tables.{Table, HasThird}
 use Rattle.stored_systems.specs.WorkLists.{divisor_row}
 
--- the rays with the row of the divisor in front, where no other row of the table is true wherever its first is
+-- the rays with the row of the divisor in front, where no other row of the table is true wherever
+-- its first is
 pub record IsWhole (dim : ℕ) (rays : Rows) (table : Table) (new_rays : Rows)
     (new_table : Table) : Type 0 where
   pub needed : ¬ (HasThird table 0 0)
@@ -11,7 +12,8 @@ pub record IsWhole (dim : ℕ) (rays : Rows) (table : Table) (new_rays : Rows)
   pub rows : new_rays.rows ≡ (divisor_row dim, false) ∷ rays.rows
   pub same_table : new_table ≡ table
 
--- the rays without it, and the table without its first row, where some other row of that is true wherever the first is
+-- the rays without it, and the table without its first row, where some other row of that is true
+-- wherever the first is
 pub record IsWithoutFirst (rays : Rows) (table : Table) (new_rays : Rows)
     (new_table : Table) : Type 0 where
   pub third : HasThird table 0 0

@@ -41,7 +41,8 @@ pub record HasPoint (column : ℕ) (rays : List (List ℤ)) : Type 0 where
 abbrev pub HaveNoPoint : ℕ → List (List ℤ) → Type 0
 HaveNoPoint column rays = All (λ r. ¬ (pos 0 <ℤ cell r column)) rays
 
--- the second list of a list is its canonical system as rows, where some ray of this is positive at the column: that of the empty set isn't converted again
+-- the second list of a list is its canonical system as rows, where some ray of this is positive at
+-- the column: that of the empty set isn't converted again
 pub record IsSecondList (width column : ℕ) (list second : List Row) : Type 0 where
   pub lines : List (List ℤ)
   pub rays : List (List ℤ)

@@ -8,7 +8,8 @@ use Rattle.gens_sys.specs.Generators.{Generators}
 use Rattle.stored_systems.specs.WorkLists.{constraint_list, generator_list}
 use Rattle.stored_systems.specs.StoredForms.{is_divisor_row}
 
--- a row for each row of the constraint list and a column for each row of the generator list, true exactly where the one is 0 on the other
+-- a row for each row of the constraint list and a column for each row of the generator list, true
+-- exactly where the one is 0 on the other
 abbrev pub ArePairZeros : Constraints → Generators → Table → Type 0
 ArePairZeros cs gs table = IsZeroTable (generator_list gs) (length (generator_list gs))
     (vectors (constraint_list cs)) table
