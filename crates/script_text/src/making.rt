@@ -136,7 +136,10 @@ fn text_and_part(alloc: Global, rest: &[u8]) -> Result<(Text, Part), Memory>
 fn number(digits: &[u8]) -> u64
     ensures { result ≡ number_of digits.now }
 {
-    number_up_to(digits, u64::MAX as u128) as u64
+    match digits {
+        [digit] => u64::from(digit.saturating_sub(b'0')),
+        _ => number_up_to(digits, u64::MAX as u128) as u64,
+    }
 }
 
 /// Whether the byte is an upper-case letter.
@@ -327,8 +330,9 @@ fn of_space(alloc: Global, kind: SpaceAlone, rest: &[u8]) -> Result<Command, Rea
 fn of_space_part(alloc: Global, kind: SpaceAndPart, rest: &[u8]) -> Result<Command, ReadErr>
     ensures { IsMade (form.SpaceAndPart kind) rest.now result }
 {
-    let (out, part) = text_and_part(alloc, rest)?;
-    let (_, second, third) = three_words(rest);
+    let (first, second, third) = three_words(rest);
+    let out = text(alloc, first)?;
+    let part = part(alloc, rest)?;
     let top = is_word(second, b"nnc");
     let n = number(third);
     Ok(match kind {
@@ -494,12 +498,11 @@ fn system_command(alloc: Global, rest: &[u8]) -> Result<Command, ReadErr>
 fn bounds_command(alloc: Global, rest: &[u8]) -> Result<Command, ReadErr>
     ensures { IsMade form.Bounds rest.now result }
 {
-    let (out, cons) = text_and_part(alloc, rest)?;
-    let (_, second) = two_words(rest);
+    let (first, second) = two_words(rest);
     Ok(Command::Bounds {
-        out,
+        out: text(alloc, first)?,
         n: number(second),
-        cons,
+        cons: part(alloc, rest)?,
     })
 }
 
