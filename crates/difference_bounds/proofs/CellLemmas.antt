@@ -1,14 +1,16 @@
 -- The bounds of cells, by their words and the bounds that are kept.
-use Rattle.std.specs.Prelude.{◌≡◌, ◌≢◌, ◌⊎◌, ℕ, zero, suc, ◌*◌, ◌^◌, ◌<◌, ◌≤◌, List, [], ◌∷◌, length, ℤ, pos, ◌<ℤ◌, Some, None, IfSome, cond, int_lt, slice_index_or, slice_set, get_or, replicate}
+use Rattle.std.specs.Prelude.{◌≡◌, ◌≢◌, ◌⊎◌, ℕ, zero, suc, ◌*◌, ◌^◌, ◌<◌, ◌≤◌, List, [], ◌∷◌, length, ℤ, pos, ◌<ℤ◌, Some, None, true, false, IfSome, cond, int_lt, slice_index_or, slice_set, get_or, replicate}
 use Rattle.std.proofs.Common.{arith, refl, sym, ◌∙◌, ap, subst, inl, inr}
 use Rattle.std.proofs.lemmas.Int.{ints}
 use Rattle.std.proofs.lemmas.List.{length-set, get_or-set_same, get_or-set_other, ext_get_or, get_or-replicate, length-replicate, get_or_past}
 use Rattle.std.proofs.lemmas.List.Elements.{All-from_get_or}
 use Rattle.std.proofs.lemmas.Bool.{cases_order}
-use Rattle.difference_bounds.specs.Fractions.{IsFraction}
+use Rattle.difference_bounds.specs.Fractions.{IsFraction, IsBelow}
+use Rattle.difference_bounds.specs.declared.fraction.Fraction.{Fraction}
+use Rattle.difference_bounds.specs.Laws.{IsGreater}
 use Rattle.difference_bounds.specs.Walks.{Bound}
-use Rattle.difference_bounds.specs.Words.{absent, other, IsShort, whole, IsWord, IsTold, told, kept, cells_of, AreWords, IsRoom, IsStored}
-use Rattle.difference_bounds.proofs.WordLemmas.{short_fraction, words_set, table_set}
+use Rattle.difference_bounds.specs.Words.{absent, other, IsShort, whole, IsWord, IsTold, told, kept, cells_of, AreWords, IsRoom, IsStored, IsRaised, AreRaised, IsBoundBelow}
+use Rattle.difference_bounds.proofs.WordLemmas.{picks_greater, short_fraction, words_set, table_set}
 
 -- ---- one cell
 pub told_short : (w : ℤ) → IsShort w → told w ≡ Some (whole w)
@@ -112,6 +114,82 @@ module _ (ws : List ℤ) (bs cs : List Bound) (q : ℕ) (w : ℤ) (b : Bound) (l
         worded = words_set (cells_of ws bs) ws q b w s.worded (subst (λ (n : ℕ). q < n) (sym (cells_length ws bs)) l) k;
         room = subst (λ (n : ℕ). IsRoom n cs) (sym (length-set ws q w)) r;
       })
+
+-- ---- the greater words
+-- where no bounds are kept, each word tells its bound
+pub all_told : (ws : List ℤ) (bs : List Bound) (q : ℕ) → AreWords (cells_of ws bs) ws → length bs ≡ 0 → q < length ws → IsTold (get_or ws q (pos 0))
+all_told ws bs q h e l =
+    told_of (slice_index_or (cells_of ws bs) q None) (get_or ws q (pos 0)) (h.each q (subst (λ (n : ℕ). q < n) (sym (cells_length ws bs)) l))
+    (λ o. let below : q < length bs = room_by ws bs q h (inl e) l o in omega (arith, below, e))
+
+not_other : (w : ℤ) → IsTold w → w ≢ other
+not_other w (inl e) f = omega (arith, ints, e, f)
+not_other w (inr s) f = let l = s.least in omega (arith, ints, l, f)
+
+word_below : (a b : Bound) (x y : ℤ) → IsWord a x → IsWord b y → IsTold x → IsTold y → x <ℤ y → IsBoundBelow a b
+word_below None None x y h k tx ty l = absurd (omega (arith, ints, h, k, l))
+word_below None (Some g) x y h (inl (s, e)) tx ty l = absurd (let m = s.most in omega (arith, ints, h, m, l))
+word_below None (Some g) x y h (inr e) tx ty l = absurd (not_other y ty e)
+word_below (Some f) None x y h k tx ty l = tt
+word_below (Some f) (Some g) x y (inl (s, e)) (inl (t, d)) tx ty l = subst (λ (u : Fraction). IsBelow u g) (sym e) (subst (λ (u : Fraction). IsBelow (whole x) u) (sym d) (omega (arith, ints, l)))
+word_below (Some f) (Some g) x y (inl (s, e)) (inr d) tx ty l = absurd (not_other y ty d)
+word_below (Some f) (Some g) x y (inr e) k tx ty l = absurd (not_other x tx e)
+
+word_unless : (a b : Bound) (x y : ℤ) → IsWord a x → IsWord b y → IsTold x → IsTold y → ¬ (x <ℤ y) → ¬ (IsBoundBelow a b)
+word_unless None b x y h k tx ty n p = p
+word_unless (Some f) None x y (inl (s, e)) k tx ty n p = let m = s.most in n (omega (arith, ints, k, m))
+word_unless (Some f) None x y (inr e) k tx ty n p = not_other x tx e
+word_unless (Some f) (Some g) x y (inl (s, e)) (inl (t, d)) tx ty n p =
+    let below : IsBelow (whole x) (whole y) = subst (λ (u : Fraction). IsBelow (whole x) u) d (subst (λ (u : Fraction). IsBelow u g) e p) in
+    n (omega (arith, ints, below))
+word_unless (Some f) (Some g) x y (inl (s, e)) (inr d) tx ty n p = not_other y ty d
+word_unless (Some f) (Some g) x y (inr e) k tx ty n p = not_other x tx e
+
+raised_told : (x y z : ℤ) → IsTold x → IsTold y → IsRaised x y z → IsTold z
+raised_told x y z tx ty (inl (l, e)) = subst IsTold (sym e) ty
+raised_told x y z tx ty (inr (n, e)) = subst IsTold (sym e) tx
+
+raised_is : (a b : Bound) (x y z : ℤ) → IsWord a x → IsWord b y → IsTold x → IsTold y → IsRaised x y z → IsGreater a b (told z)
+raised_is a b x y z h k tx ty (inl (l, e)) =
+    subst (IsGreater a b) (sym (ap told e ∙ told_is b y k (not_other y ty))) (picks_greater a b (Some true) (word_below a b x y h k tx ty l))
+raised_is a b x y z h k tx ty (inr (n, e)) =
+    subst (IsGreater a b) (sym (ap told e ∙ told_is a x h (not_other x tx))) (picks_greater a b (Some false) (word_unless a b x y h k tx ty n))
+
+module _ (m : ℕ) (ws vs zs : List ℤ) (bs cs : List Bound) (s : IsStored (record { places = m; cells = cells_of ws bs }) ws bs) (t : AreWords (cells_of vs cs) vs) (eb : length bs ≡ 0) (ec : length cs ≡ 0) (lv : length vs ≡ length ws) (lz : length zs ≡ length ws) (r : AreRaised ws vs zs) where
+  left_told : (q : ℕ) → q < length ws → IsTold (get_or ws q (pos 0))
+  left_told q l = all_told ws bs q s.worded eb l
+
+  right_told : (q : ℕ) → q < length ws → IsTold (get_or vs q (pos 0))
+  right_told q l = all_told vs cs q t ec (subst (λ (n : ℕ). q < n) (sym lv) l)
+
+  new_told : (q : ℕ) → q < length ws → IsTold (get_or zs q (pos 0))
+  new_told q l = raised_told (get_or ws q (pos 0)) (get_or vs q (pos 0)) (get_or zs q (pos 0)) (left_told q l) (right_told q l) (r q l)
+
+  new_cell : (q : ℕ) → q < length ws → slice_index_or (cells_of zs bs) q None ≡ told (get_or zs q (pos 0))
+  new_cell q l = cell_is zs bs q (subst (λ (n : ℕ). q < n) (sym lz) l) ∙ kept_told (get_or zs q (pos 0)) (slice_index_or bs q None) (new_told q l)
+
+  new_length : length (cells_of zs bs) ≡ length ws
+  new_length = cells_length zs bs ∙ lz
+
+  pub cell_greater : (q : ℕ) → q < length ws → IsGreater (slice_index_or (cells_of ws bs) q None) (slice_index_or (cells_of vs cs) q None) (slice_index_or (cells_of zs bs) q None)
+  cell_greater q l =
+      subst (IsGreater (slice_index_or (cells_of ws bs) q None) (slice_index_or (cells_of vs cs) q None)) (sym (new_cell q l))
+      (raised_is (slice_index_or (cells_of ws bs) q None) (slice_index_or (cells_of vs cs) q None) (get_or ws q (pos 0)) (get_or vs q (pos 0)) (get_or zs q (pos 0))
+      (s.worded.each q (subst (λ (n : ℕ). q < n) (sym (cells_length ws bs)) l)) (t.each q (subst (λ (n : ℕ). q < n) (sym (cells_length vs cs ∙ lv)) l)) (left_told q l) (right_told q l) (r q l))
+
+  pub stored_raised : IsStored (record { places = m; cells = cells_of zs bs }) zs bs
+  stored_raised = record {
+    table = record {
+      full = new_length ∙ (sym (cells_length ws bs) ∙ s.table.full);
+      fractions = All-from_get_or (λ (b : Bound). IfSome b IsFraction) (cells_of zs bs) None (λ q l. let at : q < length ws = subst (λ (n : ℕ). q < n) new_length l in subst (λ (b : Bound). IfSome b IsFraction) (sym (new_cell q at)) (told_fraction (get_or zs q (pos 0)) (new_told q at)));
+      few = s.table.few;
+    };
+    worded = record {
+      full = sym (cells_length zs bs);
+      each = λ q l. let at : q < length ws = subst (λ (n : ℕ). q < n) new_length l in subst (λ (b : Bound). IsWord b (get_or zs q (pos 0))) (sym (new_cell q at)) (told_word (get_or zs q (pos 0)) (new_told q at));
+    };
+    room = inl eb;
+  }
 
 -- ---- no bounds
 module _ (n : ℕ) where

@@ -106,3 +106,13 @@ IsCoveredWord x y = (a b : Bound) → IsWord a x → IsWord b y → IsCovered a 
 abbrev pub AllCovered : List ℤ → List ℤ → Type 0
 AllCovered xs ys = (q : ℕ) → q < length xs
     → IsCoveredWord (get_or xs q (pos 0)) (get_or ys q (pos 0))
+
+-- ---- the greater words
+-- the greater of two words
+abbrev pub IsRaised : ℤ → ℤ → ℤ → Type 0
+IsRaised x y z = ((x <ℤ y) × (z ≡ y)) ⊎ (¬ (x <ℤ y) × (z ≡ x))
+
+-- so at each place of two lists
+abbrev pub AreRaised : List ℤ → List ℤ → List ℤ → Type 0
+AreRaised xs ys zs = (q : ℕ) → q < length xs
+    → IsRaised (get_or xs q (pos 0)) (get_or ys q (pos 0)) (get_or zs q (pos 0))

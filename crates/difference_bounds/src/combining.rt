@@ -175,6 +175,9 @@ impl BoundTable {
         ensures overflow { IfErr result (IsOverflowIn
             (LeavesInRaising (bounds_of self.old) (bounds_of other.now) self.old.places)) }
     {
+        if self.raise_words(other) {
+            return Ok(());
+        }
         self.combine(alloc, Choice::Greater, other)
     }
 

@@ -1,8 +1,8 @@
 //! Bounds as words of 64 bits: the sum of two short whole numbers is one addition, and their
 //! comparison one comparison.
-ghost use Rattle.std.specs.Prelude.{◌≡◌, ◌≢◌, length, ◌<ℤ◌, Some, true, IsTrue, IfSome};
+ghost use Rattle.std.specs.Prelude.{◌≡◌, ◌≢◌, ◌<◌, ◌≤◌, ℕ, length, pos, get_or, ◌<ℤ◌, Some, true, IsTrue, IfSome};
 ghost use Rattle.difference_bounds.specs.Fractions.{IsFraction};
-ghost use Rattle.difference_bounds.specs.Words.{IsShort, IsWord, IsWithinWords, IsStep, IsComparison, AllCovered, other, whole};
+ghost use Rattle.difference_bounds.specs.Words.{IsShort, IsWord, IsWithinWords, IsStep, IsComparison, AllCovered, IsRaised, AreRaised, other, whole};
 
 use crate::fraction::Fraction;
 
@@ -107,4 +107,23 @@ pub(crate) fn all_covered(left: &[i64], right: &[i64]) -> bool
         }
     }
     true
+}
+
+/// The greater of two words.
+#[inline]
+fn greater_word(left: i64, right: i64) -> i64
+    ensures { IsRaised left right result }
+{
+    if left < right { right } else { left }
+}
+
+/// Puts the greater of each two words in the place of the first.
+pub(crate) fn raise(left: &mut [i64], right: &[i64])
+    requires { length left.old ≡ length right.now }
+    ensures full { length left.new ≡ length left.old }
+    ensures raised { AreRaised left.old right.now left.new }
+{
+    for q in 0..left.len() {
+        left[q] = greater_word(left[q], right[q]);
+    }
 }
