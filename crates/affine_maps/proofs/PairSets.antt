@@ -22,13 +22,13 @@ use Rattle.mapped_systems.specs.Maps.{with_zeros, without, picked}
 use Rattle.affine_maps.specs.Posts.{IsStepTo, IsPost, SpanPostIfAny, HasPairOf, AreSuccessors}
 use Rattle.row_core.specs.Refusals.{IsOverflowIn}
 use Rattle.mapped_systems.specs.Sources.{HasSource}
-use Rattle.affine_maps.specs.Shadows.{IsShadow, SpanShadowIfAny, LeavesOnSystem}
+use Rattle.affine_maps.specs.Shadows.{IsShadow, IsShadowSystem, SpanShadowIfAny, LeavesOnSystem}
 use Rattle.affine_maps.proofs.ShadowSets.{shadow_leaves}
 use Rattle.mapped_systems.proofs.KeptColumns.{remaining_back, kept_last}
 use Rattle.mapped_systems.proofs.PulledSets.{MeetsAt, pulled_holds, holds_pulled}
 use Rattle.affine_maps.proofs.MappedPolyhedra.{pulled_kinds}
 use Rattle.mapped_systems.proofs.PulledSets.{padded_meets}
-use Rattle.affine_maps.specs.PostLists.{IsPairSystem, IsStepSystem, later, LeavesOnSteps, ConvertsSteps, ConvertsFirstSteps}
+use Rattle.affine_maps.specs.PostLists.{IsPairSystem, IsStepSystem, later, LeavesOnSteps, AreOfStepsIfAny, ConvertsSteps, ConvertsFirstSteps}
 
 -- ---- pairs of a state and its successor
 module _ (p relation pairs : Constraints) (twice : relation.dim ≡ 2 * p.dim) (s : IsPairSystem p relation pairs) where
@@ -176,6 +176,10 @@ module _ (p relation : Polyhedron) (steps : Constraints) (twice : relation.cons.
       (λ h. points.1 (source_of_pair p.cons.dim steps both y (pair_of_step_to y h))),
     );
   }
+
+  pub of_steps : (found : Option Generators) → SpanShadowIfAny Closed (picked (later p.cons.dim) steps.dim) (length (later p.cons.dim)) steps found → AreOfStepsIfAny p relation found
+  of_steps None none = tt
+  of_steps (Some gs) span = record { steps = steps; are_steps = s; is_system = subst (λ (n : ℕ). IsShadowSystem Closed (picked (later p.cons.dim) steps.dim) n steps gs) (later_many p.cons.dim) span.is_system }
 
 -- ---- refusals
 pub steps_clause : (p relation : Polyhedron) (old new : ℕ) (r : Result Polyhedron ConvErr) → relation.topology ≡ Closed → ConvertsSteps p relation old new r → IfErr r (IsOverflowIn (LeavesOnSteps p relation))

@@ -1,4 +1,4 @@
-use Rattle.std.specs.Prelude.{◌≡◌, ◌⊎◌, ℕ, List, ◌++◌, Option, None, Result}
+use Rattle.std.specs.Prelude.{◌≡◌, ◌⊎◌, ℕ, List, ◌++◌, ⊤, Option, Some, None, Result}
 use Rattle.std.specs.List.{range_with_len}
 use Rattle.row_core.specs.declared.errors.Overflow.{Overflow}
 use Rattle.row_core.specs.declared.errors.ConvErr.{ConvErr}
@@ -9,7 +9,7 @@ use Rattle.poly_pair.specs.Polyhedra.{Polyhedron}
 use Rattle.poly_pair.specs.Work.{begun_cons, conv_overflow, overflow_in, IsFirstConversion}
 use Rattle.mapped_systems.specs.Maps.{with_zeros, picked}
 use Rattle.mapped_systems.specs.MappedLists.{ArePulled}
-use Rattle.affine_maps.specs.Shadows.{LeavesOnShadow, IsShadowConversion}
+use Rattle.affine_maps.specs.Shadows.{IsShadowSystem, LeavesOnShadow, IsShadowConversion}
 
 -- the constraints of a set on the first variables of a pair, and then those of a relation
 pub record IsPairSystem (p relation pairs : Constraints) : Type 0 where
@@ -36,6 +36,17 @@ pub record LeavesOnSteps (p relation : Polyhedron) (over : Overflow) : Type 0 wh
   pub steps : Constraints
   pub are_steps : IsStepSystem p.cons relation.cons steps
   pub leaves : LeavesOnShadow Closed (picked (later p.cons.dim) steps.dim) p.cons.dim steps over
+
+-- the generators that the canonical system of the list of a relation's constraints and then a set's stands for, without the first variables
+pub record AreOfSteps (p relation : Polyhedron) (gs : Generators) : Type 0 where
+  pub steps : Constraints
+  pub are_steps : IsStepSystem p.cons relation.cons steps
+  pub is_system : IsShadowSystem Closed (picked (later p.cons.dim) steps.dim) p.cons.dim steps gs
+
+-- if there are any
+abbrev pub AreOfStepsIfAny : Polyhedron → Polyhedron → Option Generators → Type 0
+AreOfStepsIfAny p relation None = ⊤
+AreOfStepsIfAny p relation (Some gs) = AreOfSteps p relation gs
 
 -- ---- what a call costs and shows
 -- the conversion of the list of a relation's constraints and then a set's, from the stored pair of

@@ -3,7 +3,7 @@ ghost use Rattle.std.specs.Prelude.{◌≡◌, ◌*◌, ◌≤◌, IfOk};
 ghost use Rattle.poly_pair.specs.declared.topology.Topology.TheVariants.{Closed};
 ghost use Rattle.poly_pair.specs.declared.topology.TheConstants.{MAX_DIM};
 ghost use Rattle.affine_maps.specs.Posts.{IsPost, SpanPostIfAny};
-ghost use Rattle.affine_maps.specs.PostLists.{later, IsStepSystem, ConvertsSteps, ConvertsFirstSteps};
+ghost use Rattle.affine_maps.specs.PostLists.{later, IsStepSystem, AreOfStepsIfAny, ConvertsSteps, ConvertsFirstSteps};
 
 use crate::shadows::{shadow_from, shadow_generators_from};
 use cons_sys::ConsSys;
@@ -77,6 +77,7 @@ pub fn post_generators<L: Ledger>(
     requires closed_relation { relation.now.topology ≡ Closed }
     requires dim { relation.now.cons.dim ≡ 2 * p.now.cons.dim }
     ensures generators { IfOk result (SpanPostIfAny p.now relation.now) }
+    ensures system { IfOk result (AreOfStepsIfAny p.now relation.now) }
     ensures conversion { ConvertsFirstSteps p.now relation.now steps.old steps.new result }
 {
     prove!(relation.dim() <= MAX_DIM);

@@ -28,7 +28,7 @@ use Rattle.widening.proofs.Places.{same_at, has_at, all_at}
 use Rattle.widening.proofs.TurnLemmas.{enlarged}
 use Rattle.widening.proofs.OneRun.{one_set}
 use Rattle.affine_maps.specs.Posts.{IsPost, IsStepTo, SpanPost}
-use Rattle.fixpoint.specs.Runs.{IsValidOnPost, IsHullWithSuccessors, IsJoinedBy, LeavesOnHullWithPost, LeavesOnGrowth, LeavesByGenerators, LeavesByPost, LeavesBothWays, target_of, JoinsBy, LeavesBy, turns_of}
+use Rattle.fixpoint.specs.Runs.{IsValidOnPost, IsHullWithSuccessors, IsJoinedBy, LeavesOnHullWithPost, LeavesOnGrowth, LeavesByGenerators, LeavesByPost, LeavesBothWays, IsConversionBothWays, target_of, JoinsBy, LeavesBy, CountsBy, turns_of}
 use Rattle.fixpoint.specs.RunLaws.{AreClosedUnder}
 
 pub initial_sets : (s : TransitionSystem) → IsKeptSystem s → run.AreSetsOf s.dim (length s.initial) s.initial
@@ -180,6 +180,9 @@ module _ (s : TransitionSystem) (k : ℕ) (t : Transition) (sets : List Polyhedr
   pub leaves_by : (e : ConvErr) → IsOverflowIn (LeavesBothWays source t.relation old) e → IsOverflowIn (LeavesBy (slice_get s.transitions k) sets) e
   leaves_by (conversion.Overflow over) l = subst (λ (o : Option Transition). LeavesBy o sets over) (sym at) (record { source = source; old = old; has_source = has_source; has_old = has_old; leaves = l })
   leaves_by conversion.Memory l = tt
+
+  pub counts_by : (before after : ℕ) (over : Option Overflow) → IsConversionBothWays source t.relation old before after over → CountsBy (slice_get s.transitions k) sets before after over
+  counts_by before after over h = subst (λ (o : Option Transition). CountsBy o sets before after over) (sym at) (record { source = source; set = old; has_source = has_source; has_set = has_old; conversion = h })
 
 -- an overflow of the hull, behind those of the post
 hull_leaves : (source relation old post : Polyhedron) (over : Overflow) → old.topology ≡ Closed → IsPost source relation post → IsKept post → LeavesOn (list_width old.topology old.cons.dim) old.cons.dim (generators_of old.topology (both_generators old post)) over → LeavesOnHullWithPost source relation old over

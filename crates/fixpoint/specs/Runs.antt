@@ -1,20 +1,22 @@
-use Rattle.std.specs.Prelude.{◌≡◌, ◌⊎◌, ◌↔◌, ℕ, List, length, slice_get, Option, Some, None, ℤ}
+use Rattle.std.specs.Prelude.{◌≡◌, ◌⊎◌, ◌↔◌, ℕ, List, length, slice_get, Option, Some, None, Result, ℤ}
 use Rattle.row_core.specs.Points.{IsPoint}
 use Rattle.row_core.specs.declared.errors.Overflow.{Overflow}
+use Rattle.row_core.specs.declared.errors.ConvErr.{ConvErr}
 use Rattle.cons_sys.specs.Constraints.{Constraint, In, Satisfies}
 use Rattle.gens_sys.specs.Generators.{Generators}
 use Rattle.stored_systems.specs.WorkLists.{generator_list, LeavesOn, LeavesOnClosed}
 use Rattle.poly_pair.specs.TopologyConstraints.{IsConstraintFor}
 use Rattle.poly_pair.specs.Polyhedra.{Polyhedron, IsKept, IsOver}
-use Rattle.poly_pair.specs.Work.{added_gens}
+use Rattle.poly_pair.specs.Work.{added_gens, conv_overflow, overflow_in, IsConversion}
 use Rattle.trans_sys.specs.declared.transition.Transition.{Transition}
 use Rattle.trans_sys.specs.Systems.{TransitionSystem}
-use Rattle.lattice_ops.specs.Sets.{IsValidOn, both_generators}
+use Rattle.lattice_ops.specs.Sets.{IsValidOn, both_generators, hull_work}
+use Rattle.lattice_ops.specs.Sequences.{IsOneOrNone, IsThen, IsElse}
 use Rattle.widening.specs.Runs as run
 use Rattle.widening.specs.Runs.{TurnList}
 use Rattle.affine_maps.specs.Posts.{IsPost, IsStepTo, SpanPost}
-use Rattle.affine_maps.specs.PostLists.{LeavesOnSteps}
-use Rattle.fixpoint.specs.PostLists.{LeavesOnPairedPost}
+use Rattle.affine_maps.specs.PostLists.{LeavesOnSteps, AreOfSteps, IsFirstStepConversion}
+use Rattle.fixpoint.specs.PostLists.{LeavesOnPairedPost, IsPostConversion}
 
 -- ---- turns
 -- the constraint holds at each successor of a state of the set
@@ -81,6 +83,72 @@ pub record LeavesInJoin (transition : Transition) (sets : List Polyhedron)
   pub has_old : slice_get sets transition.target ≡ Some old
   pub leaves : LeavesBothWays source transition.relation old over
 
+-- ---- what finding the joined set counts and shows
+-- the conversion of the list of the relation's constraints and then the set's, from the stored pair
+-- of the relation, or nothing where memory runs out before
+abbrev pub AreStepsConverted : Polyhedron → Polyhedron → ℕ → ℕ → Option Overflow → Type 0
+AreStepsConverted source relation old new over =
+    IsOneOrNone (IsFirstStepConversion source relation) old new over
+
+-- that of the list of the generators of the set and then those of the post
+pub record IsGrowthConversion (source relation set : Polyhedron) (old new : ℕ)
+    (over : Option Overflow) : Type 0 where
+  pub gens : Generators
+  pub of_steps : AreOfSteps source relation gens
+  pub conversion : IsConversion (added_gens set gens) old new over
+
+-- that of the list of the generators of the set and of the post
+pub record IsHullConversion (source relation set : Polyhedron) (old new : ℕ)
+    (over : Option Overflow) : Type 0 where
+  pub post : Polyhedron
+  pub is_post : IsPost source relation post
+  pub post_kept : IsKept post
+  pub conversion : IsConversion (hull_work set post) old new over
+
+-- by generators of the post
+abbrev pub IsConversionByGenerators : Polyhedron → Polyhedron → Polyhedron → ℕ → ℕ
+    → Option Overflow → Type 0
+IsConversionByGenerators source relation set old new over =
+    IsThen (AreStepsConverted source relation) (IsGrowthConversion source relation set) old new over
+
+-- by the post
+abbrev pub IsConversionByPost : Polyhedron → Polyhedron → Polyhedron → ℕ → ℕ → Option Overflow
+    → Type 0
+IsConversionByPost source relation set old new over =
+    IsThen (IsPostConversion source relation) (IsHullConversion source relation set) old new over
+
+-- the first, and where that comes to an overflow the second
+abbrev pub IsConversionBothWays : Polyhedron → Polyhedron → Polyhedron → ℕ → ℕ → Option Overflow
+    → Type 0
+IsConversionBothWays source relation set old new over =
+    IsElse (IsConversionByGenerators source relation set) (IsConversionByPost source relation set)
+    old new over
+
+-- of a transition, where these are the sets
+pub record IsJoinConversion (transition : Transition) (sets : List Polyhedron) (old new : ℕ)
+    (over : Option Overflow) : Type 0 where
+  pub source : Polyhedron
+  pub set : Polyhedron
+  pub has_source : slice_get sets transition.source ≡ Some source
+  pub has_set : slice_get sets transition.target ≡ Some set
+  pub conversion : IsConversionBothWays source transition.relation set old new over
+
+-- calls that find it
+abbrev pub ConvertsByGenerators : {T : Type 0} → Polyhedron → Polyhedron → Polyhedron → ℕ → ℕ
+    → Result T ConvErr → Type 0
+ConvertsByGenerators source relation set old new result =
+    IsConversionByGenerators source relation set old new (overflow_in conv_overflow result)
+
+abbrev pub ConvertsByPost : {T : Type 0} → Polyhedron → Polyhedron → Polyhedron → ℕ → ℕ
+    → Result T ConvErr → Type 0
+ConvertsByPost source relation set old new result =
+    IsConversionByPost source relation set old new (overflow_in conv_overflow result)
+
+abbrev pub ConvertsBothWays : {T : Type 0} → Polyhedron → Polyhedron → Polyhedron → ℕ → ℕ
+    → Result T ConvErr → Type 0
+ConvertsBothWays source relation set old new result =
+    IsConversionBothWays source relation set old new (overflow_in conv_overflow result)
+
 -- ---- the turns of a system
 abbrev pub target_of : Option Transition → ℕ
 target_of None = 0
@@ -94,6 +162,10 @@ abbrev pub LeavesBy : Option Transition → List Polyhedron → Overflow → Typ
 LeavesBy None sets over = ⊥
 LeavesBy (Some t) sets over = LeavesInJoin t sets over
 
+abbrev pub CountsBy : Option Transition → List Polyhedron → ℕ → ℕ → Option Overflow → Type 0
+CountsBy None sets old new over = ⊥
+CountsBy (Some t) sets old new over = IsJoinConversion t sets old new over
+
 -- those of its transitions in order, each with the place of its target
 abbrev pub turns_of : TransitionSystem → TurnList
 turns_of system = record {
@@ -103,6 +175,7 @@ turns_of system = record {
   place = λ k. target_of (slice_get system.transitions k);
   Joins = λ k. JoinsBy (slice_get system.transitions k);
   Leaves = λ k. LeavesBy (slice_get system.transitions k);
+  Counts = λ k. CountsBy (slice_get system.transitions k);
 }
 
 -- the sets of the limit

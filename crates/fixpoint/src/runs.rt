@@ -1,8 +1,9 @@
 //! Runs of transition systems.
-ghost use Rattle.std.specs.Prelude.{IfOk, IfErr};
+ghost use Rattle.std.specs.Prelude.{◌≤◌, IfOk, IfErr};
 ghost use Rattle.row_core.specs.Refusals.{IsOverflowIn};
 ghost use Rattle.fixpoint.specs.Runs.{HasLimit};
 ghost use Rattle.fixpoint.specs.RunOverflows.{LeavesInRun};
+ghost use Rattle.fixpoint.specs.RunConversions.{ConvertsRun};
 ghost use Rattle.fixpoint.specs.RunLaws.{AreSetsOf, IncludeInitial, AreClosedUnder};
 
 use crate::transitions::Transitions;
@@ -34,6 +35,8 @@ pub fn run<L: Ledger>(
     ensures closed_under_transitions { IfOk result
         (λ sets. AreClosedUnder system.now.transitions sets.items) }
     ensures overflow { IfErr result (IsOverflowIn (LeavesInRun system.now delay)) }
+    ensures no_fewer { steps.old ≤ steps.new }
+    ensures conversion { ConvertsRun system.now delay steps.old steps.new result }
 {
     let initial = system.init_sets()?;
     widening::run(alloc, &Transitions { system }, initial, delay, steps)

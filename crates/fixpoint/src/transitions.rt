@@ -1,9 +1,9 @@
 //! The transitions of a system as turns of a run.
-ghost use Rattle.std.specs.Prelude.{◌≡◌, ◌*◌, IfOk, IfErr};
+ghost use Rattle.std.specs.Prelude.{◌≡◌, ◌*◌, ◌≤◌, IfOk, IfErr};
 ghost use Rattle.poly_pair.specs.ClosedPolyhedra.{IsClosedOver};
 ghost use Rattle.row_core.specs.Refusals.{IsOverflowIn};
 ghost use Rattle.widening.specs.RunLaws.{IsFound};
-ghost use Rattle.fixpoint.specs.Runs.{IsHullWithSuccessors, LeavesByGenerators, LeavesByPost, LeavesBothWays};
+ghost use Rattle.fixpoint.specs.Runs.{IsHullWithSuccessors, LeavesByGenerators, LeavesByPost, LeavesBothWays, ConvertsByGenerators, ConvertsByPost, ConvertsBothWays};
 
 use crate::successors::post;
 use affine_maps::post_generators;
@@ -31,6 +31,9 @@ fn joined_by_generators<L: Ledger>(
         (IsFound (IsHullWithSuccessors source.now relation.now old.now) old.now) }
     ensures overflow { IfErr result
         (IsOverflowIn (LeavesByGenerators source.now relation.now old.now)) }
+    ensures no_fewer { steps.old ≤ steps.new }
+    ensures conversion { ConvertsByGenerators source.now relation.now old.now steps.old steps.new
+        result }
 {
     let _fit = old.cons().dim();
     let found = match post_generators(alloc, source, relation, steps) {
@@ -57,6 +60,8 @@ fn joined_by_post<L: Ledger>(
     ensures found { IfOk result
         (IsFound (IsHullWithSuccessors source.now relation.now old.now) old.now) }
     ensures overflow { IfErr result (IsOverflowIn (LeavesByPost source.now relation.now old.now)) }
+    ensures no_fewer { steps.old ≤ steps.new }
+    ensures conversion { ConvertsByPost source.now relation.now old.now steps.old steps.new result }
 {
     let successors = match post(alloc, source, relation, steps) {
         Ok(successors) => successors,
@@ -82,6 +87,9 @@ fn joined<L: Ledger>(
         (IsFound (IsHullWithSuccessors source.now relation.now old.now) old.now) }
     ensures overflow { IfErr result
         (IsOverflowIn (LeavesBothWays source.now relation.now old.now)) }
+    ensures no_fewer { steps.old ≤ steps.new }
+    ensures conversion { ConvertsBothWays source.now relation.now old.now steps.old steps.new
+        result }
 {
     match joined_by_generators(alloc, source, relation, old, steps) {
         Ok(found) => Ok(found),

@@ -1,5 +1,6 @@
 -- The turns of a hybrid system.
 use Rattle.std.proofs.Common.{◌≡◌, ◌⊎◌, inl, inr, ℕ, ◌+◌, ◌-◌, ◌<◌, List, length, Option, Some, None, slice_get, nat_lt, cond, Bool, true, false, refl, sym, ap, ◌∙◌, subst, arith}
+use Rattle.row_core.specs.declared.errors.Overflow.{Overflow}
 use Rattle.row_core.specs.declared.errors.ConvErr.{ConvErr}
 use Rattle.row_core.specs.declared.errors.ConvErr.TheVariants as conversion
 use Rattle.poly_pair.specs.Polyhedra.{Polyhedron}
@@ -11,7 +12,8 @@ use Rattle.row_core.specs.Refusals.{IsOverflowIn}
 use Rattle.widening.proofs.Places.{same_at, has_at, all_at}
 use Rattle.hybrid.specs.Systems.{HybridAutomaton, IsKeptHybrid}
 use Rattle.hybrid.specs.Steps.{IsTimePost, IsJumpPost, LeavesOnTime, LeavesOnJump}
-use Rattle.hybrid.specs.Turns.{Turn, time, jump, IsHullWithPost, IsOfTime, IsOfJump, Joins, LeavesAfter, LeavesInTime, LeavesInJump, Leaves, turn_at, place_of, turns_of}
+use Rattle.hybrid.specs.Turns.{Turn, time, jump, IsHullWithPost, IsOfTime, IsOfJump, Joins, LeavesAfter, LeavesInTime, LeavesInJump, Leaves, CountsInJump, Counts, turn_at, place_of, turns_of}
+use Rattle.hybrid.specs.Conversions.{IsJumpTurnConversion}
 use Rattle.hybrid.proofs.Joined.{hull_above, found_as}
 
 lt_true : (k n : ℕ) → k < n → nat_lt k n ≡ true
@@ -87,6 +89,9 @@ module _ (h : HybridAutomaton) where
     leaves_jump i at (conversion.Overflow over) p = λ u has. subst (λ (x : Transition). LeavesInJump h x sets over) (same_at h.system.transitions i t u at has) (record { source = source; inv = inv; old = old; target_inv = target_inv; has_source = has_source; has_inv = has_inv; has_old = has_old; has_target_inv = has_target_inv; holds = p })
     leaves_jump i at conversion.Memory p = tt
 
+    pub counts_jump : (i : ℕ) → slice_get h.system.transitions i ≡ Some t → (before after : ℕ) (over : Option Overflow) → IsJumpTurnConversion source inv t.relation old target_inv before after over → (u : Transition) → slice_get h.system.transitions i ≡ Some u → CountsInJump h u sets before after over
+    counts_jump i at before after over p u has = subst (λ (x : Transition). CountsInJump h x sets before after over) (same_at h.system.transitions i t u at has) (record { source = source; inv = inv; old = old; target_inv = target_inv; has_source = has_source; has_inv = has_inv; has_old = has_old; has_target_inv = has_target_inv; holds = p })
+
   -- ---- the turn behind those of time
   module _ (k i : ℕ) (behind : ¬ (k < length h.system.initial)) (same : i ≡ k - length h.system.initial) (below : i < length h.system.transitions) (sets : List Polyhedron) where
     is_jump : (t : Transition) × (slice_get h.system.transitions i ≡ Some t) × (turn_at h k ≡ jump (Some t))
@@ -98,3 +103,6 @@ module _ (h : HybridAutomaton) where
     pub leaves_behind : (e : ConvErr) → IsOverflowIn (λ over. (t : Transition) → slice_get h.system.transitions i ≡ Some t → LeavesInJump h t sets over) e → IsOverflowIn (Leaves h (turn_at h k) sets) e
     leaves_behind (conversion.Overflow over) f = subst (λ (x : Turn). Leaves h x sets over) (sym is_jump.2) (f is_jump.0 is_jump.1)
     leaves_behind conversion.Memory f = tt
+
+    pub counts_behind : (before after : ℕ) (over : Option Overflow) → ((t : Transition) → slice_get h.system.transitions i ≡ Some t → CountsInJump h t sets before after over) → Counts h (turn_at h k) sets before after over
+    counts_behind before after over f = subst (λ (x : Turn). Counts h x sets before after over) (sym is_jump.2) (f is_jump.0 is_jump.1)

@@ -2,3 +2,4 @@ pub mod Systems
 pub mod Steps
 pub mod Turns
 pub mod Reaches
+pub mod Conversions

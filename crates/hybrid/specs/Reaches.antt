@@ -1,16 +1,21 @@
-use Rattle.std.specs.Prelude.{◌≡◌, ◌⊎◌, ℕ, List, length, slice_get, Some, ℤ}
+use Rattle.std.specs.Prelude.{◌≡◌, ◌⊎◌, ℕ, List, length, slice_get, Option, Some, Result, ℤ}
 use Rattle.row_core.specs.Points.{IsPoint}
 use Rattle.row_core.specs.declared.errors.Overflow.{Overflow}
+use Rattle.row_core.specs.declared.errors.ConvErr.{ConvErr}
 use Rattle.cons_sys.specs.Constraints.{In}
 use Rattle.stored_systems.specs.PointSets.{IsWithin}
 use Rattle.poly_pair.specs.Polyhedra.{Polyhedron}
+use Rattle.poly_pair.specs.Work.{conv_overflow, overflow_in}
+use Rattle.lattice_ops.specs.Sequences.{IsThen, AreCalls}
 use Rattle.trans_sys.specs.declared.transition.Transition.{Transition}
 use Rattle.elapse.specs.ElapsedPoints.{IsMoved}
 use Rattle.widening.specs.Runs.{HasLimit}
 use Rattle.widening.specs.RunOverflows.{LeavesInRun}
+use Rattle.widening.specs.RunConversions.{IsRunConversion}
 use Rattle.hybrid.specs.Systems.{HybridAutomaton, IsKeptHybrid}
 use Rattle.affine_maps.specs.Posts.{IsStepTo}
 use Rattle.hybrid.specs.Steps.{IsPartIn, LeavesOnMeet}
+use Rattle.hybrid.specs.Conversions.{IsMeetConversion}
 use Rattle.hybrid.specs.Turns.{turns_of}
 
 -- ---- the answer
@@ -53,6 +58,48 @@ pub record LeavesAtEnd (h : HybridAutomaton) (delay : ℕ) (over : Overflow) : T
 abbrev pub LeavesInReach : HybridAutomaton → ℕ → Overflow → Type 0
 LeavesInReach h delay over = LeavesInRun (turns_of h) h.system.initial delay over
     ⊎ LeavesAtEnd h delay over
+
+-- ---- what is counted and shown
+-- the meet of the set of a location with its invariant
+pub record IsPartConversion (invariants sets : List Polyhedron) (l old new : ℕ)
+    (over : Option Overflow) : Type 0 where
+  pub set : Polyhedron
+  pub inv : Polyhedron
+  pub has_set : slice_get sets l ≡ Some set
+  pub has_inv : slice_get invariants l ≡ Some inv
+  pub conversion : IsMeetConversion set inv old new over
+
+-- of each location in order, or of the first ones
+abbrev pub ArePartConversions : List Polyhedron → List Polyhedron → ℕ → ℕ → Option Overflow → Type 0
+ArePartConversions invariants sets old new over =
+    AreCalls (IsPartConversion invariants sets) (length sets) old new over
+
+-- of the sets of the limit
+pub record IsEndConversion (h : HybridAutomaton) (delay old new : ℕ)
+    (over : Option Overflow) : Type 0 where
+  pub sets : List Polyhedron
+  pub limit : HasLimit (turns_of h) h.system.initial delay sets
+  pub conversions : ArePartConversions h.invariants sets old new over
+
+-- the run, and then these
+abbrev pub IsReachConversion : HybridAutomaton → ℕ → ℕ → ℕ → Option Overflow → Type 0
+IsReachConversion h delay old new over = IsThen
+    (IsRunConversion (turns_of h) h.system.initial delay) (IsEndConversion h delay) old new over
+
+-- calls
+abbrev pub ConvertsPart : {T : Type 0} → List Polyhedron → List Polyhedron → ℕ → ℕ → ℕ
+    → Result T ConvErr → Type 0
+ConvertsPart invariants sets l old new result =
+    IsPartConversion invariants sets l old new (overflow_in conv_overflow result)
+
+abbrev pub ConvertsParts : {T : Type 0} → List Polyhedron → List Polyhedron → ℕ → ℕ
+    → Result T ConvErr → Type 0
+ConvertsParts invariants sets old new result =
+    ArePartConversions invariants sets old new (overflow_in conv_overflow result)
+
+abbrev pub ConvertsReach : {T : Type 0} → HybridAutomaton → ℕ → ℕ → ℕ → Result T ConvErr → Type 0
+ConvertsReach h delay old new result =
+    IsReachConversion h delay old new (overflow_in conv_overflow result)
 
 -- ---- what the sets include
 -- each initial state that is in its invariant

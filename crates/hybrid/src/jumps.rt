@@ -4,6 +4,7 @@ ghost use Rattle.poly_pair.specs.declared.topology.TheConstants.{MAX_DIM};
 ghost use Rattle.poly_pair.specs.ClosedPolyhedra.{IsClosedOver};
 ghost use Rattle.row_core.specs.Refusals.{IsOverflowIn};
 ghost use Rattle.hybrid.specs.Steps.{IsJumpPost, LeavesOnJump};
+ghost use Rattle.hybrid.specs.Conversions.{ConvertsJump};
 
 use crate::parts::part_in;
 use crate::posts::post;
@@ -29,6 +30,9 @@ pub(crate) fn jump_post<L: Ledger>(
     ensures post { IfOk result (IsJumpPost set.now inv.now relation.now target_inv.now) }
     ensures overflow { IfErr result
         (IsOverflowIn (LeavesOnJump set.now inv.now relation.now target_inv.now)) }
+    ensures no_fewer { steps.old ≤ steps.new }
+    ensures conversion { ConvertsJump set.now inv.now relation.now target_inv.now steps.old
+        steps.new result }
 {
     let start = match part_in(alloc, set, inv, steps) {
         Ok(start) => start,

@@ -5,6 +5,7 @@ ghost use Rattle.poly_pair.specs.ClosedPolyhedra.{IsClosedOver};
 ghost use Rattle.row_core.specs.Refusals.{IsOverflowIn};
 ghost use Rattle.affine_maps.specs.Posts.{IsPost};
 ghost use Rattle.hybrid.specs.Steps.{behind, LeavesOnEmbedding, LeavesOnEmbeddedPost};
+ghost use Rattle.hybrid.specs.Conversions.{ConvertsByEmbedding, ConvertsPost};
 
 use crate::parts::part_in;
 use affine_maps::post_from;
@@ -37,6 +38,8 @@ fn post_of_embedded<L: Ledger>(
     requires relation { IsClosedOver (2 * set.now.cons.dim) relation.now }
     ensures post { IfOk result (IsPost set.now relation.now) }
     ensures overflow { IfErr result (IsOverflowIn (LeavesOnEmbedding set.now relation.now)) }
+    ensures no_fewer { steps.old ≤ steps.new }
+    ensures conversion { ConvertsByEmbedding set.now relation.now steps.old steps.new result }
 {
     let dim = set.dim();
     let embedded = match embed(alloc, set, dim, steps) {
@@ -66,6 +69,8 @@ pub(crate) fn post<L: Ledger>(
     requires relation { IsClosedOver (2 * set.now.cons.dim) relation.now }
     ensures post { IfOk result (IsPost set.now relation.now) }
     ensures overflow { IfErr result (IsOverflowIn (LeavesOnEmbeddedPost set.now relation.now)) }
+    ensures no_fewer { steps.old ≤ steps.new }
+    ensures conversion { ConvertsPost set.now relation.now steps.old steps.new result }
 {
     match post_from(alloc, set, relation, steps) {
         Ok(successors) => Ok(successors),

@@ -1,8 +1,8 @@
 //! The states that an automaton may come to.
-ghost use Rattle.std.specs.Prelude.{◌≡◌, ◌<◌, ◌⊎◌, length, slice_get, Some, IfOk, IfErr};
+ghost use Rattle.std.specs.Prelude.{◌≡◌, ◌<◌, ◌≤◌, ◌⊎◌, length, slice_get, Some, IfOk, IfErr};
 ghost use Rattle.row_core.specs.Refusals.{IsOverflowIn};
 ghost use Rattle.widening.specs.RunLaws.{AreSetsOf};
-ghost use Rattle.hybrid.specs.Reaches.{IsPartAt, AreParts, AreReached, LeavesInPart, LeavesInParts, LeavesInReach, IncludeInitial, AreClosedUnderFlow, AreClosedUnderJumps};
+ghost use Rattle.hybrid.specs.Reaches.{IsPartAt, AreParts, AreReached, LeavesInPart, LeavesInParts, LeavesInReach, ConvertsPart, ConvertsParts, ConvertsReach, IncludeInitial, AreClosedUnderFlow, AreClosedUnderJumps};
 
 use crate::hybrid::Hybrid;
 use crate::parts::part_in;
@@ -25,6 +25,9 @@ fn part_of<L: Ledger>(
     ensures part { IfOk result (IsPartAt h.now.invariants sets.now location) }
     ensures overflow { IfErr result
         (IsOverflowIn (LeavesInPart h.now.invariants sets.now location)) }
+    ensures no_fewer { steps.old ≤ steps.new }
+    ensures conversion { ConvertsPart h.now.invariants sets.now location steps.old steps.new
+        result }
 {
     let _kept = h.system();
     part_in(alloc, set_of(sets, location), h.inv(location), steps)
@@ -40,6 +43,8 @@ fn parts_of<L: Ledger>(
     requires { AreSetsOf h.now.system.dim (length h.now.system.initial) sets.now }
     ensures parts { IfOk result (λ parts. AreParts h.now.invariants sets.now parts.items) }
     ensures overflow { IfErr result (IsOverflowIn (LeavesInParts h.now.invariants sets.now)) }
+    ensures no_fewer { steps.old ≤ steps.new }
+    ensures conversion { ConvertsParts h.now.invariants sets.now steps.old steps.new result }
 {
     let mut parts = Vec::new(alloc);
     for location in 0..sets.len() {
@@ -77,6 +82,8 @@ pub fn reach<L: Ledger>(
     ensures closed_under_flow { IfOk result (λ parts. AreClosedUnderFlow h.now parts.items) }
     ensures closed_under_jumps { IfOk result (λ parts. AreClosedUnderJumps h.now parts.items) }
     ensures overflow { IfErr result (IsOverflowIn (LeavesInReach h.now delay)) }
+    ensures no_fewer { steps.old ≤ steps.new }
+    ensures conversion { ConvertsReach h.now delay steps.old steps.new result }
 {
     let initial = h.system().init_sets()?;
     let sets = match widening::run(alloc, h, initial, delay, steps) {

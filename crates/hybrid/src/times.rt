@@ -1,9 +1,10 @@
 //! What time does to a set.
-ghost use Rattle.std.specs.Prelude.{◌≡◌, IfOk, IfErr};
+ghost use Rattle.std.specs.Prelude.{◌≡◌, ◌≤◌, IfOk, IfErr};
 ghost use Rattle.poly_pair.specs.Polyhedra.{HasNoPoint};
 ghost use Rattle.poly_pair.specs.ClosedPolyhedra.{IsClosedOver};
 ghost use Rattle.row_core.specs.Refusals.{IsOverflowIn};
 ghost use Rattle.hybrid.specs.Steps.{IsFlown, IsTimePost, LeavesOnFlow, LeavesOnTime};
+ghost use Rattle.hybrid.specs.Conversions.{ConvertsFlow, ConvertsTime};
 
 use crate::parts::part_in;
 use elapse::time_elapse;
@@ -25,6 +26,8 @@ fn flown<L: Ledger>(
     requires flow { IsClosedOver inv.now.cons.dim flow.now }
     ensures flown { IfOk result (IsFlown start.now inv.now flow.now) }
     ensures overflow { IfErr result (IsOverflowIn (LeavesOnFlow start.now inv.now flow.now)) }
+    ensures no_fewer { steps.old ≤ steps.new }
+    ensures conversion { ConvertsFlow start.now inv.now flow.now steps.old steps.new result }
 {
     let elapsed = match time_elapse(alloc, start, flow, steps) {
         Ok(elapsed) => elapsed,
@@ -47,6 +50,8 @@ pub(crate) fn time_post<L: Ledger>(
     requires flow { IsClosedOver inv.now.cons.dim flow.now }
     ensures post { IfOk result (IsTimePost set.now inv.now flow.now) }
     ensures overflow { IfErr result (IsOverflowIn (LeavesOnTime set.now inv.now flow.now)) }
+    ensures no_fewer { steps.old ≤ steps.new }
+    ensures conversion { ConvertsTime set.now inv.now flow.now steps.old steps.new result }
 {
     let start = match part_in(alloc, set, inv, steps) {
         Ok(start) => start,

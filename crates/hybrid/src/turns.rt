@@ -7,7 +7,9 @@ ghost use Rattle.poly_pair.specs.ClosedPolyhedra.{IsClosedOver};
 ghost use Rattle.row_core.specs.Refusals.{IsOverflowIn};
 ghost use Rattle.widening.specs.RunLaws.{AreSetsOf, IsFound};
 ghost use Rattle.hybrid.specs.Steps.{IsTimePost, IsJumpPost};
-ghost use Rattle.hybrid.specs.Turns.{IsHullWithPost, IsOfTime, IsOfJump, LeavesOnTimeTurn, LeavesOnJumpTurn, LeavesInTime, LeavesInJump};
+ghost use Rattle.hybrid.specs.Turns.{IsHullWithPost, IsOfTime, IsOfJump, LeavesOnTimeTurn, LeavesOnJumpTurn, LeavesInTime, LeavesInJump, CountsInTime, CountsInJump};
+ghost use Rattle.poly_pair.specs.Work.{conv_overflow, overflow_in};
+ghost use Rattle.hybrid.specs.Conversions.{ConvertsTimeTurn, ConvertsJumpTurn};
 
 use crate::hybrid::Hybrid;
 use crate::jumps::jump_post;
@@ -34,6 +36,8 @@ fn time_joined<L: Ledger>(
     ensures found { IfOk result
         (IsFound (IsHullWithPost (IsTimePost old.now inv.now flow.now) old.now) old.now) }
     ensures overflow { IfErr result (IsOverflowIn (LeavesOnTimeTurn old.now inv.now flow.now)) }
+    ensures no_fewer { steps.old ≤ steps.new }
+    ensures conversion { ConvertsTimeTurn old.now inv.now flow.now steps.old steps.new result }
 {
     let post = match time_post(alloc, old, inv, flow, steps) {
         Ok(post) => post,
@@ -62,6 +66,9 @@ fn jump_joined<L: Ledger>(
         old.now) }
     ensures overflow { IfErr result (IsOverflowIn
         (LeavesOnJumpTurn source.now inv.now relation.now old.now target_inv.now)) }
+    ensures no_fewer { steps.old ≤ steps.new }
+    ensures conversion { ConvertsJumpTurn source.now inv.now relation.now old.now target_inv.now
+        steps.old steps.new result }
 {
     let alloc = old.cons().allocator();
     let post = match jump_post(alloc, source, inv, relation, target_inv, steps) {
@@ -84,6 +91,9 @@ fn time_turn<L: Ledger>(
     ensures found { IfOk result (λ o. (old : Polyhedron) → slice_get sets.now location ≡ Some old
         → IsFound (IsOfTime h.now location sets.now) old o) }
     ensures overflow { IfErr result (IsOverflowIn (LeavesInTime h.now location sets.now)) }
+    ensures no_fewer { steps.old ≤ steps.new }
+    ensures conversion { CountsInTime h.now location sets.now steps.old steps.new
+        (overflow_in conv_overflow result) }
 {
     let _kept = h.system();
     time_joined(
@@ -109,6 +119,9 @@ fn jump_turn<L: Ledger>(
         → IsFound (IsOfJump h.now t sets.now) old o) }
     ensures overflow { IfErr result (IsOverflowIn (λ over. (t : Transition)
         → slice_get h.now.system.transitions index ≡ Some t → LeavesInJump h.now t sets.now over)) }
+    ensures no_fewer { steps.old ≤ steps.new }
+    ensures conversion { (t : Transition) → slice_get h.now.system.transitions index ≡ Some t
+        → CountsInJump h.now t sets.now steps.old steps.new (overflow_in conv_overflow result) }
 {
     let transition = h.system().trans(index);
     jump_joined(

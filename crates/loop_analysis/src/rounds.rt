@@ -1,10 +1,10 @@
 //! Rounds of a loop, on sets of states.
-ghost use Rattle.std.specs.Prelude.{◌≡◌, ◌<◌, length, slice_get, Some, IfOk, IfErr};
+ghost use Rattle.std.specs.Prelude.{◌≡◌, ◌<◌, ◌≤◌, length, slice_get, Some, IfOk, IfErr};
 ghost use Rattle.row_core.specs.Refusals.{IsOverflowIn};
 ghost use Rattle.poly_pair.specs.ClosedPolyhedra.{IsClosedOver};
 ghost use Rattle.widening.specs.RunLaws.{IsFound};
 ghost use Rattle.loop_analysis.specs.Loops.{IsAssignment};
-ghost use Rattle.loop_analysis.specs.Rounds.{IsImageOf, IsRound, IsJoined, LeavesInImage, LeavesInRound, LeavesInJoin};
+ghost use Rattle.loop_analysis.specs.Rounds.{IsImageOf, IsRound, IsJoined, LeavesInImage, LeavesInRound, LeavesInJoin, ConvertsAssignment, ConvertsRound, ConvertsJoin};
 
 use crate::loops::{Assignment, Loop};
 use affine_maps::{ImageRel, image};
@@ -25,6 +25,8 @@ fn assigned<L: Ledger>(
     requires fits { IsAssignment set.now.cons.dim assignment.now }
     ensures image { IfOk result (IsImageOf assignment.now set.now) }
     ensures overflow { IfErr result (IsOverflowIn (LeavesInImage assignment.now set.now)) }
+    ensures no_fewer { steps.old ≤ steps.new }
+    ensures conversion { ConvertsAssignment assignment.now set.now steps.old steps.new result }
 {
     let expr = assignment.value.expr.cells();
     let den = assignment.value.den;
@@ -52,6 +54,8 @@ pub fn round<L: Ledger>(
     ensures round { IfOk result (IsRound program.now set.now) }
     ensures closed { IfOk result (IsClosedOver program.now.dim) }
     ensures overflow { IfErr result (IsOverflowIn (LeavesInRound program.now set.now)) }
+    ensures no_fewer { steps.old ≤ steps.new }
+    ensures conversion { ConvertsRound program.now set.now steps.old steps.new result }
 {
     let mut states = set.add_cons(program.guard(), steps)?;
     let _kept = states.dim();
@@ -71,6 +75,8 @@ fn joined<L: Ledger>(
     requires { IsClosedOver program.now.dim set.now }
     ensures found { IfOk result (IsFound (IsJoined program.now set.now) set.now) }
     ensures overflow { IfErr result (IsOverflowIn (LeavesInJoin program.now set.now)) }
+    ensures no_fewer { steps.old ≤ steps.new }
+    ensures conversion { ConvertsJoin program.now set.now steps.old steps.new result }
 {
     let states = round(alloc, program, set, steps)?;
     grown(alloc, set, &states, steps)

@@ -1,8 +1,8 @@
 //! Joins of two powersets, and their common points.
-ghost use Rattle.std.specs.Prelude.{◌≡◌, ◌++◌, ◌∷◌, [], All, IfErr, IfOk, OnOk};
+ghost use Rattle.std.specs.Prelude.{◌≡◌, ◌≤◌, ◌++◌, ◌∷◌, [], All, IfErr, IfOk, OnOk};
 ghost use Rattle.poly_pair.specs.Polyhedra.{Polyhedron, AreAlike};
 ghost use Rattle.row_core.specs.Refusals.{IsOverflowIn};
-ghost use Rattle.powerset.specs.Joins.{IsJoin, LeavesOnJoin, AreMeets, HasMeets, IsPairMeet, LeavesOnMeet, LeavesOnPairMeet};
+ghost use Rattle.powerset.specs.Joins.{IsJoin, LeavesOnJoin, AreMeets, HasMeets, IsPairMeet, LeavesOnMeet, LeavesOnPairMeet, ConvertsMeets, ConvertsPairs, ConvertsPairMeet};
 
 use crate::powersets::Powerset;
 use crate::reducing::reduced;
@@ -62,6 +62,8 @@ fn append_meets<L: Ledger>(
     requires { All (AreAlike p.now) others.now }
     ensures meets { OnOk result (HasMeets p.now others.now meets.old.items meets.new.items) }
     ensures overflow { IfErr result (IsOverflowIn (LeavesOnMeet (p.now ∷ []) others.now)) }
+    ensures no_fewer { steps.old ≤ steps.new }
+    ensures conversion { ConvertsMeets p.now others.now steps.old steps.new result }
 {
     for index in 0..others.len() {
         match meet(alloc, p, &others[index], steps) {
@@ -86,6 +88,8 @@ fn all_meets<L: Ledger>(
     requires { All (λ (p : Polyhedron). All (AreAlike p) second.now) first.now }
     ensures meets { IfOk result (λ meets. AreMeets first.now second.now meets.items) }
     ensures overflow { IfErr result (IsOverflowIn (LeavesOnMeet first.now second.now)) }
+    ensures no_fewer { steps.old ≤ steps.new }
+    ensures conversion { ConvertsPairs first.now second.now steps.old steps.new result }
 {
     let mut meets = Vec::new(alloc);
     for index in 0..first.len() {
@@ -110,6 +114,8 @@ pub fn pmeet<L: Ledger>(
     requires dim { s.now.dim ≡ t.now.dim }
     ensures meet { IfOk result (IsPairMeet s.now t.now) }
     ensures overflow { IfErr result (IsOverflowIn (LeavesOnPairMeet s.now t.now)) }
+    ensures no_fewer { steps.old ≤ steps.new }
+    ensures conversion { ConvertsPairMeet s.now t.now steps.old steps.new result }
 {
     let meets = match all_meets(alloc, s.members(), t.members(), steps) {
         Ok(meets) => meets,

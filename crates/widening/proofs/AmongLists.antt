@@ -1,6 +1,7 @@
 -- A list that gains those constraints whose rows are 0 on the same generators as some constraint.
-use Rattle.std.proofs.Common.{◌≡◌, ℕ, ◌+◌, ◌<◌, List, [], ◌∷◌, ◌++◌, length, ℤ, sym, ap, ◌∙◌, subst, arith, below_more, All}
+use Rattle.std.proofs.Common.{◌≡◌, ℕ, zero, suc, ◌+◌, ◌<◌, ◌≤◌, take, List, [], ◌∷◌, ◌++◌, length, ℤ, sym, ap, ◌∙◌, subst, arith, below_more, All}
 use Rattle.std.specs.Prelude.{◌↔◌}
+use Rattle.std.proofs.lemmas.List.{take_more}
 use Rattle.std.proofs.lemmas.List.Elements.{All-nil, All-cons, All-head, All-append}
 use Rattle.cons_sys.specs.declared.kind.ConKind.{ConKind}
 use Rattle.cons_sys.specs.declared.kind.ConKind.TheVariants.{Eq}
@@ -8,7 +9,7 @@ use Rattle.cons_sys.specs.Constraints.{Constraint, Constraints, Satisfies, const
 use Rattle.stored_systems.specs.PointSets.{IsClosedKind, AreClosed}
 use Rattle.stored_systems.proofs.ListLemmas.{All-left, All-right}
 use Rattle.poly_pair.specs.Polyhedra.{Polyhedron}
-use Rattle.widening.specs.Values.{HasZerosAmong, HoldAmong}
+use Rattle.widening.specs.Values.{HasZerosAmong, HaveZerosAmong, HoldAmong, AreAmong, begins, taken, passed}
 
 abbrev pub HoldsAmong : Polyhedron → Constraints → ℕ → List Constraint → Type 0
 HoldsAmong p cs n list = (v : List ℤ) → All (Satisfies v) list ↔ HoldAmong p cs n v
@@ -46,3 +47,22 @@ module _ (p : Polyhedron) (cs : Constraints) (i : ℕ) (row : List ℤ) (kind : 
       subst (All (λ (c : Constraint). IsClosedKind c.1)) (sym e)
       (All-append (λ (c : Constraint). IsClosedKind c.1) list ((row, kind) ∷ []) all
       (All-cons (λ (c : Constraint). IsClosedKind c.1) (row, kind) [] (subst (λ (x : ConKind). IsClosedKind x) (sym k) (closed i ([], Eq) b)) (All-nil (λ (c : Constraint). IsClosedKind c.1))))
+
+  -- those that are listed
+  pub those_taken : (new : List Constraint) → HasZerosAmong p.cons.list p.gens row → new ≡ list ++ (row, kind) ∷ [] → AreAmong p cs i list → AreAmong p cs (i + 1) new
+  those_taken new has e those = subst (AreAmong p cs (i + 1)) (ap (λ (c : Constraint). list ++ c ∷ []) (sym listed) ∙ sym e) (taken those (subst (HasZerosAmong p.cons.list p.gens) is has))
+
+  pub those_passed : ¬ (HasZerosAmong p.cons.list p.gens row) → AreAmong p cs i list → AreAmong p cs (i + 1) list
+  those_passed none those = passed those (λ has. none (subst (HasZerosAmong p.cons.list p.gens) (sym is) has))
+
+pub those_begin : (p : Polyhedron) (cs : Constraints) (list : List Constraint) → list ≡ [] → AreAmong p cs 0 list
+those_begin p cs list e = subst (AreAmong p cs 0) (sym e) begins
+
+-- where all are, they are the list
+pub all_those : (p : Polyhedron) (cs : Constraints) (n : ℕ) → n ≤ length cs.list → HaveZerosAmong p cs n → AreAmong p cs n (take n cs.list)
+all_those p cs zero l all = begins
+all_those p cs (suc n) l all =
+    let below : n < length cs.list = omega (arith, l) in
+    let next : n + 1 ≡ suc n = omega arith in
+    subst (λ (m : ℕ). AreAmong p cs m (take m cs.list)) next
+    (subst (AreAmong p cs (n + 1)) (sym (take_more cs.list n ([], Eq) below)) (taken (all_those p cs n (omega (arith, l)) (λ i b. all i (omega (arith, b)))) (all n (omega arith))))

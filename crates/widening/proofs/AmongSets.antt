@@ -1,5 +1,6 @@
 -- The set of the kept constraints of the larger set is the widening.
-use Rattle.std.proofs.Common.{◌≡◌, ℕ, List, [], length, ℤ, pos, ◌≤ℤ◌, inr, refl, sym, ◌∙◌, subst, All}
+use Rattle.std.proofs.Common.{◌≡◌, ℕ, List, [], length, ℤ, pos, ◌≤ℤ◌, inr, refl, sym, ◌∙◌, subst, arith, All}
+use Rattle.std.proofs.lemmas.List.{take_all}
 use Rattle.std.specs.Prelude.{◌↔◌, Contains, slice_index_or}
 use Rattle.std.proofs.lemmas.List.Elements.{All-get_or, All-from_get_or}
 use Rattle.row_core.specs.Vectors.{dot}
@@ -14,7 +15,8 @@ use Rattle.poly_pair.specs.declared.topology.Topology.TheVariants.{Closed}
 use Rattle.poly_pair.specs.Polyhedra.{Polyhedron, IsOfConstraints, IsIncluded}
 use Rattle.widening.specs.Inequalities.{HasSameZeros}
 use Rattle.widening.specs.Widenings.{AllowOthers, IsWidening}
-use Rattle.widening.specs.Values.{HasZerosAmong, HaveZerosAmong, HoldAmong, IsOfAmong}
+use Rattle.widening.specs.Values.{HasZerosAmong, HaveZerosAmong, HoldAmong, AreAmong, IsOfAmong}
+use Rattle.widening.proofs.AmongLists.{all_those}
 use Rattle.widening.proofs.ZeroLists.{zero_negated, among_negated, negated_among}
 use Rattle.widening.proofs.SideLists.{sides, both_sides, all_sides, row_is_side, negative_is_side}
 use Rattle.widening.proofs.StoredSets.{satisfied_least}
@@ -74,6 +76,7 @@ module _ (p q : Polyhedron) (stored : IsStored p.cons p.gens) (stored2 : IsStore
       (record {
         same_dim = refl;
         closed = (stored_is_closed q.cons q.gens stored2).cons;
+        those = subst (AreAmong p q.cons (length q.cons.list)) (take_all (length q.cons.list) q.cons.list (omega arith)) (all_those p q.cons (length q.cons.list) (omega arith) all);
         holds = λ v. ((λ i n l a. All-get_or (Satisfies v) q.cons.list n ([], Eq) l i), (λ h. All-from_get_or (Satisfies v) q.cons.list ([], Eq) (λ n l. h n l (all n l))));
       })
       (record { over = record { same_topology = closed; same_dim = refl }; points = λ v pt. ((λ i. i), (λ i. i)) })

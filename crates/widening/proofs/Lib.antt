@@ -25,3 +25,4 @@ pub mod TurnLemmas
 pub mod RoundLemmas
 pub mod OneRun
 pub mod Sums
+pub mod RunCounts

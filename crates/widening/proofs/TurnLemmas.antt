@@ -5,18 +5,20 @@ use Rattle.std.proofs.lemmas.List.{length-set}
 use Rattle.std.proofs.lemmas.List.Elements.{All-set}
 use Rattle.std.proofs.lemmas.Option.{slice_get_within}
 use Rattle.row_core.specs.Points.{IsPoint}
+use Rattle.row_core.specs.declared.errors.Overflow.{Overflow}
 use Rattle.row_core.specs.declared.errors.ConvErr.{ConvErr}
 use Rattle.row_core.specs.declared.errors.ConvErr.TheVariants as conversion
 use Rattle.cons_sys.specs.Constraints.{In}
 use Rattle.poly_pair.specs.Polyhedra.{Polyhedron, IsKept, IsIncluded, HaveSamePoints}
 use Rattle.widening.specs.declared.updates.Updated.{Updated}
-use Rattle.widening.specs.Updates.{IsUpdate, IsUpdateOverflow}
+use Rattle.widening.specs.Updates.{IsUpdate, IsUpdateOverflow, IsUpdateConversion}
 use Rattle.poly_pair.specs.ClosedPolyhedra.{IsClosedOver}
 use Rattle.widening.specs.WideningLaws.{IsEnlarged, WideningIncludes}
 use Rattle.widening.specs.Runs.{RunTable, TurnList, IsMove, IsOutcome, placed, IsTurn}
 use Rattle.widening.specs.RunLaws.{IsTableOf, AreProper, IsAbove, IsLarger, IsFound, IsTaken}
 use Rattle.row_core.specs.Refusals.{IsOverflowIn}
 use Rattle.widening.specs.RunOverflows.{LeavesInTurn}
+use Rattle.widening.specs.RunConversions.{IsTurnConversion}
 use Rattle.widening.proofs.Places.{same_at, has_at, all_at, set_same, set_other}
 
 -- ---- parts of sets
@@ -150,3 +152,14 @@ module _ (turns : TurnList) (k : ℕ) (t : RunTable) (sets : List Polyhedron) (s
   pub move_leaves : (e : ConvErr) → IsUpdateOverflow left old joined e → IsOverflowIn (LeavesInTurn turns k t) e
   move_leaves (conversion.Overflow over) l = inr (record { old = old; has_old = old_at; used_up = subst (λ (n : ℕ). slice_get t.left (turns.place k) ≡ Some n) l.0 left_at; joined = joined; is_joined = is_larger.is_joined; differs = differs; leaves = l.1 })
   move_leaves conversion.Memory l = tt
+
+  pub counts_both : (start between end : ℕ) (over : Option Overflow) → turns.Counts k sets start between None → IsUpdateConversion left old joined between end over → IsTurnConversion turns k t start end over
+  counts_both start between end over finding update = inr (record {
+    between = between;
+    finding = subst (λ (xs : List Polyhedron). turns.Counts k xs start between None) same finding;
+    update = record { set = old; left = left; has_set = old_at; has_left = left_at; joined = joined; is_joined = is_larger.is_joined; differs = differs; conversion = update };
+  })
+
+-- finding what the turn joins alone
+pub counts_finding : (turns : TurnList) (k : ℕ) (t : RunTable) (sets : List Polyhedron) → sets ≡ t.sets → (old new : ℕ) (over : Option Overflow) → turns.Counts k sets old new over → IsTurnConversion turns k t old new over
+counts_finding turns k t sets e old new over h = inl (subst (λ (xs : List Polyhedron). turns.Counts k xs old new over) e h)

@@ -1,10 +1,12 @@
 //! Runs of turns to their limit.
-ghost use Rattle.std.specs.Prelude.{◌<◌, MatchBool, IfOk, IfErr};
+ghost use Rattle.std.specs.Prelude.{◌<◌, ◌≤◌, MatchBool, IfOk, IfErr};
 ghost use Rattle.widening.specs.Ranks.{total};
 ghost use Rattle.widening.specs.Runs.{IsRound, IsStable, HasLimit};
 ghost use Rattle.widening.specs.RunLaws.{AreSetsOf, IsTableOf, AreProper, IncludeEach, AreTaken};
 ghost use Rattle.row_core.specs.Refusals.{IsOverflowIn};
 ghost use Rattle.widening.specs.RunOverflows.{LeavesInRound, LeavesInRun};
+ghost use Rattle.poly_pair.specs.Work.{conv_overflow};
+ghost use Rattle.widening.specs.RunConversions.{IsCountedRound, IsBrokenRound, ConvertsRun};
 
 use crate::laws::widening_includes;
 use crate::table::Table;
@@ -28,6 +30,11 @@ fn round<T: Turns, L: Ledger>(
         (total table.new.sets table.new.left < total table.old.sets table.old.left)
         (IsStable (T.turns turns.now) table.new)) }
     ensures overflow { IfErr result (IsOverflowIn (LeavesInRound (T.turns turns.now) table.old)) }
+    ensures no_fewer { steps.old ≤ steps.new }
+    ensures counted { IfOk result (λ changed. IsCountedRound (T.turns turns.now)
+        (T.turns turns.now).count table.old table.new steps.old steps.new) }
+    ensures broken { IfErr result (λ cause.
+        IsBrokenRound (T.turns turns.now) table.old steps.old steps.new (conv_overflow cause)) }
 {
     let mut changed = false;
     for index in 0..turns.count() {
@@ -65,6 +72,9 @@ pub fn run<T: Turns, L: Ledger>(
     ensures taken { IfOk result (λ sets. AreTaken (T.turns turns.now) sets.items) }
     ensures overflow { IfErr result
         (IsOverflowIn (LeavesInRun (T.turns turns.now) initial.items delay)) }
+    ensures no_fewer { steps.old ≤ steps.new }
+    ensures conversion { ConvertsRun (T.turns turns.now) initial.items delay steps.old steps.new
+        result }
 {
     widening_includes();
     let _proper = turns.count();

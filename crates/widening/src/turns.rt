@@ -1,14 +1,16 @@
 //! Turns of a run.
-ghost use Rattle.std.specs.Prelude.{◌≡◌, ◌<◌, slice_get, Some, IfOk, IfErr, MatchBool};
+ghost use Rattle.std.specs.Prelude.{◌≡◌, ◌<◌, ◌≤◌, slice_get, Some, IfOk, IfErr, MatchBool};
 ghost use Rattle.poly_pair.specs.Polyhedra.{Polyhedron};
 ghost use Rattle.widening.specs.Ranks.{weight, total};
-ghost use Rattle.widening.specs.Updates.{IsUpdate, IsUpdateOverflow};
+ghost use Rattle.widening.specs.Updates.{IsUpdate, IsUpdateOverflow, ConvertsUpdate};
 ghost use Rattle.poly_pair.specs.ClosedPolyhedra.{IsClosedOver};
 ghost use Rattle.widening.specs.WideningLaws.{IsEnlarged};
 ghost use Rattle.widening.specs.Runs.{TurnList, IsTurn};
 ghost use Rattle.widening.specs.RunLaws.{AreSetsOf, IsTableOf, AreProper, IsFound};
 ghost use Rattle.row_core.specs.Refusals.{IsOverflowIn};
 ghost use Rattle.widening.specs.RunOverflows.{LeavesInTurn};
+ghost use Rattle.poly_pair.specs.Work.{conv_overflow, overflow_in};
+ghost use Rattle.widening.specs.RunConversions.{ConvertsTurn};
 
 use crate::laws::weight_falls;
 use crate::table::Table;
@@ -45,7 +47,10 @@ pub trait Turns {
         ensures found { IfOk result (λ o. (old : Polyhedron)
             → slice_get sets.now ((turns self.now).place index) ≡ Some old
             → IsFound ((turns self.now).Joins index sets.now) old o) }
-        ensures overflow { IfErr result (IsOverflowIn ((turns self.now).Leaves index sets.now)) };
+        ensures overflow { IfErr result (IsOverflowIn ((turns self.now).Leaves index sets.now)) }
+        ensures no_fewer { steps.old ≤ steps.new }
+        ensures conversion { (turns self.now).Counts index sets.now steps.old steps.new
+            (overflow_in conv_overflow result) };
 }
 
 /// What a larger set makes of the set of a place.
@@ -61,6 +66,8 @@ fn moved<L: Ledger>(
     ensures closed { IfOk result (λ u. IsClosedOver joined.cons.dim u.set) }
     ensures falls { IfOk result (λ u. weight u.set u.left < weight old.now left) }
     ensures overflow { IfErr result (IsUpdateOverflow left old.now joined) }
+    ensures no_fewer { steps.old ≤ steps.new }
+    ensures conversion { ConvertsUpdate left old.now joined steps.old steps.new result }
 {
     weight_falls();
     match update(alloc, old, joined, left, steps) {
@@ -90,6 +97,9 @@ pub(crate) fn turn<T: Turns, L: Ledger>(
         (table.new ≡ table.old)) }
     ensures overflow { IfErr result
         (IsOverflowIn (LeavesInTurn (T.turns turns.now) index table.old)) }
+    ensures no_fewer { steps.old ≤ steps.new }
+    ensures conversion { ConvertsTurn (T.turns turns.now) index table.old steps.old steps.new
+        result }
 {
     let place = turns.place(index);
     let joined = match turns.found(alloc, index, table.sets(), steps) {

@@ -5,8 +5,8 @@ use Rattle.poly_pair.specs.declared.topology.TheConstants.{MAX_DIM}
 use Rattle.mapped_systems.specs.Maps.{picked}
 use Rattle.affine_maps.specs.Shadows.{SpanShadowIfAny}
 use Rattle.affine_maps.specs.Posts.{SpanPostIfAny}
-use Rattle.affine_maps.specs.PostLists.{later}
-use Rattle.affine_maps.proofs.PairSets.{lent_steps, later_many, later_below, turned, turned_pairs, steps_closed, pairs_closed, spans_post}
+use Rattle.affine_maps.specs.PostLists.{later, AreOfStepsIfAny}
+use Rattle.affine_maps.proofs.PairSets.{lent_steps, later_many, later_below, turned, turned_pairs, steps_closed, pairs_closed, spans_post, of_steps}
 use Rattle.affine_maps.proofs.posts.post_generators.Goals as goal
 
 pub shadow_generators_from-requires-clause-kinds : goal.shadow_generators_from-requires-clause-kinds
@@ -58,3 +58,14 @@ returns-in_err-pairs-clause-conversion g c = let p = err_from_is_err_and c.from_
 
 pub returns-in_err-columns-clause-conversion : goal.returns-in_err-columns-clause-conversion
 returns-in_err-columns-clause-conversion g c = let p = err_from_is_err_and c.from_residual-in_err-columns.result c.from_residual-in_err-columns.ensures.1 in rw (p.1, p.2) (inl (refl, refl))
+
+pub returns-clause-system : goal.returns-clause-system
+returns-clause-system g c =
+    let p = c.args.p.now in
+    let relation = c.args.relation.now in
+    let pairs = c.in_ok-pairs.pairs in
+    let s = lent_steps p.cons relation.cons c.cons.result.now c.cons-2.result.now pairs c.cons.ensures.value c.cons-2.ensures.value c.in_ok-pairs.ensures in
+    let is : c.deref.result.now ≡ later p.cons.dim = c.deref.ensures.value ∙ c.in_ok-columns.ensures ∙ ap later c.dim-2.ensures.value in
+    IfOk-weaker c.shadow_generators_from.result (SpanShadowIfAny Closed (picked (later p.cons.dim) pairs.dim) (length (later p.cons.dim)) pairs) (AreOfStepsIfAny p relation)
+    (of_steps p relation pairs c.requires.dim s)
+    (subst (λ (columns : List ℕ). IfOk c.shadow_generators_from.result (SpanShadowIfAny Closed (picked columns pairs.dim) (length columns) pairs)) is c.shadow_generators_from.ensures.generators)

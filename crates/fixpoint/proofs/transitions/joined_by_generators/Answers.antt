@@ -1,4 +1,4 @@
-use Rattle.std.proofs.Common.{Err, inl, subst}
+use Rattle.std.proofs.Common.{Err, inl, inr, subst, arith}
 use Rattle.std.proofs.lemmas.Result.{IfOk-weaker, IfErr-weaker}
 use Rattle.cons_sys.specs.Constraints.{FitDimension}
 use Rattle.lattice_ops.specs.Growing.{IsGrownBy}
@@ -9,10 +9,11 @@ use Rattle.poly_pair.specs.Work.{added_gens}
 use Rattle.poly_pair.proofs.WorkLemmas.{overflow_clause}
 use Rattle.row_core.specs.Refusals.{IsOverflowIn}
 use Rattle.row_core.proofs.RefusalLemmas.{overflow_weaker}
-use Rattle.affine_maps.specs.PostLists.{LeavesOnSteps}
+use Rattle.affine_maps.specs.PostLists.{LeavesOnSteps, AreOfStepsIfAny}
 use Rattle.affine_maps.proofs.PairSets.{first_steps_clause}
 use Rattle.fixpoint.specs.Runs.{IsHullWithSuccessors, LeavesByGenerators}
 use Rattle.fixpoint.proofs.SystemTurns.{found_without, found_by_generators, growth_leaves}
+use Rattle.fixpoint.proofs.PostConversions.{steps_fewer}
 use Rattle.fixpoint.proofs.transitions.joined_by_generators.Goals as goal
 
 pub returns-in_default-clause-found : goal.returns-in_default-clause-found
@@ -42,3 +43,25 @@ returns-in-Err-clause-overflow g c =
     let relation = c.args.relation.now in
     overflow_weaker (LeavesOnSteps source relation) (LeavesByGenerators source relation c.args.old.now) (λ over l. inl l) c.in-Err.cause
     (first_steps_clause source relation c.args.steps.now c.post_generators.new.steps (Err c.in-Err.cause) c.requires.relation.over.same_topology c.in-Err.ensures.conversion)
+
+pub returns-in-Err-clause-conversion : goal.returns-in-Err-clause-conversion
+returns-in-Err-clause-conversion g c = inl c.in-Err.ensures.conversion
+
+pub returns-in-Err-clause-no_fewer : goal.returns-in-Err-clause-no_fewer
+returns-in-Err-clause-no_fewer g c = steps_fewer c.args.source.now c.args.relation.now _ _ _ c.in-Err.ensures.conversion
+
+pub returns-in_default-clause-conversion : goal.returns-in_default-clause-conversion
+returns-in_default-clause-conversion g c = inl c.in-Ok.ensures.conversion
+
+pub returns-in_default-clause-no_fewer : goal.returns-in_default-clause-no_fewer
+returns-in_default-clause-no_fewer g c = steps_fewer c.args.source.now c.args.relation.now _ _ _ c.in-Ok.ensures.conversion
+
+pub returns-clause-conversion : goal.returns-clause-conversion
+returns-clause-conversion g c = inr (record {
+  between = c.post_generators.new.steps;
+  first = c.in-Ok.ensures.conversion;
+  second = record { gens = c.in-Some.generators; of_steps = subst (AreOfStepsIfAny c.args.source.now c.args.relation.now) c.in-Some.is c.in-Ok.ensures.system; conversion = c.grown_by.ensures.conversion };
+})
+
+pub returns-clause-no_fewer : goal.returns-clause-no_fewer
+returns-clause-no_fewer g c = omega (arith, steps_fewer c.args.source.now c.args.relation.now _ _ _ c.in-Ok.ensures.conversion, c.grown_by.ensures.conversion.no_fewer)

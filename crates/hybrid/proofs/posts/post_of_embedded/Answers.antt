@@ -1,4 +1,4 @@
-use Rattle.std.proofs.Common.{◌≡◌, inl, inr, ℕ, ◌+◌, ◌<◌, List, length, sym, ap, ◌∙◌, subst, arith, All}
+use Rattle.std.proofs.Common.{◌≡◌, inl, inr, ℕ, ◌+◌, ◌<◌, List, length, None, sym, ap, ◌∙◌, subst, arith, All}
 use Rattle.std.proofs.lemmas.Result.{IfOk-weaker, IfErr-weaker, err_from_is_err_and}
 use Rattle.row_core.specs.declared.errors.ConvErr.{ConvErr}
 use Rattle.row_core.specs.declared.errors.ConvErr.TheVariants as conversion
@@ -6,7 +6,11 @@ use Rattle.mapped_systems.specs.Maps.{with_zeros, without, remaining, kept_varia
 use Rattle.dimensions.specs.Results.{IsImage, IsPreimage}
 use Rattle.row_core.specs.Refusals.{IsOverflowIn}
 use Rattle.row_core.proofs.RefusalLemmas.{overflow_weaker}
-use Rattle.dimensions.specs.Refusals.{LeavesOnPulled, LeavesOnMapped}
+use Rattle.dimensions.specs.Refusals.{LeavesOnPulled, LeavesOnMapped, IsMappedConversion}
+use Rattle.dimensions.specs.PairConversions.{IsEmbeddingConversion}
+use Rattle.lattice_ops.specs.Sequences.{IsOneOrNone}
+use Rattle.poly_pair.specs.Work.{conv_overflow, overflow_in}
+use Rattle.hybrid.proofs.Conversions.{mapped_fewer}
 use Rattle.dimensions.proofs.MappedResults.{mapped_clause}
 use Rattle.affine_maps.specs.Posts.{IsPost}
 use Rattle.hybrid.specs.Steps.{IsEmbedded, behind, LeavesOnMeet, LeavesOnEmbedding}
@@ -53,7 +57,21 @@ returns-clause-overflow g c = IfErr-weaker c.remove_dims.result (IsOverflowIn (L
     by conversion.Memory l = tt
 
 pub returns-in_err-vars : goal.returns-in_err-vars
-returns-in_err-vars g c = let p = err_from_is_err_and c.from_residual.result c.from_residual.ensures.1 in rw (p.1, p.2) (record { post = tt; overflow = tt })
+returns-in_err-vars g c = let p = err_from_is_err_and c.from_residual.result c.from_residual.ensures.1 in rw (p.1, p.2) (record {
+  post = tt;
+  overflow = tt;
+  no_fewer = omega (arith, c.in-Ok.ensures.no_fewer, c.in-Ok-part_in.ensures.conversion.no_fewer);
+  conversion = inr (record {
+    between = c.embed.new.steps;
+    first = subst (λ (k : ℕ). IsOneOrNone (IsEmbeddingConversion k c.args.set.now) c.args.steps.now c.embed.new.steps None) c.dim-dim.ensures.value c.in-Ok.ensures.conversion;
+    second = inl (record {
+      embedded = c.in-Ok.embedded;
+      is_embedded = subst (λ (k : ℕ). IsPreimage (without c.args.set.now.cons.dim (c.args.set.now.cons.dim + k)) (c.args.set.now.cons.dim + k) c.args.set.now c.in-Ok.embedded) c.dim-dim.ensures.value c.in-Ok.ensures.points;
+      embedded_kept = c.dim-kept.ensures.kept;
+      conversion = c.in-Ok-part_in.ensures.conversion;
+    });
+  });
+})
 
 pub returns-in-Err-clause-overflow : goal.returns-in-Err-clause-overflow
 returns-in-Err-clause-overflow g c =
@@ -68,3 +86,48 @@ returns-in-Err-part_in-clause-overflow g c =
     let embedded : IsEmbedded c.args.set.now c.in-Ok.embedded = subst (λ (k : ℕ). IsPreimage (without n (n + k)) (n + k) c.args.set.now c.in-Ok.embedded) c.dim-dim.ensures.value c.in-Ok.ensures.points in
     overflow_weaker (LeavesOnMeet c.in-Ok.embedded c.args.relation.now) (LeavesOnEmbedding c.args.set.now c.args.relation.now)
     (λ over l. inr (inl (record { embedded = c.in-Ok.embedded; is_embedded = embedded; embedded_kept = c.dim-kept.ensures.kept; leaves = l }))) c.in-Err-part_in.cause c.in-Err-part_in.ensures.overflow
+
+pub returns-in-Err-clause-conversion : goal.returns-in-Err-clause-conversion
+returns-in-Err-clause-conversion g c = inl (subst (λ (k : ℕ). IsOneOrNone (IsEmbeddingConversion k c.args.set.now) c.args.steps.now c.embed.new.steps (conv_overflow c.in-Err.cause)) c.dim-dim.ensures.value c.in-Err.ensures.conversion)
+
+pub returns-in-Err-part_in-clause-conversion : goal.returns-in-Err-part_in-clause-conversion
+returns-in-Err-part_in-clause-conversion g c = inr (record {
+  between = c.embed.new.steps;
+  first = subst (λ (k : ℕ). IsOneOrNone (IsEmbeddingConversion k c.args.set.now) c.args.steps.now c.embed.new.steps None) c.dim-dim.ensures.value c.in-Ok.ensures.conversion;
+  second = inl (record {
+    embedded = c.in-Ok.embedded;
+    is_embedded = subst (λ (k : ℕ). IsPreimage (without c.args.set.now.cons.dim (c.args.set.now.cons.dim + k)) (c.args.set.now.cons.dim + k) c.args.set.now c.in-Ok.embedded) c.dim-dim.ensures.value c.in-Ok.ensures.points;
+    embedded_kept = c.dim-kept.ensures.kept;
+    conversion = c.in-Err-part_in.ensures.conversion;
+  });
+})
+
+pub returns-in-Err-part_in-clause-no_fewer : goal.returns-in-Err-part_in-clause-no_fewer
+returns-in-Err-part_in-clause-no_fewer g c = omega (arith, c.in-Ok.ensures.no_fewer, c.in-Err-part_in.ensures.conversion.no_fewer)
+
+pub returns-clause-conversion : goal.returns-clause-conversion
+returns-clause-conversion g c = inr (record {
+  between = c.embed.new.steps;
+  first = subst (λ (k : ℕ). IsOneOrNone (IsEmbeddingConversion k c.args.set.now) c.args.steps.now c.embed.new.steps None) c.dim-dim.ensures.value c.in-Ok.ensures.conversion;
+  second = inr (record {
+    between = c.part_in.new.steps;
+    first = record { embedded = c.in-Ok.embedded; is_embedded = embedded; embedded_kept = c.dim-kept.ensures.kept; conversion = c.in-Ok-part_in.ensures.conversion };
+    second = record {
+      embedded = c.in-Ok.embedded;
+      is_embedded = embedded;
+      embedded_kept = c.dim-kept.ensures.kept;
+      pairs = c.in-Ok-part_in.pairs;
+      are_pairs = c.in-Ok-part_in.ensures.part;
+      conversion = subst (λ (xs : List ℕ). IsOneOrNone (IsMappedConversion (remaining c.in-Ok-part_in.pairs.cons.dim xs) (length (kept_variables c.in-Ok-part_in.pairs.cons.dim xs)) c.in-Ok-part_in.pairs) c.part_in.new.steps c.remove_dims.new.steps (overflow_in conv_overflow c.remove_dims.result)) is c.remove_dims.ensures.conversion;
+    };
+  });
+})
+  where
+    is : c.deref.result.now ≡ behind c.args.set.now.cons.dim
+    is = c.deref.ensures.value ∙ c.in_ok-vars.ensures ∙ ap behind c.dim-dim.ensures.value
+
+    embedded : IsEmbedded c.args.set.now c.in-Ok.embedded
+    embedded = subst (λ (k : ℕ). IsPreimage (without c.args.set.now.cons.dim (c.args.set.now.cons.dim + k)) (c.args.set.now.cons.dim + k) c.args.set.now c.in-Ok.embedded) c.dim-dim.ensures.value c.in-Ok.ensures.points
+
+pub returns-clause-no_fewer : goal.returns-clause-no_fewer
+returns-clause-no_fewer g c = omega (arith, c.in-Ok.ensures.no_fewer, c.in-Ok-part_in.ensures.conversion.no_fewer, mapped_fewer (remaining c.in-Ok-part_in.pairs.cons.dim c.deref.result.now) (length (kept_variables c.in-Ok-part_in.pairs.cons.dim c.deref.result.now)) c.in-Ok-part_in.pairs _ _ _ c.remove_dims.ensures.conversion)

@@ -17,3 +17,9 @@ returns-clause-overflow g c = IfErr-weaker c.part_in.result (IsOverflowIn (Leave
     by : (e : ConvErr) → IsOverflowIn (LeavesOnMeet c.set_of.result.now c.inv.result.now) e → IsOverflowIn (LeavesInPart c.args.h.now.invariants c.args.sets.now c.args.location) e
     by (conversion.Overflow over) l = record { set = c.set_of.result.now; inv = c.inv.result.now; has_set = c.set_of.ensures; has_inv = c.inv.ensures.value; leaves = l }
     by conversion.Memory l = tt
+
+pub returns-clause-conversion : goal.returns-clause-conversion
+returns-clause-conversion g c = record { set = c.set_of.result.now; inv = c.inv.result.now; has_set = c.set_of.ensures; has_inv = c.inv.ensures.value; conversion = c.part_in.ensures.conversion }
+
+pub returns-clause-no_fewer : goal.returns-clause-no_fewer
+returns-clause-no_fewer g c = c.part_in.ensures.conversion.no_fewer

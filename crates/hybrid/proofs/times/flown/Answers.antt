@@ -1,4 +1,4 @@
-use Rattle.std.proofs.Common.{Err, inl, inr}
+use Rattle.std.proofs.Common.{Err, inl, inr, arith}
 use Rattle.std.proofs.lemmas.Result.{IfOk-weaker, IfErr-weaker}
 use Rattle.row_core.specs.declared.errors.ConvErr.{ConvErr}
 use Rattle.row_core.specs.declared.errors.ConvErr.TheVariants as conversion
@@ -7,6 +7,7 @@ use Rattle.row_core.proofs.RefusalLemmas.{overflow_weaker}
 use Rattle.elapse.specs.Elapses.{LeavesOnElapse}
 use Rattle.elapse.proofs.ElapsedPolyhedra.{elapse_clause}
 use Rattle.hybrid.specs.Steps.{IsPartIn, IsFlown, LeavesOnMeet, LeavesOnFlow}
+use Rattle.hybrid.proofs.Conversions.{elapse_fewer}
 use Rattle.hybrid.proofs.times.flown.Goals as goal
 
 pub returns-clause-flown : goal.returns-clause-flown
@@ -26,3 +27,19 @@ returns-in-Err-clause-overflow g c =
     let flow = c.args.flow.now in
     overflow_weaker (LeavesOnElapse start flow) (LeavesOnFlow start c.args.inv.now flow) (λ over l. inl l) c.in-Err.cause
     (elapse_clause start flow c.args.steps.now c.time_elapse.new.steps (Err c.in-Err.cause) c.in-Err.ensures.conversion)
+
+pub returns-in-Err-clause-conversion : goal.returns-in-Err-clause-conversion
+returns-in-Err-clause-conversion g c = inl c.in-Err.ensures.conversion
+
+pub returns-in-Err-clause-no_fewer : goal.returns-in-Err-clause-no_fewer
+returns-in-Err-clause-no_fewer g c = elapse_fewer c.args.start.now c.args.flow.now _ _ _ c.in-Err.ensures.conversion
+
+pub returns-clause-conversion : goal.returns-clause-conversion
+returns-clause-conversion g c = inr (record {
+  between = c.time_elapse.new.steps;
+  first = c.in-Ok.ensures.conversion;
+  second = record { elapsed = c.in-Ok.elapsed; is_elapse = c.in-Ok.ensures.points; elapsed_kept = c.dim-kept.ensures.kept; conversion = c.part_in.ensures.conversion };
+})
+
+pub returns-clause-no_fewer : goal.returns-clause-no_fewer
+returns-clause-no_fewer g c = omega (arith, elapse_fewer c.args.start.now c.args.flow.now _ _ _ c.in-Ok.ensures.conversion, c.part_in.ensures.conversion.no_fewer)

@@ -1,4 +1,4 @@
-use Rattle.std.proofs.Common.{rules, inr}
+use Rattle.std.proofs.Common.{rules, inl, inr, arith}
 use Rattle.std.proofs.lemmas.Result.{IfOk-weaker, IfErr-weaker}
 use Rattle.row_core.specs.declared.errors.ConvErr.{ConvErr}
 use Rattle.row_core.specs.declared.errors.ConvErr.TheVariants as conversion
@@ -22,3 +22,27 @@ returns-clause-overflow g c = IfErr-weaker c.flown.result (IsOverflowIn (LeavesO
     by : (e : ConvErr) → IsOverflowIn (LeavesOnFlow c.in-Ok.start c.args.inv.now c.args.flow.now) e → IsOverflowIn (LeavesOnTime c.args.set.now c.args.inv.now c.args.flow.now) e
     by (conversion.Overflow over) l = inr (record { some = some; start = c.in-Ok.start; is_start = c.in-Ok.ensures.part; leaves = l })
     by conversion.Memory l = tt
+
+pub returns-in-Err-clause-conversion : goal.returns-in-Err-clause-conversion
+returns-in-Err-clause-conversion g c = inl c.in-Err.ensures.conversion
+
+pub returns-then-is_empty-clause-conversion : goal.returns-then-is_empty-clause-conversion
+returns-then-is_empty-clause-conversion g c = inl c.in-Ok.ensures.conversion
+
+pub returns-clause-conversion : goal.returns-clause-conversion
+returns-clause-conversion g c =
+    let some : ¬ (HasNoPoint c.args.flow.now) = search (rules, c.is_empty.ensures.empty, c.if-is_empty.false) in
+    inr (record {
+      between = c.part_in.new.steps;
+      first = c.in-Ok.ensures.conversion;
+      second = record { some = some; start = c.in-Ok.start; is_start = c.in-Ok.ensures.part; conversion = c.flown.ensures.conversion };
+    })
+
+pub returns-in-Err-clause-no_fewer : goal.returns-in-Err-clause-no_fewer
+returns-in-Err-clause-no_fewer g c = c.in-Err.ensures.conversion.no_fewer
+
+pub returns-then-is_empty-clause-no_fewer : goal.returns-then-is_empty-clause-no_fewer
+returns-then-is_empty-clause-no_fewer g c = c.in-Ok.ensures.conversion.no_fewer
+
+pub returns-clause-no_fewer : goal.returns-clause-no_fewer
+returns-clause-no_fewer g c = omega (arith, c.in-Ok.ensures.conversion.no_fewer, c.flown.ensures.no_fewer)

@@ -1,4 +1,4 @@
-use Rattle.std.proofs.Common.{◌⊎◌, inl}
+use Rattle.std.proofs.Common.{◌⊎◌, inl, inr, arith}
 use Rattle.std.proofs.lemmas.Result.{IfOk-weaker, IfErr-weaker}
 use Rattle.row_core.specs.declared.errors.ConvErr.{ConvErr}
 use Rattle.row_core.specs.declared.errors.ConvErr.TheVariants as conversion
@@ -30,3 +30,16 @@ returns-in-Err-clause-overflow g c = by c.in-Err.cause c.in-Err.ensures.overflow
     by : (e : ConvErr) → IsOverflowIn (LeavesOnJump c.args.source.now c.args.inv.now c.args.relation.now c.args.target_inv.now) e → IsOverflowIn (λ over. LeavesOnJump c.args.source.now c.args.inv.now c.args.relation.now c.args.target_inv.now over ⊎ LeavesAfter (IsJumpPost c.args.source.now c.args.inv.now c.args.relation.now c.args.target_inv.now) c.args.old.now over) e
     by (conversion.Overflow over) l = inl l
     by conversion.Memory l = tt
+
+pub returns-in-Err-clause-conversion : goal.returns-in-Err-clause-conversion
+returns-in-Err-clause-conversion g c = inl c.in-Err.ensures.conversion
+
+pub returns-clause-conversion : goal.returns-clause-conversion
+returns-clause-conversion g c = inr (record {
+  between = c.jump_post.new.steps;
+  first = c.in-Ok.ensures.conversion;
+  second = record { post = c.in-Ok.post; is_post = c.in-Ok.ensures.post; conversion = c.grown.ensures.conversion };
+})
+
+pub returns-clause-no_fewer : goal.returns-clause-no_fewer
+returns-clause-no_fewer g c = omega (arith, c.in-Ok.ensures.no_fewer, c.grown.ensures.conversion.no_fewer)

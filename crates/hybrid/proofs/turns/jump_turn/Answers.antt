@@ -10,7 +10,7 @@ use Rattle.widening.proofs.Places.{all_at}
 use Rattle.hybrid.specs.Systems.{IsKeptHybrid}
 use Rattle.hybrid.specs.Steps.{IsJumpPost, LeavesOnJump}
 use Rattle.hybrid.specs.Turns.{IsHullWithPost, IsOfJump, LeavesAfter, LeavesInJump}
-use Rattle.hybrid.proofs.HybridTurns.{found_jump, leaves_jump}
+use Rattle.hybrid.proofs.HybridTurns.{found_jump, leaves_jump, counts_jump}
 use Rattle.hybrid.proofs.turns.jump_turn.Goals as goal
 
 ends_within : (s : TransitionSystem) (index : ℕ) (t : Transition) → IsKeptSystem s → slice_get s.transitions index ≡ Some t → (t.source < length s.initial) × (t.target < length s.initial)
@@ -71,3 +71,9 @@ returns-clause-overflow g c =
     let at : slice_get c.args.h.now.system.transitions c.args.index ≡ Some t = subst (λ (s : TransitionSystem). slice_get s.transitions c.args.index ≡ Some t) c.system.ensures.value c.trans-transition.ensures.value in
     IfErr-weaker c.jump_joined.result (IsOverflowIn (λ over. LeavesOnJump c.set_of.result.now c.inv.result.now t.relation c.inv-2.result.now over ⊎ LeavesAfter (IsJumpPost c.set_of.result.now c.inv.result.now t.relation c.inv-2.result.now) c.set_of-2.result.now over)) (IsOverflowIn (λ over. (u : Transition) → slice_get c.args.h.now.system.transitions c.args.index ≡ Some u → LeavesInJump c.args.h.now u c.args.sets.now over))
     (leaves_jump c.args.h.now c.args.sets.now t c.set_of.result.now c.inv.result.now c.set_of-2.result.now c.inv-2.result.now c.set_of.ensures c.inv.ensures.value c.set_of-2.ensures c.inv-2.ensures.value c.args.index at) c.jump_joined.ensures.overflow
+
+pub returns-clause-conversion : goal.returns-clause-conversion
+returns-clause-conversion g c =
+    let t : Transition = c.trans-transition.result.now in
+    let at : slice_get c.args.h.now.system.transitions c.args.index ≡ Some t = subst (λ (s : TransitionSystem). slice_get s.transitions c.args.index ≡ Some t) c.system.ensures.value c.trans-transition.ensures.value in
+    counts_jump c.args.h.now c.args.sets.now t c.set_of.result.now c.inv.result.now c.set_of-2.result.now c.inv-2.result.now c.set_of.ensures c.inv.ensures.value c.set_of-2.ensures c.inv-2.ensures.value c.args.index at _ _ _ c.jump_joined.ensures.conversion

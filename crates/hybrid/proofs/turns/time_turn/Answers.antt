@@ -31,3 +31,14 @@ pub returns-clause-overflow : goal.returns-clause-overflow
 returns-clause-overflow g c =
     IfErr-weaker c.time_joined.result (IsOverflowIn (λ over. LeavesOnTime c.set_of.result.now c.inv.result.now c.flow.result.now over ⊎ LeavesAfter (IsTimePost c.set_of.result.now c.inv.result.now c.flow.result.now) c.set_of.result.now over)) (IsOverflowIn (LeavesInTime c.args.h.now c.args.location c.args.sets.now))
     (leaves_time c.args.h.now c.args.sets.now c.args.location c.set_of.result.now c.inv.result.now c.flow.result.now c.set_of.ensures c.inv.ensures.value c.flow.ensures.value) c.time_joined.ensures.overflow
+
+pub returns-clause-conversion : goal.returns-clause-conversion
+returns-clause-conversion g c = record {
+  old = c.set_of.result.now;
+  inv = c.inv.result.now;
+  flow = c.flow.result.now;
+  has_old = c.set_of.ensures;
+  has_inv = c.inv.ensures.value;
+  has_flow = c.flow.ensures.value;
+  holds = c.time_joined.ensures.conversion;
+}

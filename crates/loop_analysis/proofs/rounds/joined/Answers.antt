@@ -1,5 +1,5 @@
-use Rattle.std.proofs.Common.{◌≡◌, rules, sym, ◌∙◌}
-use Rattle.std.proofs.lemmas.Result.{IfOk-weaker, IfErr-weaker}
+use Rattle.std.proofs.Common.{◌≡◌, rules, inl, inr, arith, sym, ◌∙◌}
+use Rattle.std.proofs.lemmas.Result.{IfOk-weaker, IfErr-weaker, err_from_is_err_and}
 use Rattle.row_core.specs.declared.errors.ConvErr.{ConvErr}
 use Rattle.row_core.specs.Refusals.{IsOverflowIn}
 use Rattle.poly_pair.specs.TopologyLists.{list_width, generators_of}
@@ -40,3 +40,16 @@ returns-clause-overflow g c =
     let states = c.in_ok-states.states in
     IfErr-weaker c.grown.result (IsOverflowOn (list_width set.topology set.cons.dim) set.cons.dim (generators_of set.topology (both_generators set states))) (IsOverflowIn (LeavesInJoin l set))
     (λ (e : ConvErr) h. last_leaves l set e (hull_leaves l set set states c.requires.over.same_topology c.in_ok-states.ensures.round c.in_ok-states.ensures.closed.kept e h)) (overflow_clause _ _ _ c.grown.result c.grown.ensures.conversion)
+
+pub returns-clause-conversion : goal.returns-clause-conversion
+returns-clause-conversion g c = inr (record {
+  between = c.round.new.steps;
+  first = c.in_ok-states.ensures.conversion;
+  second = record { round = c.in_ok-states.states; is_round = c.in_ok-states.ensures.round; round_kept = c.in_ok-states.ensures.closed.kept; conversion = c.grown.ensures.conversion };
+})
+
+pub returns-clause-no_fewer : goal.returns-clause-no_fewer
+returns-clause-no_fewer g c = omega (arith, c.in_ok-states.ensures.no_fewer, c.grown.ensures.conversion.no_fewer)
+
+pub returns-in_err-states-clause-conversion : goal.returns-in_err-states-clause-conversion
+returns-in_err-states-clause-conversion g c = let p = err_from_is_err_and c.from_residual.result c.from_residual.ensures.1 in rw (p.1, p.2) (inl c.in_err-states.ensures.conversion)

@@ -1,4 +1,5 @@
-use Rattle.std.proofs.Common.{◌≡◌, ◌<◌, ℕ, length, rules, refl, sym, ap, ◌∙◌, subst, arith}
+use Rattle.std.proofs.Common.{◌≡◌, ◌<◌, ℕ, length, None, rules, inl, inr, refl, sym, ap, ◌∙◌, subst, arith}
+use Rattle.std.proofs.lemmas.Result.{err_from_is_err_and}
 use Rattle.row_core.specs.Refusals.{IsOverflowIn}
 use Rattle.cons_sys.specs.Constraints.{Constraints}
 use Rattle.stored_systems.specs.PointSets.{AreClosed}
@@ -7,6 +8,8 @@ use Rattle.poly_pair.specs.TopologyLists.{AreConstraintsFor, list_width, constra
 use Rattle.poly_pair.specs.Polyhedra.{IsOfConstraints}
 use Rattle.poly_pair.specs.Additions.{with_constraints}
 use Rattle.poly_pair.specs.Refusals.{IsOverflowOn}
+use Rattle.poly_pair.specs.Work.{added_cons, IsConversion}
+use Rattle.lattice_ops.specs.Sequences.{begins, takes}
 use Rattle.loop_analysis.specs.Rounds.{LeavesInRound}
 use Rattle.loop_analysis.proofs.RunLemmas.{guarded_of, guarded_closed, image_closed, images_next, all_images, fits_set, guard_leaves, body_leaves}
 use Rattle.poly_pair.proofs.WorkLemmas.{refused_overflow}
@@ -31,6 +34,8 @@ pub loop-index-init : goal.loop-index-init
 loop-index-init g c = record {
   closed = guarded_closed c.args.program.now.dim c.args.set.now c.guard.result.now c.in_ok-states.states c.requires c.in_ok-states.ensures.points c.dim-kept.ensures.kept;
   images = refl;
+  counted = begins;
+  no_fewer = omega arith;
 }
 
 pub assigned-requires : goal.assigned-requires
@@ -50,6 +55,8 @@ loop-index-preserved g c =
     record {
       closed = image_closed c.args.program.now.dim c.assignment.result.now c.loop-index.states c.in_ok-states-2.states c.loop-index.invariant.closed c.in_ok-states-2.ensures.image;
       images = images_next c.args.program.now.body c.loop-index.index c.assignment.result.now c.in_ok-states.states c.loop-index.states c.in_ok-states-2.states below c.assignment.ensures.value c.loop-index.invariant.images c.in_ok-states-2.ensures.image;
+      counted = takes c.loop-index.invariant.counted (record { a = c.assignment.result.now; at = c.assignment.ensures.value; set = c.loop-index.states; images = c.loop-index.invariant.images; conversion = c.in_ok-states-2.ensures.conversion });
+      no_fewer = omega (arith, c.loop-index.invariant.no_fewer, c.in_ok-states-2.ensures.no_fewer);
     }
 
 pub returns-clause-round : goal.returns-clause-round
@@ -66,3 +73,40 @@ returns-clause-round g c =
 
 pub returns-clause-closed : goal.returns-clause-closed
 returns-clause-closed g c = c.loop-index.invariant.closed
+
+pub returns-clause-conversion : goal.returns-clause-conversion
+returns-clause-conversion g c = inr (record {
+  between = c.add_cons.new.steps;
+  first = subst (λ (cs : Constraints). IsConversion (added_cons c.args.set.now cs) c.args.steps.now c.add_cons.new.steps None) c.guard.ensures.value c.in_ok-states.ensures.conversion;
+  second = record {
+    guarded = c.in_ok-states.states;
+    is_guarded = guarded_of c.args.program.now.dim c.args.set.now (with_constraints c.args.set.now c.args.program.now.guard) c.in_ok-states.states c.requires
+        (subst (λ (cs : Constraints). IsOfConstraints c.args.set.now.topology (with_constraints c.args.set.now cs) c.in_ok-states.states) c.guard.ensures.value c.in_ok-states.ensures.points);
+    kept = c.dim-kept.ensures.kept;
+    conversions = record { index = c.loop-index.index; within = omega arith; between = c.loop-index.steps; before = c.loop-index.invariant.counted; rest = inl (refl, refl) };
+  };
+})
+
+pub returns-clause-no_fewer : goal.returns-clause-no_fewer
+returns-clause-no_fewer g c = omega (arith, c.loop-index.invariant.no_fewer, c.in_ok-states.ensures.conversion.no_fewer)
+
+pub returns-in_err-states-2-clause-conversion : goal.returns-in_err-states-2-clause-conversion
+returns-in_err-states-2-clause-conversion g c =
+    let p = err_from_is_err_and c.from_residual-in_err-states-2.result c.from_residual-in_err-states-2.ensures.1 in
+    rw (p.1, p.2) (inr (record {
+      between = c.add_cons.new.steps;
+      first = subst (λ (cs : Constraints). IsConversion (added_cons c.args.set.now cs) c.args.steps.now c.add_cons.new.steps None) c.guard.ensures.value c.in_ok-states.ensures.conversion;
+      second = record {
+        guarded = c.in_ok-states.states;
+        is_guarded = guarded_of c.args.program.now.dim c.args.set.now (with_constraints c.args.set.now c.args.program.now.guard) c.in_ok-states.states c.requires
+            (subst (λ (cs : Constraints). IsOfConstraints c.args.set.now.topology (with_constraints c.args.set.now cs) c.in_ok-states.states) c.guard.ensures.value c.in_ok-states.ensures.points);
+        kept = c.dim-kept.ensures.kept;
+        conversions = record {
+          index = c.loop-index.index;
+          within = omega arith;
+          between = c.loop-index.steps;
+          before = c.loop-index.invariant.counted;
+          rest = inr (omega arith, record { a = c.assignment.result.now; at = c.assignment.ensures.value; set = c.loop-index.states; images = c.loop-index.invariant.images; conversion = c.in_err-states-2.ensures.conversion });
+        };
+      };
+    }))

@@ -1,14 +1,19 @@
-use Rattle.std.proofs.Common.{inl, inr, sym, subst, ℕ, List}
+use Rattle.std.proofs.Common.{◌≡◌, inl, inr, sym, subst, ℕ, List, Option}
 use Rattle.std.specs.Prelude.{All}
+use Rattle.row_core.specs.declared.errors.Overflow.{Overflow}
 use Rattle.row_core.specs.Refusals.{IsOverflowIn}
 use Rattle.row_core.proofs.RefusalLemmas.{overflow_weaker}
 use Rattle.poly_pair.specs.declared.topology.Topology.{Topology}
 use Rattle.poly_pair.specs.Polyhedra.{Polyhedron, AreAlike}
-use Rattle.powerset.specs.Powersets.{IsMember}
+use Rattle.powerset.specs.Powersets.{FinitePowerset, IsMember}
 use Rattle.powerset.specs.Reductions.{IsReduced, LeavesBetween}
-use Rattle.powerset.specs.Joins.{AreMeets, IsPairMeet, LeavesOnMeet, LeavesOnPairMeet}
+use Rattle.powerset.specs.Joins.{AreMeets, IsPairMeet, LeavesOnMeet, LeavesBetweenMeets, LeavesOnPairMeet, ArePairConversions}
 use Rattle.powerset.proofs.JoinLemmas.{reduced_all, one_dimension, meets_members, alike}
 use Rattle.powerset.proofs.joining.pmeet.Goals as goal
+
+-- those of lists that are equal to these
+conversions : (ps qs first second : List Polyhedron) → first ≡ ps → second ≡ qs → (old new : ℕ) (over : Option Overflow) → ArePairConversions first second old new over → ArePairConversions ps qs old new over
+conversions ps qs first second e f old new over h = subst (λ (xs : List Polyhedron). ArePairConversions xs qs old new over) e (subst (λ (xs : List Polyhedron). ArePairConversions first xs old new over) f h)
 
 pub reduced-requires : goal.reduced-requires
 reduced-requires g c =
@@ -36,7 +41,7 @@ pub returns : goal.returns
 returns g c =
     let s = c.args.s.now in
     let meets : AreMeets s.members c.args.t.now.members c.in-Ok.meets.items = subst (λ (ps : List Polyhedron). AreMeets ps c.args.t.now.members c.in-Ok.meets.items) c.members.ensures.value (subst (λ (ps : List Polyhedron). AreMeets c.members.result.now ps c.in-Ok.meets.items) c.members-2.ensures.value c.in-Ok.ensures.meets) in
-    record { meet = subst (IsPairMeet s c.args.t.now) (sym c.from_members.ensures) (record { same_topology = c.topology.ensures; same_dim = c.dim.ensures.value; meets = c.in-Ok.meets.items; are_meets = meets; members = c.in-Ok-reduced.ensures.reduced }); overflow = tt }
+    record { meet = subst (IsPairMeet s c.args.t.now) (sym c.from_members.ensures) (record { same_topology = c.topology.ensures; same_dim = c.dim.ensures.value; meets = c.in-Ok.meets.items; are_meets = meets; members = c.in-Ok-reduced.ensures.reduced }); overflow = tt; no_fewer = c.in-Ok.ensures.no_fewer; conversion = inl (conversions s.members c.args.t.now.members _ _ c.members.ensures.value c.members-2.ensures.value _ _ _ c.in-Ok.ensures.conversion) }
 
 pub returns-in-Err : goal.returns-in-Err
 returns-in-Err g c =
@@ -46,10 +51,21 @@ returns-in-Err g c =
     let leaves =
     subst (λ (ps : List Polyhedron). IsOverflowIn (LeavesOnMeet ps t.members) cause) c.members.ensures.value
     (subst (λ (ps : List Polyhedron). IsOverflowIn (LeavesOnMeet c.members.result.now ps) cause) c.members-2.ensures.value c.in-Err.ensures.overflow) in
-    record { meet = tt; overflow = overflow_weaker (LeavesOnMeet s.members t.members) (LeavesOnPairMeet s t) (λ over l. inl l) cause leaves }
+    record { meet = tt; overflow = overflow_weaker (LeavesOnMeet s.members t.members) (LeavesOnPairMeet s t) (λ over l. inl l) cause leaves; no_fewer = c.in-Err.ensures.no_fewer; conversion = inl (conversions s.members t.members _ _ c.members.ensures.value c.members-2.ensures.value _ _ _ c.in-Err.ensures.conversion) }
 
 pub returns-in-Err-reduced : goal.returns-in-Err-reduced
-returns-in-Err-reduced g c =
-    let s = c.args.s.now in
-    let meets : AreMeets s.members c.args.t.now.members c.in-Ok.meets.items = subst (λ (ps : List Polyhedron). AreMeets ps c.args.t.now.members c.in-Ok.meets.items) c.members.ensures.value (subst (λ (ps : List Polyhedron). AreMeets c.members.result.now ps c.in-Ok.meets.items) c.members-2.ensures.value c.in-Ok.ensures.meets) in
-    record { meet = tt; overflow = overflow_weaker (LeavesBetween c.in-Ok.meets.items) (LeavesOnPairMeet s c.args.t.now) (λ over l. inr (record { meets = c.in-Ok.meets.items; are_meets = meets; leaves = l })) c.in-Err-reduced.cause c.in-Err-reduced.ensures.overflow }
+returns-in-Err-reduced g c = record {
+  meet = tt;
+  overflow = overflow_weaker (LeavesBetweenMeets s c.args.t.now) (LeavesOnPairMeet s c.args.t.now) (λ over l. inr l) c.in-Err-reduced.cause between;
+  no_fewer = c.in-Ok.ensures.no_fewer;
+  conversion = inr (conversions s.members c.args.t.now.members _ _ c.members.ensures.value c.members-2.ensures.value _ _ _ c.in-Ok.ensures.conversion, between);
+}
+  where
+    s : FinitePowerset
+    s = c.args.s.now
+
+    meets : AreMeets s.members c.args.t.now.members c.in-Ok.meets.items
+    meets = subst (λ (ps : List Polyhedron). AreMeets ps c.args.t.now.members c.in-Ok.meets.items) c.members.ensures.value (subst (λ (ps : List Polyhedron). AreMeets c.members.result.now ps c.in-Ok.meets.items) c.members-2.ensures.value c.in-Ok.ensures.meets)
+
+    between : IsOverflowIn (LeavesBetweenMeets s c.args.t.now) c.in-Err-reduced.cause
+    between = overflow_weaker (LeavesBetween c.in-Ok.meets.items) (LeavesBetweenMeets s c.args.t.now) (λ over l. record { meets = c.in-Ok.meets.items; are_meets = meets; leaves = l }) c.in-Err-reduced.cause c.in-Err-reduced.ensures.overflow

@@ -4,8 +4,8 @@ use Rattle.std.proofs.lemmas.Bool.{false≢true}
 use Rattle.row_core.specs.Content.{IsPrimitive}
 use Rattle.cons_sys.specs.Constraints.{Constraint, Constraints, row_at}
 use Rattle.stored_systems.specs.PointSets.{IsClosedKind}
-use Rattle.widening.specs.Values.{HasZerosAmong}
-use Rattle.widening.proofs.AmongLists.{HoldsAmong, hold_taken, hold_passed, closed_taken}
+use Rattle.widening.specs.Values.{HasZerosAmong, AreAmong}
+use Rattle.widening.proofs.AmongLists.{HoldsAmong, hold_taken, hold_passed, closed_taken, those_taken, those_passed, those_begin, hold_none}
 use Rattle.widening.proofs.kept.with_zeros.Goals.{then-branch+in_ok-push_primitive, else-branch}
 use Rattle.widening.proofs.kept.with_zeros.Goals as goal
 
@@ -28,6 +28,7 @@ loop-index-preserved c =
           record {
             dim = ap (λ (s : Constraints). s.dim) w.kept-is ∙ w.in_ok-push_primitive.ensures.dim ∙ c.loop-index.invariant.dim;
             closed = closed_taken p cs i row kind (omega arith) c.row-row.ensures.value c.kind-kind.ensures old c.loop-index.invariant.holds c.if-branch.kept.list c.requires.closed_kinds c.loop-index.invariant.closed new;
+            those = those_taken p cs i row kind (omega arith) c.row-row.ensures.value c.kind-kind.ensures old c.loop-index.invariant.holds c.if-branch.kept.list z new c.loop-index.invariant.those;
             holds = hold_taken p cs i row kind (omega arith) c.row-row.ensures.value c.kind-kind.ensures old c.loop-index.invariant.holds c.if-branch.kept.list z new;
             all = λ t. below_more (λ (n : ℕ). HasZerosAmong c.args.p.now.cons.list c.args.p.now.gens (row_at c.args.cons.now.list n)) i (c.loop-index.invariant.all (subst IsTrue w.all-is t)) (subst (HasZerosAmong c.args.p.now.cons.list c.args.p.now.gens) c.row-row.ensures.value z);
           }
@@ -36,6 +37,7 @@ loop-index-preserved c =
           record {
             dim = ap (λ (s : Constraints). s.dim) w.kept-is ∙ c.loop-index.invariant.dim;
             closed = subst (λ (list : List Constraint). All (λ x. IsClosedKind x.1) list) (sym same) c.loop-index.invariant.closed;
+            those = subst (AreAmong c.args.p.now c.args.cons.now (c.loop-index.index + 1)) (sym same) (those_passed p cs i row kind (omega arith) c.row-row.ensures.value c.kind-kind.ensures old c.loop-index.invariant.holds (λ h. absurd (false≢true (sym w.if-branch.false ∙ has.1 h))) c.loop-index.invariant.those);
             holds = subst (HoldsAmong c.args.p.now c.args.cons.now (c.loop-index.index + 1)) (sym same) (hold_passed p cs i row kind (omega arith) c.row-row.ensures.value c.kind-kind.ensures old c.loop-index.invariant.holds (λ h. absurd (false≢true (sym w.if-branch.false ∙ has.1 h))));
             all = λ t. absurd (false≢true (sym w.all-is ∙ t));
           }
@@ -47,5 +49,20 @@ returns c =
     record {
       same_dim = c.loop-index.invariant.dim;
       closed = c.loop-index.invariant.closed;
+      those = subst (λ (n : ℕ). AreAmong c.args.p.now c.args.cons.now n c.loop-index.kept.list) end c.loop-index.invariant.those;
       holds = subst (λ (n : ℕ). HoldsAmong c.args.p.now c.args.cons.now n c.loop-index.kept.list) end c.loop-index.invariant.holds;
+    }
+
+pub loop-index-init : goal.loop-index-init
+loop-index-init c =
+    let p = c.args.p.now in
+    let cs = c.args.cons.now in
+    let list = c.in_ok-kept.kept.list in
+    let none : length list ≡ 0 = ap (λ (xs : List Constraint). length xs) c.in_ok-kept.ensures.empty in
+    record {
+      dim = c.in_ok-kept.ensures.dim ∙ c.dim.ensures.value;
+      closed = λ k d l. absurd (omega (arith, l, none));
+      those = those_begin p cs list c.in_ok-kept.ensures.empty;
+      holds = hold_none p cs list c.in_ok-kept.ensures.empty;
+      all = λ t i l. absurd (omega (arith, l));
     }

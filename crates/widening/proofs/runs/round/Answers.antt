@@ -1,22 +1,27 @@
-use Rattle.std.proofs.Common.{rules, ◌≡◌, ◌+◌, ◌<◌, refl, subst, sym, arith, Bool, true, false, MatchBool}
+use Rattle.std.proofs.Common.{rules, ◌≡◌, ◌+◌, ◌<◌, refl, subst, sym, arith, Bool, true, false, MatchBool, inr}
 use Rattle.row_core.specs.declared.errors.ConvErr.{ConvErr}
 use Rattle.row_core.specs.declared.errors.ConvErr.TheVariants as conversion
 use Rattle.widening.specs.Ranks.{total}
 use Rattle.widening.specs.Runs.{TurnList, begins, takes}
 use Rattle.row_core.specs.Refusals.{IsOverflowIn}
 use Rattle.widening.specs.RunOverflows.{LeavesInTurn, LeavesInRound}
+use Rattle.poly_pair.specs.Work.{conv_overflow}
+use Rattle.widening.specs.RunConversions as counts
+use Rattle.widening.specs.RunConversions.{IsBrokenRound}
 use Rattle.widening.proofs.Totals.{IsSoFar, so_far_changed, so_far_same, so_far_stable}
 use Rattle.widening.proofs.TurnLemmas.{turn_table}
 use Rattle.widening.proofs.runs.round.Goals.{then-branch, else-branch}
 use Rattle.widening.proofs.runs.round.Goals as goal
 
 pub loop-index-init : goal.loop-index-init
-loop-index-init g c = record { table = c.requires; round = begins; so_far = (refl, λ k b. absurd (omega (arith, b))) }
+loop-index-init g c = record { table = c.requires; round = begins; counted = counts.begins; no_fewer = omega arith; so_far = (refl, λ k b. absurd (omega (arith, b))) }
 
 pub loop-index-preserved : goal.loop-index-preserved
 loop-index-preserved g c = record {
   table = turn_table turns c.count-index-end.ensures.proper c.loop-index.index below c.loop-index.table c.turn.new.table c.loop-index.invariant.table c.in_ok-turn.ensures.turn;
   round = takes c.loop-index.invariant.round below c.in_ok-turn.ensures.turn;
+  counted = counts.takes c.loop-index.invariant.counted below c.in_ok-turn.ensures.turn c.in_ok-turn.ensures.conversion;
+  no_fewer = omega (arith, c.loop-index.invariant.no_fewer, c.in_ok-turn.ensures.no_fewer);
   so_far = elim c.if-branch.branch [ then-branch w ↦ moved w.if-branch.true w.changed-is | else-branch w ↦ stayed w.if-branch.false w.changed-is ];
 }
   where
@@ -51,3 +56,18 @@ returns-in_err-turn-clause-overflow g c = let known : IsOverflowIn (LeavesInRoun
     by : (e : ConvErr) → IsOverflowIn (LeavesInTurn turns c.loop-index.index c.loop-index.table) e → IsOverflowIn (LeavesInRound turns c.args.table.now) e
     by (conversion.Overflow over) l = record { index = c.loop-index.index; below = omega (arith, c.count-index-end.ensures.value); between = c.loop-index.table; round = c.loop-index.invariant.round; leaves = l }
     by conversion.Memory l = tt
+
+pub returns-in_err-turn-clause-broken : goal.returns-in_err-turn-clause-broken
+returns-in_err-turn-clause-broken g c = search (rules, known, c.from_residual.ensures)
+  where
+    turns : TurnList
+    turns = g.T.Turns.turns c.args.turns.now
+
+    known : IsBrokenRound turns c.args.table.now c.args.steps.now c.turn.new.steps (conv_overflow c.in_err-turn.field-0.0)
+    known = record {
+      index = c.loop-index.index;
+      between = c.loop-index.table;
+      counted = c.loop-index.steps;
+      round = c.loop-index.invariant.counted;
+      rest = inr (omega (arith, c.count-index-end.ensures.value), c.in_err-turn.ensures.conversion);
+    }

@@ -1,4 +1,4 @@
-use Rattle.std.proofs.Common.{◌≡◌, ◌⊎◌, ◌≤◌, inl, inr, ℕ, Option, arith}
+use Rattle.std.proofs.Common.{◌≡◌, ◌⊎◌, ◌≤◌, inl, inr, ℕ, Option, refl, arith}
 use Rattle.row_core.specs.declared.errors.Overflow.{Overflow}
 use Rattle.row_core.specs.declared.errors.ConvErr.{ConvErr}
 use Rattle.row_core.specs.declared.errors.ConvErr.TheVariants as conversion
@@ -31,3 +31,12 @@ returns-in-Ok-clause-no_fewer g c = fewer c.args.old.now c.args.joined _ _ _ c.i
 
 pub returns-clause-no_fewer : goal.returns-clause-no_fewer
 returns-clause-no_fewer g c = fewer c.args.old.now c.args.joined _ _ _ c.in-Err.ensures.conversion
+
+pub returns-then-left-gt0-clause-conversion : goal.returns-then-left-gt0-clause-conversion
+returns-then-left-gt0-clause-conversion g c = inl (omega (arith, c.if-left-gt0.true), refl, refl)
+
+pub returns-in-Ok-clause-conversion : goal.returns-in-Ok-clause-conversion
+returns-in-Ok-clause-conversion g c = inr (omega (arith, c.if-left-gt0.false), c.in-Ok.ensures.conversion)
+
+pub returns-clause-conversion : goal.returns-clause-conversion
+returns-clause-conversion g c = inr (omega (arith, c.if-left-gt0.false), c.in-Err.ensures.conversion)

@@ -8,7 +8,7 @@ use Rattle.row_core.specs.Refusals.{IsOverflowIn}
 use Rattle.widening.specs.RunLaws.{IsFound}
 use Rattle.widening.proofs.Places.{all_at}
 use Rattle.fixpoint.specs.Runs.{IsHullWithSuccessors, LeavesBothWays, target_of, JoinsBy, LeavesBy}
-use Rattle.fixpoint.proofs.SystemTurns.{found_by, leaves_by}
+use Rattle.fixpoint.proofs.SystemTurns.{found_by, leaves_by, counts_by}
 use Rattle.fixpoint.proofs.transitions.TransitionsTurns.found.Goals as goal
 
 pub set_of-requires : goal.set_of-requires
@@ -51,3 +51,6 @@ returns-clause-overflow g c =
     let t : Transition = c.trans-transition.result.now in
     IfErr-weaker c.joined.result (IsOverflowIn (LeavesBothWays c.set_of.result.now t.relation c.set_of-2.result.now)) (IsOverflowIn (LeavesBy (slice_get s.transitions c.args.index) c.args.sets.now))
     (leaves_by s c.args.index t c.args.sets.now c.set_of.result.now c.set_of-2.result.now c.trans-transition.ensures.value c.set_of.ensures c.set_of-2.ensures) c.joined.ensures.overflow
+
+pub returns-clause-conversion : goal.returns-clause-conversion
+returns-clause-conversion g c = counts_by c.args.self.now.system.now c.args.index c.trans-transition.result.now c.args.sets.now c.set_of.result.now c.set_of-2.result.now c.trans-transition.ensures.value c.set_of.ensures c.set_of-2.ensures _ _ _ c.joined.ensures.conversion

@@ -25,3 +25,6 @@ returns-clause-overflow g c =
     let set = c.first.result.now in
     IfErr-weaker c.joined.result (IsOverflowIn (LeavesInJoin l set)) (IsOverflowIn (LeavesAtFirst l c.args.sets.now))
     (leaves_first l c.args.sets.now set c.first.ensures) c.joined.ensures.overflow
+
+pub returns-clause-conversion : goal.returns-clause-conversion
+returns-clause-conversion g c = record { set = c.first.result.now; first = c.first.ensures; conversion = c.joined.ensures.conversion }
