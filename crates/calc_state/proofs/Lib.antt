@@ -1,5 +1,6 @@
 pub mod CutLines
 mod DistinctNames
+pub mod EntryKinds
 mod HybridLemmas
 pub mod LineLemmas
 mod PartLemmas

@@ -1,62 +1,30 @@
 -- The bounds of variables.
-use Rattle.std.specs.Prelude.{◌≡◌, ◌⊎◌, ℕ, ◌+◌, ◌*◌, ◌<◌, ◌≤◌, List, [], ◌∷◌, length, take, ℤ, pos, neg_ℤ, ◌+ℤ◌, ◌*ℤ◌, ◌≤ℤ◌, ◌<ℤ◌, Bool, true, false, Result, Ok, Err, IfOk, unsigned_abs, All, IsTrue, ◌↔◌}
-use Rattle.std.proofs.Common.{arith, sym, ◌∙◌, ap, subst, inl, inr, refl}
-use Rattle.std.proofs.lemmas.Int.{ints, unsigned_abs-mul}
+use Rattle.std.specs.Prelude.{◌≡◌, ◌⊎◌, ℕ, ◌+◌, ◌<◌, ◌≤◌, List, length, ℤ, pos, neg_ℤ, ◌+ℤ◌, ◌*ℤ◌, ◌≤ℤ◌, ◌<ℤ◌, Bool, true, false, Result, Ok, Err, IfOk, All, IsTrue}
+use Rattle.std.proofs.Common.{arith, sym, ◌∙◌, ap, subst, inl, inr}
+use Rattle.std.proofs.lemmas.Int.{ints}
 use Rattle.std.proofs.lemmas.Bool.{false≢true}
-use Rattle.std.proofs.lemmas.List.{take_all}
 use Rattle.std.proofs.lemmas.List.Elements.{All-nil}
-use Rattle.std.proofs.Math.Nat.{mul-le-mul_left}
 use Rattle.row_core.specs.Vectors.{cell, dot}
-use Rattle.row_core.specs.Range.{InRange, AllStay, DotStays}
 use Rattle.row_core.specs.declared.PairOver.{PairOver}
 use Rattle.row_core.proofs.Ring.{by_sign, neg-mul}
 use Rattle.cons_sys.specs.Kinds.{Allows}
-use Rattle.cons_sys.specs.Constraints.{Constraint, Constraints, Satisfies, In}
-use Rattle.gens_sys.specs.Generators.{row_at, generator_at, IsGenerator, FitDimension}
-use Rattle.gens_sys.specs.declared.kind.GenKind.TheVariants.{Line}
+use Rattle.cons_sys.specs.Constraints.{Constraint, Satisfies}
+use Rattle.gens_sys.specs.Generators.{FitDimension}
 use Rattle.stored_systems.specs.PointSets.{IsWithin}
 use Rattle.poly_pair.specs.Polyhedra.{Polyhedron, IsKept}
-use Rattle.poly_pair.proofs.StoredLemmas.{kept_dim}
-use Rattle.optimum.specs.Search.{IsAtMost}
-use Rattle.optimum.specs.Suprema.{SupAnswer, IsTrueSup, IsSupremum, IsFound}
+use Rattle.optimum.specs.Suprema.{SupAnswer, IsTrueSup, IsSupremum}
 use Rattle.optimum.specs.declared.outcome.Sup.{Sup}
 use Rattle.optimum.specs.declared.outcome.Sup.TheVariants as sup
+use Rattle.optimum.proofs.AnswerRange.{found_in_range}
 use Rattle.enclosures.specs.Boxes.{variable_row, bound_row, bound_kind, GainsBound, GainsBounds, AreBounds, none_yet, one_more, IsFractionOf}
-use Rattle.enclosures.proofs.RowValues.{variable_value, length_variable, two_set, gained_holds}
+use Rattle.enclosures.proofs.RowValues.{variable_value, two_set, gained_holds}
 
 -- ---- the numbers of an answer are of the range
-times_less : (t x y : ℕ) → 0 < t → y ≡ t * x → x ≤ y
-times_less t x y h e = let s : x * 1 ≤ x * t = mul-le-mul_left x h in omega (arith, s, e)
-
-part_in_range : (n : ℕ) (x y : ℤ) → 0 < n → y ≡ pos n *ℤ x → InRange y → InRange x
-part_in_range n x y h e r =
-    let a : unsigned_abs y ≡ unsigned_abs (pos n) * unsigned_abs x = ap unsigned_abs e ∙ unsigned_abs-mul (pos n) x in
-    let b : 0 < unsigned_abs (pos n) = omega (arith, ints, h) in
-    let c = times_less (unsigned_abs (pos n)) (unsigned_abs x) (unsigned_abs y) b a in
-    let d = r.size in
-    record { size = omega (arith, c, d) }
-
-last_stays : (u v : List ℤ) (n : ℕ) → length u ≡ n + 1 → length v ≡ n + 1 → AllStay (DotStays u v) (length u) → InRange (dot u v)
-last_stays u v n e f h =
-    let s = (h n (omega (arith, e))).sum in
-    subst (λ (x : List ℤ). InRange (dot x v)) (take_all (n + 1) u (omega (arith, e))) (subst (λ (x : List ℤ). InRange (dot (take (n + 1) u) x)) (take_all (n + 1) v (omega (arith, f))) s)
-
 module _ (up : Bool) (p : Polyhedron) (k : IsKept p) (fits : FitDimension p.gens) (row : List ℤ) (w : length row ≡ p.cons.dim + 1) where
-  found_in_range : (num den : ℤ) (attained : Bool) (b : ℕ) → IsFound up row p.gens num den attained b → InRange num × InRange den
-  found_in_range num den attained b f =
-      let g : IsGenerator p.gens.dim (generator_at p.gens.list b) = fits.each b ([], Line) f.best.below in
-      let d = kept_dim p k in
-      let t = f.lowest.multiple in
-      let value : InRange (dot row (row_at p.gens.list b)) = last_stays row (row_at p.gens.list b) p.cons.dim w (let e = g.wide in omega (arith, e, d)) (f.reached b f.best.below).stays in
-      let divisor : InRange (cell (row_at p.gens.list b) p.gens.dim) = g.in_range p.gens.dim (pos 0) (let e = g.wide in omega (arith, e)) in (
-        part_in_range t.times num (dot row (row_at p.gens.list b)) t.positive (ap (λ (x : List ℤ). cell x 0) t.same) value,
-        part_in_range t.times den (cell (row_at p.gens.list b) p.gens.dim) t.positive (ap (λ (x : List ℤ). cell x 1) t.same) divisor,
-      )
-
   pub answer_in_range : (s : Sup) → SupAnswer up row p.gens (Ok s) → IsFractionOf s
   answer_in_range sup.Empty a = tt
   answer_in_range sup.Unbounded a = tt
-  answer_in_range (sup.At num den attained index) a = found_in_range num den attained index a
+  answer_in_range (sup.At num den attained index) a = found_in_range up p k fits row w num den attained index a
 
 pub answers_in_range : (up : Bool) (p : Polyhedron) → IsKept p → FitDimension p.gens → (row : List ℤ) → length row ≡ p.cons.dim + 1 → (r : Result Sup PairOver) → SupAnswer up row p.gens r → IfOk r IsFractionOf
 answers_in_range up p k fits row w (Ok s) a = answer_in_range up p k fits row w s a

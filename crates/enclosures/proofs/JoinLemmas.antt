@@ -6,7 +6,6 @@ use Rattle.std.proofs.lemmas.List.Elements.{All-nil, All-cons, All-head, All-app
 use Rattle.row_core.specs.Vectors.{cell, dot}
 use Rattle.row_core.specs.Points.{IsPoint}
 use Rattle.row_core.specs.Refusals.{IsOverflowIn}
-use Rattle.row_core.specs.declared.errors.Overflow.{Overflow}
 use Rattle.row_core.specs.declared.errors.ConvErr.{ConvErr}
 use Rattle.row_core.specs.declared.errors.ConvErr.TheVariants as conversion
 use Rattle.cons_sys.specs.declared.kind.ConKind.TheVariants.{Ge}

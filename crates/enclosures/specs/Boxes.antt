@@ -1,4 +1,4 @@
-use Rattle.std.specs.Prelude.{◌≡◌, ◌⊎◌, ℕ, ◌+◌, ◌<◌, List, [], ◌∷◌, ℤ, pos, neg_ℤ, Bool, true, false, slice_set, ⊤}
+use Rattle.std.specs.Prelude.{◌≡◌, ◌⊎◌, ℕ, ◌+◌, ◌<◌, List, [], ℤ, pos, neg_ℤ, Bool, true, false, slice_set, ⊤}
 use Rattle.std.proofs.Math.ListN.{replicate}
 use Rattle.row_core.specs.Range.{InRange}
 use Rattle.row_core.specs.declared.PairOver.{PairOver}

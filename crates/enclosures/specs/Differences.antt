@@ -1,4 +1,4 @@
-use Rattle.std.specs.Prelude.{◌≡◌, ◌⊎◌, ◌↔◌, ℕ, ◌+◌, ◌<◌, List, [], ◌∷◌, length, ℤ}
+use Rattle.std.specs.Prelude.{◌⊎◌, ◌↔◌, ℕ, ◌<◌, List, [], ◌∷◌, length, ℤ}
 use Rattle.row_core.specs.Points.{IsPoint}
 use Rattle.row_core.specs.declared.errors.Overflow.{Overflow}
 use Rattle.cons_sys.specs.Constraints.{Constraint, Constraints, constraint_at, In, Satisfies}

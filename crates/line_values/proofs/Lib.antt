@@ -5,5 +5,5 @@ pub mod FoundOperands
 mod FractionTexts
 pub mod PairLemmas
 pub mod PerformedLemmas
-mod StrictTexts
+pub mod StrictTexts
 mod TextFaults

@@ -8,3 +8,4 @@ pub mod SupremumLemmas
 pub mod OneBound
 pub mod OptimumLemmas
 pub mod Witness
+pub mod AnswerRange

@@ -1,10 +1,11 @@
 -- A fault and an overflow are one line each.
-use Rattle.std.proofs.Common.{◌≡◌, ℕ, zero, suc, ◌+◌, ◌/◌, ◌%◌, ◌≤◌, List, [], ◌∷◌, ◌++◌, refl, ◌∙◌, Bool, true, false, cond, ◌==◌, ℤ, pos, negsuc, codes, arith}
-use Rattle.std.specs.Prelude.{Option, None, Some, decimal, nat_lt}
+use Rattle.std.proofs.Common.{◌≡◌, ℕ, zero, suc, ◌+◌, ◌/◌, ◌%◌, ◌≤◌, List, [], ◌∷◌, ◌++◌, refl, ◌∙◌, subst, Bool, true, false, not, cond, ◌==◌, ℤ, pos, negsuc, codes, arith}
+use Rattle.std.specs.Prelude.{◌≢◌, All, Option, None, Some, decimal, nat_lt}
 use Rattle.std.specs.Fmt.{signed_decimal, digit_glyph, digits_onto, digits}
 use Rattle.std.specs.List.{list_all}
-use Rattle.std.proofs.lemmas.Bool.{and_from}
+use Rattle.std.proofs.lemmas.Bool.{and_from, and_parts}
 use Rattle.std.proofs.lemmas.Bool.Decides.{nat_tests}
+use Rattle.std.proofs.lemmas.List.Elements.{All-nil, All-cons}
 use Rattle.std.proofs.lemmas.List.Folds.{list_all-append}
 use Rattle.row_core.specs.declared.errors.Overflow.{Overflow}
 use Rattle.row_core.specs.declared.OverKind.{OverKind}
@@ -13,19 +14,29 @@ use Rattle.reply_text.specs.Faults.{fault_number, fault_name, fault_place, place
 use Rattle.reply_text.specs.Overflows.{kind_name, row_text}
 use Rattle.reply_text.specs.declared.faults.Fault.{Fault}
 use Rattle.reply_text.specs.declared.faults.Fault.TheVariants.{UnknownName}
-use Rattle.soundness.specs.Replies.{is_text}
+
+-- a byte that isn't a line feed
+abbrev is_plain : ℕ → Bool
+is_plain b = not (b == 10)
 
 -- no byte is a line feed
 abbrev IsPlain : List ℕ → Type 0
-IsPlain text = list_all is_text text ≡ true
+IsPlain text = list_all is_plain text ≡ true
+
+feed_is_none : (b : ℕ) → is_plain b ≡ true → b ≢ 10
+feed_is_none b h e = (let no : false ≡ true = subst (λ (n : ℕ). is_plain n ≡ true) e h in cc)
+
+pub no_feed : (text : List ℕ) → IsPlain text → All (λ b. b ≢ 10) text
+no_feed [] h = All-nil (λ b. b ≢ 10)
+no_feed (b ∷ text) h = let p = and_parts (is_plain b) (list_all is_plain text) h in All-cons (λ b. b ≢ 10) b text (feed_is_none b p.0) (no_feed text p.1)
 
 both : (xs ys : List ℕ) → IsPlain xs → IsPlain ys → IsPlain (xs ++ ys)
-both xs ys e f = list_all-append is_text xs ys ∙ and_from _ _ e f
+both xs ys e f = list_all-append is_plain xs ys ∙ and_from _ _ e f
 
-not_feed : (b : ℕ) → 48 ≤ b → is_text b ≡ true
+not_feed : (b : ℕ) → 48 ≤ b → is_plain b ≡ true
 not_feed b h = grind (arith, nat_tests)
 
-glyph_choice : (low : Bool) (d : ℕ) → is_text (cond low (48 + d) (87 + d)) ≡ true
+glyph_choice : (low : Bool) (d : ℕ) → is_plain (cond low (48 + d) (87 + d)) ≡ true
 glyph_choice true d = not_feed (48 + d) (omega arith)
 glyph_choice false d = not_feed (87 + d) (omega arith)
 

@@ -1,5 +1,5 @@
 -- What an accepted command does is what it says.
-use Rattle.std.proofs.Common.{Bool, ◌≡◌, ◌⊎◌, ℕ, ◌*◌, ◌≤◌, List, [], ◌++◌, map, length, refl, ap, sym, ◌∙◌, subst, MatchOption, codes}
+use Rattle.std.proofs.Common.{Bool, ◌≡◌, ◌⊎◌, ℕ, ◌*◌, ◌≤◌, List, [], ◌++◌, map, length, refl, ap, sym, ◌∙◌, subst, codes}
 use Rattle.std.specs.Prelude.{Option, None, Some, All, decimal}
 use Rattle.std.specs.Map.{keys_of}
 use Rattle.poly_pair.specs.Polyhedra.{Polyhedron, HasNoPoint}
@@ -10,6 +10,8 @@ use Rattle.bd_shape.specs.Shapes.{DifferenceShape}
 use Rattle.hybrid.specs.Systems as hybrid
 use Rattle.name_table.specs.Table.{entry_of, put, put_each, without, has_no_room}
 use Rattle.name_table.specs.Listing.{spaced, names_text}
+use Rattle.script_text.specs.Commands.{is_strict}
+use Rattle.script_text.specs.Line.{PartsTold}
 use Rattle.script_text.specs.declared.command.Command.{Command}
 use Rattle.script_text.specs.declared.command.Command.TheVariants as command
 use Rattle.script_text.specs.declared.command.Comparison.{Comparison}
@@ -42,7 +44,6 @@ use Rattle.poly_questions.specs.Files.{write}
 use Rattle.calc_state.specs.declared.entry.Entry.{Entry}
 use Rattle.calc_state.specs.declared.entry.Entry.TheVariants as entry
 use Rattle.calc_state.specs.Entries.{IsKeptEntry}
-use Rattle.calc_state.specs.Changes.{as_entry}
 use Rattle.calc_state.specs.Table.{Table, Change, as_poly, as_system, as_powerset, as_shape, as_hybrid, poly_of, numbered_sets}
 use Rattle.calc_state.specs.Systems as systems
 use Rattle.calc_state.specs.Parts as parts
@@ -52,6 +53,7 @@ use Rattle.calc_state.specs.Shapes as shapes
 use Rattle.calc_state.specs.Hybrids as hybrids
 use Rattle.calc_state.specs.Meanings.{meaning}
 use Rattle.calc_state.specs.Step.{IsAccepted, PutsProper, after}
+use Rattle.calc_state.proofs.EntryKinds.{IsKind, poly_there, system_there, powerset_there, shape_there, hybrid_there, Found, found_of, same_entry}
 use Rattle.calc_state.proofs.SaysOnce.{reply_is}
 use Rattle.soundness.specs.Points as points
 use Rattle.soundness.specs.Points.{PointSet, AreAlike}
@@ -81,43 +83,6 @@ pub record Laws : Type 0 where
   pub ranking : PrintedFunctionRanks
 
 -- ---- entries of a kind
--- what is found of a kind is an entry of the kind
-abbrev IsKind : {A : Type 0} → (Option Entry → Option A) → (A → Entry) → Type 0
-IsKind {A} found kind = (o : Option Entry) (a : A) → found o ≡ Some a → o ≡ Some (kind a)
-
-poly_there : IsKind as_poly entry.Poly
-poly_there (Some (entry.Poly q)) p h = ap (as_entry entry.Poly) h
-poly_there o p h = cc
-
-system_there : IsKind as_system entry.System
-system_there (Some (entry.System t)) s h = ap (as_entry entry.System) h
-system_there o s h = cc
-
-powerset_there : IsKind as_powerset entry.Powerset
-powerset_there (Some (entry.Powerset w)) u h = ap (as_entry entry.Powerset) h
-powerset_there o u h = cc
-
-shape_there : IsKind as_shape entry.Shape
-shape_there (Some (entry.Shape r)) s h = ap (as_entry entry.Shape) h
-shape_there o s h = cc
-
-hybrid_there : IsKind as_hybrid entry.Hybrid
-hybrid_there (Some (entry.Hybrid k)) x h = ap (as_entry entry.Hybrid) h
-hybrid_there o x h = cc
-
--- what was found has the property
-record Found {A : Type 0} (o : Option A) (Is : A → Type 0) : Type 0 where
-  value : A
-  there : o ≡ Some value
-  is : Is value
-
-found_of : {A : Type 0} (o : Option A) (Is : A → Type 0) → MatchOption o ⊥ Is → Found o Is
-found_of None Is h = absurd h
-found_of (Some x) Is h = record { value = x; there = refl; is = h }
-
-same_entry : (e f : Entry) → Some e ≡ Some f → e ≡ f
-same_entry e f h = cc
-
 -- an entry of a kind with the property is put under the name
 record IsMade {A : Type 0} (kind : A → Entry) (out : List ℕ) (Is : A → Type 0) (old : Table) (text : List ℕ) (new : Table) : Type 0 where
   made : A
@@ -344,11 +309,11 @@ module _ (old new : Table) (text : List ℕ) (kept : AreKept old) where
 
   -- ---- each other command
   module _ (laws : Laws) where
-    does_cons : (out : List ℕ) (top : Bool) (n : ℕ) (part : Part) → Sound (command.Cons out top n part)
-    does_cons out top n part h = makes poly out (makers.cons (has_no_room old out) (topology_of top) n part) (IsOfConstraints top n part.text) (λ r proper passes d. cons_made laws.texts top n part r proper d) h
+    does_cons : (out : List ℕ) (top : Bool) (n : ℕ) (part : Part) → part.strict ≡ is_strict part.text → Sound (command.Cons out top n part)
+    does_cons out top n part told h = makes poly out (makers.cons (has_no_room old out) (topology_of top) n part) (IsOfConstraints top n part.text) (λ r proper passes d. cons_made laws.texts top n part r proper (told, passes.1.1.1.1.1.1.1.1.0) d) h
 
-    does_gens : (out : List ℕ) (top : Bool) (n : ℕ) (part : Part) → Sound (command.Gens out top n part)
-    does_gens out top n part h = makes poly out (makers.gens (has_no_room old out) (topology_of top) n part) (IsOfGenerators top n part.text) (λ r proper passes d. gens_made laws.texts top n part r proper d) h
+    does_gens : (out : List ℕ) (top : Bool) (n : ℕ) (part : Part) → part.strict ≡ is_strict part.text → Sound (command.Gens out top n part)
+    does_gens out top n part told h = makes poly out (makers.gens (has_no_room old out) (topology_of top) n part) (IsOfGenerators top n part.text) (λ r proper passes d. gens_made laws.texts top n part r proper (told, passes.1.1.1.1.1.1.1.1.0) d) h
 
     does_space : (space : Space) (out : List ℕ) (top : Bool) (n : ℕ) → Sound (command.Space space out top n)
     does_space space out top n h = makes poly out (makers.space_of space (has_no_room old out) (topology_of top) n) (IsSpace space top n) (λ r proper passes d. space_made space top n r proper d) h
@@ -356,11 +321,11 @@ module _ (old new : Table) (text : List ℕ) (kept : AreKept old) where
     does_copy : (out p : List ℕ) → Sound (command.Copy out p)
     does_copy out p h = makes_of poly poly p out (makers.copy (has_no_room old out)) IsCopy (λ q r own fit passes d. copy_made q r own d) h
 
-    does_add : (p : List ℕ) (part : Part) → Sound (command.Add p part)
-    does_add p part h = makes_of poly poly p p (makers.add part) (IsAdded part) (λ q r own fit passes d. add_made laws.texts part q r fit d) h
+    does_add : (p : List ℕ) (part : Part) → part.strict ≡ is_strict part.text → Sound (command.Add p part)
+    does_add p part told h = makes_of poly poly p p (makers.add part) (IsAdded part) (λ q r own fit passes d. add_made laws.texts part q r fit (told, passes.1.1.1.1.1.1.1.1.0) d) h
 
-    does_addgen : (p : List ℕ) (part : Part) → Sound (command.Addgen p part)
-    does_addgen p part h = makes_of poly poly p p (makers.addgen part) (IsJoined part) (λ q r own fit passes d. addgen_made laws.texts part q r own fit (same_dims q own) (laws.poly.pair q own.kept) (laws.poly.empty q own.kept).1 d) h
+    does_addgen : (p : List ℕ) (part : Part) → part.strict ≡ is_strict part.text → Sound (command.Addgen p part)
+    does_addgen p part told h = makes_of poly poly p p (makers.addgen part) (IsJoined part) (λ q r own fit passes d. addgen_made laws.texts part q r own fit (told, passes.1.1.1.1.1.1.1.1.0) (same_dims q own) (laws.poly.pair q own.kept) (laws.poly.empty q own.kept).1 d) h
 
     does_has : (p : List ℕ) (part : Part) → Sound (command.Has p part)
     does_has p part h = asks_of poly p (has part) (answers.TellsWhether part) (λ q own passes d. has_true laws.texts part q text d) h
@@ -440,8 +405,8 @@ module _ (old new : Table) (text : List ℕ) (kept : AreKept old) where
     does_shape : (out p : List ℕ) → Sound (command.ShapeOf out p)
     does_shape out p h = makes_of poly shape p out (shapes.shape (has_no_room old out)) IsSmallestShape (λ q s own kept_s passes d. shape_made q s (room (has_no_room old out)) kept_s passes d) h
 
-    does_bounds : (out : List ℕ) (n : ℕ) (part : Part) → Sound (command.Bounds out n part)
-    does_bounds out n part h = makes shape out (shapes.bounds (has_no_room old out) n part) (IsOfBounds n part.text) (λ s kept_s passes d. bounds_made laws.texts n part s kept_s d) h
+    does_bounds : (out : List ℕ) (n : ℕ) (part : Part) → part.strict ≡ is_strict part.text → Sound (command.Bounds out n part)
+    does_bounds out n part told h = makes shape out (shapes.bounds (has_no_room old out) n part) (IsOfBounds n part.text) (λ s kept_s passes d. bounds_made laws.texts n part s kept_s (told, passes.1.1.1.1.1.1.1.1.0) d) h
 
     does_of_shapes : (op : ShapeOperator) (out s t : List ℕ) → Sound (command.OfTwoShapes op out s t)
     does_of_shapes op out s t h = makes_of_two shape shape s t out (shapes.of_two_shapes op (has_no_room old out)) (IsOfTwoShapes op) (λ x y r kept_x kept_y kept_r passes d. shapes_made op x y r (room (has_no_room old out)) kept_x kept_y kept_r passes d) h
@@ -465,48 +430,48 @@ module _ (old new : Table) (text : List ℕ) (kept : AreKept old) where
     does_reach k delay prefix h = runs_of automaton k prefix (λ x. hybrids.AreReachedParts x delay) said_systems.AreReached (hybrids.reach old delay prefix) (λ x change d. d) (λ x sets kept_x kept_sets r. reach_made x delay sets kept_x kept_sets r) h
 
   -- ---- all commands
-  pub accepted_does : Laws → (c : Command) → Sound c
-  accepted_does laws command.Nothing h = does_nothing h
-  accepted_does laws (command.Cons out top n part) h = does_cons laws out top n part h
-  accepted_does laws (command.Gens out top n part) h = does_gens laws out top n part h
-  accepted_does laws (command.Space space out top n) h = does_space laws space out top n h
-  accepted_does laws (command.Copy out p) h = does_copy laws out p h
-  accepted_does laws (command.Drop name) h = does_drop name h
-  accepted_does laws (command.Add p part) h = does_add laws p part h
-  accepted_does laws (command.Addgen p part) h = does_addgen laws p part h
-  accepted_does laws (command.Has p part) h = does_has laws p part h
-  accepted_does laws (command.Size p) h = does_size laws p h
-  accepted_does laws (command.Print side p) h = does_print laws side p h
-  accepted_does laws command.Names h = does_names h
-  accepted_does laws (command.OfTwo op out p q) h = does_operator laws op out p q h
-  accepted_does laws (command.Closure out p) h = does_closure laws out p h
-  accepted_does laws (command.Compare by p q) h = does_compare laws by p q h
-  accepted_does laws (command.Isempty p) h = does_isempty laws p h
-  accepted_does laws (command.Relation p part) h = does_relation laws p part h
-  accepted_does laws (command.Bound extremum p part) h = does_bound laws extremum p part h
-  accepted_does laws (command.Map by out p v rel part) h = does_map laws by out p v rel part h
-  accepted_does laws (command.Extend by out p n) h = does_extend laws by out p n h
-  accepted_does laws (command.Remove out p vars) h = does_remove laws out p vars h
-  accepted_does laws (command.Widen out p q) h = does_widen laws out p q h
-  accepted_does laws (command.Read out ext) h = does_read out ext h
-  accepted_does laws (command.Write p ext) h = does_write laws p ext h
-  accepted_does laws (command.System out n locations) h = does_system laws out n locations h
-  accepted_does laws (command.Init s location p) h = does_init laws s location p h
-  accepted_does laws (command.Trans s source target p) h = does_trans laws s source target p h
-  accepted_does laws (command.Fixpoint s delay prefix) h = does_fixpoint laws s delay prefix h
-  accepted_does laws (command.Pset out p) h = does_pset laws out p h
-  accepted_does laws (command.OfTwoPowersets op out s t) h = does_combination laws op out s t h
-  accepted_does laws (command.Member out s i) h = does_member laws out s i h
-  accepted_does laws (command.Psize s) h = does_psize laws s h
-  accepted_does laws (command.Covers s t) h = does_covers laws s t h
-  accepted_does laws (command.Rank out r) h = does_rank laws out r h
-  accepted_does laws (command.Ranking r) h = does_ranking laws r h
-  accepted_does laws (command.ShapeOf out p) h = does_shape laws out p h
-  accepted_does laws (command.Bounds out n part) h = does_bounds laws out n part h
-  accepted_does laws (command.OfTwoShapes op out s t) h = does_of_shapes laws op out s t h
-  accepted_does laws (command.ShapeContains s t) h = does_scontains laws s t h
-  accepted_does laws (command.ShapePrint s) h = does_sprint laws s h
-  accepted_does laws (command.ShapePoly out s) h = does_spoly laws out s h
-  accepted_does laws (command.Hybrid out s) h = does_hybrid laws out s h
-  accepted_does laws (command.SetPart part name location p) h = does_part laws part name location p h
-  accepted_does laws (command.Reach k delay prefix) h = does_reach laws k delay prefix h
+  pub accepted_does : Laws → (c : Command) → PartsTold c → Sound c
+  accepted_does laws command.Nothing told h = does_nothing h
+  accepted_does laws (command.Cons out top n part) told h = does_cons laws out top n part told h
+  accepted_does laws (command.Gens out top n part) told h = does_gens laws out top n part told h
+  accepted_does laws (command.Space space out top n) told h = does_space laws space out top n h
+  accepted_does laws (command.Copy out p) told h = does_copy laws out p h
+  accepted_does laws (command.Drop name) told h = does_drop name h
+  accepted_does laws (command.Add p part) told h = does_add laws p part told h
+  accepted_does laws (command.Addgen p part) told h = does_addgen laws p part told h
+  accepted_does laws (command.Has p part) told h = does_has laws p part h
+  accepted_does laws (command.Size p) told h = does_size laws p h
+  accepted_does laws (command.Print side p) told h = does_print laws side p h
+  accepted_does laws command.Names told h = does_names h
+  accepted_does laws (command.OfTwo op out p q) told h = does_operator laws op out p q h
+  accepted_does laws (command.Closure out p) told h = does_closure laws out p h
+  accepted_does laws (command.Compare by p q) told h = does_compare laws by p q h
+  accepted_does laws (command.Isempty p) told h = does_isempty laws p h
+  accepted_does laws (command.Relation p part) told h = does_relation laws p part h
+  accepted_does laws (command.Bound extremum p part) told h = does_bound laws extremum p part h
+  accepted_does laws (command.Map by out p v rel part) told h = does_map laws by out p v rel part h
+  accepted_does laws (command.Extend by out p n) told h = does_extend laws by out p n h
+  accepted_does laws (command.Remove out p vars) told h = does_remove laws out p vars h
+  accepted_does laws (command.Widen out p q) told h = does_widen laws out p q h
+  accepted_does laws (command.Read out ext) told h = does_read out ext h
+  accepted_does laws (command.Write p ext) told h = does_write laws p ext h
+  accepted_does laws (command.System out n locations) told h = does_system laws out n locations h
+  accepted_does laws (command.Init s location p) told h = does_init laws s location p h
+  accepted_does laws (command.Trans s source target p) told h = does_trans laws s source target p h
+  accepted_does laws (command.Fixpoint s delay prefix) told h = does_fixpoint laws s delay prefix h
+  accepted_does laws (command.Pset out p) told h = does_pset laws out p h
+  accepted_does laws (command.OfTwoPowersets op out s t) told h = does_combination laws op out s t h
+  accepted_does laws (command.Member out s i) told h = does_member laws out s i h
+  accepted_does laws (command.Psize s) told h = does_psize laws s h
+  accepted_does laws (command.Covers s t) told h = does_covers laws s t h
+  accepted_does laws (command.Rank out r) told h = does_rank laws out r h
+  accepted_does laws (command.Ranking r) told h = does_ranking laws r h
+  accepted_does laws (command.ShapeOf out p) told h = does_shape laws out p h
+  accepted_does laws (command.Bounds out n part) told h = does_bounds laws out n part told h
+  accepted_does laws (command.OfTwoShapes op out s t) told h = does_of_shapes laws op out s t h
+  accepted_does laws (command.ShapeContains s t) told h = does_scontains laws s t h
+  accepted_does laws (command.ShapePrint s) told h = does_sprint laws s h
+  accepted_does laws (command.ShapePoly out s) told h = does_spoly laws out s h
+  accepted_does laws (command.Hybrid out s) told h = does_hybrid laws out s h
+  accepted_does laws (command.SetPart part name location p) told h = does_part laws part name location p h
+  accepted_does laws (command.Reach k delay prefix) told h = does_reach laws k delay prefix h

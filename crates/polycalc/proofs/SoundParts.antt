@@ -10,7 +10,10 @@ use Rattle.row_core.specs.Vectors.{cell}
 use Rattle.row_core.specs.Points.{IsPoint}
 use Rattle.cons_sys.specs.Constraints.{In}
 use Rattle.stored_systems.specs.PointSets.{IsWithin}
+use Rattle.poly_pair.specs.declared.topology.Topology.{Topology}
 use Rattle.poly_pair.specs.declared.topology.Topology.TheVariants.{Closed}
+use Rattle.poly_pair.specs.TopologyLists.{AreConstraintsFor}
+use Rattle.poly_pair.proofs.StoredLemmas.{kept_constraints}
 use Rattle.poly_pair.specs.Polyhedra as poly
 use Rattle.poly_pair.specs.Polyhedra.{Polyhedron}
 use Rattle.poly_pair.specs.ClosedPolyhedra as closed
@@ -35,6 +38,7 @@ use Rattle.ranking.specs.Laws as ranking
 use Rattle.ranking.specs.Laws.{PrintedFunctionRanks}
 use Rattle.bd_shape.specs.Shapes.{DifferenceShape, Includes, IsIn, IsHull, IsShape}
 use Rattle.bd_shape.specs.Rows.{shape_constraints}
+use Rattle.bd_shape.proofs.RowLists.{closed_rows}
 use Rattle.powerset.specs.Covers as covers
 use Rattle.ranking.specs.Rankings as rankings
 use Rattle.ranking.specs.Functions as functions
@@ -57,15 +61,16 @@ use Rattle.calc_state.specs.Powersets as made_powersets
 use Rattle.ranking_commands.specs.Rankings as made_rankings
 use Rattle.calc_state.specs.Shapes as made_shapes
 use Rattle.elapse.specs.ElapsedPoints.{IsMoved}
-use Rattle.soundness.specs.Points.{PointSet, HasNoPoint, IsOver}
+use Rattle.soundness.specs.Points.{PointSet, LackStrict, HasNoPoint, IsOver}
 use Rattle.soundness.specs.Values.{Transition, TransitionSystem, HybridAutomaton}
 use Rattle.script_text.specs.declared.command.Comparison.TheVariants as comparison
 use Rattle.soundness.specs.Sets.{constraints, IsCopy}
-use Rattle.soundness.specs.Answers.{line, LieSo, TellsHowTheyLie, TellsConstraints}
+use Rattle.soundness.specs.Answers.{as_line, LieSo, TellsHowTheyLie, TellsConstraints}
 use Rattle.soundness.specs.Unions as unions
 use Rattle.soundness.specs.Shapes.{IsInSmallestShape, IsOfBounds, IsSmallestShape, IsOfTwoShapes}
 use Rattle.soundness.specs.Systems.{IsEmptySystem, IsWithInitial, IsWithTransition, IsStill, with_part, IsWithPart, IsAt, IncludeInitial, AreClosedUnder, AreInvariant, AreReached}
-use Rattle.soundness.proofs.PointLaws.{TextLaws, via, turn, is_nnc, set_of, is_over, closed_is_over, set_is, moved}
+use Rattle.soundness.proofs.PointLaws.{TextLaws, via, turn, is_nnc, set_of, lack_strict, is_over, closed_is_over, set_is, moved}
+use Rattle.soundness.proofs.MadeSets.{IsPartFor, said_kinds}
 use Rattle.soundness.proofs.Operands.{one_topology, one_number, below}
 use Rattle.soundness.proofs.TrueAnswers.{told}
 use Rattle.soundness.proofs.ShapeRows.{shape_fits}
@@ -190,10 +195,14 @@ fixpoint_made s delay sets kept h =
 pub still_made : (s : trans.TransitionSystem) (h : hybrid.HybridAutomaton) → hybrid.IsKeptHybrid h → made_automata.IsStill s h → IsStill (system_of s) (automaton_of h)
 still_made s h kept i = record {
   system = ap system_of i.system;
-  invariants = length-map h.invariants set_of ∙ i.invariant_count ∙ sym (length-map s.initial set_of);
-  flows = length-map h.flows set_of ∙ i.flow_count ∙ sym (length-map s.initial set_of);
-  invariants_over = All-map (IsOver false s.dim) set_of h.invariants (λ k d l. closed_is_over s.dim (slice_index_or h.invariants k d) (kept.invariants.each k d l).kept (i.invariants k d l).over);
-  flows_over = All-map (IsOver false s.dim) set_of h.flows (λ k d l. closed_is_over s.dim (slice_index_or h.flows k d) (kept.flows.each k d l).kept (i.flows k d l).over);
+  invariants = record {
+    as_many = length-map h.invariants set_of ∙ i.invariant_count ∙ sym (length-map s.initial set_of);
+    over = All-map (IsOver false s.dim) set_of h.invariants (λ k d l. closed_is_over s.dim (slice_index_or h.invariants k d) (kept.invariants.each k d l).kept (i.invariants k d l).over);
+  };
+  flows = record {
+    as_many = length-map h.flows set_of ∙ i.flow_count ∙ sym (length-map s.initial set_of);
+    over = All-map (IsOver false s.dim) set_of h.flows (λ k d l. closed_is_over s.dim (slice_index_or h.flows k d) (kept.flows.each k d l).kept (i.flows k d l).over);
+  };
   everywhere = All-map (λ (p : PointSet). (v : List ℤ) → IsPoint s.dim v → In p.cons v) set_of h.invariants (All-weaker (poly.IsUniverse Closed s.dim) (λ p. (v : List ℤ) → IsPoint s.dim v → In p.cons v) (λ p e. e.points) h.invariants i.invariants);
   still = All-map HasNoPoint set_of h.flows (All-weaker (poly.IsEmpty Closed s.dim) (λ p. HasNoPoint (set_of p)) (λ p e. e.points) h.flows i.flows);
 }
@@ -307,8 +316,8 @@ listed_from members s (k, below, e) =
 -- the points of a powerset
 in_union : (u : FinitePowerset) (v : List ℤ) → powersets.IsInPowerset u.members v ↔ unions.IsInUnion (powerset_of u) v
 in_union u v = (
-  λ h. record { member = set_of h.member; listed = listed_to u.members h.member h.listed; within = h.holds },
-  λ h. (let m = listed_from u.members h.member h.listed in record { member = m.0; listed = m.1; holds = subst (λ (y : PointSet). In y.cons v) (sym m.2) h.within }),
+  λ h. (set_of h.member, listed_to u.members h.member h.listed, h.holds),
+  λ h. (let m = listed_from u.members h.0 h.1 in record { member = m.0; listed = m.1; holds = subst (λ (y : PointSet). In y.cons v) (sym m.2) h.2 }),
 )
 
 pub pset_made : (p : Polyhedron) (u : FinitePowerset) → powersets.IsPowersetOfOne p u → unions.IsOfOne (set_of p) (powerset_of u)
@@ -348,12 +357,15 @@ either_way f g = (
   ],
 )
 
--- of the powerset's kind, and over its variables
+-- of the powerset's kind, over its variables, and closed if it must be
 abbrev IsFor : FinitePowerset → PointSet → Type 0
-IsFor u p = (p.nnc ≡ is_nnc u.topology) × (p.cons.dim ≡ u.dim)
+IsFor u p = (p.nnc ≡ is_nnc u.topology) × (p.cons.dim ≡ u.dim) × LackStrict (is_nnc u.topology) p.cons.list
 
 members_alike : (u : FinitePowerset) → IsKeptPowerset u → All (IsFor u) (map set_of u.members)
-members_alike u kept = All-map (IsFor u) set_of u.members (λ i d l. (ap is_nnc (kept.each i d l).over.same_topology, (kept.each i d l).over.same_dim))
+members_alike u kept = All-map (IsFor u) set_of u.members (λ i d l.
+    (let m = kept.each i d l in
+    let p = slice_index_or u.members i d in
+    (ap is_nnc m.over.same_topology, m.over.same_dim, lack_strict u.topology p.cons (subst (λ (t : Topology). AreConstraintsFor t p.cons) m.over.same_topology (kept_constraints p m.kept)))))
 
 pub combined_made : UnionLaws → (op : PowersetOperator) (s t u : FinitePowerset) (others : Conditions) → IsKeptPowerset s → IsKeptPowerset t → IsKeptPowerset u → Passes (made_powersets.alike_unions s t others) → made_powersets.IsPowersetOf op s t u →
     unions.IsCombined op (powerset_of s) (powerset_of t) (powerset_of u)
@@ -389,13 +401,13 @@ member_made i s r others kept fit passes h = record {
       | inr most ↦ absurd (passes.1.1.1.1.1.0 (inl (omega (arith, most))))
     ]
 
-pub psize_true : (s : FinitePowerset) (reply : List ℕ) → reply ≡ line (made_powersets.members_text s) → unions.TellsMembers (powerset_of s) reply
-psize_true s reply h = h ∙ ap (λ (n : ℕ). line (codes "members " ++ decimal n)) (sym (length-map s.members set_of))
+pub psize_true : (s : FinitePowerset) (reply : List ℕ) → reply ≡ as_line (made_powersets.members_text s) → unions.TellsMembers (powerset_of s) reply
+psize_true s reply h = h ∙ ap (λ (n : ℕ). as_line (codes "members " ++ decimal n)) (sym (length-map s.members set_of))
 
 cover_cases : (s t : FinitePowerset) (reply : List ℕ) (c : Cover) → covers.IsCover s t c → reply ≡ made_powersets.cover_line s.dim c →
-    (((v : List ℤ) → IsPoint s.dim v → unions.IsInUnion (powerset_of t) v → unions.IsInUnion (powerset_of s) v) × (reply ≡ line (codes "yes"))) ⊎ unions.TellsMissing (powerset_of s) (powerset_of t) reply
+    (((v : List ℤ) → IsPoint s.dim v → unions.IsInUnion (powerset_of t) v → unions.IsInUnion (powerset_of s) v) × (reply ≡ as_line (codes "yes"))) ⊎ unions.TellsMissing (powerset_of s) (powerset_of t) reply
 cover_cases s t reply Yes h said = inl (λ v is on_t. (in_union s v).0 (h v is ((in_union t v).1 on_t)), said)
-cover_cases s t reply (No v) h said = inr (record { point = v; is_point = h.point; within = (in_union t v).0 h.within; outside = λ on_s. h.outside ((in_union s v).1 on_s); said = said })
+cover_cases s t reply (No v) h said = inr (record { point = v; is_point = h.point; lowest = h.primitive; within = (in_union t v).0 h.within; outside = λ on_s. h.outside ((in_union s v).1 on_s); said = said })
 
 pub cover_true : (s t : FinitePowerset) (reply : List ℕ) (others : Conditions) → Passes (made_powersets.alike_unions s t others) → made_powersets.IsCoverTold s t reply → unions.TellsCover (powerset_of s) (powerset_of t) reply
 cover_true s t reply others passes h = record { operands = unions_alike s t others passes; tells = cover_cases s t reply h.answer h.true_of h.said }
@@ -407,9 +419,9 @@ relates r others passes = record { closed = ap is_nnc (one_topology r.topology C
 pub rank_made : (r s : Polyhedron) (others : Conditions) → IsProper s → Passes (made_rankings.relates_states r others) → rankings.IsRankingSet (r.cons.dim / 2) r s → unions.AreRankings (set_of r) (set_of s)
 rank_made r s others fit passes h = record { relation = relates r others passes; set = set_is Closed (r.cons.dim / 2 + 1) (functions.IsRanking (r.cons.dim / 2) r.cons) s fit h.over h.points }
 
-function_cases : TextLaws → (r : Polyhedron) (text reply : List ℕ) → reply ≡ line text → ranking.IsWithoutRanking (r.cons.dim / 2) r.cons text ⊎ ranking.IsOfRanking (r.cons.dim / 2) r.cons text →
-    unions.TellsFunction (set_of r) reply ⊎ (((f : List ℤ) → IsPoint (r.cons.dim / 2 + 1) f → ¬ (functions.IsRanking (r.cons.dim / 2) r.cons f)) × (reply ≡ line (codes "none")))
-function_cases laws r text reply said (inl h) = inr (h.none, said ∙ ap line h.told)
+function_cases : TextLaws → (r : Polyhedron) (text reply : List ℕ) → reply ≡ as_line text → ranking.IsWithoutRanking (r.cons.dim / 2) r.cons text ⊎ ranking.IsOfRanking (r.cons.dim / 2) r.cons text →
+    unions.TellsFunction (set_of r) reply ⊎ (((f : List ℤ) → IsPoint (r.cons.dim / 2 + 1) f → ¬ (functions.IsRanking (r.cons.dim / 2) r.cons f)) × (reply ≡ as_line (codes "none")))
+function_cases laws r text reply said (inl h) = inr (h.none, said ∙ ap as_line h.told)
 function_cases laws r text reply said (inr h) =
     let says = laws.fraction (r.cons.dim / 2) text (take (r.cons.dim / 2 + 1) h.function) (cell h.function (r.cons.dim / 2 + 1)) ((h.read (take (r.cons.dim / 2 + 1) h.function, cell h.function (r.cons.dim / 2 + 1))).1 refl) in
     inl (record { function = h.function; point = h.point; ranks = h.ranks; text = text; divisor = says.below; last = says.same; is_text = says.is_text; said = said })
@@ -427,13 +439,14 @@ shape_made p s others is passes h = record {
   ));
 }
 
-pub bounds_made : TextLaws → (n : ℕ) (part : Part) (s : DifferenceShape) → IsShape s → texts.SaysConstraints n part (λ cs. made_shapes.IsShapeOfConstraints cs s) → IsOfBounds n part.text (shape_set s)
-bounds_made laws n part s is h =
+pub bounds_made : TextLaws → (n : ℕ) (part : Part) (s : DifferenceShape) → IsShape s → IsPartFor Closed part → texts.SaysConstraints n part (λ cs. made_shapes.IsShapeOfConstraints cs s) → IsOfBounds n part.text (shape_set s)
+bounds_made laws n part s is for h =
     let says = laws.constraints n part.text h.system h.read in
     let same : h.system.dim ≡ n = h.read.holds.over in (
       record {
         list = says.list;
         says = says.is_text;
+        kinds = says.kinds false (said_kinds Closed n part h.system for h.read);
         set = shape_is n (In (constraints n says.list)) s is (h.holds.dim ∙ same) (λ v point. (
           λ on. (says.same v).0 ((h.holds.points v).0 on).1,
           λ holds. (h.holds.points v).1 (moved n h.system.dim v (sym same) point, (says.same v).1 holds),
@@ -488,7 +501,7 @@ inclusion_true s t reply others is_s is_t passes h =
       )) h.said;
     }
 
-pub sprint_true : TextLaws → ConstraintsAreReadBack → (s : DifferenceShape) (reply : List ℕ) → IsShape s → reply ≡ line (constraints_text (shape_constraints s)) → TellsConstraints (shape_set s) reply
+pub sprint_true : TextLaws → ConstraintsAreReadBack → (s : DifferenceShape) (reply : List ℕ) → IsShape s → reply ≡ as_line (constraints_text (shape_constraints s)) → TellsConstraints (shape_set s) reply
 sprint_true laws law s reply is h =
     let says = laws.constraints s.dim (constraints_text (shape_constraints s)) (shape_constraints s) ((law (shape_constraints s) (shape_constraints s) (shape_fits s is)).1 refl) in
-    record { text = constraints_text (shape_constraints s); said = h; is = record { list = says.list; says = says.is_text; set = shape_is s.dim (In (constraints s.dim says.list)) s is refl (λ v point. via (turn (in_shape s is v point)) (says.same v)) } }
+    record { text = constraints_text (shape_constraints s); said = h; is = record { list = says.list; says = says.is_text; kinds = says.kinds false (lack_strict Closed (shape_constraints s) (closed_rows s.dim s.bounds)); set = shape_is s.dim (In (constraints s.dim says.list)) s is refl (λ v point. via (turn (in_shape s is v point)) (says.same v)) } }

@@ -31,6 +31,7 @@ use Rattle.calc_state.specs.State.{closed, opens}
 use Rattle.calc_state.specs.Reading.{Reads}
 use Rattle.calc_state.specs.Step.{Performs}
 use Rattle.script_text.specs.Line.{Spells}
+use Rattle.script_text.proofs.SpellLemmas.{told}
 use Rattle.cdd_reading.specs.Files.{IsEnd}
 use Rattle.calc_state.specs.Line.{file_after, StepFrom}
 use Rattle.calc_state.specs.Runs.{Run, cut_off, at_end}
@@ -47,7 +48,7 @@ use Rattle.soundness.proofs.FileReads.{ine_reads, ext_reads, origin_is, nothing_
 use Rattle.soundness.proofs.TrueAnswers.{PolyLaws, ine_side, ext_side}
 use Rattle.polycalc.proofs.SoundValues.{named, named_put, AreKept, put_kept, after_kept}
 use Rattle.polycalc.proofs.SoundCommands.{Laws, accepted_does}
-use Rattle.polycalc.proofs.RefusalLines.{fault_plain, overflow_plain}
+use Rattle.polycalc.proofs.RefusalLines.{no_feed, fault_plain, overflow_plain}
 
 -- ---- states
 abbrev said_file : open_files.OpenFile → OpenFile
@@ -64,14 +65,14 @@ same_state table names file other e f = ap (λ (t : Table). said_from t file) e 
 
 -- ---- refusals
 refused : (f : Fault) → IsRefusal (reply_bytes (Refused f))
-refused f = record { rest = decimal (fault_number f) ++ codes " " ++ fault_name f ++ place_text (fault_place f); one_line = fault_plain f; said = inl refl }
+refused f = record { rest = decimal (fault_number f) ++ codes " " ++ fault_name f ++ place_text (fault_place f); one_line = no_feed _ (fault_plain f); said = inl refl }
 
 overflown : (over : Overflow) → IsRefusal (reply_bytes (Overflows over))
 overflown over = record {
   rest =
       kind_name over.kind ++ codes " step " ++ decimal over.step ++ codes " column " ++ decimal (over.column + 1)
       ++ codes " left " ++ row_text over.left ++ codes " right " ++ row_text over.right;
-  one_line = overflow_plain over;
+  one_line = no_feed _ (overflow_plain over);
   said = inr refl;
 }
 
@@ -141,7 +142,7 @@ opens_said other = refl
 
 performed : Laws → (table : Table) (text : List ℕ) (new : calc.State) (c : Command) (reply : Reply) → AreKept table → Spells text c → Performs table c reply new.names → new.file ≡ file_after c reply → IsTrueStep table None text reply new
 performed laws table text new c (Answered lines) kept spelled p file = record {
-  is = inr (record { command = c; spelled = laws.texts.spelled text c spelled; does = accepted_does table new.names lines kept laws c p; file = ap (option_map said_file) file ∙ opens_said c });
+  is = inr (record { command = c; spelled = laws.texts.spelled text c spelled; does = accepted_does table new.names lines kept laws c (told text c spelled) p; file = ap (option_map said_file) file ∙ opens_said c });
   kept = subst AreKept (sym p.table) (after_kept table p.change kept p.proper);
 }
 performed laws table text new c (Refused f) kept spelled p file = unchanged table None text (Refused f) new kept tt (refused f) p.1 file

@@ -18,6 +18,7 @@ use Rattle.calc_state.specs.declared.entry.Entry.TheVariants as entry
 use Rattle.calc_state.specs.Entries.{IsKeptEntry}
 use Rattle.calc_state.specs.Table.{Table, Change, numbered_sets}
 use Rattle.calc_state.specs.Step.{PutsProper, after}
+use Rattle.calc_state.proofs.EntryKinds.{same_entry}
 use Rattle.soundness.specs.Values.{Transition, TransitionSystem, HybridAutomaton, Powerset, Value, Polyhedron as PolyhedronOf, System, Union, Shape, Automaton, Names}
 use Rattle.soundness.proofs.PointLaws.{is_nnc, set_of}
 use Rattle.soundness.proofs.ShapeSets.{shape_set}
@@ -97,9 +98,6 @@ named_length (e ∷ table) = ap suc (named_length table)
 abbrev pub AreKept : Table → Type 0
 AreKept [] = Unit {0}
 AreKept (e ∷ table) = IsKeptEntry e.1 × AreKept table
-
-same_entry : (e f : Entry) → Some e ≡ Some f → e ≡ f
-same_entry e f h = cc
 
 kept_choice : (b : Bool) (e x : Entry) (o : Option Entry) → IsKeptEntry e → (o ≡ Some x → IsKeptEntry x) → cond b (Some e) o ≡ Some x → IsKeptEntry x
 kept_choice true e x o kept rest h = subst IsKeptEntry (same_entry e x h) kept

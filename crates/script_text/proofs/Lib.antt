@@ -1,4 +1,4 @@
 mod PartLemmas
-mod SpellLemmas
+pub mod SpellLemmas
 mod UnreadLemmas
 mod VariableLemmas

@@ -17,11 +17,12 @@ use Rattle.row_core.specs.Vectors.{cell, scale}
 use Rattle.row_core.specs.Content.{IsPrimitiveOf}
 use Rattle.row_core.specs.Lists.{Row}
 use Rattle.row_core.proofs.CellLemmas.{cell-scale}
-use Rattle.row_core.proofs.Ring.{positive_of_mul, zero_of_mul}
+use Rattle.row_core.proofs.Ring.{mul-zero, positive_of_mul, zero_of_mul}
 use Rattle.cons_sys.specs.Constraints.{Constraint, Constraints}
 use Rattle.gens_sys.specs.Generators.{Generator, Generators}
 use Rattle.gens_sys.specs.declared.kind.GenKind.{GenKind}
 use Rattle.gens_sys.specs.declared.kind.GenKind.TheVariants.{Line, Ray, Point, ClosurePoint}
+use Rattle.reply_text.specs.declared.faults.Fault.{Fault}
 use Rattle.reply_text.specs.declared.faults.Fault.TheVariants as fault
 use Rattle.plain_text.specs.Digits.{is_nat, number}
 use Rattle.cdd_reading.specs.Tokens.{tokens, Token, numbered, texts, has_some, unsigned, is_negative, is_integer}
@@ -31,12 +32,12 @@ use Rattle.cdd_reading.specs.Bodies.{is_number, type_word, HasType}
 use Rattle.cdd_reading.specs.Headings.{kind_in, linearity_in, are_indices, is_begin}
 use Rattle.cdd_reading.specs.Files as old
 use Rattle.cdd_reading.specs.Files.{IsEnd, Contents, IsContents, AreContents, indices, turned, IsKind}
-use Rattle.cdd_reading.specs.Refusals.{NoneOf, tests, other}
+use Rattle.cdd_reading.specs.Refusals.{NoneOf, tests, other, IsVectorFault, HaveNoFault, IsRowsFault}
 use Rattle.cdd_reading.specs.declared.format.Format.{Format}
 use Rattle.cdd_reading.specs.declared.format.Format.TheVariants.{Ine, Ext}
 use Rattle.cdd_reading.specs.declared.format.NumberType.{NumberType}
 use Rattle.cdd_reading.specs.declared.format.NumberType.TheVariants.{Integer, Rational, Real}
-use Rattle.cdd_reading.proofs.ListLaws.{zip_push}
+use Rattle.cdd_reading.proofs.ListLaws.{All-inside, zip_push}
 use Rattle.cdd_reading.proofs.ValueLaws.{rows_are_scaled, chunk_step}
 use Rattle.cdd_reading.proofs.Forms.{sizes_of}
 use Rattle.soundness.specs.TextsNumbers.{IsNumber}
@@ -47,6 +48,11 @@ use Rattle.soundness.specs.Files.{WithOrigin, as_listed, with_origin}
 use Rattle.soundness.specs.FileLines.{IsFraction, IsTimes, AreNumbersOf, IsRowOf, IsVectorOf, AreRows, IsInteger, IsTypeOf, kind_name, IsBeforeBegin, NamesNoRow, NamesRows, HaveMarks, AreTableWords, IsFile}
 use Rattle.soundness.proofs.FileNumbers.{digits_number, integer_is, fraction_is, integer_form}
 use Rattle.soundness.proofs.Operands.{at_most, below, no_less, all_of}
+
+-- what holds of two lists joined holds of each
+parted : {A : Type 0} (P : A → Type 0) (xs ys : List A) → All P (xs ++ ys) → All P xs × All P ys
+parted P [] ys h = (All-nil P, h)
+parted P (x ∷ xs) ys h = let p = parted P xs ys (All-tail P x (xs ++ ys) h) in (All-cons P x xs (All-head P x (xs ++ ys) h) p.0, p.1)
 
 -- ---- tokens
 texts_of : (n : ℕ) (ts : List (List ℕ)) → texts (map (λ t. (n, t)) ts) ≡ ts
@@ -118,10 +124,49 @@ fronts x y xs ys n e = (
 length-integers : (words : List (List ℕ)) → length (integers words) ≡ length words
 length-integers words = length-map words (times (common words))
 
+-- ---- rows of zeros
+abbrev AreZeros : List ℤ → Type 0
+AreZeros v = All (λ z. z ≡ pos 0) v
+
+scaled_zeros : (k : ℤ) (v : List ℤ) → AreZeros v → AreZeros (scale k v)
+scaled_zeros k [] h = All-nil (λ z. z ≡ pos 0)
+scaled_zeros k (z ∷ v) h = All-cons (λ z. z ≡ pos 0) (k *ℤ z) (scale k v) (ap (λ (y : ℤ). k *ℤ y) (All-head (λ z. z ≡ pos 0) z v h) ∙ mul-zero k) (scaled_zeros k v (All-tail (λ z. z ≡ pos 0) z v h))
+
+turned_zeros : (v : List ℤ) → AreZeros (turned v) → AreZeros v
+turned_zeros [] h = h
+turned_zeros (b ∷ v) h = let p = parted (λ z. z ≡ pos 0) v (b ∷ []) h in All-cons (λ z. z ≡ pos 0) b v (All-head (λ z. z ≡ pos 0) b [] p.1) p.0
+
+-- the row of a primitive vector of zeros
+zeros_of : (v u : List ℤ) → IsPrimitiveOf (turned v) u → AreZeros u → AreZeros v
+zeros_of v u p h = turned_zeros v (subst AreZeros (sym p.multiple.same) (scaled_zeros (pos p.multiple.times) u h))
+
+-- a row that isn't refused for its zeros, with its generator
+abbrev IsNonzeroVector : Row → Generator → Type 0
+IsNonzeroVector row g = old.IsVectorOf row g × ¬ (AreZeros row.0)
+
+-- no row has a fault if none is the first that has one
+module _ (all : List Row) (none : (f : Fault) → ¬ (IsRowsFault all f)) where
+  faultless_behind : (before rows : List Row) → all ≡ before ++ rows → HaveNoFault before → HaveNoFault rows
+  faultless_behind before [] e h = All-nil (λ (row : Row). (f : Fault) → ¬ (IsVectorFault row.1 row.0 f))
+  faultless_behind before (row ∷ rows) e h =
+      let here : (f : Fault) → ¬ (IsVectorFault row.1 row.0 f) = λ f is.
+      none f (record { before = before; row = row; first = record { behind = rows; cut = e; right = h; wrong = λ each. All-inside (λ (r : Row). (g : Fault) → ¬ (IsVectorFault r.1 r.0 g)) before row [] each f is }; is = is }) in
+      All-cons (λ (r : Row). (f : Fault) → ¬ (IsVectorFault r.1 r.0 f)) row rows here
+      (faultless_behind (before ++ row ∷ []) rows (e ∙ sym (append_assoc before (row ∷ []) rows)) (All-append (λ (r : Row). (f : Fault) → ¬ (IsVectorFault r.1 r.0 f)) before (row ∷ []) h (All-cons (λ (r : Row). (f : Fault) → ¬ (IsVectorFault r.1 r.0 f)) row [] here (All-nil (λ (r : Row). (f : Fault) → ¬ (IsVectorFault r.1 r.0 f))))))
+
+nonzero_rows : (rows : List Row) (list : List Generator) → HaveNoFault rows → AllZip old.IsVectorOf rows list → AllZip IsNonzeroVector rows list
+nonzero_rows [] [] h each = tt
+nonzero_rows [] (g ∷ list) h each = absurd each
+nonzero_rows (row ∷ rows) [] h each = absurd each
+nonzero_rows (row ∷ rows) (g ∷ list) h (here, each) = (
+  (here, λ zeros. All-head (λ (r : Row). (f : Fault) → ¬ (IsVectorFault r.1 r.0 f)) row rows h fault.ZeroVector zeros),
+  nonzero_rows rows list (All-tail (λ (r : Row). (f : Fault) → ¬ (IsVectorFault r.1 r.0 f)) row rows h) each,
+)
+
 -- one row, and the rows behind it
-vector_row : (dim : ℕ) (row : Row) (words : List (List ℕ)) (g : Generator) → IsReadRow words → length words ≡ dim + 1 → row.0 ≡ integers words → old.IsVectorOf row g → IsVectorOf dim row.1 words g
-vector_row dim (v, marked) words (u, kind) is wide e h =
-    by_kind v kind (length-of v (ap (λ (x : List ℤ). length x) e ∙ length-integers words ∙ wide)) (numbers_are words u is (subst (λ (x : List ℤ). IsPrimitiveOf (turned x) u) e h.0)) h.0 h.1
+vector_row : (dim : ℕ) (row : Row) (words : List (List ℕ)) (g : Generator) → IsReadRow words → length words ≡ dim + 1 → row.0 ≡ integers words → IsNonzeroVector row g → IsVectorOf dim row.1 words g
+vector_row dim (v, marked) words (u, kind) is wide e (h, nonzero) =
+    by_kind v kind (length-of v (ap (λ (x : List ℤ). length x) e ∙ length-integers words ∙ wide)) (numbers_are words u is (subst (λ (x : List ℤ). IsPrimitiveOf (turned x) u) e h.0)) h.0 (λ zeros. nonzero (zeros_of v u h.0 zeros)) h.1
   where
     length-of : (x : List ℤ) → length x ≡ dim + 1 → length x ≡ dim + 1
     length-of x f = f
@@ -138,12 +183,12 @@ vector_row dim (v, marked) words (u, kind) is wide e h =
     above : (n : ℕ) → 0 < n → pos 0 <ℤ pos n
     above n f = omega (arith, ints, f)
 
-    by_kind : (x : List ℤ) (k : GenKind) → length x ≡ dim + 1 → AreNumbersOf words u → IsPrimitiveOf (turned x) u → IsKind marked (cell x 0) k → IsVectorOf dim marked words (u, k)
-    by_kind x Point f numbers m is =
+    by_kind : (x : List ℤ) (k : GenKind) → length x ≡ dim + 1 → AreNumbersOf words u → IsPrimitiveOf (turned x) u → ¬ (AreZeros u) → IsKind marked (cell x 0) k → IsVectorOf dim marked words (u, k)
+    by_kind x Point f numbers m some is =
         (numbers, positive_of_mul (pos m.multiple.times) (cell u dim) (above m.multiple.times m.multiple.positive) (subst (λ (z : ℤ). pos 0 <ℤ z) (divisor_of x f m) is.0), is.1)
-    by_kind x Ray f numbers m is = (numbers, zero_of_mul (pos m.multiple.times) (cell u dim) (above m.multiple.times m.multiple.positive) (sym (divisor_of x f m) ∙ is.0), is.1)
-    by_kind x Line f numbers m is = (numbers, zero_of_mul (pos m.multiple.times) (cell u dim) (above m.multiple.times m.multiple.positive) (sym (divisor_of x f m) ∙ is.0), is.1)
-    by_kind x ClosurePoint f numbers m is = absurd is
+    by_kind x Ray f numbers m some is = (numbers, (zero_of_mul (pos m.multiple.times) (cell u dim) (above m.multiple.times m.multiple.positive) (sym (divisor_of x f m) ∙ is.0), some), is.1)
+    by_kind x Line f numbers m some is = (numbers, (zero_of_mul (pos m.multiple.times) (cell u dim) (above m.multiple.times m.multiple.positive) (sym (divisor_of x f m) ∙ is.0), some), is.1)
+    by_kind x ClosurePoint f numbers m some is = absurd is
 
 module _ {A : Type 0} (Old : Row → A → Type 0) (New : Bool → List (List ℕ) → A → Type 0) (d : ℕ) (step : (row : Row) (words : List (List ℕ)) (a : A) → IsReadRow words → length words ≡ d → row.0 ≡ integers words → Old row a → New row.1 words a) where
   -- rows that are cut from the numbers say what the rows of integers say
@@ -259,11 +304,6 @@ have_marks : (before : List (List ℕ)) (o : Option (List ℕ)) → Gathered bef
 have_marks [] None e = refl
 have_marks [] (Some is) e = cc
 have_marks (line ∷ before) o e = marks_by line before o (line_marks line) e (have_marks before o)
-
--- what holds of two lists joined holds of each
-parted : {A : Type 0} (P : A → Type 0) (xs ys : List A) → All P (xs ++ ys) → All P xs × All P ys
-parted P [] ys h = (All-nil P, h)
-parted P (x ∷ xs) ys h = let p = parted P xs ys (All-tail P x (xs ++ ys) h) in (All-cons P x xs (All-head P x (xs ++ ys) h) p.0, p.1)
 
 -- a line before `begin` isn't that line, and names no other kind
 before_begin : (ext : Bool) (f : Format) → kind_in (kind_name (not ext) ∷ []) ≡ f ∷ [] → (before : List (List ℕ)) → All (λ line. is_begin (tokens line) ≡ false) before → All (λ g. g ≢ f) (flat_map (λ line. kind_in (tokens line)) before) → All (IsBeforeBegin ext) before
@@ -414,7 +454,8 @@ ext_reads bytes gs passes f = record {
   marked = indices f.contents;
   rows = table_of f.contents;
   file = subst (λ (d : ℕ). IsFile true bytes (indices f.contents) d (table_of f.contents)) f.over (file_is true Ext refl bytes passes f.contents f.says);
-  says = table_says true Ext refl bytes passes f.contents f.says old.IsVectorOf (IsVectorOf gs.dim) (λ row words g is wide e h. vector_row gs.dim row words g is (wide ∙ f.over) e h) f.rows f.given f.are_rows f.each;
+  says = table_says true Ext refl bytes passes f.contents f.says IsNonzeroVector (IsVectorOf gs.dim) (λ row words g is wide e h. vector_row gs.dim row words g is (wide ∙ f.over) e h) f.rows f.given f.are_rows
+      (nonzero_rows f.rows f.given (faultless_behind f.rows (λ g bad. passes.1.1.1.1.1.1.1.1.1.1.0 g (f.contents, f.says, (f.rows, f.are_rows, bad))) [] f.rows refl (All-nil (λ (row : Row). (g : Fault) → ¬ (IsVectorFault row.1 row.0 g)))) f.each);
 }
 
 -- ---- behind the file

@@ -1,6 +1,6 @@
 -- Written files have the marks and rows that are said.
 use Rattle.std.proofs.Common.{◌≡◌, ℕ, ◌+◌, ◌-◌, ◌*◌, ◌/◌, ◌^◌, ◌<◌, ◌≤◌, ◌==◌, ◌||◌, Bool, true, false, not, List, [], ◌∷◌, ◌++◌, length, map, take, drop, cond, refl, sym, ◌∙◌, ap, subst, arith, inl, inr, codes, suc, zero, length-append, eq-eqb}
-use Rattle.std.specs.Prelude.{All, ℤ, pos, negsuc, ◌*ℤ◌, ◌<ℤ◌, unsigned_abs, int_div, decimal, if◌then◌else◌, slice_index_or}
+use Rattle.std.specs.Prelude.{All, ℤ, pos, negsuc, ◌*ℤ◌, ◌<ℤ◌, unsigned_abs, int_div, decimal, if◌then◌else◌, slice_index_or, IsTrue}
 use Rattle.std.proofs.Math.IntN.{neg_ℤ}
 use Rattle.std.specs.Fmt.{signed_decimal}
 use Rattle.std.specs.List.{list_any, flat_map, AllZip}
@@ -34,7 +34,7 @@ use Rattle.cdd_reading.specs.declared.format.NumberType.TheVariants.{Integer, Ra
 use Rattle.cdd_text.specs.Written as old
 use Rattle.cdd_text.specs.Written.{line_of, marked_from, turned_back, row_words, divisor_text, fraction_word, point_words, is_equality_constraint, is_line_generator, generator_words, type_of, has_divisor, ine_text, ext_text}
 use Rattle.soundness.specs.TextsNumbers.{IsNumber}
-use Rattle.soundness.specs.FileLines.{IsInteger, whole, minus, IsFraction, integer, fraction, IsTimes, AreNumbersOf, IsRowOf, IsVectorOf, AreRows, IsTypeOf, kind_name, file_text}
+use Rattle.soundness.specs.FileLines.{IsInteger, whole, minus, IsFraction, integer, fraction, IsTimes, AreNumbersOf, IsRowOf, IsVectorOf, AreRows, IsTypeOf, kind_name, BeginsSo, file_text}
 use Rattle.soundness.proofs.FileNumbers.{digits_number}
 
 -- ---- numbers
@@ -181,12 +181,15 @@ point_by front (pos d) positive h =
       each = zip_push (IsTimes 1 d) (map (fraction_word d) front) front (codes "1") (pos d) (fraction_entries d front p.0 some p.1.size) (divisor_entry d);
     }
 
+last_cell : (dim : ℕ) (row : List ℤ) → length row ≡ dim + 1 → (l : HasLast row) → cell row dim ≡ l.last
+last_cell dim row wide l =
+    let n : dim ≡ length l.front = omega (arith, wide, ap (λ (r : List ℤ). length r) l.same, length-append l.front (l.last ∷ [])) in
+    ap (λ (r : List ℤ). cell r dim) l.same ∙ ap (λ (k : ℕ). cell (l.front ++ l.last ∷ []) k) n ∙ get_or-append_seam l.front l.last [] (pos 0)
+
 point_numbers : (dim : ℕ) (row : List ℤ) → length row ≡ dim + 1 → pos 0 <ℤ cell row dim → AllInRange row → AreNumbersOf (point_words row) row
 point_numbers dim row wide positive h =
     let l = has_last row (omega (arith, wide)) in
-    let n : dim ≡ length l.front = omega (arith, wide, ap (λ (r : List ℤ). length r) l.same, length-append l.front (l.last ∷ [])) in
-    let last : cell row dim ≡ l.last = ap (λ (r : List ℤ). cell r dim) l.same ∙ ap (λ (k : ℕ). cell (l.front ++ l.last ∷ []) k) n ∙ get_or-append_seam l.front l.last [] (pos 0) in
-    subst (λ (r : List ℤ). AreNumbersOf (point_words r) r) (sym l.same) (point_by l.front l.last (subst (λ (z : ℤ). pos 0 <ℤ z) last positive) (subst AllInRange l.same h))
+    subst (λ (r : List ℤ). AreNumbersOf (point_words r) r) (sym l.same) (point_by l.front l.last (subst (λ (z : ℤ). pos 0 <ℤ z) (last_cell dim row wide l) positive) (subst AllInRange l.same h))
 
 -- ---- how wide rows are
 numbers_wide : (words : List (List ℕ)) (row : List ℤ) → AreNumbersOf words row → length words ≡ length row
@@ -249,6 +252,7 @@ pub record IsTextOf {A : Type 0} (ext : Bool) (text : List ℕ) (columns : ℕ) 
   pub rows : List (List (List ℕ))
   pub typed : IsTypeOf rows type
   pub wide : All (λ (row : List (List ℕ)). length row ≡ columns) rows
+  pub begun : IsTrue ext → All BeginsSo rows
   pub marks : All (λ (k : ℕ). (0 < k) × (k ≤ length rows)) marked
   pub text_is : text ≡ file_text ext marked columns type rows
   pub says : AreRows Says marked 1 rows list
@@ -275,10 +279,23 @@ above_zero (pos (suc n)) h = omega (arith, ints)
 above_zero (negsuc n) h = absurd (h (omega (arith, ints)))
 
 generator_step : (dim : ℕ) (g : Generator) → FitsGen dim g → IsVectorOf dim (is_line_generator g) (generator_words g) g
-generator_step dim (v, Line) h = (row_numbers dim v h.0.wide h.0.in_range, no_other (cell v dim) h.0.divisor, refl)
-generator_step dim (v, Ray) h = (row_numbers dim v h.0.wide h.0.in_range, no_other (cell v dim) h.0.divisor, refl)
+generator_step dim (v, Line) h = (row_numbers dim v h.0.wide h.0.in_range, (no_other (cell v dim) h.0.divisor, h.0.nonzero), refl)
+generator_step dim (v, Ray) h = (row_numbers dim v h.0.wide h.0.in_range, (no_other (cell v dim) h.0.divisor, h.0.nonzero), refl)
 generator_step dim (v, Point) h = let positive = above_zero (cell v dim) h.0.divisor in (point_numbers dim v h.0.wide positive h.0.in_range, positive, refl)
 generator_step dim (v, ClosurePoint) h = absurd h.1
+
+-- the first word of the row of a direction is its last entry, 0
+direction_begins : (dim : ℕ) (v : List ℤ) → length v ≡ dim + 1 → cell v dim ≡ pos 0 → BeginsSo (row_words v)
+direction_begins dim v wide zero_end =
+    let l = has_last v (omega (arith, wide)) in
+    let word : signed_decimal l.last ≡ codes "0" = ap signed_decimal (sym (last_cell dim v wide l) ∙ zero_end) ∙ decimal_digit 0 (omega arith) in
+    subst (λ (r : List ℤ). BeginsSo (row_words r)) (sym l.same) (inr (ap (λ (r : List ℤ). slice_index_or (map signed_decimal r) 0 []) (turned_last l.front l.last) ∙ word))
+
+generator_begins : (dim : ℕ) (g : Generator) → FitsGen dim g → BeginsSo (generator_words g)
+generator_begins dim (v, Line) h = direction_begins dim v h.0.wide (no_other (cell v dim) h.0.divisor)
+generator_begins dim (v, Ray) h = direction_begins dim v h.0.wide (no_other (cell v dim) h.0.divisor)
+generator_begins dim (v, Point) h = inl refl
+generator_begins dim (v, ClosurePoint) h = absurd h.1
 
 constraint_wide : (dim : ℕ) (c : Constraint) → Fits dim c → length (row_words c.0) ≡ dim + 1
 constraint_wide dim c h = numbers_wide (row_words c.0) c.0 (row_numbers dim c.0 h.0.wide h.0.in_range) ∙ h.0.wide
@@ -344,6 +361,9 @@ text_by ext dim t is_marked words list =
     ap (λ (n : ℕ). line_of (kind_name ext ∷ []) ++ old.linearity_text (map is_marked list) ++ line_of (codes "begin" ∷ []) ++ line_of (decimal n ∷ decimal (dim + 1) ∷ type_word t ∷ []) ++ flat_map line_of (map words list) ++ line_of (codes "end" ∷ []))
     (length-map list is_marked ∙ sym (length-map list words))
 
+no_ext : IsTrue false → ⊥
+no_ext h = cc
+
 pub ine_writes : (cs : Constraints) → cons.FitDimension cs → AreClosed cs → IsTextOf false (ine_text cs) (cs.dim + 1) IsRowOf cs.list
 ine_writes cs fit closed = record {
   marked = marked_from 1 (map is_equality_constraint cs.list);
@@ -351,6 +371,7 @@ ine_writes cs fit closed = record {
   typed = inr (refl, All-map (λ row. All IsIntegerWord row) (λ c. row_words c.0) cs.list (λ i d h. row_integers (slice_index_or cs.list i d).0 (fit.each i d h).in_range));
   rows = map (λ c. row_words c.0) cs.list;
   wide = All-map (λ (row : List (List ℕ)). length row ≡ cs.dim + 1) (λ c. row_words c.0) cs.list (λ i d h. constraint_wide cs.dim (slice_index_or cs.list i d) (fit.each i d h, closed i d h));
+  begun = λ is_ext. absurd (no_ext is_ext);
   marks = marks_fit is_equality_constraint (λ c. row_words c.0) cs.list;
   text_is = text_by false cs.dim Integer is_equality_constraint (λ c. row_words c.0) cs.list;
   says = rows_written (Fits cs.dim) IsRowOf is_equality_constraint (λ c. row_words c.0) (constraint_step cs.dim) (marked_from 1 (map is_equality_constraint cs.list)) 1 cs.list (both (cons.IsConstraint cs.dim) (λ c. IsClosedKind c.1) cs.list fit.each closed) (λ j less. refl);
@@ -367,6 +388,7 @@ ext_writes gs fit closed = record {
   typed = type_is gs.dim gs.list (both (gens.IsGenerator gs.dim) (λ g. IsClosedGenKind g.1) gs.list fit.each closed) (list_any has_divisor gs.list) refl;
   rows = map generator_words gs.list;
   wide = All-map (λ (row : List (List ℕ)). length row ≡ gs.dim + 1) generator_words gs.list (λ i d h. generator_wide gs.dim (slice_index_or gs.list i d) (fit.each i d h, closed i d h));
+  begun = λ is_ext. All-map BeginsSo generator_words gs.list (λ i d h. generator_begins gs.dim (slice_index_or gs.list i d) (fit.each i d h, closed i d h));
   marks = marks_fit is_line_generator generator_words gs.list;
   text_is = text_by true gs.dim (type_of gs.list) is_line_generator generator_words gs.list;
   says = rows_written (FitsGen gs.dim) (IsVectorOf gs.dim) is_line_generator generator_words (generator_step gs.dim) (marked_from 1 (map is_line_generator gs.list)) 1 gs.list (both (gens.IsGenerator gs.dim) (λ g. IsClosedGenKind g.1) gs.list fit.each closed) (λ j less. refl);

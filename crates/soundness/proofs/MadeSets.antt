@@ -1,18 +1,21 @@
 -- The sets that commands on polyhedra make are those that are said.
-use Rattle.std.proofs.Common.{◌≡◌, ◌⊎◌, inl, inr, ◌↔◌, ℕ, ◌+◌, ◌<◌, ◌≤◌, List, [], ◌++◌, length, drop, refl, ap, sym, ◌∙◌, subst, Bool, true, false, ℤ, pos}
+use Rattle.std.proofs.Common.{◌≡◌, ◌≢◌, ◌⊎◌, inl, inr, ◌↔◌, ℕ, ◌+◌, ◌<◌, ◌≤◌, List, [], ◌++◌, length, drop, refl, ap, sym, ◌∙◌, subst, Bool, true, false, ℤ, pos}
 use Rattle.std.specs.Prelude.{All, slice_index_or}
 use Rattle.std.proofs.lemmas.List.Elements.{All-append}
 use Rattle.stored_systems.proofs.ListLemmas.{All-left, All-right}
 use Rattle.row_core.specs.Vectors.{cell}
 use Rattle.row_core.specs.Points.{IsPoint}
 use Rattle.cons_sys.specs.Constraints.{Constraint, Constraints, In, Satisfies}
-use Rattle.gens_sys.specs.Generators.{Generator}
+use Rattle.gens_sys.specs.Generators.{Generator, Generators}
 use Rattle.gens_sys.specs.Spans.{Span}
 use Rattle.stored_systems.specs.PointSets.{IsWithin}
 use Rattle.stored_systems.specs.StoredLaws.{IsPair}
 use Rattle.poly_pair.specs.declared.topology.Topology.{Topology}
-use Rattle.poly_pair.specs.declared.topology.Topology.TheVariants.{Closed}
+use Rattle.poly_pair.specs.declared.topology.Topology.TheVariants.{Closed, Nnc}
+use Rattle.term_text.specs.Systems.{IsCons}
+use Rattle.expr_text.specs.GeneratorSystems.{IsGens}
 use Rattle.poly_pair.specs.TopologyConstraints as topology
+use Rattle.poly_pair.specs.TopologyLists.{AreConstraintsFor, AreGeneratorsFor}
 use Rattle.poly_pair.specs.Polyhedra as poly
 use Rattle.poly_pair.specs.Polyhedra.{Polyhedron, IsOver}
 use Rattle.elapse.specs.ElapsedPoints.{IsElapsed, IsTrueElapsed}
@@ -31,58 +34,85 @@ use Rattle.script_text.specs.declared.command.Mapping.{Mapping}
 use Rattle.script_text.specs.declared.command.Mapping.TheVariants.{Image, Preimage}
 use Rattle.script_text.specs.declared.command.Rel.{Rel}
 use Rattle.script_text.specs.declared.command.Rel.TheVariants as rel
+use Rattle.script_text.specs.Commands.{is_strict}
 use Rattle.line_values.specs.Texts as texts
+use Rattle.line_values.specs.Texts.{IsStrictIn}
+use Rattle.line_values.proofs.StrictTexts.{closed_constraints, closed_generators}
 use Rattle.line_values.specs.Operands.{topology_of}
 use Rattle.line_values.specs.Proper.{IsProper}
 use Rattle.poly_makers.specs.Makers as makers
 use Rattle.poly_makers.specs.Results as results
 use Rattle.poly_makers.specs.Operators as operators
 use Rattle.poly_makers.specs.Affine as affine
-use Rattle.soundness.specs.Points.{IsSetOf, IsInSmallest}
-use Rattle.soundness.specs.Sets.{constraints, generators, IsOfConstraints, IsOfGenerators, IsSpace, IsCopy, IsAdded, IsGeneratorFor, Generate, IsJoined, IsClosure, IsOfTwo, IsFrontIn, IsExtended, IsRemoved, Stands, IsImage, IsPreimage, ComesOf, IsMapped}
+use Rattle.soundness.specs.Points.{LackStrict, IsSetOf, IsInSmallest}
+use Rattle.soundness.specs.Sets.{constraints, generators, LackClosurePoints, IsOfConstraints, IsOfGenerators, IsSpace, IsCopy, IsAdded, IsGeneratorFor, Generate, IsJoined, IsClosure, IsOfTwo, IsFrontIn, IsExtended, IsRemoved, Stands, IsImage, IsPreimage, ComesOf, IsMapped}
 use Rattle.soundness.specs.TextsSystems.{GeneratorsText}
 use Rattle.soundness.proofs.Operands.{all_below}
-use Rattle.soundness.proofs.PointLaws.{TextLaws, via, turn, is_nnc, set_of, is_over, set_is, moved, within, smallest}
+use Rattle.soundness.proofs.PointLaws.{TextLaws, via, turn, is_nnc, set_of, lack_strict, lack_closure_points, is_over, set_is, moved, within, smallest}
 
 -- ---- given
 nnc_of : (top : Bool) → is_nnc (topology_of top) ≡ top
 nnc_of false = refl
 nnc_of true = refl
 
-of_constraints : TextLaws → (t : Topology) (n : ℕ) (part : Part) (r : Polyhedron) → IsProper r → texts.SaysConstraints n part (λ cs. results.IsResultOfConstraints t cs r) → IsOfConstraints (is_nnc t) n part.text (set_of r)
-of_constraints laws t n part r fit h =
+-- a part without a strict constraint or a closure point, if it is for a closed set
+abbrev pub IsPartFor : Topology → Part → Type 0
+IsPartFor t part = (part.strict ≡ is_strict part.text) × ¬ (IsStrictIn t part)
+
+not_true : (b : Bool) → b ≢ true → b ≡ false
+not_true true n = absurd (n refl)
+not_true false n = refl
+
+constraint_kinds : (t : Topology) (dim : ℕ) (part : Part) (system : Constraints) → IsPartFor t part → IsCons dim part.text system → AreConstraintsFor t system
+constraint_kinds Closed dim part system for is = closed_constraints dim part.text system (sym for.0 ∙ not_true part.strict for.1) is
+constraint_kinds Nnc dim part system for is = tt
+
+generator_kinds : (t : Topology) (dim : ℕ) (part : Part) (system : Generators) → IsPartFor t part → IsGens dim part.text system → AreGeneratorsFor t system
+generator_kinds Closed dim part system for is = closed_generators dim part.text system (sym for.0 ∙ not_true part.strict for.1) is
+generator_kinds Nnc dim part system for is = tt
+
+pub said_kinds : (t : Topology) (dim : ℕ) (part : Part) (system : Constraints) → IsPartFor t part → IsCons dim part.text system → LackStrict (is_nnc t) system.list
+said_kinds t dim part system for is = lack_strict t system (constraint_kinds t dim part system for is)
+
+said_generator_kinds : (t : Topology) (dim : ℕ) (part : Part) (system : Generators) → IsPartFor t part → IsGens dim part.text system → LackClosurePoints (is_nnc t) system.list
+said_generator_kinds t dim part system for is = lack_closure_points t system (generator_kinds t dim part system for is)
+
+of_constraints : TextLaws → (t : Topology) (n : ℕ) (part : Part) (r : Polyhedron) → IsProper r → IsPartFor t part → texts.SaysConstraints n part (λ cs. results.IsResultOfConstraints t cs r) → IsOfConstraints (is_nnc t) n part.text (set_of r)
+of_constraints laws t n part r fit for h =
     let says = laws.constraints n part.text h.system h.read in
     let same : h.system.dim ≡ n = h.read.holds.over in
     record {
       list = says.list;
       says = says.is_text;
+      kinds = says.kinds (is_nnc t) (said_kinds t n part h.system for h.read);
       set = record {
         over = is_over t n r fit (record { same_topology = h.holds.set.over.same_topology; same_dim = h.holds.set.over.same_dim ∙ same });
         points = λ v is. via (turn (h.holds.set.points v (moved n h.system.dim v (sym same) is))) (says.same v);
       };
     }
 
-pub cons_made : TextLaws → (top : Bool) (n : ℕ) (part : Part) (r : Polyhedron) → IsProper r → texts.SaysConstraints n part (λ cs. results.IsResultOfConstraints (topology_of top) cs r) → IsOfConstraints top n part.text (set_of r)
-cons_made laws top n part r fit h = subst (λ (b : Bool). IsOfConstraints b n part.text (set_of r)) (nnc_of top) (of_constraints laws (topology_of top) n part r fit h)
+pub cons_made : TextLaws → (top : Bool) (n : ℕ) (part : Part) (r : Polyhedron) → IsProper r → IsPartFor (topology_of top) part → texts.SaysConstraints n part (λ cs. results.IsResultOfConstraints (topology_of top) cs r) → IsOfConstraints top n part.text (set_of r)
+cons_made laws top n part r fit for h = subst (λ (b : Bool). IsOfConstraints b n part.text (set_of r)) (nnc_of top) (of_constraints laws (topology_of top) n part r fit for h)
 
 span_over : (m n : ℕ) (list : List Generator) (v : List ℤ) → m ≡ n → Span (generators m list) v ↔ Span (generators n list) v
 span_over m n list v e = subst (λ (k : ℕ). Span (generators m list) v ↔ Span (generators k list) v) e (λ x. x, λ x. x)
 
-of_generators : TextLaws → (t : Topology) (n : ℕ) (part : Part) (r : Polyhedron) → IsProper r → texts.SaysGenerators n part (λ gs. results.IsResultOfGenerators t gs r) → IsOfGenerators (is_nnc t) n part.text (set_of r)
-of_generators laws t n part r fit h =
+of_generators : TextLaws → (t : Topology) (n : ℕ) (part : Part) (r : Polyhedron) → IsProper r → IsPartFor t part → texts.SaysGenerators n part (λ gs. results.IsResultOfGenerators t gs r) → IsOfGenerators (is_nnc t) n part.text (set_of r)
+of_generators laws t n part r fit for h =
     let says = laws.generators n part.text h.system h.read in
     let same : h.system.dim ≡ n = h.read.holds.over in
     record {
       list = says.list;
       says = says.is_text;
+      kinds = says.kinds (is_nnc t) (said_generator_kinds t n part h.system for h.read);
       set = record {
         over = is_over t n r fit (record { same_topology = h.holds.set.over.same_topology; same_dim = h.holds.set.over.same_dim ∙ same });
         points = λ v is. via (turn (h.holds.set.points v (moved n h.system.dim v (sym same) is))) (via (span_over h.system.dim n h.system.list v same) (says.same [] v));
       };
     }
 
-pub gens_made : TextLaws → (top : Bool) (n : ℕ) (part : Part) (r : Polyhedron) → IsProper r → texts.SaysGenerators n part (λ gs. results.IsResultOfGenerators (topology_of top) gs r) → IsOfGenerators top n part.text (set_of r)
-gens_made laws top n part r fit h = subst (λ (b : Bool). IsOfGenerators b n part.text (set_of r)) (nnc_of top) (of_generators laws (topology_of top) n part r fit h)
+pub gens_made : TextLaws → (top : Bool) (n : ℕ) (part : Part) (r : Polyhedron) → IsProper r → IsPartFor (topology_of top) part → texts.SaysGenerators n part (λ gs. results.IsResultOfGenerators (topology_of top) gs r) → IsOfGenerators top n part.text (set_of r)
+gens_made laws top n part r fit for h = subst (λ (b : Bool). IsOfGenerators b n part.text (set_of r)) (nnc_of top) (of_generators laws (topology_of top) n part r fit for h)
 
 space_is : (space : Space) (t : Topology) (n : ℕ) (r : Polyhedron) → IsProper r → makers.IsSpace space t n r → IsSpace space (is_nnc t) n (set_of r)
 space_is Universe t n r fit h = set_is t n (IsPoint n) r fit h.over (λ v is. (λ x. is, λ x. h.points v is))
@@ -95,12 +125,13 @@ space_made space top n r fit h = subst (λ (b : Bool). IsSpace space b n (set_of
 pub copy_made : (p r : Polyhedron) → IsProper p → r ≡ p → IsCopy (set_of p) (set_of r)
 copy_made p r own e = subst (λ (x : Polyhedron). IsCopy (set_of p) (set_of x)) (sym e) (set_is p.topology p.cons.dim (In p.cons) p own (record { same_topology = refl; same_dim = refl }) (λ v is. (λ x. x, λ x. x)))
 
-pub add_made : TextLaws → (part : Part) (p r : Polyhedron) → IsProper r → texts.SaysConstraints p.cons.dim part (λ cs. results.IsResultOfConstraints p.topology (makers.more_constraints p.cons cs) r) → IsAdded part (set_of p) (set_of r)
-add_made laws part p r fit h =
+pub add_made : TextLaws → (part : Part) (p r : Polyhedron) → IsProper r → IsPartFor p.topology part → texts.SaysConstraints p.cons.dim part (λ cs. results.IsResultOfConstraints p.topology (makers.more_constraints p.cons cs) r) → IsAdded part (set_of p) (set_of r)
+add_made laws part p r fit for h =
     let says = laws.constraints p.cons.dim part.text h.system h.read in
     record {
       list = says.list;
       text = says.is_text;
+      kinds = says.kinds (is_nnc p.topology) (said_kinds p.topology p.cons.dim part h.system for h.read);
       set = set_is p.topology p.cons.dim (λ v. In p.cons v × In (constraints p.cons.dim says.list) v) r fit h.holds.set.over (λ v is. (
         λ x. (let all = (h.holds.set.points v is).1 x in (All-left (Satisfies v) p.cons.list h.system.list all, (says.same v).0 (All-right (Satisfies v) p.cons.list h.system.list all))),
         λ y. (h.holds.set.points v is).0 (All-append (Satisfies v) p.cons.list h.system.list y.0 ((says.same v).1 y.1)),
@@ -115,13 +146,14 @@ own_generate p own same pair none = record {
   none = none;
 }
 
-pub addgen_made : TextLaws → (part : Part) (p r : Polyhedron) → IsProper p → IsProper r → p.gens.dim ≡ p.cons.dim → IsPair p.cons p.gens → (poly.HasNoPoint p → p.gens.list ≡ []) →
+pub addgen_made : TextLaws → (part : Part) (p r : Polyhedron) → IsProper p → IsProper r → IsPartFor p.topology part → p.gens.dim ≡ p.cons.dim → IsPair p.cons p.gens → (poly.HasNoPoint p → p.gens.list ≡ []) →
     texts.SaysGenerators p.gens.dim part (λ gs. results.IsResultOfGenerators p.topology (makers.more_generators p.gens gs) r) → IsJoined part (set_of p) (set_of r)
-addgen_made laws part p r own fit same pair none h =
+addgen_made laws part p r own fit for same pair none h =
     let says = laws.generators p.gens.dim part.text h.system h.read in
     record {
       list = says.list;
       text = subst (λ (k : ℕ). GeneratorsText k part.text says.list) same says.is_text;
+      kinds = says.kinds (is_nnc p.topology) (said_generator_kinds p.topology p.gens.dim part h.system for h.read);
       own = p.gens.list;
       generate = own_generate p own same pair none;
       set = record {

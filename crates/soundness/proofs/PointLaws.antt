@@ -1,18 +1,20 @@
 -- The points of polyhedra, and what their texts say.
-use Rattle.std.proofs.Common.{◌≡◌, ◌↔◌, inl, inr, ℕ, ◌+◌, ◌<◌, List, [], ◌++◌, length, ap, sym, ◌∙◌, subst, Bool, true, false, ℤ, pos, All}
+use Rattle.std.proofs.Common.{◌≡◌, ◌≢◌, ◌↔◌, inl, inr, ℕ, ◌+◌, ◌<◌, ◌≤◌, ◌^◌, List, [], ◌++◌, length, refl, ap, sym, ◌∙◌, subst, arith, Bool, true, false, ℤ, pos, All}
 use Rattle.std.specs.Prelude.{slice_index_or}
 use Rattle.row_core.specs.Points.{IsPoint}
 use Rattle.cons_sys.specs.declared.kind.ConKind.{ConKind}
 use Rattle.cons_sys.specs.declared.kind.ConKind.TheVariants.{Eq, Ge, Gt}
 use Rattle.cons_sys.specs.Constraints.{Constraint, Constraints, In, Satisfies}
 use Rattle.gens_sys.specs.Generators.{Generator, Generators}
+use Rattle.gens_sys.specs.declared.kind.GenKind.{GenKind}
+use Rattle.gens_sys.specs.declared.kind.GenKind.TheVariants.{Line, Ray, Point, ClosurePoint}
 use Rattle.gens_sys.specs.Spans.{Span}
-use Rattle.stored_systems.specs.PointSets.{IsWithin, AreWide}
+use Rattle.stored_systems.specs.PointSets.{IsWithin, AreWide, IsClosedKind, IsClosedGenKind}
 use Rattle.stored_systems.specs.StoredForms.{IsStored, false_row}
 use Rattle.stored_systems.proofs.StoredPair.{pair_wide}
 use Rattle.stored_systems.proofs.Stored.{stored_is_closed}
 use Rattle.elapse.proofs.ElapseLaws.{false_for}
-use Rattle.std.proofs.lemmas.List.Elements.{All-nil, All-cons}
+use Rattle.std.proofs.lemmas.List.Elements.{All-nil, All-cons, All-weaker}
 use Rattle.poly_pair.specs.declared.topology.Topology.{Topology}
 use Rattle.poly_pair.specs.declared.topology.Topology.TheVariants.{Closed, Nnc}
 use Rattle.poly_pair.specs.Polyhedra as poly
@@ -20,29 +22,35 @@ use Rattle.poly_pair.specs.Polyhedra.{Polyhedron, IsKept}
 use Rattle.lattice_ops.proofs.KeptSets.{constraint_for}
 use Rattle.line_values.specs.Proper.{IsProper}
 use Rattle.poly_pair.specs.TopologyConstraints as topology
-use Rattle.script_text.specs.Line.{Spells}
+use Rattle.poly_pair.specs.TopologyLists.{AreConstraintsFor, AreGeneratorsFor}
+use Rattle.poly_pair.specs.declared.topology.TheConstants.{MAX_DIM}
+use Rattle.script_text.specs.Line as readers
 use Rattle.script_text.specs.declared.command.Command.{Command}
 use Rattle.term_text.specs.Texts.{IsExpr, IsFrac, IsPoint as IsPointOfText}
 use Rattle.term_text.specs.Systems.{IsCon, IsCons}
 use Rattle.expr_text.specs.GeneratorSystems.{IsGens}
-use Rattle.soundness.specs.Points.{PointSet, IsOver, IsSetOf, IsKindFor, IsConstraintFor, IsInSmallest}
-use Rattle.soundness.specs.Sets.{constraints, generators}
+use Rattle.soundness.specs.Points.{PointSet, LackStrict, IsOver, IsSetOf, IsConstraintFor, IsInSmallest}
+use Rattle.soundness.specs.Sets.{constraints, generators, LackClosurePoints}
 use Rattle.soundness.specs.TextsExpressions.{ExpressionText, FractionText}
 use Rattle.soundness.specs.TextsSystems.{ConstraintText, ConstraintsText, PointText, GeneratorsText}
-use Rattle.soundness.specs.TextsLines.{Spelled}
+use Rattle.soundness.specs.TextsLines.{Spells}
 
 -- ---- texts
--- the text of constraints, which hold at the points of the system
+-- the text of constraints, which hold at the points of the system, and of which one is strict only
+-- if one of these is
 pub record SaysConstraints (dim : ℕ) (text : List ℕ) (system : Constraints) : Type 0 where
   pub list : List Constraint
   pub is_text : ConstraintsText dim text list
   pub same : (v : List ℤ) → In system v ↔ In (constraints dim list) v
+  pub kinds : (nnc : Bool) → LackStrict nnc system.list → LackStrict nnc list
 
--- the text of generators, which generate the points of the system, behind any others
+-- the text of generators, which generate the points of the system, behind any others, and of which
+-- one is a closure point only if one of these is
 pub record SaysGenerators (dim : ℕ) (text : List ℕ) (system : Generators) : Type 0 where
   pub list : List Generator
   pub is_text : GeneratorsText dim text list
   pub same : (own : List Generator) (v : List ℤ) → Span (generators dim (own ++ system.list)) v ↔ Span (generators dim (own ++ list)) v
+  pub kinds : (nnc : Bool) → LackClosurePoints nnc system.list → LackClosurePoints nnc list
 
 -- the text of a fraction with the divisor
 pub record SaysFraction (dim : ℕ) (text : List ℕ) (row : List ℤ) (divisor : ℤ) : Type 0 where
@@ -53,7 +61,7 @@ pub record SaysFraction (dim : ℕ) (text : List ℕ) (row : List ℤ) (divisor 
 
 -- what a line or a text spells by the tables is spelled by the cases
 pub record TextLaws : Type 0 where
-  pub spelled : (line : List ℕ) (c : Command) → Spells line c → Spelled line c
+  pub spelled : (line : List ℕ) (c : Command) → readers.Spells line c → Spells line c
   pub expression : (dim : ℕ) (text : List ℕ) (row : List ℤ) → IsExpr dim text row → ExpressionText dim text row
   pub fraction : (dim : ℕ) (text : List ℕ) (row : List ℤ) (divisor : ℤ) → IsFrac dim text row divisor → SaysFraction dim text row divisor
   pub point : (dim : ℕ) (text : List ℕ) (row : List ℤ) → IsPointOfText dim text row → PointText dim text row × IsPoint dim row
@@ -83,17 +91,35 @@ pub within : (n : ℕ) (cs : Constraints) (v : List ℤ) → cs.dim ≡ n → Is
 within n cs v e is holds = record { point = moved n cs.dim v (sym e) is; holds = holds }
 
 -- ---- constraints of a kind
-kind_to : (t : Topology) (kind : ConKind) → topology.IsKindFor t kind → IsKindFor (is_nnc t) kind
-kind_to Closed Eq h = h
-kind_to Closed Ge h = h
-kind_to Closed Gt h = h
-kind_to Nnc kind h = h
+not_strict : (kind : ConKind) → IsClosedKind kind → kind ≢ Gt
+not_strict Eq h e = cc
+not_strict Ge h e = cc
+not_strict Gt h e = absurd h
 
-kind_from : (t : Topology) (kind : ConKind) → IsKindFor (is_nnc t) kind → topology.IsKindFor t kind
-kind_from Closed Eq h = h
-kind_from Closed Ge h = h
-kind_from Closed Gt h = h
-kind_from Nnc kind h = h
+kind_to : (t : Topology) (kind : ConKind) → topology.IsKindFor t kind → is_nnc t ≡ false → kind ≢ Gt
+kind_to Closed kind h closed = not_strict kind h
+kind_to Nnc kind h closed = cc
+
+kind_from : (t : Topology) (kind : ConKind) → (is_nnc t ≡ false → kind ≢ Gt) → topology.IsKindFor t kind
+kind_from Closed Eq h = tt
+kind_from Closed Ge h = tt
+kind_from Closed Gt h = absurd (h refl refl)
+kind_from Nnc kind h = tt
+
+-- those of a system for the topology
+pub lack_strict : (t : Topology) (cs : Constraints) → AreConstraintsFor t cs → LackStrict (is_nnc t) cs.list
+lack_strict Closed cs each closed = All-weaker (λ (c : Constraint). IsClosedKind c.1) (λ (c : Constraint). c.1 ≢ Gt) (λ c h. not_strict c.1 h) cs.list each
+lack_strict Nnc cs each closed = cc
+
+no_closure_point : (kind : GenKind) → IsClosedGenKind kind → kind ≢ ClosurePoint
+no_closure_point Line h e = cc
+no_closure_point Ray h e = cc
+no_closure_point Point h e = cc
+no_closure_point ClosurePoint h e = absurd h
+
+pub lack_closure_points : (t : Topology) (gs : Generators) → AreGeneratorsFor t gs → LackClosurePoints (is_nnc t) gs.list
+lack_closure_points Closed gs each closed = All-weaker (λ (g : Generator). IsClosedGenKind g.1) (λ (g : Generator). g.1 ≢ ClosurePoint) (λ g h. no_closure_point g.1 h) gs.list each
+lack_closure_points Nnc gs each closed = cc
 
 pub for_to : (t : Topology) (dim : ℕ) (c : Constraint) → topology.IsConstraintFor t dim c → IsConstraintFor (is_nnc t) dim c
 for_to t dim c h = record { wide = h.wide; kind = kind_to t c.1 h.kind }
@@ -101,11 +127,16 @@ for_to t dim c h = record { wide = h.wide; kind = kind_to t c.1 h.kind }
 pub for_from : (t : Topology) (dim : ℕ) (c : Constraint) → IsConstraintFor (is_nnc t) dim c → topology.IsConstraintFor t dim c
 for_from t dim c h = record { wide = h.wide; kind = kind_from t c.1 h.kind }
 
+-- a polyhedron has no more variables than sets that are said
+pub few_variables : (dim most : ℕ) → most ≡ dim → most ≤ MAX_DIM → dim ≤ 2 ^ 32
+few_variables dim most e narrow = omega (arith, e, narrow)
+
 -- a stored polyhedron has only constraints that its set may have
 pub is_over : (t : Topology) (dim : ℕ) (p : Polyhedron) → IsProper p → poly.IsOver t dim p → IsOver (is_nnc t) dim (set_of p)
 is_over t dim p proper over = record {
   kind = ap is_nnc over.same_topology;
   variables = over.same_dim;
+  narrow = few_variables dim p.cons.dim over.same_dim proper.kept.narrow;
   rows = λ i d h. for_to t dim (slice_index_or p.cons.list i d) (constraint_for t dim p over proper.kept proper.cons i d h);
 }
 
@@ -124,6 +155,7 @@ closed_is_over dim p kept over =
     record {
       kind = ap is_nnc over.same_topology;
       variables = over.same_dim;
+      narrow = few_variables dim p.cons.dim over.same_dim kept.narrow;
       rows = λ i d h. for_to Closed dim (slice_index_or p.cons.list i d) (record {
         wide = stored_wide p.cons p.gens stored i d h ∙ ap (λ (n : ℕ). n + 1) over.same_dim;
         kind = (stored_is_closed p.cons p.gens stored).cons i d h;

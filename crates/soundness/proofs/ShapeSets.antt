@@ -34,7 +34,7 @@ use Rattle.bd_shape.proofs.DifferenceRows.{difference_value}
 use Rattle.bd_shape.proofs.RowLists.{list_points, closed_rows}
 use Rattle.soundness.specs.Points.{PointSet, IsOver, IsSetOf}
 use Rattle.soundness.specs.Shapes.{HasBound, IsInSmallestShape}
-use Rattle.soundness.proofs.PointLaws.{via, moved, for_to}
+use Rattle.soundness.proofs.PointLaws.{via, moved, few_variables, for_to}
 use Rattle.soundness.proofs.ShapeRows.{shape_fits}
 
 -- ---- the set of a shape
@@ -51,6 +51,7 @@ shape_over : (dim : ℕ) (s : DifferenceShape) → IsShape s → s.dim ≡ dim �
 shape_over dim s is e = subst (λ (n : ℕ). IsOver false n (shape_set s)) e (record {
   kind = refl;
   variables = refl;
+  narrow = few_variables s.dim s.dim refl is.narrow;
   rows = λ i d h. for_to Closed s.dim (slice_index_or (shape_constraints s).list i d) (record { wide = ((shape_fits s is).each i d h).wide; kind = closed_rows s.dim s.bounds i d h });
 })
 

@@ -1,7 +1,7 @@
 -- Lists of generators: those of the cases span the points of those that are stored.
-use Rattle.std.proofs.Common.{◌≡◌, ℕ, ◌^◌, ◌<◌, List, [], ◌∷◌, ◌++◌, zero, suc, ℤ, refl, ap, subst, inl, inr}
+use Rattle.std.proofs.Common.{◌≡◌, ◌≢◌, ℕ, ◌^◌, ◌<◌, List, [], ◌∷◌, ◌++◌, zero, suc, ℤ, refl, ap, ◌∙◌, subst, inl, inr}
 use Rattle.std.specs.Prelude.{All, codes}
-use Rattle.std.proofs.lemmas.List.Elements.{All-head, All-tail}
+use Rattle.std.proofs.lemmas.List.Elements.{All-nil, All-cons, All-head, All-tail}
 use Rattle.grammar.specs.Form.{Matches, Times}
 use Rattle.grammar.specs.Grammar.{◌·◌, ◌⋯◌, symbol, blanks, alone}
 use Rattle.grammar.specs.Cases.{gen_cases, gens_cases}
@@ -75,6 +75,15 @@ module _ (dim : ℕ) where
       (subst (λ (gs : List GeneratorTerms). AreRelated (IsGood dim) (gen_by first is_first ∷ gs) stored) (further_same n v others) good) in
       record { elements = h.elements; are = record { pieces = h.are.pieces; split = h.are.split; means = systems.generators h.are.pieces h.elements h.are.means }; related = h.related }
 
+-- a generator of the one list is a closure point where that of the other is
+same_closure_points : (gs hs : List Generator) → AreRelated IsScaled gs hs → All (λ (h : Generator). h.1 ≢ ClosurePoint) hs → All (λ (g : Generator). g.1 ≢ ClosurePoint) gs
+same_closure_points [] [] related each = All-nil (λ (g : Generator). g.1 ≢ ClosurePoint)
+same_closure_points [] (h ∷ hs) related each = absurd related
+same_closure_points (g ∷ gs) [] related each = absurd related
+same_closure_points (g ∷ gs) (h ∷ hs) related each =
+    All-cons (λ (g : Generator). g.1 ≢ ClosurePoint) g gs (λ e. All-head (λ (h : Generator). h.1 ≢ ClosurePoint) h hs each (related.0.kind ∙ e))
+    (same_closure_points gs hs related.1 (All-tail (λ (h : Generator). h.1 ≢ ClosurePoint) h hs each))
+
 gens_alone : (dim : ℕ) (text : List ℕ) (system : Generators) (m : Matches (alone gens_cases) text) → IsGensOf dim (alone_by gens_cases gens_by text m) system → SaysGenerators dim text system
 gens_alone dim text system (b1, w1, e1, before, (x, b2, e2, is, behind)) h =
     let q : HaveRelated (AreGenerators dim) IsScaled x system.list = gens_law dim x is system.list (good_gens dim (gens_by x is) system.list h.within h.stay h.divisors h.stored) in
@@ -82,6 +91,7 @@ gens_alone dim text system (b1, w1, e1, before, (x, b2, e2, is, behind)) h =
       list = q.elements;
       is_text = record { pieces = q.are.pieces; split = alone_tokens q.are.pieces text b1 w1 x b2 e1 before e2 behind q.are.split; means = q.are.means };
       same = λ own v. scaled_span (record { dim = dim; list = own ++ q.elements }) (record { dim = dim; list = own ++ system.list }) (behind_own own q.elements system.list q.related) v;
+      kinds = λ nnc lack closed. same_closure_points q.elements system.list q.related (lack closed);
     }
 
 -- a list of generators that a text means

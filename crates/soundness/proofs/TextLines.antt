@@ -26,13 +26,13 @@ use Rattle.line_forms.specs.declared.form.NameFormat.TheVariants as name_format
 use Rattle.line_forms.specs.declared.form.NameNumberName.TheVariants as name_number_name
 use Rattle.line_forms.specs.declared.form.NameNumberPrefix.TheVariants as name_number_prefix
 use Rattle.script_text.specs.Commands.{number_of, relation_of, command_of}
-use Rattle.script_text.specs.Line.{Spells}
+use Rattle.script_text.specs.Line as readers
 use Rattle.script_text.specs.Variables.{variable_of, variables_of, further_variables_by, VariablesAreListed}
 use Rattle.script_text.specs.declared.command.Command.{Command}
 use Rattle.plain_text.specs.Digits.{number}
 use Rattle.soundness.specs.TextsSystems as systems
 use Rattle.soundness.specs.TextsSystems.{IsOneVariable, AreListed}
-use Rattle.soundness.specs.TextsLines.{Word, Count, Variable, kept, IsWord, AreWords, Tail, Nothing, Behind, Variables, IsTail, IsComment, IsSpelled, signs, spelling, Spelled}
+use Rattle.soundness.specs.TextsLines.{Word, Count, Variable, kept, IsWord, AreWords, Tail, Blanks, Behind, Variables, IsTail, IsComment, IsSpelled, signs, spelling, Spells}
 use Rattle.soundness.specs.TextsLines as lines
 use Rattle.soundness.proofs.TextTokens.{no_blanks, symbol_is, token, blanks_are, gap_is, alone_tokens}
 use Rattle.soundness.proofs.TextNumbers.{nat_is, var_is, name_is}
@@ -204,8 +204,8 @@ line_law layout xs reads k same tail_is line (b, x, e, before, (command, rest, e
 }
 
 -- a command of words alone
-plain_line : (command : List ℕ) (fs : List Form) (xs : List (List ℕ → Word)) → AreRead fs xs → (k : List ℕ) → command ≡ k → (line : List ℕ) (m : LineOf (plain command fs) line) → IsSpelled (record { first = k; words = made xs (words_in (plain command fs) line m); tail = Nothing }) line
-plain_line command fs xs reads k same line m = line_law (plain command fs) xs reads k same Nothing line m (blanks_are m.4.4.4.0 m.4.4.4.3)
+plain_line : (command : List ℕ) (fs : List Form) (xs : List (List ℕ → Word)) → AreRead fs xs → (k : List ℕ) → command ≡ k → (line : List ℕ) (m : LineOf (plain command fs) line) → IsSpelled (record { first = k; words = made xs (words_in (plain command fs) line m); tail = Blanks }) line
+plain_line command fs xs reads k same line m = line_law (plain command fs) xs reads k same Blanks line m (blanks_are m.4.4.4.0 m.4.4.4.3)
 
 -- a command with a part behind a colon
 part_line : (command : List ℕ) (fs : List Form) (f : Form) (xs : List (List ℕ → Word)) → AreRead fs xs → (k : List ℕ) → command ≡ k → (line : List ℕ) (m : LineOf (with_part command fs f) line) → IsSpelled (record { first = k; words = made xs (words_in (with_part command fs f) line m); tail = Behind (codes ":" ∷ []) (fields_by (with_part command fs f) line m).part }) line
@@ -261,7 +261,7 @@ own f line h = told (bytes_eq h.word (key f)) (bytes_eq-Decides h.word (key f)) 
     told : (b : Bool) → Decides b (h.word ≡ key f) → b ≡ true → h.word ≡ key f
     told b d e = d.0 e
 
-spelled_form : VariablesAreListed → (f : LineForm) (line : List ℕ) (h : HasForm f line) → Spelled line (command_of f (fields_of f line h))
+spelled_form : VariablesAreListed → (f : LineForm) (line : List ℕ) (h : HasForm f line) → Spells line (command_of f (fields_of f line h))
 spelled_form variables_listed form.Nothing line h = nothing_line line h.matches
 spelled_form variables_listed form.Names line h = plain_line h.word [] [] tt (key form.Names) (own form.Names line h) line h.matches
 spelled_form variables_listed (form.OneName one_name.Drop) line h = plain_line h.word (name_form ∷ []) (lines.name ∷ []) (name_word, tt) (key (form.OneName one_name.Drop)) (own (form.OneName one_name.Drop) line h) line h.matches
@@ -320,5 +320,5 @@ spelled_form variables_listed form.Trans line h = plain_line h.word (name_form �
 spelled_form variables_listed form.Bounds line h = part_line h.word (name_form ∷ nat ∷ []) cons (lines.name ∷ counted ∷ []) (name_word, (count_word, tt)) (key form.Bounds) (own form.Bounds line h) line h.matches
 
 -- a line that spells a command by the tables spells it by the cases
-pub spelled : VariablesAreListed → (line : List ℕ) (c : Command) → Spells line c → Spelled line c
-spelled variables_listed line c s = subst (Spelled line) (sym s.is) (spelled_form variables_listed s.form line s.has)
+pub spelled : VariablesAreListed → (line : List ℕ) (c : Command) → readers.Spells line c → Spells line c
+spelled variables_listed line c s = subst (Spells line) (sym s.is) (spelled_form variables_listed s.form line s.has)

@@ -1,8 +1,9 @@
--- Lists of constraints and of generators: those of the cases, each a positive multiple of what is stored.
-use Rattle.std.proofs.Common.{◌≡◌, ℕ, ◌<◌, List, [], ◌∷◌, ◌++◌, zero, suc, ℤ, pos, negsuc, ◌+ℤ◌, ◌*ℤ◌, refl, ap, sym, ◌∙◌, subst, arith, inl, inr, append_assoc, append-nil, ◌==◌, if◌then◌else◌}
+-- Lists of constraints and of generators: those of the cases, each a positive multiple of what is
+-- stored.
+use Rattle.std.proofs.Common.{◌≡◌, ◌≢◌, ℕ, ◌<◌, List, [], ◌∷◌, ◌++◌, zero, suc, ℤ, pos, negsuc, ◌+ℤ◌, ◌*ℤ◌, refl, ap, sym, ◌∙◌, subst, arith, inl, inr, append_assoc, append-nil, ◌==◌, if◌then◌else◌}
 use Rattle.std.specs.Prelude.{All, codes, ◌↔◌, ◌<ℤ◌}
 use Rattle.std.proofs.lemmas.Int.{ints}
-use Rattle.std.proofs.lemmas.List.Elements.{All-cons, All-head, All-tail}
+use Rattle.std.proofs.lemmas.List.Elements.{All-nil, All-cons, All-head, All-tail}
 use Rattle.grammar.specs.Form.{Form, Matches, Times}
 use Rattle.grammar.specs.Grammar.{◌·◌, ◌⋯◌, symbol, blanks, alone}
 use Rattle.grammar.specs.Cases.{con_cases, cons_cases}
@@ -12,7 +13,7 @@ use Rattle.row_core.proofs.DotLemmas.{dot_comm, dot-scale}
 use Rattle.cons_sys.specs.Constraints.{Constraint, Constraints, Satisfies}
 use Rattle.cons_sys.specs.Kinds.{Allows}
 use Rattle.cons_sys.specs.declared.kind.ConKind.{ConKind}
-use Rattle.cons_sys.specs.declared.kind.ConKind.TheVariants.{Ge}
+use Rattle.cons_sys.specs.declared.kind.ConKind.TheVariants.{Ge, Gt}
 use Rattle.cons_sys.proofs.Signs.{SameSign, same_sign, Allows-same_sign}
 use Rattle.term_text.specs.Terms.{AreWithin, Stay}
 use Rattle.term_text.specs.Values.{Comparison, con_by, cons_by, further_cons_by, never, alone_by}
@@ -189,6 +190,15 @@ all_satisfied v (c ∷ cs) (d ∷ ds) h =
       λ a. All-cons (Satisfies v) d ds (one.0 (All-head (Satisfies v) c cs a)) (rest.1 (All-tail (Satisfies v) c cs a)),
     )
 
+-- a constraint of the one list is strict where that of the other is
+same_strict : (cs ds : List Constraint) → AreRelated IsWritten cs ds → All (λ (d : Constraint). d.1 ≢ Gt) ds → All (λ (c : Constraint). c.1 ≢ Gt) cs
+same_strict [] [] h each = All-nil (λ (c : Constraint). c.1 ≢ Gt)
+same_strict [] (d ∷ ds) h each = absurd h
+same_strict (c ∷ cs) [] h each = absurd h
+same_strict (c ∷ cs) (d ∷ ds) h each =
+    All-cons (λ (c : Constraint). c.1 ≢ Gt) c cs (λ e. All-head (λ (d : Constraint). d.1 ≢ Gt) d ds each (h.0.kind ∙ e))
+    (same_strict cs ds h.1 (All-tail (λ (d : Constraint). d.1 ≢ Gt) d ds each))
+
 cons_alone : (dim : ℕ) (text : List ℕ) (system : Constraints) (m : Matches (alone cons_cases) text) → IsConsOf dim (alone_by cons_cases cons_by text m) system → SaysConstraints dim text system
 cons_alone dim text system (b1, w1, e1, before, (x, b2, e2, is, behind)) h =
     let q : HaveRelated (AreConstraints dim) IsWritten x system.list = cons_law dim x is system.list (good_cons dim (cons_by x is) system.list h.within h.stay h.list) in
@@ -196,6 +206,7 @@ cons_alone dim text system (b1, w1, e1, before, (x, b2, e2, is, behind)) h =
       list = q.elements;
       is_text = record { pieces = q.are.pieces; split = alone_tokens q.are.pieces text b1 w1 x b2 e1 before e2 behind q.are.split; means = q.are.means };
       same = λ v. all_satisfied v q.elements system.list q.related;
+      kinds = λ nnc lack closed. same_strict q.elements system.list q.related (lack closed);
     }
 
 -- a list of constraints that a text means

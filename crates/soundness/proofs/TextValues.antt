@@ -24,7 +24,7 @@ use Rattle.soundness.specs.TextsNumbers.{Tokens, AreTokens}
 use Rattle.soundness.specs.TextsExpressions as expressions
 use Rattle.soundness.specs.TextsExpressions.{column, at_column, difference, IsMultiple, IsSum, IsExpression, AreCoordinates, IsQuotient, ExpressionText, FractionText}
 use Rattle.soundness.specs.TextsSystems as systems
-use Rattle.soundness.specs.TextsSystems.{SaysConstraint, IsGenerator, over, ConstraintText, PointText}
+use Rattle.soundness.specs.TextsSystems.{SaysConstraint, IsGenerator, with_divisor, ConstraintText, PointText}
 use Rattle.soundness.proofs.TextTokens.{symbol_is, token_is, token_before, tokens_of, behind_blanks, alone_tokens}
 use Rattle.soundness.proofs.TextRows.{column_wide, column_same, beside, opposite_cell, difference_cell, add_wide, difference_wide, same_rows}
 use Rattle.soundness.proofs.TextSums.{IsShort, Reads, ReadsOver, expression_law, coordinates_law, over_law}
@@ -98,19 +98,19 @@ zero_plus : (x z : ℤ) → x ≡ pos 0 → x +ℤ z ≡ z
 zero_plus x z e = omega (arith, ints, e)
 
 -- the vector of coordinates and a divisor
-pub point_row : (dim n : ℕ) (u row : List ℤ) (s : ℕ → ℤ) → length u ≡ dim + 1 → cell u dim ≡ pos 0 → ((j : ℕ) → j ≤ dim → cell u j ≡ s j) → length row ≡ dim + 1 → ((j : ℕ) → j < dim → cell row j ≡ s j) → cell row dim ≡ pos n → over dim u n ≡ row
+pub point_row : (dim n : ℕ) (u row : List ℤ) (s : ℕ → ℤ) → length u ≡ dim + 1 → cell u dim ≡ pos 0 → ((j : ℕ) → j ≤ dim → cell u j ≡ s j) → length row ≡ dim + 1 → ((j : ℕ) → j < dim → cell row j ≡ s j) → cell row dim ≡ pos n → with_divisor dim u n ≡ row
 point_row dim n u row s wide end cells row_wide row_cells last =
-    same_rows dim (over dim u n) row (add_wide (dim + 1) u (at_column dim dim (pos n)) wide (column_wide dim dim (pos n) (omega arith))) row_wide (λ j le. by_place j le (at_end j le))
+    same_rows dim (with_divisor dim u n) row (add_wide (dim + 1) u (at_column dim dim (pos n)) wide (column_wide dim dim (pos n) (omega arith))) row_wide (λ j le. by_place j le (at_end j le))
   where
     at_end : (j : ℕ) → j ≤ dim → (j < dim) ⊎ (j ≡ dim)
     at_end j le = elim (cases_lt j dim) [ inl h ↦ inl h | inr h ↦ inr (omega arith) ]
 
-    by_place : (j : ℕ) → j ≤ dim → (j < dim) ⊎ (j ≡ dim) → cell (over dim u n) j ≡ cell row j
+    by_place : (j : ℕ) → j ≤ dim → (j < dim) ⊎ (j ≡ dim) → cell (with_divisor dim u n) j ≡ cell row j
     by_place j le (inl h) =
         cell-add u (at_column dim dim (pos n)) j
         ∙ (ap (λ (z : ℤ). cell u j +ℤ z) (beside dim j (dim - dim) (pos n) (λ e. differs j dim h (sym e)))
         ∙ (plus_zero (cell u j) ∙ (cells j le ∙ sym (row_cells j h))))
-    by_place j le (inr e) = subst (λ (i : ℕ). cell (over dim u n) i ≡ cell row i) (sym e)
+    by_place j le (inr e) = subst (λ (i : ℕ). cell (with_divisor dim u n) i ≡ cell row i) (sym e)
         (cell-add u (at_column dim dim (pos n)) dim
         ∙ (ap (λ (z : ℤ). cell u dim +ℤ z) (column_same dim dim (pos n)) ∙ (zero_plus (cell u dim) (pos n) end ∙ sym last)))
 
@@ -145,11 +145,11 @@ module _ (dim : ℕ) where
   vfrac_law w m within short low positive = over_law dim vexpr_cases vexpr_by (AreCoordinates dim) (coordinates_law dim) w m within short low positive
 
   -- a point of the kind, in its opening word and a closing bracket
-  pub enclosed_over : (cs : List ℕ) (kind : GenKind) → ((ts : Tokens) (u : List ℤ) (n : ℕ) → IsQuotient (AreCoordinates dim) ts (u, n) → IsGenerator dim (cs ∷ ts ++ codes ")" ∷ []) (over dim u n, kind)) → (w : List ℕ) (m : Matches (word cs ⋯ vfrac_cases ⋯ symbol 41) w) (row : List ℤ) → AreWithin dim (enclosed_by cs vfrac_cases vfrac_by w m).terms → All IsShort (enclosed_by cs vfrac_cases vfrac_by w m).terms → (enclosed_by cs vfrac_cases vfrac_by w m).divisor < 2 ^ 127 → 0 < (enclosed_by cs vfrac_cases vfrac_by w m).divisor → length row ≡ dim + 1 → ((j : ℕ) → j < dim → cell row j ≡ total dim (enclosed_by cs vfrac_cases vfrac_by w m).terms j) → cell row dim ≡ pos (enclosed_by cs vfrac_cases vfrac_by w m).divisor → Is (IsGenerator dim) w (row, kind)
+  pub enclosed_over : (cs : List ℕ) (kind : GenKind) → ((ts : Tokens) (u : List ℤ) (n : ℕ) → IsQuotient (AreCoordinates dim) ts (u, n) → IsGenerator dim (cs ∷ ts ++ codes ")" ∷ []) (with_divisor dim u n, kind)) → (w : List ℕ) (m : Matches (word cs ⋯ vfrac_cases ⋯ symbol 41) w) (row : List ℤ) → AreWithin dim (enclosed_by cs vfrac_cases vfrac_by w m).terms → All IsShort (enclosed_by cs vfrac_cases vfrac_by w m).terms → (enclosed_by cs vfrac_cases vfrac_by w m).divisor < 2 ^ 127 → 0 < (enclosed_by cs vfrac_cases vfrac_by w m).divisor → length row ≡ dim + 1 → ((j : ℕ) → j < dim → cell row j ≡ total dim (enclosed_by cs vfrac_cases vfrac_by w m).terms j) → cell row dim ≡ pos (enclosed_by cs vfrac_cases vfrac_by w m).divisor → Is (IsGenerator dim) w (row, kind)
   enclosed_over cs kind case w (opening, w1, e1, is_opening, (b1, w2, e2, blanks1, (frac, w3, e3, is_frac, (b2, close, e4, blanks2, is_close)))) row within short low positive wide cells last =
       let r = vfrac_law frac is_frac within short low positive in
       let ratio : Ratio = ratio_by vexpr_cases vexpr_by frac is_frac in
-      let same : over dim r.row ratio.divisor ≡ row = point_row dim ratio.divisor r.row row (total dim ratio.terms) r.wide (over_end dim r.pieces r.row ratio.divisor r.means) r.cells wide cells last in
+      let same : with_divisor dim r.row ratio.divisor ≡ row = point_row dim ratio.divisor r.row row (total dim ratio.terms) r.wide (over_end dim r.pieces r.row ratio.divisor r.means) r.cells wide cells last in
       record {
         pieces = cs ∷ r.pieces ++ codes ")" ∷ [];
         split = enclosed_tokens cs r.pieces w opening w1 b1 w2 frac w3 b2 close e1 is_opening e2 blanks1 e3 e4 blanks2 is_close r.split;

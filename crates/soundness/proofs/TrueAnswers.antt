@@ -1,8 +1,10 @@
 -- The answers to questions about polyhedra are true of their points.
-use Rattle.std.proofs.Common.{◌≡◌, inl, inr, ◌↔◌, ℕ, ◌+◌, ◌<◌, List, [], ◌∷◌, ◌++◌, length, arith, refl, ap, sym, ◌∙◌, subst, Bool, true, false, IsTrue, ℤ, Ok, codes}
+use Rattle.std.proofs.Common.{◌≡◌, inl, inr, ◌↔◌, ℕ, ◌+◌, ◌<◌, List, [], ◌∷◌, ◌++◌, length, arith, refl, ap, sym, ◌∙◌, subst, Bool, true, false, IsTrue, ℤ, Ok, codes, All}
+use Rattle.std.proofs.lemmas.List.Elements.{All-cons, All-weaker}
 use Rattle.std.specs.Fmt.{signed_decimal}
 use Rattle.cdd_text.specs.Written.{ine_text, ext_text}
 use Rattle.row_core.specs.Points.{IsPoint}
+use Rattle.row_core.specs.Range.{InRange}
 use Rattle.cons_sys.specs.Constraints as cons
 use Rattle.cons_sys.specs.Constraints.{In}
 use Rattle.gens_sys.specs.Generators as gens
@@ -19,6 +21,7 @@ use Rattle.poly_pair.specs.ClosedPolyhedra.{IsClosedOver}
 use Rattle.poly_pair.specs.KeptLaws.{KeptIsPair, KeptIsEmpty}
 use Rattle.poly_pair.specs.FirstLists.{LacksPoint}
 use Rattle.poly_pair.specs.Polyhedra.{Polyhedron, IsKept, IsStoredAs}
+use Rattle.poly_pair.proofs.StoredLemmas.{kept_constraints, kept_generators}
 use Rattle.expr_text.specs.Printed.{constraints_text, generators_text, generator_list_text, generator_text}
 use Rattle.expr_text.specs.ReadBack.{ConstraintsAreReadBack, GeneratorsAreReadBack}
 use Rattle.expr_text.specs.GeneratorSystems.{IsGens}
@@ -27,6 +30,7 @@ use Rattle.optimum.specs.Search.{IsPointKind}
 use Rattle.optimum.specs.Suprema.{SupAnswer, IsTrueSup}
 use Rattle.optimum.specs.declared.outcome.Sup.{Sup}
 use Rattle.optimum.specs.declared.outcome.Sup.TheVariants as sup
+use Rattle.optimum.proofs.AnswerRange.{found_in_range}
 use Rattle.widening.specs.WideningLaws.{WideningIncludes}
 use Rattle.script_text.specs.declared.command.Part.{Part}
 use Rattle.script_text.specs.declared.command.Comparison.{Comparison}
@@ -43,18 +47,20 @@ use Rattle.poly_questions.specs.Lattice.{compared}
 use Rattle.poly_questions.specs.Files.{file_of}
 use Rattle.poly_makers.specs.Widening.{nested, IsWidened}
 use Rattle.soundness.specs.Points.{IsSetOf, AreAlike, Includes}
-use Rattle.soundness.specs.Sets.{constraints, generators, IsWidening}
-use Rattle.soundness.specs.Answers.{line, Tells, TellsWhether, LieSo, TellsRelation, is_max, attained_text, witness_kind, IsWitness, TellsExtremeOf, TellsExtreme, TellsGenerators, TellsSystem, TellsSize}
+use Rattle.soundness.specs.Sets.{constraints, generators, LackClosurePoints, IsWidening}
+use Rattle.soundness.specs.Answers.{as_line, Tells, TellsWhether, LieSo, TellsRelation, is_max, attained_text, witness_kind, IsWitness, IsShort, TellsExtremeOf, TellsExtreme, TellsGenerators, TellsSystem, TellsSize}
 use Rattle.soundness.specs.TextsSystems.{GeneratorsText, no_generator}
 use Rattle.soundness.specs.FileLines.{IsVectorOf}
 use Rattle.soundness.specs.Files.{TellsFile, as_listed}
 use Rattle.soundness.proofs.FileWrites.{IsTextOf, ine_writes, ext_writes}
 use Rattle.soundness.proofs.MadeSets.{own_generate}
-use Rattle.soundness.proofs.PointLaws.{TextLaws, via, turn, is_nnc, set_of, set_is, is_over, closed_is_over, moved, for_from}
+use Rattle.soundness.proofs.PointLaws.{TextLaws, via, turn, is_nnc, set_of, lack_strict, lack_closure_points, set_is, is_over, closed_is_over, moved, for_from}
 use Rattle.soundness.proofs.TextTokens.{token_is}
 use Rattle.soundness.proofs.Operands.{one_topology, one_number}
 
--- the laws that are cited: both stored systems hold the same points, and there is no generator where there is none; what is printed is read back; the generator of a bound shows it; a widening includes the larger set
+-- the laws that are cited: both stored systems hold the same points, and there is no generator
+-- where there is none; what is printed is read back; the generator of a bound shows it; a widening
+-- includes the larger set
 pub record PolyLaws : Type 0 where
   pub pair : KeptIsPair
   pub empty : KeptIsEmpty
@@ -124,7 +130,18 @@ shows laws up row p num den attained index proper answer =
     let w = laws.witness up row p num den attained index proper.kept proper.gens answer in
     record { point = w.point; near = λ c for valid. w.closure c (for_from Closed p.cons.dim c for).kind valid; inside = w.inside; value = w.value }
 
--- the generator of a bound is a point of the set where the bound is attained, and else a closure point
+-- a number of the range is printed whole
+short : (z : ℤ) → InRange z → IsShort z
+short z r = omega (arith, r.size)
+
+shown_short : (up : Bool) (row : List ℤ) (p : Polyhedron) (num den : ℤ) (attained : Bool) (index : ℕ) → IsProper p → length row ≡ p.cons.dim + 1 → SupAnswer up row p.gens (Ok (sup.At num den attained index)) → All IsShort (num ∷ den ∷ row_at p.gens.list index)
+shown_short up row p num den attained index proper wide answer =
+    let v = row_at p.gens.list index in
+    let r = found_in_range up p proper.kept proper.gens row wide num den attained index answer in
+    All-cons IsShort num (den ∷ v) (short num r.0) (All-cons IsShort den v (short den r.1) (All-weaker InRange IsShort short v (proper.gens.each index ([], Line) answer.best.below).in_range))
+
+-- the generator of a bound is a point of the set where the bound is attained, and else a closure
+-- point
 kind_shown : (attained : Bool) (kind : GenKind) → IsTrue attained ↔ kind ≡ Point → IsPointKind kind → kind ≡ witness_kind attained
 kind_shown true kind same is = same.0 refl
 kind_shown false Line same is = absurd is
@@ -132,10 +149,10 @@ kind_shown false Ray same is = absurd is
 kind_shown false Point same is = absurd (never (same.1 refl))
 kind_shown false ClosurePoint same is = refl
 
-bound_true : PolyLaws → (up : Bool) (row : List ℤ) (p : Polyhedron) (reply : List ℕ) (b : Sup) → IsProper p → SupAnswer up row p.gens (Ok b) → IsTrueSup up row p b → reply ≡ line (optima.bound_text p.gens b) → TellsExtremeOf up row (set_of p) reply
-bound_true laws up row p reply sup.Empty proper answer true_of said = inl (true_of, said)
-bound_true laws up row p reply sup.Unbounded proper answer true_of said = inr (inl (true_of, said))
-bound_true laws up row p reply (sup.At num den attained index) proper answer true_of said =
+bound_true : PolyLaws → (up : Bool) (row : List ℤ) (p : Polyhedron) (reply : List ℕ) (b : Sup) → IsProper p → length row ≡ p.cons.dim + 1 → SupAnswer up row p.gens (Ok b) → IsTrueSup up row p b → reply ≡ as_line (optima.bound_text p.gens b) → TellsExtremeOf up row (set_of p) reply
+bound_true laws up row p reply sup.Empty proper wide answer true_of said = inl (true_of, said)
+bound_true laws up row p reply sup.Unbounded proper wide answer true_of said = inr (inl (true_of, said))
+bound_true laws up row p reply (sup.At num den attained index) proper wide answer true_of said =
     let v = row_at p.gens.list index in
     let kind : kind_at p.gens.list index ≡ witness_kind attained = kind_shown attained (kind_at p.gens.list index) answer.point answer.best.kind in
     inr (inr (record {
@@ -145,11 +162,12 @@ bound_true laws up row p reply (sup.At num den attained index) proper answer tru
       bound = true_of;
       witness = v;
       is_witness = shows laws up row p num den attained index proper answer;
+      short = shown_short up row p num den attained index proper wide answer;
       said = said ∙ (ap (λ (n : ℕ). text_of n (kind_at p.gens.list index)) (same_dims p proper) ∙ ap (λ (k : GenKind). text_of p.cons.dim k) kind);
     }))
   where
     text_of : ℕ → GenKind → List ℕ
-    text_of n k = line (signed_decimal num ++ codes "/" ++ signed_decimal den ++ attained_text attained ++ generator_text n (row_at p.gens.list index, k))
+    text_of n k = as_line (signed_decimal num ++ codes "/" ++ signed_decimal den ++ attained_text attained ++ generator_text n (row_at p.gens.list index, k))
 
 max_same : (extremum : Extremum) → operands.is_max extremum ≡ is_max extremum
 max_same Max = refl
@@ -159,7 +177,7 @@ pub extreme_true : TextLaws → PolyLaws → (extremum : Extremum) (part : Part)
 extreme_true texts laws extremum part p reply proper h = record {
   row = h.row;
   text = texts.expression p.cons.dim part.text h.row h.read;
-  tells = subst (λ (up : Bool). TellsExtremeOf up h.row (set_of p) reply) (max_same extremum) (bound_true laws (operands.is_max extremum) h.row p reply h.holds.bound proper h.holds.answer h.holds.true_of h.holds.said);
+  tells = subst (λ (up : Bool). TellsExtremeOf up h.row (set_of p) reply) (max_same extremum) (bound_true laws (operands.is_max extremum) h.row p reply h.holds.bound proper h.read.holds.sums.wide h.holds.answer h.holds.true_of h.holds.said);
 }
 
 -- ---- systems
@@ -171,18 +189,21 @@ own_gens laws p kept v is =
 own_set : (p : Polyhedron) → IsProper p → (Has : List ℤ → Type 0) → ((v : List ℤ) → IsPoint p.cons.dim v → In p.cons v ↔ Has v) → IsSetOf (is_nnc p.topology) p.cons.dim Has (set_of p)
 own_set p proper Has points = set_is p.topology p.cons.dim Has p proper (record { same_topology = refl; same_dim = refl }) points
 
-pub size_true : PolyLaws → (p : Polyhedron) (reply : List ℕ) → IsProper p → reply ≡ line (questions.size_text p) → TellsSize (set_of p) reply
+pub size_true : PolyLaws → (p : Polyhedron) (reply : List ℕ) → IsProper p → reply ≡ as_line (questions.size_text p) → TellsSize (set_of p) reply
 size_true laws p reply proper said = record { constraints_are = p.cons.list; generators_are = p.gens.list; hold = own_set p proper (In p.cons) (λ v is. (λ x. x, λ x. x)); generate = own_generate p proper (same_dims p proper) (laws.pair p proper.kept) (laws.empty p proper.kept).1; said = said }
 
 no_text : (dim : ℕ) → GeneratorsText dim (codes "none") []
 no_text dim = record { pieces = codes "none" ∷ []; split = token_is (codes "none") (codes "none") refl; means = no_generator }
 
+own_closure_points : (p : Polyhedron) → IsProper p → LackClosurePoints (is_nnc p.topology) p.gens.list
+own_closure_points p proper = lack_closure_points p.topology p.gens (kept_generators p proper.kept)
+
 -- the generators that are printed; none where none is stored
-gens_told : TextLaws → PolyLaws → (p : Polyhedron) (reply : List ℕ) (list : List Generator) → p.gens.list ≡ list → IsProper p → reply ≡ line (generators_text p.gens) → TellsGenerators (set_of p) reply
+gens_told : TextLaws → PolyLaws → (p : Polyhedron) (reply : List ℕ) (list : List Generator) → p.gens.list ≡ list → IsProper p → reply ≡ as_line (generators_text p.gens) → TellsGenerators (set_of p) reply
 gens_told texts laws p reply [] e proper said = record {
   text = codes "none";
-  said = said ∙ ap (λ (l : List Generator). line (generator_list_text p.gens.dim l)) e;
-  is = record { list = []; says = no_text p.cons.dim; set = own_set p proper (Span (generators p.cons.dim [])) (λ v is. turn (subst (λ (l : List Generator). Span (generators p.cons.dim l) v ↔ In p.cons v) e (own_gens laws p proper.kept v is))) };
+  said = said ∙ ap (λ (l : List Generator). as_line (generator_list_text p.gens.dim l)) e;
+  is = record { list = []; says = no_text p.cons.dim; kinds = subst (λ (l : List Generator). LackClosurePoints (is_nnc p.topology) l) e (own_closure_points p proper); set = own_set p proper (Span (generators p.cons.dim [])) (λ v is. turn (subst (λ (l : List Generator). Span (generators p.cons.dim l) v ↔ In p.cons v) e (own_gens laws p proper.kept v is))) };
   none = λ empty. refl;
 }
 gens_told texts laws p reply (g ∷ list) e proper said =
@@ -191,14 +212,14 @@ gens_told texts laws p reply (g ∷ list) e proper said =
     record {
       text = generators_text p.gens;
       said = said;
-      is = record { list = says.list; says = says.is_text; set = own_set p proper (Span (generators p.cons.dim says.list)) (λ v is. via (turn (own_gens laws p proper.kept v is)) (says.same [] v)) };
+      is = record { list = says.list; says = says.is_text; kinds = says.kinds (is_nnc p.topology) (own_closure_points p proper); set = own_set p proper (Span (generators p.cons.dim says.list)) (λ v is. via (turn (own_gens laws p proper.kept v is)) (says.same [] v)) };
       none = λ empty. (let no : g ∷ list ≡ [] = sym e ∙ (laws.empty p proper.kept).1 empty in cc);
     }
 
-pub side_true : TextLaws → PolyLaws → (side : Bool) (p : Polyhedron) (reply : List ℕ) → IsProper p → reply ≡ line (questions.side_text side p) → TellsSystem side (set_of p) reply
+pub side_true : TextLaws → PolyLaws → (side : Bool) (p : Polyhedron) (reply : List ℕ) → IsProper p → reply ≡ as_line (questions.side_text side p) → TellsSystem side (set_of p) reply
 side_true texts laws false p reply proper said =
     let says = texts.constraints p.cons.dim (constraints_text p.cons) p.cons ((laws.cons p.cons p.cons proper.cons).1 refl) in
-    record { text = constraints_text p.cons; said = said; is = record { list = says.list; says = says.is_text; set = own_set p proper (In (constraints p.cons.dim says.list)) (λ v is. says.same v) } }
+    record { text = constraints_text p.cons; said = said; is = record { list = says.list; says = says.is_text; kinds = says.kinds (is_nnc p.topology) (lack_strict p.topology p.cons (kept_constraints p proper.kept)); set = own_set p proper (In (constraints p.cons.dim says.list)) (λ v is. says.same v) } }
 side_true texts laws true p reply proper said = gens_told texts laws p reply p.gens.list refl proper said
 
 -- ---- files
@@ -226,6 +247,7 @@ ine_side p reply kept closed fit said =
       rows = w.rows;
       typed = w.typed;
       wide = w.wide;
+      begun = w.begun;
       marks = w.marks;
       said = said ∙ w.text_is;
       set = record { list = p.cons.list; say = w.says; set = record { over = closed_is_over p.cons.dim p kept (record { same_topology = closed; same_dim = refl }); points = λ v is. (λ x. x, λ x. x) } };
@@ -241,6 +263,7 @@ ext_side laws p reply kept closed fit said =
       rows = w.rows;
       typed = w.typed;
       wide = w.wide;
+      begun = w.begun;
       marks = w.marks;
       said = said ∙ w.text_is;
       set = record {

@@ -1,5 +1,5 @@
 -- Answers to questions about sets: each is true of the points.
-use Rattle.std.specs.Prelude.{◌≡◌, ◌⊎◌, ◌↔◌, ℕ, List, [], ◌∷◌, ◌++◌, length, ℤ, Bool, true, false, IsTrue, codes, decimal}
+use Rattle.std.specs.Prelude.{◌≡◌, ◌⊎◌, ◌↔◌, ℕ, ◌^◌, ◌<◌, List, [], ◌∷◌, ◌++◌, length, ℤ, unsigned_abs, Bool, true, false, All, IsTrue, codes, decimal}
 use Rattle.std.proofs.Math.IntN.{◌*ℤ◌}
 use Rattle.std.specs.Fmt.{signed_decimal}
 use Rattle.row_core.specs.Vectors.{cell, dot}
@@ -24,18 +24,18 @@ use Rattle.soundness.specs.TextsExpressions.{ExpressionText}
 use Rattle.soundness.specs.TextsSystems.{ConstraintText, PointText}
 
 -- ---- replies
--- one line
-abbrev pub line : List ℕ → List ℕ
-line text = text ++ 10 ∷ []
+-- the text as a line
+abbrev pub as_line : List ℕ → List ℕ
+as_line text = text ++ 10 ∷ []
 
 -- the reply to a command that makes or changes something
 abbrev pub ok : List ℕ
-ok = line (codes "ok")
+ok = as_line (codes "ok")
 
 -- the reply is `yes` where the statement is true, and else `no`
 abbrev pub Tells : Type 0 → List ℕ → Type 0
 Tells Statement reply =
-    (Statement × (reply ≡ line (codes "yes"))) ⊎ (¬ Statement × (reply ≡ line (codes "no")))
+    (Statement × (reply ≡ as_line (codes "yes"))) ⊎ (¬ Statement × (reply ≡ as_line (codes "no")))
 
 -- ---- points, and how sets lie
 -- whether the point of the text is in the set
@@ -77,7 +77,7 @@ pub record TellsRelation (part : Part) (s : PointSet) (reply : List ℕ) : Type 
   pub intersects : Bool
   pub included : Bool
   pub saturates : Bool
-  pub said : reply ≡ line (relation_words disjoint intersects included saturates)
+  pub said : reply ≡ as_line (relation_words disjoint intersects included saturates)
   pub nowhere : IsTrue disjoint ↔ HoldsNowhere s.cons constraint
   pub divided : IsTrue intersects ↔ HoldsSomewhere s.cons constraint
       × FailsSomewhere s.cons constraint
@@ -109,6 +109,10 @@ abbrev pub witness_kind : Bool → GenKind
 witness_kind true = Point
 witness_kind false = ClosurePoint
 
+-- the number has at most 64 digits, which is as many as `decimal` writes
+abbrev pub IsShort : ℤ → Type 0
+IsShort z = unsigned_abs z < 10 ^ 64
+
 -- the bound as a fraction, whether it is attained, and a witness
 abbrev pub bound_text : ℕ → ℤ → ℤ → Bool → List ℤ → List ℕ
 bound_text dim num den attained witness =
@@ -123,12 +127,13 @@ pub record TellsBound (up : Bool) (row : List ℤ) (s : PointSet) (reply : List 
   pub bound : IsSupremum up row s.cons.dim (IsWithin s.cons) num den attained
   pub witness : List ℤ
   pub is_witness : IsWitness row s num den attained witness
-  pub said : reply ≡ line (bound_text s.cons.dim num den attained witness)
+  pub short : All IsShort (num ∷ den ∷ witness)
+  pub said : reply ≡ as_line (bound_text s.cons.dim num den attained witness)
 
 -- there is no point; or the values have no bound; or the least upper (or the greatest lower) bound
 abbrev pub TellsExtremeOf : Bool → List ℤ → PointSet → List ℕ → Type 0
-TellsExtremeOf up row s reply = (HasNoPoint s × (reply ≡ line (codes "empty")))
-    ⊎ (ExceedsAll up row s.cons.dim (IsWithin s.cons) × (reply ≡ line (codes "unbounded")))
+TellsExtremeOf up row s reply = (HasNoPoint s × (reply ≡ as_line (codes "empty")))
+    ⊎ (ExceedsAll up row s.cons.dim (IsWithin s.cons) × (reply ≡ as_line (codes "unbounded")))
     ⊎ TellsBound up row s reply
 
 -- where the text is the expression
@@ -142,13 +147,13 @@ pub record TellsExtreme (extremum : Extremum) (part : Part) (s : PointSet)
 -- the text of constraints that hold at the points of the set and at no others
 pub record TellsConstraints (s : PointSet) (reply : List ℕ) : Type 0 where
   pub text : List ℕ
-  pub said : reply ≡ line text
+  pub said : reply ≡ as_line text
   pub is : IsOfConstraints s.nnc s.cons.dim text s
 
 -- the text of generators that generate these points and no others; of none where there is no point
 pub record TellsGenerators (s : PointSet) (reply : List ℕ) : Type 0 where
   pub text : List ℕ
-  pub said : reply ≡ line text
+  pub said : reply ≡ as_line text
   pub is : IsOfGenerators s.nnc s.cons.dim text s
   pub none : HasNoPoint s → is.list ≡ []
 
@@ -164,5 +169,5 @@ pub record TellsSize (s : PointSet) (reply : List ℕ) : Type 0 where
   pub generators_are : List Generator
   pub hold : IsSetOf s.nnc s.cons.dim (In (constraints s.cons.dim constraints_are)) s
   pub generate : Generate generators_are s
-  pub said : reply ≡ line (codes "dim " ++ decimal s.cons.dim ++ codes " constraints " ++ decimal
+  pub said : reply ≡ as_line (codes "dim " ++ decimal s.cons.dim ++ codes " constraints " ++ decimal
       (length constraints_are) ++ codes " generators " ++ decimal (length generators_are))

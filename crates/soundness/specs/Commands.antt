@@ -9,7 +9,7 @@ use Rattle.script_text.specs.declared.command.Comparison.TheVariants as comparis
 use Rattle.soundness.specs.Points.{PointSet, HasNoPoint}
 use Rattle.soundness.specs.Values.{Value, Polyhedron, System, Union, Shape, Automaton, Names}
 use Rattle.soundness.specs.Sets.{IsOfConstraints, IsOfGenerators, IsSpace, IsCopy, IsAdded, IsJoined, IsClosure, IsOfTwo, IsWidening, IsExtended, IsRemoved, IsMapped}
-use Rattle.soundness.specs.Answers.{line, ok, Tells, TellsWhether, TellsHowTheyLie, TellsRelation, TellsExtreme, TellsConstraints, TellsSystem, TellsSize}
+use Rattle.soundness.specs.Answers.{as_line, ok, Tells, TellsWhether, TellsHowTheyLie, TellsRelation, TellsExtreme, TellsConstraints, TellsSystem, TellsSize}
 use Rattle.soundness.specs.Unions.{IsOfOne, IsCombined, IsMember, TellsMembers, TellsCover, AreRankings, TellsRanking}
 use Rattle.soundness.specs.Shapes.{IsOfBounds, IsSmallestShape, IsOfTwoShapes}
 use Rattle.soundness.specs.Systems.{IsEmptySystem, IsWithInitial, IsWithTransition, IsStill, IsWithPart, AreInvariant, AreReached}
@@ -66,7 +66,7 @@ pub record TakesOut (name : List ℕ) (old : Names) (reply : List ℕ) (new : Na
 -- `names`, their number, and each name
 pub record TellsNames (old : Names) (reply : List ℕ) (new : Names) : Type 0 where
   pub same : new ≡ old
-  pub said : reply ≡ line (codes "names " ++ decimal (length old) ++ spaced (keys_of old))
+  pub said : reply ≡ as_line (codes "names " ++ decimal (length old) ++ spaced (keys_of old))
 
 -- ---- commands
 -- what each command does

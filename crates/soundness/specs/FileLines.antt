@@ -1,5 +1,5 @@
 -- The format of files: lines of words, a head, rows of numbers between `begin` and `end`.
-use Rattle.std.specs.Prelude.{◌≡◌, ◌≢◌, ◌<◌, ◌≤◌, ◌+◌, ◌⊎◌, ◌==◌, ℕ, List, [], ◌∷◌, ◌++◌, length, map, Bool, true, false, not, if◌then◌else◌, codes, decimal, ℤ, pos, ◌*ℤ◌, ◌<ℤ◌, All}
+use Rattle.std.specs.Prelude.{◌≡◌, ◌≢◌, ◌<◌, ◌≤◌, ◌+◌, ◌⊎◌, ◌==◌, ℕ, List, [], ◌∷◌, ◌++◌, length, slice_index_or, map, Bool, true, false, not, if◌then◌else◌, codes, decimal, ℤ, pos, ◌*ℤ◌, ◌<ℤ◌, All}
 use Rattle.std.proofs.Math.IntN.{neg_ℤ}
 use Rattle.std.specs.List.{flat_map, list_any, AllZip}
 use Rattle.std.specs.Str.Lines.{lines}
@@ -47,15 +47,19 @@ pub record AreNumbersOf (words : List (List ℕ)) (row : List ℤ) : Type 0 wher
 abbrev pub IsRowOf : Bool → List (List ℕ) → Constraint → Type 0
 IsRowOf marked words c = AreNumbersOf words c.0 × (c.1 ≡ (if marked then Eq else Ge))
 
--- `t x1 .. xn` is the point (x1/t, .., xn/t) where t is above 0; where t is 0 it is a ray, or a line
--- if it is marked
+-- the vector is a direction: its last entry is 0, and not all of its entries are
+abbrev pub IsDirection : ℕ → List ℤ → Type 0
+IsDirection dim v = (cell v dim ≡ pos 0) × ¬ (All (λ z. z ≡ pos 0) v)
+
+-- `t x1 .. xn` is the point (x1/t, .., xn/t) where t is above 0; where t is 0 it is a ray, or a
+-- line if it is marked
 abbrev pub IsVectorOf : ℕ → Bool → List (List ℕ) → Generator → Type 0
 IsVectorOf dim marked words (v, Point) =
     AreNumbersOf words v × (pos 0 <ℤ cell v dim) × (marked ≡ false)
 IsVectorOf dim marked words (v, Ray) =
-    AreNumbersOf words v × (cell v dim ≡ pos 0) × (marked ≡ false)
+    AreNumbersOf words v × IsDirection dim v × (marked ≡ false)
 IsVectorOf dim marked words (v, Line) =
-    AreNumbersOf words v × (cell v dim ≡ pos 0) × (marked ≡ true)
+    AreNumbersOf words v × IsDirection dim v × (marked ≡ true)
 IsVectorOf dim marked words (v, ClosurePoint) = ⊥
 
 -- row i says the first of the list, the next row the next, and so on; these numbers are marked
@@ -129,6 +133,10 @@ pub record IsFile (ext : Bool) (bytes marked : List ℕ) (columns : ℕ)
   pub ends : IsEnd end
 
 -- ---- files that are written
+-- the first word of the row is `1` or `0`
+abbrev pub BeginsSo : List (List ℕ) → Type 0
+BeginsSo row = (slice_index_or row 0 [] ≡ codes "1") ⊎ (slice_index_or row 0 [] ≡ codes "0")
+
 -- the line that names the marked rows; none where no row is
 abbrev pub marks_text : List ℕ → List ℕ
 marks_text marked = if length marked == 0 then []

@@ -1,9 +1,8 @@
 -- Sets of points. A point of n variables is a vector of n + 1 integers `(x1, .., xn, d)` with a
 -- positive d, and stands for `(x1/d, .., xn/d)`.
-use Rattle.std.specs.Prelude.{◌≡◌, ◌↔◌, ◌+◌, ℕ, List, length, ℤ, Bool, true, false, All, ⊤}
+use Rattle.std.specs.Prelude.{◌≡◌, ◌≢◌, ◌↔◌, ◌+◌, ◌^◌, ◌≤◌, ℕ, List, length, ℤ, Bool, false, All}
 use Rattle.row_core.specs.Points.{IsPoint}
-use Rattle.cons_sys.specs.declared.kind.ConKind.{ConKind}
-use Rattle.cons_sys.specs.declared.kind.ConKind.TheVariants.{Eq, Ge, Gt}
+use Rattle.cons_sys.specs.declared.kind.ConKind.TheVariants.{Gt}
 use Rattle.cons_sys.specs.Constraints.{Constraint, Constraints, In, Satisfies}
 use Rattle.stored_systems.specs.PointSets.{IsWithin}
 
@@ -14,22 +13,21 @@ pub record PointSet : Type 0 where
   pub cons : Constraints
 
 -- ---- constraints of a kind
--- a closed set has no strict constraint
-abbrev pub IsKindFor : Bool → ConKind → Type 0
-IsKindFor true kind = ⊤
-IsKindFor false Eq = ⊤
-IsKindFor false Ge = ⊤
-IsKindFor false Gt = ⊥
-
--- a constraint over so many variables that a set of the kind may have
+-- a constraint over so many variables, which isn't strict if it is to be one of a closed set
 pub record IsConstraintFor (nnc : Bool) (dim : ℕ) (c : Constraint) : Type 0 where
   pub wide : length c.0 ≡ dim + 1
-  pub kind : IsKindFor nnc c.1
+  pub kind : nnc ≡ false → c.1 ≢ Gt
 
--- the set is of the kind, has that many variables, and only constraints that such a set may have
+-- none of the constraints is strict if they are to be those of a closed set
+abbrev pub LackStrict : Bool → List Constraint → Type 0
+LackStrict nnc list = nnc ≡ false → All (λ (c : Constraint). c.1 ≢ Gt) list
+
+-- the set is of the kind, has that many variables, at most 2^32, and only constraints that such a
+-- set may have
 pub record IsOver (nnc : Bool) (dim : ℕ) (s : PointSet) : Type 0 where
   pub kind : s.nnc ≡ nnc
   pub variables : s.cons.dim ≡ dim
+  pub narrow : dim ≤ 2 ^ 32
   pub rows : All (IsConstraintFor nnc dim) s.cons.list
 
 -- it is such a set, and its points are those that have the property

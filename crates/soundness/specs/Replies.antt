@@ -1,6 +1,6 @@
 -- What is written to a script and to a file.
-use Rattle.std.specs.Prelude.{◌≡◌, ◌≢◌, ◌⊎◌, ℕ, List, All, [], ◌∷◌, ◌++◌, Option, None, Some, Bool, true, not, ◌==◌, codes, take, ⊤}
-use Rattle.std.specs.List.{concat, flat_map, list_all}
+use Rattle.std.specs.Prelude.{◌≡◌, ◌≢◌, ◌⊎◌, ℕ, List, All, [], ◌∷◌, ◌++◌, Option, None, Some, Bool, not, codes, take, ⊤}
+use Rattle.std.specs.List.{concat, flat_map}
 use Rattle.std.specs.Str.Lines.{lines}
 use Rattle.cdd_reading.specs.Tokens.{tokens}
 use Rattle.cdd_reading.specs.Files.{IsEnd}
@@ -8,10 +8,10 @@ use Rattle.script_text.specs.declared.command.Command.{Command}
 use Rattle.script_text.specs.declared.command.Command.TheVariants.{Read}
 use Rattle.soundness.specs.Points.{PointSet}
 use Rattle.soundness.specs.Values.{Polyhedron, Names}
-use Rattle.soundness.specs.Answers.{line}
+use Rattle.soundness.specs.Answers.{as_line}
 use Rattle.soundness.specs.Files.{IsRead, TellsFile}
 use Rattle.soundness.specs.Commands.{Makes, Does}
-use Rattle.soundness.specs.TextsLines.{Spelled}
+use Rattle.soundness.specs.TextsLines.{Spells}
 
 -- a file that `read` has begun: the name of its set, whether it lists generators, and its lines so
 -- far
@@ -25,20 +25,13 @@ pub record State : Type 0 where
   pub names : Names
   pub file : Option OpenFile
 
--- at first there is no name, and no file
-abbrev pub empty_state : State
-empty_state = record { names = []; file = None }
-
 -- ---- one line
--- a byte that isn't a line feed
-abbrev pub is_text : ℕ → Bool
-is_text b = not (b == 10)
-
--- one line, which begins with `fault ` or with `overflow `
+-- one line, without a line feed but at its end, which begins with `fault ` or with `overflow `
 pub record IsRefusal (reply : List ℕ) : Type 0 where
   pub rest : List ℕ
-  pub one_line : list_all is_text rest ≡ true
-  pub said : (reply ≡ line (codes "fault " ++ rest)) ⊎ (reply ≡ line (codes "overflow " ++ rest))
+  pub one_line : All (λ b. b ≢ 10) rest
+  pub said : (reply ≡ as_line (codes "fault " ++ rest))
+      ⊎ (reply ≡ as_line (codes "overflow " ++ rest))
 
 -- where a file is open only its last line is refused
 abbrev pub MayBeRefused : Option OpenFile → List ℕ → Type 0
@@ -55,9 +48,9 @@ file_begun (Read out ext) = Some (record { name = out; ext = ext; text = [] })
 file_begun other = None
 
 -- the line spells a command, which does what it says
-pub record IsPerformed (old : Names) (words : List ℕ) (reply : List ℕ) (new : State) : Type 0 where
+pub record IsPerformed (old : Names) (text : List ℕ) (reply : List ℕ) (new : State) : Type 0 where
   pub command : Command
-  pub spelled : Spelled words command
+  pub spelled : Spells text command
   pub does : Does command old reply new.names
   pub file : new.file ≡ file_begun command
 
@@ -107,10 +100,10 @@ AreReplies old (text ∷ texts) [] = ⊥
 AreReplies old (text ∷ texts) (reply ∷ replies) =
     (new : State) × IsReply old text reply new × AreReplies new texts replies
 
--- what is written to a script: the replies to its lines, from no names on
+-- what is written to a script: the replies to its lines; at first there is no name, and no file
 pub record IsWrittenTo (script : List ℕ) (written : List ℕ) : Type 0 where
   pub replies : List (List ℕ)
-  pub are : AreReplies empty_state (lines script) replies
+  pub are : AreReplies (record { names = []; file = None }) (lines script) replies
   pub all : written ≡ concat replies
 
 -- the file is read, no word behind it is `linearity`, and the other file of the same points is

@@ -5,6 +5,7 @@ use Rattle.row_core.specs.Vectors.{cell, dot, scale}
 use Rattle.row_core.specs.Points.{IsPoint}
 use Rattle.cons_sys.specs.Constraints.{Constraint, Constraints, In}
 use Rattle.gens_sys.specs.Generators.{Generator, Generators}
+use Rattle.gens_sys.specs.declared.kind.GenKind.TheVariants.{ClosurePoint}
 use Rattle.gens_sys.specs.Kinds.{HasBadDivisor}
 use Rattle.gens_sys.specs.Spans.{Span}
 use Rattle.stored_systems.specs.PointSets.{IsWithin}
@@ -22,7 +23,7 @@ use Rattle.script_text.specs.declared.command.Mapping.{Mapping}
 use Rattle.script_text.specs.declared.command.Mapping.TheVariants.{Image, Preimage}
 use Rattle.script_text.specs.declared.command.Rel.{Rel}
 use Rattle.script_text.specs.declared.command.Rel.TheVariants as rel
-use Rattle.soundness.specs.Points.{PointSet, IsOver, IsSetOf, AreAlike, HasNoPoint, Includes, IsInSmallest}
+use Rattle.soundness.specs.Points.{PointSet, LackStrict, IsOver, IsSetOf, AreAlike, HasNoPoint, Includes, IsInSmallest}
 use Rattle.soundness.specs.TextsExpressions.{FractionText}
 use Rattle.soundness.specs.TextsSystems.{ConstraintsText, GeneratorsText}
 
@@ -35,16 +36,22 @@ constraints dim list = record { dim = dim; list = list }
 abbrev pub generators : ℕ → List Generator → Generators
 generators dim list = record { dim = dim; list = list }
 
+-- none of the generators is a closure point if they are to be those of a closed set
+abbrev pub LackClosurePoints : Bool → List Generator → Type 0
+LackClosurePoints nnc list = nnc ≡ false → All (λ (g : Generator). g.1 ≢ ClosurePoint) list
+
 -- the points at which the constraints of the text hold
 pub record IsOfConstraints (nnc : Bool) (dim : ℕ) (text : List ℕ) (s : PointSet) : Type 0 where
   pub list : List Constraint
   pub says : ConstraintsText dim text list
+  pub kinds : LackStrict nnc list
   pub set : IsSetOf nnc dim (In (constraints dim list)) s
 
 -- the points that the generators of the text generate: none where there is no point among them
 pub record IsOfGenerators (nnc : Bool) (dim : ℕ) (text : List ℕ) (s : PointSet) : Type 0 where
   pub list : List Generator
   pub says : GeneratorsText dim text list
+  pub kinds : LackClosurePoints nnc list
   pub set : IsSetOf nnc dim (Span (generators dim list)) s
 
 -- all points, or none
@@ -61,6 +68,7 @@ IsCopy p s = IsSetOf p.nnc p.cons.dim (In p.cons) s
 pub record IsAdded (part : Part) (p s : PointSet) : Type 0 where
   pub list : List Constraint
   pub text : ConstraintsText p.cons.dim part.text list
+  pub kinds : LackStrict p.nnc list
   pub set : IsSetOf p.nnc p.cons.dim (λ v. In p.cons v × In (constraints p.cons.dim list) v) s
 
 -- a vector over so many variables, whose last entry fits its kind
@@ -79,6 +87,7 @@ pub record Generate (list : List Generator) (p : PointSet) : Type 0 where
 pub record IsJoined (part : Part) (p s : PointSet) : Type 0 where
   pub list : List Generator
   pub text : GeneratorsText p.cons.dim part.text list
+  pub kinds : LackClosurePoints p.nnc list
   pub own : List Generator
   pub generate : Generate own p
   pub set : IsSetOf p.nnc p.cons.dim (Span (generators p.cons.dim (own ++ list))) s

@@ -1,5 +1,5 @@
 -- Transition systems and hybrid automata, and what their runs promise.
-use Rattle.std.specs.Prelude.{◌≡◌, ◌<◌, ◌*◌, ℕ, List, [], length, slice_get, Some, All, ℤ, false, ⊤}
+use Rattle.std.specs.Prelude.{◌≡◌, ◌<◌, ◌*◌, ℕ, List, [], ◌∷◌, ◌++◌, length, slice_get, slice_set, Some, All, ℤ, false, ⊤}
 use Rattle.row_core.specs.Points.{IsPoint}
 use Rattle.cons_sys.specs.Constraints.{In}
 use Rattle.stored_systems.specs.PointSets.{IsWithin}
@@ -8,7 +8,7 @@ use Rattle.affine_maps.specs.Posts.{IsStepTo}
 use Rattle.script_text.specs.declared.command.LocationPart.{LocationPart}
 use Rattle.script_text.specs.declared.command.LocationPart.TheVariants.{Invariant, Flow}
 use Rattle.soundness.specs.Points.{PointSet, IsOver, HasNoPoint}
-use Rattle.soundness.specs.Values.{Transition, TransitionSystem, HybridAutomaton, with_initial, with_transition, with_invariant, with_flow}
+use Rattle.soundness.specs.Values.{Transition, TransitionSystem, HybridAutomaton}
 
 -- ---- making
 -- no location has an initial state, and there is no transition
@@ -24,7 +24,7 @@ pub record IsWithInitial (location : ℕ) (s : TransitionSystem) (p : PointSet)
     (r : TransitionSystem) : Type 0 where
   pub there : location < length s.initial
   pub over : IsOver false s.dim p
-  pub is : r ≡ with_initial s location p
+  pub is : r ≡ record s { initial = slice_set s.initial location p }
 
 -- a system with one more transition between two of its locations
 pub record IsWithTransition (source target : ℕ) (s : TransitionSystem) (p : PointSet)
@@ -32,23 +32,31 @@ pub record IsWithTransition (source target : ℕ) (s : TransitionSystem) (p : Po
   pub source_there : source < length s.initial
   pub target_there : target < length s.initial
   pub over : IsOver false (2 * s.dim) p
-  pub is : r ≡ with_transition s (record { source = source; target = target; relation = p })
+  pub is : r ≡ record {
+    dim = s.dim;
+    initial = s.initial;
+    transitions = s.transitions
+        ++ record { source = source; target = target; relation = p } ∷ [];
+  }
+
+-- a closed set for each location
+pub record AreOfLocations (s : TransitionSystem) (sets : List PointSet) : Type 0 where
+  pub as_many : length sets ≡ length s.initial
+  pub over : All (IsOver false s.dim) sets
 
 -- the automaton of a system in which no time passes: each invariant holds everywhere, and no
 -- location has a velocity
 pub record IsStill (s : TransitionSystem) (h : HybridAutomaton) : Type 0 where
   pub system : h.system ≡ s
-  pub invariants : length h.invariants ≡ length s.initial
-  pub flows : length h.flows ≡ length s.initial
-  pub invariants_over : All (IsOver false s.dim) h.invariants
-  pub flows_over : All (IsOver false s.dim) h.flows
+  pub invariants : AreOfLocations s h.invariants
+  pub flows : AreOfLocations s h.flows
   pub everywhere : All (λ (p : PointSet). (v : List ℤ) → IsPoint s.dim v → In p.cons v) h.invariants
   pub still : All HasNoPoint h.flows
 
 -- the automaton with this invariant, or this flow, of the location
 abbrev pub with_part : LocationPart → HybridAutomaton → ℕ → PointSet → HybridAutomaton
-with_part Invariant h location p = with_invariant h location p
-with_part Flow h location p = with_flow h location p
+with_part Invariant h location p = record h { invariants = slice_set h.invariants location p }
+with_part Flow h location p = record h { flows = slice_set h.flows location p }
 
 -- an automaton with this part of one of its locations
 pub record IsWithPart (part : LocationPart) (location : ℕ) (h : HybridAutomaton) (p : PointSet)
@@ -61,11 +69,6 @@ pub record IsWithPart (part : LocationPart) (location : ℕ) (h : HybridAutomato
 -- the state is in the set of the location
 abbrev pub IsAt : List PointSet → ℕ → List ℤ → Type 0
 IsAt sets l v = (set : PointSet) × (slice_get sets l ≡ Some set) × IsWithin set.cons v
-
--- a closed set for each location
-pub record AreOfLocations (s : TransitionSystem) (sets : List PointSet) : Type 0 where
-  pub as_many : length sets ≡ length s.initial
-  pub over : All (IsOver false s.dim) sets
 
 -- each initial state that may stay at its location is in the set of it
 abbrev pub IncludeInitial : TransitionSystem → (ℕ → List ℤ → Type 0) → List PointSet → Type 0

@@ -3,7 +3,7 @@ use Rattle.std.specs.Prelude.{ℕ, ◌-◌, ◌^◌, ◌<◌, min, List, [], ◌
 use Rattle.row_core.specs.Vectors.{add, scale}
 use Rattle.soundness.specs.TextsNumbers.{Tokens, IsNumber, IsVariable, IsText}
 
--- the column of a variable; column 2^32 stands for all later ones too
+-- the column of a variable; column 2^32, where no set has a variable, stands for all later ones too
 abbrev pub column : ℕ → ℕ
 column j = min j (2 ^ 32)
 

@@ -41,15 +41,15 @@ AreWords (x ∷ xs) text =
     (gap w rest : List ℕ) × (text ≡ gap ++ w ++ rest)
     × AreBlanks gap × (0 < length gap) × IsWord x w × AreWords xs rest
 
--- what stands behind the words: nothing, a part behind one of the signs, variables behind a colon
+-- what stands behind the words: blanks, a part behind one of the signs, variables behind a colon
 pub data Tail : Type 0 where
-  Nothing : Tail
+  Blanks : Tail
   Behind : List (List ℕ) → List ℕ → Tail
   Variables : List ℕ → Tail
 
 -- the text is this tail, with blanks around its parts
 abbrev pub IsTail : Tail → List ℕ → Type 0
-IsTail Nothing text = AreBlanks text
+IsTail Blanks text = AreBlanks text
 IsTail (Behind signs part) text =
     (b sign c d : List ℕ) × (text ≡ b ++ sign ++ c ++ part ++ d)
     × Contains signs sign × AreBlanks b × AreBlanks c × AreBlanks d
@@ -82,7 +82,7 @@ pub record IsSpelled (s : Spelling) (line : List ℕ) : Type 0 where
 
 -- a command that is words alone
 abbrev pub of_words : List ℕ → List Word → Spelling
-of_words first others = record { first = first; words = others; tail = Nothing }
+of_words first others = record { first = first; words = others; tail = Blanks }
 
 -- a command with a part behind one of some signs
 abbrev pub related : List ℕ → List Word → List (List ℕ) → List ℕ → Spelling
@@ -206,5 +206,5 @@ spelling (command.SetPart location_part.Flow h loc p) =
 spelling (command.Reach h delay p) = of_words (codes "reach") (name h ∷ Count delay ∷ prefix p ∷ [])
 
 -- the line spells the command
-abbrev pub Spelled : List ℕ → Command → Type 0
-Spelled line c = IsSpelled (spelling c) line
+abbrev pub Spells : List ℕ → Command → Type 0
+Spells line c = IsSpelled (spelling c) line

@@ -35,15 +35,15 @@ pub data AreConstraints (dim : ℕ) : Tokens → List Constraint → Type 0 wher
       AreConstraints dim ts cs
 
 -- the coordinates, and the divisor last
-abbrev pub over : ℕ → List ℤ → ℕ → List ℤ
-over dim coordinates divisor = add coordinates (at_column dim dim (pos divisor))
+abbrev pub with_divisor : ℕ → List ℤ → ℕ → List ℤ
+with_divisor dim coordinates divisor = add coordinates (at_column dim dim (pos divisor))
 
 -- a point, a closure point, a ray or a line; last stands the divisor of a point, 0 of a direction
 pub data IsGenerator (dim : ℕ) : Tokens → Generator → Type 0 where
   point : (ts : Tokens) (u : List ℤ) (n : ℕ) → IsQuotient (AreCoordinates dim) ts (u, n) →
-      IsGenerator dim (codes "p(" ∷ ts ++ codes ")" ∷ []) (over dim u n, Point)
+      IsGenerator dim (codes "p(" ∷ ts ++ codes ")" ∷ []) (with_divisor dim u n, Point)
   closure_point : (ts : Tokens) (u : List ℤ) (n : ℕ) → IsQuotient (AreCoordinates dim) ts (u, n) →
-      IsGenerator dim (codes "c(" ∷ ts ++ codes ")" ∷ []) (over dim u n, ClosurePoint)
+      IsGenerator dim (codes "c(" ∷ ts ++ codes ")" ∷ []) (with_divisor dim u n, ClosurePoint)
   ray : (ts : Tokens) (u : List ℤ) → AreCoordinates dim ts u →
       IsGenerator dim (codes "r(" ∷ ts ++ codes ")" ∷ []) (u, Ray)
   straight : (ts : Tokens) (u : List ℤ) → AreCoordinates dim ts u →

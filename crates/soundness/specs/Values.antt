@@ -1,5 +1,5 @@
 -- What names stand for.
-use Rattle.std.specs.Prelude.{ℕ, List, ◌∷◌, [], ◌++◌, slice_set, Bool}
+use Rattle.std.specs.Prelude.{ℕ, List, Bool}
 use Rattle.name_table.specs.Table.{Table}
 use Rattle.soundness.specs.Points.{PointSet}
 
@@ -42,24 +42,3 @@ pub data Value : Type 0 where
 -- names, and what each stands for, in the order in which the names were made
 abbrev pub Names : Type 0
 Names = Table Value
-
--- ---- changes of a part
--- the system with these initial states at the location
-abbrev pub with_initial : TransitionSystem → ℕ → PointSet → TransitionSystem
-with_initial s location p =
-    record { dim = s.dim; initial = slice_set s.initial location p; transitions = s.transitions }
-
--- the system with one more transition
-abbrev pub with_transition : TransitionSystem → Transition → TransitionSystem
-with_transition s t =
-    record { dim = s.dim; initial = s.initial; transitions = s.transitions ++ t ∷ [] }
-
--- the automaton with this invariant of the location
-abbrev pub with_invariant : HybridAutomaton → ℕ → PointSet → HybridAutomaton
-with_invariant h location p =
-    record { system = h.system; invariants = slice_set h.invariants location p; flows = h.flows }
-
--- the automaton with these velocities at the location
-abbrev pub with_flow : HybridAutomaton → ℕ → PointSet → HybridAutomaton
-with_flow h location p =
-    record { system = h.system; invariants = h.invariants; flows = slice_set h.flows location p }

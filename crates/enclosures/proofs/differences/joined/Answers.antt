@@ -1,6 +1,5 @@
-use Rattle.std.proofs.Common.{IfOk, IfErr, ◌+◌}
+use Rattle.std.proofs.Common.{◌+◌}
 use Rattle.std.proofs.lemmas.Result.{IfOk-weaker, IfErr-weaker}
-use Rattle.cons_sys.specs.Constraints.{constraint_at}
 use Rattle.poly_pair.specs.TopologyLists.{list_width, generators_of}
 use Rattle.poly_pair.specs.Refusals.{IsOverflowOn}
 use Rattle.row_core.specs.Refusals.{IsOverflowIn}

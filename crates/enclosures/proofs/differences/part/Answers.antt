@@ -1,4 +1,3 @@
-use Rattle.std.proofs.Common.{sym, subst}
 use Rattle.cons_sys.specs.Constraints.{constraint_at}
 use Rattle.enclosures.proofs.JoinLemmas.{part_of}
 use Rattle.enclosures.proofs.differences.part.Goals as goal
