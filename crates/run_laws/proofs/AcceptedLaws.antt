@@ -55,7 +55,8 @@ use Rattle.run_laws.proofs.SetLaws.{Agrees}
 use Rattle.run_laws.proofs.SameTables.{agreeing_same}
 use Rattle.run_laws.proofs.TruthLaws.{ReadBack, IsToldTruly, run_truthful}
 
--- the laws that are cited: a line spells one command, a text says one thing, the generators of a polyhedron give one bound, and commands give a name one set
+-- the laws that are cited: a line spells one command, a text says one thing, the generators of a
+-- polyhedron give one bound, and commands give a name one set
 pub record OneMeaning : Type 0 where
   pub spells : SpellsOne
   pub point : PointHasOneAnswer
@@ -157,7 +158,8 @@ module _ (laws : OneMeaning) (earlier : List Act) where
   one_of : (name : List ℕ) (p q : Polyhedron) → IsSetOf earlier name p → IsSetOf earlier name q → AreSamePolyhedra p q
   one_of name p q h k = one_set laws.form earlier name p q h k
 
-  -- an answer about one operand, or two, is the same where it is the same of operands that are the same
+  -- an answer about one operand, or two, is the same where it is the same of operands that are the
+  -- same
   about_one : {A : Type 0} (kind : A → Entry) (name : List ℕ) (Says Said : A → Type 0) (E : Type 0) → ((x y : A) → IsEntryOf earlier name (kind x) → IsEntryOf earlier name (kind y) → AreSameEntries (kind x) (kind y) → Says x → Said y → E) →
       IsTrueOf kind earlier name Says → IsTrueOf kind earlier name Said → E
   about_one kind name Says Said E same a b = same a.operand b.operand a.given b.given (one_entry laws.form earlier name (kind a.operand) (kind b.operand) a.given b.given) a.says b.says

@@ -25,7 +25,8 @@ pub record Steps (Holds : Table → List Accepted → Type 0) : Type 0 where
   pub command : (old new : Table) (earlier : List Accepted) (c : Command) (text : List ℕ) → Holds old earlier → HasDistinctNames new → IsAccepted (meaning old c) old text new → Holds new (did c text ∷ earlier)
   pub file : (old new : Table) (earlier : List Accepted) (file : OpenFile) (text : List ℕ) → Holds old earlier → HasDistinctNames new → IsRead old file text new → Holds new (took file text ∷ earlier)
 
--- what lines and their replies come to from a file that is open, if any, and the property holds of it
+-- what lines and their replies come to from a file that is open, if any, and the property holds of
+-- it
 pub record Told (Holds : Table → List Accepted → Type 0) (file : Option OpenFile) (earlier : List Accepted) (lines : List (List ℕ)) (replies : List Reply) (new : State) : Type 0 where
   pub all : List Accepted
   pub accepted : AreAccepted file earlier lines replies all

@@ -20,7 +20,7 @@ use Rattle.script_text.specs.declared.command.Comparison.TheVariants as comparis
 use Rattle.script_text.specs.declared.command.Part.{Part}
 use Rattle.soundness.specs.Points.{PointSet, HasNoPoint}
 use Rattle.soundness.specs.Values.{Powerset}
-use Rattle.soundness.specs.Answers.{line, Tells, TellsWhether, LieSo, TellsHowTheyLie, relation_words, TellsRelation, IsWitness, bound_text, TellsBound, TellsExtremeOf}
+use Rattle.soundness.specs.Answers.{as_line, Tells, TellsWhether, LieSo, TellsHowTheyLie, relation_words, TellsRelation, IsWitness, bound_text, TellsBound, TellsExtremeOf}
 use Rattle.soundness.specs.Unions.{IsInUnion, TellsMissing, TellsCover}
 use Rattle.expr_text.specs.Printed.{generator_text}
 use Rattle.run_laws.specs.Allowed.{AreSame, AreSameUnions, AnswersAreOne, ShowOneBound, ExtremesAreOne}
@@ -52,8 +52,8 @@ one_comparison by p q x y reply other one two a b =
     one_telling (LieSo by p q) (LieSo by x y) reply other
     (lie_to by p q x y one two a.operands.variables, lie_to by x y p q (same_back p x one) (same_back q y two) b.operands.variables) a.tells b.tells
 
-one_has : (part : Part) (p q : PointSet) (reply other : List ℕ) → AreSame p q → (a : TellsWhether part p reply) (b : TellsWhether part q other) → a.point ≡ b.point → reply ≡ other
-one_has part p q reply other same a b e =
+one_has : (part text : Part) (p q : PointSet) (reply other : List ℕ) → AreSame p q → (a : TellsWhether part p reply) (b : TellsWhether text q other) → a.point ≡ b.point → reply ≡ other
+one_has part text p q reply other same a b e =
     one_telling (In p.cons a.point) (In q.cons b.point) reply other (subst (λ (v : List ℤ). In p.cons a.point ↔ In q.cons v) e (same.points a.point a.is_point)) a.tells b.tells
 
 -- ---- a constraint
@@ -76,13 +76,13 @@ divided_to : (p q : PointSet) (c : Constraint) → AreSame p q → HoldsSomewher
 divided_to p q c same (s, f) = (record { point = s.point; within = within_same p q s.point same s.within; holds = s.holds }, record { point = f.point; within = within_same p q f.point same f.within; fails = f.fails })
 
 abbrev words_of : Bool → Bool → Bool → Bool → List ℕ
-words_of a b c d = line (relation_words a b c d)
+words_of a b c d = as_line (relation_words a b c d)
 
 same_words : (a b c d e f g h : Bool) → a ≡ e → b ≡ f → c ≡ g → d ≡ h → words_of a b c d ≡ words_of e f g h
 same_words a b c d e f g h k l m n = ap (λ (x : Bool). words_of x b c d) k ∙ (ap (λ (x : Bool). words_of e x c d) l ∙ (ap (λ (x : Bool). words_of e f x d) m ∙ ap (λ (x : Bool). words_of e f g x) n))
 
-one_relation : (part : Part) (p q : PointSet) (reply other : List ℕ) → AreSame p q → (a : TellsRelation part p reply) (b : TellsRelation part q other) → a.constraint ≡ b.constraint → reply ≡ other
-one_relation part p q reply other same a b e =
+one_relation : (part text : Part) (p q : PointSet) (reply other : List ℕ) → AreSame p q → (a : TellsRelation part p reply) (b : TellsRelation text q other) → a.constraint ≡ b.constraint → reply ≡ other
+one_relation part text p q reply other same a b e =
     let c = a.constraint in
     let back = same_back p q same in
     let at : (P : Constraint → Type 0) → P b.constraint → P c = λ P h. subst P (sym e) h in
@@ -97,21 +97,21 @@ one_relation part p q reply other same a b e =
 
 -- ---- covers
 -- a reply that shows a point isn't `yes`
-no_yes : (rest : List ℕ) → line (codes "no " ++ rest) ≢ line (codes "yes")
+no_yes : (rest : List ℕ) → as_line (codes "no " ++ rest) ≢ as_line (codes "yes")
 no_yes rest e = let first : 110 ≡ 121 = ap (λ (l : List ℕ). slice_index_or l 0 0) e in absurd (omega (arith, first))
 
 -- each point of the second is in the first
 abbrev Covers : Powerset → Powerset → Type 0
 Covers s t = (v : List ℤ) → IsPoint s.dim v → IsInUnion t v → IsInUnion s v
 
-says_yes : (s t x y : Powerset) (reply other : List ℕ) → AreSameUnions s x → AreSameUnions t y → s.dim ≡ t.dim → (Covers s t × (reply ≡ line (codes "yes"))) ⊎ TellsMissing s t reply → (Covers x y × (other ≡ line (codes "yes"))) ⊎ TellsMissing x y other → reply ≡ line (codes "yes") → other ≡ line (codes "yes")
+says_yes : (s t x y : Powerset) (reply other : List ℕ) → AreSameUnions s x → AreSameUnions t y → s.dim ≡ t.dim → (Covers s t × (reply ≡ as_line (codes "yes"))) ⊎ TellsMissing s t reply → (Covers x y × (other ≡ as_line (codes "yes"))) ⊎ TellsMissing x y other → reply ≡ as_line (codes "yes") → other ≡ as_line (codes "yes")
 says_yes s t x y reply other one two d a (inl b) e = b.1
 says_yes s t x y reply other one two d (inl a) (inr m) e =
     let at : IsPoint s.dim m.point = moved x.dim s.dim m.point (sym one.alike.variables) m.is_point in
     absurd (m.outside ((one.points m.point at).0 (a.0 m.point at ((two.points m.point (moved s.dim t.dim m.point d at)).1 m.within))))
 says_yes s t x y reply other one two d (inr m) (inr k) e = absurd (no_yes (generator_text s.dim (m.point, Point)) (sym m.said ∙ e))
 
-one_cover : (s t x y : Powerset) (reply other : List ℕ) → AreSameUnions s x → AreSameUnions t y → TellsCover s t reply → TellsCover x y other → (reply ≡ line (codes "yes")) ↔ (other ≡ line (codes "yes"))
+one_cover : (s t x y : Powerset) (reply other : List ℕ) → AreSameUnions s x → AreSameUnions t y → TellsCover s t reply → TellsCover x y other → (reply ≡ as_line (codes "yes")) ↔ (other ≡ as_line (codes "yes"))
 one_cover s t x y reply other one two a b = (
   says_yes s t x y reply other one two a.operands.variables a.tells b.tells,
   says_yes x y s t other reply (unions_back s x one) (unions_back t y two) b.operands.variables b.tells a.tells,
@@ -171,9 +171,9 @@ show_one up row p q reply other same a b e =
       said = a.said;
       said_other =
           b.said
-          ∙ (ap (λ (d : ℕ). line (bound_text d b.num b.den b.attained b.witness)) (sym same.alike.variables)
-          ∙ (ap (λ (n : ℤ). line (bound_text p.cons.dim n b.den b.attained b.witness)) (sym num)
-          ∙ (ap (λ (d : ℤ). line (bound_text p.cons.dim a.num d b.attained b.witness)) (sym den) ∙ ap (λ (t : Bool). line (bound_text p.cons.dim a.num a.den t b.witness)) (sym attained))));
+          ∙ (ap (λ (d : ℕ). as_line (bound_text d b.num b.den b.attained b.witness)) (sym same.alike.variables)
+          ∙ (ap (λ (n : ℤ). as_line (bound_text p.cons.dim n b.den b.attained b.witness)) (sym num)
+          ∙ (ap (λ (d : ℤ). as_line (bound_text p.cons.dim a.num d b.attained b.witness)) (sym den) ∙ ap (λ (t : Bool). as_line (bound_text p.cons.dim a.num a.den t b.witness)) (sym attained))));
     }
 
 extreme_by : HasOneBound → (up : Bool) (row : List ℤ) (p q : PointSet) (reply other : List ℕ) → AreSame p q → (a : TellsExtremeOf up row p reply) (b : TellsExtremeOf up row q other) → (reply ≡ other) ⊎ ShowOneBound row p q reply other

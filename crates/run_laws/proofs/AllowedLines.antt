@@ -1,6 +1,8 @@
 -- Only a line that is answered by `ok` changes what names stand for, and a line has one answer.
-use Rattle.std.proofs.Common.{◌≡◌, ◌≢◌, ◌⊎◌, inl, inr, ℕ, ◌<◌, List, ◌++◌, refl, ap, sym, ◌∙◌, subst, arith, codes}
+use Rattle.std.proofs.Common.{◌≡◌, ◌≢◌, ◌⊎◌, inl, inr, ℕ, ◌<◌, List, [], ◌∷◌, ◌++◌, refl, ap, sym, ◌∙◌, subst, arith, codes}
 use Rattle.std.specs.Prelude.{◌↔◌, ℤ, Option, None, Some, slice_index_or}
+use Rattle.std.specs.List.{AllZip}
+use Rattle.std.proofs.lemmas.List.Elements.{All-head, All-tail}
 use Rattle.cons_sys.specs.Constraints.{In}
 use Rattle.name_table.specs.Table.{entry_of}
 use Rattle.script_text.specs.declared.command.Command.{Command}
@@ -10,10 +12,11 @@ use Rattle.script_text.specs.declared.command.Part.{Part}
 use Rattle.soundness.specs.Points.{PointSet, HasNoPoint}
 use Rattle.soundness.specs.Values.{Polyhedron, Names}
 use Rattle.soundness.specs.TextsSystems.{PointText}
-use Rattle.soundness.specs.Answers.{line, ok, TellsWhether}
+use Rattle.soundness.specs.Answers.{as_line, ok, TellsWhether}
 use Rattle.soundness.specs.Commands.{Does}
-use Rattle.soundness.specs.Replies.{OpenFile, State, IsRefusal, IsPerformed, IsUnrefused, IsReply}
-use Rattle.run_laws.specs.Allowed.{AreSame, OnlyOkChanges, AskTheSame, LinesHaveOneAnswer}
+use Rattle.soundness.specs.TextsLines.{Spells}
+use Rattle.soundness.specs.Replies.{OpenFile, State, IsRefusal, file_begun, IsPerformed, IsUnrefused, IsReply, IsEndReply, AreReplies}
+use Rattle.run_laws.specs.Allowed.{AreSame, OnlyOkChanges, AskTheSame, LinesHaveOneAnswer, AreOneReply, QuestionsHaveOneAnswer}
 use Rattle.run_laws.proofs.AllowedAnswers.{one_telling, one_comparison}
 
 module _ (old : Names) (reply : List ℕ) (new : Names) (other : reply ≢ ok) where
@@ -82,9 +85,9 @@ no_ok reply h e = by h.said
     not_apart : (m n : ℕ) → m < n → m ≡ n → ⊥
     not_apart m n less e = omega (arith, less, e)
 
-    by : (reply ≡ line (codes "fault " ++ h.rest)) ⊎ (reply ≡ line (codes "overflow " ++ h.rest)) → ⊥
-    by (inl f) = (let two : line (codes "fault " ++ h.rest) ≡ ok = sym f ∙ e in not_apart 102 111 (omega arith) (ap (λ (l : List ℕ). slice_index_or l 0 0) two))
-    by (inr f) = (let two : line (codes "overflow " ++ h.rest) ≡ ok = sym f ∙ e in apart 118 107 (omega arith) (ap (λ (l : List ℕ). slice_index_or l 1 0) two))
+    by : (reply ≡ as_line (codes "fault " ++ h.rest)) ⊎ (reply ≡ as_line (codes "overflow " ++ h.rest)) → ⊥
+    by (inl f) = (let two : as_line (codes "fault " ++ h.rest) ≡ ok = sym f ∙ e in not_apart 102 111 (omega arith) (ap (λ (l : List ℕ). slice_index_or l 0 0) two))
+    by (inr f) = (let two : as_line (codes "overflow " ++ h.rest) ≡ ok = sym f ∙ e in apart 118 107 (omega arith) (ap (λ (l : List ℕ). slice_index_or l 1 0) two))
 
 pub only_ok_changes : OnlyOkChanges
 only_ok_changes = record { others = only_ok; refused = no_ok }
@@ -135,3 +138,59 @@ lines_have_one_answer old text reply other new next shut one a b answered other_
     let f = done old text reply new shut answered a in
     let g = done old text other next shut other_answered b in
     one_answer old.names reply other new.names next.names f.command g.command (one f.command g.command f.spelled g.spelled) f.does g.does
+
+-- ---- questions
+asks_no_file : (c : Command) → AskTheSame c c → file_begun c ≡ None
+asks_no_file (command.Isempty p) same = refl
+asks_no_file (command.Compare by p q) same = refl
+asks_no_file (command.Has p part) same = refl
+asks_no_file c same = absurd same
+
+asks_only : (c : Command) (old : Names) (reply : List ℕ) (new : Names) → AskTheSame c c → Does c old reply new → new ≡ old
+asks_only (command.Isempty p) old reply new same h = h.is.0
+asks_only (command.Compare by p q) old reply new same h = h.is.0
+asks_only (command.Has p part) old reply new same h = h.is.0
+asks_only c old reply new same h = absurd same
+
+abbrev AsksOne : List ℕ → Type 0
+AsksOne text = (c d : Command) → Spells text c → Spells text d → AskTheSame c d
+
+abbrev with_names : Names → State
+with_names names = record { names = names; file = None }
+
+performed : (old : State) (text reply : List ℕ) (new : State) → old.file ≡ None → IsUnrefused old.names old.file text reply new → IsPerformed old.names text reply new
+performed old text reply new shut h = subst (λ (file : Option OpenFile). IsUnrefused old.names file text reply new) shut h
+
+-- a question leaves the names, and no file is open after it
+stays : (old : State) (text reply : List ℕ) (new : State) → old.file ≡ None → AsksOne text → IsReply old text reply new → new ≡ with_names old.names
+stays old text reply new shut one (inl h) = h.1.1
+stays old text reply new shut one (inr h) =
+    let p = performed old text reply new shut h in
+    let same = one p.command p.command p.spelled p.spelled in
+    ap (λ (names : Names). record { names = names; file = new.file }) (asks_only p.command old.names reply new.names same p.does)
+    ∙ ap (λ (file : Option OpenFile). record { names = old.names; file = file }) (p.file ∙ asks_no_file p.command same)
+
+one_reply : (old : State) (text reply other : List ℕ) (new next : State) → old.file ≡ None → AsksOne text → IsReply old text reply new → IsReply old text other next → AreOneReply reply other
+one_reply old text reply other new next shut one (inl h) b = inl h.1.0
+one_reply old text reply other new next shut one (inr h) (inl k) = inr (inl k.1.0)
+one_reply old text reply other new next shut one (inr h) (inr k) =
+    let f = performed old text reply new shut h in
+    let g = performed old text other next shut k in
+    inr (inr (one_answer old.names reply other new.names next.names f.command g.command (one f.command g.command f.spelled g.spelled) f.does g.does))
+
+no_end : (old : State) (replies : List (List ℕ)) → old.file ≡ None → IsEndReply old.file replies → replies ≡ []
+no_end old replies shut h = subst (λ (file : Option OpenFile). IsEndReply file replies) shut h
+
+pub questions_have_one_answer : QuestionsHaveOneAnswer
+questions_have_one_answer old [] replies others shut each a b =
+    subst (λ (xs : List (List ℕ)). AllZip AreOneReply xs others) (sym (no_end old replies shut a))
+    (subst (λ (ys : List (List ℕ)). AllZip AreOneReply [] ys) (sym (no_end old others shut b)) tt)
+questions_have_one_answer old (text ∷ texts) [] others shut each a b = absurd a
+questions_have_one_answer old (text ∷ texts) (reply ∷ replies) [] shut each a b = absurd b
+questions_have_one_answer old (text ∷ texts) (reply ∷ replies) (other ∷ others) shut each (new, x, xs) (next, y, ys) =
+    let one = All-head AsksOne text texts each in (
+      one_reply old text reply other new next shut one x y,
+      questions_have_one_answer (with_names old.names) texts replies others refl (All-tail AsksOne text texts each)
+          (subst (λ (s : State). AreReplies s texts replies) (stays old text reply new shut one x) xs)
+          (subst (λ (s : State). AreReplies s texts others) (stays old text other next shut one y) ys),
+    )

@@ -17,9 +17,9 @@ same_between s t x y same one other = same_on x s y (same_back s x one) (same_on
 pub prints_say_one : PrintsSayOne
 prints_say_one = record {
   constraints = λ s t x y reply other same a b c d e f.
-      same_between s t x y same (texts_make_one.constraints s.nnc s.cons.dim a.text s x a.is c e)
-      (texts_make_one.constraints t.nnc t.cons.dim b.text t y b.is d f);
+      same_between s t x y same (texts_make_one.constraints s.nnc s.cons.dim a.text a.text s x a.is c e)
+      (texts_make_one.constraints t.nnc t.cons.dim b.text b.text t y b.is d f);
   generators = λ s t x y reply other same a b c d e f.
-      same_between s t x y same (texts_make_one.generators s.nnc s.cons.dim a.text s x a.is c e)
-      (texts_make_one.generators t.nnc t.cons.dim b.text t y b.is d f);
+      same_between s t x y same (texts_make_one.generators s.nnc s.cons.dim a.text a.text s x a.is c e)
+      (texts_make_one.generators t.nnc t.cons.dim b.text b.text t y b.is d f);
 }

@@ -247,8 +247,8 @@ comes_to : (by : Mapping) (rel : Rel) (var : ℕ) (expr : List ℤ) (divisor : �
 comes_to Image rel var expr divisor p q v below is same h = image_to rel var expr divisor p q v same h
 comes_to Preimage rel var expr divisor p q v below is same h = preimage_to rel var expr divisor p q v below is same h
 
-one_image : (by : Mapping) (var : ℕ) (rel : Rel) (part : Part) (p q s t : PointSet) → AreSame p q → (a : IsMapped by var rel part p s) (b : IsMapped by var rel part q t) → a.expr ≡ b.expr → a.divisor ≡ b.divisor → AreSame s t
-one_image by var rel part p q s t same a b e f =
+one_image : (by : Mapping) (var : ℕ) (rel : Rel) (part text : Part) (p q s t : PointSet) → AreSame p q → (a : IsMapped by var rel part p s) (b : IsMapped by var rel text q t) → a.expr ≡ b.expr → a.divisor ≡ b.divisor → AreSame s t
+one_image by var rel part text p q s t same a b e f =
     one_of p.nnc q.nnc p.cons.dim q.cons.dim (ComesOf by rel var a.expr (pos a.divisor) p.cons) (ComesOf by rel var a.expr (pos a.divisor) q.cons) s t same.alike.kind same.alike.variables
     (λ v is. (
       comes_to by rel var a.expr (pos a.divisor) p q v a.below is same,
@@ -256,16 +256,16 @@ one_image by var rel part p q s t same a b e f =
     )) a.set
     (subst (λ (u : List ℤ). IsSetOf q.nnc q.cons.dim (ComesOf by rel var u (pos a.divisor) q.cons) t) (sym e) (subst (λ (d : ℕ). IsSetOf q.nnc q.cons.dim (ComesOf by rel var b.expr (pos d) q.cons) t) (sym f) b.set))
 
-one_added : (part : Part) (p q s t : PointSet) → AreSame p q → (a : IsAdded part p s) (b : IsAdded part q t) → a.list ≡ b.list → AreSame s t
-one_added part p q s t same a b e =
+one_added : (part text : Part) (p q s t : PointSet) → AreSame p q → (a : IsAdded part p s) (b : IsAdded text q t) → a.list ≡ b.list → AreSame s t
+one_added part text p q s t same a b e =
     one_of p.nnc q.nnc p.cons.dim q.cons.dim (λ v. In p.cons v × In (constraints p.cons.dim a.list) v) (λ v. In q.cons v × In (constraints q.cons.dim a.list) v) s t same.alike.kind same.alike.variables
     (λ v is. (let f = same.points v is in (λ x. (f.0 x.0, x.1), λ y. (f.1 y.0, y.1)))) a.set
     (subst (λ (list : List Constraint). IsSetOf q.nnc q.cons.dim (λ v. In q.cons v × In (constraints q.cons.dim list) v) t) (sym e) b.set)
 
 pub texts_make_one : TextsMakeOne
 texts_make_one = record {
-  constraints = λ nnc dim text s t a b e. one_set nnc dim (In (constraints dim a.list)) s t a.set (subst (λ (list : List Constraint). IsSetOf nnc dim (In (constraints dim list)) t) (sym e) b.set);
-  generators = λ nnc dim text s t a b e. one_set nnc dim (Span (generators dim a.list)) s t a.set (subst (λ (list : List Generator). IsSetOf nnc dim (Span (generators dim list)) t) (sym e) b.set);
+  constraints = λ nnc dim text other s t a b e. one_set nnc dim (In (constraints dim a.list)) s t a.set (subst (λ (list : List Constraint). IsSetOf nnc dim (In (constraints dim list)) t) (sym e) b.set);
+  generators = λ nnc dim text other s t a b e. one_set nnc dim (Span (generators dim a.list)) s t a.set (subst (λ (list : List Generator). IsSetOf nnc dim (Span (generators dim list)) t) (sym e) b.set);
   added = one_added;
   images = one_image;
 }

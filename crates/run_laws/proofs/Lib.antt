@@ -27,3 +27,5 @@ pub mod AllowedFiles
 pub mod AllowedLines
 pub mod AllowedRuns
 pub mod AllowedPrints
+pub mod SameNames
+pub mod AllowedScripts

@@ -21,8 +21,10 @@ use Rattle.poly_pair.specs.declared.topology.Topology.TheVariants.{Closed, Nnc}
 use Rattle.line_values.specs.Proper.{IsProper}
 use Rattle.run_laws.specs.Sameness.{AreSamePolyhedra}
 
--- the laws that are cited: a text says one system; a closed set is stored in one way; both systems of a polyhedron hold
--- the same points, and there is no generator where there is none; what is joined to generators adds to their points alone; there is one widening, one limit of a system, and one of an automaton; a file holds one list
+-- the laws that are cited: a text says one system; a closed set is stored in one way; both systems
+-- of a polyhedron hold the same points, and there is no generator where there is none; what is
+-- joined to generators adds to their points alone; there is one widening, one limit of a system,
+-- and one of an automaton; a file holds one list
 pub record OneForm : Type 0 where
   pub cons : ConsHasOneAnswer
   pub gens : GensHasOneAnswer

@@ -1,4 +1,5 @@
--- Operands that are the same give the same shapes; a shape gives one polyhedron, and a relation one set of ranking functions.
+-- Operands that are the same give the same shapes; a shape gives one polyhedron, and a relation one
+-- set of ranking functions.
 use Rattle.std.proofs.Common.{◌≡◌, ℕ, ◌+◌, List, sym, ◌∙◌, subst}
 use Rattle.std.specs.Prelude.{◌↔◌, ℤ, Option, None, Some, IfSome}
 use Rattle.row_core.specs.Points.{IsPoint}

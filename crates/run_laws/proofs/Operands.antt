@@ -1,56 +1,23 @@
 -- What an accepted command says of its operands.
-use Rattle.std.proofs.Common.{◌≡◌, ◌≢◌, ℕ, ◌+◌, ◌%◌, ◌<◌, ◌≤◌, Bool, true, false, refl, inl, inr, arith}
+use Rattle.std.proofs.Common.{◌≡◌, ℕ, ◌%◌, ◌<◌, inl, inr, arith}
 use Rattle.std.proofs.lemmas.Bool.{cases_lt}
 use Rattle.poly_pair.specs.Polyhedra.{Polyhedron, AreAlike}
-use Rattle.poly_pair.specs.declared.topology.Topology.{Topology}
-use Rattle.poly_pair.specs.declared.topology.Topology.TheVariants.{Closed, Nnc}
+use Rattle.poly_pair.specs.declared.topology.Topology.TheVariants.{Closed}
 use Rattle.powerset.specs.Powersets.{FinitePowerset}
 use Rattle.bd_shape.specs.Shapes.{DifferenceShape}
-use Rattle.script_text.specs.declared.command.Operator.{Operator}
 use Rattle.line_values.specs.Order.{Conditions, Passes}
 use Rattle.line_values.specs.Meaning.{alike}
-use Rattle.poly_makers.specs.Operators.{adds_dims, fitting_by, fitting, FitDimsBy, Fits}
 use Rattle.calc_state.specs.Powersets.{alike_unions, misses_member}
 use Rattle.ranking_commands.specs.Rankings.{relates_states}
 use Rattle.calc_state.specs.Shapes.{closed, of_one_dim}
 use Rattle.poly_makers.specs.Widening.{nested, IsWidened}
+use Rattle.soundness.proofs.Operands.{one_topology, one_number}
 use Rattle.run_laws.specs.Sets.{AreAlikePowersets, HaveOneDim, IsOfNested}
 
 -- ---- the operands of a command that passes its tests
-pub one_topology : (s t : Topology) → ¬ (s ≢ t) → s ≡ t
-one_topology Closed Closed h = refl
-one_topology Nnc Nnc h = refl
-one_topology Closed Nnc h = absurd (h (λ e. cc))
-one_topology Nnc Closed h = absurd (h (λ e. cc))
-
-at_most : (m n : ℕ) → ¬ (m < n) → n ≤ m
-at_most m n h =
-    elim (cases_lt m n) [
-      | inl less ↦ absurd (h less)
-      | inr least ↦ omega (arith, least)
-    ]
-
-one_number : (m n : ℕ) → ¬ (m ≢ n) → m ≡ n
-one_number m n h =
-    elim (cases_lt m n) [
-      | inl less ↦ absurd (h (λ e. omega (arith, less, e)))
-      | inr least ↦ elim (cases_lt n m) [
-        | inl more ↦ absurd (h (λ e. omega (arith, more, e)))
-        | inr most ↦ omega (arith, least, most)
-      ]
-    ]
-
 -- two polyhedra
 pub are_alike : (p q : Polyhedron) (others : Conditions) → Passes (alike p q others) → AreAlike p q
 are_alike p q others passes = record { topology = one_topology p.topology q.topology passes.1.0; dim = one_number p.cons.dim q.cons.dim passes.1.1.1.0 }
-
--- those of an operator
-fit_by : (adds : Bool) (p q : Polyhedron) (others : Conditions) → Passes (fitting_by adds p q others) → (p.topology ≡ q.topology) × FitDimsBy adds p q
-fit_by true p q others passes = (one_topology p.topology q.topology passes.1.0, at_most _ (p.cons.dim + q.cons.dim) passes.1.1.1.1.0)
-fit_by false p q others passes = (one_topology p.topology q.topology passes.1.0, one_number p.cons.dim q.cons.dim passes.1.1.1.0)
-
-pub fit_operator : (op : Operator) (p q : Polyhedron) (others : Conditions) → Passes (fitting op p q others) → Fits op p q
-fit_operator op p q others passes = fit_by (adds_dims op) p q others passes
 
 -- two powersets
 pub are_alike_unions : (s t : FinitePowerset) (others : Conditions) → Passes (alike_unions s t others) → AreAlikePowersets s t

@@ -56,8 +56,10 @@ use Rattle.run_laws.proofs.AcceptedRuns.{Steps, run_told}
 use Rattle.run_laws.proofs.TableLaws.{entry_of-put, entry_of-without, distinct_keys, names-put, names-put_there, names-without}
 use Rattle.run_laws.proofs.NumberedLaws.{AtNumber, entry_of-put_each, names-put_each, has_locations}
 use Rattle.run_laws.proofs.OneSystem.{run_count, reach_count}
-use Rattle.run_laws.proofs.EntryKinds.{IsKind, poly_there, system_there, powerset_there, shape_there, hybrid_there, put_made}
-use Rattle.run_laws.proofs.Operands.{one_topology, fit_operator, are_alike_unions, have_one_dim, is_closed, is_closed_relation, is_even, is_counted, of_nested}
+use Rattle.calc_state.proofs.EntryKinds.{IsKind, poly_there, system_there, powerset_there, shape_there, hybrid_there}
+use Rattle.run_laws.proofs.EntryKinds.{put_made}
+use Rattle.soundness.proofs.Operands.{one_topology, fit_operator}
+use Rattle.run_laws.proofs.Operands.{are_alike_unions, have_one_dim, is_closed, is_closed_relation, is_even, is_counted, of_nested}
 use Rattle.run_laws.proofs.OneForm.{OneForm}
 use Rattle.run_laws.proofs.OneSet.{entry_kept, set_proper, one_entry}
 

@@ -58,12 +58,14 @@ use Rattle.run_laws.specs.Laws.{AnswersAreTrue}
 use Rattle.run_laws.specs.Truth.{SaysWhether, IsTrueOf, IsTrueOfTwo, SaysTruth, LieSo, SaysHowItLies, IsShownBy, SaysExtremum, SaysSide, SaysCover, SaysRanking, SaysBounds, IsTruthful, AreTruthful}
 use Rattle.run_laws.proofs.KindTruth.{cover_says, ranking_says, bounds_say}
 use Rattle.run_laws.proofs.OneForm.{same_dims}
-use Rattle.run_laws.proofs.Operands.{are_alike, are_alike_unions, have_one_dim, is_closed_relation, one_topology}
+use Rattle.soundness.proofs.Operands.{one_topology}
+use Rattle.run_laws.proofs.Operands.{are_alike, are_alike_unions, have_one_dim, is_closed_relation}
 use Rattle.run_laws.proofs.OneSet.{entry_kept, set_proper}
 use Rattle.run_laws.proofs.AcceptedRuns.{Steps, Told, run_told}
 use Rattle.run_laws.proofs.SetLaws.{Stands, Agrees, poly_at, powerset_at, shape_at, nothing_agrees, agrees_command, agrees_file}
 
--- the laws that are cited: what is printed is read back, both stored systems hold the same points, the generator of a bound shows it, and a printed function ranks its relation
+-- the laws that are cited: what is printed is read back, both stored systems hold the same points,
+-- the generator of a bound shows it, and a printed function ranks its relation
 pub record ReadBack : Type 0 where
   pub cons : ConstraintsAreReadBack
   pub gens : GeneratorsAreReadBack

@@ -1,4 +1,5 @@
--- Closed polyhedra with the same points are printed alike, and those that are printed alike have the same points.
+-- Closed polyhedra with the same points are printed alike, and those that are printed alike have
+-- the same points.
 use Rattle.std.proofs.Common.{◌≡◌, ℕ, List, [], ◌∷◌, refl, ap, sym, ◌∙◌, subst, Bool, true, false}
 use Rattle.std.proofs.lemmas.List.{append_cancel_right}
 use Rattle.row_core.specs.Points.{IsPoint}
@@ -21,7 +22,8 @@ use Rattle.poly_questions.specs.Questions.{side_text}
 use Rattle.line_values.specs.Proper.{IsProper}
 use Rattle.run_laws.specs.Prints.{PrintsTellPoints}
 
--- the laws that are cited: a closed set is stored in one way, by systems of one dimension; both hold the same points; what is printed is read back
+-- the laws that are cited: a closed set is stored in one way, by systems of one dimension; both
+-- hold the same points; what is printed is read back
 pub record PrintLaws : Type 0 where
   pub unique : StoredIsUnique
   pub closed : StoredIsClosed

@@ -26,12 +26,19 @@ took file text = record { act = Took file; answer = text }
 abbrev pub acts : List Accepted → List Act
 acts all = map (λ a. a.act) all
 
--- from a file that is open, if any, and behind the earlier ones: what the answered lines come to, the last one first; a refused line is passed over, and no file is open behind it
-abbrev pub AreAccepted : Option OpenFile → List Accepted → List (List ℕ) → List Reply → List Accepted → Type 0
+-- from a file that is open, if any, and behind the earlier ones: what the answered lines come to,
+-- the last one first; a refused line is passed over, and no file is open behind it
+abbrev pub AreAccepted :
+    Option OpenFile → List Accepted → List (List ℕ) → List Reply → List Accepted → Type 0
 AreAccepted file earlier [] [] all = all ≡ earlier
-AreAccepted None earlier (line ∷ lines) (Answered text ∷ replies) all = (c : Command) × Spells line c × AreAccepted (opens c) (did c text ∷ earlier) lines replies all
-AreAccepted (Some file) earlier (line ∷ lines) (Answered text ∷ replies) all = (¬ (IsEnd line) × AreAccepted (Some (with_line file line)) earlier lines replies all) ⊎ (IsEnd line × AreAccepted None (took (with_line file line) text ∷ earlier) lines replies all)
-AreAccepted file earlier (line ∷ lines) (Refused fault ∷ replies) all = AreAccepted None earlier lines replies all
-AreAccepted file earlier (line ∷ lines) (Overflows over ∷ replies) all = AreAccepted None earlier lines replies all
+AreAccepted None earlier (line ∷ lines) (Answered text ∷ replies) all =
+    (c : Command) × Spells line c × AreAccepted (opens c) (did c text ∷ earlier) lines replies all
+AreAccepted (Some file) earlier (line ∷ lines) (Answered text ∷ replies) all =
+    (¬ (IsEnd line) × AreAccepted (Some (with_line file line)) earlier lines replies all)
+    ⊎ (IsEnd line × AreAccepted None (took (with_line file line) text ∷ earlier) lines replies all)
+AreAccepted file earlier (line ∷ lines) (Refused fault ∷ replies) all =
+    AreAccepted None earlier lines replies all
+AreAccepted file earlier (line ∷ lines) (Overflows over ∷ replies) all =
+    AreAccepted None earlier lines replies all
 AreAccepted file earlier [] (reply ∷ replies) all = ⊥
 AreAccepted file earlier (line ∷ lines) [] all = ⊥

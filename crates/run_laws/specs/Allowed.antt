@@ -1,5 +1,6 @@
 -- What the clause `sound` allows: of the same sets one result and one answer.
-use Rattle.std.specs.Prelude.{◌≡◌, ◌≢◌, ◌⊎◌, ◌↔◌, ℕ, List, Bool, ℤ, codes, slice_get, None, Some}
+use Rattle.std.specs.Prelude.{◌≡◌, ◌≢◌, ◌⊎◌, ◌↔◌, ℕ, List, Bool, ℤ, codes, slice_get, None, Some, All}
+use Rattle.std.specs.List.{AllZip}
 use Rattle.row_core.specs.Points.{IsPoint}
 use Rattle.elapse.specs.ElapsedPoints.{IsMoved}
 use Rattle.affine_maps.specs.Posts.{IsStepTo}
@@ -17,14 +18,14 @@ use Rattle.script_text.specs.declared.command.Space.{Space}
 use Rattle.soundness.specs.Points.{PointSet, AreAlike, HasNoPoint, HaveSamePoints}
 use Rattle.soundness.specs.Values.{Powerset, Transition, TransitionSystem, HybridAutomaton}
 use Rattle.soundness.specs.Sets.{IsOfConstraints, IsOfGenerators, IsSpace, IsCopy, IsAdded, IsClosure, IsOfTwo, IsExtended, IsRemoved, IsMapped}
-use Rattle.soundness.specs.Answers.{line, ok, Tells, TellsWhether, TellsHowTheyLie, TellsRelation, IsWitness, bound_text, TellsExtremeOf, TellsConstraints, TellsGenerators}
+use Rattle.soundness.specs.Answers.{as_line, ok, Tells, TellsWhether, TellsHowTheyLie, TellsRelation, IsWitness, bound_text, TellsExtremeOf, TellsConstraints, TellsGenerators}
 use Rattle.soundness.specs.Unions.{IsInUnion, IsCombined, AreAlikeUnions, TellsCover, AreRankings}
 use Rattle.soundness.specs.Shapes.{IsSmallestShape, IsOfTwoShapes}
 use Rattle.soundness.specs.Systems.{IsAt, AreInvariant, AreReached}
 use Rattle.soundness.specs.Files.{IsRead}
 use Rattle.soundness.specs.TextsSystems.{PointText}
-use Rattle.soundness.specs.TextsLines.{Spelled}
-use Rattle.soundness.specs.Replies.{State, IsRefusal, IsReply}
+use Rattle.soundness.specs.TextsLines.{Spells}
+use Rattle.soundness.specs.Replies.{State, IsRefusal, IsReply, AreReplies}
 
 -- ---- the same sets
 -- of one kind, over the same variables, with the same points
@@ -65,19 +66,19 @@ pub record ResultsAreOne : Type 0 where
   pub shapes : OfOneIsOne IsSmallestShape
   pub shape_operators : (op : ShapeOperator) → OfTwoIsOne (IsOfTwoShapes op)
 
--- of the same sets, and of a text that says the same, `cons`, `gens`, `add`, `image` and `preimage`
+-- of the same sets, and of texts that say the same, `cons`, `gens`, `add`, `image` and `preimage`
 -- make one set
 pub record TextsMakeOne : Type 0 where
-  pub constraints : (nnc : Bool) (dim : ℕ) (text : List ℕ) (s t : PointSet)
-      (a : IsOfConstraints nnc dim text s) (b : IsOfConstraints nnc dim text t)
+  pub constraints : (nnc : Bool) (dim : ℕ) (text other : List ℕ) (s t : PointSet)
+      (a : IsOfConstraints nnc dim text s) (b : IsOfConstraints nnc dim other t)
       → a.list ≡ b.list → AreSame s t
-  pub generators : (nnc : Bool) (dim : ℕ) (text : List ℕ) (s t : PointSet)
-      (a : IsOfGenerators nnc dim text s) (b : IsOfGenerators nnc dim text t)
+  pub generators : (nnc : Bool) (dim : ℕ) (text other : List ℕ) (s t : PointSet)
+      (a : IsOfGenerators nnc dim text s) (b : IsOfGenerators nnc dim other t)
       → a.list ≡ b.list → AreSame s t
-  pub added : (part : Part) (p q s t : PointSet) → AreSame p q
-      → (a : IsAdded part p s) (b : IsAdded part q t) → a.list ≡ b.list → AreSame s t
-  pub images : (by : Mapping) (var : ℕ) (rel : Rel) (part : Part) (p q s t : PointSet)
-      → AreSame p q → (a : IsMapped by var rel part p s) (b : IsMapped by var rel part q t)
+  pub added : (part text : Part) (p q s t : PointSet) → AreSame p q
+      → (a : IsAdded part p s) (b : IsAdded text q t) → a.list ≡ b.list → AreSame s t
+  pub images : (by : Mapping) (var : ℕ) (rel : Rel) (part text : Part) (p q s t : PointSet)
+      → AreSame p q → (a : IsMapped by var rel part p s) (b : IsMapped by var rel text q t)
       → a.expr ≡ b.expr → a.divisor ≡ b.divisor → AreSame s t
 
 -- `join` and `pmeet` make of the same powersets one set of points, however it is cut into members
@@ -90,22 +91,22 @@ abbrev pub FilesAreOne : Type 0
 FilesAreOne = (ext : Bool) (bytes : List ℕ) → HasOne (IsRead ext bytes)
 
 -- ---- answers
--- of the same sets, and of a text that says the same, `isempty`, `contains`, `equal`, `disjoint`,
+-- of the same sets, and of texts that say the same, `isempty`, `contains`, `equal`, `disjoint`,
 -- `scontains`, `has` and `relation` have one answer, and `covers` one `yes` or `no`
 pub record AnswersAreOne : Type 0 where
   pub isempty : (p q : PointSet) (reply other : List ℕ) → AreSame p q
       → Tells (HasNoPoint p) reply → Tells (HasNoPoint q) other → reply ≡ other
   pub comparisons : (by : Comparison) (p q x y : PointSet) (reply other : List ℕ) → AreSame p x
       → AreSame q y → TellsHowTheyLie by p q reply → TellsHowTheyLie by x y other → reply ≡ other
-  pub has : (part : Part) (p q : PointSet) (reply other : List ℕ) → AreSame p q
-      → (a : TellsWhether part p reply) (b : TellsWhether part q other)
+  pub has : (part text : Part) (p q : PointSet) (reply other : List ℕ) → AreSame p q
+      → (a : TellsWhether part p reply) (b : TellsWhether text q other)
       → a.point ≡ b.point → reply ≡ other
-  pub relations : (part : Part) (p q : PointSet) (reply other : List ℕ) → AreSame p q
-      → (a : TellsRelation part p reply) (b : TellsRelation part q other)
+  pub relations : (part text : Part) (p q : PointSet) (reply other : List ℕ) → AreSame p q
+      → (a : TellsRelation part p reply) (b : TellsRelation text q other)
       → a.constraint ≡ b.constraint → reply ≡ other
   pub covers : (s t x y : Powerset) (reply other : List ℕ) → AreSameUnions s x
       → AreSameUnions t y → TellsCover s t reply → TellsCover x y other
-      → (reply ≡ line (codes "yes")) ↔ (other ≡ line (codes "yes"))
+      → (reply ≡ as_line (codes "yes")) ↔ (other ≡ as_line (codes "yes"))
 
 -- both replies show one bound, which is attained in both or in neither; the witnesses may differ
 pub record ShowOneBound (row : List ℤ) (p q : PointSet) (reply other : List ℕ) : Type 0 where
@@ -116,8 +117,8 @@ pub record ShowOneBound (row : List ℤ) (p q : PointSet) (reply other : List �
   pub witness_of_other : List ℤ
   pub is_witness : IsWitness row p num den attained witness
   pub is_witness_of_other : IsWitness row q num den attained witness_of_other
-  pub said : reply ≡ line (bound_text p.cons.dim num den attained witness)
-  pub said_other : other ≡ line (bound_text p.cons.dim num den attained witness_of_other)
+  pub said : reply ≡ as_line (bound_text p.cons.dim num den attained witness)
+  pub said_other : other ≡ as_line (bound_text p.cons.dim num den attained witness_of_other)
 
 -- of the same sets the extreme values of `max` and `min` are one, and whether they are attained
 abbrev pub ExtremesAreOne : Type 0
@@ -185,6 +186,23 @@ AskTheSame c d = ⊥
 -- be refused too
 abbrev pub LinesHaveOneAnswer : Type 0
 LinesHaveOneAnswer = (old : State) (text reply other : List ℕ) (new next : State) → old.file ≡ None
-    → ((c d : Command) → Spelled text c → Spelled text d → AskTheSame c d)
+    → ((c d : Command) → Spells text c → Spells text d → AskTheSame c d)
     → IsReply old text reply new → IsReply old text other next
     → ¬ (IsRefusal reply) → ¬ (IsRefusal other) → reply ≡ other
+
+-- ---- questions
+-- each line asks for one thing, however it is read
+abbrev pub AskOneEach : List (List ℕ) → Type 0
+AskOneEach texts = All (λ text. (c d : Command) → Spells text c → Spells text d → AskTheSame c d)
+    texts
+
+-- both replies are the same, or one of them is a refusal
+abbrev pub AreOneReply : List ℕ → List ℕ → Type 0
+AreOneReply reply other = IsRefusal reply ⊎ IsRefusal other ⊎ (reply ≡ other)
+
+-- of two texts that may be written to one script, where the same names stand before some lines that
+-- are such questions, the replies to these are the same, one after another, but for refusals
+abbrev pub QuestionsHaveOneAnswer : Type 0
+QuestionsHaveOneAnswer = (old : State) (texts replies others : List (List ℕ)) → old.file ≡ None
+    → AskOneEach texts → AreReplies old texts replies → AreReplies old texts others
+    → AllZip AreOneReply replies others

@@ -45,15 +45,23 @@ abbrev pub ShowPoints : Act → List ℕ → List ℕ → Type 0
 ShowPoints (Did (Covers s t)) text other = ShowUncovered text other
 ShowPoints act text other = ⊥
 
--- each of the accepted has the same answer twice, but where stored systems are shown that the points don't decide, or one of the points that aren't covered
+-- each of the accepted has the same answer twice, but where stored systems are shown that the
+-- points don't decide, or one of the points that aren't covered
 abbrev pub AreSameAnswers : List Accepted → List Accepted → Type 0
 AreSameAnswers [] [] = Unit {0}
-AreSameAnswers (a ∷ earlier) (b ∷ before) = (ShowsStored (acts earlier) a.act ⊎ ShowPoints a.act a.answer b.answer ⊎ (a.answer ≡ b.answer)) × AreSameAnswers earlier before
+AreSameAnswers (a ∷ earlier) (b ∷ before) =
+    (ShowsStored (acts earlier) a.act ⊎ ShowPoints a.act a.answer b.answer ⊎ (a.answer ≡ b.answer))
+    × AreSameAnswers earlier before
 AreSameAnswers all others = ⊥
 
--- two runs that accept the same commands and files come to the same sets under the same names, with the same answers
+-- two runs that accept the same commands and files come to the same sets under the same names, with
+-- the same answers
 abbrev pub AcceptedDecide : Type 0
-AcceptedDecide = (lines others : List (List ℕ)) (r s : List Reply) (new other : State) (all rest : List Accepted) → Run (closed []) lines r new → Run (closed []) others s other → AreAccepted None [] lines r all → AreAccepted None [] others s rest → acts all ≡ acts rest → AreSameTables new.names other.names × AreSameAnswers all rest
+AcceptedDecide = (lines others : List (List ℕ)) (r s : List Reply) (new other : State)
+    (all rest : List Accepted)
+    → Run (closed []) lines r new → Run (closed []) others s other
+    → AreAccepted None [] lines r all → AreAccepted None [] others s rest → acts all ≡ acts rest
+    → AreSameTables new.names other.names × AreSameAnswers all rest
 
 -- ---- the sets of the names
 -- the table has this under the name, but for systems of polyhedra that the points don't decide
@@ -62,22 +70,27 @@ pub record IsUnder (table : Table) (name : List ℕ) (e : Entry) : Type 0 where
   pub there : entry_of table name ≡ Some kept
   pub same : AreSameEntries e kept
 
--- what the table has under a name is what was accepted gives it, and what this gives a name is there; the constraints and
--- the generators of each polyhedron hold the same points; and the table has the names that are given
-pub record AreAsCommanded (lines : List (List ℕ)) (replies : List Reply) (table : Table) : Type 0 where
+-- what the table has under a name is what was accepted gives it, and what this gives a name is
+-- there; the constraints and the generators of each polyhedron hold the same points; and the table
+-- has the names that are given
+pub record AreAsCommanded (lines : List (List ℕ)) (replies : List Reply)
+    (table : Table) : Type 0 where
   pub all : List Accepted
   pub accepted : AreAccepted None [] lines replies all
-  pub given : (name : List ℕ) (e : Entry) → entry_of table name ≡ Some e → IsEntryOf (acts all) name e
+  pub given : (name : List ℕ) (e : Entry) → entry_of table name ≡ Some e
+      → IsEntryOf (acts all) name e
   pub there : (name : List ℕ) (e : Entry) → IsEntryOf (acts all) name e → IsUnder table name e
   pub pairs : (name : List ℕ) (p : Polyhedron) → poly_of table name ≡ Some p → IsPair p.cons p.gens
   pub names : keys_of table ≡ names_of (acts all)
 
 abbrev pub SetsAreAsCommanded : Type 0
-SetsAreAsCommanded = (lines : List (List ℕ)) (replies : List Reply) (new : State) → Run (closed []) lines replies new → AreAsCommanded lines replies new.names
+SetsAreAsCommanded = (lines : List (List ℕ)) (replies : List Reply) (new : State)
+    → Run (closed []) lines replies new → AreAsCommanded lines replies new.names
 
 -- what is accepted gives a name one entry at most
 abbrev pub SetsAreUnique : Type 0
-SetsAreUnique = (all : List Act) (name : List ℕ) (e f : Entry) → IsEntryOf all name e → IsEntryOf all name f → AreSameEntries e f
+SetsAreUnique = (all : List Act) (name : List ℕ) (e f : Entry) → IsEntryOf all name e
+    → IsEntryOf all name f → AreSameEntries e f
 
 -- the answers of a run to what it accepts are true
 pub record AnswersTruly (lines : List (List ℕ)) (replies : List Reply) : Type 0 where
@@ -86,8 +99,10 @@ pub record AnswersTruly (lines : List (List ℕ)) (replies : List Reply) : Type 
   pub truthful : AreTruthful all
 
 abbrev pub AnswersAreTrue : Type 0
-AnswersAreTrue = (lines : List (List ℕ)) (replies : List Reply) (new : State) → Run (closed []) lines replies new → AnswersTruly lines replies
+AnswersAreTrue = (lines : List (List ℕ)) (replies : List Reply) (new : State)
+    → Run (closed []) lines replies new → AnswersTruly lines replies
 
 -- a run accepts one list of commands and files
 abbrev pub AcceptedIsUnique : Type 0
-AcceptedIsUnique = (lines : List (List ℕ)) (replies : List Reply) (all rest : List Accepted) → AreAccepted None [] lines replies all → AreAccepted None [] lines replies rest → all ≡ rest
+AcceptedIsUnique = (lines : List (List ℕ)) (replies : List Reply) (all rest : List Accepted)
+    → AreAccepted None [] lines replies all → AreAccepted None [] lines replies rest → all ≡ rest

@@ -5,3 +5,4 @@ pub mod Truth
 pub mod Laws
 pub mod Prints
 pub mod Allowed
+pub mod Scripts

@@ -8,7 +8,8 @@ use Rattle.calc_state.specs.declared.entry.Entry.{Entry}
 use Rattle.calc_state.specs.declared.entry.Entry.TheVariants as entry
 use Rattle.calc_state.specs.Table.{Table}
 
--- one topology, one dimension and the same points; of a closed polyhedron the two systems are equal too
+-- one topology, one dimension and the same points; of a closed polyhedron the two systems are equal
+-- too
 pub record AreSamePolyhedra (p q : Polyhedron) : Type 0 where
   pub topology : p.topology ≡ q.topology
   pub dim : p.cons.dim ≡ q.cons.dim
@@ -33,5 +34,6 @@ AreSameEntries e f = ⊥
 -- the same names in the same order, and under each the same
 abbrev pub AreSameTables : Table → Table → Type 0
 AreSameTables [] [] = Unit {0}
-AreSameTables (e ∷ table) (f ∷ others) = (e.0 ≡ f.0) × AreSameEntries e.1 f.1 × AreSameTables table others
+AreSameTables (e ∷ table) (f ∷ others) =
+    (e.0 ≡ f.0) × AreSameEntries e.1 f.1 × AreSameTables table others
 AreSameTables table others = ⊥

@@ -44,13 +44,15 @@ pub record IsMadeAs {A : Type 0} (kind : A → Entry) (Is : A → Type 0) (resul
   pub is : Is result
 
 -- made of what there was under a name
-pub record IsMadeOfOne {A B : Type 0} (kind : A → Entry) (into : B → Entry) (Was : Entry → Type 0) (Is : A → B → Type 0) (result : B) : Type 0 where
+pub record IsMadeOfOne {A B : Type 0} (kind : A → Entry) (into : B → Entry) (Was : Entry → Type 0)
+    (Is : A → B → Type 0) (result : B) : Type 0 where
   pub operand : A
   pub was : Was (kind operand)
   pub made : IsMadeAs into (Is operand) result
 
 -- made of what there was of one kind under two names
-pub record IsMadeOfTwo {A B : Type 0} (kind : A → Entry) (into : B → Entry) (WasFirst WasSecond : Entry → Type 0) (Is : A → A → B → Type 0) (result : B) : Type 0 where
+pub record IsMadeOfTwo {A B : Type 0} (kind : A → Entry) (into : B → Entry)
+    (WasFirst WasSecond : Entry → Type 0) (Is : A → A → B → Type 0) (result : B) : Type 0 where
   pub first : A
   pub second : A
   pub was_first : WasFirst (kind first)
@@ -58,7 +60,8 @@ pub record IsMadeOfTwo {A B : Type 0} (kind : A → Entry) (into : B → Entry) 
   pub made : IsMadeAs into (Is first second) result
 
 -- what there was under a name, changed by a closed polyhedron
-pub record IsChangedBy {A : Type 0} (kind : A → Entry) (Was WasPart : Entry → Type 0) (changed : A → Polyhedron → A) (result : A) : Type 0 where
+pub record IsChangedBy {A : Type 0} (kind : A → Entry) (Was WasPart : Entry → Type 0)
+    (changed : A → Polyhedron → A) (result : A) : Type 0 where
   pub old : A
   pub part : Polyhedron
   pub was : Was (kind old)
@@ -66,8 +69,10 @@ pub record IsChangedBy {A : Type 0} (kind : A → Entry) (Was WasPart : Entry �
   pub closed : part.topology ≡ Closed
   pub made : IsMadeAs kind (λ r. r ≡ changed old part) result
 
--- the set of a location in the limit of the rounds of what there was under a name, where this name is numbered as the location
-pub record IsReachedSet {A : Type 0} (kind : A → Entry) (Was : Entry → Type 0) (Are : A → List Polyhedron → Type 0) (prefix name : List ℕ) (p : Polyhedron) : Type 0 where
+-- the set of a location in the limit of the rounds of what there was under a name, where this name
+-- is numbered as the location
+pub record IsReachedSet {A : Type 0} (kind : A → Entry) (Was : Entry → Type 0)
+    (Are : A → List Polyhedron → Type 0) (prefix name : List ℕ) (p : Polyhedron) : Type 0 where
   pub proper : IsProper p
   pub system : A
   pub was : Was (kind system)
@@ -78,12 +83,14 @@ pub record IsReachedSet {A : Type 0} (kind : A → Entry) (Was : Entry → Type 
   pub name_is : name ≡ numbered prefix location
 
 -- the result of two operands that fit each other
-pub record IsOfFit {A B : Type 0} (Fit : A → A → Type 0) (Is : A → A → B → Type 0) (p q : A) (r : B) : Type 0 where
+pub record IsOfFit {A B : Type 0} (Fit : A → A → Type 0) (Is : A → A → B → Type 0) (p q : A)
+    (r : B) : Type 0 where
   pub fit : Fit p q
   pub is : Is p q r
 
 -- the result of a closed operand
-pub record IsOfClosed {B : Type 0} (Is : Polyhedron → B → Type 0) (p : Polyhedron) (r : B) : Type 0 where
+pub record IsOfClosed {B : Type 0} (Is : Polyhedron → B → Type 0) (p : Polyhedron)
+    (r : B) : Type 0 where
   pub closed : p.topology ≡ Closed
   pub is : Is p r
 
@@ -99,7 +106,9 @@ pub record IsCut (old : Polyhedron) (cs : Constraints) (p : Polyhedron) : Type 0
 
 -- stored of the list of the constraints of both
 abbrev pub IsCutOf : Polyhedron → Constraints → Polyhedron → Type 0
-IsCutOf old cs = IsResult (IsCut old cs) (AreStoredOfRows old.topology old.cons.dim (constraints_of old.topology (more_constraints old.cons cs)))
+IsCutOf old cs =
+    IsResult (IsCut old cs) (AreStoredOfRows old.topology old.cons.dim
+    (constraints_of old.topology (more_constraints old.cons cs)))
 
 -- the points of what there was at which the constraints of the text hold as well
 abbrev pub IsAdded : Part → Polyhedron → Polyhedron → Type 0
@@ -107,7 +116,9 @@ IsAdded part old p = SaysConstraints old.cons.dim part (λ cs. IsCutOf old cs p)
 
 -- what the generators of what there was and those of the text generate
 abbrev pub IsJoined : Part → Polyhedron → Polyhedron → Type 0
-IsJoined part old p = SaysGenerators old.gens.dim part (λ gs. IsResultOfGenerators old.topology (more_generators old.gens gs) p)
+IsJoined part old p =
+    SaysGenerators old.gens.dim part
+    (λ gs. IsResultOfGenerators old.topology (more_generators old.gens gs) p)
 
 -- the widening of a closed operand by one that includes it
 pub record IsOfNested (p q r : Polyhedron) : Type 0 where
@@ -135,17 +146,21 @@ abbrev pub HaveOneDim : DifferenceShape → DifferenceShape → Type 0
 HaveOneDim s t = s.dim ≡ t.dim
 
 -- ---- numbered names
--- of what was accepted, the last first: the number of locations of the last system, or automaton, that was made under the name
+-- of what was accepted, the last first: the number of locations of the last system, or automaton,
+-- that was made under the name
 abbrev pub locations_of : List Act → List ℕ → ℕ
 locations_of [] name = 0
-locations_of (Did (System out n locations) ∷ earlier) name = if bytes_eq name out then locations else locations_of earlier name
-locations_of (Did (Hybrid out s) ∷ earlier) name = if bytes_eq name out then locations_of earlier s else locations_of earlier name
+locations_of (Did (System out n locations) ∷ earlier) name =
+    if bytes_eq name out then locations else locations_of earlier name
+locations_of (Did (Hybrid out s) ∷ earlier) name =
+    if bytes_eq name out then locations_of earlier s else locations_of earlier name
 locations_of (act ∷ earlier) name = locations_of earlier name
 
 -- the name is the prefix with one of so many numbers from this one on
 abbrev pub is_numbered : List ℕ → ℕ → ℕ → List ℕ → Bool
 is_numbered prefix n zero name = false
-is_numbered prefix n (suc count) name = bytes_eq name (numbered prefix n) || is_numbered prefix (n + 1) count name
+is_numbered prefix n (suc count) name =
+    bytes_eq name (numbered prefix n) || is_numbered prefix (n + 1) count name
 
 -- ---- what a name is given
 -- whether the command makes, changes or takes out what is under the name
@@ -182,49 +197,71 @@ sets earlier question name = false
 
 -- the polyhedron that the command gives the name, where the names had these
 abbrev pub GivesPoly : Command → (List ℕ → Entry → Type 0) → List ℕ → Polyhedron → Type 0
-GivesPoly (Cons out top n part) Had name p = IsMade (λ r. SaysConstraints n part (λ cs. IsResultOfConstraints (topology_of top) cs r)) p
-GivesPoly (Gens out top n part) Had name p = IsMade (λ r. SaysGenerators n part (λ gs. IsResultOfGenerators (topology_of top) gs r)) p
+GivesPoly (Cons out top n part) Had name p =
+    IsMade (λ r. SaysConstraints n part (λ cs. IsResultOfConstraints (topology_of top) cs r)) p
+GivesPoly (Gens out top n part) Had name p =
+    IsMade (λ r. SaysGenerators n part (λ gs. IsResultOfGenerators (topology_of top) gs r)) p
 GivesPoly (Space space out top n) Had name p = IsMade (IsSpace space (topology_of top) n) p
 GivesPoly (Copy out other) Had name p = Had other (entry.Poly p)
 GivesPoly (Add out part) Had name p = IsMadeOfOne entry.Poly entry.Poly (Had out) (IsAdded part) p
-GivesPoly (Addgen out part) Had name p = IsMadeOfOne entry.Poly entry.Poly (Had out) (IsJoined part) p
-GivesPoly (OfTwo op out one other) Had name p = IsMadeOfTwo entry.Poly entry.Poly (Had one) (Had other) (IsOfFit (Fits op) (IsMadeBy op)) p
-GivesPoly (Closure out other) Had name p = IsMadeOfOne entry.Poly entry.Poly (Had other) IsResultOfClosure p
-GivesPoly (Map by out other v rel part) Had name p = IsMadeOfOne entry.Poly entry.Poly (Had other) (IsMappedBy by v rel part) p
-GivesPoly (Extend by out other n) Had name p = IsMadeOfOne entry.Poly entry.Poly (Had other) (IsExtended by n) p
-GivesPoly (Remove out other vars) Had name p = IsMadeOfOne entry.Poly entry.Poly (Had other) (IsRemoved vars) p
-GivesPoly (Widen out one other) Had name p = IsMadeOfTwo entry.Poly entry.Poly (Had one) (Had other) IsOfNested p
-GivesPoly (Fixpoint s delay prefix) Had name p = IsReachedSet entry.System (Had s) (λ x sets. AreReached x delay sets) prefix name p
-GivesPoly (Member out s i) Had name p = IsMadeOfOne entry.Powerset entry.Poly (Had s) (IsMemberAt i) p
-GivesPoly (Rank out r) Had name p = IsMadeOfOne entry.Poly entry.Poly (Had r) (IsOfClosed IsRankedBy) p
+GivesPoly (Addgen out part) Had name p =
+    IsMadeOfOne entry.Poly entry.Poly (Had out) (IsJoined part) p
+GivesPoly (OfTwo op out one other) Had name p =
+    IsMadeOfTwo entry.Poly entry.Poly (Had one) (Had other) (IsOfFit (Fits op) (IsMadeBy op)) p
+GivesPoly (Closure out other) Had name p =
+    IsMadeOfOne entry.Poly entry.Poly (Had other) IsResultOfClosure p
+GivesPoly (Map by out other v rel part) Had name p =
+    IsMadeOfOne entry.Poly entry.Poly (Had other) (IsMappedBy by v rel part) p
+GivesPoly (Extend by out other n) Had name p =
+    IsMadeOfOne entry.Poly entry.Poly (Had other) (IsExtended by n) p
+GivesPoly (Remove out other vars) Had name p =
+    IsMadeOfOne entry.Poly entry.Poly (Had other) (IsRemoved vars) p
+GivesPoly (Widen out one other) Had name p =
+    IsMadeOfTwo entry.Poly entry.Poly (Had one) (Had other) IsOfNested p
+GivesPoly (Fixpoint s delay prefix) Had name p =
+    IsReachedSet entry.System (Had s) (λ x sets. AreReached x delay sets) prefix name p
+GivesPoly (Member out s i) Had name p =
+    IsMadeOfOne entry.Powerset entry.Poly (Had s) (IsMemberAt i) p
+GivesPoly (Rank out r) Had name p =
+    IsMadeOfOne entry.Poly entry.Poly (Had r) (IsOfClosed IsRankedBy) p
 GivesPoly (ShapePoly out s) Had name p = IsMadeOfOne entry.Shape entry.Poly (Had s) IsPolyOfShape p
-GivesPoly (Reach h delay prefix) Had name p = IsReachedSet entry.Hybrid (Had h) (λ x sets. AreReachedParts x delay sets) prefix name p
+GivesPoly (Reach h delay prefix) Had name p =
+    IsReachedSet entry.Hybrid (Had h) (λ x sets. AreReachedParts x delay sets) prefix name p
 GivesPoly other Had name p = ⊥
 
 -- the transition system that it gives its name
 abbrev pub GivesSystem : Command → (List ℕ → Entry → Type 0) → TransitionSystem → Type 0
 GivesSystem (System out n locations) Had s = IsMadeAs entry.System (IsEmptySystem n locations) s
-GivesSystem (Init out location p) Had s = IsChangedBy entry.System (Had out) (Had p) (λ old q. with_initial old location q) s
-GivesSystem (Trans out source target r) Had s = IsChangedBy entry.System (Had out) (Had r) (λ old q. with_transition old (record { source = source; target = target; relation = q })) s
+GivesSystem (Init out location p) Had s =
+    IsChangedBy entry.System (Had out) (Had p) (λ old q. with_initial old location q) s
+GivesSystem (Trans out source target r) Had s =
+    IsChangedBy entry.System (Had out) (Had r)
+    (λ old q. with_transition old (record { source = source; target = target; relation = q })) s
 GivesSystem other Had s = ⊥
 
 -- the powerset
 abbrev pub GivesPowerset : Command → (List ℕ → Entry → Type 0) → FinitePowerset → Type 0
 GivesPowerset (Pset out p) Had u = IsMadeOfOne entry.Poly entry.Powerset (Had p) IsPowersetOfOne u
-GivesPowerset (OfTwoPowersets op out s t) Had u = IsMadeOfTwo entry.Powerset entry.Powerset (Had s) (Had t) (IsOfFit AreAlikePowersets (IsPowersetOf op)) u
+GivesPowerset (OfTwoPowersets op out s t) Had u =
+    IsMadeOfTwo entry.Powerset entry.Powerset (Had s) (Had t)
+    (IsOfFit AreAlikePowersets (IsPowersetOf op)) u
 GivesPowerset other Had u = ⊥
 
 -- the shape
 abbrev pub GivesShape : Command → (List ℕ → Entry → Type 0) → DifferenceShape → Type 0
-GivesShape (ShapeOf out p) Had r = IsMadeOfOne entry.Poly entry.Shape (Had p) (IsOfClosed IsShapeOfSet) r
-GivesShape (Bounds out n part) Had r = IsMadeAs entry.Shape (λ s. SaysConstraints n part (λ cs. IsShapeOfConstraints cs s)) r
-GivesShape (OfTwoShapes op out s t) Had r = IsMadeOfTwo entry.Shape entry.Shape (Had s) (Had t) (IsOfFit HaveOneDim (IsShapeBy op)) r
+GivesShape (ShapeOf out p) Had r =
+    IsMadeOfOne entry.Poly entry.Shape (Had p) (IsOfClosed IsShapeOfSet) r
+GivesShape (Bounds out n part) Had r =
+    IsMadeAs entry.Shape (λ s. SaysConstraints n part (λ cs. IsShapeOfConstraints cs s)) r
+GivesShape (OfTwoShapes op out s t) Had r =
+    IsMadeOfTwo entry.Shape entry.Shape (Had s) (Had t) (IsOfFit HaveOneDim (IsShapeBy op)) r
 GivesShape other Had r = ⊥
 
 -- the automaton
 abbrev pub GivesHybrid : Command → (List ℕ → Entry → Type 0) → HybridAutomaton → Type 0
 GivesHybrid (Hybrid out s) Had h = IsMadeOfOne entry.System entry.Hybrid (Had s) IsStill h
-GivesHybrid (SetPart part out location p) Had h = IsChangedBy entry.Hybrid (Had out) (Had p) (λ old q. with_part part old location q) h
+GivesHybrid (SetPart part out location p) Had h =
+    IsChangedBy entry.Hybrid (Had out) (Had p) (λ old q. with_part part old location q) h
 GivesHybrid other Had h = ⊥
 
 -- what the command gives the name
@@ -243,8 +280,11 @@ GivesFile file other = ⊥
 -- of what was accepted, the last first: what it gives the name
 abbrev pub IsEntryOf : List Act → List ℕ → Entry → Type 0
 IsEntryOf [] name e = ⊥
-IsEntryOf (Did c ∷ earlier) name e = MatchBool (sets earlier c name) (GivesEntry c (IsEntryOf earlier) name e) (IsEntryOf earlier name e)
-IsEntryOf (Took file ∷ earlier) name e = MatchBool (bytes_eq name file.name) (GivesFile file e) (IsEntryOf earlier name e)
+IsEntryOf (Did c ∷ earlier) name e =
+    MatchBool (sets earlier c name) (GivesEntry c (IsEntryOf earlier) name e)
+    (IsEntryOf earlier name e)
+IsEntryOf (Took file ∷ earlier) name e =
+    MatchBool (bytes_eq name file.name) (GivesFile file e) (IsEntryOf earlier name e)
 
 -- the polyhedron that it gives the name
 abbrev pub IsSetOf : List Act → List ℕ → Polyhedron → Type 0
@@ -262,7 +302,8 @@ less_name name names = filter (λ n. not (bytes_eq name n)) names
 -- each of so many numbered names, in order
 abbrev pub with_numbered : List ℕ → ℕ → ℕ → List (List ℕ) → List (List ℕ)
 with_numbered prefix n zero names = names
-with_numbered prefix n (suc count) names = with_numbered prefix (n + 1) count (with_name (numbered prefix n) names)
+with_numbered prefix n (suc count) names =
+    with_numbered prefix (n + 1) count (with_name (numbered prefix n) names)
 
 -- the names after a command
 abbrev pub names_after : List Act → Command → List (List ℕ) → List (List ℕ)
@@ -278,7 +319,8 @@ names_after earlier (Remove out p vars) names = with_name out names
 names_after earlier (Widen out p q) names = with_name out names
 names_after earlier (Drop out) names = less_name out names
 names_after earlier (System out n locations) names = with_name out names
-names_after earlier (Fixpoint s delay prefix) names = with_numbered prefix 0 (locations_of earlier s) names
+names_after earlier (Fixpoint s delay prefix) names =
+    with_numbered prefix 0 (locations_of earlier s) names
 names_after earlier (Pset out p) names = with_name out names
 names_after earlier (OfTwoPowersets op out s t) names = with_name out names
 names_after earlier (Member out s i) names = with_name out names
@@ -288,10 +330,12 @@ names_after earlier (Bounds out n part) names = with_name out names
 names_after earlier (OfTwoShapes op out s t) names = with_name out names
 names_after earlier (ShapePoly out s) names = with_name out names
 names_after earlier (Hybrid out s) names = with_name out names
-names_after earlier (Reach h delay prefix) names = with_numbered prefix 0 (locations_of earlier h) names
+names_after earlier (Reach h delay prefix) names =
+    with_numbered prefix 0 (locations_of earlier h) names
 names_after earlier unchanged names = names
 
--- of what was accepted, the last first: the names that it gives, in the order in which they were made
+-- of what was accepted, the last first: the names that it gives, in the order in which they were
+-- made
 abbrev pub names_of : List Act → List (List ℕ)
 names_of [] = []
 names_of (Did c ∷ earlier) = names_after earlier c (names_of earlier)

@@ -55,7 +55,8 @@ pub record SaysWhether (part : Part) (reply : List ℕ) (p : Polyhedron) : Type 
   pub said : reply ≡ answer_line holds
   pub true_of_point : IsTrue holds ↔ In p.cons point
 
--- the reply is the printed form of the stored constraints; it is read as these, and they hold exactly at the points of the polyhedron
+-- the reply is the printed form of the stored constraints; it is read as these, and they hold
+-- exactly at the points of the polyhedron
 pub record SaysSystem (reply : List ℕ) (p : Polyhedron) : Type 0 where
   pub text : List ℕ
   pub said : reply ≡ line text
@@ -65,7 +66,8 @@ pub record SaysSystem (reply : List ℕ) (p : Polyhedron) : Type 0 where
   pub stored : system ≡ p.cons
   pub points : HoldSame system p.cons
 
--- the reply is the printed form of the stored generators; it is read as these, and they generate exactly the points of the polyhedron
+-- the reply is the printed form of the stored generators; it is read as these, and they generate
+-- exactly the points of the polyhedron
 pub record SaysGeneration (reply : List ℕ) (p : Polyhedron) : Type 0 where
   pub text : List ℕ
   pub said : reply ≡ line text
@@ -76,13 +78,15 @@ pub record SaysGeneration (reply : List ℕ) (p : Polyhedron) : Type 0 where
   pub points : (v : List ℤ) → IsPointRow p.cons.dim v → Span system v ↔ In p.cons v
 
 -- the reply is true of what is under the name
-pub record IsTrueOf {A : Type 0} (kind : A → Entry) (commands : List Act) (name : List ℕ) (Says : A → Type 0) : Type 0 where
+pub record IsTrueOf {A : Type 0} (kind : A → Entry) (commands : List Act) (name : List ℕ)
+    (Says : A → Type 0) : Type 0 where
   pub operand : A
   pub given : IsEntryOf commands name (kind operand)
   pub says : Says operand
 
 -- the reply is true of what is under two names, which fit each other
-pub record IsTrueOfTwo {A : Type 0} (kind : A → Entry) (Fit : A → A → Type 0) (commands : List Act) (one other : List ℕ) (Says : A → A → Type 0) : Type 0 where
+pub record IsTrueOfTwo {A : Type 0} (kind : A → Entry) (Fit : A → A → Type 0) (commands : List Act)
+    (one other : List ℕ) (Says : A → A → Type 0) : Type 0 where
   pub first : A
   pub second : A
   pub given_first : IsEntryOf commands one (kind first)
@@ -111,13 +115,16 @@ pub record SaysHowItLies (part : Part) (reply : List ℕ) (p : Polyhedron) : Typ
   pub said : reply ≡ line (relation_text flags)
   pub true_of : IsRelation p.cons row kind flags
 
--- the generator that a bound numbers lies in the closure of the set, and in the set exactly where the bound is attained, and has the bound as its value
+-- the generator that a bound numbers lies in the closure of the set, and in the set exactly where
+-- the bound is attained, and has the bound as its value
 abbrev pub IsShownBy : Bool → List ℤ → Polyhedron → Sup → Type 0
 IsShownBy up row p sup.Empty = Unit {0}
 IsShownBy up row p sup.Unbounded = Unit {0}
-IsShownBy up row p (sup.At num den attained index) = IsWitness up row p num den attained (row_at p.gens.list index)
+IsShownBy up row p (sup.At num den attained index) =
+    IsWitness up row p num den attained (row_at p.gens.list index)
 
--- the reply says the bound of the expression of the text on the points of the polyhedron, and the first stored generator that shows it, a point before a closure point
+-- the reply says the bound of the expression of the text on the points of the polyhedron, and the
+-- first stored generator that shows it, a point before a closure point
 pub record SaysExtremum (up : Bool) (part : Part) (reply : List ℕ) (p : Polyhedron) : Type 0 where
   pub row : List ℤ
   pub read : IsExpr p.cons.dim part.text row
@@ -132,27 +139,32 @@ abbrev pub SaysSide : Bool → List ℕ → Polyhedron → Type 0
 SaysSide false reply p = SaysSystem reply p
 SaysSide true reply p = SaysGeneration reply p
 
--- the reply says that each point of the second union is in the first, or shows a primitive point of the second that is in no member of the first
+-- the reply says that each point of the second union is in the first, or shows a primitive point of
+-- the second that is in no member of the first
 pub record SaysCover (reply : List ℕ) (s t : FinitePowerset) : Type 0 where
   pub answer : Cover
   pub said : reply ≡ cover_line s.dim answer
   pub true_of : IsCover s t answer
 
--- the reply is a function that ranks the closed relation, the first stored point of the polyhedron of these functions, or `none` where no affine function does
+-- the reply is a function that ranks the closed relation, the first stored point of the polyhedron
+-- of these functions, or `none` where no affine function does
 pub record SaysRanking (reply : List ℕ) (r : Polyhedron) : Type 0 where
   pub closed : r.topology ≡ Closed
   pub text : List ℕ
   pub said : reply ≡ line text
-  pub true_of : IsWithoutRanking (r.cons.dim / 2) r.cons text ⊎ IsOfRanking (r.cons.dim / 2) r.cons text
+  pub true_of : IsWithoutRanking (r.cons.dim / 2) r.cons text
+      ⊎ IsOfRanking (r.cons.dim / 2) r.cons text
   pub functions : Polyhedron
   pub made : IsMade (IsRankingSet (r.cons.dim / 2) r) functions
   pub first : IsRankingText functions text
 
 -- each bound of a shape is the greatest difference of its two places on the points of the shape
 abbrev pub AreGreatest : DifferenceShape → Type 0
-AreGreatest s = (t : Table) → s.bounds ≡ Some t → (i j : ℕ) → i < s.dim + 1 → j < s.dim + 1 → IsGreatestAt s i j (bounds_of t i j)
+AreGreatest s = (t : Table) → s.bounds ≡ Some t → (i j : ℕ) → i < s.dim + 1 → j < s.dim + 1
+    → IsGreatestAt s i j (bounds_of t i j)
 
--- the reply is the printed form of the bounds of the shape; it is read as these constraints, and they hold exactly at its points
+-- the reply is the printed form of the bounds of the shape; it is read as these constraints, and
+-- they hold exactly at its points
 pub record SaysBounds (reply : List ℕ) (s : DifferenceShape) : Type 0 where
   pub text : List ℕ
   pub said : reply ≡ line text
@@ -161,30 +173,43 @@ pub record SaysBounds (reply : List ℕ) (s : DifferenceShape) : Type 0 where
   pub points : (v : List ℤ) → (IsPointRow s.dim v × In (shape_constraints s) v) ↔ IsIn s v
   pub greatest : AreGreatest s
 
--- after these accepted commands the answer to a question is true: to `size` it is the dimension and the numbers of
--- stored constraints and generators, to `psize` the number of members, to `names` the number of names and the names, and
--- to `write` the file of the stored constraints or generators of a closed set; a line without a command and one that opens a file are answered by nothing,
--- and each other command by `ok`
+-- after these accepted commands the answer to a question is true: to `size` it is the dimension and
+-- the numbers of stored constraints and generators, to `psize` the number of members, to `names`
+-- the number of names and the names, and to `write` the file of the stored constraints or
+-- generators of a closed set; a line without a command and one that opens a file are answered by
+-- nothing, and each other command by `ok`
 abbrev pub IsTruthful : List Act → Command → List ℕ → Type 0
 IsTruthful earlier (Has name part) reply = IsTrueOf entry.Poly earlier name (SaysWhether part reply)
-IsTruthful earlier (Size name) reply = IsTrueOf entry.Poly earlier name (λ p. reply ≡ line (size_text p))
+IsTruthful earlier (Size name) reply =
+    IsTrueOf entry.Poly earlier name (λ p. reply ≡ line (size_text p))
 IsTruthful earlier (Print side name) reply = IsTrueOf entry.Poly earlier name (SaysSide side reply)
-IsTruthful earlier Names reply = reply ≡ line (codes "names " ++ decimal (length (names_of earlier)) ++ spaced (names_of earlier))
-IsTruthful earlier (Compare by one other) reply = IsTrueOfTwo entry.Poly AreAlike earlier one other (λ p q. SaysTruth reply (LieSo by p q))
-IsTruthful earlier (Isempty name) reply = IsTrueOf entry.Poly earlier name (λ p. SaysTruth reply (HasNoPoint p))
-IsTruthful earlier (Relation name part) reply = IsTrueOf entry.Poly earlier name (SaysHowItLies part reply)
-IsTruthful earlier (Bound extremum name part) reply = IsTrueOf entry.Poly earlier name (SaysExtremum (is_max extremum) part reply)
-IsTruthful earlier (Write name form) reply = IsTrueOf entry.Poly earlier name (λ p. (p.topology ≡ Closed) × (reply ≡ file_of form p))
+IsTruthful earlier Names reply =
+    reply ≡ line (codes "names " ++ decimal (length (names_of earlier))
+    ++ spaced (names_of earlier))
+IsTruthful earlier (Compare by one other) reply =
+    IsTrueOfTwo entry.Poly AreAlike earlier one other (λ p q. SaysTruth reply (LieSo by p q))
+IsTruthful earlier (Isempty name) reply =
+    IsTrueOf entry.Poly earlier name (λ p. SaysTruth reply (HasNoPoint p))
+IsTruthful earlier (Relation name part) reply =
+    IsTrueOf entry.Poly earlier name (SaysHowItLies part reply)
+IsTruthful earlier (Bound extremum name part) reply =
+    IsTrueOf entry.Poly earlier name (SaysExtremum (is_max extremum) part reply)
+IsTruthful earlier (Write name form) reply =
+    IsTrueOf entry.Poly earlier name (λ p. (p.topology ≡ Closed) × (reply ≡ file_of form p))
 IsTruthful earlier (Read out form) reply = reply ≡ []
 IsTruthful earlier Nothing reply = reply ≡ []
-IsTruthful earlier (Psize name) reply = IsTrueOf entry.Powerset earlier name (λ u. reply ≡ line (members_text u))
-IsTruthful earlier (Covers one other) reply = IsTrueOfTwo entry.Powerset AreAlikePowersets earlier one other (SaysCover reply)
+IsTruthful earlier (Psize name) reply =
+    IsTrueOf entry.Powerset earlier name (λ u. reply ≡ line (members_text u))
+IsTruthful earlier (Covers one other) reply =
+    IsTrueOfTwo entry.Powerset AreAlikePowersets earlier one other (SaysCover reply)
 IsTruthful earlier (Ranking name) reply = IsTrueOf entry.Poly earlier name (SaysRanking reply)
-IsTruthful earlier (ShapeContains one other) reply = IsTrueOfTwo entry.Shape HaveOneDim earlier one other (λ s t. SaysTruth reply (Includes s t))
+IsTruthful earlier (ShapeContains one other) reply =
+    IsTrueOfTwo entry.Shape HaveOneDim earlier one other (λ s t. SaysTruth reply (Includes s t))
 IsTruthful earlier (ShapePrint name) reply = IsTrueOf entry.Shape earlier name (SaysBounds reply)
 IsTruthful earlier other reply = reply ≡ ok_line
 
--- the answer to a command is true of what was accepted before it; a file that was read is answered by `ok`
+-- the answer to a command is true of what was accepted before it; a file that was read is answered
+-- by `ok`
 abbrev pub IsTrueAnswer : List Act → Act → List ℕ → Type 0
 IsTrueAnswer earlier (Did c) reply = IsTruthful earlier c reply
 IsTrueAnswer earlier (Took file) reply = reply ≡ ok_line

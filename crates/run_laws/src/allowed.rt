@@ -2,11 +2,12 @@
 //! calculator is named.
 ghost use Rattle.run_laws.specs.Allowed.{AnswersAreOne, CombinationsAreOne, ExtremesAreOne, FilesAreOne};
 ghost use Rattle.run_laws.specs.Allowed.{FixpointsAreWhole, LinesHaveOneAnswer, OnlyOkChanges, PrintsSayOne};
-ghost use Rattle.run_laws.specs.Allowed.{ReachesAreWhole, ResultsAreOne, TextsMakeOne};
+ghost use Rattle.run_laws.specs.Allowed.{QuestionsHaveOneAnswer, ReachesAreWhole, ResultsAreOne, TextsMakeOne};
+ghost use Rattle.run_laws.specs.Scripts.{ScriptsHaveOneAnswer, ScriptsHaveOneText};
 
 use optimum::laws::one_bound;
 
-/// What a command may make of the same sets, and of a text that says the same, is one set of
+/// What a command may make of the same sets, and of texts that say the same, is one set of
 /// points, and so is what a file may stand for: a result with other points than a right one isn't
 /// allowed.
 pub fn allowed_results_are_one()
@@ -16,7 +17,7 @@ pub fn allowed_results_are_one()
     ensures files { FilesAreOne }
 {}
 
-/// What may be answered of the same sets, and of a text that says the same, is one answer; a bound
+/// What may be answered of the same sets, and of texts that say the same, is one answer; a bound
 /// may be shown by different witnesses, and `no` of `covers` by different points. What is printed
 /// may differ too, but says one set.
 pub fn allowed_answers_are_one()
@@ -44,4 +45,19 @@ pub fn only_ok_changes_names()
 /// answer, if it isn't refused.
 pub fn lines_have_one_answer()
     ensures { LinesHaveOneAnswer }
+{}
+
+/// The questions of a stretch of a script, each for one thing and asked of the same names, have
+/// one answer each, one after another, whatever is refused among them.
+pub fn questions_have_one_answer()
+    ensures { QuestionsHaveOneAnswer }
+{}
+
+/// Two texts that may be written to the same lines, from the same names, and that refuse the same
+/// ones, answer the same to each question that points decide, whatever is made between: so a set
+/// that was made wrongly shows at the first question that it turns. To a script of such questions
+/// and makers alone only one text may be written without a refusal.
+pub fn scripts_have_one_answer()
+    ensures answers { ScriptsHaveOneAnswer }
+    ensures texts { ScriptsHaveOneText }
 {}

@@ -19,12 +19,13 @@ use set_laws::joined::joined_sets_are_same;
 use stored_systems::stored_laws::stored_is_unique;
 use widening::laws::one_widening;
 
-/// After each run the table has under each name a polyhedron, a transition system, a powerset, a shape or
-/// an automaton that the accepted commands and files give it, by the commands' definitions in order; the
-/// constraints and the generators of a polyhedron hold the same points. And the table has the names that
-/// they give, in the order in which these were made. They give a name one transition system, one shape or
-/// one automaton, or one topology, one dimension and one set of points, and where it is closed one pair of
-/// stored systems; of a powerset they give this of each member, and the members' number and order.
+/// After each run the table has under each name a polyhedron, a transition system, a powerset, a
+/// shape or an automaton that the accepted commands and files give it, by the commands' definitions
+/// in order; the constraints and the generators of a polyhedron hold the same points. And the table
+/// has the names that they give, in the order in which these were made. They give a name one
+/// transition system, one shape or one automaton, or one topology, one dimension and one set of
+/// points, and where it is closed one pair of stored systems; of a powerset they give this of each
+/// member, and the members' number and order.
 pub fn sets_are_as_commanded()
     ensures sets { SetsAreAsCommanded }
     ensures unique { SetsAreUnique }
@@ -44,13 +45,14 @@ pub fn sets_are_as_commanded()
 /// In each run every answer is true of the sets that what was accepted before it gives: `has` says
 /// whether the point is in the set, what `print` says is read back as the stored constraints or
 /// generators, which hold at or generate exactly these points, `size` counts them, and `names` says
-/// the names that there are. `isempty`, `contains`, `equal`, `disjoint` and `relation` say how the sets
-/// lie, and `max` and `min` what the bound is, whether a point has it, and a generator that shows it.
-/// `write` gives the file of the stored constraints or generators. `psize` says the number of members,
-/// and `covers` that each point of the second powerset is in the first, or a point of it that isn't;
-/// `ranking` a function that ranks the relation, or that no affine function does; `scontains` whether
-/// each point of the second shape is in the first, and `sprint` the greatest difference of each two
-/// places, which are read back as constraints that hold exactly at the shape's points.
+/// the names that there are. `isempty`, `contains`, `equal`, `disjoint` and `relation` say how the
+/// sets lie, and `max` and `min` what the bound is, whether a point has it, and a generator that
+/// shows it. `write` gives the file of the stored constraints or generators. `psize` says the
+/// number of members, and `covers` that each point of the second powerset is in the first, or a
+/// point of it that isn't; `ranking` a function that ranks the relation, or that no affine function
+/// does; `scontains` whether each point of the second shape is in the first, and `sprint` the
+/// greatest difference of each two places, which are read back as constraints that hold exactly at
+/// the shape's points.
 pub fn answers_are_true()
     ensures { AnswersAreTrue }
 {
@@ -62,10 +64,10 @@ pub fn answers_are_true()
     printed_function_ranks();
 }
 
-/// Two runs that accept the same commands and files come to the same names and sets, and give the same
-/// answers, byte for byte, whatever other lines they refuse. Only of a polyhedron that needn't be closed the stored
-/// systems may differ, and with them the answers to `print` and `size` and the generator that `max` and
-/// `min` show; and where `covers` says no, the point that it shows.
+/// Two runs that accept the same commands and files come to the same names and sets, and give the
+/// same answers, byte for byte, whatever other lines they refuse. Only of a polyhedron that needn't
+/// be closed the stored systems may differ, and with them the answers to `print` and `size` and the
+/// generator that `max` and `min` show; and where `covers` says no, the point that it shows.
 pub fn accepted_decide()
     ensures { AcceptedDecide }
 {
@@ -94,8 +96,8 @@ pub fn accepted_is_unique()
     one_command();
 }
 
-/// A line whose reply is a fault or an overflow leaves the names and their sets as they were, and no file
-/// is open after it.
+/// A line whose reply is a fault or an overflow leaves the names and their sets as they were, and
+/// no file is open after it.
 #[tactic(auto, using(crate::proofs::StepLaws::refused_unchanged))]
 pub fn refusals_change_nothing()
     ensures { (old : State) (line : List ℕ) (reply : Reply) (new : State) → Step old line reply new

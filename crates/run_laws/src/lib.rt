@@ -10,7 +10,8 @@ mod prints;
 
 pub use allowed::{
     allowed_answers_are_one, allowed_results_are_one, allowed_runs_are_whole,
-    lines_have_one_answer, only_ok_changes_names,
+    lines_have_one_answer, only_ok_changes_names, questions_have_one_answer,
+    scripts_have_one_answer,
 };
 pub use laws::{
     accepted_decide, accepted_is_unique, answers_are_true, names_are_distinct,
