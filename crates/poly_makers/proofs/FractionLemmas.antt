@@ -28,11 +28,15 @@ use Rattle.poly_makers.specs.Affine.{image_rel, IsMapped, LeavesInMap, mapped_by
 positive_number : (n : ℕ) → 0 < n → pos 0 <ℤ pos n
 positive_number n h = omega (arith, ints)
 
-pub divisor_in_range : (topology : Topology) (dim v : ℕ) (rel : Rel) (part : Part) (expr : List ℤ) (den : ℤ) → ReadsFraction topology dim v rel part expr den → InRange den
-divisor_in_range topology dim v rel part expr den read = subst InRange (sym read.read.holds.same) (record { size = read.read.holds.stay.divisor })
+module _ (topology : Topology) (dim v : ℕ) (rel : Rel) (part : Part) (expr : List ℤ) (den : ℤ) (read : ReadsFraction topology dim v rel part expr den) where
+  pub divisor_in_range : InRange den
+  divisor_in_range = subst InRange (sym read.read.holds.same) (record { size = read.read.holds.stay.divisor })
+
+  pub divisor_positive : pos 0 <ℤ den
+  divisor_positive = subst (λ (z : ℤ). pos 0 <ℤ z) (sym read.read.holds.same) (positive_number _ read.read.holds.positive)
 
 -- a strict relation is refused on a closed set
-allowed : (topology : Topology) (rel : Rel) → ¬ (IsStrictFor topology rel) → IsRelationFor topology (image_rel rel)
+pub allowed : (topology : Topology) (rel : Rel) → ¬ (IsStrictFor topology rel) → IsRelationFor topology (image_rel rel)
 allowed topology rel.Eq h = tt
 allowed topology rel.Ge h = tt
 allowed topology rel.Le h = tt

@@ -1,5 +1,6 @@
 -- What came of the command that takes variables away.
-use Rattle.std.proofs.Common.{Bool, IsTrue, ℕ, ◌<◌, List, All, Err, Ok, length, refl, inl, inr}
+use Rattle.std.proofs.Common.{Bool, IsTrue, ℕ, ◌<◌, ◌≤◌, List, All, Err, Ok, length, get_or, refl, inl, inr, arith}
+use Rattle.std.proofs.lemmas.List.Elements.{All-get_or}
 use Rattle.row_core.specs.declared.errors.ConvErr.{ConvErr}
 use Rattle.reply_text.specs.declared.faults.Fault.TheVariants.{TooManyNames}
 use Rattle.poly_pair.specs.Polyhedra.{Polyhedron}
@@ -17,6 +18,10 @@ use Rattle.line_values.proofs.PerformedLemmas.{leaves}
 
 abbrev AreBelow : ℕ → List ℕ → Type 0
 AreBelow dim vars = All (λ (i : ℕ). i < dim) vars
+
+-- one of them isn't below the dimension
+pub not_below : (dim : ℕ) (vars : List ℕ) (i : ℕ) → i < length vars → dim ≤ get_or vars i 0 → ¬ (AreBelow dim vars)
+not_below dim vars i within above below = omega (arith, above, All-get_or (λ (v : ℕ). v < dim) vars i 0 within below)
 
 module _ (full : Bool) (vars : List ℕ) (p : Polyhedron) where
   none_early : NoneOf early (remove full vars p).conditions
