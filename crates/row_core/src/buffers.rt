@@ -14,7 +14,7 @@ ghost use Rattle.row_core.specs.MarkedCells.{cells_of, IsLaid};
 ghost use Rattle.row_core.specs.Lists.{Rows, FitWidth, AreMarked, row_at, is_eq_at};
 
 use crate::errors::Memory;
-use crate::marked::{Iter, MarkedRows};
+use crate::marked::MarkedRows;
 use crate::primitive::make_primitive;
 use crate::signs::negate;
 use std::alloc::{AllocError, Global};
@@ -96,14 +96,6 @@ impl RowBuf {
         ensures { result ≡ length self.now }
     {
         self.entries.len()
-    }
-
-    /// Whether there is no column.
-    #[inline]
-    pub fn is_empty(&self) -> bool
-        ensures { result ≡ (length self.now == 0) }
-    {
-        self.entries.is_empty()
     }
 
     /// Gives the cells up, without a copy.
@@ -244,17 +236,6 @@ impl RowList {
         Ok(())
     }
 
-    /// Appends a row. Out of memory, the list is as before, and the row is dropped.
-    pub fn push_row(&mut self, row: RowBuf, eq: bool) -> Result<(), Memory>
-        requires { length row ≡ self.old.width }
-        ensures width { self.new.width ≡ self.old.width }
-        ensures rows { MatchResult result (λ _. self.new.rows ≡ self.old.rows ++ (row, eq) ∷ [])
-            (λ _. self.new.rows ≡ self.old.rows) }
-    {
-        self.marked.push(row, eq)?;
-        Ok(())
-    }
-
     /// Appends copies of all rows of another list, with their marks. Out of memory, the list is as
     /// before.
     pub fn push_all(&mut self, list: &RowList) -> Result<(), Memory>
@@ -356,14 +337,6 @@ impl RowList {
     {
         self.marked.mark(i)
     }
-
-    /// Lends the rows in order, each with its mark.
-    #[inline]
-    pub fn iter(&self) -> Iter<'_, bool>
-        ensures { result ≡ self.now.rows }
-    {
-        self.marked.iter()
-    }
 }
 
 impl Clone for RowList {
@@ -387,21 +360,5 @@ impl PartialEq for RowList {
         ensures same { Decides result (self.now ≡ other.now) }
     {
         self.width == other.width && self.marked == other.marked
-    }
-}
-
-impl Eq for RowList {
-    ghost laws = { same_list_equiv };
-}
-
-impl<'a> IntoIterator for &'a RowList {
-    type Item = (&'a [i128], bool);
-
-    type IntoIter = Iter<'a, bool>;
-
-    ghost into_iter_gives = { λ list it. it ≡ list.now.rows };
-
-    fn into_iter(self) -> Iter<'a, bool> {
-        self.iter()
     }
 }

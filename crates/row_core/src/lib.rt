@@ -5,40 +5,35 @@
 //! - [`Memory`], [`Overflow`], [`PairOver`] and [`ConvErr`] are the answers that a call may refuse
 //!   by.
 //! - [`Steps`] counts combinations of two rows.
-//! - [`dot`], [`combine_into`] and [`combine_onto`] give the exact numbers, or the first column
-//!   that leaves the range.
+//! - [`dot`] and [`combine_onto`] give the exact numbers, or the first column that leaves the
+//!   range.
 //! - [`product`], [`sum`] and [`combination`] give one exact number, if the range isn't left.
 //! - [`narrow_dot`] needs no such test, where [`all_narrow`] told that all numbers are small.
 //! - [`gcd`] and [`make_primitive`] divide a row by the greatest common divisor of its entries, and
 //!   [`is_primitive`] tells whether there is none above 1; [`quotient`] divides one number, and
 //!   [`negate`] changes all signs.
 //! - [`LendRows`] is what lists have in common that lend rows of one width.
-//! - [`emptied`] takes a list out of its place, so that its room is used again.
 //! - [`one_primitive`] is a law of primitive rows.
 #![tactic(auto)]
 
 mod buffers;
 mod counting;
 mod errors;
-mod in_place;
 mod laws;
 mod lending;
 mod linear;
 mod marked;
 mod narrow;
 mod primitive;
-mod reuse;
 mod signs;
 
 pub use buffers::{RowBuf, RowList};
 pub use counting::Steps;
 pub use errors::{ConvErr, Memory, OverKind, Overflow, PairOver};
-pub use in_place::combine_onto;
 pub use laws::one_primitive;
 pub use lending::LendRows;
-pub use linear::{combination, combine_into, dot, product, sum};
+pub use linear::{combination, combine_onto, dot, product, sum};
 pub use marked::{Iter, MarkedRows};
 pub use narrow::{all_narrow, narrow_dot};
 pub use primitive::{gcd, is_primitive, make_primitive, quotient};
-pub use reuse::emptied;
 pub use signs::negate;

@@ -3,9 +3,10 @@
 ghost use Rattle.std.specs.Prelude.{◌≡◌, ℕ, ◌+◌, ◌^◌, ◌<◌, length, ◌+ℤ◌, ◌*ℤ◌, SomeIff, MatchResult, IfOk, OnOk};
 ghost use Rattle.row_core.specs.Vectors.{dot, scale, add};
 ghost use Rattle.row_core.specs.Range.{InRange, AllInRange, ColumnStays, DotStays, CombineStays, IsFirstToLeave, AllStay};
+ghost use Rattle.row_core.specs.Narrow.{IsNarrow, AllNarrow};
 
 use crate::counting::Steps;
-use crate::narrow::{both_narrow, narrow_combination, narrow_dot, narrow_product, rows_narrow};
+use crate::narrow::{both_narrow, narrow_combined_entry, narrow_dot, narrow_product, rows_narrow};
 use std::sync::ledger::Ledger;
 
 /// The one `i128` outside the range.
@@ -30,36 +31,35 @@ pub fn dot(u: &[i128], v: &[i128]) -> Result<i128, u32>
     checked_dot(u, v)
 }
 
-/// Writes `s * u + t * v` over `dst`, and counts one combination. All three rows have one width.
+/// Writes `s * dst + t * v` over `dst`, and counts one combination. Both rows have one width.
 ///
 /// # Errors
 ///
 /// The first column at which a product or the sum leaves the range. `dst` is then as before.
-pub fn combine_into<L: Ledger>(
+pub fn combine_onto<L: Ledger>(
     dst: &mut [i128],
-    u: &[i128],
     s: i128,
     v: &[i128],
     t: i128,
     steps: &mut Steps<L>,
 ) -> Result<(), u32>
-    requires same_width { (length dst.old ≡ length u.now) × (length u.now ≡ length v.now) }
-    requires narrow { length u.now < 2 ^ 32 }
+    requires same_width { length dst.old ≡ length v.now }
+    requires narrow { length v.now < 2 ^ 32 }
     ensures counted { steps.new ≡ steps.old + 1 }
     ensures width { length dst.new ≡ length dst.old }
-    ensures combined { let Stays = CombineStays u.now s v.now t in let width = length u.now in
+    ensures combined { let Stays = CombineStays dst.old s v.now t in let width = length dst.old in
         MatchResult result
-        (λ _. (dst.new ≡ add (scale s u.now) (scale t v.now)) × AllStay Stays width)
+        (λ _. (dst.new ≡ add (scale s dst.old) (scale t v.now)) × AllStay Stays width)
         (λ j. (dst.new ≡ dst.old) × IsFirstToLeave Stays width j) }
     ensures in_range { OnOk result (AllInRange dst.new) }
 {
     steps.tick();
-    if both_narrow(s, t) && rows_narrow(u, v) {
-        narrow_combination(dst, u, s, v, t);
+    if both_narrow(s, t) && rows_narrow(dst, v) {
+        narrow_onto(dst, s, v, t);
         return Ok(());
     }
-    check_combination(u, s, v, t)?;
-    write_combination(dst, u, s, v, t);
+    check_combination(dst, s, v, t)?;
+    write_onto(dst, s, v, t);
     Ok(())
 }
 
@@ -103,7 +103,7 @@ pub fn combination(s: i128, x: i128, t: i128, y: i128) -> Option<i128>
 /// # Errors
 ///
 /// The first column at which the range is left.
-pub(crate) fn check_combination(u: &[i128], s: i128, v: &[i128], t: i128) -> Result<(), u32>
+fn check_combination(u: &[i128], s: i128, v: &[i128], t: i128) -> Result<(), u32>
     requires same_width { length u.now ≡ length v.now }
     requires narrow { length u.now < 2 ^ 32 }
     ensures { let Stays = CombineStays u.now s v.now t in let width = length u.now in
@@ -119,7 +119,7 @@ pub(crate) fn check_combination(u: &[i128], s: i128, v: &[i128], t: i128) -> Res
 
 /// `s * x + t * y`.
 #[inline]
-pub(crate) fn combined_entry(s: i128, x: i128, t: i128, y: i128) -> i128
+fn combined_entry(s: i128, x: i128, t: i128, y: i128) -> i128
     requires { ColumnStays s x t y }
     ensures value { result ≡ s *ℤ x +ℤ t *ℤ y }
     ensures in_range { InRange result }
@@ -129,15 +129,30 @@ pub(crate) fn combined_entry(s: i128, x: i128, t: i128, y: i128) -> i128
     left + right
 }
 
-/// Writes `s * u + t * v` over `dst`.
-fn write_combination(dst: &mut [i128], u: &[i128], s: i128, v: &[i128], t: i128)
-    requires same_width { (length dst.old ≡ length u.now) × (length u.now ≡ length v.now) }
-    requires stays { AllStay (CombineStays u.now s v.now t) (length u.now) }
-    ensures combined { dst.new ≡ add (scale s u.now) (scale t v.now) }
+/// Writes `s * dst + t * v` over `dst`.
+fn write_onto(dst: &mut [i128], s: i128, v: &[i128], t: i128)
+    requires same_width { length dst.old ≡ length v.now }
+    requires stays { AllStay (CombineStays dst.old s v.now t) (length dst.old) }
+    ensures combined { dst.new ≡ add (scale s dst.old) (scale t v.now) }
     ensures in_range { AllInRange dst.new }
 {
     for j in 0..dst.len() {
-        dst[j] = combined_entry(s, u[j], t, v[j]);
+        dst[j] = combined_entry(s, dst[j], t, v[j]);
+    }
+}
+
+/// Writes `s * dst + t * v` over `dst`, where all are narrow.
+fn narrow_onto(dst: &mut [i128], s: i128, v: &[i128], t: i128)
+    requires same_width { length dst.old ≡ length v.now }
+    requires factors { IsNarrow s × IsNarrow t }
+    requires left { AllNarrow dst.old }
+    requires right { AllNarrow v.now }
+    ensures combined { dst.new ≡ add (scale s dst.old) (scale t v.now) }
+    ensures stays { AllStay (CombineStays dst.old s v.now t) (length dst.old) }
+    ensures in_range { AllInRange dst.new }
+{
+    for j in 0..dst.len() {
+        dst[j] = narrow_combined_entry(s, dst[j], t, v[j]);
     }
 }
 

@@ -95,7 +95,7 @@ impl<M: Copy> MarkedRows<M> {
         make_room(&mut self.cells, row.len())?;
         self.marks.reserve(1)?;
         self.width = row.len();
-        append_row(&mut self.cells, row);
+        append_slice(&mut self.cells, row);
         self.marks.push_reserved(mark);
         Ok(())
     }
@@ -178,8 +178,8 @@ impl<M: Copy> MarkedRows<M> {
             self.width
         };
         self.width = width;
-        append_row(&mut self.cells, later.cells.as_slice());
-        append_marks(&mut self.marks, later.marks.as_slice());
+        append_slice(&mut self.cells, later.cells.as_slice());
+        append_slice(&mut self.marks, later.marks.as_slice());
         Ok(())
     }
 
@@ -370,17 +370,17 @@ fn append_primitive(cells: &mut Vec<i128>, row: &[i128])
     ensures len { vec_len cells.new ≡ vec_len cells.old + length row.now }
 {
     let start = cells.len();
-    append_row(cells, row);
+    append_slice(cells, row);
     make_rest_primitive(cells.as_mut_slice(), start);
 }
 
-/// Appends a row, for which there is room.
-fn append_row(cells: &mut Vec<i128>, row: &[i128])
-    requires { vec_len cells.old + length row.now ≤ vec_capacity cells.old }
-    ensures items { cells.new.items ≡ cells.old.items ++ row.now }
-    ensures len { vec_len cells.new ≡ vec_len cells.old + length row.now }
+/// Appends elements, for which there is room.
+fn append_slice<T: Copy>(list: &mut Vec<T>, more: &[T])
+    requires { vec_len list.old + length more.now ≤ vec_capacity list.old }
+    ensures items { list.new.items ≡ list.old.items ++ more.now }
+    ensures len { vec_len list.new ≡ vec_len list.old + length more.now }
 {
-    let _appended = cells.extend_from_slice(row);
+    let _appended = list.extend_from_slice(more);
 }
 
 /// Puts a row, for which there is room, before the cells from a place on.
@@ -390,7 +390,7 @@ fn insert_row(cells: &mut Vec<i128>, start: usize, row: &[i128])
     ensures { cells.new.items
         ≡ take start cells.old.items ++ (row.now ++ drop start cells.old.items) }
 {
-    append_row(cells, row);
+    append_slice(cells, row);
     cells[start..].rotate_right(row.len());
 }
 
@@ -421,12 +421,4 @@ fn make_rest_primitive(cells: &mut [i128], start: usize)
     ensures { IsRestPrimitive start cells.old cells.new }
 {
     make_primitive(&mut cells[start..]);
-}
-
-/// Appends marks, for which there is room.
-fn append_marks<M: Copy>(marks: &mut Vec<M>, later: &[M])
-    requires { vec_len marks.old + length later.now ≤ vec_capacity marks.old }
-    ensures { marks.new.items ≡ marks.old.items ++ later.now }
-{
-    let _appended = marks.extend_from_slice(later);
 }

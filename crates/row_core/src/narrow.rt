@@ -1,8 +1,8 @@
 //! Rows of numbers that are at most 2^47 in size. A product of two is at most 2^94, and over 2^32
 //! columns no sum of products leaves the range, so nothing is tested while it is computed.
 ghost use Rattle.std.specs.Prelude.{◌≡◌, ◌↔◌, ℕ, ◌^◌, ◌<◌, ◌≤◌, length, ◌+ℤ◌, ◌*ℤ◌, unsigned_abs, IsTrue};
-ghost use Rattle.row_core.specs.Vectors.{dot, scale, add};
-ghost use Rattle.row_core.specs.Range.{InRange, AllInRange, DotStays, CombineStays, AllStay};
+ghost use Rattle.row_core.specs.Vectors.{dot};
+ghost use Rattle.row_core.specs.Range.{InRange, DotStays, AllStay};
 ghost use Rattle.row_core.specs.Narrow.{IsNarrow, AllNarrow};
 
 /// The greatest size of a narrow number.
@@ -36,21 +36,6 @@ pub fn narrow_dot(u: &[i128], v: &[i128]) -> i128
         total += narrow_product(u[j], v[j]);
     }
     total
-}
-
-/// Writes `s * u + t * v` over `dst`, where all are narrow.
-pub(crate) fn narrow_combination(dst: &mut [i128], u: &[i128], s: i128, v: &[i128], t: i128)
-    requires same_width { (length dst.old ≡ length u.now) × (length u.now ≡ length v.now) }
-    requires factors { IsNarrow s × IsNarrow t }
-    requires left { AllNarrow u.now }
-    requires right { AllNarrow v.now }
-    ensures combined { dst.new ≡ add (scale s u.now) (scale t v.now) }
-    ensures stays { AllStay (CombineStays u.now s v.now t) (length u.now) }
-    ensures in_range { AllInRange dst.new }
-{
-    for j in 0..dst.len() {
-        dst[j] = narrow_combined_entry(s, u[j], t, v[j]);
-    }
 }
 
 /// `s * x + t * y` of narrow numbers.

@@ -7,7 +7,7 @@ ghost use Rattle.row_core.specs.Range.{InRange, AllInRange};
 ghost use Rattle.row_core.specs.Signs.{sign};
 ghost use Rattle.row_core.specs.Combinations.{AreFactors, CombinationLeaves, IsCombined};
 
-use row_core::{Steps, combine_into, gcd, make_primitive, quotient};
+use row_core::{Steps, combine_onto, gcd, make_primitive, quotient};
 use std::sync::ledger::Ledger;
 
 /// The number with the other sign.
@@ -83,7 +83,8 @@ pub fn combine<L: Ledger>(
     ensures in_range { OnOk result (AllInRange dst.new) }
 {
     let (second, first) = factors(u, v);
-    combine_into(dst, right, second, left, first, steps)?;
+    dst.copy_from_slice(right);
+    combine_onto(dst, second, left, first, steps)?;
     make_primitive(dst);
     Ok(())
 }

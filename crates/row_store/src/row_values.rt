@@ -12,7 +12,8 @@ ghost use Rattle.row_store.specs.Faults.{IsValuesFault};
 
 use crate::fault::{Part, Place, ValueFault};
 use crate::vectors::VectorList;
-use row_core::{dot, emptied, narrow_dot};
+use flat_rows::emptied;
+use row_core::{dot, narrow_dot};
 use std::alloc::{AllocError, Global};
 
 /// Appends the values of narrow vectors on a narrow row to a list without elements.

@@ -6,7 +6,7 @@ use Rattle.row_core.proofs.marked.MarkedRows.append_copies.Goals.{then-is_empty,
 use Rattle.row_core.proofs.marked.MarkedRows.append_copies.Goals as goal
 
 -- the width is that of a list that has a row
-choice : (g : Over) (c : goal.After-append_marks g) →
+choice : (g : Over) (c : goal.After-append_slice-2 g) →
     IsChosen (length c.self.inside.marks.items) c.self.inside.width c.later.inside.width
     c.if-is_empty.width
 choice g c = elim c.if-is_empty.branch [
@@ -20,8 +20,8 @@ invariant_of-self-2 g c =
     c.self.inside.cells.items c.later.inside.cells.items c.self.inside.marks.items
     c.later.inside.marks.items c.args.self.now c.args.later.now c.self.invariant
     c.later.invariant c.self.view_is c.later.view_is c.requires (choice g c) _ _ _ _ _ _
-    c.reserve.ensures.items c.as_slice.ensures.value c.append_row.ensures.items
-    c.reserve-2.ensures.items c.as_slice-2.ensures.value c.append_marks.ensures
+    c.reserve.ensures.items c.as_slice.ensures.value c.append_slice.ensures.items
+    c.reserve-2.ensures.items c.as_slice-2.ensures.value c.append_slice-2.ensures.items
 
 pub returns : goal.returns
 returns g c =
@@ -29,5 +29,5 @@ returns g c =
     c.self.inside.cells.items c.later.inside.cells.items c.self.inside.marks.items
     c.later.inside.marks.items c.args.self.now c.args.later.now c.self.invariant
     c.later.invariant c.self.view_is c.later.view_is c.requires (choice g c) _ _ _ _ _ _
-    c.reserve.ensures.items c.as_slice.ensures.value c.append_row.ensures.items
-    c.reserve-2.ensures.items c.as_slice-2.ensures.value c.append_marks.ensures
+    c.reserve.ensures.items c.as_slice.ensures.value c.append_slice.ensures.items
+    c.reserve-2.ensures.items c.as_slice-2.ensures.value c.append_slice-2.ensures.items

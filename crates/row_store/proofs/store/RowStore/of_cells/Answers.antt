@@ -1,7 +1,7 @@
-use Rattle.std.specs.Prelude.{◌≡◌, ℤ, All, length}
+use Rattle.std.specs.Prelude.{◌≡◌, All, length}
 use Rattle.std.proofs.Common.{sym, subst, ap, ◌∙◌, refl, arith}
 use Rattle.row_core.specs.Range.{InRange, AllInRange}
-use Rattle.flat_rows.specs.Flat.{Flat, IsLaidOut}
+use Rattle.flat_rows.specs.Flat.{IsLaidOut}
 use Rattle.flat_rows.proofs.Flat.{All-rows_of, length-rows_of, seen_flat, cells_seen}
 use Rattle.row_store.proofs.store.RowStore.of_cells.Goals as goal
 

@@ -2,7 +2,7 @@ use Rattle.std.specs.Int.{w128}
 use Rattle.std.proofs.Common.{refl}
 use Rattle.std.proofs.lemmas.Int.{to_z-of_z}
 use Rattle.std.proofs.lemmas.Result.{err_from_is_err_and}
-use Rattle.row_core.proofs.in_place.combine_onto.Goals as goal
+use Rattle.row_core.proofs.linear.combine_onto.Goals as goal
 
 pub narrow_onto-requires-clause-factors : goal.narrow_onto-requires-clause-factors
 narrow_onto-requires-clause-factors g c = c.both_narrow.ensures c.if-both_narrow.true
