@@ -3,3 +3,4 @@ pub mod BlockLemmas
 pub mod PlaceLemmas
 pub mod CountLemmas
 pub mod CellLemmas
+pub mod RowSearches

@@ -1,5 +1,5 @@
-use Rattle.std.specs.Prelude.{◌≡◌, ◌≢◌, ◌↔◌, ◌⊎◌, ℕ, ◌+◌, ◌*◌, ◌/◌, ◌%◌, ◌<◌, ◌≤◌, Bool, List, IsTrue}
-use Rattle.std.specs.Prelude.{length, slice_index_or, ℤ, pos}
+use Rattle.std.specs.Prelude.{◌≡◌, ◌≢◌, ◌↔◌, ◌⊎◌, ℕ, ◌+◌, ◌*◌, ◌/◌, ◌%◌, ◌<◌, ◌≤◌, Bool, List}
+use Rattle.std.specs.Prelude.{IsTrue, length, slice_index_or, ℤ, pos}
 use Rattle.std.specs.Ordering.{int_eq}
 use Rattle.sat_bits.specs.Places.{bit_in, place}
 

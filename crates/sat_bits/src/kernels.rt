@@ -1,7 +1,8 @@
 //! The kernels.
-ghost use Rattle.std.specs.Prelude.{◌≡◌, ◌↔◌, ℕ, ◌+◌, ◌*◌, ◌^◌, ◌<◌, ◌≤◌, ◌&&◌, ◌||◌, IsTrue, length};
-ghost use Rattle.std.specs.Prelude.{slice_index_or, bit_and};
-ghost use Rattle.sat_bits.specs.Places.{place, IsSubsetOfAnd, IsNoneMissing, AreNoneMissing, HasThirdWord};
+ghost use Rattle.std.specs.Prelude.{◌≡◌, ◌↔◌, ℕ, ◌+◌, ◌*◌, ◌^◌, ◌<◌, ◌≤◌, ◌&&◌, ◌||◌, IsTrue};
+ghost use Rattle.std.specs.Prelude.{length, slice_index_or, bit_and};
+ghost use Rattle.sat_bits.specs.Places.{place, IsSubsetOfAnd, IsNoneMissing, AreNoneMissing};
+ghost use Rattle.sat_bits.specs.Places.{HasThirdWord};
 
 use std::simd::u64x8;
 
@@ -61,7 +62,7 @@ pub fn is_subset_of_and(a: &[u64], b: &[u64], c: &[u64]) -> bool
 }
 
 /// Whether some word at another place than `i` and `j` has each bit that both of these have.
-pub fn some_other_covers(words: &[u64], i: usize, j: usize) -> bool
+pub(crate) fn some_other_covers(words: &[u64], i: usize, j: usize) -> bool
     requires first { i < length words.now }
     requires second { j < length words.now }
     ensures fit { (k : ℕ) → slice_index_or words.now k 0 < 2 ^ 64 }

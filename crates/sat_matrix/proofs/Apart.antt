@@ -3,7 +3,8 @@ use Rattle.std.proofs.Common.{◌≡◌, ℕ, zero, suc, ◌+◌, ◌-◌, ◌<�
 use Rattle.std.proofs.lemmas.Bool.{cases_lt}
 use Rattle.sat_matrix.specs.Tables.{Table, bits_of, conjunction}
 use Rattle.sat_matrix.specs.Counts.{ones}
-use Rattle.sat_matrix.specs.Searches.{IsFirstFrom, Shares}
+use Rattle.sat_bits.specs.Searches.{IsFirstFrom}
+use Rattle.sat_matrix.specs.Searches.{Shares}
 use Rattle.sat_matrix.specs.declared.adjacency.Side.{Side}
 use Rattle.sat_matrix.specs.declared.adjacency.Side.TheVariants.{Above, Below}
 use Rattle.sat_matrix.specs.CountTests.{CountsDecide}

@@ -1,5 +1,5 @@
 -- Rows of truth values in rows of words.
-use Rattle.std.proofs.Common.{◌≡◌, ◌≢◌, ◌↔◌, ℕ, suc, zero, ◌+◌, ◌/◌, ◌%◌, ◌<◌, ◌≤◌, Bool, false, ◌&&◌, bit_and, IsTrue, List, [], ◌∷◌, ◌++◌, length, get_or, set, map, replicate, nat_eq, refl, sym, ap, inl, inr, ◌⊎◌, subst, ◌∙◌, arith}
+use Rattle.std.proofs.Common.{◌≡◌, ◌≢◌, ◌↔◌, ℕ, suc, zero, ◌+◌, ◌*◌, ◌/◌, ◌%◌, ◌<◌, ◌≤◌, Bool, false, ◌&&◌, bit_and, IsTrue, List, [], ◌∷◌, ◌++◌, length, get_or, set, map, replicate, nat_eq, refl, sym, ap, inl, inr, ◌⊎◌, subst, ◌∙◌, arith}
 use Rattle.std.specs.Prelude.{All}
 use Rattle.std.proofs.lemmas.List.{ext_get_or, get_or-map, length-map, map-append, map-set, length-set, get_or-set_same, get_or-set_other, length-replicate, get_or-replicate}
 use Rattle.std.proofs.lemmas.Nat.Bits.{bit_at-zero}
@@ -7,13 +7,15 @@ use Rattle.std.proofs.lemmas.List.FromFn.{length-map-range_with_len, get_or-map-
 use Rattle.std.proofs.lemmas.List.Elements.{All-head, All-tail}
 use Rattle.std.proofs.lemmas.Bool.{cases_lt, cases_eq}
 use Rattle.sat_bits.specs.Places.{place, bit_in, IsSubsetOfAnd}
+use Rattle.sat_bits.specs.Searches.{row_words, IsThirdRow, HasThirdRow, HasCoveringRow}
 use Rattle.sat_bits.proofs.PlaceLemmas.{places_and}
 use Rattle.flat_rows.proofs.WordRows.{length-and_words}
-use Rattle.flat_rows.specs.Flat.{Flat, entries_at, HasOneWidth, marked}
+use Rattle.flat_rows.specs.Flat.{Flat, entries_at, AreCells, HasOneWidth, marked}
+use Rattle.flat_rows.proofs.Flat.{row_end, row_of_cells}
 pub use Rattle.flat_rows.proofs.Marked.{marked-map, all_marked}
-use Rattle.sat_matrix.specs.Tables.{Table, bits_of, bit_at, conjunction, Covers, IsCoveredAmong}
+use Rattle.sat_matrix.specs.Tables.{Table, bits_of, bit_at, conjunction, Covers, IsThird, HasThird, IsCoveredAmong}
 use Rattle.flat_rows.specs.Words.{and_words}
-use Rattle.sat_matrix.specs.Words.{bits_in, IsPadded, IsTable, IsPlaceSet, HasCoveringRow}
+use Rattle.sat_matrix.specs.Words.{bits_in, IsPadded, IsTable, IsPlaceSet}
 
 pub length-conjunction : (xs ys : List Bool) → length xs ≡ length ys → length (conjunction xs ys) ≡ length xs
 length-conjunction [] ys e = refl
@@ -100,21 +102,51 @@ covers_seen columns words t i j k a b c S table e in_i in_j in_k ea eb ec r =
       λ h. r.1 (covers_from columns a b c padded (Covers_along (bits_of t.rows i) (bits_of t.rows j) (bits_of t.rows k) (bits_in columns a) (bits_in columns b) (bits_in columns c) (sym ra) (sym rb) (sym rc) h)),
     )
 
--- a row that the list names covers another in bits where it does in words
-pub covering_seen : (columns : ℕ) (words : Flat ℕ) (t : Table) (i : ℕ) (among : List ℕ) (S : Type 0) → IsTable columns words → seen_bits columns words ≡ t → i < length t.rows → ((q : ℕ) → q < length among → get_or among q 0 < length t.rows)
-    → (S → HasCoveringRow words i among) × (HasCoveringRow words i among → S) → (S → IsCoveredAmong t.rows i among) × (IsCoveredAmong t.rows i among → S)
-covering_seen columns words t i among S table e in_i within r = (λ h. to (r.0 h), λ h. r.1 (from h))
-  where
-    both : (q : ℕ) → q < length among → IsSubsetOfAnd (entries_at words.rows i) (entries_at words.rows i) (entries_at words.rows (get_or among q 0)) ↔ Covers (bits_of t.rows i) (bits_of t.rows i) (bits_of t.rows (get_or among q 0))
-    both q h =
-        covers_seen columns words t i i (get_or among q 0) (entries_at words.rows i) (entries_at words.rows i) (entries_at words.rows (get_or among q 0)) (IsSubsetOfAnd (entries_at words.rows i) (entries_at words.rows i) (entries_at words.rows (get_or among q 0)))
-        table e in_i in_i (within q h) refl refl refl (λ x. x, λ x. x)
+-- the words of a row in the cells are the row
+pub row_is : (words : Flat ℕ) (cells : List ℕ) (width i : ℕ) → AreCells words cells → width ≡ words.width → i < length words.rows → row_words cells width i ≡ entries_at words.rows i
+row_is words cells width i are is below = ap (λ (w : ℕ). row_words cells w i) is ∙ row_of_cells words cells i are below
 
-    to : HasCoveringRow words i among → IsCoveredAmong t.rows i among
-    to h = (h.0, h.1, h.2.0, (both h.0 h.1).0 h.2.1)
+-- and lie within the cells
+pub row_lies : (columns : ℕ) (words : Flat ℕ) (t : Table) (cells : List ℕ) (width i : ℕ) → seen_bits columns words ≡ t → AreCells words cells → width ≡ words.width → i < length t.rows → i * width + width ≤ length cells
+row_lies columns words t cells width i e are is in_i =
+    let below : i < length words.rows = omega (arith, (seen_in columns words t e).count, in_i) in
+    omega (arith, row_end width (length words.rows) i below, are.taken, ap (λ (w : ℕ). length words.rows * w) is)
 
-    from : IsCoveredAmong t.rows i among → HasCoveringRow words i among
-    from h = (h.0, h.1, (h.2, (both h.0 h.1).1 h.3))
+-- rows of words in the cells cover as those of truth values do
+module _ (columns : ℕ) (words : Flat ℕ) (t : Table) (cells : List ℕ) (width : ℕ) (table : IsTable columns words) (e : seen_bits columns words ≡ t) (are : AreCells words cells) (is : width ≡ words.width) where
+  covers_in : (i j k : ℕ) → i < length t.rows → j < length t.rows → k < length t.rows
+      → IsSubsetOfAnd (row_words cells width i) (row_words cells width j) (row_words cells width k) ↔ Covers (bits_of t.rows i) (bits_of t.rows j) (bits_of t.rows k)
+  covers_in i j k in_i in_j in_k =
+      let s = seen_in columns words t e in
+      let row = λ (n : ℕ) (h : n < length t.rows). row_is words cells width n are is (omega (arith, s.count, h)) in
+      covers_seen columns words t i j k (row_words cells width i) (row_words cells width j) (row_words cells width k) (IsSubsetOfAnd (row_words cells width i) (row_words cells width j) (row_words cells width k))
+      table e in_i in_j in_k (row i in_i) (row j in_j) (row k in_k) (λ x. x, λ x. x)
+
+  -- a row that the list names covers another in bits where it does in words
+  pub covering_seen : (i : ℕ) (among : List ℕ) (S : Type 0) → i < length t.rows → ((q : ℕ) → q < length among → get_or among q 0 < length t.rows) → S ↔ HasCoveringRow cells width i among → S ↔ IsCoveredAmong t.rows i among
+  covering_seen i among S in_i within r = (λ h. to (r.0 h), λ h. r.1 (from h))
+    where
+      both : (q : ℕ) → q < length among → IsSubsetOfAnd (row_words cells width i) (row_words cells width i) (row_words cells width (get_or among q 0)) ↔ Covers (bits_of t.rows i) (bits_of t.rows i) (bits_of t.rows (get_or among q 0))
+      both q h = covers_in i i (get_or among q 0) in_i in_i (within q h)
+
+      to : HasCoveringRow cells width i among → IsCoveredAmong t.rows i among
+      to h = (h.0, h.1, h.2.0, (both h.0 h.1).0 h.2.1)
+
+      from : IsCoveredAmong t.rows i among → HasCoveringRow cells width i among
+      from h = (h.0, h.1, (h.2, (both h.0 h.1).1 h.3))
+
+  -- a third row of words is one of truth values
+  pub third_seen : (rows i j : ℕ) (S : Type 0) → rows ≡ length words.rows → i < length t.rows → j < length t.rows → S ↔ HasThirdRow cells width rows i j → S ↔ HasThird t i j
+  third_seen rows i j S count in_i in_j r = (λ h. let x = r.0 h in (x.0, to x.0 x.1), λ h. r.1 (h.0, from h.0 h.1))
+    where
+      to : (k : ℕ) → IsThirdRow cells width rows i j k → IsThird t i j k
+      to k h =
+          let in_k : k < length t.rows = omega (arith, (seen_in columns words t e).count, count, h.row) in
+          record { row = in_k; not_first = h.not_first; not_second = h.not_second; covers = (covers_in i j k in_i in_j in_k).0 h.covers }
+
+      from : (k : ℕ) → IsThird t i j k → IsThirdRow cells width rows i j k
+      from k h =
+          record { row = omega (arith, (seen_in columns words t e).count, count, h.row); not_first = h.not_first; not_second = h.not_second; covers = (covers_in i j k in_i in_j h.row).1 h.covers }
 
 -- ---- one place
 pub place_set : (words : List ℕ) (c word : ℕ) (bit : Bool) → c / 64 < length words → bit_in word (c % 64) ≡ bit → ((k : ℕ) → k < 64 → k ≢ c % 64 → bit_in word k ≡ bit_in (get_or words (c / 64) 0) k) → IsPlaceSet c bit words (set words (c / 64) word)

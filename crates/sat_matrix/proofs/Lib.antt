@@ -3,7 +3,6 @@ pub mod Columns
 pub mod WordCells
 pub mod WrittenRows
 pub mod Counting
-pub mod SingleWords
 pub mod CopiedRows
 pub mod NextSharing
 pub mod MarkedRows

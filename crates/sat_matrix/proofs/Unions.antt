@@ -8,12 +8,12 @@ use Rattle.sat_bits.specs.Places.{place}
 use Rattle.flat_rows.specs.Flat.{Flat, entries_at}
 use Rattle.sat_matrix.specs.Tables.{Table, bits_of}
 use Rattle.sat_matrix.specs.Words.{AreWordsOf}
-use Rattle.sat_matrix.specs.Searches.{shared_places, Shares}
+use Rattle.sat_bits.specs.Searches.{shared_places}
+use Rattle.sat_matrix.specs.Searches.{Shares}
 use Rattle.sat_matrix.specs.Pairs.{index_at}
 use Rattle.sat_matrix.specs.Near.{IsUnionOf, SharesWords}
 use Rattle.sat_matrix.proofs.BitRows.{seen_in, rectangular_in}
-use Rattle.sat_matrix.proofs.Counting.{count_seen, ones-le}
-use Rattle.sat_matrix.proofs.NextSharing.{places_seen}
+use Rattle.sat_matrix.proofs.Counting.{count_seen, ones-le, shared_seen}
 use Rattle.sat_matrix.proofs.SharedCounts.{both_turned}
 
 true_in_both : (x y z : Bool) → (IsTrue x → IsTrue y) → cond (z && x) 1 0 ≤ cond (z && y) 1 0
@@ -70,6 +70,6 @@ module _ (table : Table) (words : Flat ℕ) (are : AreWordsOf table words) where
         arith,
         shares,
         both_turned (bits_of table.rows (index_at outer p)) (bits_of table.rows (index_at among q)),
-        places_seen table.columns words table are.laid are.wide are.seen (index_at among q) (index_at outer p) in_among in_outer,
+        shared_seen table.columns words table (index_at among q) (index_at outer p) (entries_at words.rows (index_at among q)) (entries_at words.rows (index_at outer p)) are.laid are.seen in_among in_outer refl refl (are.wide (index_at among q) (in_words (index_at among q) in_among)),
         shared_more (entries_at words.rows (index_at among q)) (entries_at words.rows (index_at outer p)) union (λ c. is p c low below),
       )

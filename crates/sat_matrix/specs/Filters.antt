@@ -1,6 +1,6 @@
 use Rattle.std.specs.Prelude.{◌≡◌, ℕ, ◌^◌, ◌<◌, List, length}
 use Rattle.flat_rows.specs.Flat.{Flat, entries_at}
-use Rattle.sat_matrix.specs.Searches.{shared_places}
+use Rattle.sat_bits.specs.Searches.{shared_places}
 use Rattle.sat_matrix.specs.Pairs.{index_at}
 
 -- a row is as wide as the rows are, a list names rows, and the numbers of shared places fit

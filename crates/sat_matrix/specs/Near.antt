@@ -1,9 +1,10 @@
 use Rattle.std.specs.Prelude.{◌≡◌, ℕ, ◌<◌, ◌≤◌, List, length, take, IsTrue}
 use Rattle.sat_bits.specs.Places.{place}
+use Rattle.sat_bits.specs.Searches.{shared_places}
 use Rattle.flat_rows.specs.Flat.{entries_at}
 use Rattle.sat_matrix.specs.Tables.{Table}
 use Rattle.sat_matrix.specs.CountTests.{CountsDecide}
-use Rattle.sat_matrix.specs.Searches.{Shares, shared_places}
+use Rattle.sat_matrix.specs.Searches.{Shares}
 use Rattle.sat_matrix.specs.Pairs.{index_at, AreRising}
 
 -- the numbers of a list from an index on rise, and are below the bound

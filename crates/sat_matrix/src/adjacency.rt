@@ -10,7 +10,7 @@ ghost use Rattle.sat_matrix.specs.SearchStates.{IsReady, HasFound, HasThirdAt};
 use crate::looks::has_crowded;
 use crate::matrix::SatMatrix;
 use crate::narrowing::{Near, push_narrowed};
-use row_core::emptied;
+use flat_rows::emptied;
 use std::alloc::{AllocError, Global};
 
 /// Where the pairs of rays have fewer words, they are looked at one by one.

@@ -1,22 +1,22 @@
 //! The table.
 ghost use Rattle.std.specs.Prelude.{◌≡◌, ℕ, ◌+◌, ◌<◌, ◌≤◌, ◌↔◌, List, [], ◌∷◌, ◌++◌, length, map};
-ghost use Rattle.std.specs.Prelude.{max, drop, replicate, Bool, true, false, ◌-◌, slice_set, IsTrue};
-ghost use Rattle.std.specs.Prelude.{OnOk, OnErr, IfOk, slice_index_or};
+ghost use Rattle.std.specs.Prelude.{max, drop, replicate, Bool, true, false, ◌-◌, slice_set};
+ghost use Rattle.std.specs.Prelude.{IsTrue, OnOk, OnErr, IfOk, slice_index_or};
 ghost use Rattle.flat_rows.specs.Flat.{marked};
 ghost use Rattle.sat_bits.specs.Places.{place};
+ghost use Rattle.sat_bits.specs.Searches.{IsFirstFrom};
 ghost use Rattle.sat_matrix.specs.Columns.{HasLastZeros, IsColumnMarked};
 ghost use Rattle.sat_matrix.specs.Tables.{Table, bits_of, bit_at, conjunction, transposed, Covers};
 ghost use Rattle.sat_matrix.specs.Tables.{HasThird, IsCoveredAmong, IsRectangular};
 ghost use Rattle.sat_matrix.specs.Counts.{ones};
 ghost use Rattle.sat_matrix.specs.Words.{bits_in, AreWordsOf, IsTable};
-ghost use Rattle.sat_matrix.specs.Searches.{IsFirstFrom, Shares};
+ghost use Rattle.sat_matrix.specs.Searches.{Shares};
 
-use crate::searches::{has_covering_row, has_third_row, next_sharing};
 use flat_rows::{FlatRows, push_and, widened};
 use row_core::Memory;
 use sat_bits::{
-    count, count_and, fill_front, get, is_subset_of_and, mark_column, mark_zeros, with_bit,
-    write_behind,
+    count, count_and, fill_front, get, has_covering_row, has_third_row, is_subset_of_and,
+    mark_column, mark_zeros, next_sharing, with_bit, write_behind,
 };
 use std::alloc::{AllocError, Global};
 use std::marker::Model;
@@ -313,7 +313,8 @@ impl SatMatrix {
         requires second { j < length self.now.rows }
         ensures { IsTrue result ↔ HasThird self.now i j }
     {
-        has_third_row(&self.words, i, j)
+        let width = self.words.width();
+        has_third_row(self.words.cells(), width, self.words.len(), i, j)
     }
 
     /// The first position from `from` on at which the list names a row that shares at least `least`
@@ -327,8 +328,8 @@ impl SatMatrix {
             (length among.now) result }
     {
         let _columns = self.columns();
-        let _width = self.words.width();
-        next_sharing(&self.words, i, among, from, least)
+        let width = self.words.width();
+        next_sharing(self.words.cells(), width, i, among, from, least)
     }
 
     /// Whether a row at another of the places is true wherever row `i` is.
@@ -338,7 +339,8 @@ impl SatMatrix {
             slice_index_or among.now q 0 < length self.now.rows }
         ensures { IsTrue result ↔ IsCoveredAmong self.now.rows i among.now }
     {
-        has_covering_row(&self.words, i, among)
+        let width = self.words.width();
+        has_covering_row(self.words.cells(), width, i, among)
     }
 
     /// Whether row `k` is true wherever rows `i` and `j` both are.

@@ -1,10 +1,10 @@
 use Rattle.std.proofs.Common.{◌+◌, ◌<◌, ◌≤◌, ◌^◌, ℕ, List, [], ◌∷◌, ◌++◌, length, refl, sym, ap, ◌∙◌, subst, arith, rules}
 use Rattle.flat_rows.specs.Flat.{entries_at}
-use Rattle.sat_matrix.specs.Searches.{shared_places}
+use Rattle.sat_bits.specs.Searches.{shared_places}
 use Rattle.sat_matrix.specs.Pairs.{index_at}
 use Rattle.sat_matrix.specs.Near.{SharesWords}
 use Rattle.sat_matrix.proofs.KeptPositions.{IsKeptUpto, kept_push, kept_pass, kept_all, kept_none, read_before}
-use Rattle.sat_matrix.proofs.NextSharing.{places_along}
+use Rattle.sat_bits.proofs.RowSearches.{places_along}
 use Rattle.sat_matrix.proofs.searches.push_sharing_as_wide.Goals as goal
 use Rattle.sat_matrix.proofs.searches.push_sharing_as_wide.Goals.{then-count_and-filter+in_ok-push, else-count_and-filter}
 

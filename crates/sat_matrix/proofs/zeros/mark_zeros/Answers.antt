@@ -1,9 +1,4 @@
-use Rattle.std.specs.Prelude.{◌≡◌, ◌-◌, ◌++◌, ◌∷◌, [], Bool, ℤ, List, false, map, pos, slice_set}
-use Rattle.std.specs.Ordering.{int_eq}
-use Rattle.std.proofs.Common.{sym, ap, ◌∙◌, arith, get_or, length}
-use Rattle.std.proofs.lemmas.List.{get_or-map, set_at}
-use Rattle.sat_matrix.specs.Tables.{bits_of}
-use Rattle.sat_matrix.proofs.TableLemmas.{narrower, widened_count, zeros_told}
+use Rattle.sat_matrix.proofs.TableLemmas.{narrower, zeros_told}
 use Rattle.sat_matrix.proofs.zeros.mark_zeros.Goals as goal
 
 pub returns-clause-column : goal.returns-clause-column

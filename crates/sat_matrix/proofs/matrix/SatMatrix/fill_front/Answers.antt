@@ -1,7 +1,7 @@
 use Rattle.std.proofs.Common.{◌≡◌, ◌<◌, ◌++◌, true, length, set, drop, replicate, arith}
 use Rattle.flat_rows.proofs.Flat.{row_end}
 use Rattle.flat_rows.specs.Flat.{with_cells}
-use Rattle.sat_matrix.specs.Tables.{Table, bits_of}
+use Rattle.sat_matrix.specs.Tables.{bits_of}
 use Rattle.sat_matrix.proofs.BitRows.{seen_in}
 use Rattle.sat_matrix.proofs.WordCells.{IsLeft, front_filled}
 use Rattle.sat_matrix.proofs.matrix.SatMatrix.fill_front.Goals as goal

@@ -2,7 +2,6 @@ use Rattle.std.proofs.Common.{◌<◌, IsTrue, length, arith}
 use Rattle.flat_rows.proofs.Flat.{row_end}
 use Rattle.sat_bits.specs.Places.{place}
 use Rattle.sat_matrix.specs.Columns.{IsColumnMarked}
-use Rattle.sat_matrix.specs.Tables.{Table}
 use Rattle.sat_matrix.proofs.BitRows.{seen_in}
 use Rattle.sat_matrix.proofs.WordCells.{IsLeft, column_marked}
 use Rattle.flat_rows.specs.Flat.{with_cells}

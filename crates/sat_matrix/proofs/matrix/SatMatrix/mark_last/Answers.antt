@@ -1,4 +1,4 @@
-use Rattle.std.proofs.Common.{◌≡◌, ◌*◌, ◌-◌, ℕ, length, sym, ap, ◌∙◌, arith}
+use Rattle.std.proofs.Common.{◌≡◌, ◌*◌, ℕ, length, sym, ap, ◌∙◌, arith}
 use Rattle.sat_matrix.specs.Columns.{HasLastZeros}
 use Rattle.sat_matrix.proofs.BitRows.{seen_in}
 use Rattle.sat_matrix.proofs.WordCells.{IsLeft, zeros_told_last}

@@ -1,4 +1,4 @@
-use Rattle.std.proofs.Common.{◌≡◌, ◌++◌, [], ℕ, true, false, Bool, List, length, drop, replicate, ap, sym, ◌∙◌, arith}
+use Rattle.std.proofs.Common.{◌≡◌, ◌++◌, ℕ, true, false, Bool, List, length, drop, replicate, ap, sym, ◌∙◌, arith}
 use Rattle.std.proofs.lemmas.List.{append-nil, drop_all}
 use Rattle.sat_matrix.specs.Tables.{Table, bits_of}
 use Rattle.sat_matrix.proofs.WrittenRows.{last_written, last_wide}

@@ -1,7 +1,6 @@
 use Rattle.std.proofs.Common.{◌≡◌, ◌<◌, ◌-◌, ◌++◌, true, length, set, replicate, arith}
 use Rattle.flat_rows.proofs.Flat.{row_end}
 use Rattle.flat_rows.specs.Flat.{with_cells}
-use Rattle.sat_matrix.specs.Tables.{Table}
 use Rattle.sat_matrix.specs.Words.{bits_in}
 use Rattle.sat_matrix.proofs.BitRows.{seen_in}
 use Rattle.sat_matrix.proofs.WordCells.{IsLeft, row_behind, none_in_row}

@@ -2,22 +2,22 @@ use Rattle.std.proofs.Common.{below_more, subst, sym, ◌∙◌, arith, ℕ, Lis
 use Rattle.std.proofs.lemmas.Bool.{false≢true}
 use Rattle.std.specs.Prelude.{IsTrue}
 use Rattle.sat_bits.specs.Places.{IsSubsetOfAnd}
-use Rattle.flat_rows.specs.Flat.{entries_at}
-use Rattle.sat_matrix.proofs.searches.has_covering_as_wide.Goals as goal
-use Rattle.sat_matrix.proofs.searches.has_covering_as_wide.Goals.{else-among-q-via-then-among-q+else-is_subset_of_and, else-among-q-via-else-among-q}
+use Rattle.sat_bits.specs.Searches.{row_words}
+use Rattle.sat_bits.proofs.searches.has_covering_as_wide.Goals as goal
+use Rattle.sat_bits.proofs.searches.has_covering_as_wide.Goals.{else-among-q-via-then-among-q+else-is_subset_of_and, else-among-q-via-else-among-q}
 
 pub is_subset_of_and-requires-clause-third : goal.is_subset_of_and-requires-clause-third
-is_subset_of_and-requires-clause-third c = c.row_as_wide-other.ensures.wide ∙ sym c.row_as_wide-row.ensures.wide
+is_subset_of_and-requires-clause-third c = c.row_at-other.ensures.wide ∙ sym c.row_at-row.ensures.wide
 
 pub loop-q-preserved : goal.loop-q-preserved
 loop-q-preserved c =
     below_more _ _ c.loop-q.invariant
     (λ covering. elim c.else-among-q.branch [
       | else-among-q-via-then-among-q+else-is_subset_of_and w ↦
-          let other : List ℕ = entries_at c.args.rows.now.rows (get_or c.args.among.now c.loop-q.q 0) in
+          let other : List ℕ = row_words c.args.cells.now c.args.width (get_or c.args.among.now c.loop-q.q 0) in
           let P : List ℕ → Type 0 = λ row. IsSubsetOfAnd row row other in
-          let Q : List ℕ → Type 0 = λ row. IsSubsetOfAnd c.row_as_wide-row.result.now c.row_as_wide-row.result.now row in
-          false≢true (subst IsTrue w.if-is_subset_of_and.false (w.is_subset_of_and.ensures.1 (subst Q (sym c.row_as_wide-other.ensures.value) (subst P (sym c.row_as_wide-row.ensures.value) covering.1))))
+          let Q : List ℕ → Type 0 = λ row. IsSubsetOfAnd c.row_at-row.result.now c.row_at-row.result.now row in
+          false≢true (subst IsTrue w.if-is_subset_of_and.false (w.is_subset_of_and.ensures.1 (subst Q (sym c.row_at-other.ensures.value) (subst P (sym c.row_at-row.ensures.value) covering.1))))
       | else-among-q-via-else-among-q w ↦ covering.0 (omega (arith, w.if-among-q.false))
     ])
 
