@@ -265,21 +265,6 @@ impl Beside {
         position.kept(eq, cone)
     }
 
-    /// Takes in the rows that are left, as far as the slack allows.
-    pub(crate) fn go_on<L: Ledger>(
-        &mut self,
-        list: &RowList,
-        slack: &mut u128,
-        steps: &mut Steps<L>,
-    )
-        requires { IsBeside list.now.width list.now.rows self.old }
-        ensures beside { IsBeside list.now.width list.now.rows self.new }
-        ensures no_fewer { steps.old ≤ steps.new }
-        ensures within { steps.new + slack.new ≤ steps.old + slack.old }
-    {
-        self.catch_up(list, u64::MAX, 0, slack, steps);
-    }
-
     /// Whether it has taken in all rows.
     pub(crate) fn is_done(&self, list: &RowList) -> bool
         requires { IsBeside list.now.width list.now.rows self.now }

@@ -157,7 +157,9 @@ impl Race {
                 Ok(false) => {}
                 Ok(true) => return Ok(true),
                 Err(error) => {
-                    self.beside.go_on(rows, &mut self.slack, steps);
+                    // The rows that are left, as far as the slack allows.
+                    self.beside
+                        .catch_up(rows, u64::MAX, 0, &mut self.slack, steps);
                     if self.beside.is_done(rows) {
                         return Ok(true);
                     }

@@ -10,7 +10,7 @@ ghost use Rattle.row_core.specs.MarkedLists.{AreLists};
 ghost use Rattle.chernikova.specs.Conversion.{IsState, IsAtStep, IsConverted, IsRealOverflow, TellsChange, ConvertsRows, ConvertsFrom};
 
 use crate::cone::{Added, Cone};
-use crate::lists::{rows_of_both, system_of_cone, system_of_copy};
+use crate::lists::{rows_of_both, system_of_cone};
 use crate::order::sorted_cone;
 use crate::scratch::Scratch;
 use crate::system::System;
@@ -68,7 +68,8 @@ pub fn add_rows<L: Ledger>(
 {
     let rows = rows_of_both(taken, more)?;
     prove!(rows.width() < 0x1_0000_0000);
-    let mut system = system_of_copy(cone)?;
+    let copy = cone.clone()?;
+    let mut system = system_of_cone(copy);
     let from = taken.len();
     take_rows(alloc, &mut system, &rows, from, steps)?;
     Ok(sorted_cone(alloc, system)?)

@@ -22,15 +22,6 @@ pub(crate) fn system_of_cone(cone: Cone) -> System
     }
 }
 
-/// A copy of the system that a conversion gave, to take in further rows.
-pub(crate) fn system_of_copy(cone: &Cone) -> Result<System, Memory>
-    requires lines { AreMarked true cone.now.lines.rows }
-    requires rays { AreMarked false cone.now.rays.rows }
-    ensures { IfOk result (IsReopened cone.now) }
-{
-    Ok(system_of_cone(cone.clone()?))
-}
-
 /// The rows of a list, and then those of another.
 pub(crate) fn rows_of_both(first: &RowList, second: &RowList) -> Result<RowList, Memory>
     requires { second.now.width ≡ first.now.width }

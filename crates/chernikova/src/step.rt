@@ -36,24 +36,10 @@ pub(crate) fn position(
 {
     let row = rows.row(k);
     let narrow = all_narrow(row);
-    let lines_place = &mut scratch.line_values;
-    let line_values = values(
-        scratch.alloc,
-        lines_place,
-        Part::Lines,
-        &cone.lines,
-        row,
-        narrow,
-    )?;
-    let rays_place = &mut scratch.ray_values;
-    let ray_values = values(
-        scratch.alloc,
-        rays_place,
-        Part::Rays,
-        &cone.rays,
-        row,
-        narrow,
-    )?;
+    let place = &mut scratch.line_values;
+    let line_values = values(scratch.alloc, place, Part::Lines, &cone.lines, row, narrow)?;
+    let place = &mut scratch.ray_values;
+    let ray_values = values(scratch.alloc, place, Part::Rays, &cone.rays, row, narrow)?;
     if let Some(index) = last_crossing(&line_values) {
         return Ok(Position::Crossing(CrossedLine {
             index,

@@ -1,10 +1,11 @@
 use Rattle.std.specs.Prelude.{refl, ◌≡◌, ◌^◌, ◌<◌, ◌≤◌, ◌++◌, ℕ, List, length, Ok, Err}
-use Rattle.std.proofs.Common.{subst, arith, ◌∙◌, sym, length-append}
+use Rattle.std.proofs.Common.{subst, arith, ap, ◌∙◌, sym, length-append}
 use Rattle.std.proofs.lemmas.Result.{err_from_is_err_and}
 use Rattle.row_core.specs.Lists.{Row}
 use Rattle.row_core.specs.declared.errors.ConvErr.TheVariants.{Memory}
 use Rattle.chernikova.specs.declared.cone.Cone.{Cone}
-use Rattle.chernikova.specs.Conversion.{IsConverted, ConvertsFrom}
+use Rattle.chernikova.specs.declared.system.System.{System}
+use Rattle.chernikova.specs.Conversion.{IsConverted, IsReopened, ConvertsFrom}
 use Rattle.chernikova.proofs.Prefixes.{front_state, state_moved}
 use Rattle.row_core.proofs.RowListLemmas.{length-vectors}
 use Rattle.chernikova.proofs.Rankings.{rearranged_converted}
@@ -19,6 +20,15 @@ moved P w width rs rows n from e f g h = subst (λ (k : ℕ). P width rows k) g 
 front_fewer : (taken more : List Row) → length taken ≤ length (taken ++ more)
 front_fewer taken more = omega (arith, length-append taken more)
 
+-- the system of a copy is that of what it copies
+reopened_copy : (cone copy : Cone) (system : System) → copy ≡ record cone { sat = record cone.sat { spare = 0 } } → IsReopened copy system → IsReopened cone system
+reopened_copy cone copy system e h = record {
+  lines = h.lines ∙ ap (λ (c : Cone). c.lines) e;
+  rays = h.rays ∙ ap (λ (c : Cone). c.rays) e;
+  columns = h.columns ∙ ap (λ (c : Cone). c.sat.columns) e;
+  zeros = h.zeros ∙ ap (λ (c : Cone). c.sat.rows) e;
+}
+
 pub take_rows-requires-clause-from : goal.take_rows-requires-clause-from
 take_rows-requires-clause-from g c =
     subst (λ (xs : List Row). c.len-from.result ≤ length xs) (sym c.in_ok-rows.ensures.rows)
@@ -29,8 +39,8 @@ take_rows-requires-clause-state g c =
     let taken = c.args.taken.now in
     let rows = c.in_ok-rows.rows in
     let narrow : taken.width < 2 ^ 32 = subst (λ (n : ℕ). n < 2 ^ 32) c.in_ok-rows.ensures.width c.width.ensures.narrow in
-    state_moved taken.width rows.width (taken.rows ++ c.args.more.now.rows) rows.rows (length taken.rows) c.len-from.result c.in_ok-system.system c.in_ok-system.system (sym c.in_ok-rows.ensures.width) (sym c.in_ok-rows.ensures.rows) (sym c.len-from.ensures) refl
-    (front_state taken.width taken.rows c.args.more.now.rows c.args.cone.now c.in_ok-system.system narrow c.requires.cone c.in_ok-system.ensures)
+    state_moved taken.width rows.width (taken.rows ++ c.args.more.now.rows) rows.rows (length taken.rows) c.len-from.result c.system_of_cone-system.result c.system_of_cone-system.result (sym c.in_ok-rows.ensures.width) (sym c.in_ok-rows.ensures.rows) (sym c.len-from.ensures) refl
+    (front_state taken.width taken.rows c.args.more.now.rows c.args.cone.now c.system_of_cone-system.result narrow c.requires.cone (reopened_copy c.args.cone.now c.in_ok-copy.copy c.system_of_cone-system.result c.in_ok-copy.ensures.cases c.system_of_cone-system.ensures))
 
 pub sorted_cone-requires-clause-as_many : goal.sorted_cone-requires-clause-as_many
 sorted_cone-requires-clause-as_many g c = c.in_ok-take_rows.ensures.state.zeros.each.as_many ∙ length-vectors c.take_rows.new.cone.rays.rows
@@ -41,10 +51,10 @@ returns-in_err-rows-clause-conversion g c =
     let p = err_from_is_err_and c.from_residual.result c.from_residual.ensures.1 in
     rw (p.1, p.2) (further_not_begun taken.width (taken.rows ++ c.args.more.now.rows) (length taken.rows) c.args.steps.now (front_fewer taken.rows c.args.more.now.rows))
 
-pub returns-in_err-system-clause-conversion : goal.returns-in_err-system-clause-conversion
-returns-in_err-system-clause-conversion g c =
+pub returns-in_err-copy-clause-conversion : goal.returns-in_err-copy-clause-conversion
+returns-in_err-copy-clause-conversion g c =
     let taken = c.args.taken.now in
-    let p = err_from_is_err_and c.from_residual-in_err-system.result c.from_residual-in_err-system.ensures.1 in
+    let p = err_from_is_err_and c.from_residual-in_err-copy.result c.from_residual-in_err-copy.ensures.1 in
     rw (p.1, p.2) (further_not_begun taken.width (taken.rows ++ c.args.more.now.rows) (length taken.rows) c.args.steps.now (front_fewer taken.rows c.args.more.now.rows))
 
 pub returns-in_err-take_rows-clause-conversion : goal.returns-in_err-take_rows-clause-conversion

@@ -1,10 +1,14 @@
-use Rattle.std.specs.Prelude.{◌+◌, ℕ, ℤ, List, Bool}
-use Rattle.std.proofs.Common.{refl, sym, subst, ◌∙◌}
+use Rattle.std.specs.Prelude.{◌≡◌, ◌≢◌, ◌+◌, ◌<◌, ℕ, ℤ, pos, List, Bool, length, All}
+use Rattle.std.proofs.Common.{refl, sym, ap, subst, arith, ◌∙◌}
 use Rattle.std.proofs.lemmas.Result.{err_from_is_err_and}
-use Rattle.row_core.specs.Lists.{row_at, vectors}
-use Rattle.cone_laws.specs.Steps.{IsLineStep}
+use Rattle.row_core.specs.Lists.{Row, row_at, vectors}
+use Rattle.row_core.specs.Pairs.{value_at}
+use Rattle.row_core.specs.Range.{InRange}
+use Rattle.row_core.proofs.RowListLemmas.{length-vectors}
+use Rattle.cone_laws.specs.Steps.{IsLineStep, IsLastCrossing}
 use Rattle.row_store.specs.Vectors.{Vectors, as_rows}
 use Rattle.row_store.specs.Values.{values_on}
+use Rattle.row_store.proofs.ValueLemmas.{length-values_on, value_at-values_on}
 use Rattle.sat_matrix.specs.TableSteps.{HasLineStep}
 use Rattle.row_core.specs.MarkedLists.{AreLists}
 use Rattle.row_store.specs.Changes.{IsLineChange}
@@ -13,6 +17,61 @@ use Rattle.chernikova.proofs.StateLemmas.{line_step_from}
 use Rattle.chernikova.proofs.StepLemmas.{line_fault_at}
 use Rattle.chernikova.proofs.NextStates.{line_state}
 use Rattle.chernikova.proofs.step.step_with_line.Goals as goal
+
+-- as many values as vectors
+values_size : (a : List ℤ) (list : List Row) (values : List ℤ) → values ≡ values_on a (vectors list) → length values ≡ length list
+values_size a list values e = ap length e ∙ length-values_on a (vectors list) ∙ length-vectors list
+
+-- a line of the list, on which the row isn't 0
+crosses_at : (a : List ℤ) (lines : List Row) (values : List ℤ) (index : ℕ) → values ≡ values_on a (vectors lines) → IsLastCrossing a (vectors lines) index → (index < length lines) × (value_at values index ≢ pos 0)
+crosses_at a lines values index e h = (
+  omega (arith, h.below, length-vectors lines),
+  (λ z. h.crosses (sym (ap (λ vs. value_at vs index) e ∙ value_at-values_on a (vectors lines) index h.below) ∙ z)),
+)
+
+pub line_step-requires-clause-room : goal.line_step-requires-clause-room
+line_step-requires-clause-room g c = c.requires.ready.room.vectors
+
+pub line_step-requires-clause-widths : goal.line_step-requires-clause-widths
+line_step-requires-clause-widths g c = c.requires.ready.state.lists.lines_wide ∙ sym c.requires.ready.state.lists.rays_wide
+
+pub line_step-requires-clause-as_many : goal.line_step-requires-clause-as_many
+line_step-requires-clause-as_many g c =
+    let plan = c.requires.ready.planned in (
+      values_size (row_at c.args.rows.now.rows c.args.k) c.args.cone.now.lines.rows c.deref.result.now (c.deref.ensures.value ∙ plan.are_line_values),
+      values_size (row_at c.args.rows.now.rows c.args.k) c.args.cone.now.rays.rows c.deref-2.result.now (c.deref-2.ensures.value ∙ plan.are_ray_values),
+    )
+
+pub line_step-requires-clause-in_range : goal.line_step-requires-clause-in_range
+line_step-requires-clause-in_range g c =
+    let P : List ℤ → Type 0 = λ vs. All InRange vs in
+    (subst P (sym c.deref.ensures.value) c.requires.ready.planned.lines_in_range, subst P (sym c.deref-2.ensures.value) c.requires.ready.planned.rays_in_range)
+
+pub line_step-requires-clause-crossing : goal.line_step-requires-clause-crossing
+line_step-requires-clause-crossing g c =
+    let plan = c.requires.ready.planned in
+    crosses_at (row_at c.args.rows.now.rows c.args.k) c.args.cone.now.lines.rows c.deref.result.now c.args.line.index (c.deref.ensures.value ∙ plan.are_line_values) plan.crossing
+
+pub line_step-requires-clause-primitive : goal.line_step-requires-clause-primitive
+line_step-requires-clause-primitive g c = (c.requires.ready.state.system.primitive_lines, c.requires.ready.state.system.primitive_rays)
+
+pub after_line_step-requires-clause-columns : goal.after_line_step-requires-clause-columns
+after_line_step-requires-clause-columns g c = omega (arith, c.requires.ready.column.columns)
+
+pub after_line_step-requires-clause-spare : goal.after_line_step-requires-clause-spare
+after_line_step-requires-clause-spare g c = omega (arith, c.requires.ready.room.zeros)
+
+pub returns-clause-no_fewer : goal.returns-clause-no_fewer
+returns-clause-no_fewer g c = c.line_step.ensures.counted.0
+
+pub returns-clause-counted : goal.returns-clause-counted
+returns-clause-counted g c = omega (arith, c.line_step.ensures.counted.1)
+
+pub returns-in_err-line_step-clause-no_fewer : goal.returns-in_err-line_step-clause-no_fewer
+returns-in_err-line_step-clause-no_fewer g c = c.line_step.ensures.counted.0
+
+pub returns-in_err-line_step-clause-counted : goal.returns-in_err-line_step-clause-counted
+returns-in_err-line_step-clause-counted g c = omega (arith, c.line_step.ensures.counted.1)
 
 pub returns-in_err-line_step-clause-state : goal.returns-in_err-line_step-clause-state
 returns-in_err-line_step-clause-state g c =

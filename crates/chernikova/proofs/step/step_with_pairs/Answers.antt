@@ -1,15 +1,109 @@
-use Rattle.std.specs.Prelude.{◌≡◌, ◌++◌, ℕ, ℤ, List, Bool, true, length, map, replicate}
-use Rattle.std.proofs.Common.{refl, sym, ap, subst, ◌∙◌}
+use Rattle.std.specs.Prelude.{◌≡◌, ◌+◌, ◌++◌, ℕ, ℤ, List, Bool, true, length, map, replicate, All}
+use Rattle.std.proofs.Common.{refl, sym, ap, subst, arith, ◌∙◌, length-append}
+use Rattle.std.proofs.lemmas.List.{length-map, length-replicate}
 use Rattle.std.proofs.lemmas.Result.{err_from_is_err_and}
-use Rattle.row_core.specs.Lists.{row_at, is_eq_at, vectors}
+use Rattle.row_core.specs.Lists.{Row, row_at, is_eq_at, vectors}
+use Rattle.row_core.specs.Range.{InRange}
+use Rattle.row_core.proofs.RowListLemmas.{length-vectors}
 use Rattle.row_core.specs.Signs.{stays}
-use Rattle.sat_matrix.specs.TableSteps.{HasRayStep}
-use Rattle.row_store.specs.Changes.{IsRayChange}
+use Rattle.sat_matrix.specs.Tables.{Table}
+use Rattle.sat_matrix.specs.TableSteps.{HasRayStep, HasFalseColumn, AreWithin}
+use Rattle.row_store.specs.Changes.{IsRayChange, ArePairs}
+use Rattle.row_store.specs.Values.{values_on}
+use Rattle.row_store.proofs.ValueLemmas.{length-values_on}
 use Rattle.sat_matrix.specs.Pairs.{AreAllCrosses}
 use Rattle.chernikova.specs.Plans.{marks_of}
 use Rattle.chernikova.proofs.StepLemmas.{pair_fault_at}
 use Rattle.chernikova.proofs.NextStates.{ray_state}
 use Rattle.chernikova.proofs.step.step_with_pairs.Goals as goal
+
+-- as many values as rays
+values_size : (a : List ℤ) (rays : List Row) (values : List ℤ) → values ≡ values_on a (vectors rays) → length values ≡ length rays
+values_size a rays values e = ap length e ∙ length-values_on a (vectors rays) ∙ length-vectors rays
+
+-- a mark for each value and for each pair
+marks_size : (P : ℤ → Bool) (values : List ℤ) (pairs : ℕ) → length (map P values ++ replicate pairs true) ≡ length values + pairs
+marks_size P values pairs = omega (arith, length-append (map P values) (replicate pairs true), length-map values P, length-replicate pairs true)
+
+-- the table with a column more has as many rows
+table_size : (before sat : Table) → HasFalseColumn before sat → length sat.rows ≡ length before.rows
+table_size before sat h = ap length h.rows ∙ length-map before.rows _
+
+pub ray_step-requires-clause-spare : goal.ray_step-requires-clause-spare
+ray_step-requires-clause-spare g c = omega (arith, c.requires.ready.room.rays, ap (λ (ps : List (ℕ × ℕ)). length ps) c.deref-pairs.ensures.value)
+
+pub ray_step-requires-clause-as_many : goal.ray_step-requires-clause-as_many
+ray_step-requires-clause-as_many g c =
+    values_size (row_at c.args.rows.now.rows c.args.k) c.args.cone.now.rays.rows c.deref-values.result.now (c.deref-values.ensures.value ∙ c.requires.ready.planned.cutting.0.are_values)
+
+pub ray_step-requires-clause-marks : goal.ray_step-requires-clause-marks
+ray_step-requires-clause-marks g c =
+    let plan = c.requires.ready.planned in
+    omega (
+      arith,
+      ap (λ (ms : List Bool). length ms) (c.deref-marks.ensures.value ∙ plan.are_marks),
+      marks_size (stays (is_eq_at c.args.rows.now.rows c.args.k)) c.args.cut.values.items (length c.args.cut.pairs.items),
+      values_size (row_at c.args.rows.now.rows c.args.k) c.args.cone.now.rays.rows c.args.cut.values.items plan.cutting.0.are_values,
+      ap (λ (ps : List (ℕ × ℕ)). length ps) c.deref-pairs.ensures.value,
+    )
+
+pub ray_step-requires-clause-in_range : goal.ray_step-requires-clause-in_range
+ray_step-requires-clause-in_range g c = subst (λ (vs : List ℤ). All InRange vs) (sym c.deref-values.ensures.value) c.requires.ready.planned.cutting.0.in_range
+
+pub ray_step-requires-clause-opposite : goal.ray_step-requires-clause-opposite
+ray_step-requires-clause-opposite g c =
+    let V : List ℤ → Type 0 = λ vs. ArePairs vs c.deref-pairs.result.now in
+    let Q : List (ℕ × ℕ) → Type 0 = λ pairs. ArePairs c.args.cut.values.items pairs in
+    subst V (sym c.deref-values.ensures.value) (subst Q (sym c.deref-pairs.ensures.value) (λ i below. (c.requires.ready.planned.crosses.each i below).pair))
+
+pub ray_step-requires-clause-marked : goal.ray_step-requires-clause-marked
+ray_step-requires-clause-marked g c = c.requires.ready.state.lists.rays_marked
+
+pub after_ray_step-requires-clause-columns : goal.after_ray_step-requires-clause-columns
+after_ray_step-requires-clause-columns g c = omega (arith, c.requires.ready.column.columns)
+
+pub after_ray_step-requires-clause-spare : goal.after_ray_step-requires-clause-spare
+after_ray_step-requires-clause-spare g c = omega (arith, c.requires.ready.room.zeros, ap (λ (ps : List (ℕ × ℕ)). length ps) c.deref-pairs.ensures.value)
+
+pub after_ray_step-requires-clause-as_many : goal.after_ray_step-requires-clause-as_many
+after_ray_step-requires-clause-as_many g c =
+    let ready = c.requires.ready in
+    omega (arith, ap (λ (vs : List ℤ). length vs) (c.deref-values.ensures.value ∙ ready.planned.cutting.0.are_values), length-values_on (row_at c.args.rows.now.rows c.args.k) (vectors c.args.cone.now.rays.rows), table_size ready.before c.args.cone.now.sat ready.column, ready.state.zeros.each.as_many)
+
+pub after_ray_step-requires-clause-marks : goal.after_ray_step-requires-clause-marks
+after_ray_step-requires-clause-marks g c =
+    let ready = c.requires.ready in
+    omega (
+      arith,
+      ap (λ (ms : List Bool). length ms) (c.deref-marks.ensures.value ∙ ready.planned.are_marks),
+      marks_size (stays (is_eq_at c.args.rows.now.rows c.args.k)) c.args.cut.values.items (length c.args.cut.pairs.items),
+      ap (λ (ps : List (ℕ × ℕ)). length ps) c.deref-pairs.ensures.value,
+      ap (λ (vs : List ℤ). length vs) ready.planned.cutting.0.are_values,
+      length-values_on (row_at c.args.rows.now.rows c.args.k) (vectors c.args.cone.now.rays.rows),
+      table_size ready.before c.args.cone.now.sat ready.column,
+      ready.state.zeros.each.as_many,
+    )
+
+pub after_ray_step-requires-clause-pairs : goal.after_ray_step-requires-clause-pairs
+after_ray_step-requires-clause-pairs g c =
+    let ready = c.requires.ready in
+    let size : length c.args.cut.values.items ≡ length c.args.cone.now.sat.rows =
+    ap (λ (vs : List ℤ). length vs) ready.planned.cutting.0.are_values ∙ length-values_on (row_at c.args.rows.now.rows c.args.k) (vectors c.args.cone.now.rays.rows) ∙ sym ready.state.zeros.each.as_many ∙ sym (table_size ready.before c.args.cone.now.sat ready.column) in
+    let W : ℕ → Type 0 = λ n. AreWithin n c.deref-pairs.result.now in
+    let Q : List (ℕ × ℕ) → Type 0 = λ pairs. AreWithin (length c.args.cut.values.items) pairs in
+    subst W size (subst Q (sym c.deref-pairs.ensures.value) (λ i below. let pair = (c.requires.ready.planned.crosses.each i below).pair in (pair.first, pair.second)))
+
+pub returns-clause-no_fewer : goal.returns-clause-no_fewer
+returns-clause-no_fewer g c = c.ray_step.ensures.counted.0
+
+pub returns-clause-counted : goal.returns-clause-counted
+returns-clause-counted g c = omega (arith, c.ray_step.ensures.counted.1, ap (λ (ps : List (ℕ × ℕ)). length ps) c.deref-pairs.ensures.value)
+
+pub returns-in_err-ray_step-clause-no_fewer : goal.returns-in_err-ray_step-clause-no_fewer
+returns-in_err-ray_step-clause-no_fewer g c = c.ray_step.ensures.counted.0
+
+pub returns-in_err-ray_step-clause-counted : goal.returns-in_err-ray_step-clause-counted
+returns-in_err-ray_step-clause-counted g c = omega (arith, c.ray_step.ensures.counted.1, ap (λ (ps : List (ℕ × ℕ)). length ps) c.deref-pairs.ensures.value)
 
 pub returns-in_err-ray_step-clause-state : goal.returns-in_err-ray_step-clause-state
 returns-in_err-ray_step-clause-state g c =

@@ -42,24 +42,24 @@ returns-in-Ok-true-clause-conversion g c =
 pub returns-then-is_done-clause-conversion : goal.returns-then-is_done-clause-conversion
 returns-then-is_done-clause-conversion g c =
     let inv = c.loop-k.invariant in
-    let more : ℕ = c.go_on.new.steps - c.args.steps.now in
+    let more : ℕ = c.catch_up.new.steps - c.args.steps.now in
     record {
       overflow = tt;
-      no_fewer = omega (arith, inv.no_fewer, c.take_row.ensures.no_fewer, c.go_on.ensures.no_fewer);
+      no_fewer = omega (arith, inv.no_fewer, c.take_row.ensures.no_fewer, c.catch_up.ensures.no_fewer);
       counted = counted_rest c.args.rows.now.width c.args.rows.now.rows (c.loop-k.k + 1) more more (omega arith)
           (counted_step c.args.rows.now.width c.args.rows.now.rows c.loop-k.k (c.loop-k.steps - c.args.steps.now + c.loop-k.self.slack) _ more inv.counted c.take_row.ensures.counted
-          (omega (arith, inv.no_fewer, c.take_row.ensures.no_fewer, c.go_on.ensures.no_fewer, c.go_on.ensures.within))) (omega arith);
+          (omega (arith, inv.no_fewer, c.take_row.ensures.no_fewer, c.catch_up.ensures.no_fewer, c.catch_up.ensures.within))) (omega arith);
       counted_before = tt;
     }
 
 pub returns-in-Err-clause-conversion : goal.returns-in-Err-clause-conversion
 returns-in-Err-clause-conversion g c =
     let inv = c.loop-k.invariant in
-    let more : ℕ = c.go_on.new.steps - c.args.steps.now in
-    let none_fewer : c.args.steps.now ≤ c.go_on.new.steps = omega (arith, inv.no_fewer, c.take_row.ensures.no_fewer, c.go_on.ensures.no_fewer) in
+    let more : ℕ = c.catch_up.new.steps - c.args.steps.now in
+    let none_fewer : c.args.steps.now ≤ c.catch_up.new.steps = omega (arith, inv.no_fewer, c.take_row.ensures.no_fewer, c.catch_up.ensures.no_fewer) in
     let upto : IsCountedUpto c.args.rows.now.width c.args.rows.now.rows (c.loop-k.k + 1) more =
     counted_step c.args.rows.now.width c.args.rows.now.rows c.loop-k.k (c.loop-k.steps - c.args.steps.now + c.loop-k.self.slack) _ more inv.counted c.take_row.ensures.counted
-    (omega (arith, inv.no_fewer, c.take_row.ensures.no_fewer, c.go_on.ensures.no_fewer, c.go_on.ensures.within)) in
+    (omega (arith, inv.no_fewer, c.take_row.ensures.no_fewer, c.catch_up.ensures.no_fewer, c.catch_up.ensures.within)) in
     record {
       overflow = c.in-Err.ensures.overflow;
       no_fewer = none_fewer;

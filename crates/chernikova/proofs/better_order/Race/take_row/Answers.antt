@@ -43,3 +43,36 @@ take_row_sparing-requires-clause-state g c = c.requires.state
 
 pub take_row_sparing-requires-clause-row : goal.take_row_sparing-requires-clause-row
 take_row_sparing-requires-clause-row g c = c.requires.row
+
+pub take_row_sparing-requires-clause-position : goal.take_row_sparing-requires-clause-position
+take_row_sparing-requires-clause-position g c = c.in_ok-position.ensures.position
+
+pub begin-requires : goal.begin-requires
+begin-requires g c = c.requires.beside
+
+pub catch_up-requires : goal.catch_up-requires
+catch_up-requires g c = c.begin.ensures
+
+pub is_done-requires : goal.is_done-requires
+is_done-requires g c = c.catch_up.ensures.beside
+
+pub returns-clause-beside : goal.returns-clause-beside
+returns-clause-beside g c = c.catch_up.ensures.beside
+
+pub returns-then-is_done-clause-beside : goal.returns-then-is_done-clause-beside
+returns-then-is_done-clause-beside g c = c.catch_up.ensures.beside
+
+pub returns-in_err-spared-clause-beside : goal.returns-in_err-spared-clause-beside
+returns-in_err-spared-clause-beside g c = c.catch_up.ensures.beside
+
+pub returns-then-is_done-clause-done : goal.returns-then-is_done-clause-done
+returns-then-is_done-clause-done g c = c.is_done.ensures c.if-is_done.true
+
+pub returns-then-is_done-clause-no_fewer : goal.returns-then-is_done-clause-no_fewer
+returns-then-is_done-clause-no_fewer g c = c.catch_up.ensures.no_fewer
+
+pub returns-in_err-spared-clause-no_fewer : goal.returns-in_err-spared-clause-no_fewer
+returns-in_err-spared-clause-no_fewer g c = omega (arith, c.catch_up.ensures.no_fewer, c.take_row_sparing.ensures.no_fewer)
+
+pub returns-clause-no_fewer : goal.returns-clause-no_fewer
+returns-clause-no_fewer g c = omega (arith, c.catch_up.ensures.no_fewer, c.take_row_sparing.ensures.no_fewer)
