@@ -20,3 +20,4 @@ pub mod ValidSystems
 pub mod PlacedRows
 pub mod Splits
 pub mod TurnedRows
+pub mod KeptPlaces

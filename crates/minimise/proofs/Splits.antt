@@ -11,9 +11,10 @@ use Rattle.row_core.specs.Lists.{Row, row_at, vectors}
 use Rattle.row_core.proofs.RowListLemmas.{length-vectors, vector_at-vectors}
 use Rattle.sat_matrix.specs.Tables.{bits_of}
 use Rattle.sat_matrix.specs.Counts.{ones}
-use Rattle.minimise.specs.Facets.{IsFull, AreSplit, AreUneven}
+use Rattle.minimise.specs.Facets.{IsFull, AreSplit, AreUneven, AreRising}
 use Rattle.minimise.proofs.FacetLemmas.{ComesFrom, comes_from, length-both, unmarked_uneven, uneven_among}
 use Rattle.minimise.proofs.FullRows.{full_more}
+use Rattle.minimise.proofs.KeptPlaces.{rising_marked}
 
 -- ---- one row after another
 -- the places before an index
@@ -69,6 +70,9 @@ module _ (table : List (List Bool)) (full others : List ℕ) (s : AreSplit table
   pub others_uneven : AreUneven table others
   others_uneven = subst (λ (ps : List ℕ). AreUneven table ps) (sym s.others_are) (record { uneven = unmarked_uneven table s.marks s.tells; each = λ i u. uneven_among table s.marks s.tells i u })
 
+  pub others_rising : AreRising others
+  others_rising = subst AreRising (sym s.others_are) (rising_marked (map not s.marks) 0 (length s.marks))
+
   -- the rows at the full places and those at the others are all
   pub split_size : length full + length others ≡ length table
   split_size =
@@ -82,6 +86,6 @@ module _ (table : List (List Bool)) (full others : List ℕ) (s : AreSplit table
       ap (λ (ps : List ℕ). map (row_at rows) ps) s.full_are ∙ marked-map (row_at rows) s.marks (range_with_len 0 (length s.marks))
       ∙ ap (λ (vs : List (List ℤ)). marked s.marks vs) (sym (fill_by_all (row_at rows) (vectors rows) (length s.marks) [] (length-vectors rows ∙ sym size ∙ sym s.tells.as_many) (λ k h. vector_at-vectors rows k)))
 
--- the same places
-pub split_of : (table : List (List Bool)) (full others lent lent_others : List ℕ) → full ≡ lent → others ≡ lent_others → AreSplit table full others → AreSplit table lent lent_others
-split_of table full others lent lent_others e f s = record { marks = s.marks; tells = s.tells; full_are = sym e ∙ s.full_are; others_are = sym f ∙ s.others_are }
+-- the same full places
+pub split_of : (table : List (List Bool)) (full others lent : List ℕ) → full ≡ lent → AreSplit table full others → AreSplit table lent others
+split_of table full others lent e s = record { marks = s.marks; tells = s.tells; full_are = sym e ∙ s.full_are; others_are = s.others_are }

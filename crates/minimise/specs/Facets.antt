@@ -3,7 +3,7 @@ use Rattle.std.specs.List.{range_with_len}
 use Rattle.flat_rows.specs.Flat.{marked}
 use Rattle.row_core.specs.Vectors.{dot}
 use Rattle.row_core.specs.Lists.{Row, row_at}
-use Rattle.sat_matrix.specs.Tables.{bits_of, Covers}
+use Rattle.sat_matrix.specs.Tables.{bits_of, IsCoveredAmong, Covers}
 use Rattle.sat_matrix.specs.Counts.{ones}
 use Rattle.minimise.specs.FlatRows.{IsZeroOnAll}
 use Rattle.minimise.specs.declared.facets.CountedRow.{CountedRow}
@@ -57,6 +57,19 @@ IsUneven rows p = (p < length rows) × ¬ (IsFull (bits_of rows p))
 pub record AreUneven (rows : List (List Bool)) (places : List ℕ) : Type 0 where
   pub uneven : All (IsUneven rows) places
   pub each : (i : ℕ) → IsUneven rows i → Contains places i
+
+-- each place is lower than the next
+abbrev pub AreRising : List ℕ → Type 0
+AreRising places = (k m : ℕ) → k < m → m < length places
+    → slice_index_or places k 0 < slice_index_or places m 0
+
+-- the places of rows that aren't true everywhere, of which each is true only where one at the
+-- places is, and none before an index only where one at another place is
+pub record AreKept (rows : List (List Bool)) (places : List ℕ) (at : ℕ) : Type 0 where
+  pub uneven : All (IsUneven rows) places
+  pub rising : AreRising places
+  pub led : (i : ℕ) → IsUneven rows i → IsLedBy rows places i
+  pub apart : (k : ℕ) → k < at → ¬ (IsCoveredAmong rows (slice_index_or places k 0) places)
 
 -- no row at one of the places is true only where one at another is
 abbrev pub AreApart : List (List Bool) → List ℕ → Type 0

@@ -1,7 +1,7 @@
 //! The rows that aren't 0 on the whole cone, one for each greatest set of zeros.
 ghost use Rattle.std.specs.Prelude.{◌≡◌, ℕ, ◌+◌, ◌<◌, ◌≤◌, ◌↔◌, [], ◌∷◌, ◌++◌, length, map, not, All, IsPermutation, IsTrue, IfOk, OnOk};
 ghost use Rattle.flat_rows.specs.Flat.{marked};
-ghost use Rattle.minimise.specs.Facets.{AreSplit, AreUneven, AreGreatest, IsLedBy, IsUneven, AreApart, counted_row, IsCounted, AreFalling, IsNoLonger};
+ghost use Rattle.minimise.specs.Facets.{AreSplit, AreUneven, AreRising, AreKept, AreGreatest, IsLedBy, IsUneven, AreApart, counted_row, IsCounted, AreFalling, IsNoLonger};
 
 use sat_matrix::SatMatrix;
 use std::alloc::{AllocError, Global};
@@ -13,20 +13,25 @@ pub(crate) struct CountedRow {
     place: usize,
 }
 
+/// At most so many rows are compared with each other, without a ranking.
+const FEW_ROWS: usize = 40;
+
 /// Of the rows at the places, the places of one for each greatest set of true places, in order.
 pub(crate) fn facets_of(
     alloc: Global,
     table: &SatMatrix,
-    places: &[usize],
+    mut places: Vec<usize>,
 ) -> Result<Vec<usize>, AllocError>
-    requires { AreUneven table.now.rows places.now }
+    requires uneven { AreUneven table.now.rows places.items }
+    requires rising { AreRising places.items }
     ensures greatest { IfOk result (λ v. AreGreatest table.now.rows v.items) }
-    ensures fewer { IfOk result (λ v. length v.items ≤ length places.now) }
+    ensures fewer { IfOk result (λ v. length v.items ≤ length places.items) }
 {
-    let ranked = ranked_rows(alloc, table, places)?;
-    let mut facets = leaders(alloc, table, &ranked)?;
-    facets.sort_unstable();
-    Ok(facets)
+    if places.len() <= FEW_ROWS {
+        keep_greatest(table, &mut places);
+        return Ok(places);
+    }
+    greatest_of(alloc, table, &places)
 }
 
 /// The places of the rows of the table that are true at each place, and those of the others.
@@ -43,6 +48,50 @@ pub(crate) fn full_places(
         push_place(&mut full, &mut others, row, is_full)?;
     }
     Ok((full, others))
+}
+
+/// Takes each place out at which the row is true only where one at another remaining place is. Of
+/// equal rows the last stays.
+fn keep_greatest(table: &SatMatrix, places: &mut Vec<usize>)
+    requires uneven { AreUneven table.now.rows places.old.items }
+    requires rising { AreRising places.old.items }
+    ensures greatest { AreGreatest table.now.rows places.new.items }
+    ensures fewer { length places.new.items ≤ length places.old.items }
+{
+    let mut at = 0;
+    while at < places.len() {
+        at = next_kept(table, places, at);
+    }
+}
+
+/// Takes the place at the index out, if the row there is true only where one at another place is.
+/// The index of the next place is returned.
+fn next_kept(table: &SatMatrix, places: &mut Vec<usize>, at: usize) -> usize
+    requires at { at < length places.old.items }
+    requires kept { AreKept table.now.rows places.old.items at }
+    ensures kept { AreKept table.now.rows places.new.items result }
+    ensures within { result ≤ length places.new.items }
+    ensures nearer { length places.new.items + (at + 1) ≡ length places.old.items + result }
+    ensures fewer { length places.new.items ≤ length places.old.items }
+{
+    let _columns = table.columns();
+    if !table.covered_among(places[at], places) {
+        return at + 1;
+    }
+    let _place = places.remove(at);
+    at
+}
+
+/// The same as [`facets_of`] for any number of rows, found by a ranking of the rows.
+fn greatest_of(alloc: Global, table: &SatMatrix, places: &[usize]) -> Result<Vec<usize>, AllocError>
+    requires { AreUneven table.now.rows places.now }
+    ensures greatest { IfOk result (λ v. AreGreatest table.now.rows v.items) }
+    ensures fewer { IfOk result (λ v. length v.items ≤ length places.now) }
+{
+    let ranked = ranked_rows(alloc, table, places)?;
+    let mut facets = leaders(alloc, table, &ranked)?;
+    facets.sort_unstable();
+    Ok(facets)
 }
 
 /// Appends a place to the first list where the row is true at each place, and else to the second.

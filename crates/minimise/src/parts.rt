@@ -84,11 +84,11 @@ pub(crate) fn parts_of<L: Ledger>(
     rows: &RowList,
     table: &SatMatrix,
     flat: &[usize],
-    others: &[usize],
+    others: Vec<usize>,
     steps: &mut Steps<L>,
 ) -> Result<Parts, Fault>
     requires as_many { length table.now.rows ≡ length rows.now.rows }
-    requires split { AreSplit table.now.rows flat.now others.now }
+    requires split { AreSplit table.now.rows flat.now others.items }
     ensures counted { (steps.old ≤ steps.new)
         × (steps.new ≤ steps.old + 2 * (length rows.now.rows * rows.now.width)) }
     ensures parts { MatchResult result (AreParts rows.now table.now flat.now)

@@ -124,7 +124,7 @@ fn second_system<L: Ledger>(
 {
     let table = sat.transpose()?;
     let (flat, others) = full_places(alloc, &table)?;
-    let parts = parts_of(alloc, rows, &table, &flat, &others, steps)?;
+    let parts = parts_of(alloc, rows, &table, &flat, others, steps)?;
     Ok(arranged(alloc, rows, lines.len(), &table, parts)?)
 }
 

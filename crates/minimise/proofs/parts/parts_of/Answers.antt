@@ -4,17 +4,20 @@ use Rattle.std.proofs.lemmas.Result.{err_from_is_err_and}
 use Rattle.row_core.specs.Lists.{row_at, vectors}
 use Rattle.minimise.proofs.FaultCases.{list_fault_of_row}
 use Rattle.minimise.proofs.PlacedRows.{reduced_at, rays_wide_at}
-use Rattle.minimise.proofs.Splits.{full_within, others_uneven, split_size}
+use Rattle.minimise.proofs.Splits.{full_within, others_uneven, others_rising, split_size}
 use Rattle.minimise.proofs.Totals.{total_bound}
 use Rattle.minimise.proofs.parts.parts_of.Goals as goal
 
 pub basis-requires : goal.basis-requires
 basis-requires g c =
-    let within = full_within c.args.table.now.rows c.args.flat.now c.args.others.now c.requires.split in
+    let within = full_within c.args.table.now.rows c.args.flat.now c.args.others.items c.requires.split in
     record { within = λ k d h. omega (arith, within k d h, c.requires.as_many) }
 
-pub facets_of-requires : goal.facets_of-requires
-facets_of-requires g c = others_uneven c.args.table.now.rows c.args.flat.now c.args.others.now c.requires.split
+pub facets_of-requires-clause-rising : goal.facets_of-requires-clause-rising
+facets_of-requires-clause-rising g c = others_rising c.args.table.now.rows c.args.flat.now c.args.others.items c.requires.split
+
+pub facets_of-requires-clause-uneven : goal.facets_of-requires-clause-uneven
+facets_of-requires-clause-uneven g c = others_uneven c.args.table.now.rows c.args.flat.now c.args.others.items c.requires.split
 
 pub reduced_rows-requires-clause-within : goal.reduced_rows-requires-clause-within
 reduced_rows-requires-clause-within g c =
@@ -27,7 +30,7 @@ reduced_rows-requires-clause-echelon g c = c.in_ok-equalities.ensures.basis.eche
 pub returns-in_err-equalities-clause-counted : goal.returns-in_err-equalities-clause-counted
 returns-in_err-equalities-clause-counted g c =
     let width = c.args.rows.now.width in
-    let both = split_size c.args.table.now.rows c.args.flat.now c.args.others.now c.requires.split in
+    let both = split_size c.args.table.now.rows c.args.flat.now c.args.others.items c.requires.split in
     let most = total_bound (length c.args.flat.now) 0 width width (length c.args.rows.now.rows) (omega arith) (omega (arith, both, c.requires.as_many)) in
     (omega (arith, c.basis.ensures.counted), omega (arith, c.basis.ensures.counted, most))
 
@@ -39,7 +42,7 @@ returns-in_err-equalities-clause-parts g c =
 pub returns-in_err-facets-clause-counted : goal.returns-in_err-facets-clause-counted
 returns-in_err-facets-clause-counted g c =
     let width = c.args.rows.now.width in
-    let both = split_size c.args.table.now.rows c.args.flat.now c.args.others.now c.requires.split in
+    let both = split_size c.args.table.now.rows c.args.flat.now c.args.others.items c.requires.split in
     let most = total_bound (length c.args.flat.now) 0 width width (length c.args.rows.now.rows) (omega arith) (omega (arith, both, c.requires.as_many)) in
     (omega (arith, c.basis.ensures.counted), omega (arith, c.basis.ensures.counted, most))
 
@@ -47,7 +50,7 @@ pub returns-in_err-rays-clause-counted : goal.returns-in_err-rays-clause-counted
 returns-in_err-rays-clause-counted g c =
     let width = c.args.rows.now.width in
     let kept = c.in_ok-facets.facets.items in
-    let both = split_size c.args.table.now.rows c.args.flat.now c.args.others.now c.requires.split in
+    let both = split_size c.args.table.now.rows c.args.flat.now c.args.others.items c.requires.split in
     let most = total_bound (length c.args.flat.now) (length kept) width width (length c.args.rows.now.rows) (omega arith) (omega (arith, both, c.requires.as_many, c.in_ok-facets.ensures.fewer)) in
     let size = ap (λ (is : List ℕ). length is * c.args.rows.now.width) c.deref.ensures.value in
     (omega (arith, c.basis.ensures.counted, c.reduced_rows.ensures.counted), omega (arith, c.basis.ensures.counted, c.reduced_rows.ensures.counted, size, most))
@@ -61,7 +64,7 @@ pub returns-clause-counted : goal.returns-clause-counted
 returns-clause-counted g c =
     let width = c.args.rows.now.width in
     let kept = c.in_ok-facets.facets.items in
-    let both = split_size c.args.table.now.rows c.args.flat.now c.args.others.now c.requires.split in
+    let both = split_size c.args.table.now.rows c.args.flat.now c.args.others.items c.requires.split in
     let most = total_bound (length c.args.flat.now) (length kept) width width (length c.args.rows.now.rows) (omega arith) (omega (arith, both, c.requires.as_many, c.in_ok-facets.ensures.fewer)) in
     let size = ap (λ (is : List ℕ). length is * c.args.rows.now.width) c.deref.ensures.value in
     (omega (arith, c.basis.ensures.counted, c.reduced_rows.ensures.counted), omega (arith, c.basis.ensures.counted, c.reduced_rows.ensures.counted, size, most))

@@ -18,7 +18,7 @@ pub parts_of-requires-clause-as_many : goal.parts_of-requires-clause-as_many
 parts_of-requires-clause-as_many g c = ap (λ (t : Table). length t.rows) c.in_ok-table.ensures ∙ (turned_tells c.args.rows.now.rows (vectors c.args.rays.now.rows) c.args.sat.now c.requires.sat).as_many
 
 pub parts_of-requires-clause-split : goal.parts_of-requires-clause-split
-parts_of-requires-clause-split g c = split_of c.in_ok-table.table.rows _ _ _ _ (sym c.deref.ensures.value) (sym c.deref-2.ensures.value) c.in_ok-flat.ensures
+parts_of-requires-clause-split g c = split_of c.in_ok-table.table.rows _ _ _ (sym c.deref.ensures.value) c.in_ok-flat.ensures
 
 pub returns-in_err-parts-clause-simplified : goal.returns-in_err-parts-clause-simplified
 returns-in_err-parts-clause-simplified g c =
@@ -27,9 +27,9 @@ returns-in_err-parts-clause-simplified g c =
     let table = c.in_ok-table.table in
     let tells : TellsRows c.args.rows.now.rows (vectors c.args.rays.now.rows) c.in_ok-table.table.rows =
     subst (λ (bs : List (List Bool)). TellsRows c.args.rows.now.rows (vectors c.args.rays.now.rows) bs) (sym (ap (λ (t : Table). t.rows) c.in_ok-table.ensures)) (turned_tells rows rays c.args.sat.now c.requires.sat) in
-    let split : AreSplit c.in_ok-table.table.rows c.deref.result.now c.deref-2.result.now = split_of table.rows _ _ _ _ (sym c.deref.ensures.value) (sym c.deref-2.ensures.value) c.in_ok-flat.ensures in
+    let split : AreSplit c.in_ok-table.table.rows c.deref.result.now c.in_ok-flat.others.items = split_of table.rows _ _ _ (sym c.deref.ensures.value) c.in_ok-flat.ensures in
     let told = flat_told rows rays table.rows tells c.args.rows.now.width (vectors c.args.lines.now.rows) split.marks c.requires.system split.tells in
-    let are : map (row_at c.args.rows.now.rows) c.deref.result.now ≡ marked split.marks (vectors c.args.rows.now.rows) = full_rows table.rows c.deref.result.now c.deref-2.result.now split rows tells.as_many in
+    let are : map (row_at c.args.rows.now.rows) c.deref.result.now ≡ marked split.marks (vectors c.args.rows.now.rows) = full_rows table.rows c.deref.result.now c.in_ok-flat.others.items split rows tells.as_many in
     let p = err_from_is_err_and c.from_residual-in_err-parts.result c.from_residual-in_err-parts.ensures.1 in
     rw (p.1, p.2) (left_fault c.args.rows.now.width rows split.marks (map (row_at rows) c.deref.result.now) _ told are c.in_err-parts.ensures.parts)
 
@@ -49,8 +49,8 @@ arranged-requires-clause-listed g c =
 pub returns-clause-simplified : goal.returns-clause-simplified
 returns-clause-simplified g c =
     let table = c.in_ok-table.table in
-    let split : AreSplit c.in_ok-table.table.rows c.deref.result.now c.deref-2.result.now = split_of table.rows _ _ _ _ (sym c.deref.ensures.value) (sym c.deref-2.ensures.value) c.in_ok-flat.ensures in
+    let split : AreSplit c.in_ok-table.table.rows c.deref.result.now c.in_ok-flat.others.items = split_of table.rows _ _ _ (sym c.deref.ensures.value) c.in_ok-flat.ensures in
     let size = ap (λ (t : Table). length t.rows) c.in_ok-table.ensures ∙ (turned_tells c.args.rows.now.rows (vectors c.args.rays.now.rows) c.args.sat.now c.requires.sat).as_many in
-    let are : map (row_at c.args.rows.now.rows) c.deref.result.now ≡ marked split.marks (vectors c.args.rows.now.rows) = full_rows table.rows c.deref.result.now c.deref-2.result.now split c.args.rows.now.rows size in
+    let are : map (row_at c.args.rows.now.rows) c.deref.result.now ≡ marked split.marks (vectors c.args.rows.now.rows) = full_rows table.rows c.deref.result.now c.in_ok-flat.others.items split c.args.rows.now.rows size in
     done_from_arranged c.args.rows.now c.args.lines.now c.args.rays.now c.args.sat.now table c.deref.result.now split.marks c.in_ok-parts.parts c.in_ok-parts.ensures.parts c.requires.system c.requires.lists c.requires.sat c.in_ok-table.ensures split.tells are c.in_ok-arranged.field-0
     (subst (λ (n : ℕ). IsArranged n c.args.rows.now c.in_ok-table.table c.in_ok-parts.parts c.in_ok-arranged.field-0) c.len.ensures c.in_ok-arranged.ensures)

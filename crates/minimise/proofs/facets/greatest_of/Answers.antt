@@ -5,7 +5,7 @@ use Rattle.std.proofs.lemmas.List.Sorted.{length_permutation}
 use Rattle.minimise.specs.declared.facets.CountedRow.{CountedRow}
 use Rattle.minimise.specs.Facets.{IsCounted, IsLedBy, counted_row}
 use Rattle.minimise.proofs.FacetLemmas.{counted_moved, greatest_moved}
-use Rattle.minimise.proofs.facets.facets_of.Goals as goal
+use Rattle.minimise.proofs.facets.greatest_of.Goals as goal
 
 pub ranked_rows-requires : goal.ranked_rows-requires
 ranked_rows-requires c = λ k d h. (c.requires.uneven k d h).0
