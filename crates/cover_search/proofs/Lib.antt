@@ -7,3 +7,4 @@ pub mod TurnLemmas
 pub mod RegionLemmas
 pub mod KeptRows
 pub mod PartLemmas
+pub mod ConversionLemmas

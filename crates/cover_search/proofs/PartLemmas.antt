@@ -112,6 +112,10 @@ module _ (systems : List Constraints) (region : Constraints) (numbers : List ℕ
 
 -- ---- the parts of a set outside of a system
 module _ (rows region : Constraints) (numbers : List ℕ) (proper : AreInequalities rows) (old : List Part) where
+  -- before the first inequality
+  pub parted_none : IsPartedBy rows 0 region numbers old old region
+  parted_none = record { added = []; joined = sym (append-nil old); few = omega arith; each = All-nil (IsOutside rows region numbers); same_dim = refl; within = λ v pt h. h; told = λ v pt h. inl (h, λ i b. absurd (omega (arith, b))) }
+
   module _ (k : ℕ) (below : k < length rows.list) (middle new : List Part) (rest : Constraints) (p : IsPartedBy rows k region numbers old middle rest) where
     -- the part on which the inequality doesn't hold
     module _ (q : IsPushed rows k rest numbers middle new) where

@@ -1,7 +1,6 @@
 -- The parts of a piece by one inequality.
 use Rattle.std.proofs.Common.{◌≡◌, ◌+◌, ◌<◌, List, [], ◌∷◌, ◌++◌, length, ℤ, sym, ◌∙◌, subst, ap}
 use Rattle.std.proofs.lemmas.List.Elements.{All-head}
-use Rattle.row_core.specs.declared.errors.ConvErr.TheVariants as conversion
 use Rattle.cons_sys.specs.declared.kind.ConKind.TheVariants.{Eq}
 use Rattle.cons_sys.specs.Constraints.{Constraint, Constraints, constraint_at, Satisfies, In}
 use Rattle.poly_pair.specs.Spanning.{HoldNowhere}

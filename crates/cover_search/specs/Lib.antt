@@ -3,3 +3,4 @@ pub mod Regions
 pub mod Branches
 pub mod Pieces
 pub mod Parts
+pub mod Conversions

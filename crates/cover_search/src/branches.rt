@@ -1,8 +1,9 @@
 //! Points of a set that no system of a list has.
-ghost use Rattle.std.specs.Prelude.{◌≡◌, All, IfErr, IfOk, MatchOption};
+ghost use Rattle.std.specs.Prelude.{◌≡◌, ◌≤◌, All, IfErr, IfOk, MatchOption};
 ghost use Rattle.row_core.specs.Refusals.{IsOverflowIn};
 ghost use Rattle.cover_search.specs.Inequalities.{AreInequalities};
 ghost use Rattle.cover_search.specs.Branches.{LeavesOnBranch, AreCovered, IsUncovered};
+ghost use Rattle.cover_search.specs.Conversions.{ConvertsBranches, ConvertsSearch};
 
 use crate::pieces::{Piece, turn};
 use crate::region::Region;
@@ -28,6 +29,7 @@ fn by_branches<L: Ledger>(
         (λ found. MatchOption found (AreCovered first.now systems.now)
         (IsUncovered first.now systems.now)) }
     ensures overflow { IfErr result (IsOverflowIn (LeavesOnBranch first.now systems.now)) }
+    ensures conversion { ConvertsBranches first.now systems.now steps.old steps.new result }
 {
     let region = Region::new(alloc, first, steps)?;
     let mut pending = Vec::new(alloc);
@@ -47,7 +49,7 @@ fn by_branches<L: Ledger>(
 
 /// A point at which the first constraints hold and none of the systems does, if there is one. The
 /// search passes by the systems that a part of the set doesn't meet; where a number leaves the
-/// range in it, one over all branches decides.
+/// range in it, one over all branches decides. What the former counts stays counted then.
 ///
 /// # Errors
 ///
@@ -66,6 +68,8 @@ pub fn uncovered<L: Ledger>(
         (λ found. MatchOption found (AreCovered first.now systems.now)
         (IsUncovered first.now systems.now)) }
     ensures overflow { IfErr result (IsOverflowIn (LeavesOnBranch first.now systems.now)) }
+    ensures no_fewer { steps.old ≤ steps.new }
+    ensures conversion { ConvertsSearch first.now systems.now steps.old steps.new result }
 {
     match search(alloc, first, systems, steps) {
         Ok(found) => Ok(found),

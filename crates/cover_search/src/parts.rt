@@ -1,8 +1,11 @@
 //! Parts of a set, and how a system parts one of them.
-ghost use Rattle.std.specs.Prelude.{◌≡◌, ◌+◌, ◌<◌, ◌≤◌, length, IfErr, IfOk, MatchOption, OnOk, All};
-ghost use Rattle.cover_search.specs.Inequalities.{AreInequalities};
+ghost use Rattle.std.specs.Prelude.{◌≡◌, ◌+◌, ◌<◌, ◌≤◌, length, None, IfErr, IfOk, MatchOption, OnOk, All};
+ghost use Rattle.cover_search.specs.Inequalities.{AreInequalities, complement};
 ghost use Rattle.cover_search.specs.Parts.{HoldFrom, IsPushed, IsLeft, IsParted, IsCutOf, IsCutBy, IsNext, IsFollowed, IsPart, IsSettled, IsMissed};
+ghost use Rattle.cons_sys.specs.Constraints.{constraint_at};
+ghost use Rattle.poly_pair.specs.Work.{conv_overflow, overflow_in};
 ghost use Rattle.cover_search.specs.Regions.{IsPointIn};
+ghost use Rattle.cover_search.specs.Conversions.{ConvertsNext, ConvertsRest, ConvertsParting, ConvertsCut, ConvertsPart};
 
 use crate::contacts::{Cut, Plan, plan_of};
 use crate::region::Region;
@@ -29,8 +32,10 @@ fn push_outside<L: Ledger>(
 ) -> Result<(), ConvErr>
     requires dim { walls.now.dim ≡ region.dim }
     requires index { index < length walls.now.list }
-    ensures { OnOk result
+    ensures part { OnOk result
         (IsPushed walls.now index region numbers.now pending.old.items pending.new.items) }
+    ensures conversion { let c = complement (constraint_at walls.now.list index) in
+        ConvertsNext region c steps.old steps.new result }
 {
     let alloc = region.allocator();
     let region = region.outside(walls, index, steps)?;
@@ -52,8 +57,11 @@ fn rest_of<L: Ledger>(
     requires dim { walls.now.dim ≡ region.dim }
     requires index { index < length walls.now.list }
     requires inequalities { AreInequalities walls.now }
-    ensures { IfOk result
+    ensures rest { IfOk result
         (IsLeft walls.now index region numbers.now pending.old.items pending.new.items) }
+    ensures conversion { let before = pending.old.items in let after = pending.new.items in
+        let met = numbers.now in
+        ConvertsRest walls.now index region met before after steps.old steps.new result }
 {
     if region.is_inside(walls, index) {
         return Ok(region);
@@ -77,8 +85,11 @@ fn part_by<L: Ledger>(
     requires last { last < length walls.now.list }
     requires behind { HoldFrom region walls.now (last + 1) }
     requires inequalities { AreInequalities walls.now }
-    ensures { OnOk result
+    ensures parts { OnOk result
         (IsParted walls.now region numbers.now pending.old.items pending.new.items) }
+    ensures conversion { let before = pending.old.items in let after = pending.new.items in
+        let met = numbers.now in
+        ConvertsParting walls.now last region met before after steps.old steps.new result }
 {
     let mut rest = region;
     for index in 0..last {
@@ -101,8 +112,11 @@ fn cut_by<L: Ledger>(
     requires inequalities { All AreInequalities systems.now }
     requires system { cut.system < length systems.now }
     requires cut { IsCutOf systems.now region cut }
-    ensures { OnOk result
+    ensures parts { OnOk result
         (IsCutBy systems.now cut region numbers.now pending.old.items pending.new.items) }
+    ensures conversion { let before = pending.old.items in let after = pending.new.items in
+        let met = numbers.now in
+        ConvertsCut systems.now cut region met before after steps.old steps.new result }
 {
     let walls = &systems[cut.system];
     part_by(walls, cut.last, region, numbers, pending, steps)?;
@@ -123,8 +137,13 @@ fn follow<L: Ledger>(
     requires dims { All (λ rows. rows.dim ≡ region.dim) systems.now }
     requires inequalities { All AreInequalities systems.now }
     requires next { IsNext systems.now region plan.met.items plan.next }
-    ensures { IfOk result
+    ensures followed { IfOk result
         (IsFollowed systems.now plan region point pending.old.items pending.new.items) }
+    ensures conversion { let before = pending.old.items in let after = pending.new.items in
+        let met = plan.met.items in
+        MatchOption plan.next
+        ((steps.new ≡ steps.old) × (overflow_in conv_overflow result ≡ None))
+        (λ cut. ConvertsCut systems.now cut region met before after steps.old steps.new result) }
 {
     match plan.next {
         None => Ok(Some(point)),
@@ -150,9 +169,11 @@ fn settle_at<L: Ledger>(
     requires inequalities { All AreInequalities systems.now }
     requires part { IsPart part.region systems.now part }
     requires point { IsPointIn part.region point }
-    ensures { IfOk result
+    ensures settled { IfOk result
         (λ found. MatchOption found (IsSettled systems.now part pending.old.items pending.new.items)
         (IsMissed systems.now part.region)) }
+    ensures conversion { let before = pending.old.items in
+        ConvertsPart systems.now part before pending.new.items steps.old steps.new result }
 {
     let planned = plan_of(alloc, systems, &part.region, &part.met)?;
     match planned {
@@ -176,9 +197,11 @@ pub(crate) fn settle<L: Ledger>(
     requires dims { All (λ rows. rows.dim ≡ part.region.dim) systems.now }
     requires inequalities { All AreInequalities systems.now }
     requires part { IsPart part.region systems.now part }
-    ensures { IfOk result
+    ensures settled { IfOk result
         (λ found. MatchOption found (IsSettled systems.now part pending.old.items pending.new.items)
         (IsMissed systems.now part.region)) }
+    ensures conversion { let before = pending.old.items in
+        ConvertsPart systems.now part before pending.new.items steps.old steps.new result }
 {
     let seen = part.region.point()?;
     match seen {

@@ -1,9 +1,11 @@
 //! Pieces of a set, and their parts by one inequality.
 ghost use Rattle.std.specs.Prelude.{◌≡◌, ◌+◌, ◌^◌, ◌<◌, ◌≤◌, ◌++◌, ◌∷◌, [], length, IfErr, IfOk, MatchOption, OnOk, All, IsTrue};
-ghost use Rattle.cover_search.specs.Inequalities.{AreInequalities};
+ghost use Rattle.cons_sys.specs.Constraints.{constraint_at};
+ghost use Rattle.cover_search.specs.Inequalities.{AreInequalities, complement};
 ghost use Rattle.row_core.specs.Refusals.{IsOverflowIn};
 ghost use Rattle.cover_search.specs.Regions.{LeavesOnList};
 ghost use Rattle.cover_search.specs.Pieces.{outer_part, inner_part, IsInner, IsSplit, LeavesInSplit, IsWithin, LiesInSome, IsTurn, IsFound, LeavesInTurn};
+ghost use Rattle.cover_search.specs.Conversions.{ConvertsNext, ConvertsInner, ConvertsSplit, ConvertsTurn};
 
 use crate::contacts::{Contact, contact_of};
 use crate::region::Region;
@@ -41,6 +43,8 @@ impl Piece {
         ensures part { IfOk result (λ part. part ≡ outer_part walls.now self) }
         ensures overflow { IfErr result
             (IsOverflowIn (LeavesOnList (outer_part walls.now self).region)) }
+        ensures conversion { let c = complement (constraint_at walls.now.list self.row) in
+            ConvertsNext self.region c steps.old steps.new result }
     {
         let passed = self.passed + 1;
         let region = self.region.outside(walls, self.row, steps)?;
@@ -59,6 +63,8 @@ impl Piece {
         ensures part { IfOk result (λ part. part ≡ inner_part walls.now self) }
         ensures overflow { IfErr result
             (IsOverflowIn (LeavesOnList (inner_part walls.now self).region)) }
+        ensures conversion { let c = constraint_at walls.now.list self.row in
+            ConvertsNext self.region c steps.old steps.new result }
     {
         let row = self.row + 1;
         let passed = self.passed;
@@ -83,6 +89,8 @@ fn push_inner<L: Ledger>(
     requires row { piece.row < length walls.now.list }
     ensures part { OnOk result (IsInner walls.now piece pending.old.items pending.new.items) }
     ensures overflow { IfErr result (IsOverflowIn (LeavesInSplit walls.now piece)) }
+    ensures conversion { let before = pending.old.items in
+        ConvertsInner walls.now piece before pending.new.items steps.old steps.new result }
 {
     let end = walls.len();
     if piece.row + 1 == end {
@@ -106,6 +114,8 @@ fn push_outer<L: Ledger>(
     ensures part { OnOk result
         (pending.new.items ≡ pending.old.items ++ outer_part walls.now piece ∷ []) }
     ensures overflow { IfErr result (IsOverflowIn (LeavesInSplit walls.now piece)) }
+    ensures conversion { let c = complement (constraint_at walls.now.list piece.row) in
+        ConvertsNext piece.region c steps.old steps.new result }
 {
     let outer = piece.outer(walls, steps)?;
     pending.push(outer)?;
@@ -124,6 +134,8 @@ fn push_both<L: Ledger>(
     requires row { piece.row < length walls.now.list }
     ensures parts { OnOk result (IsSplit walls.now piece pending.old.items pending.new.items) }
     ensures overflow { IfErr result (IsOverflowIn (LeavesInSplit walls.now piece)) }
+    ensures conversion { let before = pending.old.items in
+        ConvertsSplit walls.now piece before pending.new.items steps.old steps.new result }
 {
     let copy = piece.copied()?;
     push_inner(walls, piece, pending, steps)?;
@@ -146,6 +158,8 @@ fn split<L: Ledger>(
     requires inequalities { AreInequalities walls.now }
     ensures parts { OnOk result (IsSplit walls.now piece pending.old.items pending.new.items) }
     ensures overflow { IfErr result (IsOverflowIn (LeavesInSplit walls.now piece)) }
+    ensures conversion { let before = pending.old.items in
+        ConvertsSplit walls.now piece before pending.new.items steps.old steps.new result }
 {
     if piece.row == walls.len() {
         return Ok(());
@@ -194,6 +208,8 @@ pub(crate) fn turn<L: Ledger>(
         (λ found. MatchOption found (IsTurn systems.now piece pending.old.items pending.new.items)
         (IsFound systems.now piece)) }
     ensures overflow { IfErr result (IsOverflowIn (LeavesInTurn systems.now piece)) }
+    ensures conversion { let before = pending.old.items in
+        ConvertsTurn systems.now piece before pending.new.items steps.old steps.new result }
 {
     let point = match piece.region.point()? {
         Some(point) => point,

@@ -11,6 +11,7 @@ ghost use Rattle.cons_sys.specs.Constraints.{constraint_at};
 ghost use Rattle.poly_pair.specs.Spanning.{HoldNowhere};
 ghost use Rattle.cover_search.specs.Inequalities.{AreInequalities, complement};
 ghost use Rattle.cover_search.specs.Regions.{LeavesOnList, with_one, IsPointIn, HoldsOn, IsKept};
+ghost use Rattle.cover_search.specs.Conversions.{ConvertsList, ConvertsNext};
 
 use crate::halfspaces::Halfspaces;
 use crate::inequalities::is_strict;
@@ -205,6 +206,7 @@ impl Region {
     ) -> Result<Region, ConvErr>
         ensures region { IfOk result (λ r. r ≡ cons.now) }
         ensures overflow { IfErr result (IsOverflowIn (LeavesOnList cons.now)) }
+        ensures conversion { ConvertsList cons.now steps.old steps.new result }
     {
         let list = encode_cons(alloc, cons)?;
         let cons = cons.clone()?;
@@ -227,6 +229,8 @@ impl Region {
         ensures overflow { IfErr result
             (IsOverflowIn
             (LeavesOnList (with_one self (constraint_at halfspaces.now.list index)))) }
+        ensures conversion { let c = constraint_at halfspaces.now.list index in
+            ConvertsNext self c steps.old steps.new result }
     {
         let Region {
             mut cons,
@@ -259,6 +263,8 @@ impl Region {
         ensures region { IfOk result (λ r. r ≡ with_one self (constraint_at walls.now.list index)) }
         ensures overflow { IfErr result
             (IsOverflowIn (LeavesOnList (with_one self (constraint_at walls.now.list index)))) }
+        ensures conversion { let c = constraint_at walls.now.list index in
+            ConvertsNext self c steps.old steps.new result }
     {
         let alloc = self.allocator();
         self.narrowed(alloc, walls.inner(), index, steps)
@@ -282,6 +288,8 @@ impl Region {
         ensures overflow { IfErr result
             (IsOverflowIn
             (LeavesOnList (with_one self (complement (constraint_at walls.now.list index))))) }
+        ensures conversion { let c = complement (constraint_at walls.now.list index) in
+            ConvertsNext self c steps.old steps.new result }
     {
         let alloc = self.allocator();
         self.narrowed(alloc, walls.outer(), index, steps)

@@ -2,6 +2,7 @@
 ghost use Rattle.std.specs.Prelude.{◌≡◌, ℕ, ◌<◌, length, IfOk, MatchOption, All, Contains};
 ghost use Rattle.cover_search.specs.Inequalities.{AreInequalities};
 ghost use Rattle.cover_search.specs.Branches.{AreCovered, IsUncovered};
+ghost use Rattle.cover_search.specs.Conversions.{ConvertsFreely};
 
 use crate::parts::{Part, settle};
 use crate::region::Region;
@@ -15,6 +16,7 @@ use std::sync::ledger::Ledger;
 fn numbers_below(alloc: Global, count: usize) -> Result<Vec<usize>, Memory>
     ensures below { IfOk result (λ numbers. All (λ i. i < count) numbers.items) }
     ensures all { IfOk result (λ numbers. (i : ℕ) → i < count → Contains numbers.items i) }
+    ensures as_many { IfOk result (λ numbers. length numbers.items ≡ count) }
 {
     let mut numbers = Vec::new(alloc);
     for number in 0..count {
@@ -34,9 +36,10 @@ pub(crate) fn search<L: Ledger>(
 ) -> Result<Option<RowBuf>, ConvErr>
     requires dims { All (λ rows. rows.dim ≡ first.now.dim) systems.now }
     requires inequalities { All AreInequalities systems.now }
-    ensures { IfOk result
+    ensures found { IfOk result
         (λ found. MatchOption found (AreCovered first.now systems.now)
         (IsUncovered first.now systems.now)) }
+    ensures conversion { ConvertsFreely first.now systems.now steps.old steps.new result }
 {
     let region = Region::new(alloc, first, steps)?;
     let met = numbers_below(alloc, systems.len())?;

@@ -4,14 +4,20 @@ use Rattle.std.specs.Prelude.{All, Contains, MatchOption, is_some}
 use Rattle.std.proofs.Math.Seq.{take-length}
 use Rattle.std.proofs.Math.ListN.{get_or-map}
 use Rattle.std.proofs.lemmas.List.{length-map}
+use Rattle.std.proofs.lemmas.Option.{slice_get_read}
 use Rattle.std.proofs.lemmas.List.Elements.{All-map, All-weaker, All-contains, Contains-append_right}
 use Rattle.row_core.specs.Points.{IsPoint}
+use Rattle.row_core.specs.declared.errors.Overflow.{Overflow}
+use Rattle.row_core.specs.declared.errors.ConvErr.{ConvErr}
+use Rattle.row_core.specs.declared.errors.ConvErr.TheVariants as conversion
+use Rattle.row_core.specs.Refusals.{IsOverflowIn}
 use Rattle.cons_sys.specs.Constraints.{Constraints, In}
 use Rattle.poly_pair.specs.Polyhedra.{Polyhedron}
 use Rattle.cover_search.specs.Inequalities.{inequalities, AreInequalities}
-use Rattle.cover_search.specs.Branches.{HoldsInSome, HoldsInNone, AreCovered}
+use Rattle.cover_search.specs.Branches.{LeavesOnBranch, HoldsInSome, HoldsInNone, AreCovered}
 use Rattle.powerset.specs.Powersets.{FinitePowerset, IsKeptPowerset, IsMember, IsInPowerset}
-use Rattle.powerset.specs.Covers.{Covers, IsCounterPoint, systems_of, HasUncovered}
+use Rattle.cover_search.specs.Conversions.{IsSearchConversion}
+use Rattle.powerset.specs.Covers.{Covers, IsCounterPoint, systems_of, LeavesOnCover, HasUncovered, LeavesOnSome, IsMemberSearch, AreMemberSearches}
 use Rattle.cover_search.proofs.InequalityLemmas.{inequalities_hold, are_inequalities}
 
 -- ---- what a search answers
@@ -70,3 +76,23 @@ module _ (s t : FinitePowerset) (kept_s : IsKeptPowerset s) (kept_t : IsKeptPowe
         within = record { member = h.member; listed = h.listed; holds = h.uncovered.holds };
         outside = not_in_union s.members v (subst (λ (ss : List Constraints). HoldsInNone ss v) e h.uncovered.outside);
       }
+
+-- an overflow of a branch that begins with a member
+pub some_leaves : (s t : FinitePowerset) (members : List Polyhedron) (systems : List Constraints) (error : ConvErr) → members ≡ t.members → systems ≡ systems_of s.members → IsOverflowIn (LeavesOnSome members systems) error → IsOverflowIn (LeavesOnCover s t) error
+some_leaves s t members systems (conversion.Overflow over) e f l = record {
+  member = l.member;
+  listed = subst (λ (ps : List Polyhedron). Contains ps l.member) e l.listed;
+  leaves = subst (λ (ss : List Constraints). LeavesOnBranch l.member.cons ss over) f l.leaves;
+}
+some_leaves s t members systems conversion.Memory e f l = tt
+
+-- ---- counts
+pub member_search : (members : List Polyhedron) (systems : List Constraints) (k : ℕ) (member : Polyhedron) (cs : Constraints) (old new : ℕ) (over : Option Overflow) → k < length members → member ≡ get_or members k member → cs ≡ member.cons → IsSearchConversion cs systems old new over → IsMemberSearch members systems k old new over
+member_search members systems k member cs old new over below is same h = record {
+  member = member;
+  listed = slice_get_read members (length members) k member refl below is;
+  search = subst (λ (ds : Constraints). IsSearchConversion ds systems old new over) same h;
+}
+
+pub cover_counts : (ps qs : List Polyhedron) (systems ts : List Constraints) (old new : ℕ) (over : Option Overflow) → ps ≡ qs → systems ≡ ts → AreMemberSearches ps systems old new over → AreMemberSearches qs ts old new over
+cover_counts ps qs systems ts old new over e f h = subst (λ (ss : List Constraints). AreMemberSearches qs ss old new over) f (subst (λ (rs : List Polyhedron). AreMemberSearches rs systems old new over) e h)

@@ -1,10 +1,10 @@
 //! Whether one powerset covers another.
-ghost use Rattle.std.specs.Prelude.{◌≡◌, All, IfErr, IfOk, MatchOption};
+ghost use Rattle.std.specs.Prelude.{◌≡◌, ◌≤◌, All, IfErr, IfOk, MatchOption};
 ghost use Rattle.poly_pair.specs.Polyhedra.{Polyhedron};
 ghost use Rattle.cover_search.specs.Inequalities.{AreInequalities};
 ghost use Rattle.row_core.specs.Refusals.{IsOverflowIn};
 ghost use Rattle.cover_search.specs.Branches.{AreCovered};
-ghost use Rattle.powerset.specs.Covers.{IsCover, systems_of, LeavesOnCover, HasUncovered, LeavesOnSome};
+ghost use Rattle.powerset.specs.Covers.{IsCover, systems_of, LeavesOnCover, HasUncovered, LeavesOnSome, ConvertsMembers, ConvertsCover};
 
 use crate::powersets::Powerset;
 use cover_search::{Walls, uncovered};
@@ -48,6 +48,8 @@ fn some_uncovered<L: Ledger>(
         (All (λ (p : Polyhedron). AreCovered p.cons systems.now) members.now)
         (HasUncovered members.now systems.now)) }
     ensures overflow { IfErr result (IsOverflowIn (LeavesOnSome members.now systems.now)) }
+    ensures no_fewer { steps.old ≤ steps.new }
+    ensures conversion { ConvertsMembers members.now systems.now steps.old steps.new result }
 {
     for index in 0..members.len() {
         let point = uncovered(alloc, members[index].cons(), systems, steps)?;
@@ -63,7 +65,7 @@ fn some_uncovered<L: Ledger>(
 /// Each member of t is parted by the inequalities of the members of s that it meets, and a part
 /// that is outside of all members of s has a point that isn't covered. Where a number leaves the
 /// range, it is parted again by all members of s in their order, so that each list that is
-/// converted is that of a branch.
+/// converted is that of a branch. Both ways are counted, one member of t after another.
 ///
 /// # Errors
 ///
@@ -80,6 +82,8 @@ pub fn covers<L: Ledger>(
     requires dim { s.now.dim ≡ t.now.dim }
     ensures answer { IfOk result (IsCover s.now t.now) }
     ensures overflow { IfErr result (IsOverflowIn (LeavesOnCover s.now t.now)) }
+    ensures no_fewer { steps.old ≤ steps.new }
+    ensures conversion { ConvertsCover s.now t.now steps.old steps.new result }
 {
     let systems = all_inequalities(alloc, s.members())?;
     match some_uncovered(alloc, t.members(), &systems, steps) {

@@ -1,6 +1,7 @@
-use Rattle.std.proofs.Common.{◌≡◌, ◌<◌, [], ◌∷◌, ◌++◌, sym, ◌∙◌, subst, ap, rules, List, true, false}
+use Rattle.std.proofs.Common.{◌≡◌, ◌<◌, inl, inr, None, refl, [], ◌∷◌, ◌++◌, sym, ◌∙◌, subst, ap, rules, List, true, false}
 use Rattle.std.specs.Prelude.{All, is_some}
 use Rattle.std.proofs.lemmas.List.Elements.{All-nil, All-push, All-head}
+use Rattle.cons_sys.specs.Constraints.{Constraints}
 use Rattle.cover_search.specs.declared.pieces.Piece.{Piece}
 use Rattle.row_core.specs.Refusals.{IsOverflowIn}
 use Rattle.cover_search.specs.Branches.{LeavesOnBranch}
@@ -8,6 +9,8 @@ use Rattle.cover_search.specs.Pieces.{IsPiece, all_still}
 use Rattle.cover_search.proofs.InequalityLemmas.{all_left, all_right}
 use Rattle.cover_search.proofs.TurnLemmas.{AreAllTold, first_piece, first_told, is_within, turn_pieces, turn_told, turn_falls, turn_leaves, first_leaves, answered, went_on}
 use Rattle.std.proofs.lemmas.Result.{err_from_is_err_and}
+use Rattle.cover_search.specs.Conversions.{IsCountedTurn, IsTurnConversion, whole}
+use Rattle.cover_search.proofs.ConversionLemmas.{no_turns, one_turn, turns_end, turn_counts, found_counts_turn}
 use Rattle.cover_search.proofs.branches.by_branches.Goals as goal
 
 pub returns-in_err-region-clause-overflow : goal.returns-in_err-region-clause-overflow
@@ -19,6 +22,7 @@ loop-piece-init g c =
     record {
       pieces = subst (All (IsPiece c.args.first.now c.args.systems.now)) (sym items) (All-push (IsPiece c.args.first.now c.args.systems.now) [] (record { region = c.in_ok-region.region; passed = 0; row = 0 }) (All-nil (IsPiece c.args.first.now c.args.systems.now)) (first_piece c.args.first.now c.args.systems.now c.in_ok-region.region c.in_ok-region.ensures.region));
       told = first_told c.args.first.now c.args.systems.now c.in_ok-region.region c.push.new.self.items c.in_ok-region.ensures.region items;
+      counted = no_turns (IsCountedTurn c.args.systems.now) (IsTurnConversion c.args.systems.now) c.args.first.now (whole c.args.first.now ∷ []) c.args.steps.now c.push.new.self.items _ (items ∙ ap (λ (cs : Constraints). whole cs ∷ []) c.in_ok-region.ensures.region) c.in_ok-region.ensures.conversion;
     }
 
 pub turn-requires-clause-within : goal.turn-requires-clause-within
@@ -35,6 +39,8 @@ loop-piece-preserved g c =
     record {
       pieces = turn_pieces c.args.first.now c.args.systems.now c.in-Some.piece p c.pop.new.self.items c.turn.new.pending.items t (all_left (IsPiece c.args.first.now c.args.systems.now) c.pop.new.self.items (c.in-Some.piece ∷ []) all);
       told = turn_told c.args.first.now c.args.systems.now c.in-Some.piece p c.requires.inequalities c.pop.new.self.items c.turn.new.pending.items t (subst (AreAllTold c.args.first.now c.args.systems.now) c.in-Some.ensures.items c.loop-piece.invariant.told);
+      counted = one_turn (IsCountedTurn c.args.systems.now) (IsTurnConversion c.args.systems.now) c.args.first.now (whole c.args.first.now ∷ []) c.args.steps.now c.loop-piece.pending.items c.pop.new.self.items c.turn.new.pending.items c.in-Some.piece _ _ c.loop-piece.invariant.counted c.in-Some.ensures.items
+          (turn_counts c.args.systems.now c.in-Some.piece c.pop.new.self.items c.turn.new.pending.items _ _ c.in_ok-found.found none t c.in_ok-found.ensures.conversion);
     }
 
 pub loop-piece-smaller : goal.loop-piece-smaller
@@ -78,4 +84,27 @@ loop-piece-preserved-else-is_some g c =
     record {
       pieces = turn_pieces c.args.first.now c.args.systems.now c.in-Some.piece p c.pop.new.self.items c.turn.new.pending.items t (all_left (IsPiece c.args.first.now c.args.systems.now) c.pop.new.self.items (c.in-Some.piece ∷ []) all);
       told = turn_told c.args.first.now c.args.systems.now c.in-Some.piece p c.requires.inequalities c.pop.new.self.items c.turn.new.pending.items t (subst (AreAllTold c.args.first.now c.args.systems.now) c.in-Some.ensures.items c.loop-piece.invariant.told);
+      counted = one_turn (IsCountedTurn c.args.systems.now) (IsTurnConversion c.args.systems.now) c.args.first.now (whole c.args.first.now ∷ []) c.args.steps.now c.loop-piece.pending.items c.pop.new.self.items c.turn.new.pending.items c.in-Some.piece _ _ c.loop-piece.invariant.counted c.in-Some.ensures.items
+          (turn_counts c.args.systems.now c.in-Some.piece c.pop.new.self.items c.turn.new.pending.items _ _ c.in_ok-found.found none t c.in_ok-found.ensures.conversion);
     }
+
+pub returns-in_err-region-clause-conversion : goal.returns-in_err-region-clause-conversion
+returns-in_err-region-clause-conversion g c = let p = err_from_is_err_and c.from_residual.result c.from_residual.ensures.1 in rw (p.1, p.2) (inl c.in_err-region.ensures.conversion)
+
+pub returns-in_err-push-clause-conversion : goal.returns-in_err-push-clause-conversion
+returns-in_err-push-clause-conversion g c = let p = err_from_is_err_and c.from_residual-in_err-push.result c.from_residual-in_err-push.ensures.1 in rw (p.1, p.2) (inl c.in_ok-region.ensures.conversion)
+
+pub returns-in_err-found-clause-conversion : goal.returns-in_err-found-clause-conversion
+returns-in_err-found-clause-conversion g c =
+    let p = err_from_is_err_and c.from_residual-in_err-found.result c.from_residual-in_err-found.ensures.1 in
+    rw (p.1, p.2) (inr (turns_end (IsCountedTurn c.args.systems.now) (IsTurnConversion c.args.systems.now) c.args.first.now (whole c.args.first.now ∷ []) c.args.steps.now c.loop-piece.pending.items c.loop-piece.steps _ _ c.loop-piece.invariant.counted
+    (inr (record { before = c.pop.new.self.items; taken = c.in-Some.piece; is_last = c.in-Some.ensures.items; conversion = c.in_err-found.ensures.conversion }))))
+
+pub returns-then-is_some-clause-conversion : goal.returns-then-is_some-clause-conversion
+returns-then-is_some-clause-conversion g c =
+    let some : is_some c.in_ok-found.found ≡ true = sym c.is_some.ensures ∙ c.if-is_some.true in
+    inr (turns_end (IsCountedTurn c.args.systems.now) (IsTurnConversion c.args.systems.now) c.args.first.now (whole c.args.first.now ∷ []) c.args.steps.now c.loop-piece.pending.items c.loop-piece.steps _ None c.loop-piece.invariant.counted
+    (inl (found_counts_turn c.args.systems.now c.in-Some.piece c.pop.new.self.items c.turn.new.pending.items _ _ c.in_ok-found.found some c.in_ok-found.ensures.conversion, refl)))
+
+pub returns-clause-conversion : goal.returns-clause-conversion
+returns-clause-conversion g c = inr (turns_end (IsCountedTurn c.args.systems.now) (IsTurnConversion c.args.systems.now) c.args.first.now (whole c.args.first.now ∷ []) c.args.steps.now c.loop-piece.pending.items c.loop-piece.steps _ None c.loop-piece.invariant.counted (inl (refl, refl)))

@@ -43,3 +43,25 @@ split-requires-clause-row g c =
 
 pub split-requires-clause-inequalities : goal.split-requires-clause-inequalities
 split-requires-clause-inequalities g c = subst AreInequalities (sym c.index-systems-passed.is) (c.requires.inequalities c.args.piece.passed c.index-systems-passed.result (omega arith))
+
+pub returns-in_err-point-clause-conversion : goal.returns-in_err-point-clause-conversion
+returns-in_err-point-clause-conversion g c = let p = err_from_is_err_and c.from_residual.result c.from_residual.ensures.1 in rw (p.1, p.2) (inl (refl, refl))
+
+pub returns-in-None-clause-conversion : goal.returns-in-None-clause-conversion
+returns-in-None-clause-conversion g c = inl (refl, refl)
+
+pub returns-then-lies_in_some-clause-conversion : goal.returns-then-lies_in_some-clause-conversion
+returns-then-lies_in_some-clause-conversion g c = inl (refl, refl)
+
+pub returns-in_err-split-clause-conversion : goal.returns-in_err-split-clause-conversion
+returns-in_err-split-clause-conversion g c =
+    let rows = c.index-systems-passed.result in
+    let at : slice_get c.args.systems.now c.args.piece.passed ≡ Some rows = slice_get-get_or c.args.systems.now c.args.piece.passed rows (omega arith) ∙ ap Some (sym c.index-systems-passed.is) in
+    let p = err_from_is_err_and c.from_residual-in_err-split.result c.from_residual-in_err-split.ensures.1 in
+    rw (p.1, p.2) (inr (record { point = c.in-Some.point; within = rw c.in-Some.is at c.in_ok-point.ensures; rows = rows; at = at; split = c.in_err-split.ensures.conversion }))
+
+pub returns-clause-conversion : goal.returns-clause-conversion
+returns-clause-conversion g c =
+    let rows = c.index-systems-passed.result in
+    let at : slice_get c.args.systems.now c.args.piece.passed ≡ Some rows = slice_get-get_or c.args.systems.now c.args.piece.passed rows (omega arith) ∙ ap Some (sym c.index-systems-passed.is) in
+    inr (record { point = c.in-Some.point; within = rw c.in-Some.is at c.in_ok-point.ensures; rows = rows; at = at; split = c.in_ok-split.ensures.conversion })

@@ -1,4 +1,4 @@
-use Rattle.std.proofs.Common.{◌≡◌, ◌+◌, List, ◌++◌, ◌∷◌, [], sym, ◌∙◌, ap, rules, arith, length}
+use Rattle.std.proofs.Common.{◌≡◌, ◌+◌, Ok, List, ◌++◌, ◌∷◌, [], sym, ◌∙◌, ap, rules, arith, length}
 use Rattle.row_core.specs.Lists.{Row}
 use Rattle.row_core.specs.Refusals.{IsOverflowIn}
 use Rattle.cons_sys.specs.Constraints.{Constraints, constraint_at}
@@ -7,6 +7,7 @@ use Rattle.cover_search.specs.Regions.{LeavesOnList, with_one}
 use Rattle.cover_search.proofs.RegionLemmas.{has_cone, front_cone, list_with_one, list_overflow}
 use Rattle.std.proofs.lemmas.Result.{err_from_is_err_and}
 use Rattle.std.proofs.lemmas.List.{length_push}
+use Rattle.cover_search.proofs.ConversionLemmas.{next_converts, next_unconverted}
 use Rattle.cover_search.proofs.region.Region.narrowed.Goals as goal
 
 pub add_rows_from-requires-clause-system : goal.add_rows_from-requires-clause-system
@@ -49,3 +50,23 @@ returns-in_err-push_one-clause-region g c = let p = err_from_is_err_and c.from_r
 
 pub add_rows_from-requires-clause-from : goal.add_rows_from-requires-clause-from
 add_rows_from-requires-clause-from g c = omega (arith, c.len-from.ensures, ap (λ (rows : List Row). length rows) c.in_ok-push_one.ensures.rows ∙ length_push c.self.inside.list.rows _)
+
+pub returns-in_err-push_one-clause-conversion : goal.returns-in_err-push_one-clause-conversion
+returns-in_err-push_one-clause-conversion g c = let p = err_from_is_err_and c.from_residual.result c.from_residual.ensures.1 in rw (p.1, p.2) (next_unconverted c.args.self (constraint_at c.args.halfspaces.now.list c.args.index) c.args.steps.now)
+
+pub returns-in_err-added-clause-conversion : goal.returns-in_err-added-clause-conversion
+returns-in_err-added-clause-conversion g c =
+    let one = constraint_at c.args.halfspaces.now.list c.args.index in
+    let width : c.push_one.new.list.width ≡ c.args.self.dim + 2 = c.in_ok-push_one.ensures.width ∙ c.self.invariant.width ∙ ap (λ (cs : Constraints). cs.dim + 2) c.self.view_is in
+    let all : c.push_one.new.list.rows ≡ encoded_constraints (with_one c.args.self one) = c.in_ok-push_one.ensures.rows ∙ ap (λ (rs : List Row). rs ++ encoded_constraint c.self.inside.cons.dim one ∷ []) c.self.invariant.rows ∙ sym (list_with_one c.self.inside.cons one) ∙ ap (λ (cs : Constraints). encoded_constraints (with_one cs one)) c.self.view_is in
+    let from : c.len-from.result ≡ length (encoded_constraints c.args.self) = c.len-from.ensures ∙ ap (λ (rs : List Row). length rs) c.self.invariant.rows ∙ ap (λ (cs : Constraints). length (encoded_constraints cs)) c.self.view_is in
+    let p = err_from_is_err_and c.from_residual-in_err-added.result c.from_residual-in_err-added.ensures.1 in
+    rw (p.1, p.2) (next_converts c.args.self one c.push_one.new.list.width c.len-from.result c.push_one.new.list.rows _ _ _ width all from c.in_err-added.ensures.conversion)
+
+pub returns-clause-conversion : goal.returns-clause-conversion
+returns-clause-conversion g c =
+    let one = constraint_at c.args.halfspaces.now.list c.args.index in
+    let width : c.push_one.new.list.width ≡ c.args.self.dim + 2 = c.in_ok-push_one.ensures.width ∙ c.self.invariant.width ∙ ap (λ (cs : Constraints). cs.dim + 2) c.self.view_is in
+    let all : c.push_one.new.list.rows ≡ encoded_constraints (with_one c.args.self one) = c.in_ok-push_one.ensures.rows ∙ ap (λ (rs : List Row). rs ++ encoded_constraint c.self.inside.cons.dim one ∷ []) c.self.invariant.rows ∙ sym (list_with_one c.self.inside.cons one) ∙ ap (λ (cs : Constraints). encoded_constraints (with_one cs one)) c.self.view_is in
+    let from : c.len-from.result ≡ length (encoded_constraints c.args.self) = c.len-from.ensures ∙ ap (λ (rs : List Row). length rs) c.self.invariant.rows ∙ ap (λ (cs : Constraints). length (encoded_constraints cs)) c.self.view_is in
+    next_converts c.args.self one c.push_one.new.list.width c.len-from.result c.push_one.new.list.rows _ _ (Ok c.in_ok-added.added) width all from c.in_ok-added.ensures.conversion

@@ -1,8 +1,9 @@
-use Rattle.std.proofs.Common.{◌≡◌, ◌+◌, sym, ap, ◌∙◌}
+use Rattle.std.proofs.Common.{◌≡◌, ◌+◌, Ok, sym, ap, ◌∙◌}
 use Rattle.std.proofs.lemmas.Result.{err_from_is_err_and}
 use Rattle.cons_sys.specs.Constraints.{Constraints}
 use Rattle.nnc_enc.specs.Encoding.{encoded_constraints}
 use Rattle.cover_search.proofs.RegionLemmas.{has_cone, whole_overflow}
+use Rattle.cover_search.proofs.ConversionLemmas.{list_converts, list_unconverted}
 use Rattle.cover_search.proofs.region.Region.new.Goals as goal
 
 pub invariant_of-result : goal.invariant_of-result
@@ -29,3 +30,17 @@ returns-in_err-cons-clause-region g c = let p = err_from_is_err_and c.from_resid
 
 pub returns-in_err-list-clause-region : goal.returns-in_err-list-clause-region
 returns-in_err-list-clause-region g c = let p = err_from_is_err_and c.from_residual.result c.from_residual.ensures.1 in rw p.1 tt
+
+pub returns-in_err-list-clause-conversion : goal.returns-in_err-list-clause-conversion
+returns-in_err-list-clause-conversion g c = let p = err_from_is_err_and c.from_residual.result c.from_residual.ensures.1 in rw (p.1, p.2) (list_unconverted c.args.cons.now c.args.steps.now)
+
+pub returns-in_err-cons-clause-conversion : goal.returns-in_err-cons-clause-conversion
+returns-in_err-cons-clause-conversion g c = let p = err_from_is_err_and c.from_residual-in_err-cons.result c.from_residual-in_err-cons.ensures.1 in rw (p.1, p.2) (list_unconverted c.args.cons.now c.args.steps.now)
+
+pub returns-in_err-cone-clause-conversion : goal.returns-in_err-cone-clause-conversion
+returns-in_err-cone-clause-conversion g c =
+    let p = err_from_is_err_and c.from_residual-in_err-cone.result c.from_residual-in_err-cone.ensures.1 in
+    rw (p.1, p.2) (list_converts c.args.cons.now c.width.result c.in_ok-list.list.rows _ _ _ (c.width.ensures.value ∙ c.in_ok-list.ensures.width) c.in_ok-list.ensures.rows c.in_err-cone.ensures.conversion)
+
+pub returns-clause-conversion : goal.returns-clause-conversion
+returns-clause-conversion g c = list_converts c.args.cons.now c.width.result c.in_ok-list.list.rows _ _ (Ok c.in_ok-cone.cone) (c.width.ensures.value ∙ c.in_ok-list.ensures.width) c.in_ok-list.ensures.rows c.in_ok-cone.ensures.conversion
