@@ -26,7 +26,10 @@ pub fn replaced_initial(
         (λ s. on_one (option_copied p.entry) (init name location s)))
         (as_entry entry.System (option_copied system.entry)) name result }
 {
-    let (Some(system), Some(p)) = (system, p) else {
+    let Some(system) = system else {
+        return Err(StepErr::Input(Fault::UnknownName));
+    };
+    let Some(p) = p else {
         return Err(StepErr::Input(Fault::UnknownName));
     };
     if p.topology() != Topology::Closed {
@@ -54,7 +57,10 @@ pub fn added_transition(
         (λ s. on_one (option_copied relation.entry) (trans name source target s)))
         (as_entry entry.System (option_copied system.entry)) name result }
 {
-    let (Some(system), Some(relation)) = (system, relation) else {
+    let Some(system) = system else {
+        return Err(StepErr::Input(Fault::UnknownName));
+    };
+    let Some(relation) = relation else {
         return Err(StepErr::Input(Fault::UnknownName));
     };
     if relation.topology() != Topology::Closed {
@@ -83,7 +89,10 @@ pub fn replaced_part(
         (λ found. on_one (option_copied p.entry) (set_part part name location found)))
         (as_entry entry.Hybrid (option_copied h.entry)) name result }
 {
-    let (Some(h), Some(p)) = (h, p) else {
+    let Some(h) = h else {
+        return Err(StepErr::Input(Fault::UnknownName));
+    };
+    let Some(p) = p else {
         return Err(StepErr::Input(Fault::UnknownName));
     };
     if p.topology() != Topology::Closed {

@@ -59,7 +59,10 @@ pub fn of_two_powersets<L: Ledger>(
     ensures { IsPerformed (on_two (option_copied s.entry) (option_copied t.entry)
         (make_of_two op full)) result }
 {
-    let (Some(s), Some(t)) = (s, t) else {
+    let Some(s) = s else {
+        return Err(StepErr::Input(Fault::UnknownName));
+    };
+    let Some(t) = t else {
         return Err(StepErr::Input(Fault::UnknownName));
     };
     if s.topology() != t.topology() {
@@ -123,7 +126,10 @@ pub fn covers<L: Ledger>(
     ensures { IsPerformed (on_two (option_copied s.entry) (option_copied t.entry) ask_covers)
         result }
 {
-    let (Some(s), Some(t)) = (s, t) else {
+    let Some(s) = s else {
+        return Err(StepErr::Input(Fault::UnknownName));
+    };
+    let Some(t) = t else {
         return Err(StepErr::Input(Fault::UnknownName));
     };
     if s.topology() != t.topology() {

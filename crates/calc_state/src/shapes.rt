@@ -99,7 +99,10 @@ pub fn of_two_shapes(
     ensures { IsPerformed (on_two (option_copied s.entry) (option_copied t.entry)
         (make_of_two op full)) result }
 {
-    let (Some(s), Some(t)) = (s, t) else {
+    let Some(s) = s else {
+        return Err(StepErr::Input(Fault::UnknownName));
+    };
+    let Some(t) = t else {
         return Err(StepErr::Input(Fault::UnknownName));
     };
     if s.dim() != t.dim() {
@@ -119,7 +122,10 @@ pub fn shape_contains(alloc: Global, s: Option<&Shape>, t: Option<&Shape>) -> Re
     ensures { IsPerformed (on_two (option_copied s.entry) (option_copied t.entry) ask_contains)
         result }
 {
-    let (Some(s), Some(t)) = (s, t) else {
+    let Some(s) = s else {
+        return Err(StepErr::Input(Fault::UnknownName));
+    };
+    let Some(t) = t else {
         return Err(StepErr::Input(Fault::UnknownName));
     };
     if s.dim() != t.dim() {

@@ -1,5 +1,5 @@
 //! A file that is being read.
-ghost use Rattle.std.specs.Prelude.{◌≡◌, ◌<◌, ◌++◌, ◌∷◌, [], take, IfOk, OnOk, OnErr, MatchResult};
+ghost use Rattle.std.specs.Prelude.{◌≡◌, ◌<◌, [], take, IfOk, OnOk, OnErr, MatchResult};
 ghost use Rattle.cdd_reading.specs.Refusals.{tests, NoneOf, IsRefusal};
 ghost use Rattle.file_poly.specs.Files.{IsFit, IsListOf};
 ghost use Rattle.line_values.specs.Operands.{format_of as named_format};
@@ -47,15 +47,6 @@ impl Model for OpenFile {
     ghost view = { λ f. record { name = f.name; ext = f.ext; text = f.text.items } };
 }
 
-// The line and its line end.
-fn with_end(alloc: Global, line: &[u8]) -> Result<Vec<u8>, Memory>
-    ensures { IfOk result (λ bytes. bytes.items ≡ take 65536 line.now ++ 13 ∷ 10 ∷ []) }
-{
-    let mut bytes = Vec::from_slice(alloc, first_bytes(line))?;
-    bytes.extend_from_slice(b"\r\n")?;
-    Ok(bytes)
-}
-
 // The bytes of a line that are kept.
 fn first_bytes(line: &[u8]) -> &[u8]
     ensures { result.now ≡ take 65536 line.now }
@@ -80,12 +71,16 @@ impl OpenFile {
     }
 
     /// Adds a line. Out of memory, the file is as before.
-    pub fn add_line(&mut self, alloc: Global, line: &[u8]) -> Result<(), Memory>
+    pub fn add_line(&mut self, line: &[u8]) -> Result<(), Memory>
         ensures ok { OnOk result (self.new ≡ with_line self.old line.now) }
         ensures err { OnErr result (self.new ≡ self.old) }
     {
-        let bytes = with_end(alloc, line)?;
-        Ok(self.text.extend_from_slice(bytes.as_slice())?)
+        let kept = first_bytes(line);
+        self.text.reserve(kept.len() + 2)?;
+        self.text.extend_from_slice(kept)?;
+        self.text.push_reserved(b'\r');
+        self.text.push_reserved(b'\n');
+        Ok(())
     }
 
     /// The file with one line more.
@@ -97,7 +92,7 @@ impl OpenFile {
             ext: self.ext,
             text: Vec::from_slice(alloc, self.text.as_slice())?,
         };
-        file.add_line(alloc, line)?;
+        file.add_line(line)?;
         Ok(file)
     }
 

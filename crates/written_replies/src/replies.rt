@@ -69,7 +69,7 @@ impl Replies {
         ensures added { OnOk result (self.new ≡ with_reply self.old (Refused fault.now)) }
         ensures wanting { OnErr result (self.new ≡ self.old) }
     {
-        self.add_refusal(print_fault(self.alloc, fault)?)
+        self.add_refusal(&print_fault(self.alloc, fault)?)
     }
 
     // Adds the line of an overflow.
@@ -77,17 +77,19 @@ impl Replies {
         ensures added { OnOk result (self.new ≡ with_reply self.old (Overflows over.now)) }
         ensures wanting { OnErr result (self.new ≡ self.old) }
     {
-        self.add_refusal(print_overflow(self.alloc, over)?)
+        self.add_refusal(&print_overflow(self.alloc, over)?)
     }
 
     // Adds the line of a fault or an overflow, and its line feed.
-    fn add_refusal(&mut self, mut line: Text) -> Result<(), Memory>
+    fn add_refusal(&mut self, line: &Text) -> Result<(), Memory>
         ensures added { OnOk result (self.new ≡ record
-            { bytes = self.old.bytes ++ (line ++ 10 ∷ []); clean = false }) }
+            { bytes = self.old.bytes ++ (line.now ++ 10 ∷ []); clean = false }) }
         ensures wanting { OnErr result (self.new ≡ self.old) }
     {
-        line.push(b"\n")?;
-        self.bytes.extend_from_slice(line.bytes())?;
+        let line = line.bytes();
+        self.bytes.reserve(line.len() + 1)?;
+        self.bytes.extend_from_slice(line)?;
+        self.bytes.push_reserved(b'\n');
         self.clean = false;
         Ok(())
     }

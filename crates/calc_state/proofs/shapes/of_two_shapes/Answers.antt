@@ -8,8 +8,8 @@ use Rattle.calc_state.proofs.shapes.of_two_shapes.Goals as goal
 
 pub returns-in-Ok : goal.returns-in-Ok
 returns-in-Ok c =
-    let s : DifferenceShape = c.in-Some-Some.s.now in
-    let t : DifferenceShape = c.in-Some-Some.t.now in
+    let s : DifferenceShape = c.in-Some.s.now in
+    let t : DifferenceShape = c.in-Some-t.t.now in
     let dims : s.dim ≡ t.dim = search rules in
-    found_two (option_copied c.args.s) (option_copied c.args.t) s t (of_two_shapes c.args.op c.args.full) (Ok c.in-Ok.made) (ap option_copied c.in-Some-Some.is-0) (ap option_copied c.in-Some-Some.is-1)
+    found_two (option_copied c.args.s) (option_copied c.args.t) s t (of_two_shapes c.args.op c.args.full) (Ok c.in-Ok.made) (ap option_copied c.in-Some.is) (ap option_copied c.in-Some-t.is)
     (shapes_pass s t c.args.full dims (not_full c.args.full c.if-full.false), record { dim = c.in-Ok.ensures.dim; set = c.in-Ok.ensures.set })

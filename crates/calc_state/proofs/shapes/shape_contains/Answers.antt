@@ -9,11 +9,11 @@ use Rattle.calc_state.proofs.shapes.shape_contains.Goals as goal
 
 pub returns-in-Ok : goal.returns-in-Ok
 returns-in-Ok c =
-    let passes : Passes (of_one_dim c.in-Some-Some.s.now c.in-Some-Some.t.now no_fault) = search rules in
-    rw c.in-Some-Some.is-0 (rw c.in-Some-Some.is-1 (answered (shape_contains c.in-Some-Some.s.now c.in-Some-Some.t.now) (λ (text : List ℕ). text ≡ answer_line c.in-Ok.holds) c.answer.result (λ text said. contains_told c.in-Some-Some.s.now c.in-Some-Some.t.now c.in-Ok.holds text passes c.in-Ok.ensures.contains said) c.answer.ensures))
+    let passes : Passes (of_one_dim c.in-Some.s.now c.in-Some-t.t.now no_fault) = search rules in
+    rw c.in-Some.is (rw c.in-Some-t.is (answered (shape_contains c.in-Some.s.now c.in-Some-t.t.now) (λ (text : List ℕ). text ≡ answer_line c.in-Ok.holds) c.answer.result (λ text said. contains_told c.in-Some.s.now c.in-Some-t.t.now c.in-Ok.holds text passes c.in-Ok.ensures.contains said) c.answer.ensures))
 
 pub returns-in-Err : goal.returns-in-Err
 returns-in-Err c =
-    let passes : Passes (of_one_dim c.in-Some-Some.s.now c.in-Some-Some.t.now no_fault) = search rules in
-    found_two (option_copied c.args.s) (option_copied c.args.t) c.in-Some-Some.s.now c.in-Some-Some.t.now shape_contains (Err c.from.result) (ap option_copied c.in-Some-Some.is-0) (ap option_copied c.in-Some-Some.is-1)
-    (rw c.from.ensures (leaves (shape_contains c.in-Some-Some.s.now c.in-Some-Some.t.now) c.in-Err.cause passes c.in-Err.ensures.overflow))
+    let passes : Passes (of_one_dim c.in-Some.s.now c.in-Some-t.t.now no_fault) = search rules in
+    found_two (option_copied c.args.s) (option_copied c.args.t) c.in-Some.s.now c.in-Some-t.t.now shape_contains (Err c.from.result) (ap option_copied c.in-Some.is) (ap option_copied c.in-Some-t.is)
+    (rw c.from.ensures (leaves (shape_contains c.in-Some.s.now c.in-Some-t.t.now) c.in-Err.cause passes c.in-Err.ensures.overflow))
