@@ -98,7 +98,10 @@ fn make_of_two<L: Ledger>(
     ensures { IsPerformed
         (on_two (option_copied p.entry) (option_copied q.entry) (made_of_two by full)) result }
 {
-    let (Some(p), Some(q)) = (p, q) else {
+    let Some(p) = p else {
+        return Err(StepErr::Input(Fault::UnknownName));
+    };
+    let Some(q) = q else {
         return Err(StepErr::Input(Fault::UnknownName));
     };
     match by {

@@ -66,7 +66,10 @@ pub fn compare<L: Ledger>(
     ensures { IsPerformed
         (on_two (option_copied p.entry) (option_copied q.entry) (compared by)) result }
 {
-    let (Some(p), Some(q)) = (p, q) else {
+    let Some(p) = p else {
+        return Err(StepErr::Input(Fault::UnknownName));
+    };
+    let Some(q) = q else {
         return Err(StepErr::Input(Fault::UnknownName));
     };
     if p.topology() != q.topology() {
