@@ -37,7 +37,8 @@ pub record LeavesOnSteps (p relation : Polyhedron) (over : Overflow) : Type 0 wh
   pub are_steps : IsStepSystem p.cons relation.cons steps
   pub leaves : LeavesOnShadow Closed (picked (later p.cons.dim) steps.dim) p.cons.dim steps over
 
--- the generators that the canonical system of the list of a relation's constraints and then a set's stands for, without the first variables
+-- the generators that the canonical system of the list of a relation's constraints and then a set's
+-- stands for, without the first variables
 pub record AreOfSteps (p relation : Polyhedron) (gs : Generators) : Type 0 where
   pub steps : Constraints
   pub are_steps : IsStepSystem p.cons relation.cons steps

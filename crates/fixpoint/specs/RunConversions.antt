@@ -1,3 +1,4 @@
+-- What runs of transition systems count and show.
 use Rattle.std.specs.Prelude.{ℕ, Result}
 use Rattle.row_core.specs.declared.errors.ConvErr.{ConvErr}
 use Rattle.trans_sys.specs.Systems.{TransitionSystem}

@@ -1,3 +1,4 @@
+-- What runs of turns count and show.
 use Rattle.std.specs.Prelude.{◌≡◌, ◌≢◌, ◌⊎◌, ℕ, ◌+◌, ◌<◌, List, slice_get, Option, Some, None, Result}
 use Rattle.row_core.specs.declared.errors.Overflow.{Overflow}
 use Rattle.row_core.specs.declared.errors.ConvErr.{ConvErr}
@@ -74,6 +75,7 @@ pub record IsRunConversion (turns : TurnList) (initial : List Polyhedron) (delay
   pub rounds : AreCountedRounds turns (start initial delay) before old counted
   pub last : IsBrokenRound turns before counted new over
 
+-- a call that makes this run
 abbrev pub ConvertsRun : {T : Type 0} → TurnList → List Polyhedron → ℕ → ℕ → ℕ → Result T ConvErr
     → Type 0
 ConvertsRun turns initial delay old new result =

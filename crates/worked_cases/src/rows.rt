@@ -1,9 +1,7 @@
 //! Rows of exact integers.
 ghost use Rattle.std.specs.Prelude.{◌≡◌, ◌<◌};
 
-use row_core::{
-    MarkedRows, RowBuf, RowList, Steps, combine_into, combine_onto, dot, gcd, make_primitive,
-};
+use row_core::{MarkedRows, RowBuf, RowList, Steps, combine_onto, dot, gcd, make_primitive};
 use std::marker::Brand;
 use std::process::Abort;
 use std::sync::ledger::{Blank, Ledger};
@@ -61,32 +59,33 @@ fn check_combinations<L: Ledger>(rt: &impl Abort, blank: Blank)
     requires shared { 0 < blank.parts }
 {
     let mut steps = Steps::<L>::new(blank);
-    let mut row = [0, 0];
-    assert_eq!(rt;
-        combine_into(&mut row, &[1, 2], 3, &[5, -1], -2, &mut steps),
-        Ok(())
-    );
+    let mut row = [1, 2];
+    assert_eq!(rt; combine_onto(&mut row, 3, &[5, -1], -2, &mut steps), Ok(()));
     assert_eq!(rt; row, [-7, 8]);
+    let mut last = [1, K];
+    assert_eq!(rt; combine_onto(&mut last, 1, &[1, 1], 1, &mut steps), Err(1));
+    assert_eq!(rt; last, [1, K], "the first column isn't written either");
+    let mut first = [K, 1];
     assert_eq!(rt;
-        combine_into(&mut row, &[1, K], 1, &[1, 1], 1, &mut steps),
-        Err(1)
-    );
-    assert_eq!(rt;
-        combine_into(&mut row, &[K, 1], 2, &[K, 1], -2, &mut steps),
+        combine_onto(&mut first, 2, &[K, 1], -2, &mut steps),
         Err(0)
     );
-    assert_eq!(rt; row, [-7, 8], "a refused combination writes nothing");
+    assert_eq!(rt; first, [K, 1], "a refused combination writes nothing");
     assert_eq!(rt; combine_onto(&mut row, 2, &[5, -1], 3, &mut steps), Ok(()));
     assert_eq!(rt; row, [1, 13]);
     assert_eq!(rt; combine_onto(&mut row, 1, &[1, K], 1, &mut steps), Err(1));
     assert_eq!(rt; row, [1, 13], "a refused combination keeps its row");
+    let mut narrow = [N - 1, -N];
     assert_eq!(rt;
-        combine_into(&mut row, &[N - 1, -N], N - 1, &[N, 1], -N, &mut steps),
+        combine_onto(&mut narrow, N - 1, &[N, 1], -N, &mut steps),
         Ok(())
     );
-    assert_eq!(rt; row, [1 - 2 * N, -N * N]);
-    assert_eq!(rt; combine_onto(&mut row, 1, &[1, N], N, &mut steps), Ok(()));
-    assert_eq!(rt; row, [1 - N, 0]);
+    assert_eq!(rt; narrow, [1 - 2 * N, -N * N]);
+    assert_eq!(rt;
+        combine_onto(&mut narrow, 1, &[1, N], N, &mut steps),
+        Ok(())
+    );
+    assert_eq!(rt; narrow, [1 - N, 0]);
 }
 
 #[test]
@@ -127,7 +126,8 @@ fn kept_rows(rt: HostRuntime) -> Result<(), Fail> {
     let mut list = RowList::new(rt.alloc(), 2);
     assert!(rt; list.is_empty());
     list.push(&[1, 2], true)?;
-    list.push_row(RowBuf::new(rt.alloc(), &[-3, 4])?, false)?;
+    let row = RowBuf::new(rt.alloc(), &[-3, 4])?;
+    list.push(row.cells(), false)?;
     assert_eq!(rt; list.width(), 2);
     assert_eq!(rt; list.len(), 2);
     assert_eq!(rt; list.row(1), [-3, 4].as_slice());
