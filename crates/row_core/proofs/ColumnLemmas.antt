@@ -1,8 +1,9 @@
-use Rattle.std.specs.Prelude.{◌≡◌, ℕ, ◌+◌, ◌<◌, List, length, take, ℤ, ◌+ℤ◌, Option, Some, None, SomeIff}
+use Rattle.std.specs.Prelude.{◌≡◌, ℕ, ◌+◌, ◌<◌, List, length, take, ℤ, pos, ◌+ℤ◌, Option, Some, None, SomeIff}
 use Rattle.std.proofs.Common.{arith, sym, ◌∙◌, ap, subst}
 use Rattle.std.proofs.Math.IntN.{◌*ℤ◌}
 use Rattle.row_core.specs.Vectors.{cell, dot}
 use Rattle.row_core.specs.Range.{InRange, ColumnStays, DotStays}
+use Rattle.row_core.proofs.Ring.{one-mul}
 use Rattle.row_core.proofs.DotLemmas.{dot-take_more}
 
 -- both products are in the range, so the column is exactly where the sum is
@@ -17,15 +18,22 @@ column_stays (Some z) s x t y left right p q e f h =
     ap (λ (b : ℤ). s *ℤ x +ℤ b) f in
     (record { left = p; right = q; sum = subst InRange same h.0 }, h.1 ∙ same)
 
--- the product is in the range, so the total with it is exactly where the sum is
-pub product_added : (r : Option ℤ) (total product value : ℤ) → InRange value → product ≡ value →
-    SomeIff r (InRange (total +ℤ product)) (total +ℤ product) →
-    SomeIff r (InRange value × InRange (total +ℤ value)) (total +ℤ value)
-product_added None total product value p e h =
-    λ both. h (subst (λ (z : ℤ). InRange (total +ℤ z)) (sym e) both.1)
-product_added (Some z) total product value p e h =
-    let same : total +ℤ product ≡ total +ℤ value = ap (λ (a : ℤ). total +ℤ a) e in
-    ((p, subst InRange same h.0), h.1 ∙ same)
+-- a combination with the factor 1 is a total with one product more
+pub one_stays : (total a b : ℤ) → ColumnStays (pos 1) total a b →
+    InRange (a *ℤ b) × InRange (total +ℤ a *ℤ b)
+one_stays total a b stays =
+    (stays.right, subst (λ (z : ℤ). InRange (z +ℤ a *ℤ b)) (one-mul total) stays.sum)
+
+pub stays_one : (total a b : ℤ) → InRange total → InRange (a *ℤ b) × InRange (total +ℤ a *ℤ b) →
+    ColumnStays (pos 1) total a b
+stays_one total a b h both = record {
+  left = subst InRange (sym (one-mul total)) h;
+  right = both.0;
+  sum = subst (λ (z : ℤ). InRange (z +ℤ a *ℤ b)) (sym (one-mul total)) both.1;
+}
+
+pub total_one : (total a b next : ℤ) → next ≡ pos 1 *ℤ total +ℤ a *ℤ b → next ≡ total +ℤ a *ℤ b
+total_one total a b next e = e ∙ ap (λ (z : ℤ). z +ℤ a *ℤ b) (one-mul total)
 
 -- the running total with one column more
 pub total_more : (u v : List ℤ) (j : ℕ) (total : ℤ) → j < length u → length u ≡ length v →

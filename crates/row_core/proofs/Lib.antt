@@ -3,6 +3,7 @@ pub mod RowListLemmas
 pub mod OrderLemmas
 pub mod DotLemmas
 pub mod NarrowLemmas
+pub mod SizeLemmas
 pub mod ColumnLemmas
 pub mod CellLemmas
 pub mod ContentLemmas

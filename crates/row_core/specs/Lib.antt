@@ -1,6 +1,7 @@
 pub mod Vectors
 pub mod Range
 pub mod Narrow
+pub mod Sizes
 pub mod Content
 pub mod Points
 pub mod Lists

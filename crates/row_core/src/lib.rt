@@ -5,9 +5,11 @@
 //! - [`Memory`], [`Overflow`], [`PairOver`] and [`ConvErr`] are the answers that a call may refuse
 //!   by.
 //! - [`Steps`] counts combinations of two rows.
-//! - [`dot`] and [`combine_onto`] give the exact numbers, or the first column that leaves the
+//! - [`dot`] and [`combine_into`] give the exact numbers, or the first column that leaves the
 //!   range.
 //! - [`product`], [`sum`] and [`combination`] give one exact number, if the range isn't left.
+//! - [`bits`] tells how large the numbers of a row are; [`dot_within`], [`combine_within`] and
+//!   [`make_primitive_within`] are told it, and test nothing where all that they compute fits.
 //! - [`narrow_dot`] needs no such test, where [`all_narrow`] told that all numbers are small.
 //! - [`gcd`] and [`make_primitive`] divide a row by the greatest common divisor of its entries, and
 //!   [`is_primitive`] tells whether there is none above 1; [`quotient`] divides one number, and
@@ -26,14 +28,16 @@ mod marked;
 mod narrow;
 mod primitive;
 mod signs;
+mod sizes;
 
 pub use buffers::{RowBuf, RowList};
 pub use counting::Steps;
 pub use errors::{ConvErr, Memory, OverKind, Overflow, PairOver};
 pub use laws::one_primitive;
 pub use lending::LendRows;
-pub use linear::{combination, combine_onto, dot, product, sum};
+pub use linear::{combination, combine_into, combine_within, dot, dot_within, product, sum};
 pub use marked::{Iter, MarkedRows};
 pub use narrow::{all_narrow, narrow_dot};
-pub use primitive::{gcd, is_primitive, make_primitive, quotient};
+pub use primitive::{gcd, is_primitive, make_primitive, make_primitive_within, quotient};
 pub use signs::negate;
+pub use sizes::bits;

@@ -3,10 +3,10 @@
 ghost use Rattle.std.specs.Prelude.{◌≡◌, ℕ, ◌+◌, ◌^◌, ◌<◌, length, ◌+ℤ◌, ◌*ℤ◌, SomeIff, MatchResult, IfOk, OnOk};
 ghost use Rattle.row_core.specs.Vectors.{dot, scale, add};
 ghost use Rattle.row_core.specs.Range.{InRange, AllInRange, ColumnStays, DotStays, CombineStays, IsFirstToLeave, AllStay};
-ghost use Rattle.row_core.specs.Narrow.{IsNarrow, AllNarrow};
+ghost use Rattle.row_core.specs.Sizes.{HaveBits};
 
 use crate::counting::Steps;
-use crate::narrow::{both_narrow, narrow_combined_entry, narrow_dot, narrow_product, rows_narrow};
+use crate::sizes::{bits, bits_of, exact_dot, word_dot, words_onto};
 use std::sync::ledger::Ledger;
 
 /// The one `i128` outside the range.
@@ -25,26 +25,81 @@ pub fn dot(u: &[i128], v: &[i128]) -> Result<i128, u32>
         (IsFirstToLeave Stays width) }
     ensures in_range { IfOk result InRange }
 {
-    if rows_narrow(u, v) {
-        return Ok(narrow_dot(u, v));
+    dot_within(u, v, bits(u), bits(v))
+}
+
+/// What [`dot`] gives, of rows whose numbers have at most so many bits.
+///
+/// # Errors
+///
+/// Those of [`dot`].
+#[inline]
+pub fn dot_within(u: &[i128], v: &[i128], left: u32, right: u32) -> Result<i128, u32>
+    requires same_width { length u.now ≡ length v.now }
+    requires narrow { length u.now < 2 ^ 32 }
+    requires left { HaveBits left u.now }
+    requires right { HaveBits right v.now }
+    ensures exact { let Stays = DotStays u.now v.now in let width = length u.now in
+        MatchResult result (λ d. (d ≡ dot u.now v.now) × AllStay Stays width)
+        (IsFirstToLeave Stays width) }
+    ensures in_range { IfOk result InRange }
+{
+    let bits = u64::from(left) + u64::from(right) + u64::from(bits_of(u.len() as u128));
+    if bits <= 63 {
+        return Ok(word_dot(u, v));
+    }
+    if bits <= 127 {
+        return Ok(exact_dot(u, v));
     }
     checked_dot(u, v)
 }
 
-/// Writes `s * dst + t * v` over `dst`, and counts one combination. Both rows have one width.
+/// Writes `s * u + t * v` over `dst`, and counts one combination. All three rows have one width.
 ///
 /// # Errors
 ///
 /// The first column at which a product or the sum leaves the range. `dst` is then as before.
-pub fn combine_onto<L: Ledger>(
+pub fn combine_into<L: Ledger>(
     dst: &mut [i128],
+    u: &[i128],
     s: i128,
     v: &[i128],
     t: i128,
     steps: &mut Steps<L>,
 ) -> Result<(), u32>
+    requires same_width { (length dst.old ≡ length u.now) × (length u.now ≡ length v.now) }
+    requires narrow { length u.now < 2 ^ 32 }
+    ensures counted { steps.new ≡ steps.old + 1 }
+    ensures width { length dst.new ≡ length dst.old }
+    ensures combined { let Stays = CombineStays u.now s v.now t in let width = length u.now in
+        MatchResult result
+        (λ _. (dst.new ≡ add (scale s u.now) (scale t v.now)) × AllStay Stays width)
+        (λ j. (dst.new ≡ dst.old) × IsFirstToLeave Stays width j) }
+    ensures in_range { OnOk result (AllInRange dst.new) }
+{
+    steps.tick();
+    check_combination(u, s, v, t)?;
+    write_combination(dst, u, s, v, t);
+    Ok(())
+}
+
+/// Writes `s * dst + t * v` over `dst`, and counts one combination. Both rows have one width, and
+/// numbers of at most so many bits. It tells how many those of the combination have.
+///
+/// # Errors
+///
+/// The first column at which a product or the sum leaves the range. `dst` is then as before.
+pub fn combine_within<L: Ledger>(
+    dst: &mut [i128],
+    s: i128,
+    v: &[i128],
+    t: i128,
+    within: u32,
+    steps: &mut Steps<L>,
+) -> Result<u32, u32>
     requires same_width { length dst.old ≡ length v.now }
     requires narrow { length v.now < 2 ^ 32 }
+    requires within { HaveBits within dst.old × HaveBits within v.now }
     ensures counted { steps.new ≡ steps.old + 1 }
     ensures width { length dst.new ≡ length dst.old }
     ensures combined { let Stays = CombineStays dst.old s v.now t in let width = length dst.old in
@@ -52,15 +107,19 @@ pub fn combine_onto<L: Ledger>(
         (λ _. (dst.new ≡ add (scale s dst.old) (scale t v.now)) × AllStay Stays width)
         (λ j. (dst.new ≡ dst.old) × IsFirstToLeave Stays width j) }
     ensures in_range { OnOk result (AllInRange dst.new) }
+    ensures bits { IfOk result (λ bits. HaveBits bits dst.new) }
 {
     steps.tick();
-    if both_narrow(s, t) && rows_narrow(dst, v) {
-        narrow_onto(dst, s, v, t);
-        return Ok(());
+    let factors = bits_of(s.unsigned_abs() | t.unsigned_abs());
+    let all = u64::from(within) + u64::from(factors);
+    if all <= 61 {
+        return Ok(words_onto(dst, s as i64, v, t as i64));
     }
-    check_combination(dst, s, v, t)?;
+    if all > 125 {
+        check_combination(dst, s, v, t)?;
+    }
     write_onto(dst, s, v, t);
-    Ok(())
+    Ok(bits(dst))
 }
 
 /// The product, if it is in the range.
@@ -68,8 +127,8 @@ pub fn combine_onto<L: Ledger>(
 pub fn product(a: i128, b: i128) -> Option<i128>
     ensures { SomeIff result (InRange (a *ℤ b)) (a *ℤ b) }
 {
-    if both_narrow(a, b) {
-        return Some(narrow_product(a, b));
+    if bits_of(a.unsigned_abs() | b.unsigned_abs()) <= 63 {
+        return Some(i128::from(a as i64) * i128::from(b as i64));
     }
     match a.checked_mul(b) {
         Some(product) if product != OUTSIDE => Some(product),
@@ -117,16 +176,16 @@ fn check_combination(u: &[i128], s: i128, v: &[i128], t: i128) -> Result<(), u32
     Ok(())
 }
 
-/// `s * x + t * y`.
-#[inline]
-fn combined_entry(s: i128, x: i128, t: i128, y: i128) -> i128
-    requires { ColumnStays s x t y }
-    ensures value { result ≡ s *ℤ x +ℤ t *ℤ y }
-    ensures in_range { InRange result }
+/// Writes `s * u + t * v` over `dst`.
+fn write_combination(dst: &mut [i128], u: &[i128], s: i128, v: &[i128], t: i128)
+    requires same_width { (length dst.old ≡ length u.now) × (length u.now ≡ length v.now) }
+    requires stays { AllStay (CombineStays u.now s v.now t) (length u.now) }
+    ensures combined { dst.new ≡ add (scale s u.now) (scale t v.now) }
+    ensures in_range { AllInRange dst.new }
 {
-    let left = s * x;
-    let right = t * y;
-    left + right
+    for j in 0..dst.len() {
+        dst[j] = s * u[j] + t * v[j];
+    }
 }
 
 /// Writes `s * dst + t * v` over `dst`.
@@ -137,22 +196,7 @@ fn write_onto(dst: &mut [i128], s: i128, v: &[i128], t: i128)
     ensures in_range { AllInRange dst.new }
 {
     for j in 0..dst.len() {
-        dst[j] = combined_entry(s, dst[j], t, v[j]);
-    }
-}
-
-/// Writes `s * dst + t * v` over `dst`, where all are narrow.
-fn narrow_onto(dst: &mut [i128], s: i128, v: &[i128], t: i128)
-    requires same_width { length dst.old ≡ length v.now }
-    requires factors { IsNarrow s × IsNarrow t }
-    requires left { AllNarrow dst.old }
-    requires right { AllNarrow v.now }
-    ensures combined { dst.new ≡ add (scale s dst.old) (scale t v.now) }
-    ensures stays { AllStay (CombineStays dst.old s v.now t) (length dst.old) }
-    ensures in_range { AllInRange dst.new }
-{
-    for j in 0..dst.len() {
-        dst[j] = narrow_combined_entry(s, dst[j], t, v[j]);
+        dst[j] = s * dst[j] + t * v[j];
     }
 }
 
@@ -167,18 +211,10 @@ fn checked_dot(u: &[i128], v: &[i128]) -> Result<i128, u32>
 {
     let mut total = 0;
     for j in 0..u.len() {
-        let Some(next) = add_product(total, u[j], v[j]) else {
+        let Some(next) = combination(1, total, u[j], v[j]) else {
             return Err(j as u32);
         };
         total = next;
     }
     Ok(total)
-}
-
-/// The total and a product added, if the product and the sum are in the range.
-#[inline]
-fn add_product(total: i128, a: i128, b: i128) -> Option<i128>
-    ensures { SomeIff result (InRange (a *ℤ b) × InRange (total +ℤ a *ℤ b)) (total +ℤ a *ℤ b) }
-{
-    sum(total, product(a, b)?)
 }

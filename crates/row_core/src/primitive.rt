@@ -1,12 +1,13 @@
 //! Greatest common divisors, and rows divided by that of their entries.
-ghost use Rattle.std.specs.Prelude.{◌≡◌, ◌↔◌, ℕ, ◌^◌, ◌<◌, length, pos, unsigned_abs, ◌<ℤ◌, ◌*ℤ◌, IsTrue};
+ghost use Rattle.std.specs.Prelude.{◌≡◌, ◌↔◌, ℕ, ◌^◌, ◌<◌, ◌≤◌, length, pos, unsigned_abs, ◌<ℤ◌, ◌*ℤ◌, IsTrue};
 ghost use Rattle.std.specs.Int.{IsGcd};
 ghost use Prim.Native.Nat.{◌∣◌};
 ghost use Rattle.row_core.specs.Vectors.{scale};
 ghost use Rattle.row_core.specs.Range.{InRange, AllInRange};
+ghost use Rattle.row_core.specs.Sizes.{HaveBits};
 ghost use Rattle.row_core.specs.Content.{DividesAll, IsPrimitive, IsMultipleOf};
 
-use crate::narrow::both_narrow;
+use crate::sizes::{bits, bits_of};
 
 /// The greatest number of one word.
 const WORD: u128 = 0xffff_ffff_ffff_ffff;
@@ -24,6 +25,29 @@ pub fn make_primitive(row: &mut [i128])
     if divisor > 1 {
         divide_all(row, divisor as i128);
     }
+}
+
+/// What [`make_primitive`] does, with a row whose numbers have at most so many bits. It tells how
+/// many they have then.
+pub fn make_primitive_within(row: &mut [i128], within: u32) -> u32
+    requires in_range { AllInRange row.old }
+    requires within { HaveBits within row.old }
+    ensures in_range { AllInRange row.new }
+    ensures width { length row.new ≡ length row.old }
+    ensures multiple { IsMultipleOf row.old row.new }
+    ensures primitive { IsPrimitive row.new }
+    ensures bits { HaveBits result row.new }
+{
+    if within > 62 {
+        make_primitive(row);
+        return bits(row);
+    }
+    let divisor = words_content(row);
+    if divisor > 1 {
+        divide_words(row, divisor as i64);
+        return bits(row);
+    }
+    within
 }
 
 /// Whether the row is primitive: its entries have no common divisor above 1, or all are 0.
@@ -56,7 +80,7 @@ pub fn quotient(x: i128, divisor: i128) -> i128
     if divisor == 1 {
         return x;
     }
-    if both_narrow(x, divisor) {
+    if bits_of(x.unsigned_abs() | divisor.unsigned_abs()) <= 63 {
         return i128::from(x as i64 / divisor as i64);
     }
     x / divisor
@@ -71,23 +95,35 @@ fn content(row: &[i128]) -> u128
 {
     let mut divisor = 0;
     for j in 0..row.len() {
-        divisor = divisor_with(divisor, row[j].unsigned_abs());
-        if divisor == 1 {
-            return 1;
+        let size = row[j].unsigned_abs();
+        if size != 0 {
+            divisor = gcd(size, divisor);
+            if divisor == 1 {
+                return 1;
+            }
         }
     }
     divisor
 }
 
-/// The greatest common divisor of that of the entries before and one entry more.
-#[inline]
-fn divisor_with(divisor: u128, entry: u128) -> u128
-    ensures { IsGcd divisor entry result }
+/// The greatest common divisor of entries that are words, and 0 where all are 0.
+fn words_content(row: &[i128]) -> u64
+    requires { HaveBits 62 row.now }
+    ensures divides { DividesAll result row.now }
+    ensures greatest { (d : ℕ) → DividesAll d row.now → d ∣ result }
+    ensures below { result ≤ 2 ^ 62 }
 {
-    if entry == 0 {
-        return divisor;
+    let mut divisor = 0;
+    for j in 0..row.len() {
+        let size = (row[j] as i64).unsigned_abs();
+        if size != 0 {
+            divisor = word_gcd(size, divisor);
+            if divisor == 1 {
+                return 1;
+            }
+        }
     }
-    gcd(entry, divisor)
+    divisor
 }
 
 /// The greatest common divisor of words, by Euclid's algorithm. That of 0 and 0 is 0.
@@ -129,5 +165,18 @@ fn divide_all(row: &mut [i128], divisor: i128)
 {
     for j in 0..row.len() {
         row[j] = quotient(row[j], divisor);
+    }
+}
+
+/// Divides each entry, where all are words.
+fn divide_words(row: &mut [i128], divisor: i64)
+    requires words { HaveBits 62 row.old }
+    requires positive { pos 0 <ℤ divisor }
+    requires divides { DividesAll (unsigned_abs divisor) row.old }
+    ensures multiple { row.old ≡ scale divisor row.new }
+    ensures in_range { AllInRange row.new }
+{
+    for j in 0..row.len() {
+        row[j] = i128::from(row[j] as i64 / divisor);
     }
 }

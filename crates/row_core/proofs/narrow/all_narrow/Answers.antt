@@ -1,6 +1,6 @@
-use Rattle.std.specs.Prelude.{◌≡◌, false, pos, get_or}
+use Rattle.std.specs.Prelude.{pos, get_or}
 use Rattle.std.specs.Int.{w128}
-use Rattle.std.proofs.Common.{rules, arith, subst, refl, sym, ◌∙◌}
+use Rattle.std.proofs.Common.{rules, arith, subst, refl}
 use Rattle.std.proofs.lemmas.Bool.{false≢true}
 use Rattle.std.proofs.lemmas.Int.{to_z-of_z}
 use Rattle.std.proofs.lemmas.List.{take_all}
@@ -12,8 +12,9 @@ use Rattle.row_core.proofs.narrow.all_narrow.Goals as goal
 pub loop-j-preserved : goal.loop-j-preserved
 loop-j-preserved c =
     let fits : SFits w128 (get_or c.args.row.now c.loop-j.j (pos 0)) = search rules in
-    let here = (simp to_z-of_z at c.is_narrow.ensures).0 (search rules) in
-    All-more IsNarrow c.args.row.now c.loop-j.j (pos 0) c.loop-j-test.true c.loop-j.invariant here
+    let value = simp to_z-of_z at c.unsigned_abs.ensures.value in
+    All-more IsNarrow c.args.row.now c.loop-j.j (pos 0) c.loop-j-test.true c.loop-j.invariant
+    (record { size = omega (arith, value, c.if-unsigned_abs-gt-LIMIT.false) })
 
 pub returns : goal.returns
 returns c = (
@@ -22,11 +23,15 @@ returns c = (
   (λ all. refl),
 )
 
-pub returns-then-not-is_narrow : goal.returns-then-not-is_narrow
-returns-then-not-is_narrow c =
+pub returns-then-unsigned_abs-gt-LIMIT : goal.returns-then-unsigned_abs-gt-LIMIT
+returns-then-unsigned_abs-gt-LIMIT c =
     let fits : SFits w128 (get_or c.args.row.now c.loop-j.j (pos 0)) = search rules in
-    let narrow = (simp to_z-of_z at c.is_narrow.ensures).1 in
-    let no : c.is_narrow.result ≡ false = search rules in (
+    let value = simp to_z-of_z at c.unsigned_abs.ensures.value in (
       (λ t. absurd (false≢true t)),
-      (λ all. absurd (false≢true (sym no ∙ narrow (all c.loop-j.j (pos 0) c.loop-j-test.true)))),
+      (λ all. absurd (omega (
+        arith,
+        value,
+        (all c.loop-j.j (pos 0) c.loop-j-test.true).size,
+        c.if-unsigned_abs-gt-LIMIT.true,
+      ))),
     )

@@ -1,12 +1,12 @@
 use Rattle.std.specs.Prelude.{◌≡◌, ℤ, ◌*ℤ◌, int_div}
 use Rattle.std.specs.Int.{w64, w128}
-use Rattle.std.proofs.Common.{sym, ◌∙◌, ap, subst, to_z, of_z}
-use Rattle.std.proofs.lemmas.Int.{quot_is, quot_fits, to_z-of_z}
+use Rattle.std.proofs.Common.{arith, sym, ◌∙◌, ap, subst, to_z, of_z}
+use Rattle.std.proofs.lemmas.Int.{quot_is, quot_fits, to_z-of_z, fits_signed_from_abs}
+use mir.Val.{SFits}
 use Rattle.row_core.specs.Range.{InRange}
-use Rattle.row_core.specs.Narrow.{IsNarrow}
 use Rattle.row_core.proofs.ContentLemmas.{exact_quotient, quotient_by_one}
 use Rattle.row_core.proofs.Magnitudes.{back, int_div-in_range, of_z-above}
-use Rattle.row_core.proofs.NarrowLemmas.{narrow_word}
+use Rattle.row_core.proofs.SizeLemmas.{size_left, size_right}
 use Rattle.row_core.proofs.primitive.quotient.Goals as goal
 
 pub returns-then-divisor-eq1-clause-value : goal.returns-then-divisor-eq1-clause-value
@@ -20,24 +20,29 @@ pub returns-then-divisor-eq1-clause-in_range : goal.returns-then-divisor-eq1-cla
 returns-then-divisor-eq1-clause-in_range c =
     subst InRange (sym (back c.args.x c.requires.in_range)) c.requires.in_range
 
--- both are narrow
-narrow : (c : goal.Then-both_narrow) → IsNarrow c.args.x × IsNarrow c.args.divisor
-narrow c =
-    let x = to_z-of_z w128 c.args.x c.ranges.x in
-    let divisor = to_z-of_z w128 c.args.divisor c.ranges.divisor in
-    (rw (x, divisor) at c.both_narrow.ensures) c.if-both_narrow.true
+-- both are words
+words : (c : goal.Then-bits_of-le63) → SFits w64 c.args.x × SFits w64 c.args.divisor
+words c =
+    let x_is = rw (to_z-of_z w128 c.args.x c.ranges.x) at c.unsigned_abs.ensures.value in
+    let divisor_is = rw (to_z-of_z w128 c.args.divisor c.ranges.divisor) at
+    c.unsigned_abs-2.ensures.value in (
+      fits_signed_from_abs w64 c.args.x (size_left c.args.x c.unsigned_abs.result
+          c.unsigned_abs-2.result c.bits_of.result x_is c.bits_of.ensures (omega arith)),
+      fits_signed_from_abs w64 c.args.divisor (size_right c.args.divisor c.unsigned_abs.result
+          c.unsigned_abs-2.result c.bits_of.result divisor_is c.bits_of.ensures (omega arith)),
+    )
 
 pub overflow_cast-x : goal.overflow_cast-x
-overflow_cast-x c = rw (to_z-of_z w128 c.args.x c.ranges.x) (narrow_word c.args.x (narrow c).0)
+overflow_cast-x c = rw (to_z-of_z w128 c.args.x c.ranges.x) (words c).0
 
 pub overflow_cast-divisor : goal.overflow_cast-divisor
 overflow_cast-divisor c =
-    rw (to_z-of_z w128 c.args.divisor c.ranges.divisor) (narrow_word c.args.divisor (narrow c).1)
+    rw (to_z-of_z w128 c.args.divisor c.ranges.divisor) (words c).1
 
 pub nonzero_div-x : goal.nonzero_div-x
 nonzero_div-x c =
-    let x_word = narrow_word c.args.x (narrow c).0 in
-    let divisor_word = narrow_word c.args.divisor (narrow c).1 in
+    let x_word = (words c).0 in
+    let divisor_word = (words c).1 in
     rw (
       to_z-of_z w128 c.args.x c.ranges.x,
       to_z-of_z w128 c.args.divisor c.ranges.divisor,
@@ -51,13 +56,14 @@ nonzero_div-x c =
 -- what the words' quotient is
 word : (c : goal.After-from) → c.from.result ≡ int_div c.args.x c.args.divisor
 word c =
-    let both = (rw (
-      to_z-of_z w128 c.args.x c.ranges.x,
-      to_z-of_z w128 c.args.divisor c.ranges.divisor,
-    ) at c.both_narrow.ensures)
-    c.if-both_narrow.true in
-    let x_word = narrow_word c.args.x both.0 in
-    let divisor_word = narrow_word c.args.divisor both.1 in
+    let x_is = rw (to_z-of_z w128 c.args.x c.ranges.x) at c.unsigned_abs.ensures.value in
+    let divisor_is = rw (to_z-of_z w128 c.args.divisor c.ranges.divisor) at
+    c.unsigned_abs-2.ensures.value in
+    let x_word = fits_signed_from_abs w64 c.args.x (size_left c.args.x c.unsigned_abs.result
+    c.unsigned_abs-2.result c.bits_of.result x_is c.bits_of.ensures (omega arith)) in
+    let divisor_word = fits_signed_from_abs w64 c.args.divisor (size_right c.args.divisor
+    c.unsigned_abs.result c.unsigned_abs-2.result c.bits_of.result divisor_is c.bits_of.ensures
+    (omega arith)) in
     let fits = quot_fits w64 c.args.x c.args.divisor x_word c.requires.positive in
     (rw (to_z-of_z w128 c.args.x c.ranges.x, to_z-of_z w128 c.args.divisor c.ranges.divisor) at
     c.from.ensures) ∙
@@ -71,13 +77,13 @@ passed c =
     back (int_div c.args.x c.args.divisor)
     (int_div-in_range c.args.x c.args.divisor c.requires.positive c.requires.in_range)
 
-pub returns-then-both_narrow-clause-value : goal.returns-then-both_narrow-clause-value
-returns-then-both_narrow-clause-value c =
+pub returns-then-bits_of-le63-clause-value : goal.returns-then-bits_of-le63-clause-value
+returns-then-bits_of-le63-clause-value c =
     exact_quotient c.args.x c.args.divisor c.requires.divides ∙
     ap (λ (q : ℤ). c.args.divisor *ℤ q) (sym (passed c))
 
-pub returns-then-both_narrow-clause-in_range : goal.returns-then-both_narrow-clause-in_range
-returns-then-both_narrow-clause-in_range c =
+pub returns-then-bits_of-le63-clause-in_range : goal.returns-then-bits_of-le63-clause-in_range
+returns-then-bits_of-le63-clause-in_range c =
     subst InRange (sym (passed c))
     (int_div-in_range c.args.x c.args.divisor c.requires.positive c.requires.in_range)
 
@@ -89,7 +95,7 @@ nonzero_div-result c =
     )
 
 -- what the quotient is
-whole : (c : goal.Else-both_narrow) →
+whole : (c : goal.Else-bits_of-le63) →
     to_z w128 (of_z w128 (int_div (to_z w128 (of_z w128 c.args.x))
     (to_z w128 (of_z w128 c.args.divisor)))) ≡ int_div c.args.x c.args.divisor
 whole c =

@@ -1,0 +1,10 @@
+use Rattle.std.specs.Prelude.{◌≡◌, take}
+use Rattle.row_core.specs.Vectors.{dot}
+use Rattle.row_core.specs.Range.{InRange}
+use Rattle.row_core.proofs.sizes.exact_dot.Given as goal
+
+abbrev pub invariant-loop-j : goal.invariant-loop-j
+invariant-loop-j l = record {
+  total : l.total ≡ dot (take l.j l.u) (take l.j l.v);
+  in_range : InRange l.total;
+}

@@ -1,0 +1,47 @@
+use Rattle.std.specs.Prelude.{ℤ, pos, get_or, ◌+ℤ◌, ◌*ℤ◌}
+use Rattle.std.specs.Int.{w64, w128}
+use Rattle.std.proofs.Common.{rules, sym, subst}
+use Rattle.std.proofs.lemmas.Int.{to_z-of_z, fits_signed_from_abs}
+use mir.Val.{SFits, to_z}
+use Rattle.row_core.specs.Vectors.{cell}
+use Rattle.row_core.specs.Sizes.{IsWord}
+use Rattle.row_core.proofs.ColumnLemmas.{total_more}
+use Rattle.row_core.proofs.sizes.word_dot.Goals as goal
+
+pub overflow_add-total : goal.overflow_add-total
+overflow_add-total c =
+    let total : ℤ = to_z w64 c.loop-j.total-bits in
+    let product : ℤ = cell c.args.u.now c.loop-j.j *ℤ cell c.args.v.now c.loop-j.j in
+    let words = c.requires.words c.loop-j.j c.loop-j-test.true in
+    let u_fits : SFits w128 (get_or c.args.u.now c.loop-j.j (pos 0)) = search rules in
+    let v_fits : SFits w128 (get_or c.args.v.now c.loop-j.j (pos 0)) = search rules in
+    let u_word : SFits w64 (get_or c.args.u.now c.loop-j.j (pos 0)) =
+    fits_signed_from_abs w64 (get_or c.args.u.now c.loop-j.j (pos 0)) words.left.size in
+    let v_word : SFits w64 (get_or c.args.v.now c.loop-j.j (pos 0)) =
+    fits_signed_from_abs w64 (get_or c.args.v.now c.loop-j.j (pos 0)) words.right.size in
+    let product_fits : SFits w64 product = fits_signed_from_abs w64 product words.product.size in
+    let more = total_more c.args.u.now c.args.v.now c.loop-j.j total c.loop-j-test.true
+    c.requires.same_width c.loop-j.invariant.total in
+    let word : IsWord (total +ℤ product) = subst IsWord (sym more) words.sum in
+    let sum_fits : SFits w64 (total +ℤ product) =
+    fits_signed_from_abs w64 (total +ℤ product) word.size in
+    simp to_z-of_z sum_fits
+
+pub loop-j-preserved : goal.loop-j-preserved
+loop-j-preserved c =
+    let total : ℤ = to_z w64 c.loop-j.total-bits in
+    let product : ℤ = cell c.args.u.now c.loop-j.j *ℤ cell c.args.v.now c.loop-j.j in
+    let words = c.requires.words c.loop-j.j c.loop-j-test.true in
+    let u_fits : SFits w128 (get_or c.args.u.now c.loop-j.j (pos 0)) = search rules in
+    let v_fits : SFits w128 (get_or c.args.v.now c.loop-j.j (pos 0)) = search rules in
+    let u_word : SFits w64 (get_or c.args.u.now c.loop-j.j (pos 0)) =
+    fits_signed_from_abs w64 (get_or c.args.u.now c.loop-j.j (pos 0)) words.left.size in
+    let v_word : SFits w64 (get_or c.args.v.now c.loop-j.j (pos 0)) =
+    fits_signed_from_abs w64 (get_or c.args.v.now c.loop-j.j (pos 0)) words.right.size in
+    let product_fits : SFits w64 product = fits_signed_from_abs w64 product words.product.size in
+    let more = total_more c.args.u.now c.args.v.now c.loop-j.j total c.loop-j-test.true
+    c.requires.same_width c.loop-j.invariant.total in
+    let word : IsWord (total +ℤ product) = subst IsWord (sym more) words.sum in
+    let sum_fits : SFits w64 (total +ℤ product) =
+    fits_signed_from_abs w64 (total +ℤ product) word.size in
+    simp to_z-of_z (record { total = more; word = word })

@@ -1,0 +1,35 @@
+use Rattle.std.specs.Prelude.{ℕ, ◌+◌, ◌^◌, ◌<◌, ◌≤◌, List, take, ℤ, ◌+ℤ◌, All, unsigned_abs}
+use Rattle.std.proofs.Math.IntN.{◌*ℤ◌}
+use Rattle.row_core.specs.Vectors.{cell, dot}
+
+-- the number is at most n in size
+pub record IsWithin (n : ℕ) (z : ℤ) : Type 0 where
+  pub size : unsigned_abs z ≤ n
+
+-- each number has at most so many bits beside its sign, or is a power of 2 with one more
+abbrev pub HaveBits : ℕ → List ℤ → Type 0
+HaveBits bits v = All (IsWithin (2 ^ bits)) v
+
+-- the number is that of a word of 64 bits
+pub record IsWord (z : ℤ) : Type 0 where
+  pub size : unsigned_abs z < 2 ^ 63
+
+-- in a dot of two rows, the numbers at column j, their product and the sum of those up to it are
+-- words
+pub record DotIsOfWords (u v : List ℤ) (j : ℕ) : Type 0 where
+  pub left : IsWord (cell u j)
+  pub right : IsWord (cell v j)
+  pub product : IsWord (cell u j *ℤ cell v j)
+  pub sum : IsWord (dot (take (j + 1) u) (take (j + 1) v))
+
+-- s, x, t and y are words, and so are s times x, t times y and their sum
+pub record ColumnIsOfWords (s x t y : ℤ) : Type 0 where
+  pub factors : IsWord s × IsWord t
+  pub entries : IsWord x × IsWord y
+  pub left : IsWord (s *ℤ x)
+  pub right : IsWord (t *ℤ y)
+  pub sum : IsWord (s *ℤ x +ℤ t *ℤ y)
+
+-- in s times u plus t times v, all numbers of column j are words
+abbrev pub CombineIsOfWords : List ℤ → ℤ → List ℤ → ℤ → ℕ → Type 0
+CombineIsOfWords u s v t j = ColumnIsOfWords s (cell u j) t (cell v j)
