@@ -11,7 +11,7 @@ ghost use Rattle.chernikova.specs.declared.plan.Plan.TheVariants as planned;
 use crate::plan::{CrossedLine, CutRays, Plan, Position};
 use crate::scratch::Scratch;
 use crate::system::System;
-use row_core::{Memory, RowList, Steps, all_narrow};
+use row_core::{Memory, RowList, Steps, bits};
 use row_store::{
     CombineFault, Part, SystemOnRow, ValueFault, all_meet, last_crossing, line_step, make_empty,
     mark_pairs, marks, ray_step, values,
@@ -35,11 +35,11 @@ pub(crate) fn position(
         (IsPositionFault (row_at rows.now.rows k) lines rays) }
 {
     let row = rows.row(k);
-    let narrow = all_narrow(row);
+    let bits = bits(row);
     let place = &mut scratch.line_values;
-    let line_values = values(scratch.alloc, place, Part::Lines, &cone.lines, row, narrow)?;
+    let line_values = values(scratch.alloc, place, Part::Lines, &cone.lines, row, bits)?;
     let place = &mut scratch.ray_values;
-    let ray_values = values(scratch.alloc, place, Part::Rays, &cone.rays, row, narrow)?;
+    let ray_values = values(scratch.alloc, place, Part::Rays, &cone.rays, row, bits)?;
     if let Some(index) = last_crossing(&line_values) {
         return Ok(Position::Crossing(CrossedLine {
             index,

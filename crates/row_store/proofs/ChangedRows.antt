@@ -1,13 +1,14 @@
 -- A row that is changed in place.
 use Rattle.std.proofs.Common.{◌≡◌, ℕ, ◌+◌, ◌*◌, ◌<◌, ◌≤◌, List, ◌++◌, length, take, drop, set, sym, ap, subst, ◌∙◌, arith, ℤ}
+use Rattle.std.proofs.lemmas.List.{length-take, take_at}
 use Rattle.std.specs.Prelude.{All, Result, Ok, Err, OnOk, OnErr, MatchResult, max}
 use Rattle.std.proofs.lemmas.List.Elements.{All-append, All-take, All-drop}
 use borrow.Rule.Slice.PartMut.{put_mid}
 use Rattle.row_core.specs.Range.{InRange, AllInRange}
-use Rattle.flat_rows.specs.Flat.{Flat, rows_of, AreCells, with_cells, window}
+use Rattle.flat_rows.specs.Flat.{Flat, entries_at, rows_of, AreCells, with_cells, window}
 use Rattle.row_store.specs.Stores.{IsKept, IsPartChanged, IsRowChanged}
-use Rattle.flat_rows.proofs.Flat.{rows_of-with_window, row_of_cells, with_cells_is, All-rows_of}
-use Rattle.row_store.proofs.Parts.{with_window_is, IsRowPart, of_part}
+use Rattle.flat_rows.proofs.Flat.{rows_of-with_window, entries_at-rows_of, row_of_cells, with_cells_is, All-rows_of}
+use Rattle.row_store.proofs.Parts.{with_window_is, window_in_back, IsRowPart, of_part}
 
 -- a row that was changed where a part of the cells was lent
 pub part_changed : (Related : List ℤ → List ℤ → Type 0) (p w k : ℕ) (cells part new : List ℤ) → k ≡ w → part ≡ window p k cells → length new ≡ w → Related part new → IsPartChanged Related p w cells (put_mid p k cells new)
@@ -50,6 +51,25 @@ row_changed Related i p w cells new old seen is are long =
 -- the part lies within the cells
 pub part_within : (cells : List ℤ) (old seen : Flat ℤ) (e : ℕ) → old ≡ seen → AreCells old cells → e ≤ length seen.rows * seen.width → e ≤ length cells
 part_within cells old seen e same are within = subst (λ (n : ℕ). e ≤ n) (sym are.taken) (subst (λ (f : Flat ℤ). e ≤ length f.rows * f.width) (sym same) within)
+
+-- what is true of the numbers of a part, where it is lent
+pub All-lent : (P : ℤ → Type 0) (p w k : ℕ) (cells : List ℤ) → k ≡ w → All P (window p w cells) → All P (window p k cells)
+All-lent P p w k cells e all = subst (λ (n : ℕ). All P (window p n cells)) (sym e) all
+
+-- and of those that are written over it
+pub All-written : (P : ℤ → Type 0) (p w k : ℕ) (cells new : List ℤ) → k ≡ w → p + w ≤ length cells → length new ≡ w → All P new → All P (window p w (put_mid p k cells new))
+All-written P p w k cells new e within wide all =
+    let front : length (take p cells) ≡ p = omega (arith, length-take p cells, within) in
+    let same : window p w (put_mid p k cells new) ≡ new = ap (λ (r : List ℤ). window p w r) (with_window_is p w k cells new e wide)
+    ∙ sym (window_in_back p w (take p cells) (new ++ drop (p + w) cells) front) ∙ take_at new (drop (p + w) cells) w wide in
+    subst (All P) (sym same) all
+
+-- and of the row that the part is
+pub All-row : (P : ℤ → Type 0) (i p w : ℕ) (cells new : List ℤ) (old seen : Flat ℤ) → IsRowPart i p w old seen → AreCells old cells → length new ≡ length cells
+    → All P (window p w new) → All P (entries_at (with_cells old new).rows i)
+All-row P i p w cells new old seen is are long =
+    of_part (λ q n f. All P (window q n new) → All P (entries_at (with_cells old new).rows i)) i p w old seen is
+    (λ in_i all. subst (All P) (sym (ap (λ (f : Flat ℤ). entries_at f.rows i) (with_cells_is old cells new are.same long) ∙ entries_at-rows_of old.width (length old.rows) i new in_i)) all)
 
 -- ---- what is kept
 -- other cells of the range

@@ -1,8 +1,9 @@
 -- Rows that are combined where they were appended.
-use Rattle.std.specs.Prelude.{◌≡◌, ◌≢◌, ℕ, zero, suc, ◌+◌, ◌<◌, List, [], ◌∷◌, ◌++◌, length, ℤ, pos, negsuc, neg_ℤ, ◌<ℤ◌, take, Result, Ok, Err, OnOk, OnErr, MatchResult}
+use Rattle.std.specs.Prelude.{◌≡◌, ◌≢◌, ℕ, zero, suc, ◌+◌, ◌<◌, List, [], ◌∷◌, ◌++◌, length, ℤ, pos, negsuc, neg_ℤ, ◌<ℤ◌, take, Result, Ok, Err, IsOk, OnOk, OnErr, MatchResult}
 use Rattle.std.proofs.Common.{refl, sym, ap, ◌∙◌, subst, arith, set}
 use Rattle.std.proofs.lemmas.List.{get_or_append_left, get_or_push, length-set, length_push, set_at, take_at}
 use Rattle.std.proofs.lemmas.Int.{ints}
+use Rattle.std.proofs.lemmas.Bool.{false≢true}
 use Rattle.row_core.proofs.Ring.{one-mul}
 use Rattle.row_core.specs.Vectors.{scale, add}
 use Rattle.row_core.specs.Content.{IsPrimitiveOf}
@@ -69,10 +70,11 @@ last_stays s t v row last old pushed new (Err c) at rows h =
     omega (arith, at, ap length rows ∙ length_push old.rows row, ap (λ (f : Flat ℤ). length f.rows) h.0)
 
 -- what follows from a combination and what was made of it
-pub ended_as : {A E : Type 0} (P P' : A → Type 0) (Q Q' : E → Type 0) (X Y : Type 0) (r r' : Result A E) → r' ≡ r → MatchResult r P Q → OnOk r X → OnErr r Y
-    → ((x : A) → P x → X → P' x) → ((e : E) → Q e → Y → Q' e) → MatchResult r' P' Q'
-ended_as P P' Q Q' X Y (Ok x) r' same h made dropped ok err = rw same (ok x h made)
-ended_as P P' Q Q' X Y (Err e) r' same h made dropped ok err = rw same (err e h dropped)
+pub ended_as : {A E : Type 0} (P : A → Type 0) (P' : Type 0) (Q Q' : E → Type 0) (X Y : Type 0) (r r' : Result A E) → OnOk r (IsOk r') → OnErr r (r' ≡ r) → MatchResult r P Q → OnOk r X → OnErr r Y
+    → ((x : A) → P x → X → P') → ((e : E) → Q e → Y → Q' e) → MatchResult r' (λ _. P') Q'
+ended_as P P' Q Q' X Y (Ok x) (Ok y) is same h made dropped ok err = ok x h made
+ended_as P P' Q Q' X Y (Ok x) (Err e) is same h made dropped ok err = absurd (false≢true is)
+ended_as P P' Q Q' X Y (Err e) r' is same h made dropped ok err = rw same (err e h dropped)
 
 -- ---- where the other row is one of the store
 pub is_appended_of : (u v second first : ℤ) (i j last : ℕ) (old pushed written new : Flat ℤ) → HasOneWidth old → i < length old.rows → j < length old.rows → AreFactors u v second first → u ≢ pos 0 → last ≡ length old.rows

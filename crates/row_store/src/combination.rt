@@ -7,7 +7,7 @@ ghost use Rattle.row_core.specs.Range.{InRange, AllInRange};
 ghost use Rattle.row_core.specs.Signs.{sign};
 ghost use Rattle.row_core.specs.Combinations.{AreFactors, CombinationLeaves, IsCombined};
 
-use row_core::{Steps, combine_onto, gcd, make_primitive, quotient};
+use row_core::{Steps, bits, combine_within, gcd, make_primitive_within, quotient};
 use std::sync::ledger::Ledger;
 
 /// The number with the other sign.
@@ -84,8 +84,9 @@ pub fn combine<L: Ledger>(
 {
     let (second, first) = factors(u, v);
     dst.copy_from_slice(right);
-    combine_onto(dst, second, left, first, steps)?;
-    make_primitive(dst);
+    let within = bits(dst).max(bits(left));
+    let made = combine_within(dst, second, left, first, within, steps)?;
+    make_primitive_within(dst, made);
     Ok(())
 }
 

@@ -2,6 +2,7 @@
 //! line.
 ghost use Rattle.std.specs.Prelude.{◌≡◌, ◌≢◌, ◌+◌, ◌<◌, ◌≤◌, true, false, []};
 ghost use Rattle.std.specs.Prelude.{length, All, pos, MatchResult, OnOk};
+ghost use Rattle.row_core.specs.Sizes.{HaveBits};
 ghost use Rattle.row_core.specs.Range.{InRange, AllInRange};
 ghost use Rattle.row_core.specs.Content.{IsPrimitive};
 ghost use Rattle.row_core.specs.Lists.{vectors, AreMarked};
@@ -62,6 +63,7 @@ pub fn line_step<L: Ledger>(
         index,
         line: system.lines.row(index),
         value: system.line_values[index],
+        bits: system.lines.bits(),
     };
     lower_lines(new_lines, system.lines, system.line_values, crossing, steps)?;
     lower_rays(new_rays, system.rays, system.ray_values, crossing, steps)?;
@@ -80,6 +82,7 @@ fn lower_lines<L: Ledger>(
     requires spare { length lines.now.rows ≤ into.old.spare }
     requires empty { into.old.rows ≡ [] }
     requires line { length crossing.line.now ≡ into.old.width }
+    requires bits { HaveBits crossing.bits crossing.line.now }
     requires wide { lines.now.width ≡ into.old.width }
     requires index { crossing.index < length lines.now.rows }
     requires as_many { length values.now ≡ length lines.now.rows }
@@ -120,6 +123,7 @@ fn lower_rays<L: Ledger>(
     requires spare { length rays.now.rows + 1 ≤ into.old.spare }
     requires empty { into.old.rows ≡ [] }
     requires line { length crossing.line.now ≡ into.old.width }
+    requires bits { HaveBits crossing.bits crossing.line.now }
     requires wide { rays.now.width ≡ into.old.width }
     requires as_many { length values.now ≡ length rays.now.rows }
     requires in_range { All InRange values.now × InRange crossing.value }
@@ -183,6 +187,7 @@ fn lower_range<L: Ledger>(
 ) -> Result<(), CombineFault>
     requires spare { to ≤ into.old.spare + from }
     requires line { length lowering.crossing.line.now ≡ into.old.width }
+    requires bits { HaveBits lowering.crossing.bits lowering.crossing.line.now }
     requires wide { lowering.list.now.width ≡ into.old.width }
     requires bounds { (from ≤ to) × (to ≤ length lowering.list.now.rows) }
     requires as_many { length lowering.values.now ≡ length lowering.list.now.rows }
@@ -205,6 +210,8 @@ fn lower_range<L: Ledger>(
     ensures marked { OnOk result (AreMarked (is_lines lowering.entry.part) into.new.rows) }
 {
     let (part, crossing) = (lowering.part, lowering.crossing);
+    let bits = crossing.bits.max(lowering.list.bits());
+    let crossing = Crossing { bits, ..crossing };
     for index in from..to {
         let (vector, eq) = (lowering.list.row(index), part.is_equality());
         let value = lowering.values[index];

@@ -35,14 +35,9 @@ fn push_pair<L: Ledger>(
     let (above, below) = pair;
     let combined = rays.push_combination(above, values[above], below, values[below], steps);
     if let Err(column) = combined {
-        let left = Place {
-            part: Part::Rays,
-            index: above,
-        };
-        let right = Place {
-            part: Part::Rays,
-            index: below,
-        };
+        let part = Part::Rays;
+        let left = Place { part, index: above };
+        let right = Place { part, index: below };
         return Err(CombineFault {
             left,
             right,

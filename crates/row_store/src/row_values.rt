@@ -1,60 +1,40 @@
 //! The values of vectors on a row.
 ghost use Rattle.std.specs.Prelude.{◌≡◌, ◌≢◌, ℕ, ◌^◌, ◌<◌, ◌≤◌, Bool, true, [], ◌++◌, length, map};
-ghost use Rattle.std.specs.Prelude.{replicate, count_by, pos, All, IsTrue, MatchBool, MatchResult};
+ghost use Rattle.std.specs.Prelude.{replicate, count_by, pos, All, MatchBool, MatchResult};
 ghost use Rattle.std.specs.Prelude.{MatchOption, IfOk, OnOk, slice_index_or};
 ghost use Rattle.row_core.specs.Vectors.{dot};
 ghost use Rattle.row_core.specs.Range.{InRange};
-ghost use Rattle.row_core.specs.Narrow.{AllNarrow};
+ghost use Rattle.row_core.specs.Sizes.{HaveBits};
 ghost use Rattle.row_core.specs.Signs.{stays};
-ghost use Rattle.row_core.specs.Lists.{row_at, vectors};
+ghost use Rattle.row_core.specs.Lists.{vectors};
 ghost use Rattle.row_store.specs.Values.{values_on, AllStay, SomeGoes};
 ghost use Rattle.row_store.specs.Faults.{IsValuesFault};
 
 use crate::fault::{Part, Place, ValueFault};
 use crate::vectors::VectorList;
 use flat_rows::emptied;
-use row_core::{dot, narrow_dot};
+use row_core::dot_within;
 use std::alloc::{AllocError, Global};
 
-/// Appends the values of narrow vectors on a narrow row to a list without elements.
-fn narrow_values(values: &mut Vec<i128>, list: &VectorList, row: &[i128]) -> Result<(), AllocError>
-    requires empty { values.old.items ≡ [] }
-    requires wide { length row.now ≡ list.now.width }
-    requires narrow { length row.now < 2 ^ 32 }
-    requires row { AllNarrow row.now }
-    requires vectors { (i : ℕ) → i < length list.now.rows → AllNarrow (row_at list.now.rows i) }
-    ensures values { OnOk result (values.new.items ≡ values_on row.now (vectors list.now.rows)) }
-    ensures in_range { OnOk result (All InRange values.new.items) }
-{
-    for index in 0..list.len() {
-        values.push(narrow_dot(row, list.row(index)))?;
-    }
-    Ok(())
-}
-
-/// The value of each vector on the row, in the list of that place. `narrow` tells of the row.
+/// The value of each vector on the row, which has at most so many bits, in the list of that place.
 pub fn values(
     alloc: Global,
     place: &mut Vec<i128>,
     part: Part,
     list: &VectorList,
     row: &[i128],
-    narrow: bool,
+    bits: u32,
 ) -> Result<Vec<i128>, ValueFault>
     requires wide { length row.now ≡ list.now.width }
     requires narrow { length row.now < 2 ^ 32 }
-    requires row { IsTrue narrow → AllNarrow row.now }
+    requires row { HaveBits bits row.now }
     ensures values { let vs = vectors list.now.rows in
         MatchResult result (λ v. v.items ≡ values_on row.now vs) (IsValuesFault row.now part vs) }
     ensures in_range { IfOk result (λ v. All InRange v.items) }
 {
     let mut values = emptied(alloc, place, list.len())?;
-    if narrow && list.is_narrow() {
-        narrow_values(&mut values, list, row)?;
-        return Ok(values);
-    }
     for index in 0..list.len() {
-        match dot(row, list.row(index)) {
+        match dot_within(row, list.row(index), bits, list.bits()) {
             Ok(value) => values.push(value)?,
             Err(column) => {
                 let vector = Place { part, index };

@@ -1,10 +1,10 @@
 //! The rows.
-ghost use Rattle.std.specs.Prelude.{◌≡◌, ◌≢◌, ◌↔◌, ℕ, ◌+◌, ◌*◌, ◌^◌, ◌<◌, ◌≤◌, List};
+ghost use Rattle.std.specs.Prelude.{◌≡◌, ◌≢◌, ℕ, ◌+◌, ◌*◌, ◌^◌, ◌<◌, ◌≤◌, List};
 ghost use Rattle.std.specs.Prelude.{[], ◌∷◌, ◌++◌, length, max, take, ℤ};
-ghost use Rattle.std.specs.Prelude.{OnOk, OnErr, MatchResult, IsTrue};
+ghost use Rattle.std.specs.Prelude.{OnOk, OnErr, MatchResult, IfOk, All};
 ghost use Rattle.row_core.specs.Content.{IsPrimitiveOf};
 ghost use Rattle.row_core.specs.Range.{AllInRange};
-ghost use Rattle.row_core.specs.Narrow.{AllNarrow};
+ghost use Rattle.row_core.specs.Sizes.{HaveBits};
 ghost use Rattle.row_core.specs.MarkedCells.{IsLaid};
 ghost use Rattle.flat_rows.specs.Flat.{Flat, entries_at, marked, AreCells, HasOneWidth};
 ghost use Rattle.row_store.specs.Stores.{IsKept, IsNegated, IsCombinedWith, IsRefusedAt};
@@ -12,7 +12,7 @@ ghost use Rattle.row_store.specs.Stores.{IsRowChanged};
 
 use crate::windows::{Window, combine_part, combine_parts, make_part_primitive, negate_part};
 use flat_rows::FlatRows;
-use row_core::{Memory, Steps, all_narrow};
+use row_core::{Memory, Steps, bits};
 use std::alloc::Global;
 use std::marker::Model;
 use std::sync::ledger::Ledger;
@@ -83,12 +83,11 @@ impl RowStore {
         self.rows.len()
     }
 
-    /// Whether all numbers are narrow.
-    pub fn is_narrow(&self) -> bool
-        ensures { let rows = self.now.rows in
-            IsTrue result ↔ ((i : ℕ) → i < length rows → AllNarrow (entries_at rows i)) }
+    /// How many bits the numbers have at most.
+    pub fn bits(&self) -> u32
+        ensures { All (HaveBits result) self.now.rows }
     {
-        all_narrow(self.rows.cells())
+        bits(self.rows.cells())
     }
 
     /// Makes room for `n` more rows. Out of memory, the list is as before.
@@ -155,42 +154,87 @@ impl RowStore {
             MatchResult result (λ _. IsCombinedWith s t i other self.old self.new)
             (IsRefusedAt s t i other self.old self.new) }
     {
-        let (to, from) = (self.part(i), self.part(j));
-        combine_parts(self.rows.cells_mut(), to, s, from.at, t, steps)
+        let bits = bits(self.row(i)).max(bits(self.row(j)));
+        self.combine_rows_within(i, j, (s, t), bits, steps)?;
+        Ok(())
     }
 
-    /// Writes `s * row i + t * v` over row `i`, and counts one combination.
+    /// What [`RowStore::combine_rows`] does with two factors, of rows with at most so many bits. It
+    /// tells how many bits row `i` has then.
     ///
     /// # Errors
     ///
-    /// The first column at which a product or the sum leaves the range. The rows are then as
-    /// before.
+    /// Those of [`RowStore::combine_rows`].
+    pub fn combine_rows_within<L: Ledger>(
+        &mut self,
+        i: usize,
+        j: usize,
+        factors: (i128, i128),
+        bits: u32,
+        steps: &mut Steps<L>,
+    ) -> Result<u32, u32>
+        requires first { i < length self.old.rows }
+        requires second { j < length self.old.rows }
+        requires other { i ≢ j }
+        requires first_bits { HaveBits bits (entries_at self.old.rows i) }
+        requires second_bits { HaveBits bits (entries_at self.old.rows j) }
+        ensures counted { steps.new ≡ steps.old + 1 }
+        ensures combined { let other = entries_at self.old.rows j in
+            let s = factors.0 in let t = factors.1 in
+            MatchResult result (λ _. IsCombinedWith s t i other self.old self.new)
+            (IsRefusedAt s t i other self.old self.new) }
+        ensures bits { IfOk result (λ bits. HaveBits bits (entries_at self.new.rows i)) }
+    {
+        let (to, from) = (self.part(i), self.part(j));
+        combine_parts(self.rows.cells_mut(), to, from.at, factors, bits, steps)
+    }
+
+    /// Writes `s * row i + t * v` over row `i`, as [`RowStore::combine_rows_within`] does.
+    ///
+    /// # Errors
+    ///
+    /// Those of [`RowStore::combine_rows`].
     pub fn combine_with<L: Ledger>(
         &mut self,
         i: usize,
-        s: i128,
         v: &[i128],
-        t: i128,
+        factors: (i128, i128),
+        bits: u32,
         steps: &mut Steps<L>,
-    ) -> Result<(), u32>
+    ) -> Result<u32, u32>
         requires row { i < length self.old.rows }
         requires wide { length v.now ≡ self.old.width }
+        requires bits { HaveBits bits (entries_at self.old.rows i) × HaveBits bits v.now }
         ensures counted { steps.new ≡ steps.old + 1 }
-        ensures combined { MatchResult result (λ _. IsCombinedWith s t i v.now self.old self.new)
+        ensures combined { let s = factors.0 in let t = factors.1 in
+            MatchResult result (λ _. IsCombinedWith s t i v.now self.old self.new)
             (IsRefusedAt s t i v.now self.old self.new) }
+        ensures bits { IfOk result (λ bits. HaveBits bits (entries_at self.new.rows i)) }
     {
         let part = self.part(i);
-        combine_part(self.rows.cells_mut(), part, s, v, t, steps)
+        combine_part(self.rows.cells_mut(), part, v, factors, bits, steps)
     }
 
-    /// Divides row `i` by the greatest common divisor of its entries. It keeps all signs, and
-    /// leaves an all-zero row.
+    /// Divides row `i` by the greatest common divisor of its entries. It keeps all signs, and leaves
+    /// an all-zero row.
     pub fn make_row_primitive(&mut self, i: usize)
         requires { i < length self.old.rows }
         ensures { IsRowChanged IsPrimitiveOf i self.old self.new }
     {
+        let bits = bits(self.row(i));
+        self.make_row_primitive_within(i, bits);
+    }
+
+    /// What [`RowStore::make_row_primitive`] does with a row of at most so many bits. It tells how
+    /// many it has then.
+    pub fn make_row_primitive_within(&mut self, i: usize, bits: u32) -> u32
+        requires row { i < length self.old.rows }
+        requires bits { HaveBits bits (entries_at self.old.rows i) }
+        ensures primitive { IsRowChanged IsPrimitiveOf i self.old self.new }
+        ensures bits { HaveBits result (entries_at self.new.rows i) }
+    {
         let part = self.part(i);
-        make_part_primitive(self.rows.cells_mut(), part);
+        make_part_primitive(self.rows.cells_mut(), part, bits)
     }
 
     /// Changes all signs of row `i`.

@@ -1,11 +1,11 @@
 //! The lines or the rays of a system.
 ghost use Rattle.std.specs.Prelude.{◌≡◌, ◌≢◌, ℕ, ◌+◌, ◌^◌, ◌<◌, ◌≤◌, false, []};
-ghost use Rattle.std.specs.Prelude.{◌∷◌, ◌++◌, length, max, take, pos, All, IsTrue};
+ghost use Rattle.std.specs.Prelude.{◌∷◌, ◌++◌, length, max, take, pos, All};
 ghost use Rattle.std.specs.Prelude.{IfOk, OnOk, OnErr, MatchResult};
 ghost use Rattle.row_core.specs.Vectors.{scale};
 ghost use Rattle.row_core.specs.Content.{IsPrimitive};
 ghost use Rattle.row_core.specs.Range.{InRange, AllInRange};
-ghost use Rattle.row_core.specs.Narrow.{AllNarrow};
+ghost use Rattle.row_core.specs.Sizes.{HaveBits};
 ghost use Rattle.flat_rows.specs.Flat.{marked};
 ghost use Rattle.row_core.specs.Lists.{row_at, AreMarked};
 ghost use Rattle.row_core.specs.Signs.{sign};
@@ -14,7 +14,7 @@ ghost use Rattle.row_store.specs.Vectors.{Vectors, as_rows, with_mark, IsAppende
 
 use crate::combining::{append_combination, append_lowered, append_upward};
 use crate::store::RowStore;
-use row_core::{LendRows, Memory, RowList, Steps, all_narrow};
+use row_core::{LendRows, Memory, RowList, Steps, bits};
 use std::alloc::Global;
 use std::marker::Model;
 use std::sync::ledger::Ledger;
@@ -22,21 +22,22 @@ use std::sync::ledger::Ledger;
 /// Room for the vectors of most small systems, so that a list grows once.
 const LEAST_VECTORS: usize = 16;
 
-/// A line on which a row isn't 0: its index among the lines of a system, the line, and its value on
-/// the row.
+/// A line on which a row isn't 0: its index among the lines of a system, the line, its value on the
+/// row, and how many bits its numbers have at most, or more.
 #[derive(Clone, Copy)]
 pub struct Crossing<'a> {
     pub index: usize,
     pub line: &'a [i128],
     pub value: i128,
+    pub bits: u32,
 }
 
-/// Vectors of one width in one buffer, all marked as equalities or all as inequalities, and a flag,
-/// which is set only while all their numbers are narrow.
+/// Vectors of one width in one buffer, all marked as equalities or all as inequalities, and how many
+/// bits their numbers have at most.
 #[derive(Debug, Drop)]
 pub struct VectorList {
     eq: bool,
-    narrow: bool,
+    bits: u32,
     store: RowStore,
 }
 
@@ -49,7 +50,7 @@ impl Model for VectorList {
       spare = l.store.spare;
     } };
 
-    ghost invariant = { λ l. IsTrue l.narrow → All AllNarrow l.store.rows };
+    ghost invariant = { λ l. All (HaveBits l.bits) l.store.rows };
 }
 
 impl VectorList {
@@ -61,7 +62,7 @@ impl VectorList {
     {
         VectorList {
             eq: false,
-            narrow: true,
+            bits: 0,
             store: RowStore::new(alloc, width),
         }
     }
@@ -77,7 +78,7 @@ impl VectorList {
         store.reserve(vectors.max(LEAST_VECTORS))?;
         Ok(VectorList {
             eq: false,
-            narrow: true,
+            bits: 0,
             store,
         })
     }
@@ -92,7 +93,7 @@ impl VectorList {
         let store = RowStore::of_cells(width, count, list.into_cells());
         VectorList {
             eq,
-            narrow: store.is_narrow(),
+            bits: store.bits(),
             store,
         }
     }
@@ -133,13 +134,13 @@ impl VectorList {
         self.store.len()
     }
 
-    /// Whether all numbers are narrow. They are looked at where the flag isn't set.
+    /// How many bits the numbers have at most.
     #[inline]
-    pub fn is_narrow(&self) -> bool
+    pub fn bits(&self) -> u32
         ensures { let rows = self.now.rows in
-            IsTrue result → (i : ℕ) → i < length rows → AllNarrow (row_at rows i) }
+            (i : ℕ) → i < length rows → HaveBits result (row_at rows i) }
     {
-        self.narrow || self.store.is_narrow()
+        self.bits
     }
 
     /// Lends vector `i`.
@@ -166,7 +167,7 @@ impl VectorList {
         self.store.reserve(1)?;
         self.eq = eq;
         self.store.push_reserved(row);
-        self.narrow = self.narrow && all_narrow(row);
+        self.bits = self.bits.max(bits(row));
         Ok(())
     }
 
@@ -198,10 +199,9 @@ impl VectorList {
             MatchResult result (λ _. IsAppended false Is self.old self.new)
             (λ column. HasSame self.old self.new × Leaves column) }
     {
-        let last = self.store.len();
-        append_combination(&mut self.store, left, u, right, v, steps)?;
+        let made = append_combination(&mut self.store, (left, right), u, v, self.bits, steps)?;
         self.eq = false;
-        self.narrow = self.narrow && all_narrow(self.store.row(last));
+        self.bits = self.bits.max(made);
         Ok(())
     }
 
@@ -223,6 +223,7 @@ impl VectorList {
         requires line { length crossing.line.now ≡ self.old.width }
         requires wide { length vector.now ≡ self.old.width }
         requires vector { AllInRange vector.now × IsPrimitive vector.now }
+        requires bits { HaveBits crossing.bits crossing.line.now × HaveBits crossing.bits vector.now }
         requires in_range { InRange crossing.value × InRange value }
         requires nonzero { crossing.value ≢ pos 0 }
         requires alike { AreMarked eq self.old.rows }
@@ -233,11 +234,10 @@ impl VectorList {
             MatchResult result (λ _. IsAppended eq Is self.old self.new)
             (λ column. HasSame self.old self.new × Leaves column) }
     {
-        let last = self.store.len();
         let store = &mut self.store;
-        append_lowered(store, crossing.line, crossing.value, vector, value, steps)?;
+        let made = append_lowered(store, crossing, vector, value, crossing.bits, steps)?;
         self.eq = eq;
-        self.narrow = self.narrow && all_narrow(self.store.row(last));
+        self.bits = self.bits.max(made);
         Ok(())
     }
 
@@ -252,10 +252,9 @@ impl VectorList {
         ensures width { self.new.width ≡ self.old.width }
         ensures rows { self.new.rows ≡ self.old.rows ++ (scale (sign value) line.now, false) ∷ [] }
     {
-        let last = self.store.len();
         append_upward(&mut self.store, line, value);
         self.eq = false;
-        self.narrow = self.narrow && all_narrow(self.store.row(last));
+        self.bits = self.bits.max(bits(line));
     }
 
     /// Keeps the marked vectors, in order. No room is lost.
@@ -312,5 +311,6 @@ pub fn make_empty(
         *list = VectorList::new(alloc, width);
     }
     list.truncate(0);
+    list.bits = 0;
     list.reserve(room.max(LEAST_VECTORS))
 }

@@ -8,6 +8,7 @@ use Rattle.row_core.specs.Range.{InRange, AllInRange}
 use Rattle.std.proofs.lemmas.Result.{err_from_is_err_and}
 use Rattle.row_core.specs.Lists.{vector_at, vectors}
 use Rattle.row_store.specs.declared.fault.Part.TheVariants.{Rays}
+use Rattle.row_core.specs.Sizes.{HaveBits}
 use Rattle.row_core.specs.Pairs.{value_at}
 use Rattle.row_store.specs.Faults.{IsLowerFault, IsOtherFault}
 use Rattle.row_core.proofs.SignTests.{fits}
@@ -101,3 +102,9 @@ push_upward-requires-clause-wide g c = ap (λ (v : List ℤ). length v) c.row.en
 
 pub lower_rays-requires-clause-as_many : goal.lower_rays-requires-clause-as_many
 lower_rays-requires-clause-as_many g c = c.requires.as_many.1
+
+pub lower_lines-requires-clause-bits : goal.lower_lines-requires-clause-bits
+lower_lines-requires-clause-bits g c = subst (HaveBits c.bits.result) (sym c.row.ensures.value) (c.bits.ensures c.args.index c.requires.crossing.0)
+
+pub lower_rays-requires-clause-bits : goal.lower_rays-requires-clause-bits
+lower_rays-requires-clause-bits g c = subst (HaveBits c.bits.result) (sym c.row.ensures.value) (c.bits.ensures c.args.index c.requires.crossing.0)

@@ -1,10 +1,12 @@
-use Rattle.std.specs.Prelude.{◌≡◌, ◌<◌, Bool, List, [], ℤ, pos}
+use Rattle.std.specs.Prelude.{◌≡◌, ◌<◌, ◌≤◌, Bool, List, [], ℤ, pos}
 use Rattle.std.specs.Int.{w128}
 use Rattle.std.proofs.Common.{◌∙◌, sym, subst, refl, get_or, arith, length, ℕ, ap}
 use Rattle.std.proofs.lemmas.Int.{to_z-of_z}
 use Rattle.std.proofs.lemmas.List.Elements.{All-get_or, All-same}
 use mir.Val.{SFits}
 use Rattle.row_core.specs.Range.{InRange, AllInRange}
+use Rattle.row_core.specs.Sizes.{HaveBits}
+use Rattle.row_core.proofs.SizeLemmas.{HaveBits-more}
 use Rattle.row_core.specs.Content.{IsPrimitive}
 use Rattle.row_core.specs.Lists.{Row, AreMarked}
 use Rattle.row_core.specs.Combinations.{CombinationLeaves, IsCombined}
@@ -79,7 +81,7 @@ loop-index-init g c = record {
 pub push_lowered-lowered-requires-clause-in_range : goal.push_lowered-lowered-requires-clause-in_range
 push_lowered-lowered-requires-clause-in_range g c =
     let here = All-get_or InRange c.args.lowering.values.now c.loop-index.index (pos 0) (omega (arith, c.requires.bounds.1, c.requires.as_many)) c.requires.in_range.0 in (
-      c.requires.in_range.1,
+      subst InRange (sym (to_z-of_z w128 _ (fits c.args.lowering.crossing.value c.requires.in_range.1))) c.requires.in_range.1,
       subst InRange (sym (to_z-of_z w128 _ (fits (get_or c.args.lowering.values.now c.loop-index.index (pos 0)) here))) here,
     )
 
@@ -89,3 +91,13 @@ push_lowered-lowered-requires-clause-line g c = c.requires.line ∙ sym c.loop-i
 pub push_lowered-lowered-requires-clause-wide : goal.push_lowered-lowered-requires-clause-wide
 push_lowered-lowered-requires-clause-wide g c =
     ap (λ (v : List ℤ). length v) c.row-vector.ensures.value ∙ c.row-vector.ensures.wide ∙ c.requires.wide ∙ sym c.loop-index.invariant.width
+
+pub push_lowered-lowered-requires-clause-bits : goal.push_lowered-lowered-requires-clause-bits
+push_lowered-lowered-requires-clause-bits g c =
+    let most = c.max-bits.result in
+    let left : c.args.lowering.crossing.bits ≤ c.max-bits.result = omega (arith, c.max-bits.ensures) in
+    let right : c.bits.result ≤ c.max-bits.result = omega (arith, c.max-bits.ensures) in
+    let here : c.loop-index.index < length c.args.lowering.list.now.rows = omega (arith, c.requires.bounds.1) in (
+      HaveBits-more c.args.lowering.crossing.bits most c.args.lowering.crossing.line.now left c.requires.bits,
+      HaveBits-more c.bits.result most c.row-vector.result.now right (subst (HaveBits c.bits.result) (sym c.row-vector.ensures.value) (c.bits.ensures c.loop-index.index here)),
+    )

@@ -6,6 +6,7 @@ use Rattle.std.proofs.lemmas.List.Elements.{All-push, All-same}
 use mir.Val.{SFits}
 use Rattle.row_core.specs.Vectors.{dot}
 use Rattle.row_core.specs.Range.{InRange, DotStays, IsFirstToLeave}
+use Rattle.row_core.specs.Sizes.{HaveBits}
 use Rattle.row_core.specs.Lists.{vectors, Row}
 use Rattle.row_store.specs.Values.{values_on}
 use Rattle.row_core.proofs.SignTests.{fits}
@@ -38,11 +39,8 @@ pub returns-clause-values : goal.returns-clause-values
 returns-clause-values c =
     c.loop-index.invariant.values ∙ ap (λ (rows : List Row). values_on c.args.row.now (vectors rows)) (take_all c.loop-index.index c.args.list.now.rows (subst (λ (n : ℕ). n ≤ c.loop-index.index) c.len-index-end.ensures c.loop-index-test.false))
 
-pub narrow_values-requires-clause-row : goal.narrow_values-requires-clause-row
-narrow_values-requires-clause-row c = c.requires.row c.if-narrow.true
+pub dot_within-requires-clause-same_width : goal.dot_within-requires-clause-same_width
+dot_within-requires-clause-same_width c = c.requires.wide ∙ sym (ap (λ (v : List ℤ). length v) c.row.ensures.value ∙ c.row.ensures.wide)
 
-pub dot-requires-clause-same_width : goal.dot-requires-clause-same_width
-dot-requires-clause-same_width c = c.requires.wide ∙ sym (ap (λ (v : List ℤ). length v) c.row.ensures.value ∙ c.row.ensures.wide)
-
-pub returns-then-is_narrow-clause-in_range : goal.returns-then-is_narrow-clause-in_range
-returns-then-is_narrow-clause-in_range c = c.in_ok-narrow_values.ensures.in_range
+pub dot_within-requires-clause-right : goal.dot_within-requires-clause-right
+dot_within-requires-clause-right c = subst (HaveBits c.bits.result) (sym c.row.ensures.value) (c.bits.ensures c.loop-index.index (omega arith))

@@ -1,14 +1,12 @@
-use Rattle.std.specs.Prelude.{◌≡◌, []}
+use Rattle.std.specs.Prelude.{◌≡◌}
 use Rattle.std.proofs.Common.{sym, ◌∙◌}
-use Rattle.std.proofs.lemmas.List.Elements.{All-from_get_or}
-use Rattle.row_core.specs.Narrow.{AllNarrow}
 use Rattle.row_core.specs.MarkedCells.{AreWide}
 use Rattle.row_store.specs.Vectors.{with_mark}
 use Rattle.row_store.proofs.TakenCells.{rows_from_cells}
 use Rattle.row_store.proofs.vectors.VectorList.of_list.Goals as goal
 
 pub invariant_of-result : goal.invariant_of-result
-invariant_of-result c = λ flag. All-from_get_or AllNarrow c.of_cells-store.result.rows [] (c.is_narrow.ensures.0 flag)
+invariant_of-result c = c.bits.ensures
 
 pub returns-clause-rows : goal.returns-clause-rows
 returns-clause-rows c =

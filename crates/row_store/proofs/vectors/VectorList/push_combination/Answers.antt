@@ -1,42 +1,31 @@
-use Rattle.std.specs.Prelude.{ℕ, List, ℤ, false, IsTrue, All}
+use Rattle.std.specs.Prelude.{List, ℤ, false}
 use Rattle.std.specs.Int.{w128}
-use Rattle.std.proofs.Common.{sym, ap, subst, ◌∙◌, arith, rules}
+use Rattle.std.proofs.Common.{sym, ap, subst, ◌∙◌, arith}
 use Rattle.std.proofs.lemmas.Int.{to_z-of_z}
-use Rattle.std.proofs.lemmas.Bool.{false≢true}
 use Rattle.std.proofs.lemmas.Result.{err_from_is_err_and}
 use mir.Val.{SFits}
 use Rattle.flat_rows.specs.Flat.{entries_at}
 use Rattle.row_core.specs.Lists.{row_at}
-use Rattle.row_core.specs.Narrow.{AllNarrow}
 use Rattle.row_core.specs.Combinations.{IsCombined, CombinationLeaves}
-use Rattle.row_store.proofs.MarkedVectors.{seen_count, seen_row, appended_seen, same_seen, all_appended}
-use Rattle.row_store.proofs.vectors.VectorList.push_combination.Goals.{then-self, else-self}
+use Rattle.row_store.proofs.MarkedVectors.{seen_count, seen_row, appended_seen, same_seen, bits_appended}
 use Rattle.row_store.proofs.vectors.VectorList.push_combination.Goals as goal
 
-pub returns-in_err-append_combination-clause-combined : goal.returns-in_err-append_combination-clause-combined
-returns-in_err-append_combination-clause-combined g c =
+pub returns-in_err-made-clause-combined : goal.returns-in_err-made-clause-combined
+returns-in_err-made-clause-combined g c =
     let u_fits : SFits w128 c.args.u = c.ranges.u in
     let v_fits : SFits w128 c.args.v = c.ranges.v in
     let store = c.self.inside.store in
     let size = seen_count c.self.inside.eq store c.args.self.now c.self.view_is in
     let left = seen_row c.self.inside.eq store c.args.self.now c.args.left c.self.view_is (omega (arith, size, c.requires.vectors.0)) in
     let right = seen_row c.self.inside.eq store c.args.self.now c.args.right c.self.view_is (omega (arith, size, c.requires.vectors.1)) in
-    let P : List ℤ → Type 0 = λ r. CombinationLeaves c.args.u c.args.v r (entries_at c.self.inside.store.rows c.args.right) c.in_err-append_combination.field-0.0 in
-    let Q : List ℤ → Type 0 = λ r. CombinationLeaves c.args.u c.args.v (row_at c.args.self.now.rows c.args.left) r c.in_err-append_combination.field-0.0 in
-    let refused = simp to_z-of_z at c.in_err-append_combination.ensures.combined in
+    let P : List ℤ → Type 0 = λ r. CombinationLeaves c.args.u c.args.v r (entries_at c.self.inside.store.rows c.args.right) c.in_err-made.field-0.0 in
+    let Q : List ℤ → Type 0 = λ r. CombinationLeaves c.args.u c.args.v (row_at c.args.self.now.rows c.args.left) r c.in_err-made.field-0.0 in
+    let refused = simp to_z-of_z at c.in_err-made.ensures.combined in
     let p = err_from_is_err_and c.from_residual.result c.from_residual.ensures.1 in
     rw (p.1, p.2) (same_seen c.self.inside.eq store c.append_combination.new.store c.args.self.now c.self.view_is refused.0, subst Q (sym right) (subst P (sym left) refused.1))
 
 pub invariant_of-self-2 : goal.invariant_of-self-2
-invariant_of-self-2 g c =
-    let appended = c.in_ok-append_combination.ensures.combined in
-    elim c.if-self.branch as (λ _. IsTrue c.if-self.self → All AllNarrow c.append_combination.new.store.rows) [
-      | then-self w ↦ λ flag.
-          let last = ap (λ (i : ℕ). entries_at c.append_combination.new.store.rows i) c.len-last.ensures in
-          all_appended AllNarrow _ c.self.inside.store c.append_combination.new.store appended (c.self.invariant (search (rules, w.if-self.true)))
-          (subst AllNarrow (w.row.ensures.value ∙ last) (w.all_narrow-self-inside.ensures.0 (subst IsTrue w.self-is flag)))
-      | else-self w ↦ λ flag. absurd (false≢true (subst IsTrue (w.self-is ∙ w.if-self.false) flag))
-    ]
+invariant_of-self-2 g c = bits_appended _ c.self.inside.store c.append_combination.new.store c.self.inside.bits c.in_ok-made.made c.max-self-inside.result c.in_ok-made.ensures.combined c.max-self-inside.ensures c.self.invariant c.in_ok-made.ensures.bits
 
 pub returns-clause-combined : goal.returns-clause-combined
 returns-clause-combined g c =
@@ -51,4 +40,4 @@ returns-clause-combined g c =
     let P : List ℤ → Type 0 = λ r. IsCombined c.args.u c.args.v r (entries_at c.self.inside.store.rows c.args.right) v in
     let Q : List ℤ → Type 0 = λ r. IsCombined c.args.u c.args.v (row_at c.args.self.now.rows c.args.left) r v in
     subst Q (sym right) (subst P (sym left) h))
-    (simp to_z-of_z at c.in_ok-append_combination.ensures.combined)
+    (simp to_z-of_z at c.in_ok-made.ensures.combined)

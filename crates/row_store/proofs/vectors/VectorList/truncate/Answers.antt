@@ -4,7 +4,7 @@ use Rattle.std.proofs.lemmas.List.{take-map}
 use Rattle.std.proofs.lemmas.List.Elements.{All-take}
 use Rattle.flat_rows.specs.Flat.{Flat}
 use Rattle.row_core.specs.Lists.{Row}
-use Rattle.row_core.specs.Narrow.{AllNarrow}
+use Rattle.row_core.specs.Sizes.{HaveBits}
 use Rattle.row_store.specs.Vectors.{Vectors}
 use Rattle.row_store.proofs.MarkedVectors.{seen_vectors, seen_count}
 use Rattle.row_store.proofs.vectors.VectorList.truncate.Goals as goal
@@ -19,4 +19,4 @@ returns c =
     ap (seen_vectors c.self.inside.eq) c.truncate.ensures ∙ ap R (sym (take-map (λ (v : List ℤ). (v, c.self.inside.eq)) c.args.count c.self.inside.store.rows)) ∙ ap T c.self.view_is
 
 pub invariant_of-self : goal.invariant_of-self
-invariant_of-self c = λ flag. subst (All AllNarrow) (sym (ap (λ (t : Flat ℤ). t.rows) c.truncate.ensures)) (All-take AllNarrow c.args.count c.self.inside.store.rows (c.self.invariant flag))
+invariant_of-self c = subst (All (HaveBits c.self.inside.bits)) (sym (ap (λ (t : Flat ℤ). t.rows) c.truncate.ensures)) (All-take (HaveBits c.self.inside.bits) c.args.count c.self.inside.store.rows c.self.invariant)
