@@ -20,4 +20,7 @@ pub mod ValidSystems
 pub mod PlacedRows
 pub mod Splits
 pub mod TurnedRows
+pub mod MinimalForms
+pub mod IndependentLines
+pub mod Forms
 pub mod KeptPlaces

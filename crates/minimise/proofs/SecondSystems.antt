@@ -71,7 +71,7 @@ rest_zero s x t y e f =
 rest_back : (t x c y b : ℤ) → b ≡ t *ℤ x +ℤ neg_ℤ c *ℤ y → t *ℤ x ≡ pos 1 *ℤ b +ℤ c *ℤ y
 rest_back t x c y b e = let f = neg-mul c y in omega (arith, ints, e, f)
 
-times_zero : (t x f y : ℤ) → pos 0 <ℤ t → t *ℤ x ≡ f *ℤ y → y ≡ pos 0 → x ≡ pos 0
+pub times_zero : (t x f y : ℤ) → pos 0 <ℤ t → t *ℤ x ≡ f *ℤ y → y ≡ pos 0 → x ≡ pos 0
 times_zero t x f y p e z = zero_of_mul t x p (e ∙ ap (λ (u : ℤ). f *ℤ u) z ∙ mul-zero f)
 
 times_least : (t x f y : ℤ) → pos 0 <ℤ t → pos 0 <ℤ f → t *ℤ x ≡ f *ℤ y → pos 0 ≤ℤ y → pos 0 ≤ℤ x
@@ -108,7 +108,7 @@ value_times : (w u : List ℤ) (t : ℤ) → value w (λ j. t *ℤ cell u j) ≡
 value_times w u t = (value_linear w).multiple (λ j. t *ℤ cell u j) (cell u) t (λ j. refl) ∙ ap (λ (z : ℤ). t *ℤ z) (sym (dot_is w u))
 
 -- a positive multiple of one row and multiples of vectors on which w is 0
-reduced_value : (w : List ℤ) (gs : List (List ℤ)) (a r : List ℤ) → ((i : ℕ) → i < length gs → dot w (vector_at gs i) ≡ pos 0) → (e : IsReduced gs a r) → e.times *ℤ dot w r ≡ e.factor *ℤ dot w a
+pub reduced_value : (w : List ℤ) (gs : List (List ℤ)) (a r : List ℤ) → ((i : ℕ) → i < length gs → dot w (vector_at gs i) ≡ pos 0) → (e : IsReduced gs a r) → e.times *ℤ dot w r ≡ e.factor *ℤ dot w a
 reduced_value w gs a r h e =
     sym (value_times w r e.times) ∙ (value_linear w).more (λ j. e.times *ℤ cell r j) (cell a) (combined e.factors gs) e.factor e.same
     ∙ ap (λ (z : ℤ). e.factor *ℤ value w (cell a) +ℤ z) (combined_zero w e.factors gs h) ∙ no_more (e.factor *ℤ value w (cell a)) ∙ ap (λ (z : ℤ). e.factor *ℤ z) (sym (dot_is w a))
@@ -120,7 +120,7 @@ dot_both : (w : List ℤ) (s : ℤ) (u : List ℤ) (t : ℤ) (v : List ℤ) → 
 dot_both w s u t v = dot-add w (scale s u) (scale t v) ∙ ap (λ (z : ℤ). z +ℤ dot w (scale t v)) (dot-scale w s u) ∙ ap (λ (z : ℤ). s *ℤ dot w u +ℤ z) (dot-scale w t v)
 
 -- what is spanned by vectors on which w is 0
-spanned_zero : (w : List ℤ) (gs : List (List ℤ)) (v : List ℤ) → ((i : ℕ) → i < length gs → dot w (vector_at gs i) ≡ pos 0) → Spans gs [] v → dot w v ≡ pos 0
+pub spanned_zero : (w : List ℤ) (gs : List (List ℤ)) (v : List ℤ) → ((i : ℕ) → i < length gs → dot w (vector_at gs i) ≡ pos 0) → Spans gs [] v → dot w v ≡ pos 0
 spanned_zero w gs v h t =
     let s = to_lines gs v t in
     let z : value w (λ j. s.times *ℤ cell v j) ≡ pos 0 = sums_zero (value w) (value_linear w) (λ l m. same_value (value w) (value_linear w) l (columns gs m.index) m.same ∙ sym (dot_is w (vector_at gs m.index)) ∙ h m.index m.is) (λ r m. elim m [ ]) (λ j. s.times *ℤ cell v j) s.sums in

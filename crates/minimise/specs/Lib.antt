@@ -8,3 +8,4 @@ pub mod Simplified
 pub mod Rays
 pub mod Parts
 pub mod Buffers
+pub mod MinimalForms

@@ -7,6 +7,7 @@ ghost use Rattle.row_core.specs.Lists.{row_at, vectors, AreMarked, vector_at};
 ghost use Rattle.cone_laws.specs.Canon.{IsPivot, IsEchelon};
 ghost use Rattle.minimise.specs.Bases.{IsBasis, IsPlace, HasTaken, AreCleared, IsLineCleared, IsNewLine, IsGrown, turned_up};
 ghost use Rattle.minimise.specs.Buffers.{HasBuffers};
+ghost use Rattle.minimise.specs.MinimalForms.{AreIndependent};
 ghost use Rattle.minimise.specs.Faults.{IsCombineFault, IsClearFault, IsTakeFault, IsGrowFault, IsListFault};
 
 use crate::fault::Fault;
@@ -30,6 +31,8 @@ pub(crate) fn basis<L: Ledger>(
         (IsListFault rows.now.rows flat) }
     ensures list { IfOk result
         (λ lines. (lines.width ≡ rows.now.width) × AreMarked true lines.rows) }
+    ensures as_many { let flat = map (row_at rows.now.rows) places.now in
+        IfOk result (λ lines. AreIndependent flat → length lines.rows ≡ length places.now) }
 {
     let width = rows.width();
     if places.is_empty() {

@@ -1,7 +1,7 @@
 //! The lines and rays of the second system, before the rays are sorted.
-ghost use Rattle.std.specs.Prelude.{◌≡◌, ◌+◌, ◌*◌, ◌<◌, ◌≤◌, [], length, map, All, IsTrue, IfOk, MatchResult};
+ghost use Rattle.std.specs.Prelude.{◌≡◌, ◌+◌, ◌*◌, ◌<◌, ◌≤◌, [], false, length, map, All, IsTrue, IfOk, MatchResult};
 ghost use Rattle.row_core.specs.Content.{IsPrimitive};
-ghost use Rattle.row_core.specs.Lists.{row_at, vectors};
+ghost use Rattle.row_core.specs.Lists.{row_at, vectors, AreMarked};
 ghost use Rattle.cone_laws.specs.Canon.{IsEchelon};
 ghost use Rattle.minimise.specs.Bases.{AreReduced};
 ghost use Rattle.minimise.specs.Faults.{IsRowFault, IsListFault};
@@ -65,6 +65,28 @@ fn reduced_rows<L: Ledger>(
     if lines.is_empty() && are_primitive(rows, kept) {
         return Ok(Rays::Listed);
     }
+    Ok(Rays::Reduced(reduced_list(alloc, rows, kept, lines, steps)?))
+}
+
+/// The rows at the indices, each reduced by the lines.
+pub(crate) fn reduced_list<L: Ledger>(
+    alloc: Global,
+    rows: &RowList,
+    kept: &[usize],
+    lines: &RowList,
+    steps: &mut Steps<L>,
+) -> Result<RowList, Fault>
+    requires width { lines.now.width ≡ rows.now.width }
+    requires within { All (λ i. i < length rows.now.rows) kept.now }
+    requires echelon { IsEchelon (vectors lines.now.rows) [] }
+    ensures counted { (steps.old ≤ steps.new)
+        × (steps.new ≤ steps.old + length kept.now * rows.now.width) }
+    ensures reduced { MatchResult result
+        (λ new. AreReduced (vectors lines.now.rows) rows.now.rows kept.now (vectors new.rows))
+        (IsRowFault rows.now.rows (vectors lines.now.rows)) }
+    ensures list { IfOk result
+        (λ new. (new.width ≡ rows.now.width) × AreMarked false new.rows) }
+{
     let width = lines.width();
     let mut new = RowList::with_room(alloc, width, kept.len())?;
     let mut reduced = zeros(alloc, width)?;
@@ -74,7 +96,7 @@ fn reduced_rows<L: Ledger>(
         reduce(alloc, lines, row, &mut reduced, &mut scratch, steps)?;
         new.push(&reduced, false)?;
     }
-    Ok(Rays::Reduced(new))
+    Ok(new)
 }
 
 /// The parts of the second system of the rows. The table has a row for each of them, true at the

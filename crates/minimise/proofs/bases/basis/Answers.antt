@@ -1,10 +1,12 @@
 use Rattle.std.specs.Prelude.{true}
-use Rattle.std.proofs.Common.{rules, ◌≡◌, List, ℤ, ℕ, [], map, take, get_or, arith, sym, ◌∙◌, subst}
+use Rattle.std.proofs.Common.{rules, ◌≡◌, List, ℤ, ℕ, [], map, take, length, get_or, arith, ap, sym, ◌∙◌, subst}
 use Rattle.std.proofs.lemmas.Result.{err_from_is_err_and}
-use Rattle.std.proofs.lemmas.List.{map_more, nil_from_length}
-use Rattle.row_core.specs.Lists.{Row, row_at, vectors, AreMarked}
+use Rattle.std.proofs.lemmas.List.{map_more, nil_from_length, get_or-map, length-map, take-map}
+use Rattle.row_core.specs.Lists.{Row, row_at, vectors, vector_at, AreMarked}
+use Rattle.row_core.proofs.RowListLemmas.{length-vectors}
 use Rattle.minimise.specs.Bases.{IsBasis, IsGrown}
 use Rattle.minimise.proofs.Growing.{basis_none, basis_grown}
+use Rattle.minimise.proofs.IndependentLines.{one_line_more}
 use Rattle.minimise.proofs.FaultCases.{list_fault_of_growth}
 use Rattle.minimise.proofs.bases.basis.Goals as goal
 
@@ -21,6 +23,7 @@ loop-index-init g c = record {
   no_more = omega arith;
   basis = subst (λ (rows : List Row). IsBasis [] (vectors rows)) (sym c.in_ok-basis.ensures.empty) basis_none;
   marks = subst (λ (rows : List Row). AreMarked true rows) (sym c.in_ok-basis.ensures.empty) (λ k d h. absurd (omega (arith, h)));
+  as_many = λ free. ap (λ (rows : List Row). length (vectors rows)) c.in_ok-basis.ensures.empty;
 }
 
 pub returns-in_err-take-clause-basis : goal.returns-in_err-take-clause-basis
@@ -45,4 +48,18 @@ loop-index-preserved g c =
           (basis_grown (map (row_at rows) (take index c.args.places.now)) old (row_at rows (get_or c.args.places.now index 0)) new inv.basis
           (subst (λ (v : List ℤ). IsGrown (vectors c.loop-index.basis.lines.rows) v (vectors c.take.new.self.lines.rows)) c.row.ensures.value c.in_ok-take.ensures.grown));
       marks = c.in_ok-take.ensures.marked inv.marks;
+      as_many = λ free.
+          let flat : List (List ℤ) = map (row_at rows) c.args.places.now in
+          let at : vector_at flat index ≡ c.row.result.now = get_or-map (row_at rows) c.args.places.now index 0 [] c.loop-index-test.true ∙ sym c.row.ensures.value in
+          one_line_more flat old index (omega (arith, c.loop-index-test.true, length-map c.args.places.now (row_at rows)))
+          (subst (λ (vs : List (List ℤ)). IsBasis vs old) (sym (take-map (row_at rows) index c.args.places.now)) inv.basis) new
+          (subst (λ (v : List ℤ). IsGrown old v new) (sym at) c.in_ok-take.ensures.grown) free (inv.as_many free);
     }
+
+pub returns-then-is_empty-clause-as_many : goal.returns-then-is_empty-clause-as_many
+returns-then-is_empty-clause-as_many g c = λ free.
+    let none : c.args.places.now ≡ [] = nil_from_length c.args.places.now (search rules) in
+    ap (λ (rows : List Row). length rows) c.new.ensures.empty ∙ sym (ap (λ (ps : List ℕ). length ps) none)
+
+pub returns-clause-as_many : goal.returns-clause-as_many
+returns-clause-as_many g c = λ free. omega (arith, c.loop-index.invariant.as_many free, length-vectors c.loop-index.basis.lines.rows, c.loop-index-test.false, c.loop-index.invariant.no_more)

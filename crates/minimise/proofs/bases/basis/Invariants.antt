@@ -1,6 +1,7 @@
-use Rattle.std.proofs.Common.{◌≡◌, ◌≤◌, ◌+◌, ◌*◌, map, take, true}
+use Rattle.std.proofs.Common.{◌≡◌, ◌≤◌, ◌+◌, ◌*◌, length, map, take, true}
 use Rattle.row_core.specs.Lists.{row_at, vectors, AreMarked}
 use Rattle.minimise.specs.Bases.{IsBasis}
+use Rattle.minimise.specs.MinimalForms.{AreIndependent}
 use Rattle.minimise.specs.Buffers.{HasBuffers}
 use Rattle.minimise.proofs.bases.basis.Given as goal
 
@@ -12,4 +13,5 @@ invariant-loop-index g l = record {
   no_more : l.steps ≤ l.initial.steps + 2 * (l.index * l.rows.width);
   basis : IsBasis (map (row_at l.rows.rows) (take l.index l.places)) (vectors l.basis.lines.rows);
   marks : AreMarked true l.basis.lines.rows;
+  as_many : AreIndependent (map (row_at l.rows.rows) l.places) → length (vectors l.basis.lines.rows) ≡ l.index;
 }

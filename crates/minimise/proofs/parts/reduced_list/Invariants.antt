@@ -1,11 +1,12 @@
-use Rattle.std.proofs.Common.{◌≡◌, ◌≤◌, ◌+◌, ◌*◌, take, vec_len}
-use Rattle.row_core.specs.Lists.{vectors, row_at, Pointwise}
+use Rattle.std.proofs.Common.{◌≡◌, ◌≤◌, ◌+◌, ◌*◌, take, vec_len, false}
+use Rattle.row_core.specs.Lists.{vectors, row_at, AreMarked, Pointwise}
 use Rattle.minimise.specs.Bases.{IsReduced}
-use Rattle.minimise.proofs.parts.reduced_rows.Given as goal
+use Rattle.minimise.proofs.parts.reduced_list.Given as goal
 
 abbrev pub invariant-loop-index : goal.invariant-loop-index
 invariant-loop-index g l = record {
   width : l.new.width ≡ l.lines.width;
+  marks : AreMarked false l.new.rows;
   buffer : vec_len l.reduced ≡ l.lines.width;
   scratch : vec_len l.scratch ≡ l.lines.width;
   no_fewer : l.initial.steps ≤ l.steps;
