@@ -170,7 +170,7 @@ module _ (from to : ℕ) (f h : List ℤ → List ℤ) (inv : IsUndone from to f
   turned_value : t.times *ℤ dot y w ≡ dot v (h y)
   turned_value = ap (λ (z : ℤ). t.times *ℤ z) (dot_comm y w) ∙ t.value y (new_wide from to f h inv x y p wide)
 
-  zero_again : dot x v ≡ pos 0 → dot y w ≡ pos 0
+  pub zero_again : dot x v ≡ pos 0 → dot y w ≡ pos 0
   zero_again e =
       zero_of_mul t.times (dot y w) t.positive
       (turned_value ∙ zero_of_mul (pos p.multiple.times) (dot v (h y)) (times_positive from to f h inv x y p wide) (both_values ∙ ap (λ (z : ℤ). inv.undoes.times *ℤ z) (dot_comm v x ∙ e) ∙ mul-zero inv.undoes.times))

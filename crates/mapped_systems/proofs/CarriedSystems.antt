@@ -6,17 +6,20 @@ use Rattle.std.proofs.lemmas.List.{append-nil, length-append, get_or_append_left
 use Rattle.std.proofs.lemmas.List.Elements.{All-nil, All-append, All-from_get_or}
 use Rattle.row_core.specs.Vectors.{cell}
 use Rattle.row_core.specs.Content.{IsPrimitive, IsPrimitiveOf}
+use Rattle.row_core.specs.Lists.{Row}
 use Rattle.row_core.proofs.Ring.{ring, mul_assoc, mul-positive}
 use Rattle.cone_laws.specs.ConeSets.{IsCone}
 use Rattle.cone_laws.specs.Cones.{Generates, HasLineality, negated}
 use Rattle.cone_laws.specs.Canon.{vector_at, IsEchelon, IsIrredundant, IsSystem}
 use Rattle.cone_laws.specs.Members.{ConeOf}
 use Rattle.cone_laws.proofs.Columns.{cell-scale, length-scale, value, value_linear, dot_is}
-use Rattle.cone_laws.proofs.Sums.{V, Same, Nothing, Sums, none, line, ray, SpansBy, same_value, sums_one_line, sums_one_ray, spans_sums, spans_more, spans_of_multiple, spans_same, spans_add, sums_spans}
+use Rattle.cone_laws.proofs.Sums.{V, Same, Nothing, Sums, none, line, ray, SpansBy, same_value, sums_one_line, sums_one_ray, spans_sums, spans_more, spans_of_multiple, spans_same, spans_add, sums_spans, lines_spans_scale}
 use Rattle.cone_laws.proofs.Bridge.{columns, In, in_at, to_sums, to_lines, from_sums, from_lines}
 use Rattle.cone_laws.proofs.Instance.{Beside, needed_by_columns, needed_by_lists}
 use Rattle.cone_laws.proofs.UniqueSystems.{upto_cone}
-use Rattle.mapped_systems.specs.CarriedSystems.{IsLinearOn, Undoes, AreInverse, AreCarried, SystemIsCarried}
+use Rattle.minimise.specs.MinimalForms.{AreIndependent, IsMinimalForm}
+use Rattle.minimise.proofs.MinimalForms.{independent_columns, independent_lists, echelon_independent}
+use Rattle.mapped_systems.specs.CarriedSystems.{IsLinearOn, Undoes, AreInverse, AreCarried, AdmitSources, SystemIsCarried, MinimalIsCarried}
 
 -- ---- a linear map of sums
 module _ (from to : ℕ) (f : List ℤ → List ℤ) (lin : IsLinearOn from to f) where
@@ -393,6 +396,34 @@ module _ (from to : ℕ) (f h : List ℤ → List ℤ) (inv : IsUndone from to f
             (spans_add t (pos 0) (Back (columns new_rays i)) (Back (columns new_rays i)) (λ j. t *ℤ Back (columns new_rays i) j) (none_least t p) (omega (arith, ints)) back back (λ j. and_none (t *ℤ Back (columns new_rays i) j) t (Back (columns new_rays i) j) (Back (columns new_rays i) j) refl))
             (ray_back i o (columns new_rays i) (λ j. refl))
 
+    -- ---- lines of which none is spanned by the others
+    line_others_back : (i : ℕ) (l : V) → Beside new_lines i l → SpansBy (Beside lines i) Nothing (Back l)
+    line_others_back i l m =
+        let b : m.index < length lines = old_line_below m.index m.is.0 in
+        of_times (pos (line_at m.index b).multiple.times) (Back l) (λ j. inv.undoes.times *ℤ columns lines m.index j) (times_positive from to f h inv (vector_at lines m.index) (vector_at new_lines m.index) (line_at m.index b) (line_wide m.index b)) (line_back m.index b l m.same)
+        (spans_sums (λ j. inv.undoes.times *ℤ columns lines m.index j) (sums_one_line inv.undoes.times (columns lines m.index) (λ j. inv.undoes.times *ℤ columns lines m.index j) (record { index = m.index; is = (b, m.is.1); same = λ j. refl }) (λ j. refl)))
+
+    line_spanned_again : (i : ℕ) → i < length lines → SpansBy (Beside new_lines i) Nothing (columns new_lines i) → SpansBy (Beside lines i) Nothing (columns lines i)
+    line_spanned_again i o g =
+        let t : ℤ = pos (line_at i o).multiple.times in
+        let back : SpansBy (Beside lines i) Nothing (Back (columns new_lines i)) = image_spans to from h inv.second_linear (line_others_back i) (λ r m. elim m [ ]) (columns new_lines i) g in
+        spans_of_multiple inv.undoes.times (columns lines i) (λ j. t *ℤ Back (columns new_lines i) j) inv.undoes.positive (lines_spans_scale t (Back (columns new_lines i)) (λ j. t *ℤ Back (columns new_lines i) j) back (λ j. refl))
+        (line_back i o (columns new_lines i) (λ j. refl))
+
+    new_independent : AreIndependent new_lines
+    new_independent = independent_lists new_lines (λ i b g. let o : i < length lines = old_line_below i b in independent_columns lines (echelon_independent lines rays s.echelon) i o (line_spanned_again i o g))
+
+    -- without free lines it is in minimal form
+    pub minimal : free ≡ [] → IsMinimalForm D new_lines new_rays
+    minimal without =
+        let same : new_lines ++ free ≡ new_lines = ap (λ (ls : List (List ℤ)). new_lines ++ ls) without ∙ append-nil new_lines in
+        record {
+          generates = subst (λ (ls : List (List ℤ)). Generates D ls new_rays) same new_generate;
+          lineality = subst (HasLineality D) same new_lineality;
+          independent = new_independent;
+          irredundant = subst (λ (ls : List (List ℤ)). IsIrredundant ls new_rays) same new_irredundant;
+        }
+
     pub extended : IsEchelon (new_lines ++ free) new_rays → IsSystem D (new_lines ++ free) new_rays
     extended e = record {
       generates = new_generate;
@@ -422,23 +453,29 @@ undone width f h inv = record { first_linear = inv.first_linear; second_linear =
 once_and_none : (x y : ℤ) → x ≡ y → y ≡ pos 1 *ℤ x +ℤ pos 0
 once_and_none x y e = omega (arith, ints, e)
 
+module _ (width : ℕ) (f h : List ℤ → List ℤ) (rows others : List Row) (inv : AreInverse width f h) (admit : AdmitSources width width h rows others) where
+  exact : IsExtension width width f h [] (ConeOf width rows) (ConeOf width others)
+  exact = record {
+    inside = λ v u. (u.wide, (admit v u.wide).0 u);
+    spread = λ v u. record {
+      left = inv.first_undoes.times;
+      left_positive = inv.first_undoes.positive;
+      right = pos 1;
+      right_positive = omega (arith, ints);
+      rest = λ j. pos 0;
+      spanned = nothing_spanned;
+      same = λ j. once_and_none (cell (f (h v)) j) (inv.first_undoes.times *ℤ cell v j) (inv.first_undoes.same v u.wide j);
+    };
+    outside = λ v w r c. (admit v w).1 c;
+    free_within = no_free (λ l. ConeOf width others l × ConeOf width others (negated l));
+    free_gone = λ i b. absurd (omega (arith, b));
+    free_primitive = no_free IsPrimitive;
+  }
+
 pub system_carried : SystemIsCarried
 system_carried width f h rows others lines rays new_lines new_rays inv admit cl cr echelon s =
-    extended_alone width width f h (undone width f h inv) (ConeOf width rows) (ConeOf width others) (upto_cone width rows (length rows))
-    (record {
-      inside = λ v u. (u.wide, (admit v u.wide).0 u);
-      spread = λ v u. record {
-        left = inv.first_undoes.times;
-        left_positive = inv.first_undoes.positive;
-        right = pos 1;
-        right_positive = omega (arith, ints);
-        rest = λ j. pos 0;
-        spanned = nothing_spanned;
-        same = λ j. once_and_none (cell (f (h v)) j) (inv.first_undoes.times *ℤ cell v j) (inv.first_undoes.same v u.wide j);
-      };
-      outside = λ v w r c. (admit v w).1 c;
-      free_within = no_free (λ l. ConeOf width others l × ConeOf width others (negated l));
-      free_gone = λ i b. absurd (omega (arith, b));
-      free_primitive = no_free IsPrimitive;
-    })
-    lines rays new_lines new_rays cl cr s echelon
+    extended_alone width width f h (undone width f h inv) (ConeOf width rows) (ConeOf width others) (upto_cone width rows (length rows)) (exact width f h rows others inv admit) lines rays new_lines new_rays cl cr s echelon
+
+pub minimal_carried : MinimalIsCarried
+minimal_carried width f h rows others lines rays new_lines new_rays inv admit cl cr s =
+    minimal width width f h (undone width f h inv) [] (ConeOf width rows) (ConeOf width others) (upto_cone width rows (length rows)) (exact width f h rows others inv admit) lines rays new_lines new_rays cl cr s refl

@@ -14,3 +14,5 @@ pub mod InverseMaps
 pub mod CarriedLists
 pub mod StoredPairs
 pub mod AfterPairs
+pub mod AdjointMaps
+pub mod SplitRows

@@ -5,6 +5,7 @@ use Rattle.row_core.specs.Content.{IsPrimitiveOf}
 use Rattle.row_core.specs.Lists.{Row, Pointwise}
 use Rattle.cone_laws.specs.Canon.{IsEchelon, IsSystem}
 use Rattle.cone_laws.specs.Members.{ConeOf}
+use Rattle.minimise.specs.MinimalForms.{IsMinimalForm}
 
 -- each column of the result for a vector of the one width is the value of a row, and the result has
 -- the other width
@@ -43,6 +44,14 @@ SystemIsCarried = (width : ℕ) (f h : List ℤ → List ℤ) (rows others : Lis
     → AdmitSources width width h rows others → AreCarried f lines new_lines
     → AreCarried f rays new_rays → IsEchelon new_lines new_rays
     → IsSystem (ConeOf width rows) lines rays → IsSystem (ConeOf width others) new_lines new_rays
+
+-- a map that can be undone takes the system of a cone to a minimal form of the cone's image
+abbrev pub MinimalIsCarried : Type 0
+MinimalIsCarried = (width : ℕ) (f h : List ℤ → List ℤ) (rows others : List Row)
+    (lines rays new_lines new_rays : List (List ℤ)) → AreInverse width f h
+    → AdmitSources width width h rows others → AreCarried f lines new_lines
+    → AreCarried f rays new_rays → IsSystem (ConeOf width rows) lines rays
+    → IsMinimalForm (ConeOf width others) new_lines new_rays
 
 -- the map that replaces the variable by the row over the size undoes the one that replaces it by
 -- the expression over the divisor

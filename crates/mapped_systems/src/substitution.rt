@@ -9,7 +9,7 @@ ghost use Rattle.row_core.specs.Refusals.{IsOverflowIn};
 ghost use Rattle.row_core.specs.declared.errors.OverKind.TheVariants.{Scale};
 
 use crate::refusals::shown;
-use row_core::{ConvErr, Memory, OverKind, Overflow, Steps, combine_onto, dot, product};
+use row_core::{ConvErr, Memory, OverKind, Overflow, Steps, bits, combine_within, dot, product};
 use std::alloc::Global;
 use std::sync::ledger::Ledger;
 
@@ -163,7 +163,9 @@ pub(crate) fn put_pulled<L: Ledger>(
     buffer.clear();
     buffer.extend_from_slice(row)?;
     buffer[var] = 0;
-    if let Err(column) = combine_onto(buffer.as_mut_slice(), den, expr, factor, steps) {
+    let cleared = buffer.as_mut_slice();
+    let within = bits(cleared).max(bits(expr));
+    if let Err(column) = combine_within(cleared, den, expr, factor, within, steps) {
         let over = shown_scale(alloc, row, expr, den, column)?;
         return Err(ConvErr::Overflow(over));
     }

@@ -83,7 +83,7 @@ module _ (dim : ℕ) (lines rays equalities inequalities : List (List ℤ)) (sys
           (systems_divisor_zero dim lines rays equalities inequalities systems)
           (λ z. not_zero (cell (divisor_row dim) dim) (cell-divisor_last dim) (z dim)) s)))
 
-  kept_touch : All (TouchesPoint (record { dim = dim; list = stored_generators dim lines rays })) (kept_rows dim inequalities)
+  pub kept_touch : All (TouchesPoint (record { dim = dim; list = stored_generators dim lines rays })) (kept_rows dim inequalities)
   kept_touch i d h =
       All-filter (λ r. not (is_divisor_row dim r)) (λ r. (r ≡ divisor_row dim → ⊥) → TouchesPoint (record { dim = dim; list = stored_generators dim lines rays }) r) inequalities
       (All-from_get_or (λ r. (r ≡ divisor_row dim → ⊥) → TouchesPoint (record { dim = dim; list = stored_generators dim lines rays }) r) inequalities [] inequality_touches)
