@@ -11,6 +11,7 @@ use Rattle.poly_pair.specs.Starts.{IsStartOf}
 use Rattle.stored_systems.specs.Zeros.{ArePairZeros}
 use Rattle.poly_pair.specs.Zeros.{KeepsZeros}
 use Rattle.cone_laws.specs.Canon.{IsSystem}
+use Rattle.cone_laws.specs.Cones.{Generates}
 use Rattle.cone_laws.specs.Duality.{lines_of, rays_of}
 use Rattle.cone_laws.specs.DualSystems.{AreSystemsOf, system_rows}
 use Rattle.cone_laws.specs.Members.{ConeOf}
@@ -44,11 +45,11 @@ turned : {A B : Type 0} → A ↔ B → B ↔ A
 turned f = (f.1, f.0)
 
 -- ---- what the generators generate
-module _ (cs : Constraints) (gs : Generators) (same_dim : gs.dim ≡ cs.dim) (closed : AreClosed cs) (kinds : AreClosedKinds gs) (fit : FitDimension cs) (gens_fit : FitGenerators gs) (sys : IsSystem (ConeOf (cs.dim + 1) (constraint_list cs)) (lines_of (generator_list gs)) (rays_of (generator_list gs))) where
+module _ (cs : Constraints) (gs : Generators) (same_dim : gs.dim ≡ cs.dim) (closed : AreClosed cs) (kinds : AreClosedKinds gs) (fit : FitDimension cs) (gens_fit : FitGenerators gs) (generates : Generates (ConeOf (cs.dim + 1) (constraint_list cs)) (lines_of (generator_list gs)) (rays_of (generator_list gs))) where
   generated_hold : (v : List ℤ) → IsPoint gs.dim v → IsPoint cs.dim v → Span gs v ↔ In cs v
   generated_hold v pt at = (
-    (λ s. (list_admits Closed cs v closed fit at).1 (spanned_within (cs.dim + 1) (constraint_list cs) (length (constraint_list cs)) (lines_of (generator_list gs)) (rays_of (generator_list gs)) v sys.generates at.wide ((list_spans Closed gs v kinds gens_fit pt).0 s))),
-    (λ h. (list_spans Closed gs v kinds gens_fit pt).1 (sys.generates.spans v ((list_admits Closed cs v closed fit at).0 h))),
+    (λ s. (list_admits Closed cs v closed fit at).1 (spanned_within (cs.dim + 1) (constraint_list cs) (length (constraint_list cs)) (lines_of (generator_list gs)) (rays_of (generator_list gs)) v generates at.wide ((list_spans Closed gs v kinds gens_fit pt).0 s))),
+    (λ h. (list_spans Closed gs v kinds gens_fit pt).1 (generates.spans v ((list_admits Closed cs v closed fit at).0 h))),
   )
 
   pub generators_of_both : (p : Polyhedron) → IsOfConstraints Closed cs p → IsOfGenerators Closed gs p

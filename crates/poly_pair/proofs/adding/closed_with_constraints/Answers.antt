@@ -53,7 +53,7 @@ returns-in_err-found g c =
     rw (p.1, p.2) (record {
       points = tt;
       stored = tt;
-      conversion = work_moved c.args.list.now.width (c.args.dim + 1) c.args.dim c.args.list.now.rows (c.len-from.result + 1) _ c.args.steps.now c.added_systems.new.steps (conv_overflow c.in_err-found.field-0.0) c.requires.width (ap (λ (n : ℕ). n + 1) (c.len-from.ensures ∙ ap (λ (cs : Constraints). length cs.list) c.cons.ensures.value)) c.in_err-found.ensures.conversion;
+      conversion = work_moved c.args.list.now.width (c.args.dim + 1) c.args.dim c.args.list.now.rows (c.len-from.result + 1) (length c.args.p.now.cons.list + 1) c.args.steps.now c.added_systems.new.steps (conv_overflow c.in_err-found.field-0.0) c.requires.width (ap (λ (n : ℕ). n + 1) (c.len-from.ensures ∙ ap (λ (cs : Constraints). length cs.list) c.cons.ensures.value)) c.in_err-found.ensures.conversion;
     })
 
 pub returns-in_err-of_row_systems-in-Changed : goal.returns-in_err-of_row_systems-in-Changed
@@ -62,12 +62,12 @@ returns-in_err-of_row_systems-in-Changed g c =
     rw (p.1, p.2) (record {
       points = tt;
       stored = tt;
-      conversion = work_moved c.args.list.now.width (c.args.dim + 1) c.args.dim c.args.list.now.rows (c.len-from.result + 1) _ c.args.steps.now c.added_systems.new.steps None c.requires.width (ap (λ (n : ℕ). n + 1) (c.len-from.ensures ∙ ap (λ (cs : Constraints). length cs.list) c.cons.ensures.value)) c.in_ok-found.ensures.conversion;
+      conversion = work_moved c.args.list.now.width (c.args.dim + 1) c.args.dim c.args.list.now.rows (c.len-from.result + 1) (length c.args.p.now.cons.list + 1) c.args.steps.now c.added_systems.new.steps None c.requires.width (ap (λ (n : ℕ). n + 1) (c.len-from.ensures ∙ ap (λ (cs : Constraints). length cs.list) c.cons.ensures.value)) c.in_ok-found.ensures.conversion;
     })
 
 pub returns-in_ok-of_row_systems-in-Changed-clause-conversion : goal.returns-in_ok-of_row_systems-in-Changed-clause-conversion
 returns-in_ok-of_row_systems-in-Changed-clause-conversion g c =
-    work_moved c.args.list.now.width (c.args.dim + 1) c.args.dim c.args.list.now.rows (c.len-from.result + 1) _ c.args.steps.now c.added_systems.new.steps None c.requires.width (ap (λ (n : ℕ). n + 1) (c.len-from.ensures ∙ ap (λ (cs : Constraints). length cs.list) c.cons.ensures.value)) c.in_ok-found.ensures.conversion
+    work_moved c.args.list.now.width (c.args.dim + 1) c.args.dim c.args.list.now.rows (c.len-from.result + 1) (length c.args.p.now.cons.list + 1) c.args.steps.now c.added_systems.new.steps None c.requires.width (ap (λ (n : ℕ). n + 1) (c.len-from.ensures ∙ ap (λ (cs : Constraints). length cs.list) c.cons.ensures.value)) c.in_ok-found.ensures.conversion
 
 pub returns-in_err-try_copy-in-Same : goal.returns-in_err-try_copy-in-Same
 returns-in_err-try_copy-in-Same g c =
@@ -75,9 +75,34 @@ returns-in_err-try_copy-in-Same g c =
     rw (p.1, p.2) (record {
       points = tt;
       stored = tt;
-      conversion = work_moved c.args.list.now.width (c.args.dim + 1) c.args.dim c.args.list.now.rows (c.len-from.result + 1) _ c.args.steps.now c.added_systems.new.steps None c.requires.width (ap (λ (n : ℕ). n + 1) (c.len-from.ensures ∙ ap (λ (cs : Constraints). length cs.list) c.cons.ensures.value)) c.in_ok-found.ensures.conversion;
+      conversion = work_moved c.args.list.now.width (c.args.dim + 1) c.args.dim c.args.list.now.rows (c.len-from.result + 1) (length c.args.p.now.cons.list + 1) c.args.steps.now c.added_systems.new.steps None c.requires.width (ap (λ (n : ℕ). n + 1) (c.len-from.ensures ∙ ap (λ (cs : Constraints). length cs.list) c.cons.ensures.value)) c.in_ok-found.ensures.conversion;
     })
 
 pub returns-in_ok-try_copy-in-Same-clause-conversion : goal.returns-in_ok-try_copy-in-Same-clause-conversion
 returns-in_ok-try_copy-in-Same-clause-conversion g c =
-    work_moved c.args.list.now.width (c.args.dim + 1) c.args.dim c.args.list.now.rows (c.len-from.result + 1) _ c.args.steps.now c.added_systems.new.steps None c.requires.width (ap (λ (n : ℕ). n + 1) (c.len-from.ensures ∙ ap (λ (cs : Constraints). length cs.list) c.cons.ensures.value)) c.in_ok-found.ensures.conversion
+    work_moved c.args.list.now.width (c.args.dim + 1) c.args.dim c.args.list.now.rows (c.len-from.result + 1) (length c.args.p.now.cons.list + 1) c.args.steps.now c.added_systems.new.steps None c.requires.width (ap (λ (n : ℕ). n + 1) (c.len-from.ensures ∙ ap (λ (cs : Constraints). length cs.list) c.cons.ensures.value)) c.in_ok-found.ensures.conversion
+
+pub of_row_systems-requires-clause-fit : goal.of_row_systems-requires-clause-fit
+of_row_systems-requires-clause-fit g c = c.width.ensures.rows
+
+pub of_row_systems-requires-clause-systems : goal.of_row_systems-requires-clause-systems
+of_row_systems-requires-clause-systems g c =
+    subst (IsExtended (c.args.dim + 1) c.args.dim c.args.list.now.rows (c.len-from.result + 1)) c.in-Changed.is (subst (λ (w : ℕ). IsExtended w c.args.dim c.args.list.now.rows (c.len-from.result + 1) c.in_ok-found.found) c.requires.width c.in_ok-found.ensures.systems)
+
+pub of_row_systems-requires-clause-width : goal.of_row_systems-requires-clause-width
+of_row_systems-requires-clause-width g c = c.requires.width
+
+pub of_row_systems-requires-clause-narrow : goal.of_row_systems-requires-clause-narrow
+of_row_systems-requires-clause-narrow g c = c.requires.narrow
+
+pub of_row_systems-requires-clause-list : goal.of_row_systems-requires-clause-list
+of_row_systems-requires-clause-list g c = c.requires.list
+
+pub returns-in_ok-of_row_systems-in-Changed-clause-points : goal.returns-in_ok-of_row_systems-in-Changed-clause-points
+returns-in_ok-of_row_systems-in-Changed-clause-points g c = c.in_ok-of_row_systems-in-Changed.ensures.points
+
+pub returns-in_ok-of_row_systems-in-Changed-clause-stored : goal.returns-in_ok-of_row_systems-in-Changed-clause-stored
+returns-in_ok-of_row_systems-in-Changed-clause-stored g c = c.in_ok-of_row_systems-in-Changed.ensures.stored
+
+pub start_of_rows-requires-clause-some : goal.start_of_rows-requires-clause-some
+start_of_rows-requires-clause-some g c = c.requires.some

@@ -51,7 +51,7 @@ returns-in_err-found g c =
     rw (p.1, p.2) (record {
       points = tt;
       stored = tt;
-      conversion = work_moved c.args.list.now.width (c.args.dim + 1) c.args.dim c.args.list.now.rows c.len-from.result _ c.args.steps.now c.added_systems.new.steps (conv_overflow c.in_err-found.field-0.0) c.requires.width (c.len-from.ensures ∙ ap (λ (gs : Generators). length gs.list) c.gens.ensures.value) c.in_err-found.ensures.conversion;
+      conversion = work_moved c.args.list.now.width (c.args.dim + 1) c.args.dim c.args.list.now.rows c.len-from.result (length c.args.p.now.gens.list) c.args.steps.now c.added_systems.new.steps (conv_overflow c.in_err-found.field-0.0) c.requires.width (c.len-from.ensures ∙ ap (λ (gs : Generators). length gs.list) c.gens.ensures.value) c.in_err-found.ensures.conversion;
     })
 
 pub returns-in_err-of_vector_systems-in-Changed : goal.returns-in_err-of_vector_systems-in-Changed
@@ -60,12 +60,12 @@ returns-in_err-of_vector_systems-in-Changed g c =
     rw (p.1, p.2) (record {
       points = tt;
       stored = tt;
-      conversion = work_moved c.args.list.now.width (c.args.dim + 1) c.args.dim c.args.list.now.rows c.len-from.result _ c.args.steps.now c.added_systems.new.steps None c.requires.width (c.len-from.ensures ∙ ap (λ (gs : Generators). length gs.list) c.gens.ensures.value) c.in_ok-found.ensures.conversion;
+      conversion = work_moved c.args.list.now.width (c.args.dim + 1) c.args.dim c.args.list.now.rows c.len-from.result (length c.args.p.now.gens.list) c.args.steps.now c.added_systems.new.steps None c.requires.width (c.len-from.ensures ∙ ap (λ (gs : Generators). length gs.list) c.gens.ensures.value) c.in_ok-found.ensures.conversion;
     })
 
 pub returns-in_ok-of_vector_systems-in-Changed-clause-conversion : goal.returns-in_ok-of_vector_systems-in-Changed-clause-conversion
 returns-in_ok-of_vector_systems-in-Changed-clause-conversion g c =
-    work_moved c.args.list.now.width (c.args.dim + 1) c.args.dim c.args.list.now.rows c.len-from.result _ c.args.steps.now c.added_systems.new.steps None c.requires.width (c.len-from.ensures ∙ ap (λ (gs : Generators). length gs.list) c.gens.ensures.value) c.in_ok-found.ensures.conversion
+    work_moved c.args.list.now.width (c.args.dim + 1) c.args.dim c.args.list.now.rows c.len-from.result (length c.args.p.now.gens.list) c.args.steps.now c.added_systems.new.steps None c.requires.width (c.len-from.ensures ∙ ap (λ (gs : Generators). length gs.list) c.gens.ensures.value) c.in_ok-found.ensures.conversion
 
 pub returns-in_err-try_copy-in-Same : goal.returns-in_err-try_copy-in-Same
 returns-in_err-try_copy-in-Same g c =
@@ -73,9 +73,31 @@ returns-in_err-try_copy-in-Same g c =
     rw (p.1, p.2) (record {
       points = tt;
       stored = tt;
-      conversion = work_moved c.args.list.now.width (c.args.dim + 1) c.args.dim c.args.list.now.rows c.len-from.result _ c.args.steps.now c.added_systems.new.steps None c.requires.width (c.len-from.ensures ∙ ap (λ (gs : Generators). length gs.list) c.gens.ensures.value) c.in_ok-found.ensures.conversion;
+      conversion = work_moved c.args.list.now.width (c.args.dim + 1) c.args.dim c.args.list.now.rows c.len-from.result (length c.args.p.now.gens.list) c.args.steps.now c.added_systems.new.steps None c.requires.width (c.len-from.ensures ∙ ap (λ (gs : Generators). length gs.list) c.gens.ensures.value) c.in_ok-found.ensures.conversion;
     })
 
 pub returns-in_ok-try_copy-in-Same-clause-conversion : goal.returns-in_ok-try_copy-in-Same-clause-conversion
 returns-in_ok-try_copy-in-Same-clause-conversion g c =
-    work_moved c.args.list.now.width (c.args.dim + 1) c.args.dim c.args.list.now.rows c.len-from.result _ c.args.steps.now c.added_systems.new.steps None c.requires.width (c.len-from.ensures ∙ ap (λ (gs : Generators). length gs.list) c.gens.ensures.value) c.in_ok-found.ensures.conversion
+    work_moved c.args.list.now.width (c.args.dim + 1) c.args.dim c.args.list.now.rows c.len-from.result (length c.args.p.now.gens.list) c.args.steps.now c.added_systems.new.steps None c.requires.width (c.len-from.ensures ∙ ap (λ (gs : Generators). length gs.list) c.gens.ensures.value) c.in_ok-found.ensures.conversion
+
+pub of_vector_systems-requires-clause-fit : goal.of_vector_systems-requires-clause-fit
+of_vector_systems-requires-clause-fit g c = c.width.ensures.rows
+
+pub of_vector_systems-requires-clause-systems : goal.of_vector_systems-requires-clause-systems
+of_vector_systems-requires-clause-systems g c =
+    subst (IsExtended (c.args.dim + 1) c.args.dim c.args.list.now.rows c.len-from.result) c.in-Changed.is (subst (λ (w : ℕ). IsExtended w c.args.dim c.args.list.now.rows c.len-from.result c.in_ok-found.found) c.requires.width c.in_ok-found.ensures.systems)
+
+pub of_vector_systems-requires-clause-width : goal.of_vector_systems-requires-clause-width
+of_vector_systems-requires-clause-width g c = c.requires.width
+
+pub of_vector_systems-requires-clause-narrow : goal.of_vector_systems-requires-clause-narrow
+of_vector_systems-requires-clause-narrow g c = c.requires.narrow
+
+pub of_vector_systems-requires-clause-list : goal.of_vector_systems-requires-clause-list
+of_vector_systems-requires-clause-list g c = c.requires.list
+
+pub returns-in_ok-of_vector_systems-in-Changed-clause-points : goal.returns-in_ok-of_vector_systems-in-Changed-clause-points
+returns-in_ok-of_vector_systems-in-Changed-clause-points g c = c.in_ok-of_vector_systems-in-Changed.ensures.points
+
+pub returns-in_ok-of_vector_systems-in-Changed-clause-stored : goal.returns-in_ok-of_vector_systems-in-Changed-clause-stored
+returns-in_ok-of_vector_systems-in-Changed-clause-stored g c = c.in_ok-of_vector_systems-in-Changed.ensures.stored

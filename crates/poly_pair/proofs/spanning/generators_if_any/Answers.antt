@@ -18,3 +18,9 @@ returns c =
     system_spanning c.args.topology cs c.args.system.lines.rows c.args.system.rays.rows c.in_ok-gens.gens c.requires.kinds c.dim.ensures.rows c.requires.wide c.requires.cone.canon
     (subst (λ n. HasPoint n rays) c.dim.ensures.value c.if-not-has_point.ensures)
     c.in_ok-gens.ensures.dim c.in_ok-gens.ensures.stand
+
+pub system_generators-requires-clause-point : goal.system_generators-requires-clause-point
+system_generators-requires-clause-point c = subst (λ n. HasPoint n (vectors c.args.system.rays.rows)) c.dim.ensures.value c.if-not-has_point.ensures
+
+pub system_generators-requires-clause-wide : goal.system_generators-requires-clause-wide
+system_generators-requires-clause-wide c = c.requires.wide

@@ -13,3 +13,12 @@ pub returns-in_err-added : goal.returns-in_err-added
 returns-in_err-added g c =
     let p = err_from_is_err_and c.from_residual.result c.from_residual.ensures.1 in
     rw (p.1, p.2) (record { generators = tt; conversion = c.in_err-added.ensures.conversion })
+
+pub generators_if_any-found-requires-clause-wide : goal.generators_if_any-found-requires-clause-wide
+generators_if_any-found-requires-clause-wide g c = c.in_ok-added.ensures.wide
+
+pub generators_if_any-found-requires-clause-kinds : goal.generators_if_any-found-requires-clause-kinds
+generators_if_any-found-requires-clause-kinds g c = c.requires.kinds
+
+pub returns-clause-generators : goal.returns-clause-generators
+returns-clause-generators g c = c.in_ok-found.ensures

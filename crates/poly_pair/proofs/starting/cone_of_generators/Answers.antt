@@ -30,3 +30,9 @@ returns-clause-zeros c list z =
     subst (λ (rs : List Row). IsZeroTable list (length list) (vectors rs) c.keep_rows.new.self) (sym c.in_ok-rays.ensures.rows)
     (zeros_marked list (generator_list c.args.gens.now) c.in_ok-sat.sat c.keep_rows.new.self (zeros_turned (generator_list c.args.gens.now) list c.args.zeros.now c.in_ok-sat.sat z c.in_ok-sat.ensures) c.keep_rows.ensures.columns
     (c.keep_rows.ensures.rows ∙ ap (λ (bits : List Bool). marked bits c.in_ok-sat.sat.rows) (c.deref.ensures.value ∙ c.in_ok-ray_marks.ensures)))
+
+pub returns-clause-lines : goal.returns-clause-lines
+returns-clause-lines c = ap (λ (rows : List Row). vectors rows) c.in_ok-lines.ensures.rows
+
+pub returns-clause-rays : goal.returns-clause-rays
+returns-clause-rays c = ap (λ (rows : List Row). vectors rows) c.in_ok-rays.ensures.rows

@@ -1,4 +1,8 @@
-use Rattle.std.proofs.Common.{ℕ, ◌-◌, Ok, Err, length, subst}
+use Rattle.sat_matrix.specs.ZeroTables.{IsZeroTable}
+use Rattle.cone_laws.specs.Canon.{IsSystem}
+use Rattle.cone_laws.specs.Cones.{Upto}
+use Rattle.row_core.specs.Lists.{vectors}
+use Rattle.std.proofs.Common.{ℕ, ◌-◌, Ok, Err, length, subst, sym}
 use Rattle.std.proofs.lemmas.Result.{err_from_is_err_and}
 use Rattle.chernikova.specs.Conversion.{ConvertsFrom}
 use Rattle.poly_pair.specs.Work.{overflow_in, conv_overflow}
@@ -24,3 +28,20 @@ returns-clause-conversion g c =
     subst (λ (n : ℕ). ConvertsFrom list.width list.rows n c.args.steps.now c.add_rows_from.new.steps (Ok c.in_ok-added.added)) c.len.ensures c.in_ok-added.ensures.conversion in
     second_moved list.width c.args.column list.rows c.args.steps.now c.add_rows_from.new.steps c.systems_from.new.steps (overflow_in conv_overflow c.systems_from.result) first.no_fewer
     (none_between list.width list.rows (length list.rows) (c.add_rows_from.new.steps - c.args.steps.now) first.counted) c.systems_from.ensures.conversion
+
+pub add_rows_from-requires-clause-system : goal.add_rows_from-requires-clause-system
+add_rows_from-requires-clause-system g c =
+    let list = c.args.list.now in
+    subst (λ (n : ℕ). IsSystem (Upto list.width list.rows n) (vectors c.args.start.lines.rows) (vectors c.args.start.rays.rows)) (sym c.len.ensures) c.requires.start.system
+
+pub systems_from-requires-clause-first : goal.systems_from-requires-clause-first
+systems_from-requires-clause-first g c = c.in_ok-added.ensures.cone
+
+pub systems_from-requires-clause-column : goal.systems_from-requires-clause-column
+systems_from-requires-clause-column g c = c.requires.column
+
+pub returns-clause-systems : goal.returns-clause-systems
+returns-clause-systems g c = c.systems_from.ensures.systems
+
+pub add_rows_from-requires-clause-sat : goal.add_rows_from-requires-clause-sat
+add_rows_from-requires-clause-sat g c = subst (λ (n : ℕ). IsZeroTable c.args.list.now.rows n (vectors c.args.start.rays.rows) c.args.start.sat) (sym c.len.ensures) c.requires.start.zeros

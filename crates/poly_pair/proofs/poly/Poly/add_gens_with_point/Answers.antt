@@ -1,4 +1,5 @@
-use Rattle.std.proofs.Common.{◌≡◌, ◌++◌, ℕ, List, length, refl, ap, sym, subst, ◌∙◌, inr}
+use Rattle.poly_pair.specs.declared.topology.TheConstants.{MAX_DIM}
+use Rattle.std.proofs.Common.{◌≡◌, ◌++◌, ℕ, List, length, refl, ap, sym, subst, ◌∙◌, inr, ◌+◌, ◌≤◌}
 use Rattle.std.specs.Prelude.{IfOk}
 use Rattle.std.proofs.lemmas.Result.{IfOk-weaker, err_from_is_err_and}
 use Rattle.row_core.specs.Lists.{Row}
@@ -111,3 +112,32 @@ returns-clause-conversion g c =
     let rows : c.in_ok-list.list.rows ≡ generators_of Closed (with_generators self c.args.more.now) = subst (λ (gs : Generators). c.in_ok-list.list.rows ≡ generators_of Closed gs) all c.in_ok-list.ensures.rows in
     subst (λ (n : ℕ). Converts (record (gens_work self.topology (with_generators self c.args.more.now)) { from = n }) c.args.steps.now c.closed_with_generators.new.steps c.closed_with_generators.result) (sym (starts self (length self.gens.list) c.if-not-can_start.ensures))
     (at_closed_generators self.topology c.dim.result (with_generators self c.args.more.now) c.in_ok-list.list.rows (λ t w k rs. Converts (rows_work w k rs (length self.gens.list)) c.args.steps.now c.closed_with_generators.new.steps c.closed_with_generators.result) c.if-not-can_start.ensures.closed c.dim.ensures.value rows c.closed_with_generators.ensures.conversion)
+
+pub closed_with_generators-requires-clause-some : goal.closed_with_generators-requires-clause-some
+closed_with_generators-requires-clause-some g c = c.if-not-can_start.ensures.some
+
+pub closed_with_generators-requires-clause-width : goal.closed_with_generators-requires-clause-width
+closed_with_generators-requires-clause-width g c =
+    c.in_ok-list.ensures.width ∙ ap (λ (gs : Generators). gs.dim + 1) c.gens-2.ensures.value ∙ ap (λ (n : ℕ). n + 1) (kept_dim c.args.self.now c.gens-2.ensures.kept) ∙ sym (ap (λ (n : ℕ). n + 1) c.dim.ensures.value)
+
+pub from_gens_with_point-requires-clause-narrow : goal.from_gens_with_point-requires-clause-narrow
+from_gens_with_point-requires-clause-narrow g c =
+    subst (λ (n : ℕ). n ≤ MAX_DIM) (sym (c.in_ok-all.ensures.dim ∙ ap (λ (gs : Generators). gs.dim) c.gens.ensures.value ∙ kept_dim c.args.self.now c.gens.ensures.kept)) c.gens.ensures.kept.narrow
+
+pub closed_with_generators-requires-clause-narrow : goal.closed_with_generators-requires-clause-narrow
+closed_with_generators-requires-clause-narrow g c = c.dim.ensures.narrow
+
+pub joined_generators-requires : goal.joined_generators-requires
+joined_generators-requires g c = c.requires.dim ∙ sym (kept_dim c.args.self.now c.gens-2.ensures.kept) ∙ sym (ap (λ (gs : Generators). gs.dim) c.gens-2.ensures.value)
+
+pub followed_by-requires : goal.followed_by-requires
+followed_by-requires g c = record { same_dimension = c.requires.dim ∙ sym (kept_dim c.args.self.now c.gens.ensures.kept) ∙ sym (ap (λ (gs : Generators). gs.dim) c.gens.ensures.value) }
+
+pub closed_with_generators-requires-clause-rows : goal.closed_with_generators-requires-clause-rows
+closed_with_generators-requires-clause-rows g c =
+    let joined : Generators = record { dim = c.gens-2.result.now.dim; list = c.gens-2.result.now.list ++ c.args.more.now.list } in
+    let all : joined ≡ with_generators c.args.self.now c.args.more.now = generators_are_all c.args.self.now c.args.more.now joined c.gens-2.result.now c.gens-2.ensures.kept c.gens-2.ensures.value refl refl in
+    subst (λ (gs : Generators). c.in_ok-list.list.rows ≡ generators_of Closed gs) all c.in_ok-list.ensures.rows
+
+pub closed_with_generators-requires-clause-closed : goal.closed_with_generators-requires-clause-closed
+closed_with_generators-requires-clause-closed g c = c.if-not-can_start.ensures.closed

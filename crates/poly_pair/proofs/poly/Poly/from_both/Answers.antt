@@ -36,7 +36,7 @@ returns-clause-both g c =
     let pair = c.requires.pair in
     let made = c.in_ok-made.made in
     let constraints : IsOfConstraints Closed cs made = constraints_of_rows Closed c.dim-dim.result cs c.in_ok-list.list.rows made c.dim-dim.ensures.value pair.closed c.in_ok-list.ensures.fit c.in_ok-list.ensures.rows c.in_ok-made.ensures.points in
-    let generators : IsOfGenerators Closed gs made = generators_of_both cs gs pair.same_dim pair.closed pair.kinds c.in_ok-list.ensures.fit c.dim.ensures.rows pair.system made constraints in
+    let generators : IsOfGenerators Closed gs made = generators_of_both cs gs pair.same_dim pair.closed pair.kinds c.in_ok-list.ensures.fit c.dim.ensures.rows pair.system.generates made constraints in
     record {
       constraints = constraints;
       generators = generators;

@@ -1,4 +1,5 @@
-use Rattle.std.proofs.Common.{◌≡◌, ◌∙◌, ℕ, List, inr, sym, subst, arith}
+use Rattle.poly_pair.specs.declared.topology.TheConstants.{MAX_DIM}
+use Rattle.std.proofs.Common.{◌≡◌, ◌∙◌, ℕ, List, inr, sym, subst, arith, inl, ◌≤◌}
 use Rattle.std.proofs.lemmas.Bool.{false≢true}
 use Rattle.std.proofs.lemmas.Result.{IfOk-weaker, err_from_is_err_and}
 use Rattle.row_core.specs.Lists.{Row}
@@ -72,3 +73,12 @@ pub returns-clause-conversion : goal.returns-clause-conversion
 returns-clause-conversion g c =
     subst (λ (k : ℕ). Converts (rows_work (list_width c.args.topology k) k (generators_of c.args.topology c.args.gens.now) 0) c.args.steps.now c.from_vectors.new.steps c.from_vectors.result) c.dim-2.ensures.value
     (subst (λ (rs : List Row). Converts (rows_work (list_width c.args.topology c.dim-2.result) c.dim-2.result rs 0) c.args.steps.now c.from_vectors.new.steps c.from_vectors.result) c.in_ok-vectors.ensures.rows c.from_vectors.ensures.conversion)
+
+pub returns-then-is_empty-clause-stored : goal.returns-then-is_empty-clause-stored
+returns-then-is_empty-clause-stored g c = inl (record { given = (empty_list c.args.gens.now.list c.is_empty.result c.is_empty.ensures).0 c.if-is_empty.true; none = c.in_ok-no_points.ensures.none })
+
+pub from_vectors-requires-clause-narrow : goal.from_vectors-requires-clause-narrow
+from_vectors-requires-clause-narrow g c = subst (λ (n : ℕ). n ≤ MAX_DIM) (sym c.dim-2.ensures.value) c.requires.narrow
+
+pub no_points-requires : goal.no_points-requires
+no_points-requires g c = subst (λ (n : ℕ). n ≤ MAX_DIM) (sym c.dim.ensures.value) c.requires.narrow
