@@ -9,3 +9,13 @@ pub mod RelatedResults
 pub mod EqualImages
 pub mod CarriedImages
 pub mod PairConversions
+mod Moves
+mod FilteredLists
+mod FormedPairs
+mod CarriedForms
+mod MovedTables
+mod FormWork
+mod OrderedRows
+mod OnePart
+mod LinelessPairs
+mod StoredOfForms

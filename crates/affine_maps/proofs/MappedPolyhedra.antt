@@ -100,7 +100,7 @@ preimage_points var expr den p new topology same fit below m q o = record {
     at_dim v pt = subst (λ (n : ℕ). IsPoint n v) (sym m.same_dim) pt
 
 -- ---- refusals
-pub mapped_overflow : (var : ℕ) (expr : List ℤ) (den : ℤ) (p : Polyhedron) (new : Generators) (topology : Topology) → topology ≡ p.topology → IsMappedSystem (substituted var expr den) p.cons.dim p.gens new → (CanBeCarried p (cell expr var) → ImagePairLeaves var expr den p) → (e : ConvErr) → IsOverflowOn (list_width topology new.dim) new.dim (generators_of topology new) e → IsOverflowIn (LeavesOnSubstituted var expr den p) e
+pub mapped_overflow : (var : ℕ) (expr : List ℤ) (den : ℤ) (p : Polyhedron) (new : Generators) (topology : Topology) → topology ≡ p.topology → IsMappedSystem (substituted var expr den) p.cons.dim p.gens new → (CanBeCarried p (cell expr var) → ImagePairLeaves var expr den p new) → (e : ConvErr) → IsOverflowOn (list_width topology new.dim) new.dim (generators_of topology new) e → IsOverflowIn (LeavesOnSubstituted var expr den p) e
 mapped_overflow var expr den p new topology same m pair (conversion.Overflow over) l = record {
   system = new;
   mapped = m;

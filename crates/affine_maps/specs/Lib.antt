@@ -8,3 +8,7 @@ pub mod RelationLaws
 pub mod SubstitutedSets
 pub mod ImageResults
 pub mod Laws
+pub mod Carrying
+pub mod FormedPairs
+pub mod MovedTables
+pub mod Moves

@@ -6,7 +6,8 @@ use Rattle.row_core.specs.declared.errors.Memory.{Memory}
 use Rattle.cons_sys.specs.Constraints.{Constraints}
 use Rattle.gens_sys.specs.Generators.{Generators}
 use Rattle.poly_pair.specs.Polyhedra.{Polyhedron}
-use Rattle.poly_pair.specs.Work.{cons_work, gens_work, conv_overflow, overflow_in, IsConversion, ConvertsPair}
+use Rattle.poly_pair.specs.Work.{cons_work, gens_work, conv_overflow, overflow_in, IsConversion}
+use Rattle.affine_maps.specs.Carrying.{ConvertsForms}
 use Rattle.mapped_systems.specs.Maps.{substituted, pulled_back}
 use Rattle.mapped_systems.specs.MappedLists.{IsMappedSystem, IsPulledSystem}
 use Rattle.mapped_systems.specs.CarriedSystems.{IsInverseRow}
@@ -28,15 +29,15 @@ abbrev pub inverse_size : ℕ → List ℤ → ℤ
 inverse_size var expr = pos (unsigned_abs (cell expr var))
 
 -- ---- the pair of an image
--- the constraints with the variable replaced by the row over the size, and then at most the second
--- list of the pair
-pub record IsTurnedPair (var : ℕ) (row : List ℤ) (size : ℤ) (p : Polyhedron) (old new : ℕ)
-    (result : Result (Option Polyhedron) Memory) : Type 0 where
+-- the constraints with the variable replaced by the row over the size, brought to canonical form
+-- with the generators
+pub record IsTurnedPair (var : ℕ) (row : List ℤ) (size : ℤ) (p : Polyhedron) (gs : Generators)
+    (old new : ℕ) (result : Result (Option Polyhedron) Memory) : Type 0 where
   pub between : ℕ
   pub pullback : IsPullback p old between
   pub system : Constraints
   pub pulled : IsPulledSystem (pulled_back var row size) p.cons.dim p.cons system
-  pub conversion : ConvertsPair system between new result
+  pub conversion : ConvertsForms system gs between new result
 
 -- some constraint's map leaves the range
 pub record IsTurnedInVain (var : ℕ) (row : List ℤ) (size : ℤ) (p : Polyhedron) (old new : ℕ)
@@ -45,19 +46,20 @@ pub record IsTurnedInVain (var : ℕ) (row : List ℤ) (size : ℤ) (p : Polyhed
   pub leaves : LeavesInTurned var row size p
   pub none : result ≡ Ok None
 
--- of a set that can be carried by the map
-pub record IsCarriedImage (var : ℕ) (expr : List ℤ) (den : ℤ) (p : Polyhedron) (old new : ℕ)
-    (result : Result (Option Polyhedron) Memory) : Type 0 where
+-- of a set that can be carried by the map, and of its mapped generators
+pub record IsCarriedImage (var : ℕ) (expr : List ℤ) (den : ℤ) (p : Polyhedron) (gs : Generators)
+    (old new : ℕ) (result : Result (Option Polyhedron) Memory) : Type 0 where
   pub can : CanBeCarried p (cell expr var)
   pub row : List ℤ
   pub inverse : IsInverseRow var expr den row (inverse_size var expr)
-  pub turned : IsTurnedPair var row (inverse_size var expr) p old new result
+  pub turned : IsTurnedPair var row (inverse_size var expr) p gs old new result
       ⊎ IsTurnedInVain var row (inverse_size var expr) p old new result
 
--- nothing of another set, and no conversion where memory runs out before
-abbrev pub CarriesImage : ℕ → List ℤ → ℤ → Polyhedron → ℕ → ℕ → Result (Option Polyhedron) Memory
-    → Type 0
-CarriesImage var expr den p old new result = IsCarriedImage var expr den p old new result
+-- nothing of another set, and no forms where memory runs out before
+abbrev pub CarriesImage : ℕ → List ℤ → ℤ → Polyhedron → Generators → ℕ → ℕ
+    → Result (Option Polyhedron) Memory → Type 0
+CarriesImage var expr den p gs old new result =
+    IsCarriedImage var expr den p gs old new result
     ⊎ ((¬ (CanBeCarried p (cell expr var))) × IsUntried old new result)
     ⊎ (IsPullback p old new × IsErr result)
 
@@ -69,7 +71,7 @@ pub record IsImageConversion (var : ℕ) (expr : List ℤ) (den : ℤ) (p : Poly
   pub mapped : IsMappedSystem (substituted var expr den) p.cons.dim p.gens system
   pub pair : Result (Option Polyhedron) Memory
   pub between : ℕ
-  pub tried : CarriesImage var expr den p old between pair
+  pub tried : CarriesImage var expr den p system old between pair
   pub after : AfterPair (IsConversion (gens_work p.topology system)) pair between new over
 
 -- nothing was tried: memory ran out before, or some generator's map leaves the range
@@ -84,14 +86,21 @@ ConvertsImage var expr den p old new result =
     ⊎ IsImageConversion var expr den p old new (overflow_in conv_overflow result)
 
 -- ---- the pair of a preimage
--- of a set that can be carried: its generators are mapped the other way, and at most the second
--- list of the pair is converted
+-- the generators with the variable replaced by the row over the size, brought to canonical form with
+-- the mapped constraints
+pub record IsMappedPair (var : ℕ) (row : List ℤ) (size : ℤ) (p : Polyhedron) (cs : Constraints)
+    (old new : ℕ) (result : Result (Option Polyhedron) Memory) : Type 0 where
+  pub system : Generators
+  pub mapped : IsMappedSystem (substituted var row size) p.cons.dim p.gens system
+  pub conversion : ConvertsForms cs system old new result
+
+-- of a set that can be carried: its generators are mapped the other way
 pub record IsCarriedPreimage (var : ℕ) (expr : List ℤ) (den : ℤ) (p : Polyhedron) (cs : Constraints)
     (old new : ℕ) (result : Result (Option Polyhedron) Memory) : Type 0 where
   pub can : CanBeCarried p (cell expr var)
   pub row : List ℤ
   pub inverse : IsInverseRow var expr den row (inverse_size var expr)
-  pub mapped : ConvertsPair cs old new result
+  pub mapped : IsMappedPair var row (inverse_size var expr) p cs old new result
       ⊎ (LeavesInMapped var row (inverse_size var expr) p × IsUntried old new result)
 
 -- nothing of another set

@@ -52,7 +52,7 @@ pub record LeavesOnSubstituted (var : ℕ) (expr : List ℤ) (den : ℤ) (p : Po
   pub mapped : IsMappedSystem (substituted var expr den) p.cons.dim p.gens system
   pub leaves : LeavesOn (list_width p.topology p.cons.dim) p.cons.dim
       (generators_of p.topology system) over
-  pub pair : CanBeCarried p (cell expr var) → ImagePairLeaves var expr den p
+  pub pair : CanBeCarried p (cell expr var) → ImagePairLeaves var expr den p system
 
 -- that of those constraints does
 pub record LeavesOnPulledBack (var : ℕ) (expr : List ℤ) (den : ℤ) (p : Polyhedron)

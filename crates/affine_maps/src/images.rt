@@ -59,9 +59,10 @@ fn substituted_image<L: Ledger>(
 /// expression over the divisor. All other variables keep their values.
 ///
 /// Where the relation is equality the generators are mapped, and their list is converted; where the
-/// map can be undone, those of a closed set without a line are paired with its constraints, mapped
-/// too. Else the list of the constraints with one more variable is converted, and then that of
-/// their generators where this variable has taken the place of the one.
+/// map can be undone, those of a closed set are paired with its constraints, mapped too, and both
+/// are brought to canonical form without a conversion. Else the list of the constraints with one
+/// more variable is converted, and then that of their generators where this variable has taken the
+/// place of the one.
 ///
 /// # Errors
 ///
@@ -135,9 +136,10 @@ fn substituted_preimage<L: Ledger>(
 /// relation to that of the expression over the divisor.
 ///
 /// Where the relation is equality the rows of the constraints are mapped, and their list is
-/// converted; where the map can be undone, those of a closed set without a line are paired with its
-/// generators, mapped too. Else the list of the constraints with one more variable in the place of
-/// the one is converted, and then that of their generators without it.
+/// converted; where the map can be undone, those of a closed set are paired with its generators,
+/// mapped too, and both are brought to canonical form without a conversion. Else the list of the
+/// constraints with one more variable in the place of the one is converted, and then that of their
+/// generators without it.
 ///
 /// # Errors
 ///

@@ -7,29 +7,18 @@ ghost use Rattle.poly_pair.specs.Parts.{AreStoredOfRows, AreStoredOfGenerators};
 ghost use Rattle.poly_pair.specs.TopologyLists.{constraints_of};
 ghost use Rattle.mapped_systems.specs.Maps.{substituted, pulled_back};
 ghost use Rattle.mapped_systems.specs.MappedLists.{IsMappedSystem, IsPulledSystem};
-ghost use Rattle.affine_maps.specs.CarriedPairs.{HaveNoLine, CanBeCarried};
+ghost use Rattle.affine_maps.specs.CarriedPairs.{CanBeCarried};
 ghost use Rattle.affine_maps.specs.PairConversions.{CarriesImage, CarriesPreimage};
 
+use crate::carrying::from_carried;
 use cons_sys::ConsSys;
-use gens_sys::{GenKind, GensSys};
+use gens_sys::GensSys;
 use mapped_systems::{image_generators, inverse_row, preimage_constraints};
 use poly_pair::Poly;
 use row_core::{ConvErr, Memory, Steps};
 use std::sync::ledger::Ledger;
 
-/// Whether some generator is a line.
-fn has_line(gens: &GensSys) -> bool
-    ensures { MatchBool result (¬ (HaveNoLine gens.now.list)) (HaveNoLine gens.now.list) }
-{
-    for index in 0..gens.len() {
-        if gens.kind(index) == GenKind::Line {
-            return true;
-        }
-    }
-    false
-}
-
-/// Whether the map can be undone, and the set has a stored pair without a line to be mapped.
+/// Whether the map can be undone, and the set has a stored pair to be mapped.
 fn can_be_carried(p: &Poly, var: usize, expr: &[i128]) -> bool
     requires var { var < length expr.now }
     requires in_range { AllInRange expr.now }
@@ -39,12 +28,12 @@ fn can_be_carried(p: &Poly, var: usize, expr: &[i128]) -> bool
     if expr[var] == 0 {
         return false;
     }
-    p.can_start() && !has_line(p.gens())
+    p.can_start()
 }
 
-/// The polyhedron of the mapped generators of a closed set with a point and without a line, where
-/// the map can be undone. Its constraints are mapped the other way, and nothing is converted. There
-/// is no answer elsewhere, or where a number leaves the range.
+/// The polyhedron of the mapped generators of a closed set with a point, where the map can be
+/// undone. Its constraints are mapped the other way, and nothing is converted. There is no answer
+/// elsewhere, or where a number leaves the range.
 pub(crate) fn carried_image<L: Ledger>(
     p: &Poly,
     var: usize,
@@ -64,10 +53,12 @@ pub(crate) fn carried_image<L: Ledger>(
         IfSome found (IsOfGenerators p.now.topology gens.now)) }
     ensures stored { IfOk result (λ found.
         IfSome found (AreStoredOfGenerators p.now.topology gens.now)) }
-    ensures conversion { CarriesImage var expr.now den p.now steps.old steps.new result }
+    ensures conversion { CarriesImage var expr.now den p.now gens.now
+        steps.old steps.new result }
 {
     let _dim = p.dim();
     let _vectors = p.gens().dim();
+    let _mapped = gens.dim();
     if !can_be_carried(p, var, expr) {
         return Ok(None);
     }
@@ -79,12 +70,12 @@ pub(crate) fn carried_image<L: Ledger>(
         Err(ConvErr::Overflow(_)) => return Ok(None),
         Err(ConvErr::Memory) => return Err(Memory),
     };
-    Poly::from_both(alloc, &cons, gens, p.zeros(), steps)
+    from_carried(alloc, &cons, gens, p.zeros(), steps)
 }
 
-/// The polyhedron of the mapped constraints of a closed set with a point and without a line, where
-/// the map can be undone. Its generators are mapped the other way, and nothing is converted. There
-/// is no answer elsewhere, or where a number leaves the range.
+/// The polyhedron of the mapped constraints of a closed set with a point, where the map can be
+/// undone. Its generators are mapped the other way, and nothing is converted. There is no answer
+/// elsewhere, or where a number leaves the range.
 pub(crate) fn carried_preimage<L: Ledger>(
     p: &Poly,
     var: usize,
@@ -119,5 +110,6 @@ pub(crate) fn carried_preimage<L: Ledger>(
         Err(ConvErr::Overflow(_)) => return Ok(None),
         Err(ConvErr::Memory) => return Err(Memory),
     };
-    Poly::from_both(alloc, cons, &gens, p.zeros(), steps)
+    let _mapped = gens.dim();
+    from_carried(alloc, cons, &gens, p.zeros(), steps)
 }

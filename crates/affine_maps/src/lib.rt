@@ -10,9 +10,11 @@
 //! [`laws`] says which of them undo each other, and what images by relations are.
 #![tactic(auto)]
 
+mod carrying;
 mod images;
 mod inverse_maps;
 pub mod laws;
+mod orders;
 mod posts;
 mod related;
 mod relations;

@@ -54,7 +54,7 @@ returns-clause-overflow g c =
     let p = c.args.p.now in
     let new = c.in-Ok.mapped in
     let m : IsMappedSystem (substituted c.args.var c.args.expr.now c.args.den) p.cons.dim p.gens c.in-Ok.mapped = lent_generators (λ n. substituted c.args.var c.args.expr.now c.args.den) (λ n. n) p c.gens.result.now c.in-Ok.mapped c.gens.ensures.value c.gens.ensures.kept (simp to_z-of_z at c.in-Ok.ensures.system) in
-    let none = image_pair_leaves c.args.var c.args.expr.now (to_z w128 (of_z w128 c.args.den)) p c.args.steps.now c.carried_image.new.steps c.in_ok-image.field-0 c.in_default.not-Some c.in_ok-image.ensures.conversion in
+    let none = image_pair_leaves c.args.var c.args.expr.now (to_z w128 (of_z w128 c.args.den)) p c.in-Ok.mapped c.args.steps.now c.carried_image.new.steps c.in_ok-image.field-0 c.in_default.not-Some c.in_ok-image.ensures.conversion in
     let pair = simp to_z-of_z at none in
     IfErr-weaker c.from_gens_with_point.result (IsOverflowOn (list_width c.topology.result new.dim) new.dim (generators_of c.topology.result new)) (IsOverflowIn (λ over. SomeLeavesInImage c.args.var c.args.expr.now c.args.den p.gens.list over ⊎ LeavesOnSubstituted c.args.var c.args.expr.now c.args.den p over))
     (λ e l. either_overflow (SomeLeavesInImage c.args.var c.args.expr.now c.args.den p.gens.list) (LeavesOnSubstituted c.args.var c.args.expr.now c.args.den p) e (mapped_overflow c.args.var c.args.expr.now c.args.den p new c.topology.result c.topology.ensures.value m pair e l))

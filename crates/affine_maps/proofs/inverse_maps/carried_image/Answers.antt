@@ -25,29 +25,29 @@ preimage_constraints-requires g c = record {
   den_in_range = machine_in_range (cell c.args.expr.now c.args.var) c.abs.result (c.requires.in_range c.args.var (pos 0) (omega (arith, c.requires.wide, c.requires.var))) c.abs.ensures.value;
 }
 
-pub from_both-requires-clause-pair : goal.from_both-requires-clause-pair
-from_both-requires-clause-pair g c =
+pub from_carried-requires-clause-pair : goal.from_carried-requires-clause-pair
+from_carried-requires-clause-pair g c =
     let p = c.args.p.now in
     let part = cell c.args.expr.now c.args.var in
     let can : CanBeCarried p part = c.if-not-can_be_carried.ensures in
     let r : InRange part = c.requires.in_range c.args.var (pos 0) (omega (arith, c.requires.wide, c.requires.var)) in
-    image_pair p c.dim-dim.ensures.kept (subst FitDimension c.gens.ensures.value c.dim-vectors.ensures.rows) (subst FitConstraints c.cons-rows.ensures.value c.in-Ok.ensures.fit) c.args.var c.requires.var c.args.expr.now c.deref.result.now c.args.den (pos (unsigned_abs part)) c.requires.positive
-    (machine_inverse c.args.var c.args.expr.now c.args.den (pos (unsigned_abs part)) c.in_ok-row.row.items c.deref.result.now (to_z-of_z w128 c.args.den c.ranges.den) c.deref.ensures.value c.in_ok-row.ensures.row) can c.args.gens.now c.requires.mapped c.in-Ok.cons
+    image_pair p c.dim-dim.ensures.kept (subst FitDimension c.gens.ensures.value c.dim-vectors.ensures.rows) (subst FitConstraints c.cons-rows.ensures.value c.in-Ok.ensures.fit) c.args.var c.requires.var c.args.expr.now c.deref.result.now c.args.den (pos (unsigned_abs part)) c.requires.wide c.requires.positive
+    (machine_inverse c.args.var c.args.expr.now c.args.den (pos (unsigned_abs part)) c.in_ok-row.row.items c.deref.result.now (to_z-of_z w128 c.args.den c.ranges.den) c.deref.ensures.value c.in_ok-row.ensures.row) can c.args.gens.now c.dim-mapped.ensures.rows c.requires.mapped c.in-Ok.cons
     (machine_pulled p c.args.var part c.abs.result c.deref.result.now c.cons-rows.result.now c.in-Ok.cons r c.abs.ensures.value c.cons-rows.ensures.value c.in-Ok.ensures.system) c.zeros.result.now c.zeros.ensures.table
 
 pub returns-clause-points : goal.returns-clause-points
 returns-clause-points g c =
     let can : CanBeCarried c.args.p.now (cell c.args.expr.now c.args.var) = c.if-not-can_be_carried.ensures in
     let gs = c.args.gens.now in
-    IfOk-weaker c.from_both.result (λ found. IfSome found (IsOfBoth c.in-Ok.cons gs)) (λ found. IfSome found (IsOfGenerators c.args.p.now.topology gs))
-    (λ found h. IfSome_then found h (λ q o. subst (λ (t : Topology). IsOfGenerators t gs q) (sym can.start.closed) o.generators)) c.from_both.ensures.both
+    IfOk-weaker c.from_carried.result (λ found. IfSome found (IsOfBoth c.in-Ok.cons gs)) (λ found. IfSome found (IsOfGenerators c.args.p.now.topology gs))
+    (λ found h. IfSome_then found h (λ q o. subst (λ (t : Topology). IsOfGenerators t gs q) (sym can.start.closed) o.generators)) c.from_carried.ensures.both
 
 pub returns-clause-stored : goal.returns-clause-stored
 returns-clause-stored g c =
     let can : CanBeCarried c.args.p.now (cell c.args.expr.now c.args.var) = c.if-not-can_be_carried.ensures in
     let gs = c.args.gens.now in
-    IfOk-weaker c.from_both.result (λ found. IfSome found (IsOfBoth c.in-Ok.cons gs)) (λ found. IfSome found (AreStoredOfGenerators c.args.p.now.topology gs))
-    (λ found h. IfSome_then found h (λ q o. subst (λ (t : Topology). AreStoredOfGenerators t gs q) (sym can.start.closed) o.stored_of_generators)) c.from_both.ensures.both
+    IfOk-weaker c.from_carried.result (λ found. IfSome found (IsOfBoth c.in-Ok.cons gs)) (λ found. IfSome found (AreStoredOfGenerators c.args.p.now.topology gs))
+    (λ found h. IfSome_then found h (λ q o. subst (λ (t : Topology). AreStoredOfGenerators t gs q) (sym can.start.closed) o.stored_of_generators)) c.from_carried.ensures.both
 
 pub inverse_row-requires : goal.inverse_row-requires
 inverse_row-requires g c =
@@ -65,8 +65,8 @@ returns-in_err-row g c =
     let p = err_from_is_err_and c.from_residual.result c.from_residual.ensures.1 in
     rw p.1 (record { points = tt; stored = tt; conversion = inr (inr (record { no_fewer = omega arith; counted = omega arith }, refl)) })
 
-pub from_both-requires-clause-narrow : goal.from_both-requires-clause-narrow
-from_both-requires-clause-narrow g c = omega (arith, c.in-Ok.ensures.system.same_dim, ap (λ (cs : Constraints). cs.dim) c.cons-rows.ensures.value, c.dim-dim.ensures.value, c.dim-dim.ensures.narrow)
+pub from_carried-requires-clause-narrow : goal.from_carried-requires-clause-narrow
+from_carried-requires-clause-narrow g c = omega (arith, c.in-Ok.ensures.system.same_dim, ap (λ (cs : Constraints). cs.dim) c.cons-rows.ensures.value, c.dim-dim.ensures.value, c.dim-dim.ensures.narrow)
 
 pub abs-requires : goal.abs-requires
 abs-requires g c = machine_negated (cell c.args.expr.now c.args.var) (c.requires.in_range c.args.var (pos 0) (omega (arith, c.requires.wide, c.requires.var)))
@@ -85,7 +85,7 @@ returns-clause-conversion g c =
         pullback = pullback_of p c.cons-rows.result.now c.args.steps.now c.preimage_constraints.new.steps c.cons-rows.ensures.value c.preimage_constraints.ensures.no_fewer c.preimage_constraints.ensures.counted;
         system = c.in-Ok.cons;
         pulled = machine_pulled p c.args.var part c.abs.result c.deref.result.now c.cons-rows.result.now c.in-Ok.cons r c.abs.ensures.value c.cons-rows.ensures.value c.in-Ok.ensures.system;
-        conversion = c.from_both.ensures.conversion;
+        conversion = c.from_carried.ensures.conversion;
       });
     })
 
