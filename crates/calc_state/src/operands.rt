@@ -1,13 +1,12 @@
-//! What stands under the names of a line, and whether there is room for a name.
+//! What stands under the names of a line.
 ghost use Rattle.std.specs.Prelude.{◌≡◌};
 ghost use Rattle.std.specs.Option.{option_copied};
-ghost use Rattle.name_table.specs.Table.{has_no_room};
 ghost use Rattle.calc_state.specs.Table.{system_of, powerset_of, shape_of, hybrid_of};
 
 use crate::entry::Entry;
 use bd_shape::Shape;
 use hybrid::Hybrid;
-use name_table::{MAX_NAMES, Names};
+use name_table::Names;
 use powerset::Powerset;
 use reply_text::Text;
 use trans_sys::System;
@@ -50,11 +49,4 @@ pub fn shape_at<'a>(names: &'a Names<Entry>, name: &Text) -> Option<&'a Shape>
         Some(Entry::Shape(s)) => Some(s),
         _ => None,
     }
-}
-
-/// Whether there is no room for the name, which is looked up in a full table alone.
-pub fn is_full(names: &Names<Entry>, name: &Text) -> bool
-    ensures { result ≡ has_no_room names.now name.now }
-{
-    names.len() >= MAX_NAMES && line_values::is_full(names, name)
 }

@@ -9,7 +9,7 @@ ghost use Rattle.command_tasks.specs.Tasks.{AskedFits, PolyMakerFits, ShapeMaker
 use crate::change::{put_hybrid, put_powerset, put_shape, put_system};
 use crate::entry::Entry;
 use crate::hybrids::{hybrid, reach};
-use crate::operands::{hybrid_at, is_full, powerset_at, shape_at, system_at};
+use crate::operands::{hybrid_at, powerset_at, shape_at, system_at};
 use crate::part_tests::{added_transition, replaced_initial, replaced_part};
 use crate::parts::PartChange;
 use crate::powersets::{covers, member, of_two_powersets, pset, psize};
@@ -19,7 +19,7 @@ use bd_shape::Shape;
 use command_tasks::{
     Asked, Made, PartTask, PolyMaker, PowersetMaker, Running, ShapeMaker, TableTask,
 };
-use line_values::{Change, StepErr, drop_name, poly_at, put_numbered, put_poly, say};
+use line_values::{Change, StepErr, drop_name, is_full, poly_at, put_numbered, put_poly, say};
 use name_table::Names;
 use poly_makers::{add_to, make};
 use poly_pair::Poly;

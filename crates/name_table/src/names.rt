@@ -97,11 +97,12 @@ impl<E: Drop> Names<E> {
         let _old = self.entries.shift_remove(name);
     }
 
-    /// Whether there would be more names than the limit, with this one.
+    /// Whether there would be more names than the limit, with this one, which is looked up in a full
+    /// table alone.
     pub fn has_no_room(&self, name: &[u8]) -> bool
         ensures { result ≡ has_no_room self.now name.now }
     {
-        self.count_with(name) > MAX_NAMES
+        self.entries.len() >= MAX_NAMES && self.count_with(name) > MAX_NAMES
     }
 
     fn count_with(&self, name: &[u8]) -> usize
