@@ -1,7 +1,10 @@
 //! Rows of exact integers.
-ghost use Rattle.std.specs.Prelude.{◌≡◌, ◌<◌};
+ghost use Rattle.std.specs.Prelude.{◌≡◌, ◌^◌, ◌<◌, length};
 
-use row_core::{MarkedRows, RowBuf, RowList, Steps, combine_onto, dot, gcd, make_primitive};
+use row_core::{
+    MarkedRows, RowBuf, RowList, Steps, bits, combine_into, combine_within, dot, gcd,
+    make_primitive,
+};
 use std::marker::Brand;
 use std::process::Abort;
 use std::sync::ledger::{Blank, Ledger};
@@ -53,6 +56,22 @@ fn narrow_and_wide_dots(rt: HostRuntime) -> Result<(), Fail> {
     Ok(())
 }
 
+/// Combines two rows, with as many bits as they have.
+fn combine_onto<L: Ledger>(
+    dst: &mut [i128],
+    s: i128,
+    v: &[i128],
+    t: i128,
+    steps: &mut Steps<L>,
+) -> Result<(), u32>
+    requires same_width { length dst.old ≡ length v.now }
+    requires narrow { length v.now < 2 ^ 32 }
+{
+    let within = bits(dst).max(bits(v));
+    combine_within(dst, s, v, t, within, steps)?;
+    Ok(())
+}
+
 fn check_combinations<L: Ledger>(rt: &impl Abort, blank: Blank)
     requires name { blank.name ≡ L.name }
     requires parts { blank.parts ≡ L.parts }
@@ -91,6 +110,39 @@ fn check_combinations<L: Ledger>(rt: &impl Abort, blank: Blank)
 #[test]
 fn combinations(rt: HostRuntime) {
     check_combinations::<Brand>(&rt, Blank::new(1));
+}
+
+fn check_fresh_combinations<L: Ledger>(rt: &impl Abort, blank: Blank)
+    requires name { blank.name ≡ L.name }
+    requires parts { blank.parts ≡ L.parts }
+    requires shared { 0 < blank.parts }
+{
+    let mut steps = Steps::<L>::new(blank);
+    let mut row = [0, 0];
+    assert_eq!(rt;
+        combine_into(&mut row, &[1, 2], 3, &[5, -1], -2, &mut steps),
+        Ok(())
+    );
+    assert_eq!(rt; row, [-7, 8]);
+    assert_eq!(rt;
+        combine_into(&mut row, &[1, K], 1, &[1, 1], 1, &mut steps),
+        Err(1)
+    );
+    assert_eq!(rt;
+        combine_into(&mut row, &[K, 1], 2, &[K, 1], -2, &mut steps),
+        Err(0)
+    );
+    assert_eq!(rt; row, [-7, 8], "a refused combination writes nothing");
+    assert_eq!(rt;
+        combine_into(&mut row, &[N - 1, -N], N - 1, &[N, 1], -N, &mut steps),
+        Ok(())
+    );
+    assert_eq!(rt; row, [1 - 2 * N, -N * N]);
+}
+
+#[test]
+fn fresh_combinations(rt: HostRuntime) {
+    check_fresh_combinations::<Brand>(&rt, Blank::new(1));
 }
 
 #[test]
