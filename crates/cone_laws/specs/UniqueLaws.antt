@@ -1,10 +1,15 @@
 use Rattle.std.specs.Prelude.{◌≡◌, ℕ, List, length, ℤ, IsPermutation}
 use Rattle.std.specs.Ordering.{MatchOrdering, int_cmp}
 use Rattle.std.specs.Cmp.Lexicographic.{slice_cmp}
+use Rattle.row_core.specs.Content.{IsPrimitiveOf}
 use Rattle.row_core.specs.Lists.{Row}
 use Rattle.row_core.specs.Orders.{IsGreater, AreInOrder}
 use Rattle.cone_laws.specs.Cones.{Upto}
 use Rattle.cone_laws.specs.Canon.{IsSystem, Canon}
+
+-- no vector is a positive multiple of two primitive ones
+abbrev pub HasOnePrimitive : Type 0
+HasOnePrimitive = (old a b : List ℤ) → IsPrimitiveOf old a → IsPrimitiveOf old b → a ≡ b
 
 -- the first k rows of the one list admit the vectors that the first n of the other admit
 pub record AdmitSame (width : ℕ) (rows : List Row) (k : ℕ) (others : List Row)

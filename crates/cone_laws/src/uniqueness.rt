@@ -1,7 +1,13 @@
 //! Laws of the canonical system:
 //! it is unique, and it doesn't depend on the order in which its rays are found.
 
-ghost use Rattle.cone_laws.specs.UniqueLaws.{SystemIsUnique, CanonIsUnique, OrderIsLexicographic, OrderKeepsSystem, SortedSystemIsCanon};
+ghost use Rattle.cone_laws.specs.UniqueLaws.{HasOnePrimitive, SystemIsUnique, CanonIsUnique, OrderIsLexicographic, OrderKeepsSystem, SortedSystemIsCanon};
+
+/// A row is a positive multiple of one primitive row alone, so all ways of making it primitive have
+/// one answer.
+pub fn one_primitive()
+    ensures { HasOnePrimitive }
+{}
 
 /// Two systems of one cone have the same lines, and the same rays but for their order.
 pub fn system_is_unique()

@@ -2,7 +2,7 @@
 ghost use Rattle.std.specs.Prelude.{◌≡◌, ◌+◌, ◌-◌, ◌^◌, ◌<◌, ◌==◌, ◌↔◌, List, [], ◌∷◌, ◌++◌};
 ghost use Rattle.std.specs.Prelude.{length, map, ℤ, All, MatchResult, IfOk, IsTrue, Err, Contains};
 ghost use Rattle.row_core.specs.Range.{AllInRange};
-ghost use Rattle.row_core.specs.Narrow.{AreNarrow};
+ghost use Rattle.row_core.specs.Sizes.{AllHaveBits};
 ghost use Rattle.row_core.specs.Content.{IsPrimitive};
 ghost use Rattle.row_core.specs.Lists.{vectors};
 ghost use Rattle.row_core.specs.Points.{IsPoint};
@@ -219,11 +219,11 @@ impl ConsSys {
         false
     }
 
-    /// Whether the numbers of all rows are narrow.
-    pub fn is_narrow(&self) -> bool
-        ensures { IsTrue result ↔ AreNarrow self.now.list }
+    /// How many bits the numbers of all rows have at most.
+    pub fn bits(&self) -> u32
+        ensures { AllHaveBits result self.now.list }
     {
-        self.rows.is_narrow()
+        self.rows.bits()
     }
 
     /// Lends the constraints in order, each row with its kind.

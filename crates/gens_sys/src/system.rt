@@ -1,9 +1,9 @@
 //! A list of generators over one dimension.
 ghost use Rattle.std.specs.Prelude.{◌≡◌, ℕ, ◌+◌, ◌-◌, ◌^◌, ◌<◌, ◌==◌, ◌↔◌, List, [], ◌∷◌, ◌++◌};
-ghost use Rattle.std.specs.Prelude.{length, map, ℤ, All, MatchResult, IfOk, IsTrue, Err};
+ghost use Rattle.std.specs.Prelude.{length, map, ℤ, All, MatchResult, IfOk, Err};
 ghost use Rattle.row_core.specs.Vectors.{cell};
 ghost use Rattle.row_core.specs.Range.{AllInRange};
-ghost use Rattle.row_core.specs.Narrow.{AreNarrow};
+ghost use Rattle.row_core.specs.Sizes.{AllHaveBits};
 ghost use Rattle.gens_sys.specs.Kinds.{HasBadDivisor, IsZeroDirection};
 ghost use Rattle.gens_sys.specs.Generators.{Generators, IsGenerator, FitDimension, Gains};
 ghost use Rattle.gens_sys.specs.Generators.{generator_of, generator_at, row_at, kind_at};
@@ -246,11 +246,11 @@ impl GensSys {
         self.rows.mark(i)
     }
 
-    /// Whether the numbers of all vectors are narrow.
-    pub fn is_narrow(&self) -> bool
-        ensures { IsTrue result ↔ AreNarrow self.now.list }
+    /// How many bits the numbers of all vectors have at most.
+    pub fn bits(&self) -> u32
+        ensures { AllHaveBits result self.now.list }
     {
-        self.rows.is_narrow()
+        self.rows.bits()
     }
 
     /// Lends the generators in order, each vector with its kind.

@@ -3,14 +3,16 @@
 //!
 //! - [`descending_order`] gives the indices of the rays, the greatest first, [`is_descending`] tells
 //!   whether they stand so, and [`rays_at`] gives the rays at some indices. All read any list that
-//!   lends rows of one width (`LendRows` of row_core).
+//!   lends rows of one width ([`LendRows`]).
 //! - [`sorted_order`] gives the indices of the rows in sorted order, [`places_of`] the place of
 //!   each row in an order, and [`rows_at`] the rows at some indices.
 #![tactic(auto)]
 
 mod keys;
+mod lending;
 mod order;
 mod row_order;
 
+pub use lending::LendRows;
 pub use order::{descending_order, is_descending, rays_at};
 pub use row_order::{is_as_listed, places_of, rows_at, sorted_order};

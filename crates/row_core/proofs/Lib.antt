@@ -2,7 +2,6 @@ pub mod Ring
 pub mod RowListLemmas
 pub mod OrderLemmas
 pub mod DotLemmas
-pub mod NarrowLemmas
 pub mod SizeLemmas
 pub mod ColumnLemmas
 pub mod CellLemmas

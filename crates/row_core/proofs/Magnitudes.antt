@@ -1,5 +1,5 @@
 -- Magnitudes and signs of numbers.
-use Rattle.std.specs.Prelude.{◌≡◌, ◌≢◌, ℕ, zero, suc, ◌/◌, ◌^◌, ◌<◌, ℤ, pos, negsuc, neg_ℤ, ◌*ℤ◌, ◌<ℤ◌, unsigned_abs, int_div}
+use Rattle.std.specs.Prelude.{◌≡◌, ◌≢◌, ℕ, zero, suc, ◌+◌, ◌/◌, ◌^◌, ◌<◌, ◌≤◌, ℤ, pos, negsuc, neg_ℤ, ◌+ℤ◌, ◌*ℤ◌, ◌<ℤ◌, ◌≤ℤ◌, unsigned_abs, int_div}
 use Rattle.std.specs.Int.{w128}
 use Rattle.std.proofs.Common.{refl, sym, ap, ◌∙◌, arith, to_z, of_z}
 use Rattle.std.proofs.lemmas.Int.{ints, to_z-of_z, to_z_pos, fits_signed_from_abs}
@@ -65,3 +65,23 @@ pub sign_below : (u x : ℤ) → u <ℤ pos 0 → neg_ℤ x ≡ sign u *ℤ x
 sign_below (pos zero) x h = absurd (omega (arith, ints, h))
 sign_below (pos (suc n)) x h = absurd (omega (arith, ints, h))
 sign_below (negsuc n) x h = minus_one x
+
+-- ---- the size of a sum
+at_most_size : (z : ℤ) (n : ℕ) → unsigned_abs z ≤ n → z ≤ℤ pos n
+at_most_size (pos a) n h = omega (arith, ints)
+at_most_size (negsuc a) n h = omega (arith, ints)
+
+at_least_size : (z : ℤ) (n : ℕ) → unsigned_abs z ≤ n → neg_ℤ (pos n) ≤ℤ z
+at_least_size (pos a) n h = omega (arith, ints)
+at_least_size (negsuc a) n h = omega (arith, ints)
+
+size_between : (z : ℤ) (n : ℕ) → z ≤ℤ pos n → neg_ℤ (pos n) ≤ℤ z → unsigned_abs z ≤ n
+size_between (pos a) n h k = omega (arith, ints)
+size_between (negsuc a) n h k = omega (arith, ints)
+
+pub unsigned_abs-add : (a b : ℤ) (m n : ℕ) → unsigned_abs a ≤ m → unsigned_abs b ≤ n →
+    unsigned_abs (a +ℤ b) ≤ m + n
+unsigned_abs-add a b m n h k =
+    size_between (a +ℤ b) (m + n)
+    (omega (arith, ints, at_most_size a m h, at_most_size b n k))
+    (omega (arith, ints, at_least_size a m h, at_least_size b n k))

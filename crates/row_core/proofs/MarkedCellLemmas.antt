@@ -7,9 +7,8 @@ use Rattle.std.proofs.lemmas.List.Elements.{All-nil, All-cons, All-tail, All-app
 use Rattle.std.proofs.lemmas.List.Edits.{length-insert, length-remove}
 use Rattle.std.proofs.Math.Nat.{mul-le-mul_right}
 use Rattle.row_core.specs.Range.{InRange, AllInRange}
-use Rattle.row_core.specs.Content.{IsPrimitiveOf}
 use Rattle.row_core.specs.Lists.{Row, AreMarked}
-use Rattle.row_core.specs.MarkedCells.{marked_rows, cells_of, remarked, AreWide, HaveOneWidth, IsLaid, IsRestPrimitive, IsPrimitiveAppended}
+use Rattle.row_core.specs.MarkedCells.{marked_rows, cells_of, remarked, AreWide, HaveOneWidth, IsLaid}
 
 -- ---- the cells of rows
 pub length-cells_of : {M : Type 0} (width : ℕ) (rows : List (List ℤ × M)) → AreWide width rows →
@@ -549,19 +548,3 @@ module _ {M : Type 0} (width other chosen : ℕ) (cells later : List ℤ) (marks
           chosen < 2 ^ 32
       narrow (inl e) = omega (arith, e.1, right.narrow)
       narrow (inr e) = omega (arith, e.1, left.narrow)
-
--- the cells that are appended are made primitive
-pub primitive_appended : (old row mid new : List ℤ) (start : ℕ) → mid ≡ old ++ row →
-    start ≡ length old → IsRestPrimitive start mid new → IsPrimitiveAppended old new row
-primitive_appended old row mid new start appended first made =
-    let front : take start mid ≡ old = ap (λ (l : List ℤ). take start l) appended ∙
-    take_at old row start (sym first) in
-    let rest : drop start mid ≡ row = ap (λ (l : List ℤ). drop start l) appended ∙
-    drop_at old row start (sym first) in
-    record {
-      stored = made.rest;
-      primitive = subst (λ (v : List ℤ). IsPrimitiveOf v made.rest) rest made.primitive;
-      in_range = made.in_range;
-      wide = made.wide ∙ ap length rest;
-      cells = made.same ∙ ap (λ (l : List ℤ). l ++ made.rest) front;
-    }

@@ -1,5 +1,5 @@
 -- Sizes of products and sums of numbers of bounded size.
-use Rattle.std.specs.Prelude.{◌≡◌, ℕ, zero, suc, ◌+◌, ◌*◌, ◌^◌, ◌<◌, ◌≤◌, List, length, take, ℤ, pos, ◌+ℤ◌, unsigned_abs, bit_or}
+use Rattle.std.specs.Prelude.{◌≡◌, ℕ, zero, suc, ◌+◌, ◌*◌, ◌^◌, ◌<◌, ◌≤◌, List, [], ◌∷◌, length, take, drop, ℤ, pos, ◌+ℤ◌, unsigned_abs, bit_or}
 use Rattle.std.proofs.Common.{arith, refl, sym, subst, add-one}
 use Rattle.std.proofs.Math.IntN.{◌*ℤ◌}
 use Rattle.std.proofs.Math.Nat.{mul-le-mul, mul-le-mul_right, suc-mul, one-le-pow}
@@ -9,18 +9,30 @@ use Rattle.std.specs.Int.{w64}
 use Rattle.std.proofs.lemmas.Int.{unsigned_abs-mul, fits_signed_from_abs}
 use Rattle.std.proofs.lemmas.Nat.{le_or_l, le_or_r}
 use mir.Val.{SFits}
-use Rattle.std.proofs.lemmas.List.Elements.{All-get_or}
+use Rattle.std.proofs.lemmas.List.Elements.{All-nil, All-cons, All-get_or, All-take, All-drop}
 use Rattle.row_core.specs.Vectors.{cell, dot}
 use Rattle.row_core.specs.Range.{InRange, ColumnStays, CombineStays, DotStays, AllStay}
-use Rattle.row_core.specs.Sizes.{IsWithin, HaveBits, DotIsOfWords, ColumnIsOfWords, CombineIsOfWords}
+use Rattle.row_core.specs.MarkedCells.{marked_rows}
+use Rattle.row_core.specs.Sizes.{IsWithin, HaveBits, AllHaveBits, DotIsOfWords, ColumnIsOfWords, CombineIsOfWords}
 use Rattle.row_core.proofs.ColumnLemmas.{total_more}
-use Rattle.row_core.proofs.NarrowLemmas.{unsigned_abs-add}
+use Rattle.row_core.proofs.Magnitudes.{unsigned_abs-add}
 
 -- more bits
 pub HaveBits-more : (a b : ℕ) (v : List ℤ) → a ≤ b → HaveBits a v → HaveBits b v
 HaveBits-more a b v h all =
     let more : 2 ^ a ≤ 2 ^ b = pow_mono h in
     λ i d below. record { size = omega (arith, more, (all i d below).size) }
+
+-- of rows, that of all their cells
+pub AllHaveBits-marked_rows : {M : Type 0} (bits width : ℕ) (cells : List ℤ) (marks : List M) →
+    HaveBits bits cells → AllHaveBits bits (marked_rows width cells marks)
+AllHaveBits-marked_rows {M} bits width cells [] all =
+    All-nil (λ (r : List ℤ × M). HaveBits bits r.0)
+AllHaveBits-marked_rows {M} bits width cells (mark ∷ marks) all =
+    All-cons (λ (r : List ℤ × M). HaveBits bits r.0) (take width cells, mark)
+    (marked_rows width (drop width cells) marks) (All-take (IsWithin (2 ^ bits)) width cells all)
+    (AllHaveBits-marked_rows bits width (drop width cells) marks
+    (All-drop (IsWithin (2 ^ bits)) width cells all))
 
 -- the product of numbers of bounded size
 pub unsigned_abs-mul_within : (a b : ℕ) (x y : ℤ) → IsWithin a x → IsWithin b y →
@@ -135,6 +147,11 @@ module _ (a b : ℕ) (u v : List ℤ) (e : length u ≡ length v) (left : HaveBi
     product = record { size = product_below (2 ^ 63) few j h };
     sum = record { size = sum_below (2 ^ 63) few j h };
   }
+
+  -- as of fewer than 2^32 columns of numbers of few bits
+  pub AllStay-short_dot : length u < 2 ^ 32 → a + b ≤ 95 → AllStay (DotStays u v) (length u)
+  AllStay-short_dot few short =
+      AllStay-dot_within (few_columns (length u) a b 32 127 few (omega (arith, short)))
 
 -- a dot of words stays
 pub AllStay-words : (u v : List ℤ) → AllStay (DotIsOfWords u v) (length u) →

@@ -1,13 +1,11 @@
 pub mod Vectors
 pub mod Range
-pub mod Narrow
 pub mod Sizes
 pub mod Content
 pub mod Points
 pub mod Lists
 pub mod Pairs
 pub mod Orders
-pub mod Laws
 pub mod Sameness
 pub mod MarkedCells
 pub mod Refusals

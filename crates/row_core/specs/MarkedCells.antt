@@ -36,14 +36,6 @@ pub record IsLaid (width count : ℕ) (cells : List ℤ) : Type 0 where
   pub narrow : width < 2 ^ 32
   pub in_range : AllInRange cells
 
--- the cells from one place on are made primitive, and the others stay
-pub record IsRestPrimitive (start : ℕ) (old new : List ℤ) : Type 0 where
-  pub rest : List ℤ
-  pub same : new ≡ take start old ++ rest
-  pub primitive : IsPrimitiveOf (drop start old) rest
-  pub in_range : AllInRange rest
-  pub wide : length rest ≡ length (drop start old)
-
 -- the row is appended to the cells, made primitive
 pub record IsPrimitiveAppended (old new row : List ℤ) : Type 0 where
   pub stored : List ℤ

@@ -10,6 +10,10 @@ pub record IsWithin (n : ℕ) (z : ℤ) : Type 0 where
 abbrev pub HaveBits : ℕ → List ℤ → Type 0
 HaveBits bits v = All (IsWithin (2 ^ bits)) v
 
+-- the numbers of each row have at most so many bits
+abbrev pub AllHaveBits : {M : Type 0} → ℕ → List (List ℤ × M) → Type 0
+AllHaveBits bits rows = All (λ row. HaveBits bits row.0) rows
+
 -- the number is that of a word of 64 bits
 pub record IsWord (z : ℤ) : Type 0 where
   pub size : unsigned_abs z < 2 ^ 63

@@ -255,7 +255,11 @@ impl RowList {
         ensures rows { MatchResult result (λ _. self.new.rows ≡ self.old.rows ++ list.rows)
             (λ _. self.new.rows ≡ self.old.rows) }
     {
-        self.marked.append(list.into_marked())
+        if self.marked.is_empty() {
+            self.marked = list.into_marked();
+            return Ok(());
+        }
+        self.push_all(&list)
     }
 
     /// Puts a copy of a row before row `i`, or at the end. Out of memory, the list is as before.

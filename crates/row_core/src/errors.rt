@@ -69,13 +69,11 @@ impl Overflow {
         ensures { IfOk result (λ over. over ≡ record
             { kind = kind; step = 0; left = left.now; right = right.now; column = column }) }
     {
-        let left = RowBuf::new(alloc, left)?;
-        let right = RowBuf::new(alloc, right)?;
         Ok(Overflow {
             kind,
             step: 0,
-            left,
-            right,
+            left: RowBuf::new(alloc, left)?,
+            right: RowBuf::new(alloc, right)?,
             column,
         })
     }

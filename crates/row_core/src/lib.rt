@@ -10,22 +10,17 @@
 //! - [`product`], [`sum`] and [`combination`] give one exact number, if the range isn't left.
 //! - [`bits`] tells how large the numbers of a row are; [`dot_within`], [`combine_within`] and
 //!   [`make_primitive_within`] are told it, and test nothing where all that they compute fits.
-//! - [`narrow_dot`] needs no such test, where [`all_narrow`] told that all numbers are small.
+//! - [`short_dot`] is for numbers of so few bits that it can't refuse.
 //! - [`gcd`] and [`make_primitive`] divide a row by the greatest common divisor of its entries, and
 //!   [`is_primitive`] tells whether there is none above 1; [`quotient`] divides one number, and
 //!   [`negate`] changes all signs.
-//! - [`LendRows`] is what lists have in common that lend rows of one width.
-//! - [`one_primitive`] is a law of primitive rows.
 #![tactic(auto)]
 
 mod buffers;
 mod counting;
 mod errors;
-mod laws;
-mod lending;
 mod linear;
 mod marked;
-mod narrow;
 mod primitive;
 mod signs;
 mod sizes;
@@ -33,11 +28,10 @@ mod sizes;
 pub use buffers::{RowBuf, RowList};
 pub use counting::Steps;
 pub use errors::{ConvErr, Memory, OverKind, Overflow, PairOver};
-pub use laws::one_primitive;
-pub use lending::LendRows;
-pub use linear::{combination, combine_into, combine_within, dot, dot_within, product, sum};
+pub use linear::{
+    combination, combine_into, combine_within, dot, dot_within, product, short_dot, sum,
+};
 pub use marked::{Iter, MarkedRows};
-pub use narrow::{all_narrow, narrow_dot};
 pub use primitive::{gcd, is_primitive, make_primitive, make_primitive_within, quotient};
 pub use signs::negate;
 pub use sizes::bits;

@@ -1,6 +1,6 @@
 //! Dot products and combinations of rows, exact or refused at the first column that leaves the
 //! range.
-ghost use Rattle.std.specs.Prelude.{◌≡◌, ℕ, ◌+◌, ◌^◌, ◌<◌, length, ◌+ℤ◌, ◌*ℤ◌, SomeIff, MatchResult, IfOk, OnOk};
+ghost use Rattle.std.specs.Prelude.{◌≡◌, ℕ, ◌+◌, ◌^◌, ◌<◌, ◌≤◌, length, ◌+ℤ◌, ◌*ℤ◌, SomeIff, MatchResult, IfOk, OnOk};
 ghost use Rattle.row_core.specs.Vectors.{dot, scale, add};
 ghost use Rattle.row_core.specs.Range.{InRange, AllInRange, ColumnStays, DotStays, CombineStays, IsFirstToLeave, AllStay};
 ghost use Rattle.row_core.specs.Sizes.{HaveBits};
@@ -44,14 +44,33 @@ pub fn dot_within(u: &[i128], v: &[i128], left: u32, right: u32) -> Result<i128,
         (IsFirstToLeave Stays width) }
     ensures in_range { IfOk result InRange }
 {
-    let bits = u64::from(left) + u64::from(right) + u64::from(bits_of(u.len() as u128));
-    if bits <= 63 {
-        return Ok(word_dot(u, v));
+    let bits = u64::from(left) + u64::from(right);
+    if bits <= 95 {
+        return Ok(short_dot(u, v, left, right));
     }
-    if bits <= 127 {
+    if bits + u64::from(bits_of(u.len() as u128)) <= 127 {
         return Ok(exact_dot(u, v));
     }
     checked_dot(u, v)
+}
+
+/// What [`dot`] gives, of rows whose numbers have so few bits that it isn't refused.
+#[inline]
+pub fn short_dot(u: &[i128], v: &[i128], left: u32, right: u32) -> i128
+    requires same_width { length u.now ≡ length v.now }
+    requires narrow { length u.now < 2 ^ 32 }
+    requires left { HaveBits left u.now }
+    requires right { HaveBits right v.now }
+    requires short { left + right ≤ 95 }
+    ensures value { result ≡ dot u.now v.now }
+    ensures stays { AllStay (DotStays u.now v.now) (length u.now) }
+    ensures in_range { InRange result }
+{
+    let bits = u64::from(left + right) + u64::from(bits_of(u.len() as u128));
+    if bits <= 63 {
+        return word_dot(u, v);
+    }
+    exact_dot(u, v)
 }
 
 /// Writes `s * u + t * v` over `dst`, and counts one combination. All three rows have one width.
@@ -79,7 +98,8 @@ pub fn combine_into<L: Ledger>(
 {
     steps.tick();
     check_combination(u, s, v, t)?;
-    write_combination(dst, u, s, v, t);
+    dst.copy_from_slice(u);
+    write_onto(dst, s, v, t);
     Ok(())
 }
 
@@ -174,18 +194,6 @@ fn check_combination(u: &[i128], s: i128, v: &[i128], t: i128) -> Result<(), u32
         };
     }
     Ok(())
-}
-
-/// Writes `s * u + t * v` over `dst`.
-fn write_combination(dst: &mut [i128], u: &[i128], s: i128, v: &[i128], t: i128)
-    requires same_width { (length dst.old ≡ length u.now) × (length u.now ≡ length v.now) }
-    requires stays { AllStay (CombineStays u.now s v.now t) (length u.now) }
-    ensures combined { dst.new ≡ add (scale s u.now) (scale t v.now) }
-    ensures in_range { AllInRange dst.new }
-{
-    for j in 0..dst.len() {
-        dst[j] = s * u[j] + t * v[j];
-    }
 }
 
 /// Writes `s * dst + t * v` over `dst`.

@@ -1,23 +1,21 @@
 //! Rows, each with a mark, whose cells stand in one buffer.
-ghost use Rattle.std.specs.Prelude.{◌≡◌, ◌+◌, ◌*◌, ◌^◌, ◌<◌, ◌≤◌, ◌==◌, ◌↔◌, List, [], ◌∷◌, ◌++◌};
-ghost use Rattle.std.specs.Prelude.{length, take, drop, All, ℤ, IsTrue, OnOk, MatchResult, IfOk};
-ghost use Rattle.std.specs.Prelude.{slice_index_or, slice_set, remove, vec_len, vec_capacity};
+ghost use Rattle.std.specs.Prelude.{◌≡◌, ◌+◌, ◌*◌, ◌^◌, ◌<◌, ◌≤◌, ◌==◌, List, [], ◌∷◌, ◌++◌};
+ghost use Rattle.std.specs.Prelude.{length, take, drop, slice_index_or, slice_set, remove, vec_len, vec_capacity, ℤ, OnOk, MatchResult, IfOk};
 ghost use Rattle.std.specs.List.{insert};
 ghost use Rattle.std.specs.Cmp;
 ghost use Rattle.std.specs.Cmp.Lexicographic.{pointwise};
 ghost use Rattle.std.specs.Iterator.{YieldsFirstBy, item_count};
 ghost use Rattle.std.specs.Borrow.{Bor};
 ghost use Rattle.row_core.specs.Range.{AllInRange};
-ghost use Rattle.row_core.specs.Narrow.{AreNarrow};
-ghost use Rattle.row_core.specs.MarkedCells.{marked_rows, cells_of, remarked, AreWide, HaveOneWidth, IsLaid};
-ghost use Rattle.row_core.specs.MarkedCells.{IsRestPrimitive, IsPrimitiveAppended};
+ghost use Rattle.row_core.specs.Sizes.{AllHaveBits};
+ghost use Rattle.row_core.specs.MarkedCells.{marked_rows, cells_of, remarked, AreWide, HaveOneWidth, IsLaid, IsPrimitiveAppended};
 ghost use Rattle.row_core.specs.Lists.{GainsPrimitive};
 ghost use Rattle.row_core.specs.Sameness.{is_same_marked, same_marked_equiv};
 
 use crate::buffers::RowBuf;
 use crate::errors::Memory;
-use crate::narrow::all_narrow;
 use crate::primitive::make_primitive;
+use crate::sizes::bits;
 use std::alloc::{AllocError, Global};
 use std::marker::Model;
 
@@ -58,12 +56,10 @@ impl<M: Copy> MarkedRows<M> {
         ensures { IfOk result (λ list. list ≡ []) }
     {
         let places = rows.checked_mul(width).ok_or(Memory)?;
-        let cells = Vec::with_capacity(alloc, places)?;
-        let marks = Vec::with_capacity(alloc, rows)?;
         Ok(MarkedRows {
             width: 0,
-            cells,
-            marks,
+            cells: Vec::with_capacity(alloc, places)?,
+            marks: Vec::with_capacity(alloc, rows)?,
         })
     }
 
@@ -147,20 +143,6 @@ impl<M: Copy> MarkedRows<M> {
             cells: self.cells,
             marks,
         }
-    }
-
-    /// Appends the rows of another list of this width. Where there is none yet, they are taken over
-    /// without a copy. Out of memory, the list is as before, and the others are dropped.
-    pub fn append(&mut self, later: MarkedRows<M>) -> Result<(), Memory>
-        requires { HaveOneWidth self.old later }
-        ensures { MatchResult result (λ _. self.new ≡ self.old ++ later)
-            (λ _. self.new ≡ self.old) }
-    {
-        if self.marks.is_empty() {
-            *self = later;
-            return Ok(());
-        }
-        self.append_copies(&later)
     }
 
     /// Appends copies of the rows of another list of this width. Out of memory, the list is as
@@ -268,11 +250,11 @@ impl<M: Copy> MarkedRows<M> {
         self.marks[i]
     }
 
-    /// Whether the numbers of all rows are narrow.
-    pub fn is_narrow(&self) -> bool
-        ensures { IsTrue result ↔ AreNarrow self.now }
+    /// How many bits the numbers of all rows have at most.
+    pub fn bits(&self) -> u32
+        ensures { AllHaveBits result self.now }
     {
-        all_narrow(self.cells.as_slice())
+        bits(self.cells.as_slice())
     }
 
     /// Lends the rows in order, each with its mark.
@@ -371,7 +353,7 @@ fn append_primitive(cells: &mut Vec<i128>, row: &[i128])
 {
     let start = cells.len();
     append_slice(cells, row);
-    make_rest_primitive(cells.as_mut_slice(), start);
+    make_primitive(&mut cells[start..]);
 }
 
 /// Appends elements, for which there is room.
@@ -412,13 +394,4 @@ fn put_row(cells: &mut Vec<i128>, start: usize, row: &[i128])
         ++ (row.now ++ drop (start + length row.now) cells.old.items) }
 {
     cells[start..start + row.len()].copy_from_slice(row);
-}
-
-/// Makes the cells from one place on primitive.
-fn make_rest_primitive(cells: &mut [i128], start: usize)
-    requires within { start ≤ length cells.old }
-    requires in_range { AllInRange (drop start cells.old) }
-    ensures { IsRestPrimitive start cells.old cells.new }
-{
-    make_primitive(&mut cells[start..]);
 }

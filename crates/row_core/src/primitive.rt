@@ -65,7 +65,14 @@ pub fn gcd(a: u128, b: u128) -> u128
     if a <= WORD && b <= WORD {
         return u128::from(word_gcd(a as u64, b as u64));
     }
-    wide_gcd(a, b)
+    let mut x = a;
+    let mut y = b;
+    while y != 0 {
+        let rest = x % y;
+        x = y;
+        y = rest;
+    }
+    x
 }
 
 /// An exact quotient. One by 1 divides nothing, and small numbers are divided as words.
@@ -128,21 +135,6 @@ fn words_content(row: &[i128]) -> u64
 
 /// The greatest common divisor of words, by Euclid's algorithm. That of 0 and 0 is 0.
 fn word_gcd(a: u64, b: u64) -> u64
-    ensures { IsGcd a b result }
-{
-    let mut x = a;
-    let mut y = b;
-    while y != 0 {
-        let rest = x % y;
-        x = y;
-        y = rest;
-    }
-    x
-}
-
-/// The greatest common divisor of numbers of two words, by Euclid's algorithm. That of 0 and 0 is
-/// 0.
-fn wide_gcd(a: u128, b: u128) -> u128
     ensures { IsGcd a b result }
 {
     let mut x = a;

@@ -1,5 +1,5 @@
 use Rattle.row_core.proofs.OnePrimitive.{IsPrimitiveOf-once}
-use Rattle.row_core.proofs.laws.one_primitive.Goals as goal
+use Rattle.cone_laws.proofs.uniqueness.one_primitive.Goals as goal
 
 pub returns : goal.returns
 returns c = IsPrimitiveOf-once

@@ -3,7 +3,7 @@ ghost use Rattle.std.specs.Prelude.{◌≡◌, ◌^◌, ◌<◌, length};
 ghost use Rattle.row_core.specs.Range.{AllInRange};
 ghost use Rattle.row_core.specs.Lists.{Rows, row_at};
 
-use crate::buffers::RowList;
+use row_core::RowList;
 
 /// A list that lends rows of one width by their index.
 pub trait LendRows {

@@ -1,4 +1,0 @@
-use Rattle.cons_sys.proofs.system.ConsSys.is_narrow.Goals as goal
-
-pub returns : goal.returns
-returns c = rw (← c.self.view_is) c.is_narrow.ensures
