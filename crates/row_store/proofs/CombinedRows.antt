@@ -7,7 +7,7 @@ use Rattle.std.proofs.lemmas.Bool.{false≢true}
 use Rattle.row_core.proofs.Ring.{one-mul}
 use Rattle.row_core.specs.Vectors.{scale, add}
 use Rattle.row_core.specs.Content.{IsPrimitiveOf}
-use Rattle.flat_rows.specs.Flat.{Flat, entries_at, HasOneWidth}
+use Rattle.flat_rows.specs.Flat.{Flat, entries_at}
 use Rattle.row_core.specs.Range.{CombineStays, IsFirstToLeave}
 use Rattle.row_core.proofs.CellLemmas.{length-scale, length-add}
 use Rattle.row_store.specs.Stores.{IsNegated, IsRowChanged, IsCombinedWith, IsRefusedAt}
@@ -25,7 +25,7 @@ pub pushed_before : (rows : List (List ℤ)) (row : List ℤ) (i : ℕ) → i < 
 pushed_before rows row i h = get_or_append_left rows (row ∷ []) [] i h
 
 -- a combination that was written over the row that was pushed, and made primitive
-pub is_appended : (u v second first : ℤ) (left right : List ℤ) (last : ℕ) (old pushed written new : Flat ℤ) → AreFactors u v second first → u ≢ pos 0 → length left ≡ length right → last ≡ length old.rows
+is_appended : (u v second first : ℤ) (left right : List ℤ) (last : ℕ) (old pushed written new : Flat ℤ) → AreFactors u v second first → u ≢ pos 0 → length left ≡ length right → last ≡ length old.rows
     → pushed.width ≡ old.width → pushed.rows ≡ old.rows ++ right ∷ [] → pushed.spare + 1 ≡ old.spare
     → written ≡ record pushed { rows = set pushed.rows last (add (scale second (entries_at pushed.rows last)) (scale first left)) } → IsRowChanged IsPrimitiveOf last written new
     → IsRowAppended (IsCombined u v left right) old new
@@ -46,14 +46,14 @@ is_appended u v second first left right last old pushed written new factors ne w
     }
 
 -- the rows after a combination was refused
-pub is_left : (right : List ℤ) (last : ℕ) (old pushed left new : Flat ℤ) → last ≡ length old.rows → pushed.width ≡ old.width → pushed.rows ≡ old.rows ++ right ∷ [] → left ≡ pushed → new ≡ record left { rows = take last left.rows } → HasSameRows old new
+is_left : (right : List ℤ) (last : ℕ) (old pushed left new : Flat ℤ) → last ≡ length old.rows → pushed.width ≡ old.width → pushed.rows ≡ old.rows ++ right ∷ [] → left ≡ pushed → new ≡ record left { rows = take last left.rows } → HasSameRows old new
 is_left right last old pushed left new at width rows same is = record {
   width = ap (λ (t : Flat ℤ). t.width) is ∙ ap (λ (t : Flat ℤ). t.width) same ∙ width;
   rows = ap (λ (t : Flat ℤ). t.rows) is ∙ ap (λ (t : Flat ℤ). take last t.rows) same ∙ ap (λ (rs : List (List ℤ)). take last rs) rows ∙ take_at old.rows (right ∷ []) last (sym at);
 }
 
 -- the first column at which the combination leaves the range
-pub leaves_at : (u v second first : ℤ) (left right source : List ℤ) (width column : ℕ) → AreFactors u v second first → source ≡ right → length right ≡ width → IsFirstToLeave (CombineStays source second left first) width column → CombinationLeaves u v left right column
+leaves_at : (u v second first : ℤ) (left right source : List ℤ) (width column : ℕ) → AreFactors u v second first → source ≡ right → length right ≡ width → IsFirstToLeave (CombineStays source second left first) width column → CombinationLeaves u v left right column
 leaves_at u v second first left right source width column factors here wide h = record {
   second = second;
   first = first;
@@ -69,30 +69,20 @@ last_stays s t v row last old pushed new (Ok x) at rows h =
 last_stays s t v row last old pushed new (Err c) at rows h =
     omega (arith, at, ap length rows ∙ length_push old.rows row, ap (λ (f : Flat ℤ). length f.rows) h.0)
 
--- what follows from a combination and what was made of it
-pub ended_as : {A E : Type 0} (P : A → Type 0) (P' : Type 0) (Q Q' : E → Type 0) (X Y : Type 0) (r r' : Result A E) → OnOk r (IsOk r') → OnErr r (r' ≡ r) → MatchResult r P Q → OnOk r X → OnErr r Y
-    → ((x : A) → P x → X → P') → ((e : E) → Q e → Y → Q' e) → MatchResult r' (λ _. P') Q'
-ended_as P P' Q Q' X Y (Ok x) (Ok y) is same h made dropped ok err = ok x h made
-ended_as P P' Q Q' X Y (Ok x) (Err e) is same h made dropped ok err = absurd (false≢true is)
-ended_as P P' Q Q' X Y (Err e) r' is same h made dropped ok err = rw same (err e h dropped)
-
--- ---- where the other row is one of the store
-pub is_appended_of : (u v second first : ℤ) (i j last : ℕ) (old pushed written new : Flat ℤ) → HasOneWidth old → i < length old.rows → j < length old.rows → AreFactors u v second first → u ≢ pos 0 → last ≡ length old.rows
-    → pushed.width ≡ old.width → pushed.rows ≡ old.rows ++ entries_at old.rows j ∷ [] → pushed.spare + 1 ≡ old.spare
-    → written ≡ record pushed { rows = set pushed.rows last (add (scale second (entries_at pushed.rows last)) (scale first (entries_at pushed.rows i))) } → IsRowChanged IsPrimitiveOf last written new
-    → IsRowAppended (IsCombined u v (entries_at old.rows i) (entries_at old.rows j)) old new
-is_appended_of u v second first i j last old pushed written new one in_i in_j factors ne at width rows spare is changed =
-    let before : entries_at pushed.rows i ≡ entries_at old.rows i = ap (λ (rs : List (List ℤ)). entries_at rs i) rows ∙ pushed_before old.rows (entries_at old.rows j) i in_i in
-    let make : List ℤ → Flat ℤ = λ r. record pushed { rows = set pushed.rows last (add (scale second (entries_at pushed.rows last)) (scale first r)) } in
-    is_appended u v second first (entries_at old.rows i) (entries_at old.rows j) last old pushed written new factors ne (one i in_i ∙ sym (one j in_j)) at width rows spare (is ∙ ap make before) changed
-
-pub leaves_at_of : (u v second first : ℤ) (i j last column : ℕ) (old pushed : Flat ℤ) → HasOneWidth old → i < length old.rows → j < length old.rows → AreFactors u v second first → last ≡ length old.rows → pushed.width ≡ old.width → pushed.rows ≡ old.rows ++ entries_at old.rows j ∷ []
-    → IsFirstToLeave (CombineStays (entries_at pushed.rows last) second (entries_at pushed.rows i) first) pushed.width column → CombinationLeaves u v (entries_at old.rows i) (entries_at old.rows j) column
-leaves_at_of u v second first i j last column old pushed one in_i in_j factors at width rows h =
-    let before : entries_at pushed.rows i ≡ entries_at old.rows i = ap (λ (rs : List (List ℤ)). entries_at rs i) rows ∙ pushed_before old.rows (entries_at old.rows j) i in_i in
-    let here : entries_at pushed.rows last ≡ entries_at old.rows j = ap (λ (rs : List (List ℤ)). entries_at rs last) rows ∙ pushed_last old.rows (entries_at old.rows j) last at in
-    leaves_at u v second first (entries_at old.rows i) (entries_at old.rows j) (entries_at pushed.rows last) pushed.width column factors here (one j in_j ∙ sym width)
-    (subst (λ (r : List ℤ). IsFirstToLeave (CombineStays (entries_at pushed.rows last) second r first) pushed.width column) before h)
+-- what a combination over the row that was pushed, and what was made of it, give: the combination, or the rows as before
+pub ended_as : (u v second first : ℤ) (left right : List ℤ) (last : ℕ) (old pushed written new : Flat ℤ) (r r' : Result ℕ ℕ) → AreFactors u v second first → u ≢ pos 0 → length left ≡ length right → length right ≡ pushed.width → last ≡ length old.rows
+    → pushed.width ≡ old.width → pushed.rows ≡ old.rows ++ right ∷ [] → pushed.spare + 1 ≡ old.spare
+    → MatchResult r (λ _. IsCombinedWith second first last left pushed written) (IsRefusedAt second first last left pushed written)
+    → OnOk r (IsOk r') → OnErr r (r' ≡ r) → OnOk r (IsRowChanged IsPrimitiveOf last written new) → OnErr r (new ≡ record written { rows = take last written.rows })
+    → MatchResult r' (λ _. IsRowAppended (IsCombined u v left right) old new) (λ column. HasSameRows old new × CombinationLeaves u v left right column)
+ended_as u v second first left right last old pushed written new (Ok x) (Ok y) factors ne long wide at width rows spare h is same made dropped = is_appended u v second first left right last old pushed written new factors ne long at width rows spare h.0 made
+ended_as u v second first left right last old pushed written new (Ok x) (Err e) factors ne long wide at width rows spare h is same made dropped = absurd (false≢true is)
+ended_as u v second first left right last old pushed written new (Err c) r' factors ne long wide at width rows spare h is same made dropped =
+    let here : entries_at pushed.rows last ≡ right = ap (λ (rs : List (List ℤ)). entries_at rs last) rows ∙ pushed_last old.rows right last at in
+    rw same (
+      is_left right last old pushed written new at width rows h.0 dropped,
+      leaves_at u v second first left right (entries_at pushed.rows last) pushed.width c factors here wide h.1,
+    )
 
 -- ---- a line with the sign of a value
 scale_one : (v : List ℤ) → scale (pos 1) v ≡ v

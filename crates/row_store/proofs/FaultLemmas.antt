@@ -1,25 +1,32 @@
 -- The faults of a step.
-use Rattle.std.specs.Prelude.{◌≡◌, ℕ, ◌+◌, ◌<◌, List, [], ◌∷◌, length, ℤ, pos, slice_index_or, Contains}
+use Rattle.std.specs.Prelude.{◌≡◌, ℕ, ◌+◌, ◌<◌, List, [], ◌∷◌, length, ℤ, pos, slice_index_or, Contains, Result, Ok, Err, MatchResult}
 use Rattle.std.proofs.Common.{sym, ap, ◌∙◌, subst, arith, inl, inr}
 use Rattle.std.proofs.lemmas.List.Elements.{Contains-push_cases}
 use Rattle.row_core.specs.Lists.{Row, vectors, vector_at}
 use Rattle.row_core.specs.Combinations.{CombinationLeaves}
-use Rattle.row_core.proofs.RowListLemmas.{vector_at-vectors}
+use Rattle.row_core.proofs.RowListLemmas.{vector_at-vectors, length-vectors}
 use Rattle.row_store.specs.declared.fault.CombineFault.{CombineFault}
 use Rattle.row_store.specs.declared.fault.Part.{Part}
 use Rattle.row_store.specs.declared.fault.Part.TheVariants.{Lines, Rays}
 use Rattle.row_store.specs.declared.fault.Place.{Place}
-use Rattle.row_store.specs.Changes.{IsGrown}
+use Rattle.row_store.specs.Changes.{AreLowered, AreOthersLowered, IsGrown}
 use Rattle.row_store.specs.Faults.{IsLowerFault, IsOtherFault, IsLineFault, IsPairFault, part_of, part_values}
-use Rattle.row_store.proofs.ChangeLemmas.{row_at-grown}
+use Rattle.row_store.proofs.ChangeLemmas.{row_at-grown, others_from_ranges}
 
 -- a fault below the index
 pub other_from_below : (u : ℤ) (index : ℕ) (line values : List ℤ) (vs : List (List ℤ)) (fault : CombineFault) → index < length vs → IsLowerFault u index line Lines 0 index values vs fault → IsOtherFault u index line values vs fault
 other_from_below u index line values vs fault inside h = (h.0, h.1, (λ e. omega (arith, h.3, e)), omega (arith, h.3), h.4)
 
 -- a fault above the index
-pub other_from_above : (u : ℤ) (index : ℕ) (line values : List ℤ) (vs : List (List ℤ)) (n : ℕ) (fault : CombineFault) → n ≡ length vs → IsLowerFault u index line Lines (index + 1) n values vs fault → IsOtherFault u index line values vs fault
+other_from_above : (u : ℤ) (index : ℕ) (line values : List ℤ) (vs : List (List ℤ)) (n : ℕ) (fault : CombineFault) → n ≡ length vs → IsLowerFault u index line Lines (index + 1) n values vs fault → IsOtherFault u index line values vs fault
 other_from_above u index line values vs n fault end h = (h.0, h.1, (λ e. omega (arith, h.2, e)), omega (arith, h.3), h.4)
+
+-- the vectors above the index, after those below it
+pub others_outcome : {A : Type 0} (u : ℤ) (index : ℕ) (line values : List ℤ) (list middle new : List Row) (n : ℕ) (r : Result A CombineFault) → index < length list → n ≡ length list → AreLowered u line values list 0 index [] middle
+    → MatchResult r (λ _. AreLowered u line values list (index + 1) n middle new) (IsLowerFault u index line Lines (index + 1) n values (vectors list)) → MatchResult r (λ _. AreOthersLowered u index line values list new) (IsOtherFault u index line values (vectors list))
+others_outcome u index line values list middle new n (Ok x) inside end first h =
+    others_from_ranges u index line values list middle new inside first (subst (λ (k : ℕ). AreLowered u line values list (index + 1) k middle new) end h)
+others_outcome u index line values list middle new n (Err fault) inside end first h = other_from_above u index line values (vectors list) n fault (end ∙ sym (length-vectors list)) h
 
 different_part : ¬ (Rays ≡ Lines)
 different_part e = cc

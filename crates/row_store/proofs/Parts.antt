@@ -1,5 +1,6 @@
 -- Rows of one width in a buffer.
 use Rattle.std.proofs.Common.{◌≡◌, ◌≢◌, ℕ, ◌+◌, ◌*◌, ◌<◌, ◌≤◌, List, ◌++◌, length, set, take, drop, refl, sym, ap, inl, inr, ◌⊎◌, subst, ◌∙◌, arith, ℤ}
+use Rattle.std.specs.Prelude.{Result, Ok, Err, MatchResult}
 use Rattle.std.proofs.lemmas.List.{drop_at, drop-append-le, take-append-le, drop-drop, append_assoc, take-append-drop, take_at}
 use Rattle.std.proofs.lemmas.Bool.{cases_lt}
 use Rattle.std.proofs.lemmas.Slice.{put_mid-paste}
@@ -25,8 +26,8 @@ with_same_window p w cells h =
     ∙ ap (λ (r : List ℤ). take p cells ++ r) (take-append-drop w (drop p cells))
     ∙ take-append-drop p cells
 
--- the outcome on a part, as an outcome on the whole
-pub part_combined : (p w k : ℕ) (s t : ℤ) (cells v part new : List ℤ) → k ≡ w → part ≡ window p k cells → p + w ≤ length cells → length new ≡ length part
+-- a row combined in a part, as one combined in the whole
+part_combined : (p w k : ℕ) (s t : ℤ) (cells v part new : List ℤ) → k ≡ w → part ≡ window p k cells → p + w ≤ length cells → length new ≡ length part
     → new ≡ add (scale s part) (scale t v) → AllStay (CombineStays part s v t) (length part) → IsPartCombined p w s v t cells (put_mid p k cells new)
 part_combined p w k s t cells v part new e is within len value stays =
     let is_w : part ≡ window p w cells = is ∙ ap (λ (n : ℕ). window p n cells) e in
@@ -35,7 +36,8 @@ part_combined p w k s t cells v part new e is within len value stays =
       λ i h. subst (λ (r : List ℤ). CombineStays r s v t i) is_w (stays i (omega (arith, wide, h))),
     )
 
-pub part_left : (p w k : ℕ) (s t : ℤ) (cells v part new : List ℤ) (j : ℕ) → k ≡ w → part ≡ window p k cells → p + w ≤ length cells
+-- and one that was left
+part_left : (p w k : ℕ) (s t : ℤ) (cells v part new : List ℤ) (j : ℕ) → k ≡ w → part ≡ window p k cells → p + w ≤ length cells
     → new ≡ part → IsFirstToLeave (CombineStays part s v t) (length part) j → IsPartLeft p w s v t cells (put_mid p k cells new) j
 part_left p w k s t cells v part new j e is within same leaves =
     let is_w : part ≡ window p w cells = is ∙ ap (λ (n : ℕ). window p n cells) e in
@@ -43,6 +45,13 @@ part_left p w k s t cells v part new j e is within same leaves =
       with_window_is p w k cells new e (ap length same ∙ wide) ∙ ap (λ (r : List ℤ). with_window p w r cells) (same ∙ is_w) ∙ with_same_window p w cells within,
       subst (λ (n : ℕ). IsFirstToLeave (CombineStays (window p w cells) s v t) n j) wide (subst (λ (r : List ℤ). IsFirstToLeave (CombineStays r s v t) (length part) j) is_w leaves),
     )
+
+-- the outcome on a part, as an outcome on the whole
+pub part_outcome : (p w k : ℕ) (s t : ℤ) (cells v part new : List ℤ) (r : Result ℕ ℕ) → k ≡ w → part ≡ window p k cells → p + w ≤ length cells → length new ≡ length part
+    → MatchResult r (λ _. (new ≡ add (scale s part) (scale t v)) × AllStay (CombineStays part s v t) (length part)) (λ j. (new ≡ part) × IsFirstToLeave (CombineStays part s v t) (length part) j)
+    → MatchResult r (λ _. IsPartCombined p w s v t cells (put_mid p k cells new)) (IsPartLeft p w s v t cells (put_mid p k cells new))
+part_outcome p w k s t cells v part new (Ok x) e is within len h = part_combined p w k s t cells v part new e is within len h.0 h.1
+part_outcome p w k s t cells v part new (Err j) e is within len h = part_left p w k s t cells v part new j e is within h.0 h.1
 
 -- ---- two parts of one list
 pub with_window_in_front : (p w : ℕ) (row front back : List ℤ) → p + w ≤ length front → with_window p w row front ++ back ≡ with_window p w row (front ++ back)
@@ -65,17 +74,22 @@ with_window_in_back p w row front back e =
     ∙ ap (λ (r : List ℤ). r ++ (row ++ drop (p + w) (front ++ back))) (sym (take_at front back p e))
 
 -- the two parts as they are seen in the whole
-pub moved_combined : (p p' w : ℕ) (s t : ℤ) (old v new cells v' new' : List ℤ) → window p' w old ≡ window p w cells → v ≡ v' → ((row : List ℤ) → new ≡ with_window p' w row old → new' ≡ with_window p w row cells)
+moved_combined : (p p' w : ℕ) (s t : ℤ) (old v new cells v' new' : List ℤ) → window p' w old ≡ window p w cells → v ≡ v' → ((row : List ℤ) → new ≡ with_window p' w row old → new' ≡ with_window p w row cells)
     → IsPartCombined p' w s v t old new → IsPartCombined p w s v' t cells new'
 moved_combined p p' w s t old v new cells v' new' e f wrote h = (
   wrote (add (scale s (window p' w old)) (scale t v)) h.0 ∙ ap (λ (r : List ℤ). with_window p w (add (scale s r) (scale t v)) cells) e ∙ ap (λ (r : List ℤ). with_window p w (add (scale s (window p w cells)) (scale t r)) cells) f,
   λ i l. subst (λ (r : List ℤ). CombineStays r s v' t i) e (subst (λ (r : List ℤ). CombineStays (window p' w old) s r t i) f (h.1 i l)),
 )
 
-pub moved_left : (p p' w : ℕ) (s t : ℤ) (old v new cells v' new' : List ℤ) (j : ℕ) → window p' w old ≡ window p w cells → v ≡ v' → (new ≡ old → new' ≡ cells)
+moved_left : (p p' w : ℕ) (s t : ℤ) (old v new cells v' new' : List ℤ) (j : ℕ) → window p' w old ≡ window p w cells → v ≡ v' → (new ≡ old → new' ≡ cells)
     → IsPartLeft p' w s v t old new j → IsPartLeft p w s v' t cells new' j
 moved_left p p' w s t old v new cells v' new' j e f same h =
     (same h.0, subst (λ (r : List ℤ). IsFirstToLeave (CombineStays r s v' t) w j) e (subst (λ (r : List ℤ). IsFirstToLeave (CombineStays (window p' w old) s r t) w j) f h.1))
+
+pub moved_outcome : (p p' w : ℕ) (s t : ℤ) (old v new cells v' new' : List ℤ) (r : Result ℕ ℕ) → window p' w old ≡ window p w cells → v ≡ v' → ((row : List ℤ) → new ≡ with_window p' w row old → new' ≡ with_window p w row cells) → (new ≡ old → new' ≡ cells)
+    → MatchResult r (λ _. IsPartCombined p' w s v t old new) (IsPartLeft p' w s v t old new) → MatchResult r (λ _. IsPartCombined p w s v' t cells new') (IsPartLeft p w s v' t cells new')
+moved_outcome p p' w s t old v new cells v' new' (Ok x) e f wrote same h = moved_combined p p' w s t old v new cells v' new' e f wrote h
+moved_outcome p p' w s t old v new cells v' new' (Err j) e f wrote same h = moved_left p p' w s t old v new cells v' new' j e f same h
 
 -- ---- one row of all
 pub rows_apart : (w i j : ℕ) → i ≢ j → (i * w + w ≤ j * w) ⊎ (j * w + w ≤ i * w)
@@ -123,18 +137,25 @@ of_part P i p w inside seen is h =
     (subst (λ (n : ℕ). P (i * seen.width) n seen) (sym is.wide)
     (subst (λ (f : Flat ℤ). i < length f.rows → P (i * f.width) f.width f) is.seen_as h is.below))
 
--- the outcome on the buffer, as an outcome on the rows
-pub row_combined : (i p w : ℕ) (v : List ℤ) (s t : ℤ) (cells new : List ℤ) (old seen : Flat ℤ) → IsRowPart i p w old seen → AreCells old cells → length v ≡ seen.width → length new ≡ length cells
+-- a row combined in the buffer, as one combined among the rows
+row_combined : (i p w : ℕ) (v : List ℤ) (s t : ℤ) (cells new : List ℤ) (old seen : Flat ℤ) → IsRowPart i p w old seen → AreCells old cells → length v ≡ seen.width → length new ≡ length cells
     → IsPartCombined p w s v t cells new → IsCombinedWith s t i v seen (with_cells old new)
 row_combined i p w v s t cells new old seen is are length_v long =
     of_part (λ q n f. IsPartCombined q n s v t cells new → IsCombinedWith s t i v f (with_cells old new)) i p w old seen is
     (λ in_i h. combined_with i v s t cells new old are in_i (length_v ∙ ap (λ (f : Flat ℤ). f.width) (sym is.seen_as)) long h)
 
-pub row_left : (i p w : ℕ) (v : List ℤ) (s t : ℤ) (cells new : List ℤ) (old seen : Flat ℤ) (c : ℕ) → IsRowPart i p w old seen → AreCells old cells
+-- and one that was left
+row_left : (i p w : ℕ) (v : List ℤ) (s t : ℤ) (cells new : List ℤ) (old seen : Flat ℤ) (c : ℕ) → IsRowPart i p w old seen → AreCells old cells
     → IsPartLeft p w s v t cells new c → IsRefusedAt s t i v seen (with_cells old new) c
 row_left i p w v s t cells new old seen c is are =
     of_part (λ q n f. IsPartLeft q n s v t cells new c → IsRefusedAt s t i v f (with_cells old new) c) i p w old seen is
     (λ in_i h. left_with i v s t cells new old c are in_i h)
+
+-- the outcome on the buffer, as an outcome on the rows
+pub row_outcome : (i p w : ℕ) (v : List ℤ) (s t : ℤ) (cells new : List ℤ) (old seen : Flat ℤ) (r : Result ℕ ℕ) → IsRowPart i p w old seen → AreCells old cells → length v ≡ seen.width → length new ≡ length cells
+    → MatchResult r (λ _. IsPartCombined p w s v t cells new) (IsPartLeft p w s v t cells new) → MatchResult r (λ _. IsCombinedWith s t i v seen (with_cells old new)) (IsRefusedAt s t i v seen (with_cells old new))
+row_outcome i p w v s t cells new old seen (Ok x) is are length_v long h = row_combined i p w v s t cells new old seen is are length_v long h
+row_outcome i p w v s t cells new old seen (Err c) is are length_v long h = row_left i p w v s t cells new old seen c is are h
 
 -- the cells of a part are the row
 pub part_is_row : (i p w : ℕ) (cells : List ℤ) (old seen : Flat ℤ) → IsRowPart i p w old seen → AreCells old cells → window p w cells ≡ entries_at seen.rows i

@@ -1,10 +1,8 @@
 //! The combination of two vectors that is 0 on a row, from their values on it.
-ghost use Rattle.std.specs.Prelude.{◌≡◌, ◌≢◌, ℕ, ◌+◌, ◌^◌, ◌<◌, length, pos, neg_ℤ};
-ghost use Rattle.std.specs.Prelude.{◌<ℤ◌, ◌*ℤ◌, unsigned_abs, MatchResult, OnOk};
+ghost use Rattle.std.specs.Prelude.{◌≡◌, ◌≢◌, ◌+◌, ◌^◌, ◌<◌, length, pos, neg_ℤ};
+ghost use Rattle.std.specs.Prelude.{◌<ℤ◌, unsigned_abs, MatchResult, OnOk};
 ghost use Rattle.std.specs.Int.{IsGcd};
-ghost use Rattle.row_core.specs.Vectors.{scale};
 ghost use Rattle.row_core.specs.Range.{InRange, AllInRange};
-ghost use Rattle.row_core.specs.Signs.{sign};
 ghost use Rattle.row_core.specs.Combinations.{AreFactors, CombinationLeaves, IsCombined};
 
 use row_core::{Steps, bits, combine_within, gcd, make_primitive_within, quotient};
@@ -88,28 +86,4 @@ pub fn combine<L: Ledger>(
     let made = combine_within(dst, second, left, first, within, steps)?;
     make_primitive_within(dst, made);
     Ok(())
-}
-
-/// The number times the sign of a value that isn't 0.
-fn turned(x: i128, value: i128) -> i128
-    requires in_range { InRange x }
-    requires nonzero { value ≢ pos 0 }
-    ensures value { result ≡ sign value *ℤ x }
-    ensures in_range { InRange result }
-{
-    if value > 0 { x } else { negated(x) }
-}
-
-/// Writes over `dst` the line with the sign with which a row with this value on it is above 0 on
-/// it.
-pub fn write_upward(dst: &mut [i128], line: &[i128], value: i128)
-    requires same_width { length dst.old ≡ length line.now }
-    requires in_range { AllInRange line.now }
-    requires nonzero { value ≢ pos 0 }
-    ensures upward { dst.new ≡ scale (sign value) line.now }
-    ensures in_range { AllInRange dst.new }
-{
-    for index in 0..dst.len() {
-        dst[index] = turned(line[index], value);
-    }
 }

@@ -55,7 +55,7 @@ pub(crate) fn append_combination<L: Ledger>(
 }
 
 /// Appends a primitive vector with the value `v` on a row, lowered onto the row by a line that the
-/// row crosses. Both have at most `within` bits; it tells how many the lowered vector has.
+/// row crosses. Both have at most its bits; it tells how many the lowered vector has.
 ///
 /// # Errors
 ///
@@ -65,14 +65,14 @@ pub(crate) fn append_lowered<L: Ledger>(
     crossing: Crossing,
     vector: &[i128],
     v: i128,
-    within: u32,
     steps: &mut Steps<L>,
 ) -> Result<u32, u32>
     requires spare { 0 < store.old.spare }
     requires line { length crossing.line.now ≡ store.old.width }
     requires wide { length vector.now ≡ store.old.width }
     requires vector { AllInRange vector.now × IsPrimitive vector.now }
-    requires within { HaveBits within crossing.line.now × HaveBits within vector.now }
+    requires line_bits { HaveBits crossing.bits crossing.line.now }
+    requires vector_bits { HaveBits crossing.bits vector.now }
     requires in_range { InRange crossing.value × InRange v }
     requires nonzero { crossing.value ≢ pos 0 }
     ensures counted { (steps.old ≤ steps.new) × (steps.new ≤ steps.old + 1) }
@@ -90,7 +90,7 @@ pub(crate) fn append_lowered<L: Ledger>(
         return Ok(bits(vector));
     }
     let factors = factors(crossing.value, v);
-    let combined = store.combine_with(last, crossing.line, factors, within, steps);
+    let combined = store.combine_with(last, crossing.line, factors, crossing.bits, steps);
     end_combination(store, last, combined)
 }
 

@@ -7,8 +7,7 @@
 //!   these how they lie to it.
 //! - [`line_step`] is the step with a row that isn't 0 on some line of a system, and [`ray_step`]
 //!   that with a row that is 0 on all lines.
-//! - [`combine`] gives the combination of two vectors that is 0 on a row, and [`write_upward`] the
-//!   line with the sign with which a row is above 0 on it.
+//! - [`combine`] gives the combination of two vectors that is 0 on a row.
 //! - [`ValueFault`] and [`CombineFault`] name the vectors whose value or combination leaves the
 //!   range.
 #![tactic(auto)]
@@ -23,7 +22,7 @@ mod store;
 mod vectors;
 mod windows;
 
-pub use combination::{combine, write_upward};
+pub use combination::combine;
 pub use fault::{CombineFault, Part, Place, ValueFault};
 pub use line_steps::{SystemOnRow, line_step};
 pub use ray_steps::ray_step;

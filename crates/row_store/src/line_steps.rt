@@ -66,7 +66,14 @@ pub fn line_step<L: Ledger>(
         bits: system.lines.bits(),
     };
     lower_lines(new_lines, system.lines, system.line_values, crossing, steps)?;
-    lower_rays(new_rays, system.rays, system.ray_values, crossing, steps)?;
+    let lowering = Lowering {
+        part: Part::Rays,
+        list: system.rays,
+        values: system.ray_values,
+        crossing,
+    };
+    let count = system.rays.len();
+    lower_range(new_rays, lowering, 0, count, steps)?;
     push_upward(new_rays, crossing.line, crossing.value, eq);
     Ok(())
 }
@@ -110,46 +117,6 @@ fn lower_lines<L: Ledger>(
     lower_range(into, lowering, 0, index, steps)?;
     let count = lines.len();
     lower_range(into, lowering, index + 1, count, steps)
-}
-
-/// Appends the rays, lowered onto the row.
-fn lower_rays<L: Ledger>(
-    into: &mut VectorList,
-    rays: &VectorList,
-    values: &[i128],
-    crossing: Crossing,
-    steps: &mut Steps<L>,
-) -> Result<(), CombineFault>
-    requires spare { length rays.now.rows + 1 ≤ into.old.spare }
-    requires empty { into.old.rows ≡ [] }
-    requires line { length crossing.line.now ≡ into.old.width }
-    requires bits { HaveBits crossing.bits crossing.line.now }
-    requires wide { rays.now.width ≡ into.old.width }
-    requires as_many { length values.now ≡ length rays.now.rows }
-    requires in_range { All InRange values.now × InRange crossing.value }
-    requires nonzero { crossing.value ≢ pos 0 }
-    requires primitive { All IsPrimitive (vectors rays.now.rows) }
-    ensures no_fewer { steps.old ≤ steps.new }
-    ensures counted { steps.new ≤ steps.old + length rays.now.rows }
-    ensures lowered { let u = crossing.entry.value in
-        let line = crossing.entry.line.now in
-        let rows = rays.now.rows in
-        let index = crossing.entry.index in
-        let count = length rows in
-        MatchResult result (λ _. AreLowered u line values.now rows 0 count [] into.new.rows)
-        (IsLowerFault u index line Part.Rays 0 count values.now (vectors rows)) }
-    ensures width { OnOk result (into.new.width ≡ into.old.width) }
-    ensures marked { OnOk result (AreMarked false into.new.rows) }
-    ensures spare { OnOk result (0 < into.new.spare) }
-{
-    let lowering = Lowering {
-        part: Part::Rays,
-        list: rays,
-        values,
-        crossing,
-    };
-    let count = rays.len();
-    lower_range(into, lowering, 0, count, steps)
 }
 
 /// Appends the line with the sign with which the row is above 0 on it, if the row is an inequality.

@@ -39,9 +39,8 @@ impl RowStore {
         ensures rows { result.rows ≡ [] }
         ensures spare { result.spare ≡ 0 }
     {
-        RowStore {
-            rows: FlatRows::new(alloc, width),
-        }
+        let rows = FlatRows::new(alloc, width);
+        RowStore { rows }
     }
 
     /// Takes the cells of so many rows over, without a copy.
@@ -52,9 +51,8 @@ impl RowStore {
         ensures cells { AreCells result cells.items }
         ensures spare { result.spare ≡ 0 }
     {
-        RowStore {
-            rows: FlatRows::of_cells(width, count, cells),
-        }
+        let rows = FlatRows::of_cells(width, count, cells);
+        RowStore { rows }
     }
 
     /// Gives the cells up, one row after another, without a copy.
@@ -215,8 +213,8 @@ impl RowStore {
         combine_part(self.rows.cells_mut(), part, v, factors, bits, steps)
     }
 
-    /// Divides row `i` by the greatest common divisor of its entries. It keeps all signs, and leaves
-    /// an all-zero row.
+    /// Divides row `i` by the greatest common divisor of its entries. It keeps all signs, and
+    /// leaves an all-zero row.
     pub fn make_row_primitive(&mut self, i: usize)
         requires { i < length self.old.rows }
         ensures { IsRowChanged IsPrimitiveOf i self.old self.new }
@@ -274,9 +272,7 @@ impl RowStore {
         ensures narrow { result.width < 2 ^ 32 }
     {
         let width = self.rows.width();
-        Window {
-            at: i * width,
-            width,
-        }
+        let at = i * width;
+        Window { at, width }
     }
 }

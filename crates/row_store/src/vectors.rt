@@ -14,7 +14,7 @@ ghost use Rattle.row_store.specs.Vectors.{Vectors, as_rows, with_mark, IsAppende
 
 use crate::combining::{append_combination, append_lowered, append_upward};
 use crate::store::RowStore;
-use row_core::{LendRows, Memory, RowList, Steps, bits};
+use row_core::{Memory, RowList, Steps, bits};
 use std::alloc::Global;
 use std::marker::Model;
 use std::sync::ledger::Ledger;
@@ -32,8 +32,8 @@ pub struct Crossing<'a> {
     pub bits: u32,
 }
 
-/// Vectors of one width in one buffer, all marked as equalities or all as inequalities, and how many
-/// bits their numbers have at most.
+/// Vectors of one width in one buffer, all marked as equalities or all as inequalities, and how
+/// many bits their numbers have at most.
 #[derive(Debug, Drop)]
 pub struct VectorList {
     eq: bool,
@@ -223,7 +223,8 @@ impl VectorList {
         requires line { length crossing.line.now ≡ self.old.width }
         requires wide { length vector.now ≡ self.old.width }
         requires vector { AllInRange vector.now × IsPrimitive vector.now }
-        requires bits { HaveBits crossing.bits crossing.line.now × HaveBits crossing.bits vector.now }
+        requires line_bits { HaveBits crossing.bits crossing.line.now }
+        requires vector_bits { HaveBits crossing.bits vector.now }
         requires in_range { InRange crossing.value × InRange value }
         requires nonzero { crossing.value ≢ pos 0 }
         requires alike { AreMarked eq self.old.rows }
@@ -234,8 +235,7 @@ impl VectorList {
             MatchResult result (λ _. IsAppended eq Is self.old self.new)
             (λ column. HasSame self.old self.new × Leaves column) }
     {
-        let store = &mut self.store;
-        let made = append_lowered(store, crossing, vector, value, crossing.bits, steps)?;
+        let made = append_lowered(&mut self.store, crossing, vector, value, steps)?;
         self.eq = eq;
         self.bits = self.bits.max(made);
         Ok(())
@@ -273,25 +273,6 @@ impl VectorList {
         ensures { self.new ≡ record self.old { rows = take count self.old.rows } }
     {
         self.store.truncate(count);
-    }
-}
-
-impl LendRows for VectorList {
-    ghost list = { λ vectors. as_rows vectors };
-
-    #[inline]
-    fn width(&self) -> usize {
-        self.width()
-    }
-
-    #[inline]
-    fn len(&self) -> usize {
-        self.len()
-    }
-
-    #[inline]
-    fn row(&self, i: usize) -> &[i128] {
-        self.row(i)
     }
 }
 

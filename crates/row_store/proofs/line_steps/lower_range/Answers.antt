@@ -1,4 +1,4 @@
-use Rattle.std.specs.Prelude.{◌≡◌, ◌<◌, ◌≤◌, Bool, List, [], ℤ, pos}
+use Rattle.std.specs.Prelude.{◌≡◌, ◌<◌, Bool, List, [], ℤ, pos}
 use Rattle.std.specs.Int.{w128}
 use Rattle.std.proofs.Common.{◌∙◌, sym, subst, refl, get_or, arith, length, ℕ, ap}
 use Rattle.std.proofs.lemmas.Int.{to_z-of_z}
@@ -92,12 +92,10 @@ pub push_lowered-lowered-requires-clause-wide : goal.push_lowered-lowered-requir
 push_lowered-lowered-requires-clause-wide g c =
     ap (λ (v : List ℤ). length v) c.row-vector.ensures.value ∙ c.row-vector.ensures.wide ∙ c.requires.wide ∙ sym c.loop-index.invariant.width
 
-pub push_lowered-lowered-requires-clause-bits : goal.push_lowered-lowered-requires-clause-bits
-push_lowered-lowered-requires-clause-bits g c =
-    let most = c.max-bits.result in
-    let left : c.args.lowering.crossing.bits ≤ c.max-bits.result = omega (arith, c.max-bits.ensures) in
-    let right : c.bits.result ≤ c.max-bits.result = omega (arith, c.max-bits.ensures) in
-    let here : c.loop-index.index < length c.args.lowering.list.now.rows = omega (arith, c.requires.bounds.1) in (
-      HaveBits-more c.args.lowering.crossing.bits most c.args.lowering.crossing.line.now left c.requires.bits,
-      HaveBits-more c.bits.result most c.row-vector.result.now right (subst (HaveBits c.bits.result) (sym c.row-vector.ensures.value) (c.bits.ensures c.loop-index.index here)),
-    )
+pub push_lowered-lowered-requires-clause-line_bits : goal.push_lowered-lowered-requires-clause-line_bits
+push_lowered-lowered-requires-clause-line_bits g c = HaveBits-more c.args.lowering.crossing.bits c.max-bits.result c.args.lowering.crossing.line.now (omega (arith, c.max-bits.ensures)) c.requires.bits
+
+pub push_lowered-lowered-requires-clause-vector_bits : goal.push_lowered-lowered-requires-clause-vector_bits
+push_lowered-lowered-requires-clause-vector_bits g c =
+    let here : c.loop-index.index < length c.args.lowering.list.now.rows = omega (arith, c.requires.bounds.1) in
+    HaveBits-more c.bits.result c.max-bits.result c.row-vector.result.now (omega (arith, c.max-bits.ensures)) (subst (HaveBits c.bits.result) (sym c.row-vector.ensures.value) (c.bits.ensures c.loop-index.index here))

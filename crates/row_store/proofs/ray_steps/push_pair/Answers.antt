@@ -20,3 +20,18 @@ returns-in-Err-clause-combined g c =
     let P : List ℤ → Type 0 = λ v. CombinationLeaves (get_or c.args.values.now c.args.pair.0 (pos 0)) (get_or c.args.values.now c.args.pair.1 (pos 0)) v (vector_at (vectors c.args.rays.now.rows) c.args.pair.1) c.in-Err.column in
     let Q : List ℤ → Type 0 = λ w. CombinationLeaves (get_or c.args.values.now c.args.pair.0 (pos 0)) (get_or c.args.values.now c.args.pair.1 (pos 0)) (row_at c.args.rays.now.rows c.args.pair.0) w c.in-Err.column in
     (refused.0, ((0, omega arith, refl), refl, refl, subst P (sym (vector_at-vectors rays c.args.pair.0)) (subst Q (sym (vector_at-vectors rays c.args.pair.1)) refused.1)))
+
+pub push_combination-combined-requires-clause-spare : goal.push_combination-combined-requires-clause-spare
+push_combination-combined-requires-clause-spare g c = c.requires.spare
+
+pub push_combination-combined-requires-clause-vectors : goal.push_combination-combined-requires-clause-vectors
+push_combination-combined-requires-clause-vectors g c = (omega (arith, c.requires.opposite.first, c.requires.as_many), omega (arith, c.requires.opposite.second, c.requires.as_many))
+
+pub push_combination-combined-requires-clause-rays : goal.push_combination-combined-requires-clause-rays
+push_combination-combined-requires-clause-rays g c = c.requires.marked
+
+pub push_combination-combined-requires-clause-in_range : goal.push_combination-combined-requires-clause-in_range
+push_combination-combined-requires-clause-in_range g c =
+    let first = All-get_or InRange c.args.values.now c.args.pair.0 (pos 0) c.requires.opposite.first c.requires.in_range in
+    let second = All-get_or InRange c.args.values.now c.args.pair.1 (pos 0) c.requires.opposite.second c.requires.in_range in
+    (subst InRange (sym (to_z-of_z w128 _ (fits _ first))) first, subst InRange (sym (to_z-of_z w128 _ (fits _ second))) second)

@@ -1,27 +1,25 @@
 use Rattle.std.specs.Prelude.{◌≡◌, ℕ, ℤ, List, ◌+◌, ◌-◌, ◌^◌, length, drop, refl}
 use Rattle.std.specs.Int.{w128}
 use mir.Val.{SFits}
-use Rattle.std.proofs.Common.{arith, rules, ap, sym, ◌∙◌}
+use Rattle.std.proofs.Common.{arith, ap, sym, ◌∙◌}
 use Rattle.std.proofs.lemmas.Int.{to_z-of_z}
-use Rattle.std.proofs.lemmas.Result.{MatchResult-weaker, IfOk-weaker}
+use Rattle.std.proofs.lemmas.Result.{IfOk-weaker}
 use Rattle.std.proofs.lemmas.List.Elements.{All-take, All-drop}
 use Rattle.row_core.specs.Range.{InRange}
 use Rattle.row_core.specs.Sizes.{IsWithin}
 use Rattle.flat_rows.specs.Flat.{window}
 use Rattle.flat_rows.proofs.Flat.{length-window}
 use Rattle.row_store.proofs.ChangedRows.{part_in_range, changed_or_left, All-lent, All-written}
-use Rattle.row_store.proofs.Parts.{part_combined, part_left}
+use Rattle.row_store.proofs.Parts.{part_outcome}
 use Rattle.row_store.proofs.windows.combine_part.Goals as goal
 
 pub returns-clause-combined : goal.returns-clause-combined
 returns-clause-combined g c =
-    let s_fits : SFits w128 c.args.factors.0 = search rules in
-    let t_fits : SFits w128 c.args.factors.1 = search rules in
+    let s_fits : SFits w128 c.args.factors.0 = record { sfits = omega arith } in
+    let t_fits : SFits w128 c.args.factors.1 = record { sfits = omega arith } in
     let e : c.args.part.at + c.args.part.width - c.args.part.at ≡ c.args.part.width = omega arith in
-    let combined = simp to_z-of_z at c.combine_within.ensures.combined in
-    MatchResult-weaker c.combine_within.result combined
-    (λ x h. part_combined c.args.part.at c.args.part.width _ c.args.factors.0 c.args.factors.1 c.args.cells.now c.args.v.now _ c.combine_within.new.dst e refl c.requires.within c.combine_within.ensures.width h.0 h.1)
-    (λ y h. part_left c.args.part.at c.args.part.width _ c.args.factors.0 c.args.factors.1 c.args.cells.now c.args.v.now _ c.combine_within.new.dst y e refl c.requires.within h.0 h.1)
+    part_outcome c.args.part.at c.args.part.width _ c.args.factors.0 c.args.factors.1 c.args.cells.now c.args.v.now _ c.combine_within.new.dst c.combine_within.result e refl c.requires.within c.combine_within.ensures.width
+    (simp to_z-of_z at c.combine_within.ensures.combined)
 
 pub combine_within-requires-clause-same_width : goal.combine_within-requires-clause-same_width
 combine_within-requires-clause-same_width g c =

@@ -1,12 +1,12 @@
 use Rattle.std.specs.Prelude.{◌≡◌, ℕ, ℤ, List, ◌+◌, ◌-◌, ◌++◌, ◌≤◌, length, take, drop}
 use Rattle.std.proofs.Common.{arith, sym, ap, subst, ◌∙◌, length-append, length-take}
-use Rattle.std.proofs.lemmas.Result.{MatchResult-weaker, IfOk-weaker}
+use Rattle.std.proofs.lemmas.Result.{IfOk-weaker}
 use Rattle.std.proofs.lemmas.List.Elements.{All-append, All-take, All-drop}
 use Rattle.row_core.specs.Range.{InRange, AllInRange}
 use Rattle.row_core.specs.Sizes.{HaveBits}
 use Rattle.flat_rows.specs.Flat.{window, with_window}
 use Rattle.flat_rows.proofs.Flat.{take-drop-append, length-window}
-use Rattle.row_store.proofs.Parts.{moved_combined, moved_left, with_window_in_front, window_in_back, with_window_in_back}
+use Rattle.row_store.proofs.Parts.{moved_outcome, with_window_in_front, window_in_back, with_window_in_back}
 use Rattle.row_store.proofs.windows.combine_parts.Goals as goal
 
 pub returns-then-to-from-clause-combined : goal.returns-then-to-from-clause-combined
@@ -17,12 +17,9 @@ returns-then-to-from-clause-combined g c =
     let value : cells ≡ front ++ back = c.split_at_mut-front.ensures.value in
     let within : c.args.to.at + c.args.to.width ≤ length front = omega (arith, c.split_at_mut-front.ensures.front_len, c.requires.apart, c.if-to-from.true) in
     let e : window c.args.to.at c.args.to.width front ≡ window c.args.to.at c.args.to.width cells = sym (take-drop-append c.args.to.width c.args.to.at front back within) ∙ ap (λ (r : List ℤ). window c.args.to.at c.args.to.width r) (sym value) in
-    let combined = c.combine_part.ensures.combined in
-    MatchResult-weaker c.combine_part.result combined
-    (λ x h. moved_combined c.args.to.at c.args.to.at c.args.to.width c.args.factors.0 c.args.factors.1 front _ c.combine_part.new.cells cells (window c.args.from c.args.to.width cells) (c.combine_part.new.cells ++ back) e (ap (λ (r : List ℤ). take c.args.to.width r) c.split_at_mut-front.ensures.back)
-    (λ row w. ap (λ (r : List ℤ). r ++ back) w ∙ with_window_in_front c.args.to.at c.args.to.width row front back within ∙ ap (λ (r : List ℤ). with_window c.args.to.at c.args.to.width row r) (sym value)) h)
-    (λ y h. moved_left c.args.to.at c.args.to.at c.args.to.width c.args.factors.0 c.args.factors.1 front _ c.combine_part.new.cells cells (window c.args.from c.args.to.width cells) (c.combine_part.new.cells ++ back) y e (ap (λ (r : List ℤ). take c.args.to.width r) c.split_at_mut-front.ensures.back)
-    (λ w. ap (λ (r : List ℤ). r ++ back) w ∙ sym value) h)
+    moved_outcome c.args.to.at c.args.to.at c.args.to.width c.args.factors.0 c.args.factors.1 front (take c.args.to.width back) c.combine_part.new.cells cells (window c.args.from c.args.to.width cells) (c.combine_part.new.cells ++ back) c.combine_part.result e (ap (λ (r : List ℤ). take c.args.to.width r) c.split_at_mut-front.ensures.back)
+    (λ row w. ap (λ (r : List ℤ). r ++ back) w ∙ with_window_in_front c.args.to.at c.args.to.width row front back within ∙ ap (λ (r : List ℤ). with_window c.args.to.at c.args.to.width row r) (sym value))
+    (λ w. ap (λ (r : List ℤ). r ++ back) w ∙ sym value) c.combine_part.ensures.combined
 
 pub returns-else-to-from-clause-combined : goal.returns-else-to-from-clause-combined
 returns-else-to-from-clause-combined g c =
@@ -35,12 +32,9 @@ returns-else-to-from-clause-combined g c =
     let e : window 0 c.args.to.width back ≡ window c.args.to.at c.args.to.width cells = window_in_back c.args.to.at c.args.to.width front back front_len ∙ ap (λ (r : List ℤ). window c.args.to.at c.args.to.width r) (sym value) in
     let f : take (c.args.from + c.args.to.width - c.args.from) (drop c.args.from front) ≡ window c.args.from c.args.to.width cells
     = ap (λ (n : ℕ). take n (drop c.args.from front)) (omega arith) ∙ sym (take-drop-append c.args.to.width c.args.from front back within) ∙ ap (λ (r : List ℤ). window c.args.from c.args.to.width r) (sym value) in
-    let combined = c.combine_part-else-to-from.ensures.combined in
-    MatchResult-weaker c.combine_part-else-to-from.result combined
-    (λ x h. moved_combined c.args.to.at 0 c.args.to.width c.args.factors.0 c.args.factors.1 back _ c.combine_part-else-to-from.new.cells cells (window c.args.from c.args.to.width cells) (front ++ c.combine_part-else-to-from.new.cells) e f
-    (λ row w. ap (λ (r : List ℤ). front ++ r) w ∙ with_window_in_back c.args.to.at c.args.to.width row front back front_len ∙ ap (λ (r : List ℤ). with_window c.args.to.at c.args.to.width row r) (sym value)) h)
-    (λ y h. moved_left c.args.to.at 0 c.args.to.width c.args.factors.0 c.args.factors.1 back _ c.combine_part-else-to-from.new.cells cells (window c.args.from c.args.to.width cells) (front ++ c.combine_part-else-to-from.new.cells) y e f
-    (λ w. ap (λ (r : List ℤ). front ++ r) w ∙ sym value) h)
+    moved_outcome c.args.to.at 0 c.args.to.width c.args.factors.0 c.args.factors.1 back _ c.combine_part-else-to-from.new.cells cells (window c.args.from c.args.to.width cells) (front ++ c.combine_part-else-to-from.new.cells) c.combine_part-else-to-from.result e f
+    (λ row w. ap (λ (r : List ℤ). front ++ r) w ∙ with_window_in_back c.args.to.at c.args.to.width row front back front_len ∙ ap (λ (r : List ℤ). with_window c.args.to.at c.args.to.width row r) (sym value))
+    (λ w. ap (λ (r : List ℤ). front ++ r) w ∙ sym value) c.combine_part-else-to-from.ensures.combined
 
 pub returns-else-to-from-clause-in_range : goal.returns-else-to-from-clause-in_range
 returns-else-to-from-clause-in_range g c = λ h.

@@ -1,12 +1,12 @@
-use Rattle.std.specs.Prelude.{◌≡◌, ℕ, ℤ, List, ◌+◌, ◌^◌, ◌≤◌, length}
+use Rattle.std.specs.Prelude.{◌≡◌, ℕ, ℤ, List, ◌+◌, ◌^◌, ◌≤◌, length, MatchResult}
 use Rattle.std.proofs.Common.{arith, subst, sym, ap, ◌∙◌}
-use Rattle.std.proofs.lemmas.Result.{MatchResult-weaker, IfOk-weaker}
+use Rattle.std.proofs.lemmas.Result.{IfOk-weaker}
 use Rattle.row_core.specs.Range.{InRange}
 use Rattle.row_core.specs.Sizes.{IsWithin, HaveBits}
 use Rattle.row_store.specs.Stores.{IsPartCombined, IsPartLeft}
 use Rattle.flat_rows.specs.Flat.{Flat, window, entries_at}
 use Rattle.flat_rows.proofs.Flat.{All-cells, length-window}
-use Rattle.row_store.proofs.Parts.{IsRowPart, rows_apart, row_combined, row_left, part_is_row}
+use Rattle.row_store.proofs.Parts.{IsRowPart, rows_apart, row_outcome, part_is_row}
 use Rattle.row_store.proofs.ChangedRows.{kept_cells, part_within, All-row}
 use Rattle.row_store.proofs.store.RowStore.combine_rows_within.Goals as goal
 
@@ -43,11 +43,8 @@ returns-clause-combined g c =
     let last : from + c.part-from.result.width ≤ length cells = part_within cells _ _ _ c.self.view_is are c.part-from.ensures.within in
     let within : from + w ≤ length cells = omega (arith, last, c.part-from.ensures.width, c.part-to.ensures.width) in
     let wide : length (entries_at seen.rows c.args.j) ≡ seen.width = ap length (sym is_row) ∙ length-window from w cells within ∙ c.part-to.ensures.width in
-    MatchResult-weaker c.combine_parts.result c.combine_parts.ensures.combined
-    (λ x h. row_combined c.args.i p w (entries_at seen.rows c.args.j) c.args.factors.0 c.args.factors.1 cells new old seen to_part are wide c.combine_parts.auto.cells
-    (subst (λ (v : List ℤ). IsPartCombined p w c.args.factors.0 v c.args.factors.1 cells new) is_row h))
-    (λ y h. row_left c.args.i p w (entries_at seen.rows c.args.j) c.args.factors.0 c.args.factors.1 cells new old seen y to_part are
-    (subst (λ (v : List ℤ). IsPartLeft p w c.args.factors.0 v c.args.factors.1 cells new y) is_row h))
+    let P : List ℤ → Type 0 = λ v. MatchResult c.combine_parts.result (λ _. IsPartCombined p w c.args.factors.0 v c.args.factors.1 cells new) (IsPartLeft p w c.args.factors.0 v c.args.factors.1 cells new) in
+    row_outcome c.args.i p w (entries_at seen.rows c.args.j) c.args.factors.0 c.args.factors.1 cells new old seen c.combine_parts.result to_part are wide c.combine_parts.auto.cells (subst P is_row c.combine_parts.ensures.combined)
 
 pub combine_parts-requires-clause-first_bits : goal.combine_parts-requires-clause-first_bits
 combine_parts-requires-clause-first_bits g c =

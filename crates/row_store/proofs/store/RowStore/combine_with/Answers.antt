@@ -1,11 +1,11 @@
 use Rattle.std.specs.Prelude.{ℤ, List, ◌^◌}
 use Rattle.std.proofs.Common.{sym, subst}
-use Rattle.std.proofs.lemmas.Result.{MatchResult-weaker, IfOk-weaker}
+use Rattle.std.proofs.lemmas.Result.{IfOk-weaker}
 use Rattle.row_core.specs.Range.{InRange}
 use Rattle.row_core.specs.Sizes.{IsWithin, HaveBits}
 use Rattle.flat_rows.specs.Flat.{Flat}
 use Rattle.flat_rows.proofs.Flat.{All-cells}
-use Rattle.row_store.proofs.Parts.{IsRowPart, row_combined, row_left, part_is_row}
+use Rattle.row_store.proofs.Parts.{IsRowPart, row_outcome, part_is_row}
 use Rattle.row_store.proofs.ChangedRows.{kept_cells, part_within, All-row}
 use Rattle.row_store.proofs.store.RowStore.combine_with.Goals as goal
 
@@ -26,9 +26,7 @@ returns-clause-combined g c =
     let are = c.cells_mut.ensures.cells in
     let part : IsRowPart c.args.i c.part-part.result.at c.part-part.result.width old c.args.self.now
     = record { seen_as = c.self.view_is; below = c.requires.row; at = c.part-part.ensures.at; wide = c.part-part.ensures.width } in
-    MatchResult-weaker c.combine_part.result c.combine_part.ensures.combined
-    (λ x h. row_combined c.args.i _ _ c.args.v.now c.args.factors.0 c.args.factors.1 cells new old c.args.self.now part are c.requires.wide c.combine_part.auto.cells h)
-    (λ y h. row_left c.args.i _ _ c.args.v.now c.args.factors.0 c.args.factors.1 cells new old c.args.self.now y part are h)
+    row_outcome c.args.i _ _ c.args.v.now c.args.factors.0 c.args.factors.1 cells new old c.args.self.now c.combine_part.result part are c.requires.wide c.combine_part.auto.cells c.combine_part.ensures.combined
 
 pub combine_part-requires-clause-bits : goal.combine_part-requires-clause-bits
 combine_part-requires-clause-bits g c =

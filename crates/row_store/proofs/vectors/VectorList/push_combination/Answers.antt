@@ -1,12 +1,14 @@
-use Rattle.std.specs.Prelude.{List, ℤ, false}
+use Rattle.std.specs.Prelude.{◌<◌, List, ℤ, false, All}
 use Rattle.std.specs.Int.{w128}
-use Rattle.std.proofs.Common.{sym, ap, subst, ◌∙◌, arith}
+use Rattle.std.proofs.Common.{sym, subst, ◌∙◌, arith}
 use Rattle.std.proofs.lemmas.Int.{to_z-of_z}
 use Rattle.std.proofs.lemmas.Result.{err_from_is_err_and}
 use mir.Val.{SFits}
 use Rattle.flat_rows.specs.Flat.{entries_at}
+use Rattle.row_core.specs.Sizes.{HaveBits}
 use Rattle.row_core.specs.Lists.{row_at}
 use Rattle.row_core.specs.Combinations.{IsCombined, CombinationLeaves}
+use Rattle.row_store.specs.Vectors.{Vectors}
 use Rattle.row_store.proofs.MarkedVectors.{seen_count, seen_row, appended_seen, same_seen, bits_appended}
 use Rattle.row_store.proofs.vectors.VectorList.push_combination.Goals as goal
 
@@ -41,3 +43,29 @@ returns-clause-combined g c =
     let Q : List ℤ → Type 0 = λ r. IsCombined c.args.u c.args.v (row_at c.args.self.now.rows c.args.left) r v in
     subst Q (sym right) (subst P (sym left) h))
     (simp to_z-of_z at c.in_ok-made.ensures.combined)
+
+pub append_combination-requires-clause-spare : goal.append_combination-requires-clause-spare
+append_combination-requires-clause-spare g c = subst (λ (l : Vectors). 0 < l.spare) (sym c.self.view_is) c.requires.spare
+
+pub append_combination-requires-clause-rows : goal.append_combination-requires-clause-rows
+append_combination-requires-clause-rows g c =
+    let size = seen_count c.self.inside.eq c.self.inside.store c.args.self.now c.self.view_is in
+    (omega (arith, size, c.requires.vectors.0), omega (arith, size, c.requires.vectors.1))
+
+pub append_combination-requires-clause-within : goal.append_combination-requires-clause-within
+append_combination-requires-clause-within g c = c.self.invariant
+
+pub append_combination-requires-clause-in_range : goal.append_combination-requires-clause-in_range
+append_combination-requires-clause-in_range g c = rw (to_z-of_z w128 c.args.u c.ranges.u, to_z-of_z w128 c.args.v c.ranges.v) c.requires.in_range
+
+pub append_combination-requires-clause-nonzero : goal.append_combination-requires-clause-nonzero
+append_combination-requires-clause-nonzero g c = λ e. c.requires.nonzero (sym (to_z-of_z w128 c.args.u c.ranges.u) ∙ e)
+
+pub returns-clause-counted : goal.returns-clause-counted
+returns-clause-counted g c = c.in_ok-made.ensures.counted
+
+pub returns-in_err-made-clause-counted : goal.returns-in_err-made-clause-counted
+returns-in_err-made-clause-counted g c = c.in_err-made.ensures.counted
+
+pub invariant_of-self : goal.invariant_of-self
+invariant_of-self g c = subst (All (HaveBits c.self.inside.bits)) (sym c.in_err-made.ensures.combined.0.rows) c.self.invariant
