@@ -9,11 +9,14 @@ ghost use Rattle.sat_matrix.specs.NearStates.{AreKept, IsBegun};
 use crate::adjacency::Search;
 use crate::looks::has_crowded;
 use crate::ranking::{NearRay, is_adjacent_near};
-use crate::searches::{push_sharing, unite};
+use crate::searches::{count_places, push_sharing, unite};
 use std::alloc::{AllocError, Global};
 
 /// Into so many parts a group of outer rays is taken apart at most.
 const PARTS: usize = 4;
+
+/// Where the inner rays aren't so many times the outer ones, all of these aren't taken first.
+const LOCAL_TIMES: usize = 8;
 
 /// Where the lists of one group begin, behind those of the groups that it is a part of.
 #[derive(Clone, Copy)]
@@ -199,6 +202,19 @@ fn part_size(rays: usize) -> usize
     size
 }
 
+/// Whether the outer rays, of which there are few beside the inner ones, are 0 on few rows of the
+/// system together: then few of the inner rays are near to them.
+fn is_local(search: &Search, union: &mut Vec<u64>) -> Result<bool, AllocError>
+    requires { IsReady search.now }
+{
+    let rays = search.outer.len();
+    if rays > search.inner.len() / LOCAL_TIMES {
+        return Ok(false);
+    }
+    unite(search.zeros.words(), search.outer, 0, rays, union)?;
+    Ok(count_places(union) <= search.zeros.columns() / 2)
+}
+
 /// Appends the pairs of an outer ray with each adjacent ray that the list has from `start` on.
 fn push_near(
     search: &Search,
@@ -270,6 +286,11 @@ pub(crate) fn push_narrowed(
         OnOk result (HasFound search.now rays 0 pairs.new.items) }
 {
     let rays = search.outer.len();
-    let level = near.begin(search)?;
+    let is_local = is_local(search, &mut near.union)?;
+    let all = near.begin(search)?;
+    if !is_local {
+        return push_group(search, pairs, near, 0, rays, all);
+    }
+    let level = near.narrow(search, 0, rays, all)?;
     push_group(search, pairs, near, 0, rays, level)
 }

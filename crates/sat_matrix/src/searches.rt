@@ -30,6 +30,15 @@ pub(crate) fn unite(
     Ok(())
 }
 
+/// How many places of a list of words are true, where that is for a choice alone.
+pub(crate) fn count_places(words: &[u64]) -> usize {
+    let mut places: usize = 0;
+    for index in 0..words.len() {
+        places = places.saturating_add(words[index].count_ones() as usize);
+    }
+    places
+}
+
 /// Which positions of a list of rows are kept: those of rows that share enough places with a row.
 #[derive(Drop)]
 struct Filter<'a> {
