@@ -74,10 +74,15 @@ pub fn convert_in_better_order<L: Ledger>(
         slack: 0,
     };
     let other = race.run(rows, steps)?;
+    // What the answer doesn't need is given back before its rows are copied in order.
+    let (system, scratch, beside) = (race.system, race.scratch, race.beside);
+    drop(scratch);
     if other {
-        return Ok(cone_of_other_order(alloc, race.beside)?);
+        drop(system);
+        return Ok(cone_of_other_order(alloc, beside)?);
     }
-    Ok(sorted_cone(alloc, race.system)?)
+    drop(beside);
+    Ok(sorted_cone(alloc, system)?)
 }
 
 /// A race of two conversions of a list: the system of the rows in the list's order, the

@@ -1,6 +1,8 @@
 //! The system of the rows that were taken in.
 ghost use Rattle.std.specs.Prelude.{◌≡◌};
+ghost use Rattle.row_store.specs.Vectors.{as_rows};
 
+use ray_order::LendRows;
 use row_store::VectorList;
 use sat_matrix::SatMatrix;
 
@@ -33,5 +35,25 @@ impl System {
     {
         let Self { lines, rays, sat } = self;
         (lines, rays, sat)
+    }
+}
+
+// It lends its rays.
+impl LendRows for System {
+    ghost list = { λ system. as_rows system.rays };
+
+    #[inline]
+    fn width(&self) -> usize {
+        self.rays.width()
+    }
+
+    #[inline]
+    fn len(&self) -> usize {
+        self.rays.len()
+    }
+
+    #[inline]
+    fn row(&self, i: usize) -> &[i128] {
+        self.rays.row(i)
     }
 }

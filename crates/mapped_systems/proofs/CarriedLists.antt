@@ -8,7 +8,6 @@ use Rattle.row_core.specs.Lists.{Row, row_at, vectors, Pointwise}
 use Rattle.row_core.proofs.PointwiseLemmas.{pointwise_nil, pointwise_cons}
 use Rattle.row_core.proofs.Ring.{mul-zero, mul-at_least_zero, at_least_zero_of_mul, zero_of_mul}
 use Rattle.cone_laws.specs.Cones.{Meets}
-use Rattle.cone_laws.specs.Canon.{IsEchelon}
 use Rattle.cone_laws.specs.Duality.{lines_of, rays_of}
 use Rattle.cone_laws.proofs.Columns.{cell-scale, dot_comm, dot-scale, dot-multiple}
 use Rattle.cons_sys.specs.Constraints.{Constraint}
@@ -202,13 +201,3 @@ zeros_turned from to f h inv old new vs ws table rows wide turned z = record {
                 (λ n. (o.zeros j k).1 (zero_before from to f h inv (row_at old j) (row_at new j) (rows.each j ([], false) ([], false) k) (wide j k) (slice_index_or vs i d) (slice_index_or ws i d) t n)),
               );
         }
-
--- ---- no line
-pub no_line_echelon : (lines rays : List (List ℤ)) → lines ≡ [] → IsEchelon lines rays
-no_line_echelon lines rays e = subst (λ (ls : List (List ℤ)). IsEchelon ls rays) (sym e) (record {
-  pivot = λ i. 0;
-  pivots = λ i b. absurd (omega (arith, b));
-  ordered = λ i k b c. absurd (omega (arith, c));
-  lines_zero = λ i k b c n. absurd (omega (arith, b));
-  rays_zero = λ i k b c. absurd (omega (arith, b));
-})

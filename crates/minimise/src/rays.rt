@@ -2,7 +2,8 @@
 ghost use Rattle.std.specs.Prelude.{◌<◌, length, All};
 ghost use Rattle.minimise.specs.Rays.{placed_rows};
 
-use row_core::{LendRows, RowList};
+use ray_order::LendRows;
+use row_core::RowList;
 
 /// The rays of the second system, one for each of the facets, before they are sorted.
 #[derive(Drop)]
