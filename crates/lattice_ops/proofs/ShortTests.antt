@@ -1,12 +1,12 @@
--- Tests where all rows are narrow: no pair is refused, so they come to their answer in any order.
-use Rattle.std.proofs.Common.{◌≡◌, ◌⊎◌, inl, inr, ℕ, zero, suc, ◌<◌, List, [], length, Bool, true, false, refl, subst, arith, below_more}
+-- Tests where the numbers have few bits: no pair is refused, so they come to their answer in any order.
+use Rattle.std.proofs.Common.{◌≡◌, ◌⊎◌, inl, inr, ℕ, zero, suc, ◌+◌, ◌<◌, ◌≤◌, List, [], length, Bool, true, false, refl, subst, arith, below_more}
 use Rattle.std.specs.Prelude.{◌↔◌, All, Ok, IsTrue}
 use Rattle.std.specs.List.{Contains}
 use Rattle.std.proofs.lemmas.Bool.{false≢true}
 use Rattle.std.proofs.lemmas.List.Elements.{All-contains, All-get_or, All-from_get_or}
 use Rattle.row_core.specs.Vectors.{dot}
-use Rattle.row_core.specs.Narrow.{AreNarrow}
-use Rattle.row_core.proofs.NarrowLemmas.{AllStay-dot_narrow}
+use Rattle.row_core.specs.Sizes.{AllHaveBits}
+use Rattle.row_core.proofs.SizeLemmas.{AllStay-short_dot}
 use Rattle.cons_sys.specs.declared.kind.ConKind.TheVariants.{Eq}
 use Rattle.cons_sys.specs.Constraints.{Constraint, Constraints, constraint_at, row_at, kind_at, Satisfies, FitDimension as FitConstraints}
 use Rattle.cons_sys.proofs.SystemLemmas.{IsConstraint-at}
@@ -27,11 +27,11 @@ own_met q cs k fit e c h = valid_met q k fit c (λ v pt w. All-contains (Satisfi
 
 -- ---- the range
 -- the dot of each pair stays in it
-pub pair_stays : (cs : Constraints) (gs : Generators) → FitConstraints cs → FitDimension gs → cs.dim ≡ gs.dim → AreNarrow cs.list → AreNarrow gs.list → (j i : ℕ) → j < length gs.list → i < length cs.list → Stays cs.list gs.list j i
-pair_stays cs gs fit_cs fit_gs e left right j i h l =
+pub pair_stays : (cs : Constraints) (gs : Generators) → FitConstraints cs → FitDimension gs → cs.dim ≡ gs.dim → (a b : ℕ) → AllHaveBits a cs.list → AllHaveBits b gs.list → a + b ≤ 95 → (j i : ℕ) → j < length gs.list → i < length cs.list → Stays cs.list gs.list j i
+pair_stays cs gs fit_cs fit_gs e a b left right short j i h l =
     let u = (IsConstraint-at cs i fit_cs l).wide in
     let v = (IsGenerator-at gs j fit_gs h).wide in
-    AllStay-dot_narrow (row_at cs.list i) (generator_at gs.list j).0 (omega (arith, u, v, e)) (left i ([], Eq) l) (right j ([], Line) h) (omega (arith, u, fit_cs.narrow))
+    AllStay-short_dot a b (row_at cs.list i) (generator_at gs.list j).0 (omega (arith, u, v, e)) (left i ([], Eq) l) (right j ([], Line) h) (omega (arith, u, fit_cs.narrow)) short
 
 -- ---- the first that fails
 -- of n numbers, the first that lacks the property
