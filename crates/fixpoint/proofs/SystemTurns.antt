@@ -1,16 +1,16 @@
 -- The turns of a system.
-use Rattle.std.proofs.Common.{◌≡◌, ◌⊎◌, inr, ℕ, ◌<◌, List, length, Option, Some, None, slice_get, slice_index_or, ℤ, refl, sym, ap, ◌∙◌, subst}
+use Rattle.std.proofs.Common.{◌≡◌, inl, inr, ℕ, ◌<◌, List, length, Option, Some, None, slice_get, slice_index_or, ℤ, refl, sym, ap, ◌∙◌, subst, arith}
 use Rattle.std.proofs.lemmas.Option.{slice_get_within}
 use Rattle.row_core.specs.Points.{IsPoint}
 use Rattle.row_core.specs.declared.errors.Overflow.{Overflow}
 use Rattle.row_core.specs.declared.errors.ConvErr.{ConvErr}
 use Rattle.row_core.specs.declared.errors.ConvErr.TheVariants as conversion
-use Rattle.cons_sys.specs.Constraints.{Constraint, In, FitDimension as FitConstraints}
+use Rattle.cons_sys.specs.Constraints.{Constraint, In, Satisfies, FitDimension as FitConstraints}
 use Rattle.gens_sys.specs.Generators.{Generators}
 use Rattle.set_laws.specs.Asking.{IsMember}
 use Rattle.poly_pair.specs.declared.topology.Topology.{Topology}
 use Rattle.poly_pair.specs.declared.topology.Topology.TheVariants.{Closed}
-use Rattle.poly_pair.specs.Polyhedra.{Polyhedron, IsKept, IsOver}
+use Rattle.poly_pair.specs.Polyhedra.{Polyhedron, IsKept, IsOver, IsIncluded}
 use Rattle.trans_sys.specs.declared.transition.Transition.{Transition}
 use Rattle.trans_sys.specs.Systems.{TransitionSystem, IsTransition, IsKeptSystem}
 use Rattle.stored_systems.specs.WorkLists.{LeavesOn}
@@ -23,12 +23,13 @@ use Rattle.lattice_ops.proofs.KeptSets.{constraint_for}
 use Rattle.row_core.specs.Refusals.{IsOverflowIn}
 use Rattle.poly_pair.specs.ClosedPolyhedra.{IsClosedOver}
 use Rattle.widening.specs.RunLaws as run
-use Rattle.widening.specs.RunLaws.{AreProper, IsAbove, AreTaken, IsTaken, IsFound, JoinOne}
+use Rattle.widening.specs.RunLaws.{AreProper, ReadsFrom, IsAbove, AreTaken, IsTaken, IsFound, JoinOne}
 use Rattle.widening.proofs.Places.{same_at, has_at, all_at}
 use Rattle.widening.proofs.TurnLemmas.{enlarged}
 use Rattle.widening.proofs.OneRun.{one_set}
+use Rattle.widening.proofs.OwnConstraints.{within_own}
 use Rattle.affine_maps.specs.Posts.{IsPost, IsStepTo, SpanPost}
-use Rattle.fixpoint.specs.Runs.{IsValidOnPost, IsHullWithSuccessors, IsJoinedBy, LeavesOnHullWithPost, LeavesOnGrowth, LeavesByGenerators, LeavesByPost, LeavesBothWays, IsConversionBothWays, target_of, JoinsBy, LeavesBy, CountsBy, turns_of}
+use Rattle.fixpoint.specs.Runs.{IsValidOnPost, IsHullWithSuccessors, IsJoinedBy, LeavesOnHullWithPost, LeavesByGenerators, LeavesByPost, LeavesBothWays, IsConversionBothWays, target_of, JoinsBy, LeavesBy, CountsBy, turns_of}
 use Rattle.fixpoint.specs.RunLaws.{AreClosedUnder}
 
 pub initial_sets : (s : TransitionSystem) → IsKeptSystem s → run.AreSetsOf s.dim (length s.initial) s.initial
@@ -48,6 +49,19 @@ module _ (d : ℕ) (source relation old : Polyhedron) (s : IsClosedOver d source
   pub joined_takes : (joined : Polyhedron) → IsHullWithSuccessors source relation old joined → (y : List ℤ) → IsPoint d y → IsStepTo source.cons relation.cons y → In joined.cons y
   joined_takes joined j y pt h = (j.points y (subst (λ (n : ℕ). IsPoint n y) (sym o.over.same_dim) pt)).1 (λ c is on_old on_post. on_post y (subst (λ (n : ℕ). IsPoint n y) (sym s.over.same_dim) pt) h)
 
+  -- a set that has all of what was joined has the successors too
+  pub joined_stays : (joined set : Polyhedron) → IsHullWithSuccessors source relation old joined → IsClosedOver d set → IsIncluded joined set → IsHullWithSuccessors source relation set set
+  joined_stays joined set j c within = record {
+    over = record { same_topology = refl; same_dim = refl };
+    points = λ v pt. ((λ h a is on_set on_post. on_set v pt h), (λ all. within_own d set c v (λ a is on_set. all a is on_set (λ y at step. takes a on_set y (subst (λ (n : ℕ). IsPoint n y) s.over.same_dim at) step))));
+    kept = c.kept;
+  }
+    where
+      takes : (a : Constraint) → IsValidOn set a → (y : List ℤ) → IsPoint d y → IsStepTo source.cons relation.cons y → Satisfies y a
+      takes a on_set y at step =
+          let inside : In set.cons y = within y (subst (λ (n : ℕ). IsPoint n y) (sym (joined_closed joined j).over.same_dim) at) (joined_takes joined j y at step) in
+          on_set y (subst (λ (n : ℕ). IsPoint n y) (sym c.over.same_dim) at) inside
+
   pub one_joined : (one other : Polyhedron) → IsHullWithSuccessors source relation old one → IsHullWithSuccessors source relation old other → one ≡ other
   one_joined one other j k =
       one_set d one other (joined_closed one j) (joined_closed other k)
@@ -59,7 +73,7 @@ module _ (s : TransitionSystem) where
   by_transition k t sets joined at j = subst (λ (o : Option Transition). JoinsBy o sets joined) at j
 
   pub proper : IsKeptSystem s → AreProper (turns_of s)
-  proper kept = record { place = place; above = above }
+  proper kept = record { place = place; above = above; free = free }
     where
       place : (k : ℕ) → k < length s.transitions → target_of (slice_get s.transitions k) < length s.initial
       place k below =
@@ -73,6 +87,28 @@ module _ (s : TransitionSystem) where
           let same : by.old ≡ old = same_at sets t.0.target by.old old by.has_old (ap (λ (o : Option Transition). slice_get sets (target_of o)) (sym t.1) ∙ has_old) in
           subst (λ (p : Polyhedron). IsAbove s.dim p joined) same
           (joined_above s.dim by.source t.0.relation by.old (all_at (IsClosedOver s.dim) sets t.0.source by.source are.each by.has_source) (all_at (IsClosedOver s.dim) sets t.0.target by.old are.each by.has_old) joined by.is_joined)
+
+      free : (k : ℕ) (sets : List Polyhedron) (n : ℕ) → k < length s.transitions → run.AreSetsOf s.dim (length s.initial) sets → CountsBy (slice_get s.transitions k) sets n n None
+      free k sets n below are =
+          let t = has_at s.transitions k below in
+          let is = all_at (IsTransition (length s.initial) s.dim) s.transitions k t.0 kept.transitions t.1 in
+          let source = has_at sets t.0.source (omega (arith, is.source, are.as_many)) in
+          let set = has_at sets t.0.target (omega (arith, is.target, are.as_many)) in
+          subst (λ (o : Option Transition). CountsBy o sets n n None) (sym t.1) (record { source = source.0; set = set.0; has_source = source.1; has_set = set.1; conversion = inl (refl, inl (inl (refl, refl))) })
+
+  pub reads_from : (k : ℕ) (t : Transition) → slice_get s.transitions k ≡ Some t → ReadsFrom (turns_of s) k t.source
+  reads_from k t at sets others joined set are other same j has_set within =
+      let by = by_transition k t sets joined at j in
+      let source = all_at (IsClosedOver s.dim) sets t.source by.source are.each by.has_source in
+      let old = all_at (IsClosedOver s.dim) sets t.target by.old are.each by.has_old in
+      let set_at : slice_get others t.target ≡ Some set = ap (λ (o : Option Transition). slice_get others (target_of o)) (sym at) ∙ has_set in
+      subst (λ (o : Option Transition). JoinsBy o others set) (sym at) (record {
+        source = by.source;
+        old = set;
+        has_source = same ∙ by.has_source;
+        has_old = set_at;
+        is_joined = joined_stays s.dim by.source t.relation by.old source old joined set by.is_joined (all_at (IsClosedOver s.dim) others t.target set other.each set_at) within;
+      })
 
   pub join_one : JoinOne (turns_of s)
   join_one k sets one other below are j l =

@@ -117,6 +117,10 @@ impl Turns for Transitions<'_> {
         self.system.trans(index).target
     }
 
+    fn source(&self, index: usize) -> usize {
+        self.system.trans(index).source
+    }
+
     fn found<L: Ledger>(
         &self,
         alloc: Global,

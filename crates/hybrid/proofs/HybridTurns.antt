@@ -3,18 +3,22 @@ use Rattle.std.proofs.Common.{◌≡◌, ◌⊎◌, inl, inr, ℕ, ◌+◌, ◌-
 use Rattle.row_core.specs.declared.errors.Overflow.{Overflow}
 use Rattle.row_core.specs.declared.errors.ConvErr.{ConvErr}
 use Rattle.row_core.specs.declared.errors.ConvErr.TheVariants as conversion
-use Rattle.poly_pair.specs.Polyhedra.{Polyhedron}
+use Rattle.poly_pair.specs.Polyhedra.{Polyhedron, IsIncluded}
 use Rattle.trans_sys.specs.declared.transition.Transition.{Transition}
 use Rattle.poly_pair.specs.ClosedPolyhedra.{IsClosedOver}
 use Rattle.trans_sys.specs.Systems.{IsTransition}
-use Rattle.widening.specs.RunLaws.{AreSetsOf, AreProper, IsAbove, IsFound}
+use Rattle.widening.specs.RunLaws.{AreSetsOf, AreProper, ReadsFrom, IsAbove, IsFound}
 use Rattle.row_core.specs.Refusals.{IsOverflowIn}
 use Rattle.widening.proofs.Places.{same_at, has_at, all_at}
+use Rattle.widening.proofs.OneRun.{joined_is_old}
 use Rattle.hybrid.specs.Systems.{HybridAutomaton, IsKeptHybrid}
 use Rattle.hybrid.specs.Steps.{IsTimePost, IsJumpPost, LeavesOnTime, LeavesOnJump}
 use Rattle.hybrid.specs.Turns.{Turn, time, jump, IsHullWithPost, IsOfTime, IsOfJump, Joins, LeavesAfter, LeavesInTime, LeavesInJump, Leaves, CountsInJump, Counts, turn_at, place_of, turns_of}
 use Rattle.hybrid.specs.Conversions.{IsJumpTurnConversion}
-use Rattle.hybrid.proofs.Joined.{hull_above, found_as}
+use Rattle.lattice_ops.specs.Sets.{meet_work}
+use Rattle.poly_pair.proofs.WorkLemmas.{unconverted, cons_below}
+use Rattle.hybrid.proofs.Closed.{jump_closed}
+use Rattle.hybrid.proofs.Joined.{hull_above, hull_stays, found_as}
 
 lt_true : (k n : ℕ) → k < n → nat_lt k n ≡ true
 lt_true k n h = search (arith, h)
@@ -56,11 +60,83 @@ module _ (h : HybridAutomaton) where
         by true e = inl (search (arith, e))
         by false e = inr (λ l. search (arith, e, l))
 
+    -- ---- turns without a combination
+    set_in : (sets : List Polyhedron) (l : ℕ) → length sets ≡ length h.system.initial → l < length h.system.initial → (p : Polyhedron) × (slice_get sets l ≡ Some p)
+    set_in sets l many below = has_at sets l (omega (arith, many, below))
+
+    free_at : (k : ℕ) (sets : List Polyhedron) (n : ℕ) → k < length h.system.initial + length h.system.transitions → AreSetsOf h.system.dim (length h.system.initial) sets → (k < length h.system.initial) ⊎ ¬ (k < length h.system.initial) → Counts h (turn_at h k) sets n n None
+    free_at k sets n b are (inl l) =
+        let old = set_in sets k are.as_many l in
+        let inv = set_in h.invariants k kept.invariants.as_many l in
+        let flow = set_in h.flows k kept.flows.as_many l in
+        subst (λ (t : Turn). Counts h t sets n n None) (sym (at_time k l)) (record {
+          old = old.0;
+          inv = inv.0;
+          flow = flow.0;
+          has_old = old.1;
+          has_inv = inv.1;
+          has_flow = flow.1;
+          holds = inl (inl (unconverted (meet_work old.0 inv.0) n (cons_below old.0 inv.0.cons)));
+        })
+    free_at k sets n b are (inr g) =
+        let t = has_at h.system.transitions (k - length h.system.initial) (omega (arith, b, g)) in
+        let is = all_at (IsTransition (length h.system.initial) h.system.dim) h.system.transitions (k - length h.system.initial) t.0 kept.system.transitions t.1 in
+        let source = set_in sets t.0.source are.as_many is.source in
+        let inv = set_in h.invariants t.0.source kept.invariants.as_many is.source in
+        let old = set_in sets t.0.target are.as_many is.target in
+        let target_inv = set_in h.invariants t.0.target kept.invariants.as_many is.target in
+        subst (λ (x : Turn). Counts h x sets n n None) (sym (at_jump k g ∙ ap jump t.1)) (record {
+          source = source.0;
+          inv = inv.0;
+          old = old.0;
+          target_inv = target_inv.0;
+          has_source = source.1;
+          has_inv = inv.1;
+          has_old = old.1;
+          has_target_inv = target_inv.1;
+          holds = inl (inl (unconverted (meet_work source.0 inv.0) n (cons_below source.0 inv.0.cons)));
+        })
+
     pub proper : AreProper (turns_of h)
     proper = record {
       place = λ k b. place_below k b (below_or_not k (length h.system.initial));
       above = λ k sets old joined b are at j. above_turn (turn_at h k) sets old joined are at j;
+      free = λ k sets n b are. free_at k sets n b are (below_or_not k (length h.system.initial));
     }
+
+    -- ---- what a turn reads
+    abbrev Reads : Turn → ℕ → Type 0
+    Reads turn source = (sets others : List Polyhedron) (joined set : Polyhedron) → AreSetsOf h.system.dim (length h.system.initial) sets → AreSetsOf h.system.dim (length h.system.initial) others → slice_get others source ≡ slice_get sets source → Joins h turn sets joined → slice_get others (place_of turn) ≡ Some set → IsIncluded joined set → Joins h turn others set
+
+    time_reads : (l : ℕ) → Reads (time l) l
+    time_reads l sets others joined set are other same j at within =
+        let old = set_at sets l j.old are j.has_old in
+        let above = hull_above (IsTimePost j.old j.inv j.flow) h.system.dim j.old old joined j.holds in
+        let is_old : j.old ≡ set = same_at others l j.old set (same ∙ j.has_old) at in
+        let is_joined : joined ≡ j.old = joined_is_old h.system.dim j.old joined old above (subst (λ (p : Polyhedron). IsIncluded joined p) (sym is_old) within) in
+        subst (λ (p : Polyhedron). IsOfTime h l others p) (is_joined ∙ is_old) (record { old = j.old; inv = j.inv; flow = j.flow; has_old = same ∙ j.has_old; has_inv = j.has_inv; has_flow = j.has_flow; holds = j.holds })
+
+    jump_reads : (t : Transition) → Reads (jump (Some t)) t.source
+    jump_reads t sets others joined set are other same j at within =
+        let old = set_at sets t.target j.old are j.has_old in
+        let post = jump_closed h.system.dim j.source j.inv t.relation j.target_inv j.holds.post (all_at (IsClosedOver h.system.dim) h.invariants t.target j.target_inv kept.invariants.each j.has_target_inv) j.holds.is_post in
+        record {
+          source = j.source;
+          inv = j.inv;
+          old = set;
+          target_inv = j.target_inv;
+          has_source = same ∙ j.has_source;
+          has_inv = j.has_inv;
+          has_old = at;
+          has_target_inv = j.has_target_inv;
+          holds = hull_stays (IsJumpPost j.source j.inv t.relation j.target_inv) h.system.dim j.old old joined set j.holds post (set_at others t.target set other at) within;
+        }
+
+    pub reads_time : (k : ℕ) → k < length h.system.initial → ReadsFrom (turns_of h) k k
+    reads_time k below = subst (λ (t : Turn). Reads t k) (sym (at_time k below)) (time_reads k)
+
+    pub reads_jump : (k i : ℕ) (t : Transition) → ¬ (k < length h.system.initial) → i ≡ k - length h.system.initial → slice_get h.system.transitions i ≡ Some t → ReadsFrom (turns_of h) k t.source
+    reads_jump k i t behind same at = subst (λ (x : Turn). Reads x t.source) (sym (at_jump k behind ∙ ap (λ (n : ℕ). jump (slice_get h.system.transitions n)) (sym same) ∙ ap jump at)) (jump_reads t)
 
     pub initial_sets : AreSetsOf h.system.dim (length h.system.initial) h.system.initial
     initial_sets = record { as_many = refl; each = kept.system.initial }

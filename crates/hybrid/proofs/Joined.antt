@@ -1,19 +1,20 @@
 -- The hull of a set and a post.
-use Rattle.std.proofs.Common.{◌⊎◌, inr, ℕ, List, Option, Some, None, ℤ, sym, ◌∙◌, subst}
+use Rattle.std.proofs.Common.{◌⊎◌, inr, ℕ, List, Option, Some, None, ℤ, refl, sym, ◌∙◌, subst}
 use Rattle.row_core.specs.Points.{IsPoint}
 use Rattle.row_core.specs.declared.errors.Overflow.{Overflow}
 use Rattle.row_core.specs.declared.errors.ConvErr.{ConvErr}
 use Rattle.row_core.specs.declared.errors.ConvErr.TheVariants as conversion
-use Rattle.cons_sys.specs.Constraints.{In}
-use Rattle.poly_pair.specs.Polyhedra.{Polyhedron}
+use Rattle.cons_sys.specs.Constraints.{Constraint, In, Satisfies}
+use Rattle.poly_pair.specs.Polyhedra.{Polyhedron, IsIncluded}
 use Rattle.poly_pair.specs.ClosedPolyhedra.{IsClosedOver}
 use Rattle.poly_pair.specs.TopologyLists.{list_width, generators_of}
 use Rattle.poly_pair.specs.Refusals.{IsOverflowOn}
-use Rattle.lattice_ops.specs.Sets.{both_generators}
+use Rattle.lattice_ops.specs.Sets.{IsValidOn, both_generators}
 use Rattle.lattice_ops.specs.Growing.{IsGrown}
 use Rattle.row_core.specs.Refusals.{IsOverflowIn}
 use Rattle.widening.specs.RunLaws.{IsAbove, IsFound}
 use Rattle.widening.proofs.TurnLemmas.{enlarged}
+use Rattle.widening.proofs.OwnConstraints.{within_own}
 use Rattle.hybrid.specs.Turns.{IsHullWithPost, LeavesAfter}
 
 module _ (IsMade : Polyhedron → Type 0) (d : ℕ) (old : Polyhedron) (o : IsClosedOver d old) where
@@ -27,6 +28,23 @@ module _ (IsMade : Polyhedron → Type 0) (d : ℕ) (old : Polyhedron) (o : IsCl
   pub hull_takes : (joined : Polyhedron) → (j : IsHullWithPost IsMade old joined) → IsClosedOver d j.post → (v : List ℤ) → IsPoint d v → In j.post.cons v → In joined.cons v
   hull_takes joined j c v pt h =
       (j.is_hull.points v (subst (λ (n : ℕ). IsPoint n v) (sym o.over.same_dim) pt)).1 (λ a is in_old in_post. in_post v (subst (λ (n : ℕ). IsPoint n v) (sym c.over.same_dim) pt) h)
+
+  -- a set that has all of the hull has the post too
+  pub hull_stays : (joined set : Polyhedron) → (j : IsHullWithPost IsMade old joined) → IsClosedOver d j.post → IsClosedOver d set → IsIncluded joined set → IsHullWithPost IsMade set set
+  hull_stays joined set j c s within = record {
+    post = j.post;
+    is_post = j.is_post;
+    is_hull = record {
+      over = record { same_topology = refl; same_dim = refl };
+      points = λ v pt. ((λ h a is on_set on_post. on_set v pt h), (λ all. within_own d set s v (λ a is on_set. all a is on_set (λ y at h. takes a on_set y (subst (λ (n : ℕ). IsPoint n y) c.over.same_dim at) h))));
+    };
+    joined_kept = s.kept;
+  }
+    where
+      takes : (a : Constraint) → IsValidOn set a → (y : List ℤ) → IsPoint d y → In j.post.cons y → Satisfies y a
+      takes a on_set y at h =
+          let inside : In set.cons y = within y (subst (λ (n : ℕ). IsPoint n y) (sym (hull_above joined j).closed.over.same_dim) at) (hull_takes joined j c y at h) in
+          on_set y (subst (λ (n : ℕ). IsPoint n y) (sym s.over.same_dim) at) inside
 
   pub found_of : (post : Polyhedron) → IsMade post → (r : Option Polyhedron) → IsGrown old post r → IsFound (IsHullWithPost IsMade old) old r
   found_of post m None h = record { joined = h.hull; is_joined = record { post = post; is_post = m; is_hull = h.is_hull; joined_kept = h.kept }; same = h.same }

@@ -151,6 +151,14 @@ impl Turns for Hybrid {
         self.system().trans(index - locations).target
     }
 
+    fn source(&self, index: usize) -> usize {
+        let locations = self.system().locs();
+        if index < locations {
+            return index;
+        }
+        self.system().trans(index - locations).source
+    }
+
     fn found<L: Ledger>(
         &self,
         alloc: Global,

@@ -1,5 +1,5 @@
 -- The loop as the one turn of a run.
-use Rattle.std.proofs.Common.{◌≡◌, ◌⊎◌, inl, inr, ℕ, ◌+◌, ◌<◌, List, [], ◌∷◌, length, Option, Some, None, slice_get, refl, sym, ap, ◌∙◌, subst, arith, All}
+use Rattle.std.proofs.Common.{◌≡◌, inl, ℕ, List, [], ◌∷◌, length, Option, Some, None, slice_get, refl, sym, ap, ◌∙◌, subst, arith}
 use Rattle.row_core.specs.Refusals.{IsOverflowIn}
 use Rattle.row_core.specs.declared.errors.ConvErr.{ConvErr}
 use Rattle.row_core.specs.declared.errors.ConvErr.TheVariants as conversion
@@ -8,7 +8,7 @@ use Rattle.stored_systems.specs.WorkLists.{LeavesOn}
 use Rattle.poly_pair.specs.declared.topology.Topology.{Topology}
 use Rattle.poly_pair.specs.declared.topology.Topology.TheVariants.{Closed}
 use Rattle.poly_pair.specs.TopologyLists.{list_width, generators_of}
-use Rattle.poly_pair.specs.Polyhedra.{Polyhedron, IsKept}
+use Rattle.poly_pair.specs.Polyhedra.{Polyhedron, IsKept, IsIncluded}
 use Rattle.poly_pair.specs.ClosedPolyhedra.{IsClosedOver}
 use Rattle.poly_pair.specs.Refusals.{IsOverflowOn}
 use Rattle.lattice_ops.specs.Sets.{both_generators}
@@ -16,11 +16,14 @@ use Rattle.lattice_ops.specs.Growing.{IsGrown}
 use Rattle.std.proofs.lemmas.List.Elements.{All-nil, All-cons}
 use Rattle.widening.specs.Runs.{HasLimit}
 use Rattle.widening.specs.RunOverflows.{LeavesInRun}
-use Rattle.widening.specs.RunLaws.{AreSetsOf, AreProper, IsAbove, IsFound, AreTaken, IncludeEach}
-use Rattle.widening.proofs.Places.{same_at, all_at, some_same}
+use Rattle.widening.specs.RunLaws.{AreSetsOf, AreProper, ReadsFrom, IsAbove, IsFound, AreTaken, IncludeEach}
+use Rattle.poly_pair.specs.Work.{added_cons}
+use Rattle.poly_pair.proofs.WorkLemmas.{unconverted, cons_below}
+use Rattle.widening.proofs.Places.{same_at, has_at, all_at, some_same}
+use Rattle.widening.proofs.OneRun.{joined_is_old}
 use Rattle.widening.proofs.TurnLemmas.{enlarged}
 use Rattle.loop_analysis.specs.Loops.{WhileLoop}
-use Rattle.loop_analysis.specs.Rounds.{IsRound, IsJoined, LeavesInRound, LeavesOnHull, LeavesInJoin, JoinsFirst, LeavesAtFirst, turns_of}
+use Rattle.loop_analysis.specs.Rounds.{IsRound, IsJoined, LeavesOnHull, LeavesInJoin, JoinsFirst, LeavesAtFirst, turns_of}
 use Rattle.loop_analysis.specs.Analysis.{IsStable, IsInvariant, LeavesInHead}
 use Rattle.loop_analysis.specs.declared.analysis.TheConstants.{DELAY}
 use Rattle.loop_analysis.proofs.AnalysisLemmas.{run_leaves}
@@ -39,7 +42,18 @@ proper l = record {
       let same : j.set ≡ old = same_at sets 0 j.set old j.first at in
       let set : IsClosedOver l.dim old = all_at (IsClosedOver l.dim) sets 0 old are.each at in
       joined_above l old joined set (subst (λ (p : Polyhedron). IsJoined l p joined) same j.is_joined);
+  free = λ k sets n h are.
+      let set = has_at sets 0 (omega (arith, are.as_many)) in
+      record { set = set.0; first = set.1; conversion = inl (inl (unconverted (added_cons set.0 l.guard) n (cons_below set.0 l.guard))) };
 }
+
+-- the turn reads the set at the head alone
+pub reads_head : (l : WhileLoop) (k : ℕ) → ReadsFrom (turns_of l) k 0
+reads_head l k sets others joined set are other same j at within =
+    let old : IsClosedOver l.dim j.set = all_at (IsClosedOver l.dim) sets 0 j.set are.each j.first in
+    let is_old : j.set ≡ set = same_at others 0 j.set set (same ∙ j.first) at in
+    let is_joined : joined ≡ j.set = joined_is_old l.dim j.set joined old (joined_above l j.set joined old j.is_joined) (subst (λ (p : Polyhedron). IsIncluded joined p) (sym is_old) within) in
+    subst (λ (p : Polyhedron). JoinsFirst l others p) (is_joined ∙ is_old) (record { set = j.set; first = same ∙ j.first; is_joined = j.is_joined })
 
 pub found_of : (l : WhileLoop) (set round : Polyhedron) → IsClosedOver l.dim set → IsRound l set round → IsKept round → (o : Option Polyhedron) → IsGrown set round o → IsFound (IsJoined l set) set o
 found_of l set round c r k None h = record { joined = h.hull; is_joined = record { round = round; is_round = r; round_kept = k; is_hull = h.is_hull; joined_kept = h.kept }; same = h.same }

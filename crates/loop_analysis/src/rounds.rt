@@ -111,6 +111,10 @@ impl Turns for HeadTurn<'_> {
         0
     }
 
+    fn source(&self, _index: usize) -> usize {
+        0
+    }
+
     fn found<L: Ledger>(
         &self,
         alloc: Global,

@@ -7,7 +7,7 @@ use Rattle.std.proofs.lemmas.List.{get_or_default}
 use Rattle.std.proofs.lemmas.List.Elements.{All-cons, All-head, All-tail, All-nil, All-map, Contains-get_or}
 use Rattle.row_core.specs.Vectors.{cell, dot}
 use Rattle.row_core.specs.Points.{IsPoint}
-use Rattle.row_core.specs.Lists.{Row, row_at, system_rows}
+use Rattle.row_core.specs.Lists.{Row, system_rows}
 use Rattle.cone_laws.specs.Cones.{Spans, negated}
 use Rattle.cone_laws.specs.Canon.{vector_at}
 use Rattle.cone_laws.specs.Duality.{lines_of}
@@ -21,7 +21,6 @@ use Rattle.cone_laws.proofs.Bipolar.{admitted_is_spanned}
 use Rattle.cone_laws.proofs.MemberLemmas.{negated_dot, zero_of_signs}
 use Rattle.cons_sys.specs.declared.kind.ConKind.TheVariants.{Eq, Ge, Gt}
 use Rattle.cons_sys.specs.Constraints.{Constraint, Constraints, Satisfies}
-use Rattle.cons_sys.specs.Constraints as cons
 use Rattle.gens_sys.specs.Generators as gens
 use Rattle.stored_systems.specs.PointSets.{IsClosedKind, AreClosed, IsWithin, IsValid}
 use Rattle.stored_systems.specs.WorkLists.{divisor_row, constraint_row, constraint_list}

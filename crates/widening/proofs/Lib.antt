@@ -22,7 +22,9 @@ pub mod RankLaws
 pub mod Places
 pub mod Totals
 pub mod TurnLemmas
+pub mod SettledTurns
 pub mod RoundLemmas
 pub mod OneRun
+pub mod OwnConstraints
 pub mod Sums
 pub mod RunCounts

@@ -1,24 +1,25 @@
 -- Where each turn joins one set, a turn, a round and a run have one outcome.
 use Rattle.std.proofs.Common.{◌≡◌, ◌⊎◌, inl, inr, ℕ, zero, suc, ◌+◌, ◌<◌, ◌≤◌, List, Option, Some, None, slice_get, refl, sym, ap, ◌∙◌, subst, arith}
+use Rattle.row_core.specs.Points.{IsPoint}
 use Rattle.cons_sys.specs.Constraints.{Constraints}
 use Rattle.gens_sys.specs.Generators.{Generators}
 use Rattle.stored_systems.specs.StoredForms.{IsStored}
 use Rattle.stored_systems.proofs.Stored.{stored_is_unique}
 use Rattle.poly_pair.specs.declared.topology.Topology.{Topology}
 use Rattle.poly_pair.specs.declared.topology.Topology.TheVariants.{Closed}
-use Rattle.poly_pair.specs.Polyhedra.{Polyhedron, IsKept, IsStoredAs, HaveSamePoints}
+use Rattle.poly_pair.specs.Polyhedra.{Polyhedron, IsKept, IsStoredAs, IsIncluded, HaveSamePoints}
 use Rattle.widening.specs.declared.updates.Updated.{Updated}
 use Rattle.widening.specs.Updates.{IsUpdate}
 use Rattle.poly_pair.specs.ClosedPolyhedra.{IsClosedOver}
 use Rattle.widening.specs.WideningLaws.{OneWidening}
 use Rattle.widening.specs.Runs.{RunTable, TurnList, IsMove, IsOutcome, placed, IsTurn, IsRound, begins, takes, AreRounds, none, more, IsStable, IsLimit, HasLimit, start}
-use Rattle.widening.specs.RunLaws.{AreSetsOf, IsTableOf, AreProper, JoinOne}
+use Rattle.widening.specs.RunLaws.{AreSetsOf, IsTableOf, AreProper, IsAbove, JoinOne}
 use Rattle.widening.proofs.Places.{same_at, all_at}
 use Rattle.widening.proofs.TurnLemmas.{update_closed}
 use Rattle.widening.proofs.RoundLemmas.{start_table, round_table, rounds_table}
 
 -- ---- sets
-closed_stored : (t : Topology) (cs : Constraints) (gs : Generators) → t ≡ Closed → IsStoredAs t cs gs → IsStored cs gs
+pub closed_stored : (t : Topology) (cs : Constraints) (gs : Generators) → t ≡ Closed → IsStoredAs t cs gs → IsStored cs gs
 closed_stored t cs gs e s = subst (λ (u : Topology). IsStoredAs u cs gs) e s
 
 same_polyhedron : (p q : Polyhedron) → p.topology ≡ q.topology → p.cons ≡ q.cons → p.gens ≡ q.gens → p ≡ q
@@ -32,6 +33,10 @@ pub one_set : (d : ℕ) (p q : Polyhedron) → IsClosedOver d p → IsClosedOver
 one_set d p q c e h =
     let unique = (stored_is_unique p.cons q.cons p.gens q.gens (c.over.same_dim ∙ sym e.over.same_dim) (closed_stored p.topology p.cons p.gens c.over.same_topology c.kept.stored) (closed_stored q.topology q.cons q.gens e.over.same_topology e.kept.stored)).0 h in
     same_polyhedron p q (c.over.same_topology ∙ sym e.over.same_topology) unique.cons unique.gens
+
+-- what is joined to a set that has all of it is that set
+pub joined_is_old : (d : ℕ) (old joined : Polyhedron) → IsClosedOver d old → IsAbove d old joined → IsIncluded joined old → joined ≡ old
+joined_is_old d old joined o a within = one_set d joined old a.closed o (λ v pt. (within v pt, a.includes v (subst (λ (n : ℕ). IsPoint n v) (a.closed.over.same_dim ∙ sym o.over.same_dim) pt)))
 
 same_updated : (u v : Updated) → u.set ≡ v.set → u.left ≡ v.left → u ≡ v
 same_updated u v e f = ap (λ (p : Polyhedron). record { set = p; left = u.left }) e ∙ ap (λ (n : ℕ). record { set = v.set; left = n }) f

@@ -94,19 +94,33 @@ module _ (turns : TurnList) (proper : AreProper turns) (k : ℕ) (below : k < tu
         by None h e = stays (ap (λ (x : RunTable). slice_get x.sets i) e)
         by (Some u) h e = moved u h e (cases_eq i (turns.place k))
 
+-- what a turn joins at a table is in the set of its place at another
+pub record HasTaken (turns : TurnList) (k : ℕ) (t after : RunTable) : Type 0 where
+  pub joined : Polyhedron
+  pub is_joined : turns.Joins k t.sets joined
+  pub set : Polyhedron
+  pub has_set : slice_get after.sets (turns.place k) ≡ Some set
+  pub within : IsIncluded joined set
+
+-- as it is at the table that the turn leads to
+pub has_taken : (turns : TurnList) → AreProper turns → (k : ℕ) → k < turns.count → (t after : RunTable) → IsTableOf turns t → WideningIncludes → IsTurn turns k t after → HasTaken turns k t after
+has_taken turns proper k below t after table wider turn = by turn.outcome turn.is_outcome turn.is_placed
+  where
+    by : (outcome : Option Updated) → IsOutcome (turns.Joins k t.sets) turn.old turn.left outcome → after ≡ placed t (turns.place k) outcome → HasTaken turns k t after
+    by None h e = record { joined = h.joined; is_joined = h.is_joined; set = turn.old; has_set = ap (λ (x : RunTable). slice_get x.sets (turns.place k)) e ∙ turn.has_old; within = λ v pt i. (h.same v pt).0 i }
+    by (Some u) h e = record {
+      joined = h.joined;
+      is_joined = h.is_joined;
+      set = u.set;
+      has_set = ap (λ (x : RunTable). slice_get x.sets (turns.place k)) e ∙ set_same t.sets (turns.place k) u.set (slice_get_within t.sets (turns.place k) turn.old turn.has_old);
+      within = joined_in_move turns proper k below t after table turn wider u.set u.left h;
+    }
+
 -- what a turn joins that leaves its table is in the set of its place
 pub turn_takes : (turns : TurnList) → AreProper turns → (k : ℕ) → k < turns.count → (t : RunTable) → IsTableOf turns t → WideningIncludes → IsTurn turns k t t → IsTaken turns k t.sets
-turn_takes turns proper k below t table wider turn = by turn.outcome turn.is_outcome turn.is_placed
-  where
-    taken : (joined : Polyhedron) → turns.Joins k t.sets joined → IsIncluded joined turn.old → IsTaken turns k t.sets
-    taken joined j part = record { set = turn.old; has_set = turn.has_old; joined = joined; is_joined = j; within = part }
-
-    by : (outcome : Option Updated) → IsOutcome (turns.Joins k t.sets) turn.old turn.left outcome → t ≡ placed t (turns.place k) outcome → IsTaken turns k t.sets
-    by None h e = taken h.joined h.is_joined (λ v pt i. (h.same v pt).0 i)
-    by (Some u) h e =
-        let at : slice_get t.sets (turns.place k) ≡ Some u.set = ap (λ (x : RunTable). slice_get x.sets (turns.place k)) e ∙ set_same t.sets (turns.place k) u.set (slice_get_within t.sets (turns.place k) turn.old turn.has_old) in
-        let is_set : u.set ≡ turn.old = same_at t.sets (turns.place k) u.set turn.old at turn.has_old in
-        taken h.joined h.is_joined (subst (λ (r : Polyhedron). IsIncluded h.joined r) is_set (joined_in_move turns proper k below t t table turn wider u.set u.left h))
+turn_takes turns proper k below t table wider turn =
+    let h = has_taken turns proper k below t t table wider turn in
+    record { set = h.set; has_set = h.has_set; joined = h.joined; is_joined = h.is_joined; within = h.within }
 
 -- ---- outcomes of a turn
 -- where the joined set has no more points the table stays

@@ -19,12 +19,24 @@ pub record IsAbove (dim : ℕ) (old joined : Polyhedron) : Type 0 where
   pub closed : IsClosedOver dim joined
   pub includes : IsIncluded old joined
 
--- each turn has one of the places, and joins a closed set that includes that of its place
+-- each turn has one of the places, and joins a closed set that includes that of its place; that may
+-- be found without a combination
 pub record AreProper (turns : TurnList) : Type 0 where
   pub place : (k : ℕ) → k < turns.count → turns.place k < turns.places
   pub above : (k : ℕ) (sets : List Polyhedron) (old joined : Polyhedron) → k < turns.count
       → AreSetsOf turns.dim turns.places sets → slice_get sets (turns.place k) ≡ Some old
       → turns.Joins k sets joined → IsAbove turns.dim old joined
+  pub free : (k : ℕ) (sets : List Polyhedron) (n : ℕ) → k < turns.count
+      → AreSetsOf turns.dim turns.places sets → turns.Counts k sets n n None
+
+-- beside the set of its place a turn reads that of its source alone: where the source has the same
+-- set, and the set of the place has all of what the turn joined, that set is what it joins
+abbrev pub ReadsFrom : TurnList → ℕ → ℕ → Type 0
+ReadsFrom turns k source = (sets others : List Polyhedron) (joined set : Polyhedron)
+    → AreSetsOf turns.dim turns.places sets → AreSetsOf turns.dim turns.places others
+    → slice_get others source ≡ slice_get sets source → turns.Joins k sets joined
+    → slice_get others (turns.place k) ≡ Some set → IsIncluded joined set
+    → turns.Joins k others set
 
 -- ---- what a turn finds
 -- a larger set is joined

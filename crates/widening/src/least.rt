@@ -1,7 +1,7 @@
 //! Whether rows are at least 0 on generators.
 ghost use Rattle.std.specs.Prelude.{◌≡◌, ◌+◌, ◌^◌, ◌<◌, ◌↔◌, length, IsTrue, IfOk, IfErr, neg_ℤ};
 ghost use Rattle.row_core.specs.Range.{AllInRange};
-ghost use Rattle.row_core.specs.Narrow.{AllNarrow, AreNarrow};
+ghost use Rattle.row_core.specs.Sizes.{HaveBits, AllHaveBits};
 ghost use Rattle.widening.specs.Inequalities.{side_of, signed};
 ghost use Rattle.widening.specs.Values.{Fits, IsLeastOn, IsValueOverflow};
 
@@ -24,7 +24,8 @@ fn fits(kind: GenKind, value: i128, other: bool) -> bool
 }
 
 /// Whether a row, or its negative for the other side, is 0 on lines and at least 0 on the other
-/// generators. They are tested in order, up to the first that refuses.
+/// generators. They are tested in order, up to the first that refuses. The numbers have at most so
+/// many bits.
 ///
 /// # Errors
 ///
@@ -34,17 +35,17 @@ pub(crate) fn is_least_on(
     row: &[i128],
     other: bool,
     gens: &GensSys,
-    narrow: bool,
+    within: u32,
 ) -> Result<bool, ConvErr>
     requires wide { length row.now ≡ gens.now.dim + 1 }
     requires few { length row.now < 2 ^ 32 }
     requires in_range { AllInRange row.now }
-    requires narrow { IsTrue narrow → AllNarrow row.now × AreNarrow gens.now.list }
+    requires bits { HaveBits within row.now × AllHaveBits within gens.now.list }
     ensures least { IfOk result (λ b. IsTrue b ↔ IsLeastOn gens.now.list (side_of row.now other)) }
     ensures overflow { IfErr result (IsValueOverflow row.now gens.now.list) }
 {
     for index in 0..gens.len() {
-        let value = value_on(alloc, row, gens, narrow, index)?;
+        let value = value_on(alloc, row, gens, within, index)?;
         if !fits(gens.kind(index), value, other) {
             return Ok(false);
         }

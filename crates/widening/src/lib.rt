@@ -16,6 +16,7 @@ mod kept;
 pub mod laws;
 mod least;
 mod runs;
+mod settled;
 mod table;
 mod turns;
 mod updates;

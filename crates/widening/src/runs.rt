@@ -3,27 +3,33 @@ ghost use Rattle.std.specs.Prelude.{◌<◌, ◌≤◌, MatchBool, IfOk, IfErr};
 ghost use Rattle.widening.specs.Ranks.{total};
 ghost use Rattle.widening.specs.Runs.{IsRound, IsStable, HasLimit};
 ghost use Rattle.widening.specs.RunLaws.{AreSetsOf, IsTableOf, AreProper, IncludeEach, AreTaken};
+ghost use Rattle.widening.specs.SettledTurns.{AreSettled};
 ghost use Rattle.row_core.specs.Refusals.{IsOverflowIn};
 ghost use Rattle.widening.specs.RunOverflows.{LeavesInRound, LeavesInRun};
 ghost use Rattle.poly_pair.specs.Work.{conv_overflow};
 ghost use Rattle.widening.specs.RunConversions.{IsCountedRound, IsBrokenRound, ConvertsRun};
 
 use crate::laws::widening_includes;
+use crate::settled::due_turn;
 use crate::table::Table;
-use crate::turns::{Turns, turn};
+use crate::turns::Turns;
 use poly_pair::Poly;
 use row_core::{ConvErr, Steps};
 use std::alloc::Global;
 use std::sync::ledger::Ledger;
 
-/// All turns in order. Says whether one of them changed the table.
+/// All turns in order, of which those that aren't due would leave the table as it is. Says whether
+/// one of them changed it.
 fn round<T: Turns, L: Ledger>(
     alloc: Global,
     turns: &T,
     table: &mut Table,
+    due: &mut [bool],
     steps: &mut Steps<L>,
 ) -> Result<bool, ConvErr>
-    requires { IsTableOf (T.turns turns.now) table.old }
+    requires table { IsTableOf (T.turns turns.now) table.old }
+    requires settled { AreSettled (T.turns turns.now) table.old due.old }
+    ensures settled { IfOk result (λ changed. AreSettled (T.turns turns.now) table.new due.new) }
     ensures round { IfOk result (λ changed.
         IsRound (T.turns turns.now) (T.turns turns.now).count table.old table.new) }
     ensures falls { IfOk result (λ changed. MatchBool changed
@@ -38,7 +44,7 @@ fn round<T: Turns, L: Ledger>(
 {
     let mut changed = false;
     for index in 0..turns.count() {
-        if turn(alloc, turns, index, table, steps)? {
+        if due_turn(alloc, turns, index, table, due, steps)? {
             changed = true;
         }
     }
@@ -50,7 +56,8 @@ fn round<T: Turns, L: Ledger>(
 /// The run starts with the given sets. A round takes each turn in order. Where what it joins to
 /// the set of its place has more points, this replaces the set, at most `delay` times for each
 /// place, and later its widening does. The limit is the table that a whole round leaves as it is.
-/// Each run comes to it.
+/// Each run comes to it. A turn isn't made again while the set that it reads is the same: it would
+/// join nothing.
 ///
 /// # Errors
 ///
@@ -77,10 +84,10 @@ pub fn run<T: Turns, L: Ledger>(
         result }
 {
     widening_includes();
-    let _proper = turns.count();
+    let mut due = vec![in alloc; true; turns.count()]?;
     let mut table = Table::new(alloc, initial, delay)?;
     loop {
-        if !round(alloc, turns, &mut table, steps)? {
+        if !round(alloc, turns, &mut table, &mut due, steps)? {
             return Ok(table.into_sets());
         }
     }

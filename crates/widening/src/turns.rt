@@ -6,7 +6,7 @@ ghost use Rattle.widening.specs.Updates.{IsUpdate, IsUpdateOverflow, ConvertsUpd
 ghost use Rattle.poly_pair.specs.ClosedPolyhedra.{IsClosedOver};
 ghost use Rattle.widening.specs.WideningLaws.{IsEnlarged};
 ghost use Rattle.widening.specs.Runs.{TurnList, IsTurn};
-ghost use Rattle.widening.specs.RunLaws.{AreSetsOf, IsTableOf, AreProper, IsFound};
+ghost use Rattle.widening.specs.RunLaws.{AreSetsOf, IsTableOf, AreProper, IsFound, ReadsFrom};
 ghost use Rattle.row_core.specs.Refusals.{IsOverflowIn};
 ghost use Rattle.widening.specs.RunOverflows.{LeavesInTurn};
 ghost use Rattle.poly_pair.specs.Work.{conv_overflow, overflow_in};
@@ -33,6 +33,11 @@ pub trait Turns {
     fn place(&self, index: usize) -> usize
         requires { index < (turns self.now).count }
         ensures { result ≡ (turns self.now).place index };
+
+    /// The place whose set a turn reads beside that of its own.
+    fn source(&self, index: usize) -> usize
+        requires { index < (turns self.now).count }
+        ensures { ReadsFrom (turns self.now) index result };
 
     /// The larger set that a turn joins to that of its place, or none where it has the same points.
     fn found<L: Ledger>(

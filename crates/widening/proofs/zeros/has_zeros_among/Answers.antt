@@ -1,11 +1,13 @@
 use Rattle.std.specs.Prelude.{List, Bool, length, IsTrue, Contains}
-use Rattle.std.proofs.Common.{rules, sym, ap, ◌∙◌, subst}
+use Rattle.std.proofs.Common.{◌≡◌, arith, rules, sym, ap, ◌∙◌, subst}
+use Rattle.std.specs.Prelude.{max}
+use Rattle.std.proofs.lemmas.Bool.Decides.{nat_tests}
 use Rattle.std.proofs.lemmas.Result.{err_from_is_err_and}
 use Rattle.cons_sys.specs.Constraints.{Constraints}
 use Rattle.gens_sys.specs.Generators.{Generators}
 use Rattle.widening.specs.Values.{TellsGenerators, IsValueOverflow}
 use Rattle.widening.proofs.ZeroLists.{stands_exactly}
-use Rattle.widening.proofs.KeptLists.{own_overflow}
+use Rattle.widening.proofs.KeptLists.{both_have_bits, own_overflow}
 use Rattle.widening.proofs.zeros.has_zeros_among.Goals as goal
 
 pub stands_among-requires : goal.stands_among-requires
@@ -26,3 +28,8 @@ returns-in_err-zeros c =
     let own = own_overflow c.args.row.now c.args.kind c.args.p.now.cons.list c.args.p.now.gens.list c.in_err-zeros.field-0.0
     (λ own. absurd (let t : IsTrue c.has.result = c.has.ensures.1 (subst (λ (cs : Constraints). Contains cs.list (c.args.row.now, c.args.kind)) (sym c.cons.ensures.value) own) in search (rules, t, c.if-has.false))) leaves in
     rw (p.1, p.2) (record { among = tt; overflow = own })
+
+pub zeros_of-requires-clause-bits : goal.zeros_of-requires-clause-bits
+zeros_of-requires-clause-bits c =
+    let most : c.max.result ≡ max c.args.within c.bits.result = grind (arith, nat_tests, c.max.ensures) in
+    both_have_bits c.args.within c.bits.result c.max.result c.args.row.now c.gens.result.now c.args.p.now.gens most c.gens.ensures.value c.bits.ensures c.requires.bits
