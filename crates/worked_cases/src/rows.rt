@@ -12,7 +12,7 @@ use std::test::Fail;
 
 const K: i128 = i128::MAX;
 
-/// The limit of narrow entries.
+/// The products of two numbers below it, one for each of 2^32 columns, have a sum of the range.
 const N: i128 = 1 << 47;
 
 #[test]
@@ -39,7 +39,7 @@ fn dots(rt: HostRuntime) -> Result<(), Fail> {
 }
 
 #[test]
-fn narrow_and_wide_dots(rt: HostRuntime) -> Result<(), Fail> {
+fn short_and_wide_dots(rt: HostRuntime) -> Result<(), Fail> {
     let square = N * N;
     assert_eq!(rt;
         dot(&[N - 1, -N, 1 - N], &[1 - N, N - 1, -N]),
