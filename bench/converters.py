@@ -40,12 +40,12 @@ def run(command, path, limit=None):
     """One run on the file: all of the process, with reading and printing; nothing where it took more seconds of the
     processor than the limit."""
     def limited():
-        if limit:
-            resource.setrlimit(resource.RLIMIT_CPU, (limit, limit))
+        resource.setrlimit(resource.RLIMIT_CPU, (limit, limit))
 
     with open(path) as file:
         pipes = {"stdin": file, "stdout": subprocess.PIPE, "stderr": subprocess.DEVNULL}
-        process = subprocess.Popen(command, preexec_fn=limited, **pipes)
+        # without a limit no Python runs in the new process, whose time would count
+        process = subprocess.Popen(command, preexec_fn=limited if limit else None, **pipes)
         output = process.stdout.read()
         _, status, usage = os.wait4(process.pid, 0)
         process.returncode = os.waitstatus_to_exitcode(status)
