@@ -1,13 +1,13 @@
 -- Magnitudes and signs of numbers.
 use Rattle.std.specs.Prelude.{◌≡◌, ◌≢◌, ℕ, zero, suc, ◌+◌, ◌/◌, ◌^◌, ◌<◌, ◌≤◌, ℤ, pos, negsuc, neg_ℤ, ◌+ℤ◌, ◌*ℤ◌, ◌<ℤ◌, ◌≤ℤ◌, unsigned_abs, int_div}
 use Rattle.std.specs.Int.{w128}
-use Rattle.std.proofs.Common.{refl, sym, ap, ◌∙◌, arith, to_z, of_z}
+use Rattle.std.proofs.Common.{refl, sym, arith, to_z, of_z}
 use Rattle.std.proofs.lemmas.Int.{ints, to_z-of_z, to_z_pos, fits_signed_from_abs}
 use native.Mathlib.Nat.{div-le_self}
 use mir.Syntax.{Width}
 use Rattle.row_core.specs.Range.{InRange}
 use Rattle.row_core.specs.Signs.{sign}
-use Rattle.row_core.proofs.Ring.{one-mul, neg-mul}
+use Rattle.row_core.proofs.Ring.{one-mul}
 
 pub magnitude_above : (u : ℤ) → u ≢ pos 0 → 0 < unsigned_abs u
 magnitude_above (pos zero) ne = absurd (ne refl)
@@ -56,15 +56,6 @@ pub sign_above : (u x : ℤ) → pos 0 <ℤ u → x ≡ sign u *ℤ x
 sign_above (pos zero) x h = absurd (omega (arith, ints, h))
 sign_above (pos (suc n)) x h = sym (one-mul x)
 sign_above (negsuc n) x h = absurd (omega (arith, ints, h))
-
-minus_one : (x : ℤ) → neg_ℤ x ≡ neg_ℤ (pos 1) *ℤ x
-minus_one x = let e : neg_ℤ (pos 1) *ℤ x ≡ neg_ℤ (pos 1 *ℤ x) = neg-mul (pos 1) x in
-    sym (e ∙ ap neg_ℤ (one-mul x))
-
-pub sign_below : (u x : ℤ) → u <ℤ pos 0 → neg_ℤ x ≡ sign u *ℤ x
-sign_below (pos zero) x h = absurd (omega (arith, ints, h))
-sign_below (pos (suc n)) x h = absurd (omega (arith, ints, h))
-sign_below (negsuc n) x h = minus_one x
 
 -- ---- the size of a sum
 at_most_size : (z : ℤ) (n : ℕ) → unsigned_abs z ≤ n → z ≤ℤ pos n

@@ -2,8 +2,9 @@
 use Rattle.std.specs.Prelude.{◌≡◌, ℕ, zero, suc, ◌+◌, ◌*◌, ◌^◌, ◌<◌, ◌≤◌, List, [], ◌∷◌, length, take, drop, ℤ, pos, ◌+ℤ◌, unsigned_abs, bit_or}
 use Rattle.std.proofs.Common.{arith, refl, sym, subst, add-one}
 use Rattle.std.proofs.Math.IntN.{◌*ℤ◌}
-use Rattle.std.proofs.Math.Nat.{mul-le-mul, mul-le-mul_right, suc-mul, one-le-pow}
+use Rattle.std.proofs.Math.Nat.{mul-le-mul, mul-le-mul_right, suc-mul, one-le-pow, lt_of_not-le}
 use Rattle.std.proofs.Math.Pow.{pow_mono}
+use Rattle.std.proofs.lemmas.Grind.{pow_more}
 use Rattle.std.proofs.lemmas.Nat.{pow-add}
 use Rattle.std.specs.Int.{w64}
 use Rattle.std.proofs.lemmas.Int.{unsigned_abs-mul, fits_signed_from_abs}
@@ -22,6 +23,14 @@ pub HaveBits-more : (a b : ℕ) (v : List ℤ) → a ≤ b → HaveBits a v → 
 HaveBits-more a b v h all =
     let more : 2 ^ a ≤ 2 ^ b = pow_mono h in
     λ i d below. record { size = omega (arith, more, (all i d below).size) }
+
+-- a number below 2^n has at most n bits
+pub least_bits : (bits size n : ℕ) → 2 ^ bits ≤ 2 * size + 1 → size < 2 ^ n → bits ≤ n
+least_bits bits size n most below =
+    let less : bits < n + 1 = lt_of_not-le (λ h.
+    let more : 2 ^ (n + 1) ≤ 2 ^ bits = pow_mono h in
+    omega (arith, more, most, below, pow_more 2 n)) in
+    omega (arith, less)
 
 -- of rows, that of all their cells
 pub AllHaveBits-marked_rows : {M : Type 0} (bits width : ℕ) (cells : List ℤ) (marks : List M) →

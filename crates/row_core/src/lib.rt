@@ -8,7 +8,7 @@
 //! - [`dot`] and [`combine_into`] give the exact numbers, or the first column that leaves the
 //!   range.
 //! - [`product`], [`sum`] and [`combination`] give one exact number, if the range isn't left.
-//! - [`bits`] tells how large the numbers of a row are; [`dot_within`], [`combine_within`] and
+//! - [`bits`] tells how large the numbers of a row are; [`Summing`], [`combine_within`] and
 //!   [`make_primitive_within`] are told it, and test nothing where all that they compute fits.
 //! - [`short_dot`] is for numbers of so few bits that it can't refuse.
 //! - [`gcd`] and [`make_primitive`] divide a row by the greatest common divisor of its entries, and
@@ -29,7 +29,7 @@ pub use buffers::{RowBuf, RowList};
 pub use counting::Steps;
 pub use errors::{ConvErr, Memory, OverKind, Overflow, PairOver};
 pub use linear::{
-    combination, combine_into, combine_within, dot, dot_within, product, short_dot, sum,
+    Summing, combination, combine_into, combine_within, dot, product, short_dot, sum,
 };
 pub use marked::{Iter, MarkedRows};
 pub use primitive::{gcd, is_primitive, make_primitive, make_primitive_within, quotient};

@@ -1,9 +1,9 @@
 //! Dot products and combinations of rows, exact or refused at the first column that leaves the
 //! range.
-ghost use Rattle.std.specs.Prelude.{◌≡◌, ℕ, ◌+◌, ◌^◌, ◌<◌, ◌≤◌, length, ◌+ℤ◌, ◌*ℤ◌, SomeIff, MatchResult, IfOk, OnOk};
+ghost use Rattle.std.specs.Prelude.{◌≡◌, ℕ, ◌+◌, ◌^◌, ◌<◌, ◌≤◌, length, List, ℤ, ◌+ℤ◌, ◌*ℤ◌, SomeIff, MatchResult, IfOk, OnOk};
 ghost use Rattle.row_core.specs.Vectors.{dot, scale, add};
 ghost use Rattle.row_core.specs.Range.{InRange, AllInRange, ColumnStays, DotStays, CombineStays, IsFirstToLeave, AllStay};
-ghost use Rattle.row_core.specs.Sizes.{HaveBits};
+ghost use Rattle.row_core.specs.Sizes.{HaveBits, Suffices};
 
 use crate::counting::Steps;
 use crate::sizes::{bits, bits_of, exact_dot, word_dot, words_onto};
@@ -11,6 +11,57 @@ use std::sync::ledger::Ledger;
 
 /// The one `i128` outside the range.
 const OUTSIDE: i128 = i128::MIN;
+
+/// How a dot product of rows is summed, by how many bits their numbers have.
+#[derive(Clone, Copy)]
+pub enum Summing {
+    /// In one word, since all that is computed fits it.
+    Words,
+    /// Without tests, since nothing leaves the range.
+    Exact,
+    /// With each product and each partial sum tested.
+    Checked,
+}
+
+impl Summing {
+    /// How to sum the products of rows of a width, whose numbers have at most so many bits.
+    #[inline]
+    pub fn of(left: u32, right: u32, width: usize) -> Summing
+        ensures { (u v : List ℤ) → length u ≡ width → length v ≡ width →
+            HaveBits left u → HaveBits right v → Suffices result u v }
+    {
+        let bits = u64::from(left) + u64::from(right) + u64::from(bits_of(width as u128));
+        if bits <= 63 {
+            return Summing::Words;
+        }
+        if bits <= 127 {
+            return Summing::Exact;
+        }
+        Summing::Checked
+    }
+
+    /// What [`dot`] gives, of rows for which it suffices to sum so.
+    ///
+    /// # Errors
+    ///
+    /// Those of [`dot`].
+    #[inline]
+    pub fn dot(self, u: &[i128], v: &[i128]) -> Result<i128, u32>
+        requires same_width { length u.now ≡ length v.now }
+        requires narrow { length u.now < 2 ^ 32 }
+        requires suffices { Suffices self u.now v.now }
+        ensures exact { let Stays = DotStays u.now v.now in let width = length u.now in
+            MatchResult result (λ d. (d ≡ dot u.now v.now) × AllStay Stays width)
+            (IsFirstToLeave Stays width) }
+        ensures in_range { IfOk result InRange }
+    {
+        match self {
+            Summing::Words => Ok(word_dot(u, v)),
+            Summing::Exact => Ok(exact_dot(u, v)),
+            Summing::Checked => checked_dot(u, v),
+        }
+    }
+}
 
 /// The sum of the products of equal columns of two rows of one width.
 ///
@@ -25,33 +76,7 @@ pub fn dot(u: &[i128], v: &[i128]) -> Result<i128, u32>
         (IsFirstToLeave Stays width) }
     ensures in_range { IfOk result InRange }
 {
-    dot_within(u, v, bits(u), bits(v))
-}
-
-/// What [`dot`] gives, of rows whose numbers have at most so many bits.
-///
-/// # Errors
-///
-/// Those of [`dot`].
-#[inline]
-pub fn dot_within(u: &[i128], v: &[i128], left: u32, right: u32) -> Result<i128, u32>
-    requires same_width { length u.now ≡ length v.now }
-    requires narrow { length u.now < 2 ^ 32 }
-    requires left { HaveBits left u.now }
-    requires right { HaveBits right v.now }
-    ensures exact { let Stays = DotStays u.now v.now in let width = length u.now in
-        MatchResult result (λ d. (d ≡ dot u.now v.now) × AllStay Stays width)
-        (IsFirstToLeave Stays width) }
-    ensures in_range { IfOk result InRange }
-{
-    let bits = u64::from(left) + u64::from(right);
-    if bits <= 95 {
-        return Ok(short_dot(u, v, left, right));
-    }
-    if bits + u64::from(bits_of(u.len() as u128)) <= 127 {
-        return Ok(exact_dot(u, v));
-    }
-    checked_dot(u, v)
+    Summing::of(bits(u), bits(v), u.len()).dot(u, v)
 }
 
 /// What [`dot`] gives, of rows whose numbers have so few bits that it isn't refused.
@@ -66,11 +91,10 @@ pub fn short_dot(u: &[i128], v: &[i128], left: u32, right: u32) -> i128
     ensures stays { AllStay (DotStays u.now v.now) (length u.now) }
     ensures in_range { InRange result }
 {
-    let bits = u64::from(left + right) + u64::from(bits_of(u.len() as u128));
-    if bits <= 63 {
-        return word_dot(u, v);
+    match Summing::of(left, right, u.len()) {
+        Summing::Words => word_dot(u, v),
+        _ => exact_dot(u, v),
     }
-    exact_dot(u, v)
 }
 
 /// Writes `s * u + t * v` over `dst`, and counts one combination. All three rows have one width.

@@ -1,14 +1,15 @@
 //! How many bits the numbers of rows have, and dots and combinations in which nothing is tested,
 //! since all that is computed fits.
-ghost use Rattle.std.specs.Prelude.{◌≡◌, ◌^◌, ◌<◌, length};
+ghost use Rattle.std.specs.Prelude.{◌≡◌, ℕ, ◌+◌, ◌*◌, ◌^◌, ◌<◌, ◌≤◌, length};
 ghost use Rattle.row_core.specs.Vectors.{dot, scale, add};
 ghost use Rattle.row_core.specs.Range.{InRange, AllInRange, DotStays, AllStay};
-ghost use Rattle.row_core.specs.Sizes.{HaveBits, DotIsOfWords, CombineIsOfWords};
+ghost use Rattle.row_core.specs.Sizes.{HaveBits, AreBelow, DotIsOfWords, CombineIsOfWords};
 
-/// How many bits the entries have at most.
+/// How many bits the entries have at most. No smaller number would do.
 #[inline]
 pub fn bits(row: &[i128]) -> u32
-    ensures { HaveBits result row.now }
+    ensures within { HaveBits result row.now }
+    ensures least { (n : ℕ) → AreBelow (2 ^ n) row.now → result ≤ n }
 {
     let mut sizes = 0;
     for j in 0..row.len() {
@@ -20,7 +21,8 @@ pub fn bits(row: &[i128]) -> u32
 /// How many bits a number has.
 #[inline]
 pub(crate) fn bits_of(n: u128) -> u32
-    ensures { n < 2 ^ result }
+    ensures below { n < 2 ^ result }
+    ensures least { 2 ^ result ≤ 2 * n + 1 }
 {
     128 - n.leading_zeros()
 }

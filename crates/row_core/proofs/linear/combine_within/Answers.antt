@@ -30,7 +30,7 @@ overflow_cast-s g c =
     let size = simp to_z-of_z at c.unsigned_abs.ensures.value in
     simp to_z-of_z (word_of c.args.s c.bits_of-factors.result (omega arith)
     (left_of c.args.s c.unsigned_abs.result c.unsigned_abs-2.result c.bits_of-factors.result size
-    c.bits_of-factors.ensures))
+    c.bits_of-factors.ensures.below))
 
 pub overflow_cast-t : goal.overflow_cast-t
 overflow_cast-t g c =
@@ -38,7 +38,7 @@ overflow_cast-t g c =
     let size = simp to_z-of_z at c.unsigned_abs-2.ensures.value in
     simp to_z-of_z (word_of c.args.t c.bits_of-factors.result (omega arith)
     (right_of c.args.t c.unsigned_abs.result c.unsigned_abs-2.result c.bits_of-factors.result size
-    c.bits_of-factors.ensures))
+    c.bits_of-factors.ensures.below))
 
 pub words_onto-requires-clause-words : goal.words_onto-requires-clause-words
 words_onto-requires-clause-words g c =
@@ -49,9 +49,9 @@ words_onto-requires-clause-words g c =
     let s_size = simp to_z-of_z at c.unsigned_abs.ensures.value in
     let t_size = simp to_z-of_z at c.unsigned_abs-2.ensures.value in
     let s_within = left_of c.args.s c.unsigned_abs.result c.unsigned_abs-2.result f s_size
-    c.bits_of-factors.ensures in
+    c.bits_of-factors.ensures.below in
     let t_within = right_of c.args.t c.unsigned_abs.result c.unsigned_abs-2.result f t_size
-    c.bits_of-factors.ensures in
+    c.bits_of-factors.ensures.below in
     let s_word : SFits w64 c.args.s = word_of c.args.s f (omega arith) s_within in
     let t_word : SFits w64 c.args.t = word_of c.args.t f (omega arith) t_within in
     simp to_z-of_z (AllStay-combined_of_words f c.args.within c.args.dst.now c.args.s c.args.v.now
@@ -66,9 +66,9 @@ returns-then-all-le61-clause-combined g c =
     let s_size = simp to_z-of_z at c.unsigned_abs.ensures.value in
     let t_size = simp to_z-of_z at c.unsigned_abs-2.ensures.value in
     let s_within = left_of c.args.s c.unsigned_abs.result c.unsigned_abs-2.result f s_size
-    c.bits_of-factors.ensures in
+    c.bits_of-factors.ensures.below in
     let t_within = right_of c.args.t c.unsigned_abs.result c.unsigned_abs-2.result f t_size
-    c.bits_of-factors.ensures in
+    c.bits_of-factors.ensures.below in
     let s_word : SFits w64 c.args.s = word_of c.args.s f (omega arith) s_within in
     let t_word : SFits w64 c.args.t = word_of c.args.t f (omega arith) t_within in (
       simp to_z-of_z at c.words_onto.ensures.combined,
@@ -86,9 +86,9 @@ write_onto-requires-clause-stays g c =
     let s_size = simp to_z-of_z at c.unsigned_abs.ensures.value in
     let t_size = simp to_z-of_z at c.unsigned_abs-2.ensures.value in
     let s_within = left_of c.args.s c.unsigned_abs.result c.unsigned_abs-2.result f s_size
-    c.bits_of-factors.ensures in
+    c.bits_of-factors.ensures.below in
     let t_within = right_of c.args.t c.unsigned_abs.result c.unsigned_abs-2.result f t_size
-    c.bits_of-factors.ensures in
+    c.bits_of-factors.ensures.below in
     elim c.if-all-gt125.branch [
       | then-all-gt125+in_ok-check_combination w ↦ w.in_ok-check_combination.ensures
       | else-all-gt125 w ↦
@@ -106,9 +106,9 @@ returns-clause-combined g c =
     let s_size = simp to_z-of_z at c.unsigned_abs.ensures.value in
     let t_size = simp to_z-of_z at c.unsigned_abs-2.ensures.value in
     let s_within = left_of c.args.s c.unsigned_abs.result c.unsigned_abs-2.result f s_size
-    c.bits_of-factors.ensures in
+    c.bits_of-factors.ensures.below in
     let t_within = right_of c.args.t c.unsigned_abs.result c.unsigned_abs-2.result f t_size
-    c.bits_of-factors.ensures in
+    c.bits_of-factors.ensures.below in
     let stay : AllStay (CombineStays c.args.dst.now c.args.s c.args.v.now c.args.t)
     (length c.args.dst.now) = elim c.if-all-gt125.branch [
       | then-all-gt125+in_ok-check_combination w ↦ simp to_z-of_z at w.in_ok-check_combination.ensures

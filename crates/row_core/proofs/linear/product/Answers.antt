@@ -12,7 +12,7 @@ overflow_cast-a c =
     let size = simp to_z-of_z at c.unsigned_abs.ensures.value in
     simp to_z-of_z (fits_signed_from_abs w64 c.args.a
     (size_left c.args.a c.unsigned_abs.result c.unsigned_abs-2.result c.bits_of.result size
-    c.bits_of.ensures (omega arith)))
+    c.bits_of.ensures.below (omega arith)))
 
 pub overflow_cast-b : goal.overflow_cast-b
 overflow_cast-b c =
@@ -20,7 +20,7 @@ overflow_cast-b c =
     let size = simp to_z-of_z at c.unsigned_abs-2.ensures.value in
     simp to_z-of_z (fits_signed_from_abs w64 c.args.b
     (size_right c.args.b c.unsigned_abs.result c.unsigned_abs-2.result c.bits_of.result size
-    c.bits_of.ensures (omega arith)))
+    c.bits_of.ensures.below (omega arith)))
 
 pub overflow_mul-result : goal.overflow_mul-result
 overflow_mul-result c =
@@ -29,9 +29,9 @@ overflow_mul-result c =
     let a_is = simp to_z-of_z at c.unsigned_abs.ensures.value in
     let b_is = simp to_z-of_z at c.unsigned_abs-2.ensures.value in
     let a_size = size_left c.args.a c.unsigned_abs.result c.unsigned_abs-2.result c.bits_of.result
-    a_is c.bits_of.ensures (omega arith) in
+    a_is c.bits_of.ensures.below (omega arith) in
     let b_size = size_right c.args.b c.unsigned_abs.result c.unsigned_abs-2.result c.bits_of.result
-    b_is c.bits_of.ensures (omega arith) in
+    b_is c.bits_of.ensures.below (omega arith) in
     let a_word : SFits w64 c.args.a = fits_signed_from_abs w64 c.args.a a_size in
     let b_word : SFits w64 c.args.b = fits_signed_from_abs w64 c.args.b b_size in
     let in_range = InRange-word_product c.args.a c.args.b a_size b_size in
@@ -49,9 +49,9 @@ returns-then-bits_of-le63 c =
     let a_is = simp to_z-of_z at c.unsigned_abs.ensures.value in
     let b_is = simp to_z-of_z at c.unsigned_abs-2.ensures.value in
     let a_size = size_left c.args.a c.unsigned_abs.result c.unsigned_abs-2.result c.bits_of.result
-    a_is c.bits_of.ensures (omega arith) in
+    a_is c.bits_of.ensures.below (omega arith) in
     let b_size = size_right c.args.b c.unsigned_abs.result c.unsigned_abs-2.result c.bits_of.result
-    b_is c.bits_of.ensures (omega arith) in
+    b_is c.bits_of.ensures.below (omega arith) in
     let a_word : SFits w64 c.args.a = fits_signed_from_abs w64 c.args.a a_size in
     let b_word : SFits w64 c.args.b = fits_signed_from_abs w64 c.args.b b_size in
     let in_range = InRange-word_product c.args.a c.args.b a_size b_size in

@@ -27,9 +27,9 @@ words c =
     let divisor_is = rw (to_z-of_z w128 c.args.divisor c.ranges.divisor) at
     c.unsigned_abs-2.ensures.value in (
       fits_signed_from_abs w64 c.args.x (size_left c.args.x c.unsigned_abs.result
-          c.unsigned_abs-2.result c.bits_of.result x_is c.bits_of.ensures (omega arith)),
+          c.unsigned_abs-2.result c.bits_of.result x_is c.bits_of.ensures.below (omega arith)),
       fits_signed_from_abs w64 c.args.divisor (size_right c.args.divisor c.unsigned_abs.result
-          c.unsigned_abs-2.result c.bits_of.result divisor_is c.bits_of.ensures (omega arith)),
+          c.unsigned_abs-2.result c.bits_of.result divisor_is c.bits_of.ensures.below (omega arith)),
     )
 
 pub overflow_cast-x : goal.overflow_cast-x
@@ -60,9 +60,9 @@ word c =
     let divisor_is = rw (to_z-of_z w128 c.args.divisor c.ranges.divisor) at
     c.unsigned_abs-2.ensures.value in
     let x_word = fits_signed_from_abs w64 c.args.x (size_left c.args.x c.unsigned_abs.result
-    c.unsigned_abs-2.result c.bits_of.result x_is c.bits_of.ensures (omega arith)) in
+    c.unsigned_abs-2.result c.bits_of.result x_is c.bits_of.ensures.below (omega arith)) in
     let divisor_word = fits_signed_from_abs w64 c.args.divisor (size_right c.args.divisor
-    c.unsigned_abs.result c.unsigned_abs-2.result c.bits_of.result divisor_is c.bits_of.ensures
+    c.unsigned_abs.result c.unsigned_abs-2.result c.bits_of.result divisor_is c.bits_of.ensures.below
     (omega arith)) in
     let fits = quot_fits w64 c.args.x c.args.divisor x_word c.requires.positive in
     (rw (to_z-of_z w128 c.args.x c.ranges.x, to_z-of_z w128 c.args.divisor c.ranges.divisor) at
