@@ -13,7 +13,7 @@ ghost use Rattle.row_store.specs.Faults.{IsValuesFault};
 use crate::fault::{Part, Place, ValueFault};
 use crate::vectors::VectorList;
 use flat_rows::emptied;
-use row_core::dot_within;
+use row_core::Summing;
 use std::alloc::{AllocError, Global};
 
 /// The value of each vector on the row, which has at most so many bits, in the list of that place.
@@ -32,9 +32,10 @@ pub fn values(
         MatchResult result (λ v. v.items ≡ values_on row.now vs) (IsValuesFault row.now part vs) }
     ensures in_range { IfOk result (λ v. All InRange v.items) }
 {
+    let summing = Summing::of(bits, list.bits(), row.len());
     let mut values = emptied(alloc, place, list.len())?;
     for index in 0..list.len() {
-        match dot_within(row, list.row(index), bits, list.bits()) {
+        match summing.dot(row, list.row(index)) {
             Ok(value) => values.push(value)?,
             Err(column) => {
                 let vector = Place { part, index };

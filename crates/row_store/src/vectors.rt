@@ -73,6 +73,7 @@ impl VectorList {
         requires { width < 2 ^ 32 }
         ensures width { IfOk result (λ list. list.width ≡ width) }
         ensures empty { IfOk result (λ list. list.rows ≡ []) }
+        ensures room { IfOk result (λ list. vectors ≤ list.spare) }
     {
         let mut store = RowStore::new(alloc, width);
         store.reserve(vectors.max(LEAST_VECTORS))?;

@@ -28,7 +28,7 @@ returns-then-v-eq0-clause-combined g c =
 pub returns-then-v-eq0-clause-bits : goal.returns-then-v-eq0-clause-bits
 returns-then-v-eq0-clause-bits g c =
     let rows = c.args.store.now.rows in
-    subst (HaveBits c.bits.result) (sym (ap (λ (rs : List (List ℤ)). entries_at rs (length rows)) c.push_reserved.ensures.rows ∙ pushed_last rows c.args.vector.now (length rows) refl)) c.bits.ensures
+    subst (HaveBits c.bits.result) (sym (ap (λ (rs : List (List ℤ)). entries_at rs (length rows)) c.push_reserved.ensures.rows ∙ pushed_last rows c.args.vector.now (length rows) refl)) c.bits.ensures.within
 
 pub combine_with-combined-requires-clause-bits : goal.combine_with-combined-requires-clause-bits
 combine_with-combined-requires-clause-bits g c =

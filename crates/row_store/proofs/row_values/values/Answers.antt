@@ -39,8 +39,11 @@ pub returns-clause-values : goal.returns-clause-values
 returns-clause-values c =
     c.loop-index.invariant.values ∙ ap (λ (rows : List Row). values_on c.args.row.now (vectors rows)) (take_all c.loop-index.index c.args.list.now.rows (subst (λ (n : ℕ). n ≤ c.loop-index.index) c.len-index-end.ensures c.loop-index-test.false))
 
-pub dot_within-requires-clause-same_width : goal.dot_within-requires-clause-same_width
-dot_within-requires-clause-same_width c = c.requires.wide ∙ sym (ap (λ (v : List ℤ). length v) c.row.ensures.value ∙ c.row.ensures.wide)
+pub dot-requires-clause-same_width : goal.dot-requires-clause-same_width
+dot-requires-clause-same_width c = c.requires.wide ∙ sym (ap (λ (v : List ℤ). length v) c.row.ensures.value ∙ c.row.ensures.wide)
 
-pub dot_within-requires-clause-right : goal.dot_within-requires-clause-right
-dot_within-requires-clause-right c = subst (HaveBits c.bits.result) (sym c.row.ensures.value) (c.bits.ensures c.loop-index.index (omega arith))
+pub dot-requires-clause-suffices : goal.dot-requires-clause-suffices
+dot-requires-clause-suffices c =
+    let right : HaveBits c.bits.result c.row.result.now = subst (HaveBits c.bits.result) (sym c.row.ensures.value) (c.bits.ensures c.loop-index.index (omega arith)) in
+    let wide : length c.row.result.now ≡ length c.args.row.now = ap (λ (v : List ℤ). length v) c.row.ensures.value ∙ c.row.ensures.wide ∙ sym c.requires.wide in
+    c.of-summing.ensures c.args.row.now c.row.result.now refl wide c.requires.row right

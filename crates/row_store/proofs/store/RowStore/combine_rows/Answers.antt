@@ -10,14 +10,14 @@ pub combine_rows_within-requires-clause-first_bits :
 combine_rows_within-requires-clause-first_bits g c =
     subst (HaveBits c.max-bits.result) c.row.ensures.value
     (HaveBits-more c.bits.result c.max-bits.result c.row.result.now
-    (omega (arith, c.max-bits.ensures)) c.bits.ensures)
+    (omega (arith, c.max-bits.ensures)) c.bits.ensures.within)
 
 pub combine_rows_within-requires-clause-second_bits :
     goal.combine_rows_within-requires-clause-second_bits
 combine_rows_within-requires-clause-second_bits g c =
     subst (HaveBits c.max-bits.result) c.row-2.ensures.value
     (HaveBits-more c.bits-2.result c.max-bits.result c.row-2.result.now
-    (omega (arith, c.max-bits.ensures)) c.bits-2.ensures)
+    (omega (arith, c.max-bits.ensures)) c.bits-2.ensures.within)
 
 pub returns-clause-combined : goal.returns-clause-combined
 returns-clause-combined g c =

@@ -21,4 +21,4 @@ returns-clause-marked c =
 pub invariant_of-self-2 : goal.invariant_of-self-2
 invariant_of-self-2 c =
     bits_pushed c.self.inside.store.rows c.push_reserved.new.self.rows c.args.row.now c.self.inside.bits c.bits.result c.max-self-inside.result (c.push_reserved.ensures.rows ∙ ap (λ (s : Flat ℤ). s.rows ++ c.args.row.now ∷ []) c.in_ok-reserve.ensures.ok)
-    c.max-self-inside.ensures c.self.invariant c.bits.ensures
+    c.max-self-inside.ensures c.self.invariant c.bits.ensures.within

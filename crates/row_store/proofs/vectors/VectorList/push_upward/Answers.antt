@@ -14,4 +14,4 @@ pub invariant_of-self : goal.invariant_of-self
 invariant_of-self c =
     let value_fits : SFits w128 c.args.value = c.ranges.value in
     bits_pushed c.self.inside.store.rows c.append_upward.new.store.rows _ c.self.inside.bits c.bits.result c.max-self-inside.result (simp to_z-of_z at c.append_upward.ensures.rows) c.max-self-inside.ensures c.self.invariant
-    (HaveBits-upward c.bits.result c.args.value c.args.line.now c.bits.ensures)
+    (HaveBits-upward c.bits.result c.args.value c.args.line.now c.bits.ensures.within)
