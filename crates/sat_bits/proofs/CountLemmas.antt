@@ -1,15 +1,18 @@
 -- How many places are true.
-use Rattle.std.proofs.Common.{◌≡◌, ℕ, zero, suc, ◌+◌, ◌-◌, ◌*◌, ◌^◌, ◌<◌, ◌≤◌, ◌&&◌, Bool, false, cond, bit_and, nat_eq, List, length, map, slice_index_or, refl, sym, ap, ◌∙◌, arith}
+use Rattle.std.proofs.Common.{◌≡◌, ◌↔◌, ℕ, zero, suc, ◌+◌, ◌-◌, ◌*◌, ◌^◌, ◌<◌, ◌≤◌, ◌&&◌, Bool, true, false, IsTrue, cond, min, bit_and, nat_eq, w64, List, [], ◌∷◌, length, map, slice_index_or, refl, sym, ap, ◌∙◌, arith}
+use Rattle.std.specs.Prelude.{not}
 use Rattle.std.specs.Int.{bit_at}
 use Rattle.std.specs.Int.RustNames.{count_ones}
 use Rattle.std.specs.List.{range_with_len, count_by}
 use Rattle.std.specs.Simd.Lanes.{mask_l}
 use Rattle.std.proofs.lemmas.Simd.{mask_l-lt, bit_mask_l, ones-mask_l}
-use Rattle.std.proofs.lemmas.Nat.Bits.{bit_at-lt, same_from_bits_below}
+use Rattle.std.proofs.lemmas.Nat.{and_le_l}
+use Rattle.std.proofs.lemmas.Nat.Bits.{bit_at-lt, bit_at_and, bit_at_not, same_from_bits_below}
 use Rattle.std.proofs.lemmas.List.FromFn.{length-range_with_len, length-map-range_with_len, get_or-map-range_with_len}
 use Rattle.std.proofs.lemmas.List.Sums.{sum_by-cons, count_by-le-length}
 use Rattle.sat_bits.specs.Places.{bit_in, place}
-use Rattle.sat_bits.proofs.WordLemmas.{bit_and_is}
+use Rattle.sat_bits.specs.Searches.{shared_places}
+use Rattle.sat_bits.proofs.WordLemmas.{bit_and_is, from_true, to_true}
 use Rattle.sat_bits.proofs.PlaceLemmas.{place_of}
 
 bit_again : (n : ℕ) → n < 2 → cond (nat_eq n 1) 1 0 ≡ n
@@ -93,3 +96,52 @@ both_in a b k j h =
     ap (λ (x : Bool). x && place b (k * 64 + j)) (place_of a k j h)
     ∙ ap (λ (y : Bool). bit_in (slice_index_or a k 0) j && y) (place_of b k j h)
     ∙ sym (bit_and_is (slice_index_or a k 0) (slice_index_or b k 0) j)
+
+-- ---- places of one row alone
+-- the first row is true at a place at which the second isn't
+abbrev pub apart_at : List ℕ → List ℕ → ℕ → Bool
+apart_at a b i = place a i && not (place b i)
+
+bit_of_first : (m n k : ℕ) → m < 2 → n < 2 → k ≡ min m (1 - n) → nat_eq k 1 ≡ (nat_eq m 1 && not (nat_eq n 1))
+bit_of_first m n k hm hn e = grind (arith, hm, hn, e)
+
+first_bits : (a b j : ℕ) → b < 2 ^ 64 → j < 64 → bit_in (bit_and a (2 ^ 64 - 1 - b)) j ≡ (bit_in a j && not (bit_in b j))
+first_bits a b j fits h =
+    bit_of_first (bit_at a j) (bit_at b j) (bit_at (bit_and a (2 ^ 64 - 1 - b)) j) (bit_at-lt a j) (bit_at-lt b j)
+    (bit_at_and a (2 ^ 64 - 1 - b) j ∙ ap (λ (n : ℕ). min (bit_at a j) n) (bit_at_not w64 b j fits h))
+
+pub apart_in : (a b : List ℕ) (k j : ℕ) → slice_index_or b k 0 < 2 ^ 64 → j < 64 → apart_at a b (k * 64 + j) ≡ bit_in (bit_and (slice_index_or a k 0) (2 ^ 64 - 1 - slice_index_or b k 0)) j
+apart_in a b k j fits h =
+    ap (λ (x : Bool). x && not (place b (k * 64 + j))) (place_of a k j h)
+    ∙ ap (λ (y : Bool). bit_in (slice_index_or a k 0) j && not y) (place_of b k j h)
+    ∙ sym (first_bits (slice_index_or a k 0) (slice_index_or b k 0) j fits h)
+
+-- the next words add the ones of the first that the second lacks
+pub apart_more : (a b : List ℕ) (k : ℕ) → slice_index_or a k 0 < 2 ^ 64 → slice_index_or b k 0 < 2 ^ 64
+    → count_by (apart_at a b) (range_with_len 0 ((k + 1) * 64)) ≡ count_by (apart_at a b) (range_with_len 0 (k * 64)) + count_ones (bit_and (slice_index_or a k 0) (2 ^ 64 - 1 - slice_index_or b k 0))
+apart_more a b k fits_a fits_b =
+    count_more (apart_at a b) k (bit_and (slice_index_or a k 0) (2 ^ 64 - 1 - slice_index_or b k 0)) (omega (arith, and_le_l (slice_index_or a k 0) (2 ^ 64 - 1 - slice_index_or b k 0), fits_a)) (λ j h. apart_in a b k j fits_b h)
+
+in_both_or_one : (x y : Bool) → cond x 1 0 ≡ cond (x && y) 1 0 + cond (x && not y) 1 0
+in_both_or_one true true = refl
+in_both_or_one true false = refl
+in_both_or_one false y = refl
+
+-- a place of the first is one of both or of the first alone
+split : (p q : ℕ → Bool) (xs : List ℕ) → count_by p xs ≡ count_by (λ i. p i && q i) xs + count_by (λ i. p i && not (q i)) xs
+split p q [] = refl
+split p q (x ∷ xs) =
+    omega (arith, split p q xs, in_both_or_one (p x) (q x), sum_by-cons (λ (i : ℕ). cond (p i) 1 0) x xs, sum_by-cons (λ (i : ℕ). cond (p i && q i) 1 0) x xs, sum_by-cons (λ (i : ℕ). cond (p i && not (q i)) 1 0) x xs)
+
+pub one_apart : (a b : List ℕ) (n : ℕ) → n ≡ count_by (apart_at a b) (range_with_len 0 (length a * 64)) → IsTrue (nat_eq n 1) ↔ (count_by (place a) (range_with_len 0 (length a * 64)) ≡ shared_places a b + 1)
+one_apart a b n e =
+    let parts = split (place a) (place b) (range_with_len 0 (length a * 64)) in
+    (λ h. let one : n ≡ 1 = from_true n h in omega (arith, parts, e, one), λ h. to_true n (omega (arith, parts, e, h)))
+
+-- two places of the first alone are two in all
+pub two_apart : (a b : List ℕ) (k n : ℕ) → k ≤ length a → n ≡ count_by (apart_at a b) (range_with_len 0 (k * 64)) → 1 < n → ¬ (count_by (place a) (range_with_len 0 (length a * 64)) ≡ shared_places a b + 1)
+two_apart a b k n within e two h =
+    let parts = split (place a) (place b) (range_with_len 0 (length a * 64)) in
+    let size : length a * 64 ≡ k * 64 + (length a - k) * 64 = omega (arith, within) in
+    let rest = ap (λ (m : ℕ). count_by (apart_at a b) (range_with_len 0 m)) size ∙ joined (apart_at a b) 0 (k * 64) ((length a - k) * 64) in
+    omega (arith, parts, rest, e, two, h)

@@ -43,10 +43,10 @@ covered_bits a b c j covered ha hb =
     let t : bit_at c j ≡ 1 = third_bit (bit_at a j) (bit_at b j) (bit_at c j) (grind (arith, ha)) (grind (arith, hb)) (bit_at-lt c j) e in
     grind (arith, t)
 
-from_true : (n : ℕ) → IsTrue (nat_eq n 1) → n ≡ 1
+pub from_true : (n : ℕ) → IsTrue (nat_eq n 1) → n ≡ 1
 from_true n h = grind (arith, h)
 
-to_true : (n : ℕ) → n ≡ 1 → IsTrue (nat_eq n 1)
+pub to_true : (n : ℕ) → n ≡ 1 → IsTrue (nat_eq n 1)
 to_true n h = grind (arith, h)
 
 least : (m n k : ℕ) → m < 2 → n < 2 → k < 2 → (m ≡ 1 → n ≡ 1 → k ≡ 1) → min (min m n) k ≡ min m n

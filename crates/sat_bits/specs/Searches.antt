@@ -1,10 +1,19 @@
-use Rattle.std.specs.Prelude.{◌≢◌, ℕ, ◌*◌, ◌<◌, ◌≤◌, ◌&&◌, List, length, take, drop, slice_index_or}
+use Rattle.std.specs.Prelude.{◌≢◌, ℕ, ◌*◌, ◌<◌, ◌≤◌, ◌&&◌, List, length, take, drop}
+use Rattle.std.specs.Prelude.{slice_index_or, bit_and}
 use Rattle.std.specs.List.{range_with_len, count_by}
 use Rattle.sat_bits.specs.Places.{place, IsSubsetOfAnd}
 
 -- the words of row i of rows of as many words each, one after another
 abbrev pub row_words : List ℕ → ℕ → ℕ → List ℕ
 row_words cells width i = take width (drop (i * width) cells)
+
+-- word k has a bit that both rows have
+abbrev pub HaveCommonBit : List ℕ → List ℕ → ℕ → Type 0
+HaveCommonBit a b k = bit_and (slice_index_or a k 0) (slice_index_or b k 0) ≢ 0
+
+-- some row of so many is another than i and j
+abbrev pub HasOtherRow : ℕ → ℕ → ℕ → Type 0
+HasOtherRow rows i j = (k : ℕ) × (k < rows) × (k ≢ i) × (k ≢ j)
 
 -- row k of so many is another row than i and j, and has each bit that both have
 pub record IsThirdRow (cells : List ℕ) (width rows i j k : ℕ) : Type 0 where
@@ -18,11 +27,21 @@ pub record IsThirdRow (cells : List ℕ) (width rows i j k : ℕ) : Type 0 where
 abbrev pub HasThirdRow : List ℕ → ℕ → ℕ → ℕ → ℕ → Type 0
 HasThirdRow cells width rows i j = (k : ℕ) × IsThirdRow cells width rows i j k
 
--- the row that the list names at position q is another than row i, and has each bit of it
-abbrev pub IsCoveringRow : List ℕ → ℕ → ℕ → List ℕ → ℕ → Type 0
-IsCoveringRow cells width i among q = (slice_index_or among q 0 ≢ i) ×
+-- the row that the list names at position q has each bit of row i
+abbrev pub IsWithinNamed : List ℕ → ℕ → ℕ → List ℕ → ℕ → Type 0
+IsWithinNamed cells width i among q =
     IsSubsetOfAnd (row_words cells width i) (row_words cells width i)
     (row_words cells width (slice_index_or among q 0))
+
+-- some row that the list names has each bit of row i
+abbrev pub IsWithinSome : List ℕ → ℕ → ℕ → List ℕ → Type 0
+IsWithinSome cells width i among =
+    (q : ℕ) × (q < length among) × IsWithinNamed cells width i among q
+
+-- the row that the list names at position q is another than row i, and has each bit of it
+abbrev pub IsCoveringRow : List ℕ → ℕ → ℕ → List ℕ → ℕ → Type 0
+IsCoveringRow cells width i among q =
+    (slice_index_or among q 0 ≢ i) × IsWithinNamed cells width i among q
 
 -- another row that the list names has each bit of row i
 abbrev pub HasCoveringRow : List ℕ → ℕ → ℕ → List ℕ → Type 0

@@ -1,8 +1,9 @@
 //! How many places are true.
-ghost use Rattle.std.specs.Prelude.{◌≡◌, ◌*◌, ◌^◌, ◌<◌, ◌&&◌, length};
+ghost use Rattle.std.specs.Prelude.{◌≡◌, ◌↔◌, ◌+◌, ◌*◌, ◌^◌, ◌<◌, ◌&&◌, length, IsTrue};
 ghost use Rattle.std.specs.Int.RustNames.{count_ones};
 ghost use Rattle.std.specs.List.{range_with_len, count_by};
 ghost use Rattle.sat_bits.specs.Places.{place};
+ghost use Rattle.sat_bits.specs.Searches.{shared_places};
 
 /// The number of true places.
 #[inline]
@@ -38,6 +39,24 @@ pub fn count_and(a: &[u64], b: &[u64]) -> usize
         total += (a[word] & b[word]).count_ones() as usize;
     }
     total
+}
+
+/// Whether the first row is true at one place more than the two share: at just one place at which
+/// the second isn't.
+#[inline(always)]
+pub fn has_one_more(a: &[u64], b: &[u64]) -> bool
+    requires { length b.now ≡ length a.now }
+    ensures { IsTrue result ↔ (count_by (place a.now) (range_with_len 0 (length a.now * 64)) ≡
+        shared_places a.now b.now + 1) }
+{
+    let mut apart = 0;
+    for word in 0..a.len() {
+        apart += (a[word] & !b[word]).count_ones();
+        if apart > 1 {
+            return false;
+        }
+    }
+    apart == 1
 }
 
 /// The number of bits of a word.

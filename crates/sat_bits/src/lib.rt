@@ -8,7 +8,7 @@ mod places;
 mod searches;
 
 pub use cells::{fill_front, mark_column, mark_zeros, write_behind};
-pub use counts::{count, count_and};
+pub use counts::{count, count_and, has_one_more};
 pub use kernels::{and_into, is_subset_of_and, or_into};
 pub use places::{get, is_subset, set, with_bit};
-pub use searches::{has_covering_row, has_third_row, next_sharing};
+pub use searches::{has_covering_row, has_third_row, is_within_some, next_sharing};
