@@ -12,13 +12,13 @@ use Rattle.std.proofs.lemmas.List.Sorted.{IsPermutation-keeps, All-permutation, 
 use Rattle.row_core.specs.Vectors.{dot}
 use Rattle.flat_rows.specs.Flat.{marked}
 use Rattle.row_core.specs.Lists.{Row, row_at}
-use Rattle.sat_matrix.specs.Tables.{bits_of}
+use Rattle.sat_matrix.specs.Tables.{bits_of, IsWithin, IsWithinSome}
 use Rattle.sat_matrix.specs.Counts.{ones}
 use Rattle.sat_matrix.proofs.TurnedTables.{TellsRows}
 use Rattle.cone_laws.specs.Canon.{IsSystem}
 use Rattle.cone_laws.specs.Members.{ConeOf}
 use Rattle.minimise.specs.FlatRows.{IsZeroOnAll, TellsFlat}
-use Rattle.minimise.specs.Facets.{KeepsZeros, AreFacets, IsFull, TellsFull, IsWithin, IsLedBy, IsUneven, AreUneven, AreApart, AreGreatest, counted_row, IsCounted, AreFalling}
+use Rattle.minimise.specs.Facets.{KeepsZeros, AreFacets, IsFull, TellsFull, IsUneven, AreUneven, AreApart, AreGreatest, counted_row, IsCounted, AreFalling}
 use Rattle.minimise.specs.declared.facets.CountedRow.{CountedRow}
 use Rattle.minimise.proofs.FlatRows.{flat_is_zero_on_rays}
 
@@ -183,14 +183,14 @@ module _ (rows : List (List Bool)) (places new : List ℕ) (p : ℕ) (is : new �
   at_new : (k : ℕ) → k ≡ length places → slice_index_or new k 0 ≡ p
   at_new k e = ap (λ (ns : List ℕ). slice_index_or ns k 0) is ∙ get_or_push places p 0 k (sym e)
 
-  pub led_more : (m : ℕ) → IsLedBy rows places m → IsLedBy rows new m
+  pub led_more : (m : ℕ) → IsWithinSome rows m places → IsWithinSome rows m new
   led_more m l = (l.0, omega (arith, l.1, size_more), subst (λ (n : ℕ). IsWithin (bits_of rows m) (bits_of rows n)) (sym (at_old l.0 l.1)) l.2)
 
-  pub led_by_itself : IsLedBy rows new p
+  pub led_by_itself : IsWithinSome rows p new
   led_by_itself = (length places, omega (arith, size_more), subst (λ (n : ℕ). IsWithin (bits_of rows p) (bits_of rows n)) (sym (at_new (length places) refl)) (within_self (bits_of rows p)))
 
   -- the new row has at most as many true places as the others, and isn't within one of them
-  pub apart_more : AreApart rows places → ¬ (IsLedBy rows places p) → ((q : ℕ) → q < length places → length (bits_of rows (slice_index_or places q 0)) ≡ length (bits_of rows p)) → ((q : ℕ) → q < length places → ones (bits_of rows p) ≤ ones (bits_of rows (slice_index_or places q 0))) → AreApart rows new
+  pub apart_more : AreApart rows places → ¬ (IsWithinSome rows p places) → ((q : ℕ) → q < length places → length (bits_of rows (slice_index_or places q 0)) ≡ length (bits_of rows p)) → ((q : ℕ) → q < length places → ones (bits_of rows p) ≤ ones (bits_of rows (slice_index_or places q 0))) → AreApart rows new
   apart_more apart unled wide longer k m hk hm ne w = by_place (cases_lt k (length places)) (cases_lt m (length places))
     where
       by_place : (k < length places) ⊎ (length places ≤ k) → (m < length places) ⊎ (length places ≤ m) → ⊥
@@ -248,7 +248,7 @@ module _ (old : List ℕ) (i j : ℕ) (first : i < length old) (second : j < len
       apart a.place b.place a.below b.below (λ e. stood_apart k m a.place b.place ne e a.which b.which)
       (subst (λ (n : ℕ). IsWithin (bits_of rows n) (bits_of rows (slice_index_or old b.place 0))) a.same (subst (λ (n : ℕ). IsWithin (bits_of rows (slice_index_or (swap old i j) k 0)) (bits_of rows n)) b.same w))
 
-led_moved : (rows : List (List Bool)) (places new : List ℕ) (m : ℕ) → IsPermutation places new → IsLedBy rows places m → IsLedBy rows new m
+led_moved : (rows : List (List Bool)) (places new : List ℕ) (m : ℕ) → IsPermutation places new → IsWithinSome rows m places → IsWithinSome rows m new
 led_moved rows places new m moved l =
     let p : ℕ = slice_index_or places l.0 0 in
     let c : Contains new p = Contains-permutation places new p moved (Contains-get_or places l.0 0 l.1) in
@@ -270,12 +270,12 @@ counted_moved rows places ranked u moved = All-permutation (IsCounted rows) (map
 counted_among : (rows : List (List Bool)) (places : List ℕ) (i : ℕ) → Contains places i → Contains (map (counted_row rows) places) (counted_row rows i)
 counted_among rows places i c = (c.0, omega (arith, c.1, length-map places (counted_row rows)), get_or-map (counted_row rows) places c.0 i (counted_row rows i) c.1 ∙ ap (counted_row rows) c.2)
 
-pub greatest_moved : (rows : List (List Bool)) (places : List ℕ) (ranked : List CountedRow) (found new : List ℕ) → AreUneven rows places → IsPermutation (map (counted_row rows) places) ranked → All (IsUneven rows) found → AreApart rows found → All (λ (row : CountedRow). IsLedBy rows found row.place) ranked → IsPermutation found new → AreGreatest rows new
+pub greatest_moved : (rows : List (List Bool)) (places : List ℕ) (ranked : List CountedRow) (found new : List ℕ) → AreUneven rows places → IsPermutation (map (counted_row rows) places) ranked → All (IsUneven rows) found → AreApart rows found → All (λ (row : CountedRow). IsWithinSome rows row.place found) ranked → IsPermutation found new → AreGreatest rows new
 greatest_moved rows places ranked found new all ranking uneven apart led moved = record {
   uneven = All-permutation (IsUneven rows) found new moved uneven;
   apart = IsPermutation-keeps found (AreApart rows) apart (λ l i j hi hj a. apart_swapped l i j hi hj rows a) new moved;
   each = λ i u.
       led_moved rows found new i moved
-      (All-contains (λ (row : CountedRow). IsLedBy rows found row.place) ranked (counted_row rows i) led
+      (All-contains (λ (row : CountedRow). IsWithinSome rows row.place found) ranked (counted_row rows i) led
       (Contains-permutation (map (counted_row rows) places) ranked (counted_row rows i) ranking (counted_among rows places i (all.each i u))));
 }

@@ -7,8 +7,8 @@ use Rattle.std.proofs.lemmas.List.{get_or_default}
 use Rattle.std.proofs.lemmas.List.Edits.{length-remove, get_or-remove_below, get_or-remove_above}
 use Rattle.std.proofs.lemmas.List.Elements.{All-from_get_or}
 use Rattle.flat_rows.specs.Flat.{marked}
-use Rattle.sat_matrix.specs.Tables.{bits_of, IsCoveredAmong, Covers}
-use Rattle.minimise.specs.Facets.{AreRising, AreKept, AreUneven, IsUneven, IsLedBy, IsWithin, AreGreatest}
+use Rattle.sat_matrix.specs.Tables.{bits_of, IsWithin, IsWithinSome, IsCoveredAmong}
+use Rattle.minimise.specs.Facets.{AreRising, AreKept, AreUneven, IsUneven, AreGreatest}
 use Rattle.minimise.proofs.FacetLemmas.{within_self}
 
 -- ---- marked indices rise
@@ -80,10 +80,10 @@ module _ (xs : List ℕ) (at : ℕ) (h : at < length xs) where
   pub covered_before : (rows : List (List Bool)) (i : ℕ) → IsCoveredAmong rows i (remove xs at) → IsCoveredAmong rows i xs
   covered_before rows i c =
       let p : ComesAfter xs at c.0 = comes c.0 c.1 in
-      (p.place, p.below, subst (λ (n : ℕ). n ≢ i) p.same c.2, subst (λ (n : ℕ). Covers (bits_of rows i) (bits_of rows i) (bits_of rows n)) p.same c.3)
+      (p.place, p.below, subst (λ (n : ℕ). n ≢ i) p.same c.2, subst (λ (n : ℕ). IsWithin (bits_of rows i) (bits_of rows n)) p.same c.3)
 
   -- what the row at the place led, the one that covers it leads
-  pub led_removed : (rows : List (List Bool)) (width : ℕ) → ((i : ℕ) → i < length rows → length (bits_of rows i) ≡ width) → All (IsUneven rows) xs → IsCoveredAmong rows (slice_index_or xs at 0) xs → (i : ℕ) → i < length rows → IsLedBy rows xs i → IsLedBy rows (remove xs at) i
+  pub led_removed : (rows : List (List Bool)) (width : ℕ) → ((i : ℕ) → i < length rows → length (bits_of rows i) ≡ width) → All (IsUneven rows) xs → IsCoveredAmong rows (slice_index_or xs at 0) xs → (i : ℕ) → i < length rows → IsWithinSome rows i xs → IsWithinSome rows i (remove xs at)
   led_removed rows width wide all covered i b l = by_place (cases_eq l.0 at)
     where
       P : ℕ → Type 0
@@ -95,7 +95,7 @@ module _ (xs : List ℕ) (at : ℕ) (h : at < length xs) where
       other : covered.0 ≢ at
       other e = covered.2 (ap (λ (n : ℕ). slice_index_or xs n 0) e)
 
-      by_place : (l.0 ≡ at) ⊎ (l.0 ≡ at → ⊥) → IsLedBy rows (remove xs at) i
+      by_place : (l.0 ≡ at) ⊎ (l.0 ≡ at → ⊥) → IsWithinSome rows i (remove xs at)
       by_place (inr ne) = let q = goes l.0 l.1 ne in (q.0, q.1, subst (λ (n : ℕ). IsWithin (bits_of rows i) (bits_of rows n)) (sym q.2) l.2)
       by_place (inl e) =
           let q = goes covered.0 covered.1 other in

@@ -3,7 +3,7 @@ use Rattle.std.specs.List.{range_with_len}
 use Rattle.flat_rows.specs.Flat.{marked}
 use Rattle.row_core.specs.Vectors.{dot}
 use Rattle.row_core.specs.Lists.{Row, row_at}
-use Rattle.sat_matrix.specs.Tables.{bits_of, IsCoveredAmong, Covers}
+use Rattle.sat_matrix.specs.Tables.{bits_of, IsWithin, IsWithinSome, IsCoveredAmong}
 use Rattle.sat_matrix.specs.Counts.{ones}
 use Rattle.minimise.specs.FlatRows.{IsZeroOnAll}
 use Rattle.minimise.specs.declared.facets.CountedRow.{CountedRow}
@@ -40,15 +40,6 @@ pub record AreSplit (rows : List (List Bool)) (full others : List ℕ) : Type 0 
   pub full_are : full ≡ marked marks (range_with_len 0 (length marks))
   pub others_are : others ≡ marked (map not marks) (range_with_len 0 (length marks))
 
--- the second row is true wherever the first is
-abbrev pub IsWithin : List Bool → List Bool → Type 0
-IsWithin first second = Covers first first second
-
--- the row is true only where one at the places is
-abbrev pub IsLedBy : List (List Bool) → List ℕ → ℕ → Type 0
-IsLedBy rows places m = (q : ℕ) × (q < length places)
-    × IsWithin (bits_of rows m) (bits_of rows (slice_index_or places q 0))
-
 -- the place is that of a row of the table that isn't true everywhere
 abbrev pub IsUneven : List (List Bool) → ℕ → Type 0
 IsUneven rows p = (p < length rows) × ¬ (IsFull (bits_of rows p))
@@ -68,7 +59,7 @@ AreRising places = (k m : ℕ) → k < m → m < length places
 pub record AreKept (rows : List (List Bool)) (places : List ℕ) (at : ℕ) : Type 0 where
   pub uneven : All (IsUneven rows) places
   pub rising : AreRising places
-  pub led : (i : ℕ) → IsUneven rows i → IsLedBy rows places i
+  pub led : (i : ℕ) → IsUneven rows i → IsWithinSome rows i places
   pub apart : (k : ℕ) → k < at → ¬ (IsCoveredAmong rows (slice_index_or places k 0) places)
 
 -- no row at one of the places is true only where one at another is
@@ -81,7 +72,7 @@ AreApart rows places = (k m : ℕ) → k < length places → m < length places �
 pub record AreGreatest (rows : List (List Bool)) (places : List ℕ) : Type 0 where
   pub uneven : All (IsUneven rows) places
   pub apart : AreApart rows places
-  pub each : (i : ℕ) → IsUneven rows i → IsLedBy rows places i
+  pub each : (i : ℕ) → IsUneven rows i → IsWithinSome rows i places
 
 -- a row of the table with the number of its true places
 abbrev pub counted_row : List (List Bool) → ℕ → CountedRow

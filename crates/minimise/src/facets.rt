@@ -1,7 +1,8 @@
 //! The rows that aren't 0 on the whole cone, one for each greatest set of zeros.
-ghost use Rattle.std.specs.Prelude.{◌≡◌, ℕ, ◌+◌, ◌<◌, ◌≤◌, ◌↔◌, [], ◌∷◌, ◌++◌, length, map, not, All, IsPermutation, IsTrue, IfOk, OnOk};
+ghost use Rattle.std.specs.Prelude.{◌≡◌, ℕ, ◌+◌, ◌<◌, ◌≤◌, [], ◌∷◌, ◌++◌, length, map, not, All, IsPermutation, IfOk, OnOk};
 ghost use Rattle.flat_rows.specs.Flat.{marked};
-ghost use Rattle.minimise.specs.Facets.{AreSplit, AreUneven, AreRising, AreKept, AreGreatest, IsLedBy, IsUneven, AreApart, counted_row, IsCounted, AreFalling, IsNoLonger};
+ghost use Rattle.sat_matrix.specs.Tables.{IsWithinSome};
+ghost use Rattle.minimise.specs.Facets.{AreSplit, AreUneven, AreRising, AreKept, AreGreatest, IsUneven, AreApart, counted_row, IsCounted, AreFalling, IsNoLonger};
 
 use sat_matrix::SatMatrix;
 use std::alloc::{AllocError, Global};
@@ -153,20 +154,6 @@ fn ranked_rows(
     Ok(ranked)
 }
 
-/// Whether the row is true only where one at the places is.
-fn is_led(table: &SatMatrix, places: &[usize], row: usize) -> bool
-    requires row { row < length table.now.rows }
-    requires places { All (λ p. p < length table.now.rows) places.now }
-    ensures { IsTrue result ↔ IsLedBy table.now.rows places.now row }
-{
-    for index in 0..places.len() {
-        if table.covers(row, row, places[index]) {
-            return true;
-        }
-    }
-    false
-}
-
 /// Appends the place of a row, which has at most as many true places as those at the places, unless
 /// it is true only where one of them is.
 fn push_leader(places: &mut Vec<usize>, table: &SatMatrix, row: usize) -> Result<(), AllocError>
@@ -177,13 +164,13 @@ fn push_leader(places: &mut Vec<usize>, table: &SatMatrix, row: usize) -> Result
     ensures uneven { OnOk result (All (IsUneven table.now.rows) places.new.items) }
     ensures apart { OnOk result (AreApart table.now.rows places.new.items) }
     ensures no_longer { OnOk result (IsNoLonger table.now.rows places.new.items row) }
-    ensures others { OnOk result ((m : ℕ) → IsLedBy table.now.rows places.old.items m
-        → IsLedBy table.now.rows places.new.items m) }
-    ensures led { OnOk result (IsLedBy table.now.rows places.new.items row) }
+    ensures others { OnOk result ((m : ℕ) → IsWithinSome table.now.rows m places.old.items
+        → IsWithinSome table.now.rows m places.new.items) }
+    ensures led { OnOk result (IsWithinSome table.now.rows row places.new.items) }
     ensures at_most_one { OnOk result (length places.new.items ≤ length places.old.items + 1) }
 {
     prove!(table.columns() == table.columns());
-    if is_led(table, places, row) {
+    if table.is_within_some(row, places) {
         return Ok(());
     }
     places.push(row)?;
@@ -202,7 +189,7 @@ fn leaders(
     ensures uneven { IfOk result (λ v. All (IsUneven table.now.rows) v.items) }
     ensures apart { IfOk result (λ v. AreApart table.now.rows v.items) }
     ensures led { let rows = table.now.rows in
-        IfOk result (λ v. All (λ row. IsLedBy rows v.items row.place) ranked.now) }
+        IfOk result (λ v. All (λ row. IsWithinSome rows row.place v.items) ranked.now) }
     ensures fewer { IfOk result (λ v. length v.items ≤ length ranked.now) }
 {
     let mut places = Vec::new(alloc);

@@ -7,13 +7,13 @@ use Rattle.std.proofs.lemmas.List.FromFn.{length-map-range_with_len, get_or-map-
 use Rattle.std.proofs.lemmas.List.Elements.{All-head, All-tail}
 use Rattle.std.proofs.lemmas.Bool.{cases_lt, cases_eq}
 use Rattle.sat_bits.specs.Places.{place, bit_in, IsSubsetOfAnd}
-use Rattle.sat_bits.specs.Searches.{row_words, IsThirdRow, HasThirdRow, HasCoveringRow}
+use Rattle.sat_bits.specs.Searches.{row_words, IsThirdRow, HasThirdRow, HasCoveringRow, IsWithinNamed, IsWithinSome as AreWordsWithinSome}
 use Rattle.sat_bits.proofs.PlaceLemmas.{places_and}
 use Rattle.flat_rows.proofs.WordRows.{length-and_words}
 use Rattle.flat_rows.specs.Flat.{Flat, entries_at, AreCells, HasOneWidth, marked}
 use Rattle.flat_rows.proofs.Flat.{row_end, row_of_cells}
 pub use Rattle.flat_rows.proofs.Marked.{marked-map, all_marked}
-use Rattle.sat_matrix.specs.Tables.{Table, bits_of, bit_at, conjunction, Covers, IsThird, HasThird, IsCoveredAmong}
+use Rattle.sat_matrix.specs.Tables.{Table, bits_of, bit_at, conjunction, Covers, IsWithin, IsThird, HasThird, IsCoveredAmong, IsWithinSome}
 use Rattle.flat_rows.specs.Words.{and_words}
 use Rattle.sat_matrix.specs.Words.{bits_in, IsPadded, IsTable, IsPlaceSet}
 
@@ -122,18 +122,28 @@ module _ (columns : ℕ) (words : Flat ℕ) (t : Table) (cells : List ℕ) (widt
       covers_seen columns words t i j k (row_words cells width i) (row_words cells width j) (row_words cells width k) (IsSubsetOfAnd (row_words cells width i) (row_words cells width j) (row_words cells width k))
       table e in_i in_j in_k (row i in_i) (row j in_j) (row k in_k) (λ x. x, λ x. x)
 
-  -- a row that the list names covers another in bits where it does in words
+  -- row i is within a row that the list names in bits where it is in words
+  within_named : (i : ℕ) (among : List ℕ) → i < length t.rows → ((q : ℕ) → q < length among → get_or among q 0 < length t.rows) → (q : ℕ) → q < length among
+      → IsWithinNamed cells width i among q ↔ IsWithin (bits_of t.rows i) (bits_of t.rows (get_or among q 0))
+  within_named i among in_i within q h = covers_in i i (get_or among q 0) in_i in_i (within q h)
+
   pub covering_seen : (i : ℕ) (among : List ℕ) (S : Type 0) → i < length t.rows → ((q : ℕ) → q < length among → get_or among q 0 < length t.rows) → S ↔ HasCoveringRow cells width i among → S ↔ IsCoveredAmong t.rows i among
   covering_seen i among S in_i within r = (λ h. to (r.0 h), λ h. r.1 (from h))
     where
-      both : (q : ℕ) → q < length among → IsSubsetOfAnd (row_words cells width i) (row_words cells width i) (row_words cells width (get_or among q 0)) ↔ Covers (bits_of t.rows i) (bits_of t.rows i) (bits_of t.rows (get_or among q 0))
-      both q h = covers_in i i (get_or among q 0) in_i in_i (within q h)
-
       to : HasCoveringRow cells width i among → IsCoveredAmong t.rows i among
-      to h = (h.0, h.1, h.2.0, (both h.0 h.1).0 h.2.1)
+      to h = (h.0, h.1, h.2.0, (within_named i among in_i within h.0 h.1).0 h.2.1)
 
       from : IsCoveredAmong t.rows i among → HasCoveringRow cells width i among
-      from h = (h.0, h.1, (h.2, (both h.0 h.1).1 h.3))
+      from h = (h.0, h.1, (h.2, (within_named i among in_i within h.0 h.1).1 h.3))
+
+  pub within_some_seen : (i : ℕ) (among : List ℕ) (S : Type 0) → i < length t.rows → ((q : ℕ) → q < length among → get_or among q 0 < length t.rows) → S ↔ AreWordsWithinSome cells width i among → S ↔ IsWithinSome t.rows i among
+  within_some_seen i among S in_i within r = (λ h. to (r.0 h), λ h. r.1 (from h))
+    where
+      to : AreWordsWithinSome cells width i among → IsWithinSome t.rows i among
+      to h = (h.0, h.1, (within_named i among in_i within h.0 h.1).0 h.2)
+
+      from : IsWithinSome t.rows i among → AreWordsWithinSome cells width i among
+      from h = (h.0, h.1, (within_named i among in_i within h.0 h.1).1 h.2)
 
   -- a third row of words is one of truth values
   pub third_seen : (rows i j : ℕ) (S : Type 0) → rows ≡ length words.rows → i < length t.rows → j < length t.rows → S ↔ HasThirdRow cells width rows i j → S ↔ HasThird t i j

@@ -34,6 +34,10 @@ Covers first second third = (c : ℕ) → c < length first →
     IsTrue (slice_index_or second c false) →
     IsTrue (slice_index_or third c false)
 
+-- the second row is true wherever the first is
+abbrev pub IsWithin : List Bool → List Bool → Type 0
+IsWithin first second = Covers first first second
+
 -- row k is another row than i and j, and is true at each column at which both are true
 pub record IsThird (table : Table) (i j k : ℕ) : Type 0 where
   pub row : k < length table.rows
@@ -48,7 +52,12 @@ HasThird table i j = (k : ℕ) × IsThird table i j k
 -- a row other than i at a place of the list is true wherever row i is
 abbrev pub IsCoveredAmong : List (List Bool) → ℕ → List ℕ → Type 0
 IsCoveredAmong rows i among = (q : ℕ) × (q < length among) × (slice_index_or among q 0 ≢ i) ×
-    Covers (bits_of rows i) (bits_of rows i) (bits_of rows (slice_index_or among q 0))
+    IsWithin (bits_of rows i) (bits_of rows (slice_index_or among q 0))
+
+-- row i is true only where a row at a place of the list is
+abbrev pub IsWithinSome : List (List Bool) → ℕ → List ℕ → Type 0
+IsWithinSome rows i among = (q : ℕ) × (q < length among) ×
+    IsWithin (bits_of rows i) (bits_of rows (slice_index_or among q 0))
 
 -- each row has a place for each column
 abbrev pub IsRectangular : Table → Type 0

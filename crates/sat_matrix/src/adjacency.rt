@@ -111,13 +111,6 @@ pub fn crossings(
     Ok(pairs)
 }
 
-/// Whether a ray has one zero more than it shares with another.
-pub(crate) fn has_one_more(zeros: usize, shared: usize) -> bool
-    ensures { IsTrue result ↔ (zeros ≡ shared + 1) }
-{
-    zeros > shared && zeros - shared == 1
-}
-
 /// The indices of the values on the side.
 fn indices_on(
     alloc: Global,
@@ -144,8 +137,7 @@ fn adjacent(zeros: &SatMatrix, first: usize, second: usize) -> bool
     requires decide { OneMoreDecides zeros.now }
     ensures { IsTrue result ↔ ¬ (HasThird zeros.now first second) }
 {
-    let shared = zeros.shared(first, second);
-    if has_one_more(zeros.ones(first), shared) || has_one_more(zeros.ones(second), shared) {
+    if zeros.has_one_more(first, second) || zeros.has_one_more(second, first) {
         return true;
     }
     !zeros.third_between(first, second)

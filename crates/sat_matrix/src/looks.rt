@@ -13,23 +13,28 @@ const SAMPLE: usize = 256;
 /// Of how many rays a search for a third one is expected to see one.
 const SEEN: u64 = 32;
 
-/// The rays on one side of a row, and about how many of them are crowded.
+/// How many rays are above a row and how many below it.
 #[derive(Clone, Copy)]
-struct RayCount {
-    rays: u64,
-    crowded: u64,
+struct SideCounts {
+    above: u64,
+    below: u64,
 }
 
-impl RayCount {
-    const NONE: RayCount = RayCount {
-        rays: 0,
-        crowded: 0,
-    };
+impl SideCounts {
+    const NONE: SideCounts = SideCounts { above: 0, below: 0 };
 
-    // Counts a ray, and so many that are taken to be crowded.
-    fn count(&mut self, crowded: u64) {
-        self.rays = self.rays.saturating_add(1);
-        self.crowded = self.crowded.saturating_add(crowded);
+    // Counts so many rays on the side of a value, if it isn't 0.
+    fn count(&mut self, value: i128, rays: u64) {
+        if value > 0 {
+            self.above = self.above.saturating_add(rays);
+        } else if value < 0 {
+            self.below = self.below.saturating_add(rays);
+        }
+    }
+
+    // How many pairs of a ray above and one below there are.
+    fn pairs(self) -> u64 {
+        self.above.saturating_mul(self.below)
     }
 }
 
@@ -68,24 +73,32 @@ pub fn expected_looks(values: &[i128], zeros: &SatMatrix, least: usize) -> u64
     if values.len() <= FEW_RAYS {
         return 0;
     }
-    let mut above = RayCount::NONE;
-    let mut below = RayCount::NONE;
-    // Of so many rays one is looked at: it counts for all of them.
+    // Of so many rays one is asked whether it is crowded: it stands for all of them.
     let stride = (values.len() / SAMPLE + 1).next_power_of_two();
+    let pairs = counted(values).pairs();
+    let searches = crowded(values, zeros, least, stride).pairs();
+    pairs.saturating_add(searches.saturating_mul(values.len() as u64 / SEEN))
+}
+
+/// How many rays have values on each side.
+fn counted(values: &[i128]) -> SideCounts {
+    let mut sides = SideCounts::NONE;
     for ray in 0..values.len() {
-        let is_seen = ray & (stride - 1) == 0;
-        let crowded = if is_seen && is_crowded(zeros, ray, least) {
-            stride as u64
-        } else {
-            0
-        };
-        if values[ray] > 0 {
-            above.count(crowded);
-        } else if values[ray] < 0 {
-            below.count(crowded);
+        sides.count(values[ray], 1);
+    }
+    sides
+}
+
+/// About how many crowded rays have values on each side, by one ray of so many.
+fn crowded(values: &[i128], zeros: &SatMatrix, least: usize, stride: usize) -> SideCounts
+    requires as_many { length values.now ≡ length zeros.now.rows }
+    requires stride { 0 < stride }
+{
+    let mut sides = SideCounts::NONE;
+    for ray in (0..values.len()).step_by(stride) {
+        if is_crowded(zeros, ray, least) {
+            sides.count(values[ray], stride as u64);
         }
     }
-    let pairs = above.rays.saturating_mul(below.rays);
-    let searches = above.crowded.saturating_mul(below.crowded);
-    pairs.saturating_add(searches.saturating_mul(values.len() as u64 / SEEN))
+    sides
 }

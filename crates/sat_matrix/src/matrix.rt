@@ -7,7 +7,7 @@ ghost use Rattle.sat_bits.specs.Places.{place};
 ghost use Rattle.sat_bits.specs.Searches.{IsFirstFrom};
 ghost use Rattle.sat_matrix.specs.Columns.{HasLastZeros, IsColumnMarked};
 ghost use Rattle.sat_matrix.specs.Tables.{Table, bits_of, bit_at, conjunction, transposed, Covers};
-ghost use Rattle.sat_matrix.specs.Tables.{HasThird, IsCoveredAmong, IsRectangular};
+ghost use Rattle.sat_matrix.specs.Tables.{HasThird, IsCoveredAmong, IsRectangular, IsWithinSome};
 ghost use Rattle.sat_matrix.specs.Counts.{ones};
 ghost use Rattle.sat_matrix.specs.Words.{bits_in, AreWordsOf, IsTable};
 ghost use Rattle.sat_matrix.specs.Searches.{Shares};
@@ -15,8 +15,9 @@ ghost use Rattle.sat_matrix.specs.Searches.{Shares};
 use flat_rows::{FlatRows, push_and, widened};
 use row_core::Memory;
 use sat_bits::{
-    count, count_and, fill_front, get, has_covering_row, has_third_row, is_subset_of_and,
-    mark_column, mark_zeros, next_sharing, with_bit, write_behind,
+    count, count_and, fill_front, get, has_covering_row, has_one_more, has_third_row,
+    is_subset_of_and, is_within_some, mark_column, mark_zeros, next_sharing, with_bit,
+    write_behind,
 };
 use std::alloc::{AllocError, Global};
 use std::marker::Model;
@@ -307,6 +308,17 @@ impl SatMatrix {
         count_and(self.words.row(i), self.words.row(j))
     }
 
+    /// Whether row `i` is true at one place more than it shares with row `j`.
+    #[inline]
+    pub fn has_one_more(&self, i: usize, j: usize) -> bool
+        requires first { i < length self.now.rows }
+        requires second { j < length self.now.rows }
+        ensures { IsTrue result ↔ (ones (bits_of self.now.rows i) ≡
+            ones (conjunction (bits_of self.now.rows i) (bits_of self.now.rows j)) + 1) }
+    {
+        has_one_more(self.words.row(i), self.words.row(j))
+    }
+
     /// Whether some row other than `i` and `j` is true at each column at which both are.
     pub fn third_between(&self, i: usize, j: usize) -> bool
         requires first { i < length self.now.rows }
@@ -341,6 +353,17 @@ impl SatMatrix {
     {
         let width = self.words.width();
         has_covering_row(self.words.cells(), width, i, among)
+    }
+
+    /// Whether row `i` is true only where a row at one of the places is.
+    pub fn is_within_some(&self, i: usize, among: &[usize]) -> bool
+        requires row { i < length self.now.rows }
+        requires among { (q : ℕ) → q < length among.now →
+            slice_index_or among.now q 0 < length self.now.rows }
+        ensures { IsTrue result ↔ IsWithinSome self.now.rows i among.now }
+    {
+        let width = self.words.width();
+        is_within_some(self.words.cells(), width, i, among)
     }
 
     /// Whether row `k` is true wherever rows `i` and `j` both are.

@@ -18,6 +18,9 @@ const PARTS: usize = 4;
 /// Where the inner rays aren't so many times the outer ones, all of these aren't taken first.
 const LOCAL_TIMES: usize = 8;
 
+/// Room is made at once for so many lists of rays: of all, of those near to a group, to its parts.
+const LISTS: usize = 3;
+
 /// Where the lists of one group begin, behind those of the groups that it is a part of.
 #[derive(Clone, Copy)]
 pub(crate) struct Level {
@@ -75,9 +78,9 @@ impl Near {
     {
         let whole = search.needs_thirds();
         let rays = if whole { search.zeros.len() } else { 0 };
-        list_numbers(&mut self.inner, search.inner.len())?;
-        list_numbers(&mut self.all, rays)?;
-        list_numbers(&mut self.rays, rays)?;
+        list_numbers(&mut self.inner, search.inner.len(), LISTS)?;
+        list_numbers(&mut self.all, rays, 1)?;
+        list_numbers(&mut self.rays, rays, LISTS)?;
         Ok(Level {
             inner: 0,
             rays: 0,
@@ -178,12 +181,12 @@ impl Near {
     }
 }
 
-/// Makes the list that of all numbers below one.
-fn list_numbers(list: &mut Vec<usize>, count: usize) -> Result<(), AllocError>
+/// Makes the list that of all numbers below one, with room for so many lists as long as it.
+fn list_numbers(list: &mut Vec<usize>, count: usize, lists: usize) -> Result<(), AllocError>
     ensures { OnOk result (list.new.items ≡ range_with_len 0 count) }
 {
     list.clear();
-    list.reserve(count)?;
+    list.reserve_exact(count.saturating_mul(lists))?;
     for number in 0..count {
         list.push(number)?;
     }

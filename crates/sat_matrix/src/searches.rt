@@ -94,7 +94,7 @@ fn push_sharing_as_wide(
         OnOk result (HasKept shares start (length f.among.now) list.old.items list.new.items) }
 {
     let end = list.len();
-    list.reserve(end - start)?;
+    list.reserve_exact(end - start)?;
     for index in start..end {
         let position = list[index];
         let row = rows.row_as_wide(width, filter.among[position]);

@@ -2,8 +2,9 @@ use Rattle.std.specs.Prelude.{List, length, map, All}
 use Rattle.std.proofs.Common.{ap, sym, subst, arith}
 use Rattle.std.proofs.lemmas.List.{length-map}
 use Rattle.std.proofs.lemmas.List.Sorted.{length_permutation}
+use Rattle.sat_matrix.specs.Tables.{IsWithinSome}
 use Rattle.minimise.specs.declared.facets.CountedRow.{CountedRow}
-use Rattle.minimise.specs.Facets.{IsCounted, IsLedBy, counted_row}
+use Rattle.minimise.specs.Facets.{IsCounted, counted_row}
 use Rattle.minimise.proofs.FacetLemmas.{counted_moved, greatest_moved}
 use Rattle.minimise.proofs.facets.greatest_of.Goals as goal
 
@@ -19,7 +20,7 @@ pub returns-clause-greatest : goal.returns-clause-greatest
 returns-clause-greatest c =
     greatest_moved c.args.table.now.rows c.args.places.now c.in_ok-ranked.ranked.items c.in_ok-facets.facets.items c.sort_unstable.new.self.items c.requires c.in_ok-ranked.ensures.same c.in_ok-facets.ensures.uneven
     c.in_ok-facets.ensures.apart
-    (subst (λ (list : List CountedRow). All (λ (row : CountedRow). IsLedBy c.args.table.now.rows c.in_ok-facets.facets.items row.place) list) c.deref.ensures.value c.in_ok-facets.ensures.led)
+    (subst (λ (list : List CountedRow). All (λ (row : CountedRow). IsWithinSome c.args.table.now.rows row.place c.in_ok-facets.facets.items) list) c.deref.ensures.value c.in_ok-facets.ensures.led)
     c.sort_unstable.ensures.permutation
 
 pub returns-clause-fewer : goal.returns-clause-fewer

@@ -1,9 +1,8 @@
 use Rattle.std.proofs.Common.{ℕ, slice_index_or, arith, ap, subst, below_more}
 use Rattle.std.proofs.lemmas.List.{get_or_default}
-use Rattle.sat_matrix.specs.Tables.{bits_of}
+use Rattle.sat_matrix.specs.Tables.{bits_of, IsWithinSome}
 use Rattle.sat_matrix.specs.Counts.{ones}
 use Rattle.minimise.specs.declared.facets.CountedRow.{CountedRow}
-use Rattle.minimise.specs.Facets.{IsLedBy}
 use Rattle.minimise.proofs.facets.leaders.Goals as goal
 
 pub loop-index-preserved : goal.loop-index-preserved
@@ -21,9 +20,9 @@ loop-index-preserved c =
           let same = ap (λ (row : CountedRow). ones (bits_of c.args.table.now.rows row.place)) (get_or_default ranked index d first c.loop-index-test.true) in
           omega (arith, c.in_ok-push_leader.ensures.no_longer q e h, at, same, c.requires.falling index j d (omega (arith, a)) b);
       led = λ j d h.
-          below_more (λ (m : ℕ). (x : CountedRow) → IsLedBy c.args.table.now.rows c.push_leader.new.places.items (slice_index_or c.args.ranked.now m x).place) index
+          below_more (λ (m : ℕ). (x : CountedRow) → IsWithinSome c.args.table.now.rows (slice_index_or c.args.ranked.now m x).place c.push_leader.new.places.items) index
           (λ m l x. c.in_ok-push_leader.ensures.others (slice_index_or ranked m x).place (inv.led m x l))
-          (λ x. subst (λ (row : CountedRow). IsLedBy c.args.table.now.rows c.push_leader.new.places.items row.place) (get_or_default ranked index first x c.loop-index-test.true) c.in_ok-push_leader.ensures.led) j h d;
+          (λ x. subst (λ (row : CountedRow). IsWithinSome c.args.table.now.rows row.place c.push_leader.new.places.items) (get_or_default ranked index first x c.loop-index-test.true) c.in_ok-push_leader.ensures.led) j h d;
       fewer = omega (arith, inv.fewer, c.in_ok-push_leader.ensures.at_most_one);
     }
 

@@ -75,4 +75,4 @@ pub loop-index-init : goal.loop-index-init
 loop-index-init c =
     let holds : ℕ → Type 0 = SharesWords c.args.rows.now.rows c.args.filter.now.union.now c.args.filter.now.among.now c.args.filter.now.least in
     let P : List ℕ → Type 0 = λ list. IsKeptUpto holds c.args.start (length c.args.filter.now.among.now) c.args.start c.args.list.now.items list in
-    subst P (sym c.reserve.ensures.items) (kept_none holds c.args.start (length c.args.filter.now.among.now) c.args.list.now.items)
+    subst P (sym c.reserve_exact.ensures.items) (kept_none holds c.args.start (length c.args.filter.now.among.now) c.args.list.now.items)
