@@ -12,7 +12,7 @@ ghost use Rattle.mapped_systems.specs.Refusals.{SomeLeavesInImage};
 use crate::columns::{kept_variables, put_picked, put_with_zeros};
 use crate::substitution::put_image;
 use gens_sys::{GenKind, GenPushErr, GensSys};
-use row_core::{ConvErr, Memory};
+use row_core::{ConvErr, Memory, Summing, bits};
 use std::alloc::Global;
 
 /// Appends a mapped vector, made primitive. A line or a ray that became 0 is left out.
@@ -52,8 +52,9 @@ pub fn image_generators(
 {
     let mut mapped = GensSys::with_room(alloc, gens.dim(), gens.len())?;
     let mut image = Vec::with_capacity(alloc, gens.dim() + 1)?;
+    let summing = Summing::of(bits(expr), gens.bits(), expr.len());
     for index in 0..gens.len() {
-        match put_image(&mut image, var, expr, den, gens.row(index)) {
+        match put_image(&mut image, var, expr, den, summing, gens.row(index)) {
             Ok(()) => {}
             Err(cause) => return Err(cause),
         }

@@ -3,13 +3,16 @@ ghost use Rattle.std.specs.Prelude.{◌≡◌, ◌+◌, ◌^◌, ◌<◌, ◌≤
 ghost use Rattle.std.proofs.Math.IntN.{◌*ℤ◌};
 ghost use Rattle.row_core.specs.Vectors.{cell, scale};
 ghost use Rattle.row_core.specs.Range.{InRange, AllInRange, AllStay, IsFirstToLeave};
+ghost use Rattle.row_core.specs.Sizes.{Suffices};
 ghost use Rattle.mapped_systems.specs.Maps.{substituted, pulled_back};
 ghost use Rattle.mapped_systems.specs.Refusals.{EntryStays, LeavesInImage, LeavesInPullback, StaysInImage, StaysInPullback, ShowsPair};
 ghost use Rattle.row_core.specs.Refusals.{IsOverflowIn};
 ghost use Rattle.row_core.specs.declared.errors.OverKind.TheVariants.{Scale};
 
 use crate::refusals::shown;
-use row_core::{ConvErr, Memory, OverKind, Overflow, Steps, bits, combine_within, dot, product};
+use row_core::{
+    ConvErr, Memory, OverKind, Overflow, Steps, Summing, bits, combine_within, product,
+};
 use std::alloc::Global;
 use std::sync::ledger::Ledger;
 
@@ -88,7 +91,7 @@ fn shown_scale(
 }
 
 /// Writes the vector into the buffer, in place of what it held, with its variable replaced by the
-/// expression's value, and all else times the divisor.
+/// expression's value, which is summed so, and all else times the divisor.
 ///
 /// # Errors
 ///
@@ -99,6 +102,7 @@ pub(crate) fn put_image(
     var: usize,
     expr: &[i128],
     den: i128,
+    summing: Summing,
     v: &[i128],
 ) -> Result<(), ConvErr>
     requires var { var < length v.now }
@@ -107,13 +111,14 @@ pub(crate) fn put_image(
     requires in_range { AllInRange v.now }
     requires expr_in_range { AllInRange expr.now }
     requires den_in_range { InRange den }
+    requires suffices { Suffices summing expr.now v.now }
     ensures row { OnOk result (buffer.new.items ≡ substituted var expr.now den v.now) }
     ensures in_range { OnOk result (AllInRange buffer.new.items) }
     ensures stays { OnOk result (StaysInImage var expr.now den v.now) }
     ensures overflow { IfErr result (IsOverflowIn (LeavesInImage var expr.now den v.now)) }
 {
     let alloc = *buffer.allocator();
-    let value = match dot(expr, v) {
+    let value = match summing.dot(expr, v) {
         Ok(value) => value,
         Err(column) => {
             let over = shown(alloc, OverKind::Dot, expr, v, column)?;

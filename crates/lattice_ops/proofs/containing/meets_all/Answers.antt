@@ -26,4 +26,4 @@ pub meets_one-requires-clause-other : goal.meets_one-requires-clause-other
 meets_one-requires-clause-other c =
     let most : c.max-both.result ≡ max c.args.within c.bits.result = grind (arith, nat_tests, c.max-both.ensures) in
     HaveBits-more c.bits.result c.max-both.result (generator_at c.args.gens.now.list c.args.j).0 (omega (arith, most))
-    (subst (HaveBits c.bits.result) c.row.ensures.value c.bits.ensures)
+    (subst (HaveBits c.bits.result) c.row.ensures.value c.bits.ensures.within)

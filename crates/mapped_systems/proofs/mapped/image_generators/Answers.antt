@@ -1,9 +1,11 @@
-use Rattle.std.proofs.Common.{ℕ, ℤ, List, length, arith, sym, subst, ap, ◌∙◌, [], below_more}
+use Rattle.std.proofs.Common.{ℕ, ℤ, List, length, arith, refl, sym, subst, ap, ◌∙◌, [], below_more}
 use Rattle.std.specs.Int.{w128}
 use Rattle.std.proofs.lemmas.Int.{to_z-of_z}
 use Rattle.std.proofs.lemmas.List.{take_all}
 use mir.Val.{SFits}
 use Rattle.row_core.specs.Range.{InRange, AllInRange}
+use Rattle.row_core.specs.Sizes.{HaveBits}
+use Rattle.gens_sys.specs.declared.kind.GenKind.TheVariants.{Line}
 use Rattle.gens_sys.specs.Generators.{Generator, generator_at, row_at}
 use Rattle.mapped_systems.specs.Maps.{substituted}
 use Rattle.mapped_systems.specs.MappedLists.{AreMapped, nothing}
@@ -62,6 +64,7 @@ put_image-requires c =
       in_range = subst AllInRange (sym c.row.ensures.value) c.row.ensures.in_range;
       expr_in_range = c.requires.expr_in_range;
       den_in_range = subst InRange (sym (to_z-of_z w128 c.args.den c.ranges.den)) c.requires.den_in_range;
+      suffices = c.of-summing.ensures c.args.expr.now c.row.result.now refl (wide ∙ c.row.ensures.wide ∙ sym c.requires.wide) c.bits.ensures.within (subst (HaveBits c.bits-2.result) (sym c.row.ensures.value) (c.bits-2.ensures c.loop-index.index ([], Line) (omega arith)));
     }
 
 pub returns : goal.returns

@@ -15,9 +15,9 @@ combine_within-requires-clause-within g c =
     let most : c.max-within.result ≡ max c.bits.result c.bits-2.result =
     grind (arith, nat_tests, c.max-within.ensures) in (
       HaveBits-more c.bits.result c.max-within.result c.as_mut_slice-cleared.result.now
-          (omega (arith, most)) c.bits.ensures,
+          (omega (arith, most)) c.bits.ensures.within,
       HaveBits-more c.bits-2.result c.max-within.result c.args.expr.now (omega (arith, most))
-          c.bits-2.ensures,
+          c.bits-2.ensures.within,
     )
 
 pub returns : goal.returns

@@ -32,4 +32,4 @@ returns-in_err-zeros c =
 pub zeros_of-requires-clause-bits : goal.zeros_of-requires-clause-bits
 zeros_of-requires-clause-bits c =
     let most : c.max.result ≡ max c.args.within c.bits.result = grind (arith, nat_tests, c.max.ensures) in
-    both_have_bits c.args.within c.bits.result c.max.result c.args.row.now c.gens.result.now c.args.p.now.gens most c.gens.ensures.value c.bits.ensures c.requires.bits
+    both_have_bits c.args.within c.bits.result c.max.result c.args.row.now c.gens.result.now c.args.p.now.gens most c.gens.ensures.value c.bits.ensures.within c.requires.bits
