@@ -19,3 +19,9 @@ mod OrderedRows
 mod OnePart
 mod LinelessPairs
 mod StoredOfForms
+mod FreedSystems
+mod CollapsedForms
+mod CanonicalForms
+mod CollapsedSets
+mod FreedStarts
+mod CollapseWork

@@ -2,6 +2,7 @@
 use Rattle.std.specs.Prelude.{MatchBool}
 use Rattle.std.proofs.Common.{◌≡◌, ◌≢◌, ◌⊎◌, ℕ, ◌+◌, ◌≤◌, length, List, ℤ, pos, Bool, true, false, Option, Some, None, Result, Ok, inl, inr, refl, subst, arith}
 use Rattle.row_core.specs.Vectors.{cell}
+use Rattle.row_core.specs.declared.errors.Overflow.{Overflow}
 use Rattle.row_core.specs.declared.errors.ConvErr.{ConvErr}
 use Rattle.row_core.specs.declared.errors.ConvErr.TheVariants as conversion
 use Rattle.row_core.specs.Refusals.{IsOverflowIn}
@@ -15,7 +16,8 @@ use Rattle.affine_maps.proofs.FormWork.{forms_leave, forms_fewer}
 use Rattle.mapped_systems.specs.Refusals.{SomeLeavesInImage, SomeLeavesInPullback}
 use Rattle.affine_maps.specs.CarriedPairs.{CanBeCarried, ImagePairLeaves, LeavesInTurned, LeavesOnTurned, LeavesInMapped}
 use Rattle.mapped_systems.proofs.AfterPairs.{after_fewer}
-use Rattle.affine_maps.specs.PairConversions.{IsPullback, IsUntried, IsTurnedPair, IsTurnedInVain, IsMappedPair, CarriesImage, IsMappedInVain, ConvertsImage, CarriesPreimage, IsPulledInVain, ConvertsPreimage, inverse_size}
+use Rattle.affine_maps.specs.Collapsing.{CollapsesImage, AfterFreed}
+use Rattle.affine_maps.specs.PairConversions.{IsPullback, IsUntried, IsTurnedPair, IsTurnedInVain, IsMappedPair, CarriesImage, PairsImage, IsMappedInVain, ConvertsImage, CarriesPreimage, IsPulledInVain, ConvertsPreimage, inverse_size}
 
 -- ---- sets that can be carried
 pub carried_if : (p : Polyhedron) (part : ℤ) (start : Bool) → part ≢ pos 0 → MatchBool start (CanStart p) (¬ (CanStart p)) → MatchBool start (CanBeCarried p part) (¬ (CanBeCarried p part))
@@ -34,7 +36,7 @@ mapped_in_vain var expr den p gs steps (conversion.Overflow over) same l = recor
 mapped_in_vain var expr den p gs steps conversion.Memory same l = record { same = refl; leaves = tt }
 
 -- there is none, and so the pair leaves the range
-pub image_pair_leaves : (var : ℕ) (expr : List ℤ) (den : ℤ) (p : Polyhedron) (gs : Generators) (old new : ℕ) (found : Option Polyhedron) → ((q : Polyhedron) → found ≡ Some q → ⊥) → CarriesImage var expr den p gs old new (Ok found) → CanBeCarried p (cell expr var) → ImagePairLeaves var expr den p gs
+image_pair_leaves : (var : ℕ) (expr : List ℤ) (den : ℤ) (p : Polyhedron) (gs : Generators) (old new : ℕ) (found : Option Polyhedron) → ((q : Polyhedron) → found ≡ Some q → ⊥) → CarriesImage var expr den p gs old new (Ok found) → CanBeCarried p (cell expr var) → ImagePairLeaves var expr den p gs
 image_pair_leaves var expr den p gs old new (Some q) never h can = absurd (never q refl)
 image_pair_leaves var expr den p gs old new None never (inl h) can = record { row = h.row; inverse = h.inverse; leaves = by_case h.turned }
   where
@@ -53,10 +55,27 @@ carried_image_fewer var expr den p gs old new r (inl h) = by_case h.turned
 carried_image_fewer var expr den p gs old new r (inr (inl h)) = omega (arith, h.1.0)
 carried_image_fewer var expr den p gs old new r (inr (inr h)) = h.0.no_fewer
 
+pub paired_image_leaves : (var : ℕ) (expr : List ℤ) (den : ℤ) (p : Polyhedron) (gs : Generators) (old new : ℕ) (found : Option Polyhedron) → ((q : Polyhedron) → found ≡ Some q → ⊥) → PairsImage var expr den p gs old new (Ok found) → CanBeCarried p (cell expr var) → ImagePairLeaves var expr den p gs
+paired_image_leaves var expr den p gs old new found never (inl h) can = absurd (can.part_is h.0)
+paired_image_leaves var expr den p gs old new found never (inr h) can = image_pair_leaves var expr den p gs old new found never h.1 can
+
+freed_fewer : (var : ℕ) (expr : List ℤ) (den : ℤ) (p : Polyhedron) (gs : Generators) (over : Option Overflow) (old new : ℕ) (r : Result (Option Polyhedron) Memory) → AfterFreed var expr den p gs over old new r → old ≤ new
+freed_fewer var expr den p gs (Some over) old new r h = omega (arith, h.0)
+freed_fewer var expr den p gs None old new r (inl h) = omega (arith, h.0)
+freed_fewer var expr den p gs None old new r (inr h) = h.collapse.no_fewer
+
+collapsed_image_fewer : (var : ℕ) (expr : List ℤ) (den : ℤ) (p : Polyhedron) (gs : Generators) (old new : ℕ) (r : Result (Option Polyhedron) Memory) → CollapsesImage var expr den p gs old new r → old ≤ new
+collapsed_image_fewer var expr den p gs old new r (inl h) = omega (arith, h.freed.no_fewer, freed_fewer var expr den p gs h.over h.between new r h.after)
+collapsed_image_fewer var expr den p gs old new r (inr h) = omega (arith, h.1)
+
+paired_image_fewer : (var : ℕ) (expr : List ℤ) (den : ℤ) (p : Polyhedron) (gs : Generators) (old new : ℕ) (r : Result (Option Polyhedron) Memory) → PairsImage var expr den p gs old new r → old ≤ new
+paired_image_fewer var expr den p gs old new r (inl h) = collapsed_image_fewer var expr den p gs old new r h.1
+paired_image_fewer var expr den p gs old new r (inr h) = carried_image_fewer var expr den p gs old new r h.1
+
 pub image_fewer : (var : ℕ) (expr : List ℤ) (den : ℤ) (p : Polyhedron) (old new : ℕ) (r : Result Polyhedron ConvErr) → ConvertsImage var expr den p old new r → old ≤ new
 image_fewer var expr den p old new r (inl h) = omega (arith, h.same)
 image_fewer var expr den p old new r (inr h) =
-    let tried = carried_image_fewer var expr den p h.system old h.between h.pair h.tried in
+    let tried = paired_image_fewer var expr den p h.system old h.between h.pair h.tried in
     let after = after_fewer (IsConversion (gens_work p.topology h.system)) (λ low high over list. list.no_fewer) h.pair h.between new (overflow_in conv_overflow r) h.after in
     omega (arith, tried, after)
 

@@ -1,5 +1,5 @@
 -- The points that constraints become where some columns alone are kept, by the generators of the constraints.
-use Rattle.std.proofs.Common.{◌≡◌, ◌⊎◌, inl, inr, ℕ, ◌+◌, ◌-◌, ◌≤◌, List, length, ℤ, Option, Some, None, Result, Ok, Err, sym, ap, ◌∙◌, subst, arith, All}
+use Rattle.std.proofs.Common.{◌≡◌, ◌⊎◌, inl, inr, ℕ, ◌+◌, ◌≤◌, List, length, ℤ, Option, Some, None, Result, Ok, Err, sym, ap, ◌∙◌, subst, arith, All}
 use Rattle.std.specs.Prelude.{IfErr}
 use Rattle.row_core.specs.Points.{IsPoint}
 use Rattle.row_core.specs.declared.errors.Overflow.{Overflow}

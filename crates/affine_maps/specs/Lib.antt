@@ -12,3 +12,4 @@ pub mod Carrying
 pub mod FormedPairs
 pub mod MovedTables
 pub mod Moves
+pub mod Collapsing

@@ -1,4 +1,4 @@
-use Rattle.std.specs.Prelude.{◌≡◌, ◌⊎◌, ℕ, ◌+◌, ◌≤◌, List, length, ℤ, pos, unsigned_abs, Option, None, Result, Ok, IsErr, IfSome}
+use Rattle.std.specs.Prelude.{◌≡◌, ◌≢◌, ◌⊎◌, ℕ, ◌+◌, ◌≤◌, List, length, ℤ, pos, unsigned_abs, Option, None, Result, Ok, IsErr, IfSome}
 use Rattle.row_core.specs.Vectors.{cell}
 use Rattle.row_core.specs.declared.errors.Overflow.{Overflow}
 use Rattle.row_core.specs.declared.errors.ConvErr.{ConvErr}
@@ -8,6 +8,7 @@ use Rattle.gens_sys.specs.Generators.{Generators}
 use Rattle.poly_pair.specs.Polyhedra.{Polyhedron}
 use Rattle.poly_pair.specs.Work.{cons_work, gens_work, conv_overflow, overflow_in, IsConversion}
 use Rattle.affine_maps.specs.Carrying.{ConvertsForms}
+use Rattle.affine_maps.specs.Collapsing.{CollapsesImage}
 use Rattle.mapped_systems.specs.Maps.{substituted, pulled_back}
 use Rattle.mapped_systems.specs.MappedLists.{IsMappedSystem, IsPulledSystem}
 use Rattle.mapped_systems.specs.CarriedSystems.{IsInverseRow}
@@ -63,6 +64,13 @@ CarriesImage var expr den p gs old new result =
     ⊎ ((¬ (CanBeCarried p (cell expr var))) × IsUntried old new result)
     ⊎ (IsPullback p old new × IsErr result)
 
+-- by the way that the map allows
+abbrev pub PairsImage : ℕ → List ℤ → ℤ → Polyhedron → Generators → ℕ → ℕ
+    → Result (Option Polyhedron) Memory → Type 0
+PairsImage var expr den p gs old new result =
+    ((cell expr var ≡ pos 0) × CollapsesImage var expr den p gs old new result)
+    ⊎ ((cell expr var ≢ pos 0) × CarriesImage var expr den p gs old new result)
+
 -- ---- the image
 -- its pair is tried, and after that the list of the mapped generators
 pub record IsImageConversion (var : ℕ) (expr : List ℤ) (den : ℤ) (p : Polyhedron) (old new : ℕ)
@@ -71,7 +79,7 @@ pub record IsImageConversion (var : ℕ) (expr : List ℤ) (den : ℤ) (p : Poly
   pub mapped : IsMappedSystem (substituted var expr den) p.cons.dim p.gens system
   pub pair : Result (Option Polyhedron) Memory
   pub between : ℕ
-  pub tried : CarriesImage var expr den p system old between pair
+  pub tried : PairsImage var expr den p system old between pair
   pub after : AfterPair (IsConversion (gens_work p.topology system)) pair between new over
 
 -- nothing was tried: memory ran out before, or some generator's map leaves the range

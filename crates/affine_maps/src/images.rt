@@ -9,7 +9,8 @@ ghost use Rattle.mapped_systems.specs.Refusals.{SomeLeavesInImage, SomeLeavesInP
 ghost use Rattle.affine_maps.specs.SubstitutedSets.{LeavesOnSubstituted, LeavesOnPulledBack};
 ghost use Rattle.affine_maps.specs.PairConversions.{ConvertsImage, ConvertsPreimage};
 
-use crate::inverse_maps::{carried_image, carried_preimage};
+use crate::collapsing::paired_image;
+use crate::inverse_maps::carried_preimage;
 use crate::related::{related_image, related_preimage};
 use crate::relations::ImageRel;
 use mapped_systems::{image_generators, preimage_constraints};
@@ -49,7 +50,7 @@ fn substituted_image<L: Ledger>(
         Ok(mapped) => mapped,
         Err(cause) => return Err(cause),
     };
-    if let Some(image) = carried_image(p, var, expr, den, &mapped, steps)? {
+    if let Some(image) = paired_image(p, var, expr, den, &mapped, steps)? {
         return Ok(image);
     }
     Poly::from_gens_with_point(alloc, p.topology(), &mapped, steps)
@@ -60,9 +61,11 @@ fn substituted_image<L: Ledger>(
 ///
 /// Where the relation is equality the generators are mapped, and their list is converted; where the
 /// map can be undone, those of a closed set are paired with its constraints, mapped too, and both
-/// are brought to canonical form without a conversion. Else the list of the constraints with one
-/// more variable is converted, and then that of their generators where this variable has taken the
-/// place of the one.
+/// are brought to canonical form without a conversion; where the variable gives its value up, the
+/// system of the constraints of a closed set takes in the variable's axis alone, and with the
+/// equality of its new value the mapped generators are thinned by it. Else the list of the
+/// constraints with one more variable is converted, and then that of their generators where this
+/// variable has taken the place of the one.
 ///
 /// # Errors
 ///

@@ -11,6 +11,7 @@
 #![tactic(auto)]
 
 mod carrying;
+mod collapsing;
 mod images;
 mod inverse_maps;
 pub mod laws;

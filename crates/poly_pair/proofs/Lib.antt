@@ -11,7 +11,7 @@ mod UniverseForms
 mod PairLemmas
 mod NeededDivisor
 mod Starts
-mod Additions
+pub mod Additions
 pub mod AddedPoints
 mod SameSets
 pub mod PointKinds

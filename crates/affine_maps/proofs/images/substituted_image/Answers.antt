@@ -21,7 +21,7 @@ use Rattle.mapped_systems.specs.Refusals.{SomeLeavesInImage}
 use Rattle.affine_maps.specs.SubstitutedSets.{LeavesOnSubstituted}
 use Rattle.poly_pair.specs.Work.{gens_work, conv_overflow, overflow_in, IsConversion}
 use Rattle.mapped_systems.proofs.AfterPairs.{after_found, after_none}
-use Rattle.affine_maps.proofs.PairConversions.{image_pair_leaves, mapped_in_vain}
+use Rattle.affine_maps.proofs.PairConversions.{paired_image_leaves, mapped_in_vain}
 use Rattle.affine_maps.proofs.MappedPolyhedra.{lent_generators, mapped_kinds, mapped_point, image_points, mapped_overflow, either_overflow}
 use Rattle.affine_maps.proofs.images.substituted_image.Goals as goal
 
@@ -54,7 +54,7 @@ returns-clause-overflow g c =
     let p = c.args.p.now in
     let new = c.in-Ok.mapped in
     let m : IsMappedSystem (substituted c.args.var c.args.expr.now c.args.den) p.cons.dim p.gens c.in-Ok.mapped = lent_generators (λ n. substituted c.args.var c.args.expr.now c.args.den) (λ n. n) p c.gens.result.now c.in-Ok.mapped c.gens.ensures.value c.gens.ensures.kept (simp to_z-of_z at c.in-Ok.ensures.system) in
-    let none = image_pair_leaves c.args.var c.args.expr.now (to_z w128 (of_z w128 c.args.den)) p c.in-Ok.mapped c.args.steps.now c.carried_image.new.steps c.in_ok-image.field-0 c.in_default.not-Some c.in_ok-image.ensures.conversion in
+    let none = paired_image_leaves c.args.var c.args.expr.now (to_z w128 (of_z w128 c.args.den)) p c.in-Ok.mapped c.args.steps.now c.paired_image.new.steps c.in_ok-image.field-0 c.in_default.not-Some c.in_ok-image.ensures.conversion in
     let pair = simp to_z-of_z at none in
     IfErr-weaker c.from_gens_with_point.result (IsOverflowOn (list_width c.topology.result new.dim) new.dim (generators_of c.topology.result new)) (IsOverflowIn (λ over. SomeLeavesInImage c.args.var c.args.expr.now c.args.den p.gens.list over ⊎ LeavesOnSubstituted c.args.var c.args.expr.now c.args.den p over))
     (λ e l. either_overflow (SomeLeavesInImage c.args.var c.args.expr.now c.args.den p.gens.list) (LeavesOnSubstituted c.args.var c.args.expr.now c.args.den p) e (mapped_overflow c.args.var c.args.expr.now c.args.den p new c.topology.result c.topology.ensures.value m pair e l))
@@ -99,8 +99,8 @@ image_generators-requires g c =
       positive = subst (λ (z : ℤ). pos 0 <ℤ z) back c.requires.positive;
     }
 
-pub carried_image-requires : goal.carried_image-requires
-carried_image-requires g c =
+pub paired_image-requires : goal.paired_image-requires
+paired_image-requires g c =
     let back = sym (to_z-of_z w128 c.args.den c.ranges.den) in
     record {
       var = c.requires.var;
@@ -118,7 +118,7 @@ returns-in_err-image g c =
     let p = c.args.p.now in
     let m : IsMappedSystem (substituted c.args.var c.args.expr.now c.args.den) p.cons.dim p.gens c.in-Ok.mapped = lent_generators (λ n. substituted c.args.var c.args.expr.now c.args.den) (λ n. n) p c.gens.result.now c.in-Ok.mapped c.gens.ensures.value c.gens.ensures.kept (simp to_z-of_z at c.in-Ok.ensures.system) in
     let carried = simp to_z-of_z at c.in_err-image.ensures.conversion in
-    rw (e.1, e.2) (record { points = tt; stored = tt; overflow = tt; conversion = inr (record { system = c.in-Ok.mapped; mapped = m; pair = Err c.in_err-image.field-0.0; between = c.carried_image.new.steps; tried = carried; after = (refl, refl) }) })
+    rw (e.1, e.2) (record { points = tt; stored = tt; overflow = tt; conversion = inr (record { system = c.in-Ok.mapped; mapped = m; pair = Err c.in_err-image.field-0.0; between = c.paired_image.new.steps; tried = carried; after = (refl, refl) }) })
 
 pub returns-in-Err-clause-conversion : goal.returns-in-Err-clause-conversion
 returns-in-Err-clause-conversion g c =
@@ -136,9 +136,9 @@ returns-in-Some-clause-conversion g c =
       system = c.in-Ok.mapped;
       mapped = m;
       pair = Ok c.in_ok-image.field-0;
-      between = c.carried_image.new.steps;
+      between = c.paired_image.new.steps;
       tried = carried;
-      after = after_found (IsConversion (gens_work p.topology c.in-Ok.mapped)) c.in_ok-image.field-0 c.in-Some.image c.in-Some.is c.carried_image.new.steps;
+      after = after_found (IsConversion (gens_work p.topology c.in-Ok.mapped)) c.in_ok-image.field-0 c.in-Some.image c.in-Some.is c.paired_image.new.steps;
     })
 
 pub returns-clause-conversion : goal.returns-clause-conversion
@@ -148,12 +148,12 @@ returns-clause-conversion g c =
     let m : IsMappedSystem (substituted c.args.var c.args.expr.now c.args.den) p.cons.dim p.gens c.in-Ok.mapped = lent_generators (λ n. substituted c.args.var c.args.expr.now c.args.den) (λ n. n) p c.gens.result.now c.in-Ok.mapped c.gens.ensures.value c.gens.ensures.kept (simp to_z-of_z at c.in-Ok.ensures.system) in
     let carried = simp to_z-of_z at c.in_ok-image.ensures.conversion in
     let over = overflow_in conv_overflow c.from_gens_with_point.result in
-    let list = subst (λ (t : Topology). IsConversion (gens_work t c.in-Ok.mapped) c.carried_image.new.steps c.from_gens_with_point.new.steps over) c.topology.ensures.value c.from_gens_with_point.ensures.conversion in
+    let list = subst (λ (t : Topology). IsConversion (gens_work t c.in-Ok.mapped) c.paired_image.new.steps c.from_gens_with_point.new.steps over) c.topology.ensures.value c.from_gens_with_point.ensures.conversion in
     inr (record {
       system = c.in-Ok.mapped;
       mapped = m;
       pair = Ok c.in_ok-image.field-0;
-      between = c.carried_image.new.steps;
+      between = c.paired_image.new.steps;
       tried = carried;
-      after = after_none (IsConversion (gens_work p.topology c.in-Ok.mapped)) c.in_ok-image.field-0 c.in_default.not-Some c.carried_image.new.steps c.from_gens_with_point.new.steps over list;
+      after = after_none (IsConversion (gens_work p.topology c.in-Ok.mapped)) c.in_ok-image.field-0 c.in_default.not-Some c.paired_image.new.steps c.from_gens_with_point.new.steps over list;
     })
