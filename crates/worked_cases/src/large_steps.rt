@@ -195,3 +195,104 @@ fn check_cuts<L: Ledger>(rt: &impl Abort, alloc: Global, blank: Blank) -> Result
 fn cuts_of_six_points(rt: HostRuntime) -> Result<(), Fail> {
     check_cuts::<Brand>(&rt, rt.alloc(), Blank::new(1))
 }
+
+// How many edges of a polygon are below: a row is above 0 on the rays of these alone.
+const LOWER_EDGES: u64 = 32;
+
+// Where an edge below begins: at a point of a parabola.
+fn lower_point(edge: u64) -> (u64, u64) {
+    let column = edge.wrapping_mul(8);
+    (column, column.wrapping_mul(column))
+}
+
+// Where an edge above begins: at a point of another one, from the last point below to the first.
+fn upper_point(edge: u64) -> (u64, u64) {
+    let height = 65536u64.wrapping_sub(edge.wrapping_mul(edge));
+    (256u64.wrapping_sub(edge), height)
+}
+
+// So many times a point, and another one: a point between them, or the other one itself.
+fn push_between(
+    rows: &mut RowList,
+    times: u64,
+    point: (u64, u64),
+    other: (u64, u64),
+) -> Result<(), Memory>
+    requires { rows.old.width ≡ 3 }
+    ensures { rows.new.width ≡ 3 }
+{
+    let row = [
+        cell(times, 1, 1),
+        cell(times, point.0, other.0),
+        cell(times, point.1, other.1),
+    ];
+    Ok(rows.push(&row, false)?)
+}
+
+// Where the edges below begin, and so many further points on them, one edge after another.
+fn push_lower(rows: &mut RowList, further: u64) -> Result<(), Memory>
+    requires { rows.old.width ≡ 3 }
+    ensures { rows.new.width ≡ 3 }
+{
+    for index in 0..LOWER_EDGES.wrapping_add(further) {
+        let edge = index % LOWER_EDGES;
+        let next = lower_point(edge.wrapping_add(1));
+        push_between(rows, index / LOWER_EDGES, next, lower_point(edge))?;
+    }
+    Ok(())
+}
+
+// Where so many edges above begin, and a further point on each of the first few.
+fn push_upper(rows: &mut RowList, edges: u64, further: u64) -> Result<(), Memory>
+    requires edges { 0 < edges }
+    requires width { rows.old.width ≡ 3 }
+    ensures { rows.new.width ≡ 3 }
+{
+    for index in 0..edges.wrapping_add(further) {
+        let edge = index % edges;
+        let next = upper_point(edge.wrapping_add(1));
+        push_between(rows, index / edges, next, upper_point(edge))?;
+    }
+    Ok(())
+}
+
+// A polygon of so many edges above, with so many further points on those below and above.
+fn check_polygon<L: Ledger>(
+    rt: &impl Abort,
+    alloc: Global,
+    edges: u64,
+    below: u64,
+    above: u64,
+    steps: &mut Steps<L>,
+) -> Result<(), Fail>
+    requires { 0 < edges }
+{
+    let mut last = RowList::new(alloc, 3);
+    last.push(&[0, 0, 1], false)?;
+    let mut rows = RowList::new(alloc, 3);
+    push_lower(&mut rows, below)?;
+    push_upper(&mut rows, edges, above)?;
+    let rays = check_last_step(rt, alloc, &rows, &last, steps)?;
+    assert_eq!(rt; rays as u64, edges.wrapping_add(LOWER_EDGES));
+    Ok(())
+}
+
+// Rays of eight times as many edges above as below are first narrowed to those near to all rays of
+// the edges below, where these are 0 on at most half of the rows, and not with one edge less, nor
+// where they are 0 on one row more: of simple rays, and of rays that are crowded on both sides.
+fn check_polygons<L: Ledger>(rt: &impl Abort, alloc: Global, blank: Blank) -> Result<(), Fail>
+    requires name { blank.name ≡ L.name }
+    requires parts { blank.parts ≡ L.parts }
+    requires shared { 0 < blank.parts }
+{
+    let mut steps = Steps::<L>::new(blank);
+    check_polygon(rt, alloc, 256, 0, 0, &mut steps)?;
+    check_polygon(rt, alloc, 255, 0, 0, &mut steps)?;
+    check_polygon(rt, alloc, 256, 224, 2, &mut steps)?;
+    check_polygon(rt, alloc, 256, 225, 2, &mut steps)
+}
+
+#[test]
+fn few_edges_below_many(rt: HostRuntime) -> Result<(), Fail> {
+    check_polygons::<Brand>(&rt, rt.alloc(), Blank::new(1))
+}

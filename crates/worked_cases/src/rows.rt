@@ -15,6 +15,13 @@ const K: i128 = i128::MAX;
 /// The products of two numbers below it, one for each of 2^32 columns, have a sum of the range.
 const N: i128 = 1 << 47;
 
+/// The greatest numbers of so many bits.
+const BITS_31: i128 = 0x7fff_ffff;
+
+const BITS_62: i128 = 0x3fff_ffff_ffff_ffff;
+
+const BITS_63: i128 = 0x7fff_ffff_ffff_ffff;
+
 #[test]
 fn dots(rt: HostRuntime) -> Result<(), Fail> {
     assert_eq!(rt; dot(&[1, -2, 3], &[4, 5, 6]), Ok(12));
@@ -53,6 +60,39 @@ fn short_and_wide_dots(rt: HostRuntime) -> Result<(), Fail> {
         "the last entry is wide"
     );
     assert_eq!(rt; dot(&[1, 2, 1 - K], &[3, 4, 1]), Ok(12 - K));
+    Ok(())
+}
+
+#[test]
+fn dots_at_the_bounds(rt: HostRuntime) -> Result<(), Fail> {
+    assert_eq!(rt;
+        dot(&[BITS_31], &[-BITS_31]),
+        Ok(-BITS_31 * BITS_31),
+        "63 bits"
+    );
+    assert_eq!(rt;
+        dot(&[BITS_31, BITS_31, BITS_31], &[BITS_31, BITS_31, BITS_31]),
+        Ok(3 * BITS_31 * BITS_31),
+        "64 bits, and no word"
+    );
+    assert_eq!(rt;
+        dot(
+            &[BITS_63, BITS_63, BITS_63],
+            &[-BITS_62, -BITS_62, -BITS_62]
+        ),
+        Ok(-3 * BITS_63 * BITS_62),
+        "127 bits"
+    );
+    assert_eq!(rt;
+        dot(&[BITS_63, BITS_63, BITS_63], &[BITS_63, BITS_63, BITS_63]),
+        Err(2),
+        "128 bits, and the third sum is above the range"
+    );
+    assert_eq!(rt;
+        dot(&[BITS_63, BITS_63, BITS_63], &[BITS_63, BITS_63, -BITS_63]),
+        Ok(BITS_63 * BITS_63),
+        "128 bits, and no sum is above the range"
+    );
     Ok(())
 }
 

@@ -7,7 +7,7 @@ pub combine_within-requires-clause-within : goal.combine_within-requires-clause-
 combine_within-requires-clause-within g c =
     let most : c.max-within.result ≡ max c.bits.result c.bits-2.result =
     grind (arith, nat_tests, c.max-within.ensures) in (
-      HaveBits-more c.bits.result c.max-within.result _ (omega (arith, most)) c.bits.ensures,
+      HaveBits-more c.bits.result c.max-within.result _ (omega (arith, most)) c.bits.ensures.within,
       HaveBits-more c.bits-2.result c.max-within.result c.args.v.now (omega (arith, most))
-          c.bits-2.ensures,
+          c.bits-2.ensures.within,
     )

@@ -7,7 +7,7 @@ pub combine_with-requires-clause-bits : goal.combine_with-requires-clause-bits
 combine_with-requires-clause-bits g c = (
   subst (HaveBits c.max-within.result) c.row.ensures.value
       (HaveBits-more c.bits.result c.max-within.result c.row.result.now
-      (omega (arith, c.max-within.ensures)) c.bits.ensures),
+      (omega (arith, c.max-within.ensures)) c.bits.ensures.within),
   HaveBits-more c.bits-2.result c.max-within.result c.args.v.now
-      (omega (arith, c.max-within.ensures)) c.bits-2.ensures,
+      (omega (arith, c.max-within.ensures)) c.bits-2.ensures.within,
 )
