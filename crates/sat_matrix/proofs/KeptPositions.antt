@@ -1,8 +1,9 @@
 -- The numbers of a list that are appended to it.
-use Rattle.std.specs.Prelude.{◌≡◌, ℕ, ◌+◌, ◌<◌, ◌≤◌, List, [], ◌∷◌, ◌++◌, length, take}
-use Rattle.std.proofs.Common.{refl, sym, ap, ◌∙◌, subst, arith, inl, inr, get_or}
-use Rattle.std.proofs.lemmas.List.{get_or_append_left, get_or_push, length_push, take-append-le, take_all, get_or-take, get_or_default, length-take}
-use Rattle.std.proofs.lemmas.Bool.{cases_lt}
+use mir.Val.{bool_byte}
+use Rattle.std.specs.Prelude.{Bool, true, false, ◌≡◌, ℕ, ◌+◌, ◌<◌, ◌≤◌, List, [], ◌∷◌, ◌++◌, ◌⊎◌, length, take, slice_set}
+use Rattle.std.proofs.Common.{leb, refl, sym, ap, ◌∙◌, subst, arith, inl, inr, get_or}
+use Rattle.std.proofs.lemmas.List.{get_or_append_left, get_or_push, length_push, take-append-le, take_all, get_or-take, get_or_default, length-take, take-set, take_more_set}
+use Rattle.std.proofs.lemmas.Bool.{cases_lt, leb-false}
 use Rattle.sat_matrix.specs.Pairs.{index_at}
 use Rattle.sat_matrix.specs.Near.{AreRisingFrom, IsFrom, HasKept}
 
@@ -94,3 +95,27 @@ kept_all holds start bound upto old new end h = record {
       let g = h.all f.0 f.1 (omega (arith, f.2)) (subst holds (sym f.3) is) in
       (g.0, g.1, g.2, g.3 ∙ f.3);
 }
+
+-- the number at the next index is written behind those that are kept, and counts where it is kept
+pub kept_written : (holds : ℕ → Type 0) (start bound upto : ℕ) (old xs : List ℕ) (next number more : ℕ) → start ≤ upto → upto < length old → next < length xs → AreRisingFrom start bound old → number ≡ index_at old upto → IsKeptUpto holds start bound upto old (take next xs) →
+    (more ≡ 1) ⊎ ((more ≡ 0) × ¬ (holds (index_at old upto))) →
+    IsKeptUpto holds start bound (upto + 1) old (take (next + more) (slice_set xs next number))
+kept_written holds start bound upto old xs next number more from inside room rising is h (inl one) =
+    let K : List ℕ → Type 0 = IsKeptUpto holds start bound (upto + 1) old in
+    let all : take (next + more) (slice_set xs next number) ≡ take next xs ++ index_at old upto ∷ [] =
+    ap (λ (n : ℕ). take (next + n) (slice_set xs next number)) one ∙ take_more_set xs next number room ∙ ap (λ (n : ℕ). take next xs ++ n ∷ []) is in
+    subst K (sym all) (kept_push holds start bound upto old (take next xs) from inside h rising)
+kept_written holds start bound upto old xs next number more from inside room rising is h (inr none) =
+    let K : List ℕ → Type 0 = IsKeptUpto holds start bound (upto + 1) old in
+    let e : next + more ≡ next = omega (arith, none.0) in
+    let same : take (next + more) (slice_set xs next number) ≡ take next xs =
+    ap (λ (n : ℕ). take n (slice_set xs next number)) e ∙ take-set xs next number in
+    subst K (sym same) (kept_pass holds start bound upto old (take next xs) from inside h none.1)
+
+-- whether one number is at most another, as a number
+pub one_or_less : (least count n : ℕ) → n ≡ bool_byte (leb least count) → (n ≡ 1) ⊎ ((n ≡ 0) × (count < least))
+one_or_less least count n e = by (leb least count) refl e
+  where
+    by : (b : Bool) → leb least count ≡ b → n ≡ bool_byte b → (n ≡ 1) ⊎ ((n ≡ 0) × (count < least))
+    by true is told = inl told
+    by false is told = inr (told, leb-false least count is)

@@ -76,7 +76,9 @@ pub(crate) fn push_sharing(
     }
 }
 
-/// The same as `push_sharing`, compiled for the width where the caller knows it.
+/// The same as `push_sharing`, compiled for the width where the caller knows it. Each position is
+/// written, and the next one over it where it isn't kept, since a branch would often be predicted
+/// wrongly.
 #[inline(always)]
 fn push_sharing_as_wide(
     rows: &FlatRows<u64>,
@@ -94,13 +96,14 @@ fn push_sharing_as_wide(
         OnOk result (HasKept shares start (length f.among.now) list.old.items list.new.items) }
 {
     let end = list.len();
-    list.reserve_exact(end - start)?;
+    list.resize(end + (end - start), 0)?;
+    let mut next = end;
     for index in start..end {
         let position = list[index];
         let row = rows.row_as_wide(width, filter.among[position]);
-        if count_and(row, filter.union) >= filter.least {
-            list.push(position)?;
-        }
+        list[next] = position;
+        next += usize::from(count_and(row, filter.union) >= filter.least);
     }
+    list.truncate(next);
     Ok(())
 }
