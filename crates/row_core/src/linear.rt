@@ -1,6 +1,6 @@
 //! Dot products and combinations of rows, exact or refused at the first column that leaves the
 //! range.
-ghost use Rattle.std.specs.Prelude.{◌≡◌, ℕ, ◌+◌, ◌^◌, ◌<◌, ◌≤◌, length, List, ℤ, ◌+ℤ◌, ◌*ℤ◌, SomeIff, MatchResult, IfOk, OnOk};
+ghost use Rattle.std.specs.Prelude.{◌≡◌, ◌≢◌, ℕ, ◌+◌, ◌^◌, ◌<◌, ◌≤◌, length, List, ℤ, ◌+ℤ◌, ◌*ℤ◌, SomeIff, MatchResult, IfOk, OnOk};
 ghost use Rattle.row_core.specs.Vectors.{dot, scale, add};
 ghost use Rattle.row_core.specs.Range.{InRange, AllInRange, ColumnStays, DotStays, CombineStays, IsFirstToLeave, AllStay};
 ghost use Rattle.row_core.specs.Sizes.{HaveBits, Suffices};
@@ -27,8 +27,11 @@ impl Summing {
     /// How to sum the products of rows of a width, whose numbers have at most so many bits.
     #[inline]
     pub fn of(left: u32, right: u32, width: usize) -> Summing
-        ensures { (u v : List ℤ) → length u ≡ width → length v ≡ width →
+        ensures suffices { (u v : List ℤ) → length u ≡ width → length v ≡ width →
             HaveBits left u → HaveBits right v → Suffices result u v }
+        ensures words { (c : ℕ) → width < 2 ^ c → left + right + c ≤ 63 → result ≡ Summing.Words }
+        ensures exact { (c : ℕ) → width < 2 ^ c → left + right + c ≤ 127 →
+            result ≢ Summing.Checked }
     {
         let bits = u64::from(left) + u64::from(right) + u64::from(bits_of(width as u128));
         if bits <= 63 {

@@ -4,7 +4,7 @@ use Rattle.row_core.proofs.linear.short_dot.Goals as goal
 
 pub word_dot-requires-clause-words : goal.word_dot-requires-clause-words
 word_dot-requires-clause-words c =
-    c.in-Words.ensures c.args.u.now c.args.v.now refl (sym c.requires.same_width) c.requires.left
+    c.in-Words.ensures.suffices c.args.u.now c.args.v.now refl (sym c.requires.same_width) c.requires.left
     c.requires.right
 
 pub exact_dot-requires-clause-stays : goal.exact_dot-requires-clause-stays

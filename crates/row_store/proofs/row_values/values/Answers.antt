@@ -46,4 +46,4 @@ pub dot-requires-clause-suffices : goal.dot-requires-clause-suffices
 dot-requires-clause-suffices c =
     let right : HaveBits c.bits.result c.row.result.now = subst (HaveBits c.bits.result) (sym c.row.ensures.value) (c.bits.ensures c.loop-index.index (omega arith)) in
     let wide : length c.row.result.now ≡ length c.args.row.now = ap (λ (v : List ℤ). length v) c.row.ensures.value ∙ c.row.ensures.wide ∙ sym c.requires.wide in
-    c.of-summing.ensures c.args.row.now c.row.result.now refl wide c.requires.row right
+    c.of-summing.ensures.suffices c.args.row.now c.row.result.now refl wide c.requires.row right
