@@ -141,8 +141,8 @@ module _ (a b : ℕ) (u v : List ℤ) (e : length u ≡ length v) (left : HaveBi
         )
 
   -- where no number leaves the range
-  pub AllStay-dot_within : length u * (2 ^ a * 2 ^ b) < 2 ^ 127 → AllStay (DotStays u v) (length u)
-  AllStay-dot_within few j h = record {
+  pub AllStay-dot_of_bits : length u * (2 ^ a * 2 ^ b) < 2 ^ 127 → AllStay (DotStays u v) (length u)
+  AllStay-dot_of_bits few j h = record {
     product = record { size = product_below (2 ^ 127) few j h };
     sum = record { size = sum_below (2 ^ 127) few j h };
   }
@@ -160,7 +160,7 @@ module _ (a b : ℕ) (u v : List ℤ) (e : length u ≡ length v) (left : HaveBi
   -- as of fewer than 2^32 columns of numbers of few bits
   pub AllStay-short_dot : length u < 2 ^ 32 → a + b ≤ 95 → AllStay (DotStays u v) (length u)
   AllStay-short_dot few short =
-      AllStay-dot_within (few_columns (length u) a b 32 127 few (omega (arith, short)))
+      AllStay-dot_of_bits (few_columns (length u) a b 32 127 few (omega (arith, short)))
 
 -- a dot of words stays
 pub AllStay-words : (u v : List ℤ) → AllStay (DotIsOfWords u v) (length u) →

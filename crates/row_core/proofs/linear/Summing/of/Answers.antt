@@ -1,6 +1,6 @@
 use Rattle.std.specs.Prelude.{length}
 use Rattle.std.proofs.Common.{arith}
-use Rattle.row_core.proofs.SizeLemmas.{few_columns, least_bits, AllStay-dot_of_words, AllStay-dot_within}
+use Rattle.row_core.proofs.SizeLemmas.{few_columns, least_bits, AllStay-dot_of_words, AllStay-dot_of_bits}
 use Rattle.row_core.proofs.linear.Summing.of.Goals as goal
 
 pub returns-then-bits-le63-clause-suffices : goal.returns-then-bits-le63-clause-suffices
@@ -11,7 +11,7 @@ returns-then-bits-le63-clause-suffices c u v wide other left right =
 
 pub returns-then-bits-le127-clause-suffices : goal.returns-then-bits-le127-clause-suffices
 returns-then-bits-le127-clause-suffices c u v wide other left right =
-    AllStay-dot_within c.args.left c.args.right u v (omega (arith, wide, other)) left right
+    AllStay-dot_of_bits c.args.left c.args.right u v (omega (arith, wide, other)) left right
     (few_columns (length u) c.args.left c.args.right c.bits_of.result 127
     (omega (arith, wide, c.bits_of.ensures.below)) (omega arith))
 
