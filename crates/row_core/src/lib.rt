@@ -10,7 +10,7 @@
 //! - [`product`], [`sum`] and [`combination`] give one exact number, if the range isn't left.
 //! - [`bits`] tells how large the numbers of a row are; [`Summing`], [`combine_within`] and
 //!   [`make_primitive_within`] are told it, and test nothing where all that they compute fits.
-//! - [`short_dot`] is for numbers of so few bits that it can't refuse.
+//! - [`word_dot`] and [`short_dot`] are for numbers of so few bits that they can't refuse.
 //! - [`gcd`] and [`make_primitive`] divide a row by the greatest common divisor of its entries, and
 //!   [`is_primitive`] tells whether there is none above 1; [`quotient`] divides one number, and
 //!   [`negate`] changes all signs.
@@ -34,4 +34,4 @@ pub use linear::{
 pub use marked::{Iter, MarkedRows};
 pub use primitive::{gcd, is_primitive, make_primitive, make_primitive_within, quotient};
 pub use signs::negate;
-pub use sizes::bits;
+pub use sizes::{bits, word_dot};

@@ -27,9 +27,9 @@ pub(crate) fn bits_of(n: u128) -> u32
     128 - n.leading_zeros()
 }
 
-/// The dot product of rows of one width, in one word.
+/// The dot product of rows of one width, in one word, which holds all that is computed.
 #[inline]
-pub(crate) fn word_dot(u: &[i128], v: &[i128]) -> i128
+pub fn word_dot(u: &[i128], v: &[i128]) -> i128
     requires same_width { length u.now ≡ length v.now }
     requires words { AllStay (DotIsOfWords u.now v.now) (length u.now) }
     ensures value { result ≡ dot u.now v.now }

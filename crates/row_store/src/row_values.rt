@@ -1,19 +1,17 @@
 //! The values of vectors on a row.
-ghost use Rattle.std.specs.Prelude.{◌≡◌, ◌≢◌, ℕ, ◌^◌, ◌<◌, ◌≤◌, Bool, true, [], ◌++◌, length, map};
-ghost use Rattle.std.specs.Prelude.{replicate, count_by, pos, All, MatchBool, MatchResult};
-ghost use Rattle.std.specs.Prelude.{MatchOption, IfOk, OnOk, slice_index_or};
+ghost use Rattle.std.specs.Prelude.{◌≡◌, ◌≢◌, ℕ, ◌^◌, ◌<◌, ◌≤◌, Bool, true, [], ◌++◌, length, map, replicate, count_by, pos, All, MatchBool, MatchResult, MatchOption, IfOk, OnOk, slice_index_or};
 ghost use Rattle.row_core.specs.Vectors.{dot};
 ghost use Rattle.row_core.specs.Range.{InRange};
 ghost use Rattle.row_core.specs.Sizes.{HaveBits};
 ghost use Rattle.row_core.specs.Signs.{stays};
 ghost use Rattle.row_core.specs.Lists.{vectors};
-ghost use Rattle.row_store.specs.Values.{values_on, AllStay, SomeGoes};
+ghost use Rattle.row_store.specs.Values.{values_on, AllSuffice, AllStay, SomeGoes};
 ghost use Rattle.row_store.specs.Faults.{IsValuesFault};
 
 use crate::fault::{Part, Place, ValueFault};
 use crate::vectors::VectorList;
 use flat_rows::emptied;
-use row_core::Summing;
+use row_core::{Summing, word_dot};
 use std::alloc::{AllocError, Global};
 
 /// The value of each vector on the row, which has at most so many bits, in the list of that place.
@@ -33,7 +31,46 @@ pub fn values(
     ensures in_range { IfOk result (λ v. All InRange v.items) }
 {
     let summing = Summing::of(bits, list.bits(), row.len());
-    let mut values = emptied(alloc, place, list.len())?;
+    let values = emptied(alloc, place, list.len())?;
+    if let Summing::Words = summing {
+        return Ok(word_values(values, list, row)?);
+    }
+    summed_values(values, part, list, row, summing)
+}
+
+/// The value of each vector on the row, each in one word, in a list that is empty yet.
+fn word_values(values: Vec<i128>, list: &VectorList, row: &[i128]) -> Result<Vec<i128>, AllocError>
+    requires empty { values.items ≡ [] }
+    requires wide { length row.now ≡ list.now.width }
+    requires words { AllSuffice Summing.Words row.now list.now.rows }
+    ensures values { IfOk result (λ v. v.items ≡ values_on row.now (vectors list.now.rows)) }
+    ensures in_range { IfOk result (λ v. All InRange v.items) }
+{
+    let mut values = values;
+    values.reserve(list.len())?;
+    for index in 0..list.len() {
+        values.push_reserved(word_dot(row, list.row(index)));
+    }
+    Ok(values)
+}
+
+/// The value of each vector on the row, summed as it suffices, in a list that is empty yet.
+fn summed_values(
+    values: Vec<i128>,
+    part: Part,
+    list: &VectorList,
+    row: &[i128],
+    summing: Summing,
+) -> Result<Vec<i128>, ValueFault>
+    requires empty { values.items ≡ [] }
+    requires wide { length row.now ≡ list.now.width }
+    requires narrow { length row.now < 2 ^ 32 }
+    requires suffices { AllSuffice summing row.now list.now.rows }
+    ensures values { let vs = vectors list.now.rows in
+        MatchResult result (λ v. v.items ≡ values_on row.now vs) (IsValuesFault row.now part vs) }
+    ensures in_range { IfOk result (λ v. All InRange v.items) }
+{
+    let mut values = values;
     for index in 0..list.len() {
         match summing.dot(row, list.row(index)) {
             Ok(value) => values.push(value)?,

@@ -3,7 +3,7 @@ use Rattle.std.specs.Prelude.{All}
 use Rattle.row_core.specs.Range.{InRange}
 use Rattle.row_core.specs.Lists.{vectors}
 use Rattle.row_store.specs.Values.{values_on}
-use Rattle.row_store.proofs.row_values.values.Given as goal
+use Rattle.row_store.proofs.row_values.summed_values.Given as goal
 
 abbrev pub invariant-loop-index : goal.invariant-loop-index
 invariant-loop-index l = record {
