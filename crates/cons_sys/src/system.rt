@@ -1,8 +1,8 @@
 //! A list of constraints over one dimension.
-ghost use Rattle.std.specs.Prelude.{◌≡◌, ◌+◌, ◌-◌, ◌^◌, ◌<◌, ◌==◌, ◌↔◌, List, [], ◌∷◌, ◌++◌};
+ghost use Rattle.std.specs.Prelude.{◌≡◌, ℕ, ◌+◌, ◌-◌, ◌^◌, ◌<◌, ◌≤◌, ◌==◌, ◌↔◌, List, [], ◌∷◌, ◌++◌};
 ghost use Rattle.std.specs.Prelude.{length, map, ℤ, All, MatchResult, IfOk, IsTrue, Err, Contains};
 ghost use Rattle.row_core.specs.Range.{AllInRange};
-ghost use Rattle.row_core.specs.Sizes.{AllHaveBits};
+ghost use Rattle.row_core.specs.Sizes.{AllHaveBits, AllAreBelow};
 ghost use Rattle.row_core.specs.Content.{IsPrimitive};
 ghost use Rattle.row_core.specs.Lists.{vectors};
 ghost use Rattle.row_core.specs.Points.{IsPoint};
@@ -219,9 +219,10 @@ impl ConsSys {
         false
     }
 
-    /// How many bits the numbers of all rows have at most.
+    /// How many bits the numbers of all rows have at most. No smaller number would do.
     pub fn bits(&self) -> u32
-        ensures { AllHaveBits result self.now.list }
+        ensures within { AllHaveBits result self.now.list }
+        ensures least { (n : ℕ) → AllAreBelow (2 ^ n) self.now.list → result ≤ n }
     {
         self.rows.bits()
     }

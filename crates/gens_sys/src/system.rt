@@ -1,9 +1,9 @@
 //! A list of generators over one dimension.
-ghost use Rattle.std.specs.Prelude.{◌≡◌, ℕ, ◌+◌, ◌-◌, ◌^◌, ◌<◌, ◌==◌, ◌↔◌, List, [], ◌∷◌, ◌++◌};
+ghost use Rattle.std.specs.Prelude.{◌≡◌, ℕ, ◌+◌, ◌-◌, ◌^◌, ◌<◌, ◌≤◌, ◌==◌, ◌↔◌, List, [], ◌∷◌, ◌++◌};
 ghost use Rattle.std.specs.Prelude.{length, map, ℤ, All, MatchResult, IfOk, Err};
 ghost use Rattle.row_core.specs.Vectors.{cell};
 ghost use Rattle.row_core.specs.Range.{AllInRange};
-ghost use Rattle.row_core.specs.Sizes.{AllHaveBits};
+ghost use Rattle.row_core.specs.Sizes.{AllHaveBits, AllAreBelow};
 ghost use Rattle.gens_sys.specs.Kinds.{HasBadDivisor, IsZeroDirection};
 ghost use Rattle.gens_sys.specs.Generators.{Generators, IsGenerator, FitDimension, Gains};
 ghost use Rattle.gens_sys.specs.Generators.{generator_of, generator_at, row_at, kind_at};
@@ -246,9 +246,10 @@ impl GensSys {
         self.rows.mark(i)
     }
 
-    /// How many bits the numbers of all vectors have at most.
+    /// How many bits the numbers of all vectors have at most. No smaller number would do.
     pub fn bits(&self) -> u32
-        ensures { AllHaveBits result self.now.list }
+        ensures within { AllHaveBits result self.now.list }
+        ensures least { (n : ℕ) → AllAreBelow (2 ^ n) self.now.list → result ≤ n }
     {
         self.rows.bits()
     }

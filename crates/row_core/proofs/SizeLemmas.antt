@@ -10,11 +10,11 @@ use Rattle.std.specs.Int.{w64}
 use Rattle.std.proofs.lemmas.Int.{unsigned_abs-mul, fits_signed_from_abs}
 use Rattle.std.proofs.lemmas.Nat.{le_or_l, le_or_r}
 use mir.Val.{SFits}
-use Rattle.std.proofs.lemmas.List.Elements.{All-nil, All-cons, All-get_or, All-take, All-drop}
+use Rattle.std.proofs.lemmas.List.Elements.{All-nil, All-cons, All-append, All-head, All-tail, All-get_or, All-take, All-drop}
 use Rattle.row_core.specs.Vectors.{cell, dot}
 use Rattle.row_core.specs.Range.{InRange, ColumnStays, CombineStays, DotStays, AllStay}
-use Rattle.row_core.specs.MarkedCells.{marked_rows}
-use Rattle.row_core.specs.Sizes.{IsWithin, HaveBits, AllHaveBits, DotIsOfWords, ColumnIsOfWords, CombineIsOfWords}
+use Rattle.row_core.specs.MarkedCells.{marked_rows, cells_of}
+use Rattle.row_core.specs.Sizes.{IsWithin, HaveBits, AreBelow, AllHaveBits, AllAreBelow, DotIsOfWords, ColumnIsOfWords, CombineIsOfWords}
 use Rattle.row_core.proofs.ColumnLemmas.{total_more}
 use Rattle.row_core.proofs.Magnitudes.{unsigned_abs-add}
 
@@ -42,6 +42,15 @@ AllHaveBits-marked_rows {M} bits width cells (mark ∷ marks) all =
     (marked_rows width (drop width cells) marks) (All-take (IsWithin (2 ^ bits)) width cells all)
     (AllHaveBits-marked_rows bits width (drop width cells) marks
     (All-drop (IsWithin (2 ^ bits)) width cells all))
+
+-- of the cells of rows, that of all rows
+pub AreBelow-cells_of : {M : Type 0} (n : ℕ) (rows : List (List ℤ × M)) → AllAreBelow n rows →
+    AreBelow n (cells_of rows)
+AreBelow-cells_of n [] all = All-nil (λ (z : ℤ). unsigned_abs z < n)
+AreBelow-cells_of {M} n (row ∷ rows) all =
+    All-append (λ (z : ℤ). unsigned_abs z < n) row.0 (cells_of rows)
+    (All-head (λ (r : List ℤ × M). AreBelow n r.0) row rows all)
+    (AreBelow-cells_of n rows (All-tail (λ (r : List ℤ × M). AreBelow n r.0) row rows all))
 
 -- the product of numbers of bounded size
 pub unsigned_abs-mul_within : (a b : ℕ) (x y : ℤ) → IsWithin a x → IsWithin b y →

@@ -21,6 +21,10 @@ AreBelow n v = All (λ z. unsigned_abs z < n) v
 abbrev pub AllHaveBits : {M : Type 0} → ℕ → List (List ℤ × M) → Type 0
 AllHaveBits bits rows = All (λ row. HaveBits bits row.0) rows
 
+-- the numbers of each row are below n in size
+abbrev pub AllAreBelow : {M : Type 0} → ℕ → List (List ℤ × M) → Type 0
+AllAreBelow n rows = All (λ row. AreBelow n row.0) rows
+
 -- the number is that of a word of 64 bits
 pub record IsWord (z : ℤ) : Type 0 where
   pub size : unsigned_abs z < 2 ^ 63

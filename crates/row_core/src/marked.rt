@@ -1,12 +1,12 @@
 //! Rows, each with a mark, whose cells stand in one buffer.
-ghost use Rattle.std.specs.Prelude.{◌≡◌, ◌+◌, ◌*◌, ◌^◌, ◌<◌, ◌≤◌, ◌==◌, List, [], ◌∷◌, ◌++◌, length, take, drop, slice_index_or, slice_set, remove, vec_len, vec_capacity, ℤ, OnOk, MatchResult, IfOk};
+ghost use Rattle.std.specs.Prelude.{◌≡◌, ℕ, ◌+◌, ◌*◌, ◌^◌, ◌<◌, ◌≤◌, ◌==◌, List, [], ◌∷◌, ◌++◌, length, take, drop, slice_index_or, slice_set, remove, vec_len, vec_capacity, ℤ, OnOk, MatchResult, IfOk};
 ghost use Rattle.std.specs.List.{insert};
 ghost use Rattle.std.specs.Cmp;
 ghost use Rattle.std.specs.Cmp.Lexicographic.{pointwise};
 ghost use Rattle.std.specs.Iterator.{YieldsFirstBy, item_count};
 ghost use Rattle.std.specs.Borrow.{Bor};
 ghost use Rattle.row_core.specs.Range.{AllInRange};
-ghost use Rattle.row_core.specs.Sizes.{AllHaveBits};
+ghost use Rattle.row_core.specs.Sizes.{AllHaveBits, AllAreBelow};
 ghost use Rattle.row_core.specs.MarkedCells.{marked_rows, cells_of, remarked, AreWide, HaveOneWidth, IsLaid, IsPrimitiveAppended};
 ghost use Rattle.row_core.specs.Lists.{GainsPrimitive};
 ghost use Rattle.row_core.specs.Sameness.{is_same_marked, same_marked_equiv};
@@ -249,9 +249,10 @@ impl<M: Copy> MarkedRows<M> {
         self.marks[i]
     }
 
-    /// How many bits the numbers of all rows have at most.
+    /// How many bits the numbers of all rows have at most. No smaller number would do.
     pub fn bits(&self) -> u32
-        ensures { AllHaveBits result self.now }
+        ensures within { AllHaveBits result self.now }
+        ensures least { (n : ℕ) → AllAreBelow (2 ^ n) self.now → result ≤ n }
     {
         bits(self.cells.as_slice())
     }

@@ -13,8 +13,8 @@ pub returns-then-from-le95 : goal.returns-then-from-le95
 returns-then-from-le95 c =
     let p : Polyhedron = c.args.p.now in
     let q : Polyhedron = c.args.q.now in
-    let left : AllHaveBits c.bits-left.result p.cons.list = subst (λ (x : Constraints). AllHaveBits c.bits-left.result x.list) c.cons.ensures.value c.bits-left.ensures in
-    let right : AllHaveBits c.bits-right.result q.gens.list = subst (λ (x : Generators). AllHaveBits c.bits-right.result x.list) c.gens.ensures.value c.bits-right.ensures in
+    let left : AllHaveBits c.bits-left.result p.cons.list = subst (λ (x : Constraints). AllHaveBits c.bits-left.result x.list) c.cons.ensures.value c.bits-left.ensures.within in
+    let right : AllHaveBits c.bits-right.result q.gens.list = subst (λ (x : Generators). AllHaveBits c.bits-right.result x.list) c.gens.ensures.value c.bits-right.ensures.within in
     let meets : IsTrue c.meets_others.result ↔ All (λ x. All (MeetsOn x) q.gens.list) p.cons.list = search rules in
     answer_in_any_order p.cons.list q.gens.list
     (pair_stays p.cons q.gens c.rows_fit.ensures.cons c.rows_fit-2.ensures.gens (c.requires ∙ sym (kept_dim q c.rows_fit-2.ensures.kept)) c.bits-left.result c.bits-right.result left right (omega arith))

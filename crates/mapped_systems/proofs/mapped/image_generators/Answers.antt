@@ -64,7 +64,7 @@ put_image-requires c =
       in_range = subst AllInRange (sym c.row.ensures.value) c.row.ensures.in_range;
       expr_in_range = c.requires.expr_in_range;
       den_in_range = subst InRange (sym (to_z-of_z w128 c.args.den c.ranges.den)) c.requires.den_in_range;
-      suffices = c.of-summing.ensures.suffices c.args.expr.now c.row.result.now refl (wide ∙ c.row.ensures.wide ∙ sym c.requires.wide) c.bits.ensures.within (subst (HaveBits c.bits-2.result) (sym c.row.ensures.value) (c.bits-2.ensures c.loop-index.index ([], Line) (omega arith)));
+      suffices = c.of-summing.ensures.suffices c.args.expr.now c.row.result.now refl (wide ∙ c.row.ensures.wide ∙ sym c.requires.wide) c.bits.ensures.within (subst (HaveBits c.bits-2.result) (sym c.row.ensures.value) (c.bits-2.ensures.within c.loop-index.index ([], Line) (omega arith)));
     }
 
 pub returns : goal.returns
