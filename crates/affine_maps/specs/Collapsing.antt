@@ -79,14 +79,15 @@ pub record IsStoredOfList (dim : ℕ) (rows : List Row) (p : Polyhedron) : Type 
   pub stored : AreAllOf dim lines rays equalities inequalities p.cons p.gens
 
 -- ---- what is counted and shown
--- a combination of lines and rays leaves the range on the way to canonical form, or one of the list
--- on the way to its second system
+-- a combination of the list leaves the range on the way to its second system
 pub record LeavesInSecond (width : ℕ) (list : List Row) : Type 0 where
   pub left : List ℤ
   pub right : List ℤ
   pub column : ℕ
   pub is_left : IsLeft width list left right column
 
+-- a combination of lines and rays leaves the range on the way to canonical form, or one of the list
+-- on the way to its second system
 abbrev pub LeavesInCollapse : ℕ → List Row → List Row → List Row → Type 0
 LeavesInCollapse width list lines rays = LeavesInForm lines rays ⊎ LeavesInSecond width list
 
