@@ -1,2 +1,3 @@
 pub mod ConversionLaws
 pub mod SampleLaws
+pub mod WriteLaws

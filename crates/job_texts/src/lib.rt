@@ -1,11 +1,12 @@
-//! What the jobs answer that read no script: the other file of a file, and the line of a sample.
+//! The jobs of a call that read no script: a file that is converted, and a sample.
 //!
-//! - [`converted`] is the file of generators of a file of constraints, or the other way round.
-//! - [`sampled`] is the line of the sample of a number of rows.
+//! - [`convert_file`] reads a file of constraints and writes the one of generators, or the other
+//!   way round.
+//! - [`write_sample`] writes the line of the sample of a number of rows.
 #![tactic(auto)]
 
 mod conversions;
 mod samples;
 
-pub use conversions::converted;
-pub use samples::sampled;
+pub use conversions::convert_file;
+pub use samples::write_sample;

@@ -1,10 +1,13 @@
 //! The sample of a number of rows.
 ghost use Rattle.std.specs.Prelude.{◌≡◌, ◌++◌, [], length, IfOk, OnOk};
+ghost use Rattle.poly_io.specs.Counts.{HasRisen};
 ghost use Rattle.line_values.specs.Meaning.{line};
 ghost use Rattle.job_texts.specs.Samples.{IsOfSample, GivesSample, counts_text, sample_text, maximum_text};
+ghost use Rattle.job_texts.specs.Outcomes.{SampleOutcome};
 
 use line_values::StepErr;
 use optimum::{Sup, shown, sup};
+use poly_io::Sink;
 use poly_pair::laws::kept_is_pair;
 use poly_pair::{Poly, Topology};
 use reply_text::Text;
@@ -12,9 +15,35 @@ use row_core::{Memory, RowBuf, Steps};
 use sample_rows::sample_constraints;
 use std::alloc::Global;
 use std::sync::ledger::Ledger;
+use written_replies::{Replies, Status};
 
 /// The expression `B - A`, whose maximum is asked for.
 const DIFFERENCE: [i128; 4] = [-1, 1, 0, 0];
+
+/// Converts the sample of `n` rows, and writes its line, or that of an overflow.
+///
+/// # Statuses
+///
+/// `Done` where the sample's line is written, and `Refused` where that of an overflow is. After
+/// `WriteFault`, and after `Memory` where the sink wanted it, a front of the line may be.
+pub fn write_sample<W: Sink, L: Ledger>(
+    alloc: Global,
+    n: u32,
+    sink: &mut W,
+    steps: &mut Steps<L>,
+) -> Status
+    ensures outcome { SampleOutcome n (W.held sink.old) (W.held sink.new) result }
+    ensures write_fault { result ≡ Status.WriteFault
+        → HasRisen (W.faults sink.old) (W.faults sink.new) }
+    ensures untouched { result ≡ Status.Memory → ¬ (HasRisen (W.wants sink.old) (W.wants sink.new))
+        → W.held sink.new ≡ W.held sink.old }
+{
+    let mut replies = Replies::new(alloc);
+    let Ok(()) = replies.add(sampled(alloc, n, steps)) else {
+        return Status::Memory;
+    };
+    replies.write(sink)
+}
 
 /// The line of the sample of `n` rows: how many constraints and generators are stored of it, and
 /// the maximum of `B - A`.
@@ -23,7 +52,7 @@ const DIFFERENCE: [i128; 4] = [-1, 1, 0, 0];
 ///
 /// `Overflow` shows a number outside the range, in the conversion of the rows or in the search for
 /// the maximum.
-pub fn sampled<L: Ledger>(alloc: Global, n: u32, steps: &mut Steps<L>) -> Result<Text, StepErr>
+fn sampled<L: Ledger>(alloc: Global, n: u32, steps: &mut Steps<L>) -> Result<Text, StepErr>
     ensures { GivesSample n result }
 {
     kept_is_pair();

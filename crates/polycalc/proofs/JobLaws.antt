@@ -10,7 +10,8 @@ use Rattle.plain_text.specs.Digits.{number}
 use Rattle.cdd_reading.specs.declared.format.Format.{Format}
 use Rattle.job_words.specs.Words.{IsAskedBy, SpellsSize}
 use Rattle.calc_state.specs.Runs.{RunsAreComplete}
-use Rattle.polycalc.specs.Outcomes.{Completes, Converts, Samples, IsReadOut, Finishes, WritesFront, AnswersRead, AnswersFront, GivesUp, Outcome, Ends, Stops, EndsAs, TellsSize, IsRunAnswered, IsFileAnswered, IsSampleAnswered, IsAnswered}
+use Rattle.job_texts.specs.Outcomes.{Converts, Samples, ConversionOutcome, SampleOutcome}
+use Rattle.polycalc.specs.Outcomes.{Completes, IsReadOut, Finishes, WritesFront, AnswersRead, AnswersFront, GivesUp, Outcome, Ends, Stops, EndsAs, TellsSize, IsRunAnswered, IsFileAnswered, IsSampleAnswered, IsAnswered}
 use Rattle.job_words.specs.declared.job.Job.{Job}
 use Rattle.job_words.specs.declared.job.Job.TheVariants as job
 use Rattle.written_replies.specs.declared.status.Status.{Status}
@@ -119,8 +120,27 @@ sampled n before given left held InputTooLong o write memory = absurd o.3
 sampled n before given left held Usage o write memory = absurd o
 
 -- and no read of it can fail
-pub never_reads : (n : ℕ) (given : List ℕ) (left old new : Option (List ℕ)) (status : Status) → Outcome (job.Sample n) given left old new status → status ≡ ReadFault → ⊥
-never_reads n given left old new status o e = (subst (λ (s : Status). Outcome (job.Sample n) given left old new s) e o).1
+pub never_reads : (n : ℕ) (old new : Option (List ℕ)) (status : Status) → SampleOutcome n old new status → status ≡ ReadFault → ⊥
+never_reads n old new status o e = subst (λ (s : Status). SampleOutcome n old new s) e o
+
+-- ---- what came of the jobs that read no script
+pub of_conversion : (want : Format) (given : List ℕ) (left old new : Option (List ℕ)) (status : Status) → ConversionOutcome want given left old new status → Outcome (job.Convert want) given left old new status
+of_conversion want given left old new Done o = o
+of_conversion want given left old new Refused o = o
+of_conversion want given left old new ReadFault o = o
+of_conversion want given left old new WriteFault o = o
+of_conversion want given left old new Memory o = o
+of_conversion want given left old new InputTooLong o = o
+of_conversion want given left old new Usage o = absurd o
+
+pub of_sample : (n : ℕ) (left old new : Option (List ℕ)) (status : Status) → SampleOutcome n old new status → Outcome (job.Sample n) [] left old new status
+of_sample n left old new Done o = (omega arith, refl, o)
+of_sample n left old new Refused o = (omega arith, refl, o)
+of_sample n left old new WriteFault o = (omega arith, o)
+of_sample n left old new Memory o = (omega arith, o)
+of_sample n left old new ReadFault o = absurd o
+of_sample n left old new InputTooLong o = absurd o
+of_sample n left old new Usage o = absurd o
 
 -- ---- the other promises, by the status
 module _ (words : List (List ℕ)) (task : Job) (given : List ℕ) (left now old new : Option (List ℕ)) (status : Status) (asked : IsAskedBy words task) (gave : left ≡ prepend_known given now) (outcome : Outcome task given now old new status) where

@@ -4,7 +4,6 @@ pub mod CutRuns
 pub mod StreamLaws
 pub mod EndLaws
 pub mod FirstLines
-pub mod WriteLaws
 pub mod GivenReplies
 pub mod JobLaws
 pub mod RefusalLines

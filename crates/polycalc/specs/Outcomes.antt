@@ -9,6 +9,7 @@ use Rattle.job_words.specs.Words.{IsAskedBy}
 use Rattle.written_replies.specs.Replies.{reply_bytes, replies_bytes, is_clean}
 use Rattle.job_texts.specs.Conversions.{ConvertsTo, MustConvert}
 use Rattle.job_texts.specs.Samples.{SamplesTo, MustSample}
+use Rattle.job_texts.specs.Outcomes.{Converts, ConvertsPrefix, Samples, SamplesPrefix}
 use Rattle.calc_state.specs.Runs.{Run, IsComplete, at_end}
 use Rattle.job_words.specs.declared.job.Job.{Job}
 use Rattle.job_words.specs.declared.job.Job.TheVariants as job
@@ -80,37 +81,6 @@ pub record AnswersFirst (script : List ℕ) (left old new : Option (List ℕ)) :
   pub replies : List Reply
   pub run : Run (closed []) answered replies state
   pub held : new ≡ append_known old (replies_bytes replies)
-
--- ---- files that are converted
--- behind what was held stands the reply to the file; whether it is no fault and no overflow
-pub record Converts (want : Format) (file : List ℕ) (clean : Bool)
-    (old new : Option (List ℕ)) : Type 0 where
-  pub reply : Reply
-  pub converts : ConvertsTo want file reply
-  pub held : new ≡ append_known old (reply_bytes reply)
-  pub verdict : is_answer reply ≡ clean
-
--- what was held, and behind it a front of the reply to the file
-pub record ConvertsPrefix (want : Format) (file : List ℕ) (old new : Option (List ℕ)) : Type 0 where
-  pub reply : Reply
-  pub converts : ConvertsTo want file reply
-  pub count : ℕ
-  pub held : new ≡ append_known old (take count (reply_bytes reply))
-
--- ---- samples
--- behind what was held stands the reply to the number of the sample; whether it is no overflow
-pub record Samples (n : ℕ) (clean : Bool) (old new : Option (List ℕ)) : Type 0 where
-  pub reply : Reply
-  pub samples : SamplesTo n reply
-  pub held : new ≡ append_known old (reply_bytes reply)
-  pub verdict : is_answer reply ≡ clean
-
--- what was held, and behind it a front of that reply
-pub record SamplesPrefix (n : ℕ) (old new : Option (List ℕ)) : Type 0 where
-  pub reply : Reply
-  pub samples : SamplesTo n reply
-  pub count : ℕ
-  pub held : new ≡ append_known old (take count (reply_bytes reply))
 
 -- ---- each job
 -- the source gave all that the job reads of it: all that it had, or of a sample nothing

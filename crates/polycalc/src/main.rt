@@ -10,9 +10,7 @@ ghost use Rattle.job_words.specs.declared.job.Job.{Job as AnyJob};
 
 mod arguments;
 mod completeness;
-mod conversions;
 mod runs;
-mod samples;
 mod top;
 mod truth;
 

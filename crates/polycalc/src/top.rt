@@ -9,10 +9,9 @@ ghost use Rattle.job_words.specs.declared.job.Job.{Job as AnyJob};
 ghost use Rattle.job_words.specs.declared.job.Job.TheVariants.{Sample};
 
 use crate::completeness::runs_are_complete;
-use crate::conversions::convert_file;
 use crate::runs::run_lines;
-use crate::samples::write_sample;
 use crate::truth::answers_are_sound;
+use job_texts::{convert_file, write_sample};
 use job_words::{Job, Words};
 use poly_io::{Sink, Source};
 use row_core::Steps;

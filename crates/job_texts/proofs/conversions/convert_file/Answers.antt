@@ -1,9 +1,9 @@
 use Rattle.std.proofs.Common.{ap, Err, inl, refl, ◌∙◌}
 use Rattle.written_replies.specs.Replies.{Written, with_reply}
+use Rattle.written_replies.proofs.ReplyLaws.{reply_added, writes_unread}
 use Rattle.job_texts.specs.Conversions.{ConvertsTo}
-use Rattle.polycalc.proofs.GivenReplies.{reply_added}
-use Rattle.polycalc.proofs.WriteLaws.{conversion_written, writes_unread}
-use Rattle.polycalc.proofs.conversions.convert_file.Goals as goal
+use Rattle.job_texts.proofs.WriteLaws.{conversion_written}
+use Rattle.job_texts.proofs.conversions.convert_file.Goals as goal
 
 pub returns-clause-outcome : goal.returns-clause-outcome
 returns-clause-outcome g c =
