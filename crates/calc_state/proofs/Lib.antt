@@ -4,7 +4,6 @@ pub mod EntryKinds
 mod HybridLemmas
 pub mod LineLemmas
 mod PartLemmas
-mod PowersetLemmas
 mod QuestionLemmas
 mod ReadingLemmas
 pub mod SaysOnce

@@ -5,7 +5,6 @@ pub mod Laws
 pub mod Line
 pub mod Meanings
 pub mod Parts
-pub mod Powersets
 pub mod Reading
 pub mod Runs
 pub mod Shapes

@@ -11,7 +11,7 @@ use Rattle.poly_makers.specs.Meanings.{made as made_of_polyhedra, added}
 use Rattle.poly_questions.specs.Meanings.{said}
 use Rattle.calc_state.specs.Table.{Table, Change, poly_of, system_of, powerset_of, shape_of, hybrid_of, as_poly, as_system, as_powerset, as_shape, as_hybrid}
 use Rattle.calc_state.specs.Systems.{system, fixpoint}
-use Rattle.calc_state.specs.Powersets.{pset, of_two_powersets, member, psize, covers}
+use Rattle.powerset.specs.Commands.{pset, of_two_powersets, member, psize, covers}
 use Rattle.ranking_commands.specs.Rankings.{rank, ranking}
 use Rattle.calc_state.specs.Shapes.{shape as shape_of_set, bounds, of_two_shapes, shape_contains, shape_print, shape_poly}
 use Rattle.calc_state.specs.Hybrids.{hybrid, reach}

@@ -16,7 +16,6 @@ mod operands;
 mod part_tests;
 mod parts;
 mod perform;
-mod powersets;
 mod shapes;
 mod systems;
 

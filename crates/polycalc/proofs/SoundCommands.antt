@@ -47,7 +47,7 @@ use Rattle.calc_state.specs.Entries.{IsKeptEntry}
 use Rattle.calc_state.specs.Table.{Table, Change, as_poly, as_system, as_powerset, as_shape, as_hybrid, poly_of, numbered_sets}
 use Rattle.calc_state.specs.Systems as systems
 use Rattle.calc_state.specs.Parts as parts
-use Rattle.calc_state.specs.Powersets as powersets
+use Rattle.powerset.specs.Commands as powersets
 use Rattle.ranking_commands.specs.Rankings as rankings
 use Rattle.calc_state.specs.Shapes as shapes
 use Rattle.calc_state.specs.Hybrids as hybrids

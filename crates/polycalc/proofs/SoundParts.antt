@@ -57,7 +57,7 @@ use Rattle.line_values.specs.Proper.{IsProper}
 use Rattle.calc_state.specs.Systems as made
 use Rattle.calc_state.specs.Hybrids as made_automata
 use Rattle.calc_state.specs.Parts as parts
-use Rattle.calc_state.specs.Powersets as made_powersets
+use Rattle.powerset.specs.Commands as made_powersets
 use Rattle.ranking_commands.specs.Rankings as made_rankings
 use Rattle.calc_state.specs.Shapes as made_shapes
 use Rattle.elapse.specs.ElapsedPoints.{IsMoved}

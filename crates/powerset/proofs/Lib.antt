@@ -5,3 +5,4 @@ pub mod SameReductions
 mod Climbs
 mod ReducedPoints
 mod PowersetPoints
+mod CommandLemmas

@@ -3,3 +3,4 @@ pub mod Covers
 pub mod Reductions
 pub mod Joins
 pub mod PowersetLaws
+pub mod Commands

@@ -5,9 +5,11 @@
 //!   members that others include.
 //! - [`covers`] says whether each point of one powerset is in another, or shows a point that isn't.
 //!
-//! [`laws`] says what these mean in words of points.
+//! [`commands`] has the functions of the calculator's commands on powersets, and [`laws`] says what
+//! all these mean in words of points.
 #![tactic(auto)]
 
+pub mod commands;
 mod covering;
 mod joining;
 pub mod laws;

@@ -34,7 +34,7 @@ use Rattle.line_values.specs.Meaning.{answer_line, line}
 use Rattle.poly_questions.specs.Questions.{size_text, side_text}
 use Rattle.poly_questions.specs.Optima.{with_word, relation_text, bound_text}
 use Rattle.line_values.specs.Operands.{is_max}
-use Rattle.calc_state.specs.Powersets.{members_text}
+use Rattle.powerset.specs.Commands.{members_text}
 use Rattle.poly_questions.specs.Files.{file_of}
 use Rattle.calc_state.specs.declared.entry.Entry.{Entry}
 use Rattle.calc_state.specs.declared.entry.Entry.TheVariants as entry

@@ -16,7 +16,7 @@ use Rattle.powerset.specs.declared.covering.Cover.TheVariants.{Yes, No}
 use Rattle.powerset.proofs.SameReductions.{pointwise_back}
 use Rattle.ranking.specs.PrintedRankings.{IsFirstPoint, IsRankingText, function_text}
 use Rattle.line_values.specs.Meaning.{line}
-use Rattle.calc_state.specs.Powersets.{members_text, cover_line}
+use Rattle.powerset.specs.Commands.{members_text, cover_line}
 use Rattle.run_laws.specs.Sameness.{AreSamePolyhedra, AreSamePowersets}
 use Rattle.run_laws.specs.Truth.{SaysCover, SaysRanking}
 use Rattle.run_laws.specs.Laws.{ShowUncovered}

@@ -38,7 +38,7 @@ use Rattle.poly_makers.specs.Results.{IsResultOfConstraints, IsResultOfGenerator
 use Rattle.poly_makers.specs.Operators.{Fits, IsMadeBy, IsExtended}
 use Rattle.poly_makers.specs.Affine.{IsRemoved, IsMappedBy}
 use Rattle.calc_state.specs.Systems.{AreReached}
-use Rattle.calc_state.specs.Powersets.{IsPowersetOf}
+use Rattle.powerset.specs.Commands.{IsPowersetOf}
 use Rattle.calc_state.specs.Shapes.{IsShapeOfSet, IsShapeOfConstraints, IsShapeBy, IsPolyOfShape}
 use Rattle.calc_state.specs.Hybrids.{IsStill, AreReachedParts}
 use Rattle.calc_state.specs.Parts.{with_part}

@@ -13,7 +13,7 @@ use Rattle.powerset.proofs.JoinLemmas.{joined_all, meets_members}
 use Rattle.powerset.proofs.SameReductions.{AgreeIn, pointwise_at, reduced_same}
 use Rattle.script_text.specs.declared.command.PowersetOperator.{PowersetOperator}
 use Rattle.script_text.specs.declared.command.PowersetOperator.TheVariants.{Join, Meet}
-use Rattle.calc_state.specs.Powersets.{IsPowersetOf}
+use Rattle.powerset.specs.Commands.{IsPowersetOf}
 use Rattle.run_laws.specs.Sameness.{AreSamePolyhedra, AreSamePowersets}
 use Rattle.run_laws.proofs.OneForm.{OneForm, one_closed}
 use Rattle.run_laws.proofs.OneResult.{same_back, same_at, empty_same}

@@ -7,7 +7,7 @@ use Rattle.powerset.specs.Powersets.{FinitePowerset}
 use Rattle.bd_shape.specs.Shapes.{DifferenceShape}
 use Rattle.line_values.specs.Order.{Conditions, Passes}
 use Rattle.line_values.specs.Meaning.{alike}
-use Rattle.calc_state.specs.Powersets.{alike_unions, misses_member}
+use Rattle.powerset.specs.Commands.{alike_unions, misses_member}
 use Rattle.ranking_commands.specs.Rankings.{relates_states}
 use Rattle.calc_state.specs.Shapes.{closed, of_one_dim}
 use Rattle.poly_makers.specs.Widening.{nested, IsWidened}

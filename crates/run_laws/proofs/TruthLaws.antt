@@ -43,7 +43,7 @@ use Rattle.poly_makers.specs.Widening.{widen}
 use Rattle.calc_state.specs.Systems.{system, AreReached, fixpoint}
 use Rattle.calc_state.specs.Parts.{init, trans, set_part, with_part}
 use Rattle.trans_sys.specs.Systems.{with_initial, with_transition}
-use Rattle.calc_state.specs.Powersets.{pset, of_two_powersets, member, psize, members_text, covers}
+use Rattle.powerset.specs.Commands.{pset, of_two_powersets, member, psize, members_text, covers}
 use Rattle.ranking_commands.specs.Rankings.{rank, ranking}
 use Rattle.calc_state.specs.Shapes.{shape, bounds, of_two_shapes, shape_contains, shape_print, shape_poly}
 use Rattle.calc_state.specs.Hybrids.{hybrid, reach, AreReachedParts}

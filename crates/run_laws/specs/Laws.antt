@@ -9,7 +9,7 @@ use Rattle.script_text.specs.declared.command.Command.TheVariants.{Size, Print, 
 use Rattle.calc_state.specs.declared.entry.Entry.{Entry}
 use Rattle.name_table.specs.Table.{entry_of}
 use Rattle.calc_state.specs.Table.{Table, poly_of}
-use Rattle.calc_state.specs.Powersets.{cover_line}
+use Rattle.powerset.specs.Commands.{cover_line}
 use Rattle.calc_state.specs.State.{State, closed}
 use Rattle.line_values.specs.Replies.{Reply}
 use Rattle.run_laws.specs.Acts.{Act, Did, Accepted, acts, AreAccepted}

@@ -29,7 +29,7 @@ use Rattle.poly_makers.specs.Results.{IsResult, IsResultOfConstraints, IsResultO
 use Rattle.poly_makers.specs.Operators.{Fits, IsMadeBy, IsExtended}
 use Rattle.poly_makers.specs.Affine.{IsRemoved, IsMappedBy}
 use Rattle.calc_state.specs.Systems.{IsEmptySystem, AreReached}
-use Rattle.calc_state.specs.Powersets.{IsPowersetOf}
+use Rattle.powerset.specs.Commands.{IsPowersetOf}
 use Rattle.calc_state.specs.Shapes.{IsShapeOfSet, IsShapeOfConstraints, IsShapeBy, IsPolyOfShape}
 use Rattle.calc_state.specs.Hybrids.{IsStill, AreReachedParts}
 use Rattle.calc_state.specs.Parts.{with_part}

@@ -41,7 +41,7 @@ use Rattle.poly_questions.specs.Questions.{size_text}
 use Rattle.name_table.specs.Listing.{spaced}
 use Rattle.poly_questions.specs.Optima.{relation_text, bound_text}
 use Rattle.line_values.specs.Operands.{is_max}
-use Rattle.calc_state.specs.Powersets.{members_text, cover_line}
+use Rattle.powerset.specs.Commands.{members_text, cover_line}
 use Rattle.poly_questions.specs.Files.{file_of}
 use Rattle.line_values.specs.Effects.{ok_line}
 use Rattle.run_laws.specs.Acts.{Act, Did, Took, Accepted, acts}

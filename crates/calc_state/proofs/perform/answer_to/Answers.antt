@@ -1,5 +1,5 @@
 use Rattle.line_values.proofs.EffectLemmas.{performed_as, on_found, on_two_found}
-use Rattle.calc_state.specs.Powersets.{psize, covers}
+use Rattle.powerset.specs.Commands.{psize, covers}
 use Rattle.ranking_commands.specs.Rankings.{ranking}
 use Rattle.calc_state.specs.Shapes.{shape_contains, shape_print}
 use Rattle.calc_state.specs.Meanings.{answered}

@@ -1,5 +1,5 @@
 use Rattle.line_values.proofs.EffectLemmas.{performed_as, on_found}
-use Rattle.calc_state.specs.Powersets.{member}
+use Rattle.powerset.specs.Commands.{member}
 use Rattle.ranking_commands.specs.Rankings.{rank}
 use Rattle.calc_state.specs.Shapes.{shape_poly}
 use Rattle.calc_state.specs.Meanings.{made_poly}

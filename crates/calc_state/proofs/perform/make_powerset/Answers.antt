@@ -1,5 +1,5 @@
 use Rattle.line_values.proofs.EffectLemmas.{performed_as, on_found, on_two_found}
-use Rattle.calc_state.specs.Powersets.{pset, of_two_powersets}
+use Rattle.powerset.specs.Commands.{pset, of_two_powersets}
 use Rattle.calc_state.specs.Meanings.{made_powerset}
 use Rattle.calc_state.proofs.perform.make_powerset.Goals as goal
 

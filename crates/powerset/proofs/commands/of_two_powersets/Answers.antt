@@ -2,11 +2,11 @@ use Rattle.std.proofs.Common.{◌≡◌, Option, Some, Ok, Err, ◌∙◌, rules
 use Rattle.std.specs.Option.{option_copied}
 use Rattle.powerset.specs.Powersets.{FinitePowerset}
 use Rattle.line_values.specs.Meaning.{on_two}
-use Rattle.calc_state.specs.Powersets.{of_two_powersets}
+use Rattle.powerset.specs.Commands.{of_two_powersets}
 use Rattle.line_values.specs.Performed.{IsPerformed}
 use Rattle.line_values.proofs.PerformedLemmas.{found_two, not_full, leaves}
-use Rattle.calc_state.proofs.PowersetLemmas.{unions_pass}
-use Rattle.calc_state.proofs.powersets.of_two_powersets.Goals as goal
+use Rattle.powerset.proofs.CommandLemmas.{unions_pass}
+use Rattle.powerset.proofs.commands.of_two_powersets.Goals as goal
 
 pub returns-in-Err : goal.returns-in-Err
 returns-in-Err g c =

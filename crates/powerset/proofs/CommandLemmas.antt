@@ -5,7 +5,7 @@ use Rattle.powerset.specs.Covers.{IsCover}
 use Rattle.powerset.specs.declared.covering.Cover.{Cover}
 use Rattle.line_values.specs.Order.{Passes}
 use Rattle.line_values.specs.Meaning.{room, no_fault}
-use Rattle.calc_state.specs.Powersets.{alike_unions, cover_line, covers}
+use Rattle.powerset.specs.Commands.{alike_unions, cover_line, covers}
 use Rattle.line_values.specs.Performed.{IsPerformed}
 
 -- two unions that are alike, and a name for which there is room

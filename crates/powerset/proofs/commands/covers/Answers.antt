@@ -5,11 +5,11 @@ use Rattle.expr_text.specs.Printed.{generator_text}
 use Rattle.powerset.specs.Powersets.{FinitePowerset}
 use Rattle.powerset.specs.declared.covering.Cover.TheVariants.{Yes, No}
 use Rattle.line_values.specs.Meaning.{on_two, line, answer_line}
-use Rattle.calc_state.specs.Powersets.{covers}
+use Rattle.powerset.specs.Commands.{covers}
 use Rattle.line_values.specs.Performed.{IsPerformed}
 use Rattle.line_values.proofs.PerformedLemmas.{leaves, answered}
-use Rattle.calc_state.proofs.PowersetLemmas.{compared, told}
-use Rattle.calc_state.proofs.powersets.covers.Goals as goal
+use Rattle.powerset.proofs.CommandLemmas.{compared, told}
+use Rattle.powerset.proofs.commands.covers.Goals as goal
 
 pub no_with_point-requires : goal.no_with_point-requires
 no_with_point-requires g c =

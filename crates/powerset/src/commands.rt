@@ -3,12 +3,14 @@ ghost use Rattle.std.specs.Prelude.{◌≡◌, IfOk, IfErr};
 ghost use Rattle.std.specs.Option.{option_copied};
 ghost use Rattle.row_core.specs.Refusals.{IsOverflowIn};
 ghost use Rattle.line_values.specs.Meaning.{on_one, on_two};
-ghost use Rattle.calc_state.specs.Powersets.{pset as make_pset, of_two_powersets as make_of_two, member as make_member, psize as tell_size, covers as ask_covers, IsPowersetOf, LeavesInPowersets, members_text};
+ghost use Rattle.powerset.specs.Commands.{pset as make_pset, of_two_powersets as make_of_two, member as make_member, psize as tell_size, covers as ask_covers, IsPowersetOf, LeavesInPowersets, members_text};
 ghost use Rattle.line_values.specs.Performed.{IsPerformed};
 
+use crate::covering::{self, Cover};
+use crate::joining::{join, pmeet};
+use crate::powersets::Powerset;
 use line_values::{StepErr, answer, as_line, no_with_point};
 use poly_pair::Poly;
-use powerset::{Cover, Powerset, join, pmeet};
 use reply_text::{Fault, Text};
 use row_core::{ConvErr, Memory, Steps};
 use script_text::PowersetOperator;
@@ -139,7 +141,7 @@ pub fn covers<L: Ledger>(
     if dim != t.dim() {
         return Err(StepErr::Input(Fault::DimMismatch));
     }
-    match powerset::covers(alloc, s, t, steps) {
+    match covering::covers(alloc, s, t, steps) {
         Ok(Cover::Yes) => answer(alloc, true),
         Ok(Cover::No(point)) => Ok(no_with_point(alloc, dim, point)?),
         Err(cause) => Err(StepErr::from(cause)),
