@@ -10,3 +10,4 @@ pub mod FormOnce
 pub mod GivenTables
 pub mod GivenPoints
 pub mod Canonical
+mod CommandLemmas

@@ -7,3 +7,4 @@ pub mod Forms
 pub mod Given
 pub mod Refusals
 pub mod Laws
+pub mod Commands

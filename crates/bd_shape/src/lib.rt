@@ -7,8 +7,10 @@
 //!   that of constraints.
 //! - [`shape_rows`] lists the constraints of a shape, and [`shape_poly`] makes them a polyhedron.
 //! - [`shape_meet`], [`shape_hull`] and [`shape_contains`] combine and compare two shapes.
+//! - [`commands`] has the functions of the calculator's commands on shapes.
 #![tactic(auto)]
 
+pub mod commands;
 mod forms;
 mod given;
 pub mod laws;

@@ -7,6 +7,5 @@ mod PartLemmas
 mod QuestionLemmas
 mod ReadingLemmas
 pub mod SaysOnce
-mod ShapeLemmas
 pub mod StepLemmas
 mod SystemLemmas

@@ -7,7 +7,6 @@ pub mod Meanings
 pub mod Parts
 pub mod Reading
 pub mod Runs
-pub mod Shapes
 pub mod State
 pub mod Step
 pub mod Systems

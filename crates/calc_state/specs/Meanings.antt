@@ -13,7 +13,7 @@ use Rattle.calc_state.specs.Table.{Table, Change, poly_of, system_of, powerset_o
 use Rattle.calc_state.specs.Systems.{system, fixpoint}
 use Rattle.powerset.specs.Commands.{pset, of_two_powersets, member, psize, covers}
 use Rattle.ranking_commands.specs.Rankings.{rank, ranking}
-use Rattle.calc_state.specs.Shapes.{shape as shape_of_set, bounds, of_two_shapes, shape_contains, shape_print, shape_poly}
+use Rattle.bd_shape.specs.Commands.{shape as shape_of_set, bounds, of_two_shapes, shape_contains, shape_print, shape_poly}
 use Rattle.calc_state.specs.Hybrids.{hybrid, reach}
 use Rattle.calc_state.specs.Parts.{init, trans, set_part}
 use Rattle.command_tasks.specs.Tasks.{task_of}

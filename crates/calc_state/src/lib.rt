@@ -16,7 +16,6 @@ mod operands;
 mod part_tests;
 mod parts;
 mod perform;
-mod shapes;
 mod systems;
 
 pub use calc::Calc;

@@ -12,9 +12,11 @@ use crate::hybrids::{hybrid, reach};
 use crate::operands::{hybrid_at, powerset_at, shape_at, system_at};
 use crate::part_tests::{added_transition, replaced_initial, replaced_part};
 use crate::parts::PartChange;
-use crate::shapes::{bounds, of_two_shapes, shape_contains, shape_of_set, shape_poly, shape_print};
 use crate::systems::{fixpoint, system};
 use bd_shape::Shape;
+use bd_shape::commands::{
+    bounds, of_two_shapes, shape_contains, shape_of_set, shape_poly, shape_print,
+};
 use command_tasks::{
     Asked, Made, PartTask, PolyMaker, PowersetMaker, Running, ShapeMaker, TableTask,
 };

@@ -49,7 +49,7 @@ use Rattle.calc_state.specs.Systems as systems
 use Rattle.calc_state.specs.Parts as parts
 use Rattle.powerset.specs.Commands as powersets
 use Rattle.ranking_commands.specs.Rankings as rankings
-use Rattle.calc_state.specs.Shapes as shapes
+use Rattle.bd_shape.specs.Commands as shapes
 use Rattle.calc_state.specs.Hybrids as hybrids
 use Rattle.calc_state.specs.Meanings.{meaning}
 use Rattle.calc_state.specs.Step.{IsAccepted, PutsProper, after}

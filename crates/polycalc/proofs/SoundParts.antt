@@ -59,7 +59,7 @@ use Rattle.calc_state.specs.Hybrids as made_automata
 use Rattle.calc_state.specs.Parts as parts
 use Rattle.powerset.specs.Commands as made_powersets
 use Rattle.ranking_commands.specs.Rankings as made_rankings
-use Rattle.calc_state.specs.Shapes as made_shapes
+use Rattle.bd_shape.specs.Commands as made_shapes
 use Rattle.elapse.specs.ElapsedPoints.{IsMoved}
 use Rattle.soundness.specs.Points.{PointSet, LackStrict, HasNoPoint, IsOver}
 use Rattle.soundness.specs.Values.{Transition, TransitionSystem, HybridAutomaton}

@@ -5,8 +5,8 @@
 //!   members that others include.
 //! - [`covers`] says whether each point of one powerset is in another, or shows a point that isn't.
 //!
-//! [`commands`] has the functions of the calculator's commands on powersets, and [`laws`] says what
-//! all these mean in words of points.
+//! [`laws`] says what these mean in words of points, and [`commands`] has the functions of the
+//! calculator's commands on powersets.
 #![tactic(auto)]
 
 pub mod commands;

@@ -39,7 +39,7 @@ use Rattle.poly_makers.specs.Operators.{Fits, IsMadeBy, IsExtended}
 use Rattle.poly_makers.specs.Affine.{IsRemoved, IsMappedBy}
 use Rattle.calc_state.specs.Systems.{AreReached}
 use Rattle.powerset.specs.Commands.{IsPowersetOf}
-use Rattle.calc_state.specs.Shapes.{IsShapeOfSet, IsShapeOfConstraints, IsShapeBy, IsPolyOfShape}
+use Rattle.bd_shape.specs.Commands.{IsShapeOfSet, IsShapeOfConstraints, IsShapeBy, IsPolyOfShape}
 use Rattle.calc_state.specs.Hybrids.{IsStill, AreReachedParts}
 use Rattle.calc_state.specs.Parts.{with_part}
 use Rattle.line_values.specs.Operands.{topology_of, format_of}

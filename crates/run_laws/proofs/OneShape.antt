@@ -14,7 +14,7 @@ use Rattle.ranking.specs.Functions.{IsRanking}
 use Rattle.ranking.specs.Rankings.{IsRankingSet}
 use Rattle.script_text.specs.declared.command.ShapeOperator.{ShapeOperator}
 use Rattle.script_text.specs.declared.command.ShapeOperator.TheVariants.{Meet, Hull}
-use Rattle.calc_state.specs.Shapes.{IsShapeOfSet, IsShapeOfConstraints, IsShapeBy, IsPolyOfShape}
+use Rattle.bd_shape.specs.Commands.{IsShapeOfSet, IsShapeOfConstraints, IsShapeBy, IsPolyOfShape}
 use Rattle.line_values.specs.Proper.{IsProper}
 use Rattle.run_laws.specs.Sameness.{AreSamePolyhedra}
 use Rattle.run_laws.proofs.OneForm.{OneForm, one_of_points}

@@ -37,7 +37,7 @@ use Rattle.calc_state.specs.Systems.{IsEmptySystem, AreReached, fixpoint}
 use Rattle.calc_state.specs.Parts.{init, trans, set_part, with_part}
 use Rattle.powerset.specs.Commands.{pset, of_two_powersets, IsPowersetOf, member, psize, covers}
 use Rattle.ranking_commands.specs.Rankings.{rank, ranking}
-use Rattle.calc_state.specs.Shapes.{shape, IsShapeOfSet, IsShapeOfConstraints, of_two_shapes, IsShapeBy, shape_contains, shape_print, shape_poly, IsPolyOfShape}
+use Rattle.bd_shape.specs.Commands.{shape, IsShapeOfSet, IsShapeOfConstraints, of_two_shapes, IsShapeBy, shape_contains, shape_print, shape_poly, IsPolyOfShape}
 use Rattle.calc_state.specs.Hybrids.{hybrid, IsStill, reach, AreReachedParts}
 use Rattle.widening.proofs.Places.{all_at}
 use Rattle.poly_questions.specs.Files.{write}

@@ -45,7 +45,7 @@ use Rattle.calc_state.specs.Parts.{init, trans, set_part, with_part}
 use Rattle.trans_sys.specs.Systems.{with_initial, with_transition}
 use Rattle.powerset.specs.Commands.{pset, of_two_powersets, member, psize, members_text, covers}
 use Rattle.ranking_commands.specs.Rankings.{rank, ranking}
-use Rattle.calc_state.specs.Shapes.{shape, bounds, of_two_shapes, shape_contains, shape_print, shape_poly}
+use Rattle.bd_shape.specs.Commands.{shape, bounds, of_two_shapes, shape_contains, shape_print, shape_poly}
 use Rattle.calc_state.specs.Hybrids.{hybrid, reach, AreReachedParts}
 use Rattle.poly_questions.specs.Files.{write, file_of}
 use Rattle.calc_state.specs.State.{State, closed}

@@ -1,5 +1,5 @@
 use Rattle.line_values.proofs.EffectLemmas.{performed_as, on_found, on_two_found}
-use Rattle.calc_state.specs.Shapes.{shape, of_two_shapes}
+use Rattle.bd_shape.specs.Commands.{shape, of_two_shapes}
 use Rattle.calc_state.specs.Meanings.{made_shape}
 use Rattle.calc_state.proofs.perform.make_shape.Goals as goal
 

@@ -15,7 +15,7 @@ use Rattle.script_text.specs.declared.command.Part.{Part}
 use Rattle.line_values.specs.declared.refusal.StepErr.TheVariants as err
 use Rattle.line_values.specs.Order.{IsFirst, Passes}
 use Rattle.line_values.specs.Texts.{ReadsConstraints, SaysConstraints}
-use Rattle.calc_state.specs.Shapes.{IsShapeOfConstraints, refusal_of_shape, bounds, of_one_dim, shape_contains}
+use Rattle.bd_shape.specs.Commands.{IsShapeOfConstraints, refusal_of_shape, bounds, of_one_dim, shape_contains}
 use Rattle.line_values.specs.Meaning.{no_fault, room, answer_line}
 use Rattle.line_values.specs.Performed.{IsPerformed}
 use Rattle.line_values.proofs.PerformedLemmas.{not_full}

@@ -3,10 +3,10 @@ use Rattle.std.specs.Option.{option_copied}
 use Rattle.poly_pair.specs.Polyhedra.{Polyhedron}
 use Rattle.line_values.specs.Order.{Passes}
 use Rattle.line_values.specs.Meaning.{on_one}
-use Rattle.calc_state.specs.Shapes.{shape}
+use Rattle.bd_shape.specs.Commands.{shape}
 use Rattle.line_values.specs.Performed.{IsPerformed}
 use Rattle.line_values.proofs.PerformedLemmas.{leaves}
-use Rattle.calc_state.proofs.shapes.shape_of_set.Goals as goal
+use Rattle.bd_shape.proofs.commands.shape_of_set.Goals as goal
 
 pub returns-in-Err : goal.returns-in-Err
 returns-in-Err c =

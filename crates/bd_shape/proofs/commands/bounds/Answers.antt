@@ -3,8 +3,8 @@ use Rattle.poly_pair.specs.declared.topology.Topology.TheVariants.{Closed}
 use Rattle.poly_pair.specs.declared.topology.TheConstants.{MAX_DIM}
 use Rattle.line_values.specs.Texts.{ReadsConstraints}
 use Rattle.line_values.proofs.PerformedLemmas.{not_full}
-use Rattle.calc_state.proofs.ShapeLemmas.{bounds_full, bounds_made, none_other_made, bounds_not_made}
-use Rattle.calc_state.proofs.shapes.bounds.Goals as goal
+use Rattle.bd_shape.proofs.CommandLemmas.{bounds_full, bounds_made, none_other_made, bounds_not_made}
+use Rattle.bd_shape.proofs.commands.bounds.Goals as goal
 
 pub returns-in-Ok-shape_from : goal.returns-in-Ok-shape_from
 returns-in-Ok-shape_from c =

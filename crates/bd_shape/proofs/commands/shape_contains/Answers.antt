@@ -2,10 +2,10 @@ use Rattle.std.proofs.Common.{◌≡◌, ℕ, List, rules, Err, ap}
 use Rattle.std.specs.Option.{option_copied}
 use Rattle.line_values.specs.Order.{Passes}
 use Rattle.line_values.specs.Meaning.{no_fault, answer_line}
-use Rattle.calc_state.specs.Shapes.{of_one_dim, shape_contains}
-use Rattle.calc_state.proofs.ShapeLemmas.{contains_told}
+use Rattle.bd_shape.specs.Commands.{of_one_dim, shape_contains}
+use Rattle.bd_shape.proofs.CommandLemmas.{contains_told}
 use Rattle.line_values.proofs.PerformedLemmas.{leaves, found_two, answered}
-use Rattle.calc_state.proofs.shapes.shape_contains.Goals as goal
+use Rattle.bd_shape.proofs.commands.shape_contains.Goals as goal
 
 pub returns-in-Ok : goal.returns-in-Ok
 returns-in-Ok c =

@@ -2,9 +2,9 @@ use Rattle.std.proofs.Common.{◌≡◌, rules, Ok, ap}
 use Rattle.std.specs.Option.{option_copied}
 use Rattle.bd_shape.specs.Shapes.{DifferenceShape}
 use Rattle.line_values.proofs.PerformedLemmas.{found_two, not_full}
-use Rattle.calc_state.specs.Shapes.{of_two_shapes}
-use Rattle.calc_state.proofs.ShapeLemmas.{shapes_pass}
-use Rattle.calc_state.proofs.shapes.of_two_shapes.Goals as goal
+use Rattle.bd_shape.specs.Commands.{of_two_shapes}
+use Rattle.bd_shape.proofs.CommandLemmas.{shapes_pass}
+use Rattle.bd_shape.proofs.commands.of_two_shapes.Goals as goal
 
 pub returns-in-Ok : goal.returns-in-Ok
 returns-in-Ok c =

@@ -7,8 +7,8 @@ use Rattle.line_values.specs.Refusals.{refusal_of_conversion}
 use Rattle.line_values.specs.Meaning.{on_one}
 use Rattle.line_values.specs.Performed.{IsPerformed}
 use Rattle.line_values.proofs.PerformedLemmas.{room_passes, leaves}
-use Rattle.calc_state.specs.Shapes.{shape_poly}
-use Rattle.calc_state.proofs.shapes.shape_poly.Goals as goal
+use Rattle.bd_shape.specs.Commands.{shape_poly}
+use Rattle.bd_shape.proofs.commands.shape_poly.Goals as goal
 
 pub returns-in-Ok : goal.returns-in-Ok
 returns-in-Ok g c = rw c.in-Some.is (room_passes c.args.full c.if-full.false, record { topology = c.in-Ok.ensures.topology; dim = c.in-Ok.ensures.dim; points = c.in-Ok.ensures.points })

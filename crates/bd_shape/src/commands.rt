@@ -9,10 +9,15 @@ ghost use Rattle.script_text.specs.Commands.{is_strict};
 ghost use Rattle.expr_text.specs.Printed.{constraints_text};
 ghost use Rattle.bd_shape.specs.Rows.{shape_constraints};
 ghost use Rattle.line_values.specs.Meaning.{on_one, on_two, line};
-ghost use Rattle.calc_state.specs.Shapes.{shape as make_shape, bounds as make_bounds, of_two_shapes as make_of_two, shape_contains as ask_contains, shape_print as tell_shape, shape_poly as make_poly, refusal_of_shape as named_refusal, IsSetOfShapes, LeavesInShapes};
+ghost use Rattle.bd_shape.specs.Commands.{shape as make_shape, bounds as make_bounds, of_two_shapes as make_of_two, shape_contains as ask_contains, shape_print as tell_shape, shape_poly as make_poly, refusal_of_shape as named_refusal, IsSetOfShapes, LeavesInShapes};
 ghost use Rattle.line_values.specs.Performed.{IsPerformed};
 
-use bd_shape::{Shape, ShapeErr, shape_from, shape_hull, shape_meet, shape_of, shape_rows};
+use crate::given::shape_from;
+use crate::listing::{self, shape_rows};
+use crate::pairs::{self, shape_hull, shape_meet};
+use crate::refusal::ShapeErr;
+use crate::shape::Shape;
+use crate::suprema::shape_of;
 use expr_text::{one_answer, print_cons};
 use line_values::{StepErr, answer, as_line, constraints_of};
 use poly_pair::{MAX_DIM, Poly, Topology};
@@ -131,7 +136,7 @@ pub fn shape_contains(alloc: Global, s: Option<&Shape>, t: Option<&Shape>) -> Re
     if s.dim() != t.dim() {
         return Err(StepErr::Input(Fault::DimMismatch));
     }
-    match bd_shape::shape_contains(alloc, s, t) {
+    match pairs::shape_contains(alloc, s, t) {
         Ok(holds) => answer(alloc, holds),
         Err(cause) => Err(StepErr::from(cause)),
     }
@@ -171,7 +176,7 @@ pub fn shape_poly<L: Ledger>(
         return Err(StepErr::Input(Fault::TooManyNames));
     }
     let _kept = s.dim();
-    match bd_shape::shape_poly(alloc, s, steps) {
+    match listing::shape_poly(alloc, s, steps) {
         Ok(made) => Ok(made),
         Err(cause) => Err(StepErr::from(cause)),
     }
