@@ -6,7 +6,6 @@ pub mod EndLaws
 pub mod FirstLines
 pub mod GivenReplies
 pub mod JobLaws
-pub mod RefusalLines
 pub mod SoundValues
 pub mod SoundParts
 pub mod SoundCommands

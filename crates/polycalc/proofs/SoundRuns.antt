@@ -10,14 +10,11 @@ use Rattle.reply_text.specs.Overflows.{kind_name, row_text}
 use Rattle.reply_text.specs.declared.faults.Fault.{Fault}
 use Rattle.reply_text.specs.declared.faults.Fault.TheVariants as fault
 use Rattle.poly_pair.specs.Polyhedra.{Polyhedron, IsKept}
-use Rattle.poly_pair.specs.declared.topology.Topology.TheVariants.{Closed}
 use Rattle.name_table.specs.Table.{has_no_room}
 use Rattle.cdd_reading.specs.declared.format.Format.{Format}
 use Rattle.cdd_reading.specs.declared.format.Format.TheVariants.{Ine, Ext}
 use Rattle.cdd_reading.specs.Refusals.{Test, tests, NoneOf}
 use Rattle.file_poly.specs.Files as poly_files
-use Rattle.file_poly.specs.declared.listed.Listed.{Listed}
-use Rattle.file_poly.specs.declared.listed.Listed.TheVariants.{Cons, Gens}
 use Rattle.job_texts.specs.Conversions.{linearity_behind, conversion_tests, IsOtherFile, ConvertsTo}
 use Rattle.script_text.specs.declared.command.Command.{Command}
 use Rattle.script_text.specs.declared.command.Command.TheVariants.{Read}
@@ -43,12 +40,13 @@ use Rattle.job_words.specs.declared.job.Job.TheVariants as job
 use Rattle.written_replies.specs.declared.status.Status.{Status}
 use Rattle.soundness.specs.Files.{IsRead}
 use Rattle.soundness.specs.Replies.{OpenFile, State, MayBeRefused, IsRefusal, file_begun, IsReply, IsEndReply, AreReplies, IsWrittenTo}
-use Rattle.soundness.proofs.PointLaws.{turn, set_of, closed_is_over}
-use Rattle.soundness.proofs.FileReads.{ine_reads, ext_reads, origin_is, nothing_behind}
+use Rattle.soundness.proofs.PointLaws.{set_of}
+use Rattle.soundness.proofs.FileReads.{nothing_behind}
+use Rattle.soundness.proofs.FileSets.{of_file, closed_file}
 use Rattle.soundness.proofs.TrueAnswers.{PolyLaws, ine_side, ext_side}
+use Rattle.soundness.proofs.RefusalLines.{no_feed, fault_plain, overflow_plain}
 use Rattle.polycalc.proofs.SoundValues.{named, named_put, AreKept, put_kept, after_kept}
 use Rattle.polycalc.proofs.SoundCommands.{Laws, accepted_does}
-use Rattle.polycalc.proofs.RefusalLines.{no_feed, fault_plain, overflow_plain}
 
 -- ---- states
 abbrev said_file : open_files.OpenFile → OpenFile
@@ -77,44 +75,6 @@ overflown over = record {
 }
 
 -- ---- files
-file_is : (ext : Bool) (bytes : List ℕ) (p : Polyhedron) (list : Listed) → IsKept p → NoneOf (tests (format_of ext) bytes) → poly_files.IsListOf (format_of ext) bytes list → poly_files.IsOfList list p → IsRead ext bytes (set_of p)
-file_is false bytes p (Cons cs) kept passes read set =
-    let f = ine_reads bytes cs passes read in
-    record {
-      marked = f.marked;
-      dim = cs.dim;
-      rows = f.rows;
-      file = f.file;
-      set = record { list = cs.list; say = f.says; set = record { over = closed_is_over cs.dim p kept set.over; points = λ v is. turn (set.points v is) } };
-    }
-file_is false bytes p (Gens gs) kept passes read set = absurd read
-file_is true bytes p (Cons cs) kept passes read set = absurd read
-file_is true bytes p (Gens gs) kept passes read set =
-    let f = ext_reads bytes gs passes read in
-    record {
-      marked = f.marked;
-      dim = gs.dim;
-      rows = f.rows;
-      file = f.file;
-      set = record {
-        listed = read.given;
-        say = f.says;
-        list = gs.list;
-        origin = origin_is bytes gs read;
-        set = record { over = closed_is_over gs.dim p kept set.over; points = λ v is. turn (set.points v is) };
-      };
-    }
-
-of_file : (ext : Bool) (bytes : List ℕ) (p : Polyhedron) → IsKept p → NoneOf (tests (format_of ext) bytes) → poly_files.IsOfFile (format_of ext) bytes p → IsRead ext bytes (set_of p)
-of_file ext bytes p kept passes h = file_is ext bytes p h.list kept passes h.read h.set
-
-closed_list : (list : Listed) (p : Polyhedron) → poly_files.IsOfList list p → p.topology ≡ Closed
-closed_list (Cons cs) p set = set.over.same_topology
-closed_list (Gens gs) p set = set.over.same_topology
-
-closed_file : (want : Format) (bytes : List ℕ) (p : Polyhedron) → poly_files.IsOfFile want bytes p → p.topology ≡ Closed
-closed_file want bytes p h = closed_list h.list p h.set
-
 -- the tests of the front of a list, and those behind it
 none_front : (ts us : List Test) → NoneOf (ts ++ us) → NoneOf ts
 none_front [] us h = tt

@@ -5,8 +5,10 @@ pub mod ShapeRows
 pub mod ShapeSets
 pub mod FileNumbers
 pub mod FileReads
+pub mod FileSets
 pub mod FileWrites
 pub mod TrueAnswers
+pub mod RefusalLines
 pub mod TextCases
 pub mod TextTokens
 pub mod TextNumbers
