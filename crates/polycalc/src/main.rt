@@ -8,13 +8,12 @@ ghost use Rattle.poly_io.specs.Counts.{HasRisen};
 ghost use Rattle.job_words.specs.Words.{IsAskedBy};
 ghost use Rattle.job_words.specs.declared.job.Job.{Job as AnyJob};
 
-mod arguments;
 mod completeness;
 mod runs;
 mod top;
 mod truth;
 
-use job_words::Words;
+use job_words::{Words, words_of};
 use poly_io::{StdSink, StdSource};
 use row_core::Steps;
 use std::alloc::Global;
@@ -29,7 +28,7 @@ use written_replies::{Status, exit_code};
 fn main(rt: HostRuntime) -> ExitCode {
     let mut source = StdSource::new(rt.stdin());
     let mut sink = StdSink::new(rt.stdout());
-    let status = match arguments::words_of(&rt) {
+    let status = match words_of(&rt) {
         Ok(words) => status_of::<Brand>(rt.alloc(), &words, &mut source, &mut sink, Blank::new(1)),
         Err(status) => status,
     };

@@ -1,13 +1,17 @@
 //! The program's arguments as words.
-use job_words::Words;
-use row_core::Memory;
+use crate::words::Words;
 use std::alloc::Global;
 use std::env;
 use std::env::Env;
 use std::io::ErrorKind;
 use written_replies::Status;
 
-/// The arguments without the program's own name. Where one isn't UTF-8 the words have no meaning.
+/// The arguments without the program's own name.
+///
+/// # Errors
+///
+/// `Usage` where one isn't UTF-8, since the words then have no meaning, and `Memory` where memory is
+/// refused.
 pub fn words_of(rt: &HostRuntime) -> Result<Words, Status> {
     let arguments = match env::args(rt) {
         Ok(arguments) => arguments,
