@@ -1,6 +1,6 @@
 //! A run of the calculator over the lines of a source, as they come.
-ghost use Rattle.std.specs.Prelude.{◌≡◌, ℕ, ◌≤◌, ◌⊎◌, List, [], take, false, OnOk, OnErr};
-ghost use Rattle.std.specs.Io.KnownBytes.{append_known, prepend_known};
+ghost use Rattle.std.specs.Prelude.{◌≡◌, ℕ, ◌≤◌, List, [], false, OnOk, OnErr};
+ghost use Rattle.std.specs.Io.KnownBytes.{prepend_known};
 ghost use Rattle.poly_io.specs.Counts.{HasRisen};
 ghost use Rattle.line_values.specs.Replies.{Reply};
 ghost use Rattle.calc_state.specs.Line.{Step, Gives};
@@ -79,7 +79,7 @@ fn answer_lines<S: Source, W: Sink, L: Ledger>(
             LineAns::TooLong => return Status::InputTooLong,
         }
         let Ok(()) = reply_to(calc, reader.line(), steps, replies) else {
-            return give_up(sink, replies);
+            return replies.give_up(sink);
         };
         if !reader.has_line() {
             match write_all(sink, replies.bytes()) {
@@ -115,23 +115,6 @@ fn end_script<W: Sink>(calc: &mut Calc, replies: &mut Replies, sink: &mut W) -> 
         Ok(()) => Status::Refused,
         Err(WriteAllErr::Failed) => Status::WriteFault,
         Err(WriteAllErr::Memory) => Status::Memory,
-    }
-}
-
-// The end of a run out of memory: the replies to the lines before are written.
-fn give_up<W: Sink>(sink: &mut W, replies: &Replies) -> Status
-    ensures status { (result ≡ Status.WriteFault) ⊎ (result ≡ Status.Memory) }
-    ensures partly { (count : ℕ) × (W.held sink.new ≡ append_known (W.held sink.old)
-        (take count replies.now.bytes)) }
-    ensures whole { result ≡ Status.Memory → ¬ (HasRisen (W.wants sink.old) (W.wants sink.new))
-        → W.held sink.new ≡ append_known (W.held sink.old) replies.now.bytes }
-    ensures no_fewer { W.faults sink.old ≤ W.faults sink.new }
-    ensures fault { result ≡ Status.WriteFault → HasRisen (W.faults sink.old) (W.faults sink.new) }
-{
-    let gathered = replies.bytes();
-    match write_all(sink, gathered) {
-        Err(WriteAllErr::Failed) => Status::WriteFault,
-        Ok(()) | Err(WriteAllErr::Memory) => Status::Memory,
     }
 }
 

@@ -1,5 +1,6 @@
 //! Replies, gathered before they are written.
-ghost use Rattle.std.specs.Prelude.{◌≡◌, ◌∷◌, ◌++◌, [], false, OnErr, OnOk};
+ghost use Rattle.std.specs.Prelude.{◌≡◌, ℕ, ◌≤◌, ◌⊎◌, ◌∷◌, ◌++◌, [], take, false, OnErr, OnOk};
+ghost use Rattle.std.specs.Io.KnownBytes.{append_known};
 ghost use Rattle.line_values.specs.Replies.{Answered, Refused, Overflows};
 ghost use Rattle.poly_io.specs.Counts.{HasRisen};
 ghost use Rattle.written_replies.specs.Replies.{written, with_reply, Adds};
@@ -120,6 +121,25 @@ impl Replies {
             Ok(()) => Status::Refused,
             Err(WriteAllErr::Failed) => Status::WriteFault,
             Err(WriteAllErr::Memory) => Status::Memory,
+        }
+    }
+
+    /// Writes the bytes where a run ends out of memory: all of them, unless the sink wants memory too
+    /// or a write fails.
+    pub fn give_up<W: Sink>(&self, sink: &mut W) -> Status
+        ensures status { (result ≡ Status.WriteFault) ⊎ (result ≡ Status.Memory) }
+        ensures partly { (count : ℕ) × (W.held sink.new ≡ append_known (W.held sink.old)
+            (take count self.now.bytes)) }
+        ensures whole { result ≡ Status.Memory → ¬ (HasRisen (W.wants sink.old) (W.wants sink.new))
+            → W.held sink.new ≡ append_known (W.held sink.old) self.now.bytes }
+        ensures no_fewer { W.faults sink.old ≤ W.faults sink.new }
+        ensures fault { result ≡ Status.WriteFault
+            → HasRisen (W.faults sink.old) (W.faults sink.new) }
+    {
+        let gathered = self.bytes();
+        match write_all(sink, gathered) {
+            Err(WriteAllErr::Failed) => Status::WriteFault,
+            Ok(()) | Err(WriteAllErr::Memory) => Status::Memory,
         }
     }
 
