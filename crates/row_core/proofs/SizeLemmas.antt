@@ -1,15 +1,15 @@
 -- Sizes of products and sums of numbers of bounded size.
 use Rattle.std.specs.Prelude.{◌≡◌, ℕ, zero, suc, ◌+◌, ◌*◌, ◌^◌, ◌<◌, ◌≤◌, List, [], ◌∷◌, length, take, drop, ℤ, pos, ◌+ℤ◌, unsigned_abs, bit_or}
-use Rattle.std.proofs.Common.{arith, refl, sym, subst, add-one}
+use Rattle.std.proofs.Common.{arith, refl, sym, subst, add-one, ap, ◌∙◌}
 use Rattle.std.proofs.Math.IntN.{◌*ℤ◌}
 use Rattle.std.proofs.Math.Nat.{mul-le-mul, mul-le-mul_right, suc-mul, one-le-pow, lt_of_not-le}
 use Rattle.std.proofs.Math.Pow.{pow_mono}
 use Rattle.std.proofs.lemmas.Grind.{pow_more}
 use Rattle.std.proofs.lemmas.Nat.{pow-add}
-use Rattle.std.specs.Int.{w64}
-use Rattle.std.proofs.lemmas.Int.{unsigned_abs-mul, fits_signed_from_abs}
+use Rattle.std.specs.Int.{w64, w128}
+use Rattle.std.proofs.lemmas.Int.{unsigned_abs-mul, fits_signed_from_abs, to_z-of_z}
 use Rattle.std.proofs.lemmas.Nat.{le_or_l, le_or_r}
-use mir.Val.{SFits}
+use mir.Val.{SFits, to_z, of_z}
 use Rattle.std.proofs.lemmas.List.Elements.{All-nil, All-cons, All-append, All-head, All-tail, All-get_or, All-take, All-drop}
 use Rattle.row_core.specs.Vectors.{cell, dot}
 use Rattle.row_core.specs.Range.{InRange, ColumnStays, CombineStays, DotStays, AllStay}
@@ -265,3 +265,9 @@ InRange-word_product x y h k =
 -- a number of so few bits is a word
 pub word_of_bits : (z : ℤ) → IsWithin (2 ^ 62) z → SFits w64 z
 word_of_bits z h = fits_signed_from_abs w64 z (omega (arith, h.size))
+
+-- an entry that is a word is the same after it was cut to one
+pub to_z-of_cut :
+    (x : ℤ) → SFits w128 x → SFits w64 x → to_z w64 (of_z w64 (to_z w128 (of_z w128 x))) ≡ x
+to_z-of_cut x wide word =
+    ap (λ z. to_z w64 (of_z w64 z)) (to_z-of_z w128 x wide) ∙ to_z-of_z w64 x word

@@ -14,6 +14,30 @@ use Rattle.row_core.proofs.linear.write_onto.Goals as goal
 fits : (z : ℤ) → InRange z → SFits w128 z
 fits z h = fits_signed_from_abs w128 z h.size
 
+pub overflow_mul-dst : goal.overflow_mul-dst
+overflow_mul-dst c =
+    let x : ℤ = get_or c.loop-j.dst c.loop-j.j (pos 0) in
+    let y : ℤ = get_or c.args.v.now c.loop-j.j (pos 0) in
+    let entry_fits : SFits w128 x = search rules in
+    let stays : ColumnStays c.args.s x c.args.t y =
+    subst (λ (z : ℤ). ColumnStays c.args.s z c.args.t y)
+    (sym (c.loop-j.invariant.rest c.loop-j.j (omega arith)))
+    (c.requires.stays c.loop-j.j c.loop-j-test.true) in
+    rw (to_z-of_z w128 c.args.s c.ranges.s, to_z-of_z w128 x entry_fits)
+    (fits (c.args.s *ℤ x) stays.left)
+
+pub overflow_mul-dst-in-loop-j : goal.overflow_mul-dst-in-loop-j
+overflow_mul-dst-in-loop-j c =
+    let x : ℤ = get_or c.loop-j.dst c.loop-j.j (pos 0) in
+    let y : ℤ = get_or c.args.v.now c.loop-j.j (pos 0) in
+    let entry_fits : SFits w128 y = search rules in
+    let stays : ColumnStays c.args.s x c.args.t y =
+    subst (λ (z : ℤ). ColumnStays c.args.s z c.args.t y)
+    (sym (c.loop-j.invariant.rest c.loop-j.j (omega arith)))
+    (c.requires.stays c.loop-j.j c.loop-j-test.true) in
+    rw (to_z-of_z w128 c.args.t c.ranges.t, to_z-of_z w128 y entry_fits)
+    (fits (c.args.t *ℤ y) stays.right)
+
 pub overflow_add-dst : goal.overflow_add-dst
 overflow_add-dst c =
     let x : ℤ = get_or c.loop-j.dst c.loop-j.j (pos 0) in

@@ -7,6 +7,16 @@ use Rattle.row_core.specs.Vectors.{cell}
 use Rattle.row_core.proofs.ColumnLemmas.{total_more, stays_then}
 use Rattle.row_core.proofs.sizes.exact_dot.Goals as goal
 
+pub overflow_mul-total : goal.overflow_mul-total
+overflow_mul-total c =
+    let u_fits : SFits w128 (get_or c.args.u.now c.loop-j.j (pos 0)) = search rules in
+    let v_fits : SFits w128 (get_or c.args.v.now c.loop-j.j (pos 0)) = search rules in
+    let next = stays_then c.args.u.now c.args.v.now c.loop-j.j (to_z w128 c.loop-j.total-bits)
+    c.loop-j-test.true c.requires.same_width c.loop-j.invariant.total
+    (c.requires.stays c.loop-j.j c.loop-j-test.true) in
+    rw (to_z-of_z w128 (get_or c.args.u.now c.loop-j.j (pos 0)) u_fits, to_z-of_z w128 (get_or c.args.v.now c.loop-j.j (pos 0)) v_fits)
+    (fits_signed_from_abs w128 (get_or c.args.u.now c.loop-j.j (pos 0) *ℤ get_or c.args.v.now c.loop-j.j (pos 0)) next.0.size)
+
 pub overflow_add-total : goal.overflow_add-total
 overflow_add-total c =
     let total : ℤ = to_z w128 c.loop-j.total-bits in

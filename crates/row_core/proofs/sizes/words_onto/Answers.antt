@@ -9,10 +9,60 @@ use Rattle.std.proofs.lemmas.List.Elements.{All-from_get_or}
 use mir.Val.{SFits}
 use Rattle.row_core.specs.Vectors.{cell}
 use Rattle.row_core.specs.Range.{InRange}
-use Rattle.row_core.specs.Sizes.{IsWithin, ColumnIsOfWords}
+use Rattle.row_core.specs.Sizes.{IsWord, IsWithin, ColumnIsOfWords}
 use Rattle.row_core.proofs.CellLemmas.{combination_from_cells, written_more}
-use Rattle.row_core.proofs.SizeLemmas.{AllStay-combined_words}
+use Rattle.row_core.proofs.SizeLemmas.{AllStay-combined_words, to_z-of_cut}
 use Rattle.row_core.proofs.sizes.words_onto.Goals as goal
+
+-- a word fits one
+fits : (x : ℤ) → IsWord x → SFits w64 x
+fits x h = fits_signed_from_abs w64 x h.size
+
+pub overflow_cast-entry : goal.overflow_cast-entry
+overflow_cast-entry c =
+    let x : ℤ = get_or c.loop-j.dst c.loop-j.j (pos 0) in
+    let y : ℤ = get_or c.args.v.now c.loop-j.j (pos 0) in
+    let entry_fits : SFits w128 x = search rules in
+    let words : ColumnIsOfWords c.args.s x c.args.t y =
+    subst (λ (z : ℤ). ColumnIsOfWords c.args.s z c.args.t y)
+    (sym (c.loop-j.invariant.rest c.loop-j.j (omega arith)))
+    (c.requires.words c.loop-j.j c.loop-j-test.true) in
+    rw (to_z-of_z w128 x entry_fits) (fits x words.entries.0)
+
+pub overflow_mul-entry : goal.overflow_mul-entry
+overflow_mul-entry c =
+    let x : ℤ = get_or c.loop-j.dst c.loop-j.j (pos 0) in
+    let y : ℤ = get_or c.args.v.now c.loop-j.j (pos 0) in
+    let entry_fits : SFits w128 x = search rules in
+    let words : ColumnIsOfWords c.args.s x c.args.t y =
+    subst (λ (z : ℤ). ColumnIsOfWords c.args.s z c.args.t y)
+    (sym (c.loop-j.invariant.rest c.loop-j.j (omega arith)))
+    (c.requires.words c.loop-j.j c.loop-j-test.true) in
+    rw (to_z-of_z w64 c.args.s c.ranges.s, to_z-of_cut x entry_fits (fits x words.entries.0))
+    (fits (c.args.s *ℤ x) words.left)
+
+pub overflow_cast-entry-in-loop-j : goal.overflow_cast-entry-in-loop-j
+overflow_cast-entry-in-loop-j c =
+    let x : ℤ = get_or c.loop-j.dst c.loop-j.j (pos 0) in
+    let y : ℤ = get_or c.args.v.now c.loop-j.j (pos 0) in
+    let entry_fits : SFits w128 y = search rules in
+    let words : ColumnIsOfWords c.args.s x c.args.t y =
+    subst (λ (z : ℤ). ColumnIsOfWords c.args.s z c.args.t y)
+    (sym (c.loop-j.invariant.rest c.loop-j.j (omega arith)))
+    (c.requires.words c.loop-j.j c.loop-j-test.true) in
+    rw (to_z-of_z w128 y entry_fits) (fits y words.entries.1)
+
+pub overflow_mul-entry-in-loop-j : goal.overflow_mul-entry-in-loop-j
+overflow_mul-entry-in-loop-j c =
+    let x : ℤ = get_or c.loop-j.dst c.loop-j.j (pos 0) in
+    let y : ℤ = get_or c.args.v.now c.loop-j.j (pos 0) in
+    let entry_fits : SFits w128 y = search rules in
+    let words : ColumnIsOfWords c.args.s x c.args.t y =
+    subst (λ (z : ℤ). ColumnIsOfWords c.args.s z c.args.t y)
+    (sym (c.loop-j.invariant.rest c.loop-j.j (omega arith)))
+    (c.requires.words c.loop-j.j c.loop-j-test.true) in
+    rw (to_z-of_z w64 c.args.t c.ranges.t, to_z-of_cut y entry_fits (fits y words.entries.1))
+    (fits (c.args.t *ℤ y) words.right)
 
 pub overflow_add-entry : goal.overflow_add-entry
 overflow_add-entry c =
