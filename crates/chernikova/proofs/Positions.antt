@@ -22,7 +22,7 @@ use Rattle.row_core.specs.Pairs.{value_at}
 use Rattle.row_store.specs.Changes.{IsRayChange}
 use Rattle.sat_matrix.specs.Pairs.{AreAllCrosses}
 use Rattle.chernikova.specs.Conversion.{IsState, IsRayOutcome}
-use Rattle.chernikova.specs.Plans.{IsMet, IsPosition, HasValues}
+use Rattle.chernikova.specs.Plans.{StepLists, IsMet, IsPosition, HasValues}
 use Rattle.chernikova.proofs.StateLemmas.{ray_step_from}
 use Rattle.row_store.proofs.ValueLemmas.{length-values_on}
 use Rattle.flat_rows.proofs.Marked.{marked_all}
@@ -91,8 +91,8 @@ met_state width rows k cone values sat below state met column =
     ray_state width rows k cone cone.rays values marks [] sat below state outcome (column_is_step values marks cone.sat sat (all_marked eq values met.1) (omega (arith, state.zeros.each.as_many, size)) column)
 
 -- ---- values
-pub has_values : (width : ℕ) (rows : List Row) (k : ℕ) (cone : System) (p : Position) → IsState width rows k cone → IsPosition rows k cone p → HasValues (length cone.sat.rows) p
-has_values width rows k cone (position.Crossing line) state is = tt
-has_values width rows k cone (position.Met values) state is = tt
-has_values width rows k cone (position.Cutting values) state is =
+pub has_values : (width : ℕ) (rows : List Row) (k : ℕ) (cone : System) (lists : StepLists) (p : Position) → IsState width rows k cone → IsPosition rows k cone lists p → HasValues (length cone.sat.rows) lists p
+has_values width rows k cone lists (position.Crossing index) state is = tt
+has_values width rows k cone lists position.Met state is = tt
+has_values width rows k cone lists position.Cutting state is =
     omega (arith, ap length is.0.are_values, length-values_on (row_at rows k) (vectors cone.rays.rows), state.zeros.each.as_many)

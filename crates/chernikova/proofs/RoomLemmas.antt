@@ -13,7 +13,7 @@ use Rattle.chernikova.specs.declared.plan.Plan.{Plan}
 use Rattle.chernikova.specs.declared.plan.Plan.TheVariants as plan
 use Rattle.row_store.specs.Values.{values_on}
 use Rattle.chernikova.specs.Conversion.{IsState}
-use Rattle.chernikova.specs.Plans.{IsPlan, IsFlat}
+use Rattle.chernikova.specs.Plans.{StepLists, IsPlan, IsFlat}
 use Rattle.chernikova.specs.Rooms.{HasSameVectors}
 
 -- the system with room, with the table of before, is that of the same rows
@@ -42,17 +42,17 @@ same_flat row old new values same h = record {
 }
 
 -- and the plan is the same
-pub same_plan : (rows : List Row) (k : ℕ) (old new : System) (step : Plan) → HasSameVectors old new → IsPlan rows k old step → IsPlan rows k (record new { sat = old.sat }) step
-same_plan rows k old new (plan.Line line) same h = record {
-  crossing = let P : List Row → Type 0 = λ ls. IsLastCrossing (row_at rows k) (vectors ls) line.index in subst P (sym same.lines.rows) h.crossing;
+pub same_plan : (rows : List Row) (k : ℕ) (old new : System) (lists : StepLists) (step : Plan) → HasSameVectors old new → IsPlan rows k old lists step → IsPlan rows k (record new { sat = old.sat }) lists step
+same_plan rows k old new lists (plan.Line index) same h = record {
+  crossing = let P : List Row → Type 0 = λ ls. IsLastCrossing (row_at rows k) (vectors ls) index in subst P (sym same.lines.rows) h.crossing;
   are_line_values = h.are_line_values ∙ ap (λ (ls : List Row). values_on (row_at rows k) (vectors ls)) (sym same.lines.rows);
   are_ray_values = h.are_ray_values ∙ ap (λ (rs : List Row). values_on (row_at rows k) (vectors rs)) (sym same.rays.rows);
   lines_in_range = h.lines_in_range;
   rays_in_range = h.rays_in_range;
 }
-same_plan rows k old new (plan.Same values) same h = (same_flat (row_at rows k, is_eq_at rows k) old new values.items same h.0, h.1)
-same_plan rows k old new (plan.Ray cut) same h = record {
-  cutting = (same_flat (row_at rows k, is_eq_at rows k) old new cut.values.items same h.cutting.0, h.cutting.1);
+same_plan rows k old new lists plan.Same same h = (same_flat (row_at rows k, is_eq_at rows k) old new lists.ray_values same h.0, h.1)
+same_plan rows k old new lists plan.Ray same h = record {
+  cutting = (same_flat (row_at rows k, is_eq_at rows k) old new lists.ray_values same h.cutting.0, h.cutting.1);
   are_marks = h.are_marks;
   crosses = h.crosses;
 }

@@ -14,7 +14,7 @@ use Rattle.chernikova.specs.declared.plan.Plan.{Plan}
 use Rattle.chernikova.specs.declared.plan.Plan.TheVariants as plan
 use Rattle.sat_matrix.specs.Pairs.{AreAllCrosses}
 use Rattle.chernikova.specs.Conversion.{IsState, IsCountedBetween, IsCountedUpto}
-use Rattle.chernikova.specs.Plans.{IsFlat, IsPosition, IsPlan, kept_of, combinations_of}
+use Rattle.chernikova.specs.Plans.{StepLists, IsFlat, IsPosition, IsPlan, kept_of, combinations_of}
 use Rattle.chernikova.proofs.Counts.{count_none, count_line, count_kept, count_pairs, counted_more, counted_all}
 use Rattle.row_core.proofs.RowListLemmas.{length-vectors}
 
@@ -57,12 +57,12 @@ counted_less width rows from k total less h below =
 
 -- ---- one row
 -- the combinations of a plan are at most as many as the next system has vectors
-pub plan_counted : (width : ℕ) (rows : List Row) (k : ℕ) (cone : System) (p : Plan) (number : ℕ) → k < length rows → IsState width rows k cone → IsPlan rows k cone p → number ≤ combinations_of cone p → HasSystemOf width rows (k + 1) number
-plan_counted width rows k cone (plan.Line line) number below state is_plan bound =
-    count_line width rows k cone.lines.rows cone.rays.rows _ line.index number below state.system refl is_plan.crossing (omega (arith, bound, is_plan.crossing.below, length-vectors cone.lines.rows))
-plan_counted width rows k cone (plan.Same values) number below state is_plan bound = count_none width rows k number below (omega (arith, bound))
-plan_counted width rows k cone (plan.Ray cut) number below state is_plan bound =
-    count_pairs width rows k (vectors cone.lines.rows) (vectors cone.rays.rows) cut.values.items below state.system is_plan.cutting.0.are_values is_plan.cutting.0.flat cone.sat cut.pairs.items number state.zeros is_plan.crosses (omega (arith, bound))
+pub plan_counted : (width : ℕ) (rows : List Row) (k : ℕ) (cone : System) (lists : StepLists) (p : Plan) (number : ℕ) → k < length rows → IsState width rows k cone → IsPlan rows k cone lists p → number ≤ combinations_of cone lists p → HasSystemOf width rows (k + 1) number
+plan_counted width rows k cone lists (plan.Line index) number below state is_plan bound =
+    count_line width rows k cone.lines.rows cone.rays.rows _ index number below state.system refl is_plan.crossing (omega (arith, bound, is_plan.crossing.below, length-vectors cone.lines.rows))
+plan_counted width rows k cone lists plan.Same number below state is_plan bound = count_none width rows k number below (omega (arith, bound))
+plan_counted width rows k cone lists plan.Ray number below state is_plan bound =
+    count_pairs width rows k (vectors cone.lines.rows) (vectors cone.rays.rows) lists.ray_values below state.system is_plan.cutting.0.are_values is_plan.cutting.0.flat cone.sat lists.pairs number state.zeros is_plan.crosses (omega (arith, bound))
 
 -- a row that is 0 on all lines: these and the rays that meet it may be counted, however many pairs cross
 flat_kept : (width : ℕ) (rows : List Row) (k : ℕ) (cone : System) (values : List ℤ) (number : ℕ) → k < length rows → IsState width rows k cone → IsFlat (row_at rows k, is_eq_at rows k) cone values → number ≤ length cone.lines.rows + count_by (λ value. stays (is_eq_at rows k) value) values → HasSystemOf width rows (k + 1) number
@@ -70,25 +70,25 @@ flat_kept width rows k cone values number below state is bound =
     count_kept width rows k (vectors cone.lines.rows) (vectors cone.rays.rows) values below state.system is.are_values is.flat number (omega (arith, bound, length-vectors cone.lines.rows))
 
 -- and the combinations of its plan
-flat_counted : (width : ℕ) (rows : List Row) (k : ℕ) (cone : System) (values : List ℤ) (p : Plan) (number : ℕ) → k < length rows → IsState width rows k cone → IsFlat (row_at rows k, is_eq_at rows k) cone values → IsPlan rows k cone p → number ≤ length cone.lines.rows + count_by (λ value. stays (is_eq_at rows k) value) values + combinations_of cone p → HasSystemOf width rows (k + 1) number
-flat_counted width rows k cone values (plan.Line line) number below state is is_plan bound = absurd (is_plan.crossing.crosses (is.flat line.index is_plan.crossing.below))
-flat_counted width rows k cone values (plan.Same same) number below state is is_plan bound = flat_kept width rows k cone values number below state is (omega (arith, bound))
-flat_counted width rows k cone values (plan.Ray cut) number below state is is_plan bound =
-    count_pairs width rows k (vectors cone.lines.rows) (vectors cone.rays.rows) values below state.system is.are_values is.flat cone.sat cut.pairs.items number state.zeros
-    (subst (λ (vs : List ℤ). AreAllCrosses vs cone.sat cut.pairs.items) (is_plan.cutting.0.are_values ∙ sym is.are_values) is_plan.crosses)
+flat_counted : (width : ℕ) (rows : List Row) (k : ℕ) (cone : System) (values : List ℤ) (lists : StepLists) (p : Plan) (number : ℕ) → k < length rows → IsState width rows k cone → IsFlat (row_at rows k, is_eq_at rows k) cone values → IsPlan rows k cone lists p → number ≤ length cone.lines.rows + count_by (λ value. stays (is_eq_at rows k) value) values + combinations_of cone lists p → HasSystemOf width rows (k + 1) number
+flat_counted width rows k cone values lists (plan.Line index) number below state is is_plan bound = absurd (is_plan.crossing.crosses (is.flat index is_plan.crossing.below))
+flat_counted width rows k cone values lists plan.Same number below state is is_plan bound = flat_kept width rows k cone values number below state is (omega (arith, bound))
+flat_counted width rows k cone values lists plan.Ray number below state is is_plan bound =
+    count_pairs width rows k (vectors cone.lines.rows) (vectors cone.rays.rows) values below state.system is.are_values is.flat cone.sat lists.pairs number state.zeros
+    (subst (λ (vs : List ℤ). AreAllCrosses vs cone.sat lists.pairs) (is_plan.cutting.0.are_values ∙ sym is.are_values) is_plan.crosses)
     (omega (arith, bound, length-vectors cone.lines.rows))
 
 -- what stays may be counted before the row's pairs are known
-pub kept_counted : (width : ℕ) (rows : List Row) (k : ℕ) (cone : System) (p : Position) (number : ℕ) → k < length rows → IsState width rows k cone → IsPosition rows k cone p → number ≤ kept_of (is_eq_at rows k) cone p → HasSystemOf width rows (k + 1) number
-kept_counted width rows k cone (position.Crossing line) number below state is bound = count_none width rows k number below (omega (arith, bound))
-kept_counted width rows k cone (position.Met values) number below state is bound = flat_kept width rows k cone values.items number below state is.0 bound
-kept_counted width rows k cone (position.Cutting values) number below state is bound = flat_kept width rows k cone values.items number below state is.0 bound
+pub kept_counted : (width : ℕ) (rows : List Row) (k : ℕ) (cone : System) (lists : StepLists) (p : Position) (number : ℕ) → k < length rows → IsState width rows k cone → IsPosition rows k cone lists p → number ≤ kept_of (is_eq_at rows k) cone lists p → HasSystemOf width rows (k + 1) number
+kept_counted width rows k cone lists (position.Crossing index) number below state is bound = count_none width rows k number below (omega (arith, bound))
+kept_counted width rows k cone lists position.Met number below state is bound = flat_kept width rows k cone lists.ray_values number below state is.0 bound
+kept_counted width rows k cone lists position.Cutting number below state is bound = flat_kept width rows k cone lists.ray_values number below state is.0 bound
 
 -- and beside it the combinations of the row's plan
-pub placed_counted : (width : ℕ) (rows : List Row) (k : ℕ) (cone : System) (p : Position) (q : Plan) (number : ℕ) → k < length rows → IsState width rows k cone → IsPosition rows k cone p → IsPlan rows k cone q → number ≤ kept_of (is_eq_at rows k) cone p + combinations_of cone q → HasSystemOf width rows (k + 1) number
-placed_counted width rows k cone (position.Crossing line) q number below state is is_plan bound = plan_counted width rows k cone q number below state is_plan (omega (arith, bound))
-placed_counted width rows k cone (position.Met values) q number below state is is_plan bound = flat_counted width rows k cone values.items q number below state is.0 is_plan bound
-placed_counted width rows k cone (position.Cutting values) q number below state is is_plan bound = flat_counted width rows k cone values.items q number below state is.0 is_plan bound
+pub placed_counted : (width : ℕ) (rows : List Row) (k : ℕ) (cone : System) (before lists : StepLists) (p : Position) (q : Plan) (number : ℕ) → k < length rows → IsState width rows k cone → IsPosition rows k cone before p → IsPlan rows k cone lists q → number ≤ kept_of (is_eq_at rows k) cone before p + combinations_of cone lists q → HasSystemOf width rows (k + 1) number
+placed_counted width rows k cone before lists (position.Crossing index) q number below state is is_plan bound = plan_counted width rows k cone lists q number below state is_plan (omega (arith, bound))
+placed_counted width rows k cone before lists position.Met q number below state is is_plan bound = flat_counted width rows k cone before.ray_values lists q number below state is.0 is_plan bound
+placed_counted width rows k cone before lists position.Cutting q number below state is is_plan bound = flat_counted width rows k cone before.ray_values lists q number below state is.0 is_plan bound
 
 -- what is left of the vectors of the next system may be counted on top
 pub spared_counted : (width : ℕ) (rows : List Row) (k : ℕ) (cone : System) (number made spared : ℕ) → IsState width rows k cone → HasSystemOf width rows k number → number ≤ made → spared ≡ length cone.lines.rows + length cone.rays.rows - made → HasSystemOf width rows k (number + spared)

@@ -12,12 +12,11 @@ use Rattle.cone_laws.proofs.MemberLemmas.{spanned_within}
 use Rattle.cone_laws.proofs.RaySteps.{asks_stays}
 use Rattle.cone_laws.proofs.UptoRows.{both_zero, upto_less, upto_row}
 use Rattle.chernikova.specs.declared.system.System.{System}
-use Rattle.chernikova.specs.declared.plan.CrossedLine.{CrossedLine}
 use Rattle.chernikova.specs.declared.plan.Plan.{Plan}
 use Rattle.chernikova.specs.declared.plan.Plan.TheVariants as plan
 use Rattle.row_core.specs.Pairs.{value_at}
 use Rattle.chernikova.specs.Conversion.{IsState, TellsChange}
-use Rattle.chernikova.specs.Plans.{IsLinePlan, IsMet, IsCutting, IsPlan, changes_system}
+use Rattle.chernikova.specs.Plans.{StepLists, IsLinePlan, IsMet, IsCutting, IsPlan, changes_system}
 use Rattle.row_store.proofs.ValueLemmas.{length-values_on, value_at-values_on}
 use Rattle.chernikova.proofs.NextStates.{row_is_at}
 use Rattle.chernikova.proofs.Positions.{met_system}
@@ -30,10 +29,10 @@ met_same width rows k cone values below state met = record {
 }
 
 -- a line on which the row isn't 0, and its negative, don't both meet it
-line_changes : (width : ℕ) (rows : List Row) (k : ℕ) (cone : System) (last : CrossedLine) → IsState width rows k cone → IsLinePlan (row_at rows k, is_eq_at rows k) cone last → ¬ (AdmitSame width rows k rows (k + 1))
-line_changes width rows k cone last state is same =
-    let line : List ℤ = vector_at (vectors cone.lines.rows) last.index in
-    let both = state.system.generates.lines_within last.index [] is.crossing.below in
+line_changes : (width : ℕ) (rows : List Row) (k : ℕ) (cone : System) (lists : StepLists) (index : ℕ) → IsState width rows k cone → IsLinePlan (row_at rows k, is_eq_at rows k) cone lists index → ¬ (AdmitSame width rows k rows (k + 1))
+line_changes width rows k cone lists index state is same =
+    let line : List ℤ = vector_at (vectors cone.lines.rows) index in
+    let both = state.system.generates.lines_within index [] is.crossing.below in
     is.crossing.crosses (both_zero width rows (k + 1) line (same.first _ both.0) (same.first _ both.1) k ([], false) (omega arith))
 
 -- a ray that doesn't meet the row
@@ -47,10 +46,10 @@ cut_changes width rows k cone values below state is same =
     false≢true (sym is.1.2 ∙ ap (λ v. stays (is_eq_at rows k) v) value ∙ asks_stays (is_eq_at rows k) (dot (row_at rows k) ray) meets)
 
 -- what a plan says of the change
-pub plan_tells : (width : ℕ) (rows : List Row) (k : ℕ) (cone : System) (p : Plan) → k < length rows → IsState width rows k cone → IsPlan rows k cone p → TellsChange width rows k (k + 1) (changes_system p)
-plan_tells width rows k cone (plan.Line line) below state is = line_changes width rows k cone line state is
-plan_tells width rows k cone (plan.Same values) below state is = met_same width rows k cone values.items below state is
-plan_tells width rows k cone (plan.Ray cut) below state is = cut_changes width rows k cone cut.values.items below state is.cutting
+pub plan_tells : (width : ℕ) (rows : List Row) (k : ℕ) (cone : System) (lists : StepLists) (p : Plan) → k < length rows → IsState width rows k cone → IsPlan rows k cone lists p → TellsChange width rows k (k + 1) (changes_system p)
+plan_tells width rows k cone lists (plan.Line index) below state is = line_changes width rows k cone lists index state is
+plan_tells width rows k cone lists plan.Same below state is = met_same width rows k cone lists.ray_values below state is
+plan_tells width rows k cone lists plan.Ray below state is = cut_changes width rows k cone lists.ray_values below state is.cutting
 
 -- ---- many rows
 back : (width : ℕ) (rows : List Row) (from k : ℕ) → from ≤ k → (v : List ℤ) → Upto width rows k v → Upto width rows from v

@@ -1,7 +1,7 @@
 use Rattle.std.specs.Prelude.{◌≡◌, ℕ, ◌≤◌, List, length, true, IfSome, ⊤}
 use Rattle.row_core.specs.Lists.{Row}
 use Rattle.chernikova.specs.Conversion.{IsState}
-use Rattle.chernikova.specs.Plans.{IsPlan}
+use Rattle.chernikova.specs.Plans.{StepLists, lists_of, IsPlan}
 use Rattle.ray_order.specs.RowOrders.{AreReordered}
 use Rattle.chernikova.specs.declared.system.System.{System}
 use Rattle.chernikova.specs.declared.taking.Search.{Search}
@@ -10,7 +10,9 @@ use Rattle.chernikova.specs.declared.beside.Beside.{Beside}
 
 -- what the next row asks for, if that is known
 abbrev pub IsPlanned : Beside → Type 0
-IsPlanned beside = IfSome beside.plan (IsPlan beside.rows.rows beside.taken beside.system)
+IsPlanned beside =
+    let lists = lists_of beside.scratch in
+    IfSome beside.plan (IsPlan beside.rows.rows beside.taken beside.system lists)
 
 -- the rows of a list in another order, the system of those taken in, and the plan of the next
 pub record IsRunning (width : ℕ) (rows : List Row) (beside : Beside) : Type 0 where
@@ -30,6 +32,6 @@ pub record IsDone (width : ℕ) (rows : List Row) (beside : Beside) : Type 0 whe
   pub all : beside.taken ≡ length rows
 
 -- what came of the search for what row k asks of a system
-abbrev pub IsSearchOfRow : List Row → ℕ → System → Search → Type 0
-IsSearchOfRow rows k cone (search.Found looks plan) = IsPlan rows k cone plan
-IsSearchOfRow rows k cone (search.Dear looks) = ⊤
+abbrev pub IsSearchOfRow : List Row → ℕ → System → StepLists → Search → Type 0
+IsSearchOfRow rows k cone lists (search.Found looks plan) = IsPlan rows k cone lists plan
+IsSearchOfRow rows k cone lists (search.Dear looks) = ⊤

@@ -4,7 +4,7 @@ use Rattle.row_core.specs.Lists.{Row}
 use Rattle.row_store.specs.Vectors.{HasSame, HasRoomForStep}
 use Rattle.sat_matrix.specs.TableSteps.{HasFalseColumn}
 use Rattle.chernikova.specs.Conversion.{IsState}
-use Rattle.chernikova.specs.Plans.{IsPlan}
+use Rattle.chernikova.specs.Plans.{lists_of, IsPlan}
 use Rattle.chernikova.specs.declared.scratch.Scratch.{Scratch}
 use Rattle.chernikova.specs.declared.system.System.{System}
 use Rattle.chernikova.specs.declared.plan.Plan.{Plan}
@@ -27,15 +27,15 @@ pub record HasRayRoom (pairs : ℕ) (cone : System) : Type 0 where
 
 -- there is all room that the step takes
 abbrev pub HasRoom : Plan → Scratch → System → Type 0
-HasRoom (plan.Line line) scratch cone = HasLineRoom scratch cone
-HasRoom (plan.Same values) scratch cone = ⊤
-HasRoom (plan.Ray cut) scratch cone = HasRayRoom (length cut.pairs.items) cone
+HasRoom (plan.Line index) scratch cone = HasLineRoom scratch cone
+HasRoom plan.Same scratch cone = ⊤
+HasRoom plan.Ray scratch cone = HasRayRoom (length scratch.pair_lists.pairs.items) cone
 
 -- the system of the rows before row k, the plan of the step with it, and room for that step
 pub record IsReady (width : ℕ) (rows : List Row) (k : ℕ) (step : Plan) (scratch : Scratch)
     (cone : System) : Type 0 where
   pub before : Table
   pub state : IsState width rows k (record cone { sat = before })
-  pub planned : IsPlan rows k (record cone { sat = before }) step
+  pub planned : IsPlan rows k (record cone { sat = before }) (lists_of scratch) step
   pub column : HasFalseColumn before cone.sat
   pub room : HasRoom step scratch cone

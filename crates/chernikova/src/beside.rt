@@ -2,7 +2,7 @@
 ghost use Rattle.std.specs.Prelude.{◌≡◌, ℕ, ◌+◌, ◌<◌, ◌≤◌, List, length, true, false, IsTrue, IfOk};
 ghost use Rattle.row_core.specs.Lists.{Row};
 ghost use Rattle.chernikova.specs.Conversion.{IsState};
-ghost use Rattle.chernikova.specs.Plans.{kept_of};
+ghost use Rattle.chernikova.specs.Plans.{lists_of, kept_of};
 ghost use Rattle.chernikova.specs.Beside.{IsBeside, IsPlanned, IsRunning, IsDone};
 
 use crate::conversion::start;
@@ -209,7 +209,7 @@ impl Beside {
         let Some(plan) = self.plan.take() else {
             return;
         };
-        let combinations = plan.combinations(&self.system);
+        let combinations = plan.combinations(&self.scratch, &self.system);
         if combinations > *slack {
             self.needed = combinations;
             self.plan = Some(plan);
@@ -256,13 +256,19 @@ impl Beside {
     /// How many lines and rays count as slack before the pairs of the next row of the list's
     /// order are sought, from how that row lies to them: those that stay, while there is a use
     /// for slack.
-    pub(crate) fn slack_before(&self, position: &Position, eq: bool, cone: &System) -> u128
-        ensures { result ≤ kept_of eq cone.now position.now }
+    pub(crate) fn slack_before(
+        &self,
+        position: Position,
+        scratch: &Scratch,
+        eq: bool,
+        cone: &System,
+    ) -> u128
+        ensures { result ≤ kept_of eq cone.now (lists_of scratch.now) position }
     {
         if !self.running {
             return 0;
         }
-        position.kept(eq, cone)
+        position.kept(scratch, eq, cone)
     }
 
     /// Whether it has taken in all rows.

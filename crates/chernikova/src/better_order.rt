@@ -123,11 +123,11 @@ impl Race {
         let least = least_shared(rows.width(), self.system.lines.len());
         self.looks = self
             .looks
-            .saturating_add(position.looks(&self.system.sat, least));
+            .saturating_add(position.looks(&self.scratch, &self.system.sat, least));
         self.beside.begin(rows, self.looks, k);
         let kept = self
             .beside
-            .slack_before(&position, rows.is_eq(k), &self.system);
+            .slack_before(position, &self.scratch, rows.is_eq(k), &self.system);
         self.slack = self.slack.saturating_add(kept);
         self.beside
             .catch_up(rows, self.looks, k, &mut self.slack, steps);

@@ -1,5 +1,5 @@
 //! The lists that a step works with.
-use row_store::VectorList;
+use row_store::{Marks, Values, VectorList};
 use sat_matrix::PairLists;
 use std::alloc::Global;
 
@@ -7,9 +7,9 @@ use std::alloc::Global;
 /// allocator of a step.
 pub(crate) struct Scratch {
     pub(crate) alloc: Global,
-    pub(crate) line_values: Vec<i128>,
-    pub(crate) ray_values: Vec<i128>,
-    pub(crate) marks: Vec<bool>,
+    pub(crate) line_values: Values,
+    pub(crate) ray_values: Values,
+    pub(crate) marks: Marks,
     pub(crate) pair_lists: PairLists,
     pub(crate) lines: VectorList,
     pub(crate) rays: VectorList,
@@ -35,9 +35,9 @@ impl Scratch {
     pub(crate) fn new(alloc: Global) -> Scratch {
         Scratch {
             alloc,
-            line_values: Vec::new(alloc),
-            ray_values: Vec::new(alloc),
-            marks: Vec::new(alloc),
+            line_values: Values::new(alloc),
+            ray_values: Values::new(alloc),
+            marks: Marks::new(alloc),
             pair_lists: PairLists::new(alloc),
             lines: VectorList::new(alloc, 0),
             rays: VectorList::new(alloc, 0),

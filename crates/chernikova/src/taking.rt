@@ -3,7 +3,7 @@ ghost use Rattle.std.specs.Prelude.{◌+◌, ◌-◌, ◌<◌, ◌≤◌, length
 ghost use Rattle.row_core.specs.Lists.{is_eq_at};
 ghost use Rattle.cone_laws.specs.SystemLaws.{HasSystemOf};
 ghost use Rattle.chernikova.specs.Conversion.{IsState, IsAtStep, IsRealOverflow};
-ghost use Rattle.chernikova.specs.Plans.{IsPosition, IsPlan, kept_of, combinations_of};
+ghost use Rattle.chernikova.specs.Plans.{lists_of, IsPosition, IsPlan, kept_of, combinations_of};
 ghost use Rattle.chernikova.specs.Beside.{IsSearchOfRow};
 
 use crate::fault::{overflow_of_combination, overflow_of_dot};
@@ -34,7 +34,7 @@ pub(crate) fn row_position(
     requires row { k < length rows.now.rows }
     requires state { IsState rows.now.width rows.now.rows k cone.now }
     ensures position { let list = rows.now in
-        MatchResult result (IsPosition list.rows k cone.now)
+        MatchResult result (IsPosition list.rows k cone.now (lists_of scratch.new))
         (IsRealOverflow list.width list.rows) }
     ensures step { IfErr result (IsAtStep k) }
 {
@@ -54,7 +54,7 @@ pub(crate) fn plan_row(
     requires row { k < length rows.now.rows }
     requires state { IsState rows.now.width rows.now.rows k cone.now }
     ensures plan { let list = rows.now in
-        MatchResult result (IsPlan list.rows k cone.now)
+        MatchResult result (IsPlan list.rows k cone.now (lists_of scratch.new))
         (IsRealOverflow list.width list.rows) }
     ensures step { IfErr result (IsAtStep k) }
 {
@@ -73,15 +73,16 @@ pub(crate) fn take_planned<L: Ledger>(
 ) -> Result<(), ConvErr>
     requires row { k < length rows.now.rows }
     requires state { IsState rows.now.width rows.now.rows k cone.old }
-    requires plan { IsPlan rows.now.rows k cone.old plan }
+    requires plan { IsPlan rows.now.rows k cone.old (lists_of scratch.old) plan }
     ensures state { let list = rows.now in
         MatchResult result (λ _. IsState list.width list.rows (k + 1) cone.new)
         (IsRealOverflow list.width list.rows) }
     ensures step { IfErr result (IsAtStep k) }
     ensures no_fewer { steps.old ≤ steps.new }
-    ensures counted { steps.new ≤ steps.old + combinations_of cone.old plan }
+    ensures counted { let lists = lists_of scratch.old in
+        steps.new ≤ steps.old + combinations_of cone.old lists plan }
 {
-    make_room(scratch, cone, &plan)?;
+    make_room(scratch, cone, plan)?;
     if let Err(fault) = carry_out(scratch, cone, plan, rows, k, steps) {
         let over = overflow_of_combination(scratch.alloc, cone, rows, k, fault)?;
         return Err(ConvErr::Overflow(over));
@@ -102,20 +103,21 @@ pub(crate) fn take_row_sparing<L: Ledger>(
 ) -> Result<u128, ConvErr>
     requires row { k < length rows.now.rows }
     requires state { IsState rows.now.width rows.now.rows k cone.old }
-    requires position { IsPosition rows.now.rows k cone.old position }
+    requires position { IsPosition rows.now.rows k cone.old (lists_of scratch.old) position }
     ensures state { let list = rows.now in
         MatchResult result (λ _. IsState list.width list.rows (k + 1) cone.new)
         (IsRealOverflow list.width list.rows) }
     ensures step { IfErr result (IsAtStep k) }
     ensures no_fewer { steps.old ≤ steps.new }
-    ensures counted { let kept = kept_of (is_eq_at rows.now.rows k) cone.old position in
+    ensures counted { let lists = lists_of scratch.old in
+        let kept = kept_of (is_eq_at rows.now.rows k) cone.old lists position in
         HasSystemOf rows.now.width rows.now.rows (k + 1) (kept + (steps.new - steps.old)) }
     ensures spared { let list = rows.now in
         IfOk result (λ spared.
         HasSystemOf list.width list.rows (k + 1) (steps.new - steps.old + spared)) }
 {
     let plan = plan_of_position(scratch, cone, position, rows, k)?;
-    let made = plan.combinations(cone);
+    let made = plan.combinations(scratch, cone);
     take_planned(scratch, cone, plan, rows, k, steps)?;
     let vectors = cone.lines.len() as u128 + cone.rays.len() as u128;
     Ok(vectors.saturating_sub(made))
@@ -132,10 +134,11 @@ pub(crate) fn plan_row_within(
 ) -> Result<Search, ConvErr>
     requires row { k < length rows.now.rows }
     requires state { IsState rows.now.width rows.now.rows k cone.now }
-    ensures { IfOk result (IsSearchOfRow rows.now.rows k cone.now) }
+    ensures { IfOk result (IsSearchOfRow rows.now.rows k cone.now (lists_of scratch.new)) }
 {
     let position = row_position(scratch, cone, rows, k)?;
-    let looks = position.looks(&cone.sat, least_shared(rows.width(), cone.lines.len()));
+    let least = least_shared(rows.width(), cone.lines.len());
+    let looks = position.looks(scratch, &cone.sat, least);
     if looks >= looks_below {
         return Ok(Search::Dear { looks });
     }

@@ -2,13 +2,10 @@
 //!
 //! - [`FlatRows`] keeps them, whatever their entries are.
 //! - [`push_and`] and [`widened`] are of rows of words.
-//! - [`emptied`] takes a list out of its place, so that its room is used again.
 #![tactic(auto)]
 
-mod reuse;
 mod rows;
 mod words;
 
-pub use reuse::emptied;
 pub use rows::FlatRows;
 pub use words::{push_and, widened};

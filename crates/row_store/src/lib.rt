@@ -8,8 +8,7 @@
 //! - [`line_step`] is the step with a row that isn't 0 on some line of a system, and [`ray_step`]
 //!   that with a row that is 0 on all lines.
 //! - [`combine`] gives the combination of two vectors that is 0 on a row.
-//! - [`ValueFault`] and [`CombineFault`] name the vectors whose value or combination leaves the
-//!   range.
+//! - [`ValueFault`] and [`CombineFault`] name vectors whose value or combination leaves the range.
 #![tactic(auto)]
 
 mod combination;
@@ -26,6 +25,8 @@ pub use combination::combine;
 pub use fault::{CombineFault, Part, Place, ValueFault};
 pub use line_steps::{SystemOnRow, line_step};
 pub use ray_steps::ray_step;
-pub use row_values::{all_meet, count_meeting, last_crossing, mark_pairs, marks, values};
+pub use row_values::{
+    Marks, Values, all_meet, count_meeting, last_crossing, mark_pairs, marks, values,
+};
 pub use store::RowStore;
 pub use vectors::{Crossing, VectorList, make_empty};

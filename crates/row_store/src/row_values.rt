@@ -1,5 +1,5 @@
 //! The values of vectors on a row.
-ghost use Rattle.std.specs.Prelude.{◌≡◌, ◌≢◌, ℕ, ◌^◌, ◌<◌, ◌≤◌, Bool, true, [], ◌++◌, length, map, replicate, count_by, pos, All, MatchBool, MatchResult, MatchOption, IfOk, OnOk, slice_index_or};
+ghost use Rattle.std.specs.Prelude.{◌≡◌, ◌≢◌, ℕ, ◌^◌, ◌<◌, true, [], ◌++◌, length, map, replicate, count_by, pos, All, MatchBool, MatchResult, MatchOption, OnOk, slice_index_or};
 ghost use Rattle.row_core.specs.Vectors.{dot};
 ghost use Rattle.row_core.specs.Range.{InRange};
 ghost use Rattle.row_core.specs.Sizes.{HaveBits};
@@ -10,77 +10,82 @@ ghost use Rattle.row_store.specs.Faults.{IsValuesFault};
 
 use crate::fault::{Part, Place, ValueFault};
 use crate::vectors::VectorList;
-use flat_rows::emptied;
 use row_core::{Summing, word_dot};
-use std::alloc::{AllocError, Global};
+use smallvec::SmallVec;
+use std::alloc::AllocError;
 
-/// The value of each vector on the row, which has at most so many bits, in the list of that place.
+/// The values of vectors on a row: those of a small system take no memory from the heap.
+pub type Values = SmallVec<i128, 16>;
+
+/// Marks of vectors, true or false: those of a small system take no memory from the heap.
+pub type Marks = SmallVec<bool, 32>;
+
+/// Lists the value of each vector on the row, which has at most so many bits, in that place.
 pub fn values(
-    alloc: Global,
-    place: &mut Vec<i128>,
+    place: &mut Values,
     part: Part,
     list: &VectorList,
     row: &[i128],
     bits: u32,
-) -> Result<Vec<i128>, ValueFault>
+) -> Result<(), ValueFault>
     requires wide { length row.now ≡ list.now.width }
     requires narrow { length row.now < 2 ^ 32 }
     requires row { HaveBits bits row.now }
     ensures values { let vs = vectors list.now.rows in
-        MatchResult result (λ v. v.items ≡ values_on row.now vs) (IsValuesFault row.now part vs) }
-    ensures in_range { IfOk result (λ v. All InRange v.items) }
+        MatchResult result
+        (λ _. place.new.items ≡ values_on row.now vs) (IsValuesFault row.now part vs) }
+    ensures in_range { OnOk result (All InRange place.new.items) }
 {
     let summing = Summing::of(bits, list.bits(), row.len());
-    let values = emptied(alloc, place, list.len())?;
+    place.clear();
     if let Summing::Words = summing {
-        return Ok(word_values(values, list, row)?);
+        return Ok(word_values(place, list, row)?);
     }
-    summed_values(values, part, list, row, summing)
+    summed_values(place, part, list, row, summing)
 }
 
-/// The value of each vector on the row, each in one word, in a list that is empty yet.
-fn word_values(values: Vec<i128>, list: &VectorList, row: &[i128]) -> Result<Vec<i128>, AllocError>
-    requires empty { values.items ≡ [] }
+/// Lists the value of each vector on the row, each in one word, in a place that is empty yet.
+fn word_values(place: &mut Values, list: &VectorList, row: &[i128]) -> Result<(), AllocError>
+    requires empty { place.old.items ≡ [] }
     requires wide { length row.now ≡ list.now.width }
     requires words { AllSuffice Summing.Words row.now list.now.rows }
-    ensures values { IfOk result (λ v. v.items ≡ values_on row.now (vectors list.now.rows)) }
-    ensures in_range { IfOk result (λ v. All InRange v.items) }
+    ensures values { OnOk result (place.new.items ≡ values_on row.now (vectors list.now.rows)) }
+    ensures in_range { OnOk result (All InRange place.new.items) }
 {
-    let mut values = values;
-    values.reserve(list.len())?;
+    place.reserve(list.len())?;
     for index in 0..list.len() {
-        values.push_reserved(word_dot(row, list.row(index)));
+        place.push_reserved(word_dot(row, list.row(index)));
     }
-    Ok(values)
+    Ok(())
 }
 
-/// The value of each vector on the row, summed as it suffices, in a list that is empty yet.
+/// Lists the value of each vector on the row, summed as it suffices, in a place that is empty yet.
 fn summed_values(
-    values: Vec<i128>,
+    place: &mut Values,
     part: Part,
     list: &VectorList,
     row: &[i128],
     summing: Summing,
-) -> Result<Vec<i128>, ValueFault>
-    requires empty { values.items ≡ [] }
+) -> Result<(), ValueFault>
+    requires empty { place.old.items ≡ [] }
     requires wide { length row.now ≡ list.now.width }
     requires narrow { length row.now < 2 ^ 32 }
     requires suffices { AllSuffice summing row.now list.now.rows }
     ensures values { let vs = vectors list.now.rows in
-        MatchResult result (λ v. v.items ≡ values_on row.now vs) (IsValuesFault row.now part vs) }
-    ensures in_range { IfOk result (λ v. All InRange v.items) }
+        MatchResult result
+        (λ _. place.new.items ≡ values_on row.now vs) (IsValuesFault row.now part vs) }
+    ensures in_range { OnOk result (All InRange place.new.items) }
 {
-    let mut values = values;
     for index in 0..list.len() {
         match summing.dot(row, list.row(index)) {
-            Ok(value) => values.push(value)?,
+            Ok(value) => place.push(value)?,
             Err(column) => {
                 let vector = Place { part, index };
                 return Err(ValueFault::Dot { vector, column });
             }
         }
     }
-    Ok(values)
+    Ok(())
 }
 
 /// The index of the last value that isn't 0.
@@ -99,8 +104,7 @@ pub fn last_crossing(values: &[i128]) -> Option<usize>
     last
 }
 
-/// Whether a vector with this value on a row meets the row: 0 for an equality, at least 0
-/// otherwise.
+/// Whether a vector with this value on a row meets it: 0 for an equality, at least 0 otherwise.
 #[inline]
 fn meets(eq: bool, value: i128) -> bool
     ensures { result ≡ stays eq value }
@@ -128,7 +132,7 @@ pub fn count_meeting(eq: bool, values: &[i128]) -> usize
 }
 
 /// Appends true for each pair.
-pub fn mark_pairs(marks: &mut Vec<bool>, pairs: &[(usize, usize)]) -> Result<(), AllocError>
+pub fn mark_pairs(marks: &mut Marks, pairs: &[(usize, usize)]) -> Result<(), AllocError>
     ensures { let more = replicate (length pairs.now) true in
         OnOk result (marks.new.items ≡ marks.old.items ++ more) }
 {
@@ -138,18 +142,14 @@ pub fn mark_pairs(marks: &mut Vec<bool>, pairs: &[(usize, usize)]) -> Result<(),
     Ok(())
 }
 
-/// Which vectors meet the row, from their values on it.
-pub fn marks(
-    alloc: Global,
-    place: &mut Vec<bool>,
-    eq: bool,
-    values: &[i128],
-) -> Result<Vec<bool>, AllocError>
-    ensures { IfOk result (λ v. v.items ≡ map (λ value. stays eq value) values.now) }
+/// Marks in that place which vectors meet the row, from their values on it.
+pub fn marks(place: &mut Marks, eq: bool, values: &[i128]) -> Result<(), AllocError>
+    ensures { OnOk result (place.new.items ≡ map (λ value. stays eq value) values.now) }
 {
-    let mut marks = emptied(alloc, place, values.len())?;
+    place.clear();
+    place.reserve(values.len())?;
     for value in values {
-        marks.push(meets(eq, *value))?;
+        place.push_reserved(meets(eq, *value));
     }
-    Ok(marks)
+    Ok(())
 }

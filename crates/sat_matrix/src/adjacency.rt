@@ -1,5 +1,5 @@
 //! The search of the pairs of adjacent rays on two sides of a row.
-ghost use Rattle.std.specs.Prelude.{◌≡◌, ◌+◌, ◌-◌, ◌<◌, [], length, All, ◌↔◌, IsTrue, IfOk, OnOk};
+ghost use Rattle.std.specs.Prelude.{◌≡◌, ◌+◌, ◌-◌, ◌<◌, [], length, All, ◌↔◌, IsTrue, OnOk};
 ghost use Rattle.row_core.specs.Range.{InRange};
 ghost use Rattle.sat_matrix.specs.Tables.{HasThird};
 ghost use Rattle.sat_matrix.specs.Pairs.{AreAllCrosses, AreRising, AreOn, AreAllFound, is_on};
@@ -10,7 +10,7 @@ ghost use Rattle.sat_matrix.specs.SearchStates.{IsReady, HasFound, HasThirdAt};
 use crate::looks::has_crowded;
 use crate::matrix::SatMatrix;
 use crate::narrowing::{Near, push_narrowed};
-use flat_rows::emptied;
+use smallvec::SmallVec;
 use std::alloc::{AllocError, Global};
 
 /// Where the pairs of rays have fewer words, they are looked at one by one.
@@ -19,13 +19,19 @@ const MANY_PAIR_WORDS: usize = 4096;
 /// Where the table has fewer words, third rays are looked for among all rays.
 const MANY_RAY_WORDS: usize = 2048;
 
+/// The indices of the rays on a side of a row: a few take no memory from the heap.
+type Indices = SmallVec<usize, 16>;
+
+/// Pairs of rays: a few take no memory from the heap.
+pub type Pairs = SmallVec<(usize, usize), 16>;
+
 /// Lists that one search leaves to the next, which needs no new memory for as many elements.
 pub struct PairLists {
-    above: Vec<usize>,
-    below: Vec<usize>,
+    above: Indices,
+    below: Indices,
     near: Near,
-    /// The pairs of the last search, where its caller gives them back.
-    pub pairs: Vec<(usize, usize)>,
+    /// The pairs of the last search.
+    pub pairs: Pairs,
 }
 
 // Written by hand, so that a function that drops the lists of a step calls this one.
@@ -44,10 +50,10 @@ impl PairLists {
     /// Returns empty lists.
     pub fn new(alloc: Global) -> PairLists {
         PairLists {
-            above: Vec::new(alloc),
-            below: Vec::new(alloc),
+            above: Indices::new(alloc),
+            below: Indices::new(alloc),
             near: Near::new(alloc),
-            pairs: Vec::new(alloc),
+            pairs: Pairs::new(alloc),
         }
     }
 }
@@ -90,44 +96,37 @@ pub fn least_shared(width: usize, lines: usize) -> usize
     width.saturating_sub(lines).saturating_sub(2)
 }
 
-/// The pairs of adjacent rays of which the first is above and the second below 0 on the row.
+/// Lists the pairs of adjacent rays of which the first is above and the second below 0 on the row.
 pub fn crossings(
-    alloc: Global,
     lists: &mut PairLists,
     values: &[i128],
     zeros: &SatMatrix,
     least: usize,
-) -> Result<Vec<(usize, usize)>, AllocError>
+) -> Result<(), AllocError>
     requires decide { CountsDecide least zeros.now }
     requires as_many { length values.now ≡ length zeros.now.rows }
     requires in_range { All InRange values.now }
-    ensures { IfOk result (λ v. AreAllCrosses values.now zeros.now v.items) }
+    ensures { OnOk result (AreAllCrosses values.now zeros.now lists.new.pairs.items) }
 {
-    let above = indices_on(alloc, &mut lists.above, Side::Above, values)?;
-    let below = indices_on(alloc, &mut lists.below, Side::Below, values)?;
-    let pairs = pairs_of(alloc, lists, &above, &below, zeros, least)?;
-    lists.above = above;
-    lists.below = below;
-    Ok(pairs)
+    list_side(&mut lists.above, Side::Above, values)?;
+    list_side(&mut lists.below, Side::Below, values)?;
+    list_pairs(lists, zeros, least)?;
+    Ok(())
 }
 
-/// The indices of the values on the side.
-fn indices_on(
-    alloc: Global,
-    place: &mut Vec<usize>,
-    side: Side,
-    values: &[i128],
-) -> Result<Vec<usize>, AllocError>
+/// Lists the indices of the values on the side.
+fn list_side(indices: &mut Indices, side: Side, values: &[i128]) -> Result<(), AllocError>
     requires in_range { All InRange values.now }
-    ensures { IfOk result (λ v. AreOn side values.now (length values.now) v.items) }
+    ensures { OnOk result (AreOn side values.now (length values.now) indices.new.items) }
 {
-    let mut indices = emptied(alloc, place, values.len())?;
+    indices.clear();
+    indices.reserve(values.len())?;
     for index in 0..values.len() {
         if side.has(values[index]) {
-            indices.push(index)?;
+            indices.push_reserved(index);
         }
     }
-    Ok(indices)
+    Ok(())
 }
 
 /// Whether no third ray is 0 wherever two are; the numbers of their zeros decide many pairs.
@@ -180,7 +179,7 @@ impl Search<'_> {
     /// Appends the pair at a position of the outer side and one of the inner if it is adjacent.
     pub(crate) fn push_pair(
         &self,
-        pairs: &mut Vec<(usize, usize)>,
+        pairs: &mut Pairs,
         position: usize,
         next: usize,
     ) -> Result<(), AllocError>
@@ -198,7 +197,7 @@ impl Search<'_> {
     pub(crate) fn push_if(
         &self,
         adjacent: bool,
-        pairs: &mut Vec<(usize, usize)>,
+        pairs: &mut Pairs,
         position: usize,
         next: usize,
     ) -> Result<(), AllocError>
@@ -218,7 +217,7 @@ impl Search<'_> {
 
     /// Appends the pairs of the outer ray at a position with each adjacent ray of the inner side:
     /// of those that share the least number of zeros with it; others have a third ray between.
-    fn push_pairs(&self, pairs: &mut Vec<(usize, usize)>, position: usize) -> Result<(), AllocError>
+    fn push_pairs(&self, pairs: &mut Pairs, position: usize) -> Result<(), AllocError>
         requires search { IsReady self.now }
         requires position { position < length self.now.outer.now }
         requires before { HasFound self.now position 0 pairs.old.items }
@@ -236,7 +235,7 @@ impl Search<'_> {
     }
 
     /// Appends the pairs of adjacent rays, one outer ray after another.
-    fn push_one_by_one(&self, pairs: &mut Vec<(usize, usize)>) -> Result<(), AllocError>
+    fn push_one_by_one(&self, pairs: &mut Pairs) -> Result<(), AllocError>
         requires search { IsReady self.now }
         requires none { pairs.old.items ≡ [] }
         ensures { let rays = length self.now.outer.now in
@@ -249,7 +248,7 @@ impl Search<'_> {
     }
 
     /// Appends the pairs of adjacent rays.
-    fn push_all(&self, near: &mut Near, pairs: &mut Vec<(usize, usize)>) -> Result<(), AllocError>
+    fn push_all(&self, near: &mut Near, pairs: &mut Pairs) -> Result<(), AllocError>
         requires search { IsReady self.now }
         requires none { pairs.old.items ≡ [] }
         ensures { let rays = length self.now.outer.now in
@@ -262,35 +261,18 @@ impl Search<'_> {
     }
 }
 
-/// The pairs of adjacent rays of a search.
-fn pairs_from(
-    alloc: Global,
-    lists: &mut PairLists,
-    search: &Search,
-) -> Result<Vec<(usize, usize)>, AllocError>
-    requires { IsReady search.now }
-    ensures { let rays = length search.now.outer.now in
-        IfOk result (λ v. HasFound search.now rays 0 v.items) }
-{
-    let mut pairs = emptied(alloc, &mut lists.pairs, 0)?;
-    search.push_all(&mut lists.near, &mut pairs)?;
-    Ok(pairs)
-}
-
-/// The pairs of adjacent rays of the two sides, with the smaller side in the outer loop.
-fn pairs_of(
-    alloc: Global,
-    lists: &mut PairLists,
-    above: &[usize],
-    below: &[usize],
-    zeros: &SatMatrix,
-    least: usize,
-) -> Result<Vec<(usize, usize)>, AllocError>
+/// Lists the pairs of adjacent rays of the two sides, with the smaller side in the outer loop.
+fn list_pairs(lists: &mut PairLists, zeros: &SatMatrix, least: usize) -> Result<(), AllocError>
     requires decide { CountsDecide least zeros.now }
-    requires above { AreRising (length zeros.now.rows) above.now }
-    requires below { AreRising (length zeros.now.rows) below.now }
-    ensures { IfOk result (λ v. AreAllFound zeros.now above.now below.now v.items) }
+    requires above { AreRising (length zeros.now.rows) lists.old.above.items }
+    requires below { AreRising (length zeros.now.rows) lists.old.below.items }
+    ensures { let above = lists.old.above.items in
+        let below = lists.old.below.items in
+        OnOk result (AreAllFound zeros.now above below lists.new.pairs.items) }
 {
+    lists.pairs.clear();
+    let (near, pairs) = (&mut lists.near, &mut lists.pairs);
+    let (above, below) = (lists.above.as_slice(), lists.below.as_slice());
     if above.len() <= below.len() {
         let search = Search {
             side: Side::Above,
@@ -299,7 +281,7 @@ fn pairs_of(
             inner: below,
             least,
         };
-        return pairs_from(alloc, lists, &search);
+        return search.push_all(near, pairs);
     }
     let search = Search {
         side: Side::Below,
@@ -308,5 +290,5 @@ fn pairs_of(
         inner: above,
         least,
     };
-    pairs_from(alloc, lists, &search)
+    search.push_all(near, pairs)
 }

@@ -14,7 +14,7 @@ mod ranking;
 mod searches;
 mod zeros;
 
-pub use adjacency::{PairLists, crossings, least_shared};
+pub use adjacency::{PairLists, Pairs, crossings, least_shared};
 pub use looks::expected_looks;
 pub use matrix::SatMatrix;
 pub use zeros::{after_line_step, after_ray_step, mark_zeros};

@@ -1,12 +1,12 @@
 //! The search of adjacent pairs among many rays, by lists of near rays that narrow with groups.
-ghost use Rattle.std.specs.Prelude.{◌≡◌, ℕ, ◌+◌, ◌<◌, ◌≤◌, [], IsTrue, length, take, IfOk, OnOk};
+ghost use Rattle.std.specs.Prelude.{◌≡◌, ◌+◌, ◌<◌, ◌≤◌, [], IsTrue, length, take, IfOk, OnOk};
 ghost use Rattle.std.specs.List.{range_with_len};
 ghost use Rattle.sat_matrix.specs.Near.{IsNear};
 ghost use Rattle.sat_matrix.specs.Levels.{HasAll};
 ghost use Rattle.sat_matrix.specs.SearchStates.{IsReady, HasFound, AreNear};
 ghost use Rattle.sat_matrix.specs.NearStates.{AreKept, IsBegun};
 
-use crate::adjacency::Search;
+use crate::adjacency::{Pairs, Search};
 use crate::looks::has_crowded;
 use crate::ranking::{NearRay, is_adjacent_near};
 use crate::searches::{count_places, push_sharing, unite};
@@ -135,7 +135,7 @@ impl Near {
     fn push_ray(
         &mut self,
         search: &Search,
-        pairs: &mut Vec<(usize, usize)>,
+        pairs: &mut Pairs,
         position: usize,
         level: Level,
     ) -> Result<(), AllocError>
@@ -157,7 +157,7 @@ impl Near {
     fn push_ranked(
         &mut self,
         search: &Search,
-        pairs: &mut Vec<(usize, usize)>,
+        pairs: &mut Pairs,
         position: usize,
         level: Level,
     ) -> Result<(), AllocError>
@@ -221,7 +221,7 @@ fn is_local(search: &Search, union: &mut Vec<u64>) -> Result<bool, AllocError>
 /// Appends the pairs of an outer ray with each adjacent ray that the list has from `start` on.
 fn push_near(
     search: &Search,
-    pairs: &mut Vec<(usize, usize)>,
+    pairs: &mut Pairs,
     position: usize,
     list: &[usize],
     start: usize,
@@ -244,7 +244,7 @@ fn push_near(
 /// Appends the pairs of a group of outer rays with each adjacent ray of those near to the group.
 fn push_group(
     search: &Search,
-    pairs: &mut Vec<(usize, usize)>,
+    pairs: &mut Pairs,
     near: &mut Near,
     from: usize,
     to: usize,
@@ -280,7 +280,7 @@ fn push_group(
 pub(crate) fn push_narrowed(
     search: &Search,
     near: &mut Near,
-    pairs: &mut Vec<(usize, usize)>,
+    pairs: &mut Pairs,
 ) -> Result<(), AllocError>
     requires search { IsReady search.now }
     requires outer { 0 < length search.now.outer.now }

@@ -1,9 +1,8 @@
 //! Rows in one buffer.
 ghost use Rattle.std.specs.Prelude.{◌≡◌, ◌≢◌, ◌<◌, length, IfOk};
-ghost use Rattle.flat_rows.specs.Flat.{Flat};
 
 use row_core::{Memory, Steps, bits};
-use row_store::{Part, RowStore, VectorList, values};
+use row_store::{Part, RowStore, Values, VectorList, values};
 use std::alloc::Global;
 use std::marker::Brand;
 use std::process::Abort;
@@ -245,8 +244,8 @@ fn values_of_31_bits(rt: HostRuntime) -> Result<(), Fail> {
     list.push(&[BITS_31, BITS_31, BITS_31], false)?;
     list.push(&[BITS_28, -BITS_29, 1], false)?;
     let row = [BITS_31, BITS_31, BITS_31];
-    let mut place = Vec::new(rt.alloc());
-    let found = values(rt.alloc(), &mut place, Part::Rays, &list, &row, bits(&row))?;
+    let mut found = Values::new(rt.alloc());
+    values(&mut found, Part::Rays, &list, &row, bits(&row))?;
     assert_eq!(rt; found.len(), 2);
     assert_eq!(rt; found[0], 0xbfff_fffd_0000_0003, "more than one word");
     assert_eq!(rt; found[1], 0);

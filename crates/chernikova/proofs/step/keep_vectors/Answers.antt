@@ -12,8 +12,8 @@ pub returns : goal.returns
 returns c =
     let ready = c.requires.ready in
     let A : List ℤ → Type 0 = λ vs. HasColumn (map (λ value. int_eq value (pos 0)) vs) c.requires.ready.before c.mark_zeros.new.zeros in
-    met_state c.args.rows.now.width c.args.rows.now.rows c.args.k (record c.args.cone.now { sat = ready.before }) c.args.values.items c.mark_zeros.new.zeros c.requires.row ready.state ready.planned
-    (subst A c.deref.ensures.value (c.mark_zeros.ensures.column ready.before ready.column))
+    met_state c.args.rows.now.width c.args.rows.now.rows c.args.k (record c.args.cone.now { sat = ready.before }) c.args.scratch.now.ray_values.items c.mark_zeros.new.zeros c.requires.row ready.state ready.planned
+    (subst A c.as_slice.ensures (c.mark_zeros.ensures.column ready.before ready.column))
 
 pub mark_zeros-requires-clause-columns : goal.mark_zeros-requires-clause-columns
 mark_zeros-requires-clause-columns c = omega (arith, c.requires.ready.column.columns)
@@ -21,5 +21,5 @@ mark_zeros-requires-clause-columns c = omega (arith, c.requires.ready.column.col
 pub mark_zeros-requires-clause-as_many : goal.mark_zeros-requires-clause-as_many
 mark_zeros-requires-clause-as_many c =
     let ready = c.requires.ready in
-    ap (λ (vs : List ℤ). length vs) (c.deref.ensures.value ∙ ready.planned.0.are_values) ∙ length-values_on (row_at c.args.rows.now.rows c.args.k) (vectors c.args.cone.now.rays.rows) ∙ sym ready.state.zeros.each.as_many
+    ap (λ (vs : List ℤ). length vs) (c.as_slice.ensures ∙ ready.planned.0.are_values) ∙ length-values_on (row_at c.args.rows.now.rows c.args.k) (vectors c.args.cone.now.rays.rows) ∙ sym ready.state.zeros.each.as_many
     ∙ sym (ap length ready.column.rows ∙ length-map ready.before.rows _)

@@ -38,19 +38,19 @@ line_step-requires-clause-widths g c = c.requires.ready.state.lists.lines_wide �
 pub line_step-requires-clause-as_many : goal.line_step-requires-clause-as_many
 line_step-requires-clause-as_many g c =
     let plan = c.requires.ready.planned in (
-      values_size (row_at c.args.rows.now.rows c.args.k) c.args.cone.now.lines.rows c.deref.result.now (c.deref.ensures.value ∙ plan.are_line_values),
-      values_size (row_at c.args.rows.now.rows c.args.k) c.args.cone.now.rays.rows c.deref-2.result.now (c.deref-2.ensures.value ∙ plan.are_ray_values),
+      values_size (row_at c.args.rows.now.rows c.args.k) c.args.cone.now.lines.rows c.as_slice.result.now (c.as_slice.ensures ∙ plan.are_line_values),
+      values_size (row_at c.args.rows.now.rows c.args.k) c.args.cone.now.rays.rows c.as_slice-2.result.now (c.as_slice-2.ensures ∙ plan.are_ray_values),
     )
 
 pub line_step-requires-clause-in_range : goal.line_step-requires-clause-in_range
 line_step-requires-clause-in_range g c =
     let P : List ℤ → Type 0 = λ vs. All InRange vs in
-    (subst P (sym c.deref.ensures.value) c.requires.ready.planned.lines_in_range, subst P (sym c.deref-2.ensures.value) c.requires.ready.planned.rays_in_range)
+    (subst P (sym c.as_slice.ensures) c.requires.ready.planned.lines_in_range, subst P (sym c.as_slice-2.ensures) c.requires.ready.planned.rays_in_range)
 
 pub line_step-requires-clause-crossing : goal.line_step-requires-clause-crossing
 line_step-requires-clause-crossing g c =
     let plan = c.requires.ready.planned in
-    crosses_at (row_at c.args.rows.now.rows c.args.k) c.args.cone.now.lines.rows c.deref.result.now c.args.line.index (c.deref.ensures.value ∙ plan.are_line_values) plan.crossing
+    crosses_at (row_at c.args.rows.now.rows c.args.k) c.args.cone.now.lines.rows c.as_slice.result.now c.args.index (c.as_slice.ensures ∙ plan.are_line_values) plan.crossing
 
 pub line_step-requires-clause-primitive : goal.line_step-requires-clause-primitive
 line_step-requires-clause-primitive g c = (c.requires.ready.state.system.primitive_lines, c.requires.ready.state.system.primitive_rays)
@@ -81,8 +81,8 @@ returns-in_err-line_step-clause-state g c =
     let rays = vectors c.args.cone.now.rays.rows in
     let p = err_from_is_err_and c.from_residual.result c.from_residual.ensures.1 in
     rw (p.1, p.2)
-    (line_fault_at rows c.args.k (row_at rows c.args.k) lines rays c.deref.result.now c.deref-2.result.now c.args.line.index c.in_err-line_step.field-0.0 refl
-    (c.deref.ensures.value ∙ plan.are_line_values) (c.deref-2.ensures.value ∙ plan.are_ray_values) plan.crossing c.in_err-line_step.ensures.change)
+    (line_fault_at rows c.args.k (row_at rows c.args.k) lines rays c.as_slice.result.now c.as_slice-2.result.now c.args.index c.in_err-line_step.field-0.0 refl
+    (c.as_slice.ensures ∙ plan.are_line_values) (c.as_slice-2.ensures ∙ plan.are_ray_values) plan.crossing c.in_err-line_step.ensures.change)
 
 pub returns-clause-state : goal.returns-clause-state
 returns-clause-state g c =
@@ -92,8 +92,8 @@ returns-clause-state g c =
     let cone = c.args.cone.now in
     let new_lines = c.line_step.new.new_lines in
     let new_rays = c.line_step.new.new_rays in
-    let A : List ℤ → Type 0 = λ vs. IsLineChange c.args.line.index vs c.deref-2.result.now c.is_eq-eq.result c.args.cone.now.lines.rows c.args.cone.now.rays.rows c.line_step.new.new_lines.rows c.line_step.new.new_rays.rows in
-    let B : List ℤ → Type 0 = λ vs. IsLineChange c.args.line.index (values_on (row_at c.args.rows.now.rows c.args.k) (vectors c.args.cone.now.lines.rows)) vs c.is_eq-eq.result c.args.cone.now.lines.rows c.args.cone.now.rays.rows c.line_step.new.new_lines.rows c.line_step.new.new_rays.rows in
+    let A : List ℤ → Type 0 = λ vs. IsLineChange c.args.index vs c.as_slice-2.result.now c.is_eq-eq.result c.args.cone.now.lines.rows c.args.cone.now.rays.rows c.line_step.new.new_lines.rows c.line_step.new.new_rays.rows in
+    let B : List ℤ → Type 0 = λ vs. IsLineChange c.args.index (values_on (row_at c.args.rows.now.rows c.args.k) (vectors c.args.cone.now.lines.rows)) vs c.is_eq-eq.result c.args.cone.now.lines.rows c.args.cone.now.rays.rows c.line_step.new.new_lines.rows c.line_step.new.new_rays.rows in
     let W : ℕ → Type 0 = λ width. AreLists width (as_rows c.line_step.new.new_lines) (as_rows c.line_step.new.new_rays) in
     let E : Bool → Type 0 = λ eq. IsLineStep (row_at c.args.rows.now.rows c.args.k, eq) (vectors c.args.cone.now.lines.rows) (vectors c.args.cone.now.rays.rows) (vectors c.line_step.new.new_lines.rows) (vectors c.line_step.new.new_rays.rows) in
     let Z : Bool → Type 0 = λ eq. HasLineStep eq c.requires.ready.before c.after_line_step.new.zeros in
@@ -104,7 +104,7 @@ returns-clause-state g c =
     (record {
       lists = subst W ready.state.lists.lines_wide c.in_ok-line_step.ensures.lists;
       step = subst E c.is_eq-eq.ensures
-          (line_step_from (row_at rows c.args.k) c.is_eq-eq.result c.args.line.index cone.lines.rows cone.rays.rows new_lines.rows new_rays.rows plan.crossing
-          (subst B (c.deref-2.ensures.value ∙ plan.are_ray_values) (subst A (c.deref.ensures.value ∙ plan.are_line_values) c.in_ok-line_step.ensures.change)));
+          (line_step_from (row_at rows c.args.k) c.is_eq-eq.result c.args.index cone.lines.rows cone.rays.rows new_lines.rows new_rays.rows plan.crossing
+          (subst B (c.as_slice-2.ensures ∙ plan.are_ray_values) (subst A (c.as_slice.ensures ∙ plan.are_line_values) c.in_ok-line_step.ensures.change)));
     })
     (subst Z c.is_eq-eq.ensures (c.after_line_step.ensures ready.before ready.column))))

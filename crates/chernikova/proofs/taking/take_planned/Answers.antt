@@ -2,6 +2,7 @@ use Rattle.std.specs.Prelude.{List}
 use Rattle.std.proofs.Common.{sym, subst, ◌∙◌}
 use Rattle.row_core.specs.Lists.{Row, vectors}
 use Rattle.chernikova.specs.Faults.{IsCombineFault}
+use Rattle.chernikova.specs.Plans.{StepLists, lists_of, IsPlan}
 use Rattle.chernikova.proofs.RoomLemmas.{same_state, same_plan}
 use Rattle.chernikova.proofs.taking.take_planned.Goals as goal
 
@@ -9,7 +10,9 @@ pub carry_out-requires-clause-ready : goal.carry_out-requires-clause-ready
 carry_out-requires-clause-ready g c = record {
   before = c.args.cone.now.sat;
   state = same_state c.args.rows.now.width c.args.rows.now.rows c.args.k c.args.cone.now c.make_room.new.cone c.make_room.ensures.same c.requires.state;
-  planned = same_plan c.args.rows.now.rows c.args.k c.args.cone.now c.make_room.new.cone c.args.plan c.make_room.ensures.same c.requires.plan;
+  planned =
+      let P : StepLists → Type 0 = λ lists. IsPlan c.args.rows.now.rows c.args.k (record c.make_room.new.cone { sat = c.args.cone.now.sat }) lists c.args.plan in
+      subst P (sym c.make_room.ensures.lists) (same_plan c.args.rows.now.rows c.args.k c.args.cone.now c.make_room.new.cone (lists_of c.args.scratch.now) c.args.plan c.make_room.ensures.same c.requires.plan);
   column = c.in_ok-make_room.ensures.column;
   room = c.in_ok-make_room.ensures.room;
 }

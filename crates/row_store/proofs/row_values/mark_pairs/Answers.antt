@@ -4,5 +4,5 @@ use Rattle.row_store.proofs.row_values.mark_pairs.Goals as goal
 
 pub loop-pair-preserved : goal.loop-pair-preserved
 loop-pair-preserved c =
-    c.in_ok-push.ensures.items ∙ ap (λ (bs : List Bool). bs ++ true ∷ []) c.loop-pair.invariant ∙ append_assoc c.args.marks.now.items (replicate c.loop-pair._pair true) (true ∷ [])
+    c.in_ok-push.ensures.ok ∙ ap (λ (bs : List Bool). bs ++ true ∷ []) c.loop-pair.invariant ∙ append_assoc c.args.marks.now.items (replicate c.loop-pair._pair true) (true ∷ [])
     ∙ ap (λ (bs : List Bool). c.args.marks.now.items ++ bs) (replicate_more c.loop-pair._pair true)

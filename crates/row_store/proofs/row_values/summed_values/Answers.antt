@@ -18,13 +18,13 @@ use Rattle.row_store.proofs.row_values.summed_values.Goals as goal
 pub loop-index-preserved : goal.loop-index-preserved
 loop-index-preserved c =
     let value_fits : SFits w128 c.in-Ok.value = fits c.in-Ok.value c.in-Ok.ensures.in_range in
-    let items : c.push.new.self.items ≡ c.loop-index.values.items ++ c.in-Ok.value ∷ [] = simp to_z-of_z at c.in_ok-push-in-Ok.ensures.items in
+    let items : c.push.new.self.items ≡ c.loop-index.place.items ++ c.in-Ok.value ∷ [] = simp to_z-of_z at c.in_ok-push-in-Ok.ensures.ok in
     let value : c.in-Ok.value ≡ dot c.args.row.now c.row.result.now = c.in-Ok.ensures.exact.0 in
     record {
       values = items ∙ ap (λ (xs : List ℤ). xs ++ c.in-Ok.value ∷ []) c.loop-index.invariant.values ∙
           ap (λ (d : ℤ). values_on c.args.row.now (vectors (take c.loop-index.index c.args.list.now.rows)) ++ d ∷ []) (value ∙ ap (λ (v : List ℤ). dot c.args.row.now v) c.row.ensures.value) ∙
           sym (values_on_more c.args.row.now c.args.list.now.rows c.loop-index.index (omega arith));
-      in_range = All-same InRange c.push.new.self.items _ items (All-push InRange c.loop-index.values.items c.in-Ok.value c.loop-index.invariant.in_range c.in-Ok.ensures.in_range);
+      in_range = All-same InRange c.push.new.self.items _ items (All-push InRange c.loop-index.place.items c.in-Ok.value c.loop-index.invariant.in_range c.in-Ok.ensures.in_range);
     }
 
 pub returns-in-Err-clause-values : goal.returns-in-Err-clause-values

@@ -7,6 +7,6 @@ use Rattle.row_store.proofs.row_values.summed_values.Given as goal
 
 abbrev pub invariant-loop-index : goal.invariant-loop-index
 invariant-loop-index l = record {
-  values : l.values.items ≡ values_on l.row (vectors (take l.index l.list.rows));
-  in_range : All InRange l.values.items;
+  values : l.place.items ≡ values_on l.row (vectors (take l.index l.list.rows));
+  in_range : All InRange l.place.items;
 }

@@ -12,21 +12,21 @@ use Rattle.row_core.specs.declared.linear.Summing.TheVariants.{Words}
 use Rattle.row_store.specs.Values.{values_on}
 use Rattle.row_core.proofs.SignTests.{fits}
 use Rattle.row_store.proofs.ValueLemmas.{values_on_more}
-use Rattle.std.proofs.lemmas.List.{take_all}
+use Rattle.std.proofs.lemmas.List.{take_all, length-append}
 use Rattle.row_store.proofs.row_values.word_values.Goals as goal
 
 pub loop-index-preserved : goal.loop-index-preserved
 loop-index-preserved c =
     let d : ℤ = c.word_dot.result in
     let value_fits : SFits w128 d = fits d c.word_dot.ensures.in_range in
-    let items : c.push_reserved.new.self.items ≡ c.loop-index.values.items ++ d ∷ [] = simp to_z-of_z at c.push_reserved.ensures.items in
+    let items : c.push_reserved.new.self.items ≡ c.loop-index.place.items ++ d ∷ [] = simp to_z-of_z at c.push_reserved.ensures.items in
     record {
-      len = omega (arith, c.push_reserved.ensures.len, c.loop-index.invariant.len);
+      len = omega (arith, ap length items, length-append c.loop-index.place.items (d ∷ []), c.loop-index.invariant.len);
       room = omega (arith, c.push_reserved.ensures.capacity, c.loop-index.invariant.room);
       values = items ∙ ap (λ (xs : List ℤ). xs ++ d ∷ []) c.loop-index.invariant.values ∙
           ap (λ (z : ℤ). values_on c.args.row.now (vectors (take c.loop-index.index c.args.list.now.rows)) ++ z ∷ []) (c.word_dot.ensures.value ∙ ap (λ (v : List ℤ). dot c.args.row.now v) c.row.ensures.value) ∙
           sym (values_on_more c.args.row.now c.args.list.now.rows c.loop-index.index (omega arith));
-      in_range = All-same InRange c.push_reserved.new.self.items _ items (All-push InRange c.loop-index.values.items d c.loop-index.invariant.in_range c.word_dot.ensures.in_range);
+      in_range = All-same InRange c.push_reserved.new.self.items _ items (All-push InRange c.loop-index.place.items d c.loop-index.invariant.in_range c.word_dot.ensures.in_range);
     }
 
 pub push_reserved-requires : goal.push_reserved-requires

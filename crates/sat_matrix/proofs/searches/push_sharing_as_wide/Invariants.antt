@@ -1,4 +1,4 @@
-use Rattle.std.proofs.Common.{◌≡◌, ℕ, ◌+◌, ◌-◌, ◌≤◌, length, take}
+use Rattle.std.proofs.Common.{◌≡◌, ◌+◌, ◌-◌, ◌≤◌, length, take}
 use Rattle.sat_matrix.specs.Near.{SharesWords}
 use Rattle.sat_matrix.proofs.KeptPositions.{IsKeptUpto}
 use Rattle.sat_matrix.proofs.searches.push_sharing_as_wide.Given as goal

@@ -2,34 +2,34 @@ use Rattle.std.specs.Prelude.{◌+◌, ◌≤◌, Bool}
 use Rattle.std.proofs.Common.{subst, arith, inl, inr}
 use Rattle.std.proofs.lemmas.Bool.{cases_lt}
 use Rattle.row_core.specs.Lists.{is_eq_at}
-use Rattle.chernikova.specs.Plans.{kept_of}
+use Rattle.chernikova.specs.Plans.{lists_of, kept_of}
 use Rattle.chernikova.proofs.Counts.{count_none}
 use Rattle.chernikova.proofs.Slack.{has_less, kept_counted}
 use Rattle.chernikova.proofs.Positions.{has_values}
 use Rattle.chernikova.proofs.better_order.Race.take_row.Goals as goal
 
 pub looks-requires : goal.looks-requires
-looks-requires g c = has_values c.args.rows.now.width c.args.rows.now.rows c.args.k c.args.self.now.system c.in_ok-position.position c.requires.state c.in_ok-position.ensures.position
+looks-requires g c = has_values c.args.rows.now.width c.args.rows.now.rows c.args.k c.args.self.now.system (lists_of c.row_position.new.scratch) c.in_ok-position.position c.requires.state c.in_ok-position.ensures.position
 
 pub returns-in_err-position-clause-counted : goal.returns-in_err-position-clause-counted
 returns-in_err-position-clause-counted g c = count_none c.args.rows.now.width c.args.rows.now.rows c.args.k _ c.requires.row (omega arith)
 
 pub returns-then-is_done-clause-counted : goal.returns-then-is_done-clause-counted
 returns-then-is_done-clause-counted g c =
-    let kept : c.slack_before-kept.result ≤ kept_of (is_eq_at c.args.rows.now.rows c.args.k) c.args.self.now.system c.in_ok-position.position =
-    subst (λ (eq : Bool). c.slack_before-kept.result ≤ kept_of eq c.args.self.now.system c.in_ok-position.position) c.is_eq.ensures c.slack_before-kept.ensures in
-    kept_counted c.args.rows.now.width c.args.rows.now.rows c.args.k c.args.self.now.system c.in_ok-position.position _ c.requires.row c.requires.state c.in_ok-position.ensures.position (omega (arith, kept, c.catch_up.ensures.within))
+    let kept : c.slack_before-kept.result ≤ kept_of (is_eq_at c.args.rows.now.rows c.args.k) c.args.self.now.system (lists_of c.row_position.new.scratch) c.in_ok-position.position =
+    subst (λ (eq : Bool). c.slack_before-kept.result ≤ kept_of eq c.args.self.now.system (lists_of c.row_position.new.scratch) c.in_ok-position.position) c.is_eq.ensures c.slack_before-kept.ensures in
+    kept_counted c.args.rows.now.width c.args.rows.now.rows c.args.k c.args.self.now.system (lists_of c.row_position.new.scratch) c.in_ok-position.position _ c.requires.row c.requires.state c.in_ok-position.ensures.position (omega (arith, kept, c.catch_up.ensures.within))
 
 pub returns-in_err-spared-clause-counted : goal.returns-in_err-spared-clause-counted
 returns-in_err-spared-clause-counted g c =
-    let kept : c.slack_before-kept.result ≤ kept_of (is_eq_at c.args.rows.now.rows c.args.k) c.args.self.now.system c.in_ok-position.position =
-    subst (λ (eq : Bool). c.slack_before-kept.result ≤ kept_of eq c.args.self.now.system c.in_ok-position.position) c.is_eq.ensures c.slack_before-kept.ensures in
+    let kept : c.slack_before-kept.result ≤ kept_of (is_eq_at c.args.rows.now.rows c.args.k) c.args.self.now.system (lists_of c.row_position.new.scratch) c.in_ok-position.position =
+    subst (λ (eq : Bool). c.slack_before-kept.result ≤ kept_of eq c.args.self.now.system (lists_of c.row_position.new.scratch) c.in_ok-position.position) c.is_eq.ensures c.slack_before-kept.ensures in
     has_less c.args.rows.now.width c.args.rows.now.rows (c.args.k + 1) _ _ c.take_row_sparing.ensures.counted (omega (arith, kept, c.catch_up.ensures.within, c.catch_up.ensures.no_fewer, c.take_row_sparing.ensures.no_fewer))
 
 pub returns-clause-counted : goal.returns-clause-counted
 returns-clause-counted g c =
-    let kept : c.slack_before-kept.result ≤ kept_of (is_eq_at c.args.rows.now.rows c.args.k) c.args.self.now.system c.in_ok-position.position =
-    subst (λ (eq : Bool). c.slack_before-kept.result ≤ kept_of eq c.args.self.now.system c.in_ok-position.position) c.is_eq.ensures c.slack_before-kept.ensures in
+    let kept : c.slack_before-kept.result ≤ kept_of (is_eq_at c.args.rows.now.rows c.args.k) c.args.self.now.system (lists_of c.row_position.new.scratch) c.in_ok-position.position =
+    subst (λ (eq : Bool). c.slack_before-kept.result ≤ kept_of eq c.args.self.now.system (lists_of c.row_position.new.scratch) c.in_ok-position.position) c.is_eq.ensures c.slack_before-kept.ensures in
     elim (cases_lt c.in_ok-spared.spared c.slack_before-kept.result) [
       | inl few ↦ has_less c.args.rows.now.width c.args.rows.now.rows (c.args.k + 1) _ _ c.take_row_sparing.ensures.counted (omega (arith, few, kept, c.catch_up.ensures.within, c.catch_up.ensures.no_fewer, c.take_row_sparing.ensures.no_fewer))
       | inr many ↦ has_less c.args.rows.now.width c.args.rows.now.rows (c.args.k + 1) _ _ c.in_ok-spared.ensures.spared (omega (arith, many, kept, c.catch_up.ensures.within, c.catch_up.ensures.no_fewer, c.take_row_sparing.ensures.no_fewer))

@@ -11,7 +11,7 @@ returns-in_ok-push c =
     let same = pair_adjacent c.args.self.now.zeros.now c.columns-columns.ensures.rectangular c.args.self.now.side c.args.self.now.outer.now c.args.self.now.inner.now c.args.position c.args.next (c.requires.search.outer_rises.within c.args.position c.requires.position) (c.requires.search.inner_rises.within c.args.next c.requires.next) in
     let P : List (ℕ × ℕ) → Type 0 = λ pairs. AreFound c.args.self.now.side c.args.self.now.zeros.now c.args.self.now.outer.now c.args.self.now.inner.now c.args.position (c.args.next + 1) pairs in
     let Q : ℕ × ℕ → Type 0 = λ pair. AreFound c.args.self.now.side c.args.self.now.zeros.now c.args.self.now.outer.now c.args.self.now.inner.now c.args.position (c.args.next + 1) (c.args.pairs.now.items ++ pair ∷ []) in
-    subst P (sym c.in_ok-push.ensures.items) (subst Q (sym c.pair.ensures)
+    subst P (sym c.in_ok-push.ensures.ok) (subst Q (sym c.pair.ensures)
     (found_push c.args.self.now.side c.args.self.now.zeros.now c.args.self.now.outer.now c.args.self.now.inner.now c.args.position c.args.next c.args.pairs.now.items c.requires.before (length c.args.self.now.zeros.now.rows) c.requires.search.outer_rises c.requires.search.inner_rises c.requires.position c.requires.next (same.0 (c.requires.adjacent.0 c.if-adjacent.true))))
 
 pub returns-else-adjacent : goal.returns-else-adjacent
