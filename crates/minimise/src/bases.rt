@@ -11,7 +11,7 @@ ghost use Rattle.minimise.specs.MinimalForms.{AreIndependent};
 ghost use Rattle.minimise.specs.Faults.{IsCombineFault, IsClearFault, IsTakeFault, IsGrowFault, IsListFault};
 
 use crate::fault::Fault;
-use crate::reduction::{clear, leading, pivot_of, reduce, zeros};
+use crate::reduction::{Buffer, clear, leading, pivot_of, reduce, zeros};
 use row_core::{Memory, RowList, Steps, negate};
 use std::alloc::Global;
 use std::sync::ledger::Ledger;
@@ -79,10 +79,10 @@ fn turn_up(vector: &mut [i128], column: usize)
 struct GrowingBasis {
     lines: RowList,
     /// The row that is taken in, reduced by the lines.
-    reduced: Vec<i128>,
+    reduced: Buffer,
     /// A line that is cleared.
-    cleared: Vec<i128>,
-    scratch: Vec<i128>,
+    cleared: Buffer,
+    scratch: Buffer,
 }
 
 impl GrowingBasis {

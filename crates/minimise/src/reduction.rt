@@ -11,6 +11,7 @@ ghost use Rattle.minimise.specs.Faults.{IsCombineFault, IsReduceFault};
 use crate::fault::{Fault, left_of};
 use row_core::{Memory, RowList, Steps, make_primitive};
 use row_store::combine;
+use smallvec::SmallVec;
 use std::alloc::Global;
 use std::sync::ledger::Ledger;
 
@@ -34,11 +35,14 @@ pub(crate) fn pivot_of(line: &[i128]) -> usize
     leading(line).unwrap_or(0)
 }
 
+/// A row to write on. One of few columns takes no memory from the heap.
+pub(crate) type Buffer = SmallVec<i128, 8>;
+
 /// A row of zeros.
-pub(crate) fn zeros(alloc: Global, width: usize) -> Result<Vec<i128>, Memory>
+pub(crate) fn zeros(alloc: Global, width: usize) -> Result<Buffer, Memory>
     ensures { IfOk result (λ v. length v.items ≡ width) }
 {
-    Ok(vec![in alloc; 0; width]?)
+    Ok(SmallVec::from_elem(alloc, 0, width)?)
 }
 
 /// Writes over the row its primitive combination with the line that is 0 at the pivot of the line.

@@ -2,3 +2,4 @@ pub mod TurnedOrder
 mod KeyLemmas
 pub mod Rankings
 pub mod Places
+pub mod Insertions

@@ -14,5 +14,5 @@ mod order;
 mod row_order;
 
 pub use lending::LendRows;
-pub use order::{descending_order, is_descending, rays_at};
+pub use order::{Indices, descending_order, is_descending, rays_at};
 pub use row_order::{is_as_listed, places_of, rows_at, sorted_order};

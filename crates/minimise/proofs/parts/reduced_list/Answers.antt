@@ -1,5 +1,6 @@
 use Rattle.std.specs.Prelude.{false}
-use Rattle.std.proofs.Common.{◌≡◌, ◌+◌, ◌*◌, ◌≤◌, List, ℤ, ℕ, length, drop, get_or, arith, sym, ap, ◌∙◌, subst}
+use Rattle.std.specs.List.{length_refill}
+use Rattle.std.proofs.Common.{◌≡◌, ◌+◌, ◌*◌, ◌≤◌, List, ℤ, ℕ, length, drop, get_or, arith, refl, sym, ap, ◌∙◌, subst}
 use Rattle.std.proofs.Math.Nat.{mul-le-mul_right}
 use Rattle.std.proofs.lemmas.Result.{err_from_is_err_and}
 use Rattle.std.proofs.lemmas.List.{take_all, take_at}
@@ -27,7 +28,7 @@ pub reduce-requires-clause-wide : goal.reduce-requires-clause-wide
 reduce-requires-clause-wide g c = ap (λ (v : List ℤ). length v) c.row-row.ensures.value ∙ c.row-row.ensures.wide ∙ sym c.requires.width
 
 pub reduce-requires-clause-buffers : goal.reduce-requires-clause-buffers
-reduce-requires-clause-buffers g c = (c.deref_mut.ensures.len ∙ c.loop-index.invariant.buffer, c.deref_mut-in-loop-index.ensures.len ∙ c.loop-index.invariant.scratch)
+reduce-requires-clause-buffers g c = (ap (λ (v : List ℤ). length v) c.deref_mut.ensures.value ∙ c.loop-index.invariant.buffer, ap (λ (v : List ℤ). length v) c.deref_mut-in-loop-index.ensures.value ∙ c.loop-index.invariant.scratch)
 
 pub reduce-requires-clause-in_range : goal.reduce-requires-clause-in_range
 reduce-requires-clause-in_range g c = subst AllInRange (sym c.row-row.ensures.value) c.row-row.ensures.in_range
@@ -61,15 +62,15 @@ loop-index-preserved g c =
     let index = c.loop-index.index in
     let narrow = lines_narrow c.args.lines.now c.width-width.ensures.rows c.requires.echelon in
     let new = c.reduce.new.reduced in
-    let written : c.deref.result.now ≡ c.reduce.new.reduced = c.deref.ensures.value ∙ take_at new (drop (length new) c.loop-index.reduced.items) c.loop-index.reduced.len (omega (arith, c.reduce.ensures.widths.0, c.deref_mut.ensures.len)) in
+    let written : c.deref.result.now ≡ c.reduce.new.reduced = c.deref.ensures ∙ take_at new (drop (length new) c.loop-index.reduced.items) (length c.loop-index.reduced.items) (omega (arith, c.reduce.ensures.widths.0, ap (λ (v : List ℤ). length v) c.deref_mut.ensures.value)) in
     let made : IsReduced (vectors c.args.lines.now.rows) (row_at c.args.rows.now.rows (get_or c.args.kept.now c.loop-index.index 0)) c.deref.result.now =
     subst (λ (v : List ℤ). IsReduced (vectors c.args.lines.now.rows) (row_at c.args.rows.now.rows (get_or c.args.kept.now c.loop-index.index 0)) v) (sym written)
     (subst (λ (v : List ℤ). IsReduced (vectors c.args.lines.now.rows) v c.reduce.new.reduced) c.row-row.ensures.value c.in_ok-reduce.ensures.reduced) in
     record {
       width = c.in_ok-push.ensures.width ∙ inv.width;
       marks = subst (AreMarked false) (sym pushed) (marked_push false c.loop-index.new.rows c.deref.result.now inv.marks);
-      buffer = inv.buffer;
-      scratch = inv.scratch;
+      buffer = sym (length_refill (length c.loop-index.reduced.items) c.loop-index.reduced.items c.reduce.new.reduced refl) ∙ inv.buffer;
+      scratch = sym (length_refill (length c.loop-index.scratch.items) c.loop-index.scratch.items c.reduce.new.scratch refl) ∙ inv.scratch;
       no_fewer = omega (arith, inv.no_fewer, c.reduce.ensures.counted);
       no_more = omega (arith, inv.no_more, c.reduce.ensures.counted, narrow, c.requires.width);
       reduced = pointwise_more (λ (i : ℕ) (r : List ℤ). IsReduced (vectors c.args.lines.now.rows) (row_at c.args.rows.now.rows i) r) c.args.kept.now (vectors c.loop-index.new.rows) (vectors c.push.new.self.rows) index 0 c.deref.result.now c.loop-index-test.true inv.reduced made
@@ -84,8 +85,8 @@ pub loop-index-init : goal.loop-index-init
 loop-index-init g c = record {
   width = c.in_ok-new.ensures.width ∙ c.width-width.ensures.value;
   marks = subst (AreMarked false) (sym c.in_ok-new.ensures.empty) (λ k d h. absurd (omega (arith, h)));
-  buffer = c.in_ok-reduced.reduced.ok.0 ∙ c.in_ok-reduced.ensures ∙ c.width-width.ensures.value;
-  scratch = c.in_ok-scratch.scratch.ok.0 ∙ c.in_ok-scratch.ensures ∙ c.width-width.ensures.value;
+  buffer = c.in_ok-reduced.ensures ∙ c.width-width.ensures.value;
+  scratch = c.in_ok-scratch.ensures ∙ c.width-width.ensures.value;
   no_fewer = at_most_itself c.args.steps.now;
   no_more = none_counted c.args.steps.now c.args.rows.now.width;
   reduced = pointwise_none (λ (i : ℕ) (r : List ℤ). IsReduced (vectors c.args.lines.now.rows) (row_at c.args.rows.now.rows i) r) (vectors c.in_ok-new.new.rows) (ap vectors c.in_ok-new.ensures.empty);
@@ -94,13 +95,13 @@ loop-index-init g c = record {
 pub push-requires-clause-wide : goal.push-requires-clause-wide
 push-requires-clause-wide g c =
     let new = c.reduce.new.reduced in
-    let written : c.deref.result.now ≡ c.reduce.new.reduced = c.deref.ensures.value ∙ take_at new (drop (length new) c.loop-index.reduced.items) c.loop-index.reduced.len (omega (arith, c.reduce.ensures.widths.0, c.deref_mut.ensures.len)) in
-    ap (λ (v : List ℤ). length v) written ∙ c.reduce.ensures.widths.0 ∙ c.deref_mut.ensures.len ∙ c.loop-index.invariant.buffer ∙ sym c.loop-index.invariant.width
+    let written : c.deref.result.now ≡ c.reduce.new.reduced = c.deref.ensures ∙ take_at new (drop (length new) c.loop-index.reduced.items) (length c.loop-index.reduced.items) (omega (arith, c.reduce.ensures.widths.0, ap (λ (v : List ℤ). length v) c.deref_mut.ensures.value)) in
+    ap (λ (v : List ℤ). length v) written ∙ c.reduce.ensures.widths.0 ∙ ap (λ (v : List ℤ). length v) c.deref_mut.ensures.value ∙ c.loop-index.invariant.buffer ∙ sym c.loop-index.invariant.width
 
 pub push-requires-clause-in_range : goal.push-requires-clause-in_range
 push-requires-clause-in_range g c =
     let new = c.reduce.new.reduced in
-    subst AllInRange (sym (c.deref.ensures.value ∙ take_at new (drop (length new) c.loop-index.reduced.items) c.loop-index.reduced.len (omega (arith, c.reduce.ensures.widths.0, c.deref_mut.ensures.len)))) c.reduce.ensures.in_range
+    subst AllInRange (sym (c.deref.ensures ∙ take_at new (drop (length new) c.loop-index.reduced.items) (length c.loop-index.reduced.items) (omega (arith, c.reduce.ensures.widths.0, ap (λ (v : List ℤ). length v) c.deref_mut.ensures.value)))) c.reduce.ensures.in_range
 
 pub returns-clause-list : goal.returns-clause-list
 returns-clause-list g c = (c.loop-index.invariant.width ∙ c.requires.width, c.loop-index.invariant.marks)

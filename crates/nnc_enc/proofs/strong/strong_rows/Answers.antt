@@ -12,7 +12,7 @@ constraints_of-requires-clause-within c =
     let kept : AreKept c.in_ok-keep.keep.items c.in_ok-kept.kept.items (length c.args.rays.now.rows) =
     subst (λ (n : ℕ). AreKept c.in_ok-keep.keep.items c.in_ok-kept.kept.items n) (c.in_ok-keep.ensures.as_many ∙ length-vectors c.args.rays.now.rows) (subst (λ (k : List Bool). AreKept k c.in_ok-kept.kept.items (length k)) c.deref.ensures.value c.in_ok-kept.ensures.kept) in
     let ordered : IsOrdered c.args.dim c.args.rays.now.rows c.in_ok-kept.kept.items c.in_ok-order.order.items = subst (λ (l : List ℕ). IsOrdered c.args.dim c.args.rays.now.rows l c.in_ok-order.order.items) c.deref-2.ensures.value c.in_ok-order.ensures in
-    subst (λ (l : List ℕ). (i : ℕ) → i < length l → index_at l i < length c.args.rays.now.rows) (sym c.deref-3.ensures.value) (within_permutation (length c.args.rays.now.rows) c.in_ok-keep.keep.items c.in_ok-kept.kept.items c.in_ok-order.order.items ordered.permutation kept)
+    subst (λ (l : List ℕ). (i : ℕ) → i < length l → index_at l i < length c.args.rays.now.rows) (sym c.deref-3.ensures) (within_permutation (length c.args.rays.now.rows) c.in_ok-keep.keep.items c.in_ok-kept.kept.items c.in_ok-order.order.items ordered.permutation kept)
 
 pub returns-in_err-keep : goal.returns-in_err-keep
 returns-in_err-keep c = let p = err_from_is_err_and c.from_residual.result c.from_residual.ensures.1 in rw p.1 (record { dim = tt; list = tt })
@@ -42,5 +42,5 @@ returns-clause-list c =
       pass = c.in_ok-keep.ensures;
       are_kept = kept;
       ordered = ordered;
-      listed = subst (λ (l : List ℕ). AreConstraintsOf c.args.dim c.args.lines.now.rows c.args.rays.now.rows l cons.list) c.deref-3.ensures.value h;
+      listed = subst (λ (l : List ℕ). AreConstraintsOf c.args.dim c.args.lines.now.rows c.args.rays.now.rows l cons.list) c.deref-3.ensures h;
     }) c.constraints_of.ensures.list

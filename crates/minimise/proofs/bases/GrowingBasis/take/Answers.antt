@@ -34,38 +34,39 @@ returns-clause-counted g c =
 
 pub take_line-requires-clause-in_range : goal.take_line-requires-clause-in_range
 take_line-requires-clause-in_range g c =
-    let len = c.args.self.now.reduced.len in
+    let len = length c.args.self.now.reduced.items in
     let made = c.reduce.new.reduced in
     let old = take len (made ++ drop (length made) c.args.self.now.reduced.items) in
-    let lent : c.deref_mut-3.result.now ≡ c.reduce.new.reduced = c.deref_mut-3.ensures.value ∙ take_at made (drop (length made) c.args.self.now.reduced.items) len (omega (arith, c.reduce.ensures.widths.0, c.deref_mut.ensures.len)) in
+    let kept = take_at made (drop (length made) c.args.self.now.reduced.items) len (omega (arith, c.reduce.ensures.widths.0, ap (λ (v : List ℤ). length v) c.deref_mut.ensures.value)) in
+    let lent : c.deref_mut-3.result.now ≡ c.reduce.new.reduced = c.deref_mut-3.ensures.value ∙ kept in
     let line : c.turn_up.new.vector ≡ turned_up c.reduce.new.reduced c.in-Some.pivot = c.turn_up.ensures.turned ∙ ap (λ (v : List ℤ). turned_up v c.in-Some.pivot) lent in
     let size = ap (λ (v : List ℤ). length v) line ∙ length-scale (sign (cell made c.in-Some.pivot)) made in
-    let written = take_at c.turn_up.new.vector (drop (length c.turn_up.new.vector) old) len (omega (arith, size, c.reduce.ensures.widths.0, c.deref_mut.ensures.len)) in
+    let written = take_at c.turn_up.new.vector (drop (length c.turn_up.new.vector) old) (length old) (omega (arith, size, ap (λ (v : List ℤ). length v) kept)) in
     subst AllInRange (sym written) c.turn_up.ensures.in_range
 
 pub take_line-requires-clause-line : goal.take_line-requires-clause-line
 take_line-requires-clause-line g c =
-    let len = c.args.self.now.reduced.len in
+    let len = length c.args.self.now.reduced.items in
     let made = c.reduce.new.reduced in
     let old = take len (made ++ drop (length made) c.args.self.now.reduced.items) in
-    let kept = take_at made (drop (length made) c.args.self.now.reduced.items) len (omega (arith, c.reduce.ensures.widths.0, c.deref_mut.ensures.len)) in
+    let kept = take_at made (drop (length made) c.args.self.now.reduced.items) len (omega (arith, c.reduce.ensures.widths.0, ap (λ (v : List ℤ). length v) c.deref_mut.ensures.value)) in
     let lent : c.deref_mut-3.result.now ≡ c.reduce.new.reduced = c.deref_mut-3.ensures.value ∙ kept in
     let line : c.turn_up.new.vector ≡ turned_up c.reduce.new.reduced c.in-Some.pivot = c.turn_up.ensures.turned ∙ ap (λ (v : List ℤ). turned_up v c.in-Some.pivot) lent in
     let size = ap (λ (v : List ℤ). length v) line ∙ length-scale (sign (cell made c.in-Some.pivot)) made in
-    let written = take_at c.turn_up.new.vector (drop (length c.turn_up.new.vector) old) len (omega (arith, size, c.reduce.ensures.widths.0, c.deref_mut.ensures.len)) in
-    let lead : IsLeading c.reduce.new.reduced c.in-Some.pivot = subst (λ (v : List ℤ). IsLeading v c.in-Some.pivot) (c.deref.ensures.value ∙ kept) c.in-Some.ensures in
+    let written = take_at c.turn_up.new.vector (drop (length c.turn_up.new.vector) old) (length old) (omega (arith, size, ap (λ (v : List ℤ). length v) kept)) in
+    let lead : IsLeading c.reduce.new.reduced c.in-Some.pivot = subst (λ (v : List ℤ). IsLeading v c.in-Some.pivot) (c.deref.ensures ∙ kept) c.in-Some.ensures in
     subst (λ (v : List ℤ). IsNewLine (vectors c.args.self.now.lines.rows) v c.in-Some.pivot) (sym (written ∙ line)) (new_line (vectors c.args.self.now.lines.rows) c.args.row.now made c.in-Some.pivot c.in_ok-reduce.ensures.reduced lead)
 
 pub returns-in_err-take_line-clause-grown : goal.returns-in_err-take_line-clause-grown
 returns-in_err-take_line-clause-grown g c =
-    let len = c.args.self.now.reduced.len in
+    let len = length c.args.self.now.reduced.items in
     let made = c.reduce.new.reduced in
     let old = take len (made ++ drop (length made) c.args.self.now.reduced.items) in
-    let kept = take_at made (drop (length made) c.args.self.now.reduced.items) len (omega (arith, c.reduce.ensures.widths.0, c.deref_mut.ensures.len)) in
+    let kept = take_at made (drop (length made) c.args.self.now.reduced.items) len (omega (arith, c.reduce.ensures.widths.0, ap (λ (v : List ℤ). length v) c.deref_mut.ensures.value)) in
     let lent : c.deref_mut-3.result.now ≡ c.reduce.new.reduced = c.deref_mut-3.ensures.value ∙ kept in
     let line : c.turn_up.new.vector ≡ turned_up c.reduce.new.reduced c.in-Some.pivot = c.turn_up.ensures.turned ∙ ap (λ (v : List ℤ). turned_up v c.in-Some.pivot) lent in
     let size = ap (λ (v : List ℤ). length v) line ∙ length-scale (sign (cell made c.in-Some.pivot)) made in
-    let written = take_at c.turn_up.new.vector (drop (length c.turn_up.new.vector) old) len (omega (arith, size, c.reduce.ensures.widths.0, c.deref_mut.ensures.len)) in
-    let lead : IsLeading c.reduce.new.reduced c.in-Some.pivot = subst (λ (v : List ℤ). IsLeading v c.in-Some.pivot) (c.deref.ensures.value ∙ kept) c.in-Some.ensures in
+    let written = take_at c.turn_up.new.vector (drop (length c.turn_up.new.vector) old) (length old) (omega (arith, size, ap (λ (v : List ℤ). length v) kept)) in
+    let lead : IsLeading c.reduce.new.reduced c.in-Some.pivot = subst (λ (v : List ℤ). IsLeading v c.in-Some.pivot) (c.deref.ensures ∙ kept) c.in-Some.ensures in
     let p = err_from_is_err_and c.from_residual-in_err-take_line.result c.from_residual-in_err-take_line.ensures.1 in
     rw (p.1, p.2) (grow_fault_of_line (vectors c.args.self.now.lines.rows) c.args.row.now made _ c.in-Some.pivot _ c.in_ok-reduce.ensures.reduced lead (vectors_wide (length c.args.row.now) c.args.self.now.lines c.width-width.ensures.rows (sym c.requires.wide)) (written ∙ line) c.in_err-take_line.ensures.taken)
