@@ -65,7 +65,7 @@ pub fn ray_marks(alloc: Global, gens: &GensSys) -> Result<Vec<bool>, AllocError>
 pub fn inequality_marks(alloc: Global, cons: &ConsSys) -> Result<Vec<bool>, AllocError>
     ensures { IfOk result (λ marks. marks.items ≡ map (has_mark false) (constraint_list cons.now)) }
 {
-    let mut marks = Vec::new(alloc);
+    let mut marks = Vec::with_capacity(alloc, cons.len().saturating_add(1))?;
     marks.push(true)?;
     for index in 0..cons.len() {
         marks.push(!is_equality_kind(cons.kind(index)))?;
@@ -114,7 +114,7 @@ fn all_but_first(alloc: Global, count: usize) -> Result<Vec<bool>, AllocError>
     requires { 0 < count }
     ensures { IfOk result (λ marks. marks.items ≡ false ∷ replicate (count - 1) true) }
 {
-    let mut marks = Vec::new(alloc);
+    let mut marks = Vec::with_capacity(alloc, count)?;
     marks.push(false)?;
     for _row in 1..count {
         marks.push(true)?;
