@@ -1,5 +1,5 @@
 -- What came of the commands that read the constraints or generators of a text.
-use Rattle.std.proofs.Common.{◌≡◌, ℕ, ◌<◌, ◌≤◌, List, ◌++◌, Err, Ok, Result, IsTrue, Bool, ◌↔◌, refl, subst, inl, inr, arith}
+use Rattle.std.proofs.Common.{◌≡◌, ℕ, ◌<◌, ◌≤◌, List, ◌++◌, Err, Ok, Result, IsErrAnd, MatchResult, IsTrue, Bool, ◌↔◌, refl, subst, inl, inr, arith}
 use Rattle.row_core.specs.Lists.{Row}
 use Rattle.row_core.specs.declared.errors.Overflow.{Overflow}
 use Rattle.row_core.specs.declared.errors.ConvErr.{ConvErr}
@@ -36,6 +36,12 @@ use Rattle.line_values.proofs.FaultOrder.{early, refused_by_text, refused_late, 
 pub overflown : {A : Type 0} (m : Meaning A) (width column : ℕ) (list : List Row) (cause : ConvErr) → Passes m.conditions → ((over : Overflow) → LeavesOn width column list over → m.overflows over) → IsOverflowOn width column list cause → IsPerformed m (Err (refusal_of_conversion cause))
 overflown m width column list (conversion.Overflow over) passes shown is = (passes, shown over is)
 overflown m width column list conversion.Memory passes shown is = tt
+
+-- what came of arithmetic, whose refusal is turned into the line's
+pub turned : {A C : Type 0} (m : Meaning A) (refusal : C → StepErr) (Is : Result A C → Type 0) (came : Result A C) (result : Result A StepErr) → MatchResult came (λ x. result ≡ Ok x) (λ e. IsErrAnd result (λ d. d ≡ refusal e)) → Is came → ((x : A) → Is (Ok x) → IsPerformed m (Ok x)) → ((e : C) → Is (Err e) → IsPerformed m (Err (refusal e))) → IsPerformed m result
+turned m refusal Is (Ok x) result same is makes refuses = rw same (makes x is)
+turned m refusal Is (Err e) (Err d) same is makes refuses = rw same (refuses e is)
+turned m refusal Is (Err e) (Ok x) same is makes refuses = absurd same
 
 -- what came of generators that are converted
 abbrev pub made : Polyhedron → Result Polyhedron GenErr

@@ -90,10 +90,7 @@ pub fn mapped_by<L: Ledger>(
     if full {
         return Err(StepErr::Input(Fault::TooManyNames));
     }
-    match image_of(alloc, map, p, &frac, steps) {
-        Ok(made) => Ok(made),
-        Err(cause) => Err(StepErr::from(cause)),
-    }
+    image_of(alloc, map, p, &frac, steps).map_err(StepErr::from)
 }
 
 /// The variables of a list as columns, each of them below the dimension.
@@ -133,8 +130,5 @@ pub fn remove<L: Ledger>(
     if full {
         return Err(StepErr::Input(Fault::TooManyNames));
     }
-    match dimensions::remove_dims(alloc, p, columns.as_slice(), steps) {
-        Ok(made) => Ok(made),
-        Err(cause) => Err(StepErr::from(cause)),
-    }
+    dimensions::remove_dims(alloc, p, columns.as_slice(), steps).map_err(StepErr::from)
 }

@@ -43,7 +43,7 @@ pub fn space(
     if full {
         return Err(StepErr::Input(Fault::TooManyNames));
     }
-    Ok(whole_or_empty(alloc, space, topology, dim)?)
+    whole_or_empty(alloc, space, topology, dim).map_err(StepErr::from)
 }
 
 /// All points, or none.
@@ -69,7 +69,7 @@ pub fn copy(p: &Poly, full: bool) -> Result<Poly, StepErr>
     if full {
         return Err(StepErr::Input(Fault::TooManyNames));
     }
-    Ok(p.try_copy()?)
+    p.try_copy().map_err(StepErr::from)
 }
 
 /// The smallest closed set that includes the polyhedron, in its topology.
@@ -84,10 +84,7 @@ pub fn closure<L: Ledger>(
     if full {
         return Err(StepErr::Input(Fault::TooManyNames));
     }
-    match lattice_ops::closure(alloc, p, steps) {
-        Ok(made) => Ok(made),
-        Err(cause) => Err(StepErr::from(cause)),
-    }
+    lattice_ops::closure(alloc, p, steps).map_err(StepErr::from)
 }
 
 /// The polyhedron of the points at which the constraints of a text hold.
@@ -113,10 +110,7 @@ pub fn cons<L: Ledger>(
     if full {
         return Err(StepErr::Input(Fault::TooManyNames));
     }
-    match Poly::from_cons(alloc, topology, &system, steps) {
-        Ok(made) => Ok(made),
-        Err(cause) => Err(StepErr::from(cause)),
-    }
+    Poly::from_cons(alloc, topology, &system, steps).map_err(StepErr::from)
 }
 
 /// The polyhedron of the points that the generators of a text generate.
@@ -146,10 +140,7 @@ pub fn gens<L: Ledger>(
     if full {
         return Err(StepErr::Input(Fault::TooManyNames));
     }
-    match Poly::from_gens(alloc, topology, &system, steps) {
-        Ok(made) => Ok(made),
-        Err(cause) => Err(StepErr::from(cause)),
-    }
+    Poly::from_gens(alloc, topology, &system, steps).map_err(StepErr::from)
 }
 
 /// The points of a polyhedron at which the constraints of a text hold.
@@ -168,10 +159,7 @@ pub fn add<L: Ledger>(
         Ok(more) => more,
         Err(cause) => return Err(cause),
     };
-    match p.add_cons(&more, steps) {
-        Ok(made) => Ok(made),
-        Err(cause) => Err(StepErr::from(cause)),
-    }
+    p.add_cons(&more, steps).map_err(StepErr::from)
 }
 
 /// What the generators of a polyhedron and those of a text generate.
@@ -191,8 +179,5 @@ pub fn addgen<L: Ledger>(
         Ok(more) => more,
         Err(cause) => return Err(cause),
     };
-    match p.add_gens(&more, steps) {
-        Ok(made) => Ok(made),
-        Err(cause) => Err(StepErr::from(cause)),
-    }
+    p.add_gens(&more, steps).map_err(StepErr::from)
 }

@@ -32,10 +32,7 @@ pub fn of_two<L: Ledger>(
     if full {
         return Err(StepErr::Input(Fault::TooManyNames));
     }
-    match operate(alloc, op, p, q, steps) {
-        Ok(made) => Ok(made),
-        Err(cause) => Err(StepErr::from(cause)),
-    }
+    operate(alloc, op, p, q, steps).map_err(StepErr::from)
 }
 
 /// The first fault of two operands, if they don't fit the operator.
@@ -111,10 +108,7 @@ pub fn extend<L: Ledger>(
     if full {
         return Err(StepErr::Input(Fault::TooManyNames));
     }
-    match extension(alloc, by, p, count, steps) {
-        Ok(made) => Ok(made),
-        Err(cause) => Err(StepErr::from(cause)),
-    }
+    extension(alloc, by, p, count, steps).map_err(StepErr::from)
 }
 
 /// The polyhedron with so many further variables.

@@ -58,8 +58,5 @@ fn widen_if_nested<L: Ledger>(
     if !holds {
         return Err(StepErr::Input(Fault::NotNested));
     }
-    match widening::widen(alloc, p, q, steps) {
-        Ok(made) => Ok(made),
-        Err(cause) => Err(StepErr::from(cause)),
-    }
+    widening::widen(alloc, p, q, steps).map_err(StepErr::from)
 }

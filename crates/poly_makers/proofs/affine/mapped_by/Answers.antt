@@ -1,6 +1,13 @@
-use Rattle.poly_makers.specs.Affine.{IsMapped, image_rel}
+use Rattle.poly_makers.specs.Affine.{image_rel}
 use Rattle.line_values.proofs.PerformedLemmas.{not_full}
 use Rattle.poly_makers.proofs.FractionLemmas.{divisor_in_range, divisor_positive, allowed, mapping_refused, mapping_full, mapping_made, mapping_leaves}
+use Rattle.std.specs.Prelude.{IfOk, IfErr, Result}
+use Rattle.row_core.specs.declared.errors.ConvErr.{ConvErr}
+use Rattle.row_core.specs.Refusals.{IsOverflowIn}
+use Rattle.poly_pair.specs.Polyhedra.{Polyhedron}
+use Rattle.line_values.specs.Refusals.{refusal_of_conversion}
+use Rattle.poly_makers.specs.Affine.{mapped_by, IsSetOfMap, IsStoredOfMap, LeavesInMap}
+use Rattle.poly_makers.proofs.MakerLemmas.{turned}
 use Rattle.poly_makers.proofs.affine.mapped_by.Goals as goal
 
 pub returns-in-Err : goal.returns-in-Err
@@ -22,17 +29,16 @@ image_of-requires g c =
       positive = divisor_positive p.topology p.cons.dim m.v m.rel c.args.part.now c.in-Ok.frac.expr c.in-Ok.frac.den read;
     }
 
-pub returns-in-Ok-image_of : goal.returns-in-Ok-image_of
-returns-in-Ok-image_of g c =
-    let read = c.in-Ok.ensures in
-    let room = not_full c.args.full c.if-full.false in
-    let m = c.args.map in
-    let is : IsMapped m.by (image_rel m.rel) m.v c.in-Ok.frac.expr c.in-Ok.frac.den c.args.p.now c.in-Ok-image_of.made = record { set = c.in-Ok-image_of.ensures.points; stored = c.in-Ok-image_of.ensures.stored } in
-    mapping_made m.by c.args.full m.v m.rel c.args.part.now c.args.p.now c.in-Ok.frac.expr c.in-Ok.frac.den read c.in-Ok-image_of.made room is
-
 pub returns : goal.returns
 returns g c =
     let read = c.in-Ok.ensures in
     let room = not_full c.args.full c.if-full.false in
     let m = c.args.map in
-    rw c.from.ensures (mapping_leaves m.by c.args.full m.v m.rel c.args.part.now c.args.p.now c.in-Ok.frac.expr c.in-Ok.frac.den read c.in-Err-image_of.cause room c.in-Err-image_of.ensures.overflow)
+    let p = c.args.p.now in
+    let expr = c.in-Ok.frac.expr in
+    let den = c.in-Ok.frac.den in
+    turned (mapped_by m.by c.args.full m.v m.rel c.args.part.now p) refusal_of_conversion
+    (λ (r : Result Polyhedron ConvErr). IfOk r (IsSetOfMap m.by (image_rel m.rel) m.v expr den p) × (IfOk r (IsStoredOfMap m.by (image_rel m.rel) m.v expr den p) × IfErr r (IsOverflowIn (LeavesInMap m.by (image_rel m.rel) m.v expr den p))))
+    c.image_of.result c.map_err.result c.map_err.ensures.cases (c.image_of.ensures.points, (c.image_of.ensures.stored, c.image_of.ensures.overflow))
+    (λ made is. mapping_made m.by c.args.full m.v m.rel c.args.part.now p expr den read made room (record { set = is.0; stored = is.1.0 }))
+    (λ cause is. mapping_leaves m.by c.args.full m.v m.rel c.args.part.now p expr den read cause room is.1.1)
