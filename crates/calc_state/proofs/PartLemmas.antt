@@ -1,5 +1,5 @@
 -- What came of a change of a part of an entry.
-use Rattle.std.proofs.Common.{◌≡◌, ◌∙◌, ℕ, List, Ok, Err, Result, Option, None, Some, refl, sym, subst}
+use Rattle.std.proofs.Common.{◌≡◌, ◌∙◌, ◌↔◌, ℕ, ◌≤◌, List, [], ◌∷◌, Ok, Err, Result, Option, None, Some, refl, sym, subst, inl, inr}
 use Rattle.std.specs.Prelude.{IsSome}
 use Rattle.poly_pair.specs.Polyhedra.{Polyhedron}
 use Rattle.command_tasks.specs.declared.tasks.PartTask.{PartTask}
@@ -11,8 +11,12 @@ use Rattle.line_values.specs.declared.refusal.StepErr.TheVariants as err
 use Rattle.calc_state.specs.declared.parts.PartChange.{PartChange}
 use Rattle.name_table.specs.Table.{entry_of}
 use Rattle.calc_state.specs.Table.{Table, as_system, as_hybrid, Change}
-use Rattle.line_values.specs.Order.{IsFirst}
-use Rattle.line_values.specs.Meaning.{Meaning, on_one}
+use Rattle.line_values.specs.Order.{order, IsFirstOf, NoneOf, IsFirst}
+use Rattle.line_values.specs.Meaning.{Meaning, no_overflow, on_one}
+use Rattle.line_values.specs.Performed.{IsPerformed}
+use Rattle.reply_text.specs.declared.faults.Fault.{Fault}
+use Rattle.reply_text.specs.declared.faults.Fault.TheVariants as fault
+use Rattle.calc_state.specs.Parts.{misfits, as_part}
 use Rattle.calc_state.specs.Meanings.{changed_part_of}
 use Rattle.calc_state.specs.Step.{IsDone}
 use Rattle.calc_state.specs.Changes.{changed_part, FitsPart, as_entry, Makes, IsTested, IsChanged}
@@ -67,6 +71,50 @@ module _ {A : Type 0} (make : A → Entry) (kind : Option Entry → Option A) (s
       subst (λ (r : Option Polyhedron). IsFirst (on_one (kind (entry_of table name)) (λ s. on_one r (means s))).conditions fault) f (subst (λ (u : Option A). IsFirst (on_one u (λ s. on_one p (means s))).conditions fault) e t)
   changes_part means (Err (err.Overflow over)) {found} {p} {q} e f t = absurd t
   changes_part means (Err err.Memory) {found} {p} {q} e f t = tt
+
+-- the conditions of a part, of which a location is outside by one statement or by another
+module _ (dim : ℕ) (Outside Beyond : Type 0) (same : Outside ↔ Beyond) (p : Polyhedron) where
+  as_well : (f : Fault) → misfits dim p Outside f ↔ misfits dim p Beyond f
+  as_well fault.NotClosed = (λ x. x, λ x. x)
+  as_well fault.DimMismatch = (λ x. x, λ x. x)
+  as_well fault.OutOfRange = same
+  as_well f = (λ x. x, λ x. x)
+
+  first_as_well : (fs : List Fault) (f : Fault) → IsFirstOf fs (misfits dim p Outside) f → IsFirstOf fs (misfits dim p Beyond) f
+  first_as_well [] f is = is
+  first_as_well (x ∷ fs) f (inl is) = inl ((as_well x).0 is.0, is.1)
+  first_as_well (x ∷ fs) f (inr is) = inr (λ h. is.0 ((as_well x).1 h), first_as_well fs f is.1)
+
+  none_as_well : (fs : List Fault) → NoneOf fs (misfits dim p Outside) → NoneOf fs (misfits dim p Beyond)
+  none_as_well [] is = is
+  none_as_well (x ∷ fs) is = (λ h. is.0 ((as_well x).1 h), none_as_well fs is.1)
+
+-- so many locations
+pub as_many : (location : ℕ) {count locations : ℕ} → count ≡ locations → (count ≤ location) ↔ (locations ≤ location)
+as_many location e = (subst (λ (k : ℕ). k ≤ location) e, subst (λ (k : ℕ). k ≤ location) (sym e))
+
+-- what came of the tests of a task, from those of the set that is to be a part
+module _ {told dim : ℕ} (dim_is : told ≡ dim) {Outside Beyond : Type 0} (same : Outside ↔ Beyond) (name : List ℕ) (does : Polyhedron → Change → Type 0) (o : Option Polyhedron) where
+  abbrev means : Polyhedron → Meaning Change
+  means p = record { conditions = misfits dim p Beyond; overflows = no_overflow; does = does p }
+
+  refused_by : (found : Option Entry) (u : Option Polyhedron) (cause : StepErr) → IsPerformed (on_one u (as_part dim Outside)) (Err cause) → IsTested (on_one u means) found name (Err cause)
+  refused_by found None (err.Input f) is = is
+  refused_by found None (err.Overflow over) is = absurd is.1
+  refused_by found None err.Memory is = tt
+  refused_by found (Some p) (err.Input f) is = first_as_well dim Outside Beyond same p order f is
+  refused_by found (Some p) (err.Overflow over) is = absurd is.1
+  refused_by found (Some p) err.Memory is = tt
+
+  pub part_refused : (found : Option Entry) (cause : StepErr) → IsPerformed (on_one o (as_part told Outside)) (Err cause) → IsTested (on_one o means) found name (Err cause)
+  part_refused found cause is = refused_by found o cause (subst (λ (d : ℕ). IsPerformed (on_one o (as_part d Outside)) (Err cause)) dim_is is)
+
+  made_by : (old : Entry) (copy : Polyhedron) (change : PartChange) (u : Option Polyhedron) → IsPerformed (on_one u (as_part dim Outside)) (Ok copy) → FitsPart old change → does copy (Puts name (changed_part old change)) → Makes (on_one u means) (Some old) name change
+  made_by old copy change None is fits made = absurd is.1
+  made_by old copy change (Some p) is fits made = record { old = old; is_found = refl; fits = fits; passes = none_as_well dim Outside Beyond same p order is.0; does = subst (λ (q : Polyhedron). does q (Puts name (changed_part old change))) is.1 made }
+
+  pub part_made : (old : Entry) (copy : Polyhedron) (change : PartChange) → IsPerformed (on_one o (as_part told Outside)) (Ok copy) → FitsPart old change → does copy (Puts name (changed_part old change)) → IsTested (on_one o means) (Some old) name (Ok change)
+  part_made old copy change is fits made = made_by old copy change o (subst (λ (d : ℕ). IsPerformed (on_one o (as_part d Outside)) (Ok copy)) dim_is is) fits made
 
 -- what came of the tests of a task that is this one
 pub tested_as : (table : Table) (name : List ℕ) (what spelled : PartTask) (result : Result PartChange StepErr) → what ≡ spelled → IsTested (changed_part_of table name spelled) (entry_of table name) name result → IsTested (changed_part_of table name what) (entry_of table name) name result

@@ -19,6 +19,11 @@ misfits dim p Outside fault.DimMismatch = p.cons.dim ≢ dim
 misfits dim p Outside fault.OutOfRange = Outside
 misfits dim p Outside other = ⊥
 
+-- a set that may be such a part, as it is
+abbrev pub as_part : ℕ → Type 0 → Polyhedron → Meaning Polyhedron
+as_part dim Outside p =
+    record { conditions = misfits dim p Outside; overflows = no_overflow; does = λ copy. copy ≡ p }
+
 -- init S LOC P
 abbrev pub init : List ℕ → ℕ → TransitionSystem → Polyhedron → Meaning Change
 init name location s p = record {

@@ -1,9 +1,10 @@
 //! The commands that change a part of a transition system or of a hybrid automaton: whether they
 //! may.
-ghost use Rattle.std.specs.Prelude.{ℕ, List};
+ghost use Rattle.std.specs.Prelude.{◌≡◌, ℕ, ◌<◌, ◌≤◌, List, IfOk};
 ghost use Rattle.std.specs.Option.{option_copied};
 ghost use Rattle.line_values.specs.Meaning.{on_one};
-ghost use Rattle.calc_state.specs.Parts.{init, trans, set_part};
+ghost use Rattle.calc_state.specs.Parts.{as_part, init, trans, set_part};
+ghost use Rattle.line_values.specs.Performed.{IsPerformed};
 ghost use Rattle.calc_state.specs.Changes.{as_entry, IsTested};
 ghost use Rattle.calc_state.specs.declared.entry.Entry.TheVariants as entry;
 
@@ -14,6 +15,33 @@ use poly_pair::{Poly, Topology};
 use reply_text::Fault;
 use script_text::LocationPart;
 use trans_sys::System;
+
+/// A copy of a closed polyhedron of this dimension, where the location is one of so many.
+fn copied_part(
+    p: Option<&Poly>,
+    dim: usize,
+    location: u64,
+    locations: usize,
+) -> Result<Poly, StepErr>
+    ensures part { IsPerformed
+        (on_one (option_copied p.entry) (as_part dim (locations ≤ location))) result }
+    ensures fits { IfOk result (λ copy. (copy.topology ≡ Topology.Closed)
+        × (copy.cons.dim ≡ dim) × (location < locations)) }
+{
+    let Some(p) = p else {
+        return Err(StepErr::Input(Fault::UnknownName));
+    };
+    if p.topology() != Topology::Closed {
+        return Err(StepErr::Input(Fault::NotClosed));
+    }
+    if p.dim() != dim {
+        return Err(StepErr::Input(Fault::DimMismatch));
+    }
+    if location >= locations as u64 {
+        return Err(StepErr::Input(Fault::OutOfRange));
+    }
+    p.try_copy().map_err(StepErr::from)
+}
 
 /// Replaces the initial states of a location by those of a polyhedron.
 pub fn replaced_initial(
@@ -29,20 +57,10 @@ pub fn replaced_initial(
     let Some(system) = system else {
         return Err(StepErr::Input(Fault::UnknownName));
     };
-    let Some(p) = p else {
-        return Err(StepErr::Input(Fault::UnknownName));
-    };
-    if p.topology() != Topology::Closed {
-        return Err(StepErr::Input(Fault::NotClosed));
+    match copied_part(p, system.dim(), location, system.locs()) {
+        Ok(copy) => Ok(PartChange::System(SystemChange::Initial(location as usize, copy))),
+        Err(cause) => Err(cause),
     }
-    if p.dim() != system.dim() {
-        return Err(StepErr::Input(Fault::DimMismatch));
-    }
-    if location >= system.locs() as u64 {
-        return Err(StepErr::Input(Fault::OutOfRange));
-    }
-    let change = SystemChange::Initial(location as usize, p.try_copy()?);
-    Ok(PartChange::System(change))
 }
 
 /// Appends a transition between two locations, whose relation is a polyhedron.
@@ -60,21 +78,14 @@ pub fn added_transition(
     let Some(system) = system else {
         return Err(StepErr::Input(Fault::UnknownName));
     };
-    let Some(relation) = relation else {
-        return Err(StepErr::Input(Fault::UnknownName));
-    };
-    if relation.topology() != Topology::Closed {
-        return Err(StepErr::Input(Fault::NotClosed));
+    let last = source.max(target);
+    match copied_part(relation, 2 * system.dim(), last, system.locs()) {
+        Ok(copy) => {
+            let change = SystemChange::Transition(source as usize, target as usize, copy);
+            Ok(PartChange::System(change))
+        }
+        Err(cause) => Err(cause),
     }
-    if relation.dim() != 2 * system.dim() {
-        return Err(StepErr::Input(Fault::DimMismatch));
-    }
-    if source >= system.locs() as u64 || target >= system.locs() as u64 {
-        return Err(StepErr::Input(Fault::OutOfRange));
-    }
-    let copy = relation.try_copy()?;
-    let change = SystemChange::Transition(source as usize, target as usize, copy);
-    Ok(PartChange::System(change))
 }
 
 /// Replaces the invariant or the flow of a location by a polyhedron.
@@ -92,24 +103,13 @@ pub fn replaced_part(
     let Some(h) = h else {
         return Err(StepErr::Input(Fault::UnknownName));
     };
-    let Some(p) = p else {
-        return Err(StepErr::Input(Fault::UnknownName));
+    let copy = match copied_part(p, h.system().dim(), location, h.system().locs()) {
+        Ok(copy) => copy,
+        Err(cause) => return Err(cause),
     };
-    if p.topology() != Topology::Closed {
-        return Err(StepErr::Input(Fault::NotClosed));
-    }
-    if p.dim() != h.system().dim() {
-        return Err(StepErr::Input(Fault::DimMismatch));
-    }
-    if location >= h.system().locs() as u64 {
-        return Err(StepErr::Input(Fault::OutOfRange));
-    }
-    let copy = p.try_copy()?;
+    let location = location as usize;
     match part {
-        LocationPart::Invariant => Ok(PartChange::Hybrid(HybridChange::Invariant(
-            location as usize,
-            copy,
-        ))),
-        LocationPart::Flow => Ok(PartChange::Hybrid(HybridChange::Flow(location as usize, copy))),
+        LocationPart::Invariant => Ok(PartChange::Hybrid(HybridChange::Invariant(location, copy))),
+        LocationPart::Flow => Ok(PartChange::Hybrid(HybridChange::Flow(location, copy))),
     }
 }

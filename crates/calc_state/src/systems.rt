@@ -35,7 +35,7 @@ pub fn system(alloc: Global, n: u64, locations: u64, full: bool) -> Result<Syste
     if full {
         return Err(StepErr::Input(Fault::TooManyNames));
     }
-    Ok(System::new(alloc, n as usize, locations as usize)?)
+    System::new(alloc, n as usize, locations as usize).map_err(StepErr::from)
 }
 
 /// The set of each location in the limit of the system's rounds, where there is room for their
