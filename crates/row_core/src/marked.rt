@@ -338,10 +338,8 @@ fn make_room(cells: &mut Vec<i128>, width: usize) -> Result<(), AllocError>
     ensures len { vec_len cells.new ≡ vec_len cells.old }
     ensures room { OnOk result (vec_len cells.new + width ≤ vec_capacity cells.new) }
 {
-    if cells.capacity() == 0 {
-        return cells.reserve(LEAST_ROWS * width);
-    }
-    cells.reserve(width)
+    let rows = if cells.capacity() == 0 { LEAST_ROWS } else { 1 };
+    cells.reserve(rows * width)
 }
 
 /// Appends a row, made primitive, for which there is room.
@@ -372,8 +370,10 @@ fn insert_row(cells: &mut Vec<i128>, start: usize, row: &[i128])
     ensures { cells.new.items
         ≡ take start cells.old.items ++ (row.now ++ drop start cells.old.items) }
 {
+    let end = cells.len();
     append_slice(cells, row);
-    cells[start..].rotate_right(row.len());
+    cells.copy_within(start..end, start + row.len());
+    put_row(cells, start, row);
 }
 
 /// Takes so many cells from a place on out.
