@@ -14,3 +14,4 @@ pub mod Positions
 pub mod RoomLemmas
 pub mod Told
 pub mod Costs
+pub mod GoingOn

@@ -1,12 +1,21 @@
-use Rattle.std.specs.Prelude.{◌≡◌, ℕ, ◌≤◌, List, length, true, IfSome, ⊤}
+use Rattle.std.specs.Prelude.{◌≡◌, ℕ, ◌+◌, ◌-◌, ◌≤◌, List, length, true, IfSome, ⊤}
 use Rattle.row_core.specs.Lists.{Row}
-use Rattle.chernikova.specs.Conversion.{IsState}
+use Rattle.chernikova.specs.Conversion.{IsState, IsCountedUpto}
 use Rattle.chernikova.specs.Plans.{StepLists, lists_of, IsPlan}
 use Rattle.ray_order.specs.RowOrders.{AreReordered}
 use Rattle.chernikova.specs.declared.system.System.{System}
 use Rattle.chernikova.specs.declared.taking.Search.{Search}
 use Rattle.chernikova.specs.declared.taking.Search.TheVariants as search
+use Rattle.chernikova.specs.declared.list_order.ListOrder.{ListOrder}
 use Rattle.chernikova.specs.declared.beside.Beside.{Beside}
+
+-- the first k rows are taken in, and what was counted since an old count fits, beside what is left
+pub record GoesOnFrom (width : ℕ) (rows : List Row) (k old new : ℕ) (first : ListOrder)
+    : Type 0 where
+  pub taken : k ≤ length rows
+  pub state : IsState width rows k first.system
+  pub no_fewer : old ≤ new
+  pub counted : IsCountedUpto width rows k (new - old + first.slack)
 
 -- what the next row asks for, if that is known
 abbrev pub IsPlanned : Beside → Type 0

@@ -17,14 +17,6 @@ use sat_matrix::SatMatrix;
 use std::alloc::Global;
 use std::sync::ledger::Ledger;
 
-/// How many looks at rays the conversion in the list's order is expected to take before the other
-/// begins.
-const LOOKS_BEFORE: u64 = 10_000;
-
-/// How many such looks times rows that are left, where fewer than a quarter of the rows are: the
-/// other has to take in all rows, and few are then spared.
-const LOOKS_AT_THE_END: u64 = 1_000_000;
-
 /// For how many looks of the first conversion the other has one, unless it took in more rows.
 const SHARE: u64 = 24;
 
@@ -32,12 +24,12 @@ const SHARE: u64 = 24;
 const TENTHS_AHEAD: u64 = 7;
 
 /// A conversion in sorted order: its rows, the place among them of each row of the list, and the
-/// system of those that were taken in. It has begun or not, and runs until an overflow ends it.
+/// system of those that were taken in. It runs until an overflow ends it, if at all.
 /// The search for the pairs of the rows so far was expected to look at `looked` rays, and that of
 /// the next row at `awaited`. What the next row asks for is `plan`, once that is known, with
 /// `needed` combinations.
+#[derive(Drop)]
 pub(crate) struct Beside {
-    begun: bool,
     running: bool,
     pub(crate) rows: RowList,
     pub(crate) places: Vec<usize>,
@@ -50,36 +42,9 @@ pub(crate) struct Beside {
     needed: u128,
 }
 
-// Written by hand, so that a function that drops it makes one call.
-impl Drop for Beside {
-    fn drop(self) {
-        let Self {
-            begun: _,
-            running: _,
-            rows: _,
-            places: _,
-            system: _,
-            scratch: _,
-            taken: _,
-            looked: _,
-            awaited: _,
-            plan: _,
-            needed: _,
-        } = self;
-    }
-}
-
-/// Whether a second conversion is likely to pay beside one that takes so many looks and took in
-/// so many of the rows.
-fn pays(looks: u64, rows: usize, taken: usize) -> bool {
-    let left = rows.saturating_sub(taken) as u64;
-    let is_early = left >= rows as u64 / 4;
-    looks >= LOOKS_BEFORE && (is_early || looks.saturating_mul(left) >= LOOKS_AT_THE_END)
-}
-
 impl Beside {
-    /// Returns a conversion that doesn't run, and that has begun or not.
-    pub(crate) fn idle(alloc: Global, begun: bool) -> Beside
+    /// Returns a conversion that doesn't run.
+    pub(crate) fn idle(alloc: Global) -> Beside
         ensures { result.running ≡ false }
     {
         let system = System {
@@ -88,7 +53,6 @@ impl Beside {
             sat: SatMatrix::new(alloc, 0),
         };
         Beside {
-            begun,
             running: false,
             rows: RowList::new(alloc, 0),
             places: Vec::new(alloc),
@@ -102,19 +66,18 @@ impl Beside {
         }
     }
 
-    // The conversion of a list before its first row, which runs unless the list is sorted.
-    fn of_list(alloc: Global, list: &RowList) -> Result<Beside, Memory>
+    /// The conversion of a list before its first row, which runs unless the list is sorted.
+    pub(crate) fn of_list(alloc: Global, list: &RowList) -> Result<Beside, Memory>
         ensures { IfOk result (IsBeside list.now.width list.now.rows) }
     {
         let order = sorted_order(alloc, list)?;
         if is_as_listed(&order) {
-            return Ok(Beside::idle(alloc, true));
+            return Ok(Beside::idle(alloc));
         }
         let places = places_of(alloc, &order)?;
         let rows = rows_at(alloc, list, &order)?;
         let system = start(alloc, list.width(), &rows)?;
         Ok(Beside {
-            begun: true,
             running: true,
             rows,
             places,
@@ -126,21 +89,6 @@ impl Beside {
             plan: None,
             needed: 0,
         })
-    }
-
-    /// Begins where the conversion in the list's order looks at enough rays, those of its next
-    /// row among them, if there is memory for it.
-    pub(crate) fn begin(&mut self, list: &RowList, looks: u64, taken: usize)
-        requires { IsBeside list.now.width list.now.rows self.old }
-        ensures { IsBeside list.now.width list.now.rows self.new }
-    {
-        if self.begun || !pays(looks, list.len(), taken) {
-            return;
-        }
-        match Beside::of_list(self.scratch.alloc, list) {
-            Ok(beside) => *self = beside,
-            Err(_) => self.begun = true,
-        }
     }
 
     // How many more looks it may take, beside a conversion that takes so many and took in so many
@@ -253,24 +201,6 @@ impl Beside {
         }
     }
 
-    /// How many lines and rays count as slack before the pairs of the next row of the list's
-    /// order are sought, from how that row lies to them: those that stay, while there is a use
-    /// for slack.
-    pub(crate) fn slack_before(
-        &self,
-        position: Position,
-        scratch: &Scratch,
-        eq: bool,
-        cone: &System,
-    ) -> u128
-        ensures { result ≤ kept_of eq cone.now (lists_of scratch.now) position }
-    {
-        if !self.running {
-            return 0;
-        }
-        position.kept(scratch, eq, cone)
-    }
-
     /// Whether it has taken in all rows.
     pub(crate) fn is_done(&self, list: &RowList) -> bool
         requires { IsBeside list.now.width list.now.rows self.now }
@@ -280,26 +210,5 @@ impl Beside {
             return false;
         }
         self.taken == list.len()
-    }
-
-    /// Gives up the system and the place of each row of the list, without a copy.
-    pub(crate) fn into_system(self) -> (System, Vec<usize>)
-        ensures system { result.0 ≡ self.system }
-        ensures places { result.1.items ≡ self.places.items }
-    {
-        let Self {
-            begun: _,
-            running: _,
-            rows: _,
-            places,
-            system,
-            scratch: _,
-            taken: _,
-            looked: _,
-            awaited: _,
-            plan: _,
-            needed: _,
-        } = self;
-        (system, places)
     }
 }

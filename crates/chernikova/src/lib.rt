@@ -15,6 +15,7 @@ mod better_order;
 mod cone;
 mod conversion;
 mod fault;
+mod list_order;
 mod lists;
 mod order;
 mod plan;

@@ -90,39 +90,6 @@ pub(crate) fn take_planned<L: Ledger>(
     Ok(())
 }
 
-/// Takes row `k` into the system from how it lies to it, and gives the number of its vectors less
-/// that of the combinations. What it counts is bounded by what the next system has beside the lines
-/// and rays that stay.
-pub(crate) fn take_row_sparing<L: Ledger>(
-    scratch: &mut Scratch,
-    cone: &mut System,
-    position: Position,
-    rows: &RowList,
-    k: usize,
-    steps: &mut Steps<L>,
-) -> Result<u128, ConvErr>
-    requires row { k < length rows.now.rows }
-    requires state { IsState rows.now.width rows.now.rows k cone.old }
-    requires position { IsPosition rows.now.rows k cone.old (lists_of scratch.old) position }
-    ensures state { let list = rows.now in
-        MatchResult result (λ _. IsState list.width list.rows (k + 1) cone.new)
-        (IsRealOverflow list.width list.rows) }
-    ensures step { IfErr result (IsAtStep k) }
-    ensures no_fewer { steps.old ≤ steps.new }
-    ensures counted { let lists = lists_of scratch.old in
-        let kept = kept_of (is_eq_at rows.now.rows k) cone.old lists position in
-        HasSystemOf rows.now.width rows.now.rows (k + 1) (kept + (steps.new - steps.old)) }
-    ensures spared { let list = rows.now in
-        IfOk result (λ spared.
-        HasSystemOf list.width list.rows (k + 1) (steps.new - steps.old + spared)) }
-{
-    let plan = plan_of_position(scratch, cone, position, rows, k)?;
-    let made = plan.combinations(scratch, cone);
-    take_planned(scratch, cone, plan, rows, k, steps)?;
-    let vectors = cone.lines.len() as u128 + cone.rays.len() as u128;
-    Ok(vectors.saturating_sub(made))
-}
-
 /// What row `k` asks of the system of the rows before it, where the search for its pairs is
 /// expected to look at fewer rays than so many.
 pub(crate) fn plan_row_within(
