@@ -14,10 +14,16 @@ use std::marker::Model;
 
 /// The points at which bounds of variables and of differences of two hold. Each bound is the
 /// greatest difference of the set.
-#[derive(Drop)]
 pub struct Shape {
     pub(crate) dim: usize,
     pub(crate) bounds: Option<BoundTable>,
+}
+
+// Written by hand, so that a function that drops a shape makes one call.
+impl Drop for Shape {
+    fn drop(self) {
+        let Self { dim: _, bounds: _ } = self;
+    }
 }
 
 impl Model for Shape {

@@ -1,6 +1,5 @@
 pub mod Changes
 pub mod Entries
-pub mod Hybrids
 pub mod Laws
 pub mod Line
 pub mod Meanings
@@ -9,5 +8,4 @@ pub mod Reading
 pub mod Runs
 pub mod State
 pub mod Step
-pub mod Systems
 pub mod Table

@@ -10,11 +10,11 @@ use Rattle.line_values.specs.Meaning.{Meaning, on_one, on_two, says}
 use Rattle.poly_makers.specs.Meanings.{made as made_of_polyhedra, added}
 use Rattle.poly_questions.specs.Meanings.{said}
 use Rattle.calc_state.specs.Table.{Table, Change, poly_of, system_of, powerset_of, shape_of, hybrid_of, as_poly, as_system, as_powerset, as_shape, as_hybrid}
-use Rattle.calc_state.specs.Systems.{system, fixpoint}
+use Rattle.fixpoint.specs.Commands.{system, fixpoint}
 use Rattle.powerset.specs.Commands.{pset, of_two_powersets, member, psize, covers}
-use Rattle.ranking_commands.specs.Rankings.{rank, ranking}
+use Rattle.ranking.specs.Commands.{rank, ranking}
 use Rattle.bd_shape.specs.Commands.{shape as shape_of_set, bounds, of_two_shapes, shape_contains, shape_print, shape_poly}
-use Rattle.calc_state.specs.Hybrids.{hybrid, reach}
+use Rattle.hybrid.specs.Commands.{hybrid, reach}
 use Rattle.calc_state.specs.Parts.{init, trans, set_part}
 use Rattle.command_tasks.specs.Tasks.{task_of}
 use Rattle.command_tasks.specs.declared.tasks.Task.{Task}

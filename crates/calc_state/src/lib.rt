@@ -10,13 +10,11 @@
 mod calc;
 mod change;
 mod entry;
-mod hybrids;
 mod laws;
 mod operands;
 mod part_tests;
 mod parts;
 mod perform;
-mod systems;
 
 pub use calc::Calc;
 pub use laws::{names_stay_distinct, one_first, one_reply};

@@ -8,13 +8,13 @@ ghost use Rattle.line_values.specs.Performed.{IsPerformed};
 ghost use Rattle.calc_state.specs.Changes.{as_entry, IsTested};
 ghost use Rattle.calc_state.specs.declared.entry.Entry.TheVariants as entry;
 
-use crate::parts::{HybridChange, PartChange, SystemChange};
-use hybrid::Hybrid;
+use crate::parts::PartChange;
+use hybrid::{Hybrid, HybridChange};
 use line_values::StepErr;
 use poly_pair::{Poly, Topology};
 use reply_text::Fault;
 use script_text::LocationPart;
-use trans_sys::System;
+use trans_sys::{System, SystemChange};
 
 /// A copy of a closed polyhedron of this dimension, where the location is one of so many.
 fn copied_part(

@@ -8,11 +8,9 @@ ghost use Rattle.command_tasks.specs.Tasks.{AskedFits, PolyMakerFits, ShapeMaker
 
 use crate::change::{put_hybrid, put_powerset, put_shape, put_system};
 use crate::entry::Entry;
-use crate::hybrids::{hybrid, reach};
 use crate::operands::{hybrid_at, powerset_at, shape_at, system_at};
 use crate::part_tests::{added_transition, replaced_initial, replaced_part};
 use crate::parts::PartChange;
-use crate::systems::{fixpoint, system};
 use bd_shape::Shape;
 use bd_shape::commands::{
     bounds, of_two_shapes, shape_contains, shape_of_set, shape_poly, shape_print,
@@ -20,6 +18,8 @@ use bd_shape::commands::{
 use command_tasks::{
     Asked, Made, PartTask, PolyMaker, PowersetMaker, Running, ShapeMaker, TableTask,
 };
+use fixpoint::commands::{fixpoint, system};
+use hybrid::commands::{hybrid, reach};
 use line_values::{Change, StepErr, drop_name, is_full, poly_at, put_numbered, put_poly, say};
 use name_table::Names;
 use poly_makers::{add_to, make};
@@ -27,7 +27,7 @@ use poly_pair::Poly;
 use poly_questions::ask;
 use powerset::Powerset;
 use powerset::commands::{covers, member, of_two_powersets, pset, psize};
-use ranking_commands::{rank, ranking};
+use ranking::commands::{rank, ranking};
 use reply_text::Text;
 use row_core::Steps;
 use std::alloc::Global;

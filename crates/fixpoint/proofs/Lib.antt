@@ -1,2 +1,3 @@
 pub mod SystemTurns
 pub mod PostConversions
+mod CommandLemmas

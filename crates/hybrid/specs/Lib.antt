@@ -3,3 +3,5 @@ pub mod Steps
 pub mod Turns
 pub mod Reaches
 pub mod Conversions
+pub mod Commands
+pub mod Changes

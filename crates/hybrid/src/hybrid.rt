@@ -15,11 +15,21 @@ use trans_sys::{System, empty_sets};
 /// A linear hybrid automaton: a transition system, and for each location an invariant, the states
 /// in which it may stay, and a flow, the velocities with which its state moves there. All are
 /// closed polyhedra.
-#[derive(Drop)]
 pub struct Hybrid {
     system: System,
     invariants: Vec<Poly>,
     flows: Vec<Poly>,
+}
+
+// Written by hand, so that a function that drops an automaton makes one call.
+impl Drop for Hybrid {
+    fn drop(self) {
+        let Self {
+            system: _,
+            invariants: _,
+            flows: _,
+        } = self;
+    }
 }
 
 impl Model for Hybrid {

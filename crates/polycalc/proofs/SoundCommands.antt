@@ -45,12 +45,12 @@ use Rattle.calc_state.specs.declared.entry.Entry.{Entry}
 use Rattle.calc_state.specs.declared.entry.Entry.TheVariants as entry
 use Rattle.calc_state.specs.Entries.{IsKeptEntry}
 use Rattle.calc_state.specs.Table.{Table, Change, as_poly, as_system, as_powerset, as_shape, as_hybrid, poly_of, numbered_sets}
-use Rattle.calc_state.specs.Systems as systems
+use Rattle.fixpoint.specs.Commands as systems
 use Rattle.calc_state.specs.Parts as parts
 use Rattle.powerset.specs.Commands as powersets
-use Rattle.ranking_commands.specs.Rankings as rankings
+use Rattle.ranking.specs.Commands as rankings
 use Rattle.bd_shape.specs.Commands as shapes
-use Rattle.calc_state.specs.Hybrids as hybrids
+use Rattle.hybrid.specs.Commands as hybrids
 use Rattle.calc_state.specs.Meanings.{meaning}
 use Rattle.calc_state.specs.Step.{IsAccepted, PutsProper, after}
 use Rattle.calc_state.proofs.EntryKinds.{IsKind, poly_there, system_there, powerset_there, shape_there, hybrid_there, Found, found_of, same_entry}

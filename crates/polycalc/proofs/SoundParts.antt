@@ -54,11 +54,11 @@ use Rattle.line_values.specs.Texts as texts
 use Rattle.line_values.specs.Meaning.{IsTold}
 use Rattle.line_values.specs.Order.{Conditions, Passes}
 use Rattle.line_values.specs.Proper.{IsProper}
-use Rattle.calc_state.specs.Systems as made
-use Rattle.calc_state.specs.Hybrids as made_automata
+use Rattle.fixpoint.specs.Commands as made
+use Rattle.hybrid.specs.Commands as made_automata
 use Rattle.calc_state.specs.Parts as parts
 use Rattle.powerset.specs.Commands as made_powersets
-use Rattle.ranking_commands.specs.Rankings as made_rankings
+use Rattle.ranking.specs.Commands as made_rankings
 use Rattle.bd_shape.specs.Commands as made_shapes
 use Rattle.elapse.specs.ElapsedPoints.{IsMoved}
 use Rattle.soundness.specs.Points.{PointSet, LackStrict, HasNoPoint, IsOver}

@@ -5,3 +5,4 @@ pub mod RankingLists
 pub mod RankingPolyhedra
 pub mod PrintedFunctions
 pub mod RankedRuns
+mod CommandLemmas

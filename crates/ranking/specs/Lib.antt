@@ -5,3 +5,4 @@ pub mod Refusals
 pub mod PrintedRankings
 pub mod Runs
 pub mod Laws
+pub mod Commands

@@ -4,9 +4,11 @@
 //!   relation and fall by at least 1 to its successor, as a polyhedron of their coefficients.
 //! - [`print_ranking`] gives the printed form of one of them, or `none`.
 //!
-//! [`laws`] says what is printed.
+//! [`laws`] says what is printed, and [`commands`] has the functions of the calculator's commands
+//! that make ranking functions or say one of them.
 #![tactic(auto)]
 
+pub mod commands;
 pub mod laws;
 mod printing;
 mod rows;

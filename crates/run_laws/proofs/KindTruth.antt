@@ -13,7 +13,7 @@ use Rattle.bd_shape.proofs.Canonical.{bounds_are_greatest}
 use Rattle.bd_shape.proofs.RowLists.{list_points}
 use Rattle.line_values.specs.Meaning.{line}
 use Rattle.powerset.specs.Commands.{IsCoverTold}
-use Rattle.ranking_commands.specs.Rankings.{IsRankingTold}
+use Rattle.ranking.specs.Commands.{IsRankingTold}
 use Rattle.run_laws.specs.Truth.{SaysCover, SaysRanking, SaysBounds}
 use Rattle.soundness.proofs.ShapeRows.{shape_fits}
 

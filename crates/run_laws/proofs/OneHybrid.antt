@@ -4,7 +4,7 @@ use Rattle.poly_pair.specs.Polyhedra.{Polyhedron, IsKept, IsEmpty, IsUniverse}
 use Rattle.poly_pair.specs.declared.topology.Topology.TheVariants.{Closed}
 use Rattle.trans_sys.specs.Systems.{TransitionSystem}
 use Rattle.hybrid.specs.Systems.{HybridAutomaton, IsKeptHybrid}
-use Rattle.calc_state.specs.Hybrids.{IsStill}
+use Rattle.hybrid.specs.Commands.{IsStill}
 use Rattle.run_laws.proofs.OneForm.{OneForm}
 use Rattle.run_laws.proofs.OneSystem.{one_set_of, one_empty_set, one_list}
 

@@ -37,10 +37,10 @@ use Rattle.line_values.specs.Texts.{SaysConstraints, SaysGenerators}
 use Rattle.poly_makers.specs.Results.{IsResultOfConstraints, IsResultOfGenerators, IsResultOfClosure}
 use Rattle.poly_makers.specs.Operators.{Fits, IsMadeBy, IsExtended}
 use Rattle.poly_makers.specs.Affine.{IsRemoved, IsMappedBy}
-use Rattle.calc_state.specs.Systems.{AreReached}
+use Rattle.fixpoint.specs.Commands.{AreReached}
 use Rattle.powerset.specs.Commands.{IsPowersetOf}
 use Rattle.bd_shape.specs.Commands.{IsShapeOfSet, IsShapeOfConstraints, IsShapeBy, IsPolyOfShape}
-use Rattle.calc_state.specs.Hybrids.{IsStill, AreReachedParts}
+use Rattle.hybrid.specs.Commands.{IsStill, AreReachedParts}
 use Rattle.calc_state.specs.Parts.{with_part}
 use Rattle.line_values.specs.Operands.{topology_of, format_of}
 use Rattle.run_laws.specs.Acts.{Act, Did, Took}

@@ -19,8 +19,8 @@ use Rattle.widening.proofs.Places.{same_at}
 use Rattle.widening.proofs.RoundLemmas.{start_table, rounds_table}
 use Rattle.calc_state.specs.declared.entry.Entry.{Entry}
 use Rattle.calc_state.specs.declared.entry.Entry.TheVariants as entry
-use Rattle.calc_state.specs.Systems.{IsEmptySystem, AreReached}
-use Rattle.calc_state.specs.Hybrids.{AreReachedParts}
+use Rattle.fixpoint.specs.Commands.{IsEmptySystem, AreReached}
+use Rattle.hybrid.specs.Commands.{AreReachedParts}
 use Rattle.name_table.specs.Table.{numbered}
 use Rattle.run_laws.specs.Sets.{IsMadeAs, IsChangedBy, IsReachedSet}
 use Rattle.run_laws.specs.Sameness.{AreSamePolyhedra, AreSameEntries}

@@ -8,7 +8,7 @@ use Rattle.bd_shape.specs.Shapes.{DifferenceShape}
 use Rattle.line_values.specs.Order.{Conditions, Passes}
 use Rattle.line_values.specs.Meaning.{alike}
 use Rattle.powerset.specs.Commands.{alike_unions, misses_member}
-use Rattle.ranking_commands.specs.Rankings.{relates_states}
+use Rattle.ranking.specs.Commands.{relates_states}
 use Rattle.bd_shape.specs.Commands.{closed, of_one_dim}
 use Rattle.poly_makers.specs.Widening.{nested, IsWidened}
 use Rattle.soundness.proofs.Operands.{one_topology, one_number}

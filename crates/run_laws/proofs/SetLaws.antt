@@ -33,12 +33,12 @@ use Rattle.poly_makers.specs.Operators.{Fits, operated, IsMadeBy, extended, IsEx
 use Rattle.poly_makers.specs.Affine.{mapped_by, remove, IsRemoved, IsMappedBy}
 use Rattle.poly_makers.specs.Results.{IsResultOfConstraints, IsResultOfGenerators, IsResultOfClosure}
 use Rattle.poly_makers.specs.Widening.{widen}
-use Rattle.calc_state.specs.Systems.{IsEmptySystem, AreReached, fixpoint}
+use Rattle.fixpoint.specs.Commands.{IsEmptySystem, AreReached, fixpoint}
 use Rattle.calc_state.specs.Parts.{init, trans, set_part, with_part}
 use Rattle.powerset.specs.Commands.{pset, of_two_powersets, IsPowersetOf, member, psize, covers}
-use Rattle.ranking_commands.specs.Rankings.{rank, ranking}
+use Rattle.ranking.specs.Commands.{rank, ranking}
 use Rattle.bd_shape.specs.Commands.{shape, IsShapeOfSet, IsShapeOfConstraints, of_two_shapes, IsShapeBy, shape_contains, shape_print, shape_poly, IsPolyOfShape}
-use Rattle.calc_state.specs.Hybrids.{hybrid, IsStill, reach, AreReachedParts}
+use Rattle.hybrid.specs.Commands.{hybrid, IsStill, reach, AreReachedParts}
 use Rattle.widening.proofs.Places.{all_at}
 use Rattle.poly_questions.specs.Files.{write}
 use Rattle.open_files.specs.OpenFiles.{OpenFile}

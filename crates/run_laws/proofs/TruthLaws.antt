@@ -40,13 +40,13 @@ use Rattle.poly_makers.specs.Affine.{mapped_by, remove}
 use Rattle.calc_state.specs.Step.{IsAccepted}
 use Rattle.line_values.specs.Replies.{Reply}
 use Rattle.poly_makers.specs.Widening.{widen}
-use Rattle.calc_state.specs.Systems.{system, AreReached, fixpoint}
+use Rattle.fixpoint.specs.Commands.{system, AreReached, fixpoint}
 use Rattle.calc_state.specs.Parts.{init, trans, set_part, with_part}
 use Rattle.trans_sys.specs.Systems.{with_initial, with_transition}
 use Rattle.powerset.specs.Commands.{pset, of_two_powersets, member, psize, members_text, covers}
-use Rattle.ranking_commands.specs.Rankings.{rank, ranking}
+use Rattle.ranking.specs.Commands.{rank, ranking}
 use Rattle.bd_shape.specs.Commands.{shape, bounds, of_two_shapes, shape_contains, shape_print, shape_poly}
-use Rattle.calc_state.specs.Hybrids.{hybrid, reach, AreReachedParts}
+use Rattle.hybrid.specs.Commands.{hybrid, reach, AreReachedParts}
 use Rattle.poly_questions.specs.Files.{write, file_of}
 use Rattle.calc_state.specs.State.{State, closed}
 use Rattle.calc_state.specs.Laws.{KeepsNamesDistinct}

@@ -28,10 +28,10 @@ use Rattle.line_values.specs.Texts.{SaysConstraints, SaysGenerators}
 use Rattle.poly_makers.specs.Results.{IsResult, IsResultOfConstraints, IsResultOfGenerators, IsResultOfClosure}
 use Rattle.poly_makers.specs.Operators.{Fits, IsMadeBy, IsExtended}
 use Rattle.poly_makers.specs.Affine.{IsRemoved, IsMappedBy}
-use Rattle.calc_state.specs.Systems.{IsEmptySystem, AreReached}
+use Rattle.fixpoint.specs.Commands.{IsEmptySystem, AreReached}
 use Rattle.powerset.specs.Commands.{IsPowersetOf}
 use Rattle.bd_shape.specs.Commands.{IsShapeOfSet, IsShapeOfConstraints, IsShapeBy, IsPolyOfShape}
-use Rattle.calc_state.specs.Hybrids.{IsStill, AreReachedParts}
+use Rattle.hybrid.specs.Commands.{IsStill, AreReachedParts}
 use Rattle.calc_state.specs.Parts.{with_part}
 use Rattle.line_values.specs.Operands.{topology_of, format_of}
 use Rattle.open_files.specs.OpenFiles.{OpenFile}

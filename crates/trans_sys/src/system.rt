@@ -19,12 +19,23 @@ pub const MAX_LOCATIONS: usize = 100;
 
 /// A transition system: locations with their initial states, and transitions between them. All sets
 /// are closed polyhedra.
-#[derive(Drop)]
 pub struct System {
     alloc: Global,
     dim: usize,
     initial: Vec<Poly>,
     transitions: Vec<Transition>,
+}
+
+// Written by hand, so that a function that drops a system makes one call.
+impl Drop for System {
+    fn drop(self) {
+        let Self {
+            alloc: _,
+            dim: _,
+            initial: _,
+            transitions: _,
+        } = self;
+    }
 }
 
 impl Model for System {

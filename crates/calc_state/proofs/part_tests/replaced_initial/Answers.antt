@@ -8,7 +8,7 @@ use Rattle.calc_state.specs.Changes.{as_entry, IsTested}
 use Rattle.calc_state.specs.Parts.{init}
 use Rattle.calc_state.specs.declared.entry.Entry.TheVariants as entry
 use Rattle.calc_state.specs.declared.parts.PartChange.TheVariants as part
-use Rattle.calc_state.specs.declared.parts.SystemChange.TheVariants.{Initial}
+use Rattle.trans_sys.specs.declared.change.SystemChange.TheVariants.{Initial}
 use Rattle.calc_state.specs.Table.{as_system}
 use Rattle.calc_state.proofs.PartLemmas.{as_many, part_made, part_refused}
 use Rattle.calc_state.proofs.part_tests.replaced_initial.Goals as goal

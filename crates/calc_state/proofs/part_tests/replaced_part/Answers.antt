@@ -8,7 +8,7 @@ use Rattle.line_values.specs.Meaning.{on_one}
 use Rattle.calc_state.specs.Changes.{as_entry, IsTested}
 use Rattle.calc_state.specs.declared.entry.Entry.TheVariants as entry
 use Rattle.calc_state.specs.declared.parts.PartChange.TheVariants as part
-use Rattle.calc_state.specs.declared.parts.HybridChange.TheVariants.{Invariant, Flow}
+use Rattle.hybrid.specs.declared.change.HybridChange.TheVariants.{Invariant, Flow}
 use Rattle.calc_state.specs.Parts.{set_part, with_part}
 use Rattle.calc_state.specs.Table.{as_hybrid}
 use Rattle.calc_state.proofs.PartLemmas.{as_many, part_made, part_refused}

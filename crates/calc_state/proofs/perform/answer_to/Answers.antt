@@ -1,6 +1,6 @@
 use Rattle.line_values.proofs.EffectLemmas.{performed_as, on_found, on_two_found}
 use Rattle.powerset.specs.Commands.{psize, covers}
-use Rattle.ranking_commands.specs.Rankings.{ranking}
+use Rattle.ranking.specs.Commands.{ranking}
 use Rattle.bd_shape.specs.Commands.{shape_contains, shape_print}
 use Rattle.calc_state.specs.Meanings.{answered}
 use Rattle.calc_state.proofs.perform.answer_to.Goals as goal

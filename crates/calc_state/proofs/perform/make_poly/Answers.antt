@@ -1,6 +1,6 @@
 use Rattle.line_values.proofs.EffectLemmas.{performed_as, on_found}
 use Rattle.powerset.specs.Commands.{member}
-use Rattle.ranking_commands.specs.Rankings.{rank}
+use Rattle.ranking.specs.Commands.{rank}
 use Rattle.bd_shape.specs.Commands.{shape_poly}
 use Rattle.calc_state.specs.Meanings.{made_poly}
 use Rattle.calc_state.proofs.perform.make_poly.Goals as goal

@@ -1,7 +1,7 @@
 use Rattle.std.proofs.Common.{refl}
 use Rattle.calc_state.specs.declared.entry.Entry.TheVariants as entry
-use Rattle.calc_state.specs.Systems.{system}
-use Rattle.calc_state.specs.Hybrids.{hybrid}
+use Rattle.fixpoint.specs.Commands.{system}
+use Rattle.hybrid.specs.Commands.{hybrid}
 use Rattle.calc_state.specs.Table.{as_poly, as_system, as_powerset, as_shape, as_hybrid}
 use Rattle.calc_state.specs.Meanings.{made_poly, made_powerset, made_shape, put_under}
 use Rattle.line_values.proofs.EffectLemmas.{performed_as, put_none, put_one}

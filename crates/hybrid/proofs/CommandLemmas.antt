@@ -4,11 +4,9 @@ use Rattle.poly_pair.specs.Polyhedra.{IsUniverse, IsEmpty}
 use Rattle.poly_pair.specs.declared.topology.Topology.TheVariants.{Closed}
 use Rattle.trans_sys.specs.Systems.{TransitionSystem}
 use Rattle.hybrid.specs.Systems.{HybridAutomaton, IsKeptHybrid}
-use Rattle.calc_state.specs.declared.systems.TheConstants.{MAX_DELAY}
-use Rattle.name_table.specs.Table.{HasNoRoomForAll}
-use Rattle.calc_state.specs.Table.{Table}
+use Rattle.hybrid.specs.Commands.{IsStill, reach}
+use Rattle.name_table.specs.Table.{Table, HasNoRoomForAll}
 use Rattle.line_values.specs.Order.{Passes}
-use Rattle.calc_state.specs.Hybrids.{IsStill, reach}
 
 -- the automaton of a copy of the system, which keeps a set for each location
 pub still : (s copy : TransitionSystem) (h : HybridAutomaton) → copy ≡ s → h.system ≡ copy → All (IsUniverse Closed copy.dim) h.invariants → All (IsEmpty Closed copy.dim) h.flows → IsKeptHybrid h → IsStill s h
@@ -21,6 +19,6 @@ still s copy h same is universes empties kept = record {
 }
 
 -- a run passes its tests
-pub reach_passes : (table : Table) (delay : ℕ) (prefix : List ℕ) (h : HybridAutomaton) → ¬ (MAX_DELAY < delay) → ¬ (HasNoRoomForAll table prefix (length h.system.initial)) → Passes (reach table delay prefix h).conditions
+pub reach_passes : {E : Type 0} (table : Table E) (delay : ℕ) (prefix : List ℕ) (h : HybridAutomaton) → ¬ (1000000 < delay) → ¬ (HasNoRoomForAll table prefix (length h.system.initial)) → Passes (reach table delay prefix h).conditions
 reach_passes table delay prefix h short room =
     (λ k. k, (λ k. k, (λ k. k, (λ k. k, (λ k. k, (short, (λ k. k, (λ k. k, (λ k. k, (λ k. k, (λ k. k, (λ k. k, (room, (λ k. k, tt))))))))))))))

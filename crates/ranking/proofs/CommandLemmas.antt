@@ -7,7 +7,7 @@ use Rattle.ranking.specs.PrintedRankings.{IsRankingText}
 use Rattle.line_values.specs.Proper.{IsProper}
 use Rattle.line_values.specs.Order.{Passes}
 use Rattle.line_values.specs.Meaning.{room, no_fault, line}
-use Rattle.ranking_commands.specs.Rankings.{relates_states, ranking, IsRankingLine}
+use Rattle.ranking.specs.Commands.{relates_states, ranking, IsRankingLine}
 use Rattle.line_values.specs.Performed.{IsPerformed}
 
 -- a closed relation of states, and a name for which there is room

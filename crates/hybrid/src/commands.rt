@@ -1,13 +1,12 @@
 //! The command that makes linear hybrid automata, and the one that runs them.
 ghost use Rattle.std.specs.Option.{option_copied};
 ghost use Rattle.line_values.specs.Meaning.{on_one};
-ghost use Rattle.calc_state.specs.Hybrids.{hybrid as make_hybrid, reach as run_hybrid};
+ghost use Rattle.hybrid.specs.Commands.{hybrid as make_hybrid, reach as run_hybrid};
 ghost use Rattle.line_values.specs.Effects.{all_placed};
 ghost use Rattle.line_values.specs.Performed.{IsPerformed};
 
-use crate::entry::Entry;
-use crate::systems::MAX_DELAY;
-use hybrid::Hybrid;
+use crate::hybrid::Hybrid;
+use crate::reaches;
 use line_values::StepErr;
 use name_table::Names;
 use poly_pair::Poly;
@@ -15,7 +14,7 @@ use reply_text::{Fault, Text};
 use row_core::Steps;
 use std::alloc::Global;
 use std::sync::ledger::Ledger;
-use trans_sys::System;
+use trans_sys::{System, is_too_long};
 
 /// The automaton of a transition system in which no time passes.
 pub fn hybrid(alloc: Global, s: Option<&System>, full: bool) -> Result<Hybrid, StepErr>
@@ -34,9 +33,9 @@ pub fn hybrid(alloc: Global, s: Option<&System>, full: bool) -> Result<Hybrid, S
 
 /// The states of each location that the automaton may come to, where there is room for their
 /// numbered names.
-pub fn reach<L: Ledger>(
+pub fn reach<E: Drop, L: Ledger>(
     alloc: Global,
-    names: &Names<Entry>,
+    names: &Names<E>,
     h: Option<&Hybrid>,
     delay: u64,
     prefix: &Text,
@@ -48,13 +47,13 @@ pub fn reach<L: Ledger>(
     let Some(h) = h else {
         return Err(StepErr::Input(Fault::UnknownName));
     };
-    if delay > MAX_DELAY {
+    if is_too_long(delay) {
         return Err(StepErr::Input(Fault::OutOfRange));
     }
     if names.has_no_room_for_all(prefix.bytes(), h.system().locs())? {
         return Err(StepErr::Input(Fault::TooManyNames));
     }
-    match hybrid::reach(alloc, h, delay as u32, steps) {
+    match reaches::reach(alloc, h, delay as u32, steps) {
         Ok(sets) => Ok(sets),
         Err(cause) => Err(StepErr::from(cause)),
     }

@@ -1,15 +1,14 @@
-use Rattle.std.proofs.Common.{◌≡◌, ◌∙◌, ◌<◌, ℕ, List, length, Option, Some, Err, IsTrue, ◌↔◌, sym, ap, subst, arith}
+use Rattle.std.proofs.Common.{◌≡◌, ◌∙◌, ◌<◌, ◌≤◌, ℕ, List, length, Option, Some, Err, IsTrue, ◌↔◌, sym, ap, subst, arith}
 use Rattle.std.specs.Option.{option_copied}
 use Rattle.trans_sys.specs.Systems.{TransitionSystem}
 use Rattle.hybrid.specs.Systems.{HybridAutomaton}
-use Rattle.calc_state.specs.declared.systems.TheConstants.{MAX_DELAY}
 use Rattle.name_table.specs.Table.{HasNoRoomForAll}
 use Rattle.line_values.specs.Meaning.{on_one}
-use Rattle.calc_state.specs.Hybrids.{reach}
 use Rattle.line_values.specs.Performed.{IsPerformed}
 use Rattle.line_values.proofs.PerformedLemmas.{not_so, leaves}
-use Rattle.calc_state.proofs.HybridLemmas.{reach_passes}
-use Rattle.calc_state.proofs.hybrids.reach.Goals as goal
+use Rattle.hybrid.specs.Commands.{reach}
+use Rattle.hybrid.proofs.CommandLemmas.{reach_passes}
+use Rattle.hybrid.proofs.commands.reach.Goals as goal
 
 pub returns-in-Err : goal.returns-in-Err
 returns-in-Err g c =
@@ -17,7 +16,8 @@ returns-in-Err g c =
     let locations : c.locs.result ≡ length h.system.initial = c.locs.ensures.value ∙ ap (λ (s : TransitionSystem). length s.initial) c.system.ensures.value in
     let at = subst (λ (w : List ℕ). IsTrue c.in_ok-has_no_room_for_all.field-0 ↔ HasNoRoomForAll c.args.names.now w c.locs.result) c.bytes.ensures c.in_ok-has_no_room_for_all.ensures in
     let room = not_so c.in_ok-has_no_room_for_all.field-0 (HasNoRoomForAll c.args.names.now c.args.prefix.now (length h.system.initial)) (subst (λ (n : ℕ). IsTrue c.in_ok-has_no_room_for_all.field-0 ↔ HasNoRoomForAll c.args.names.now c.args.prefix.now n) locations at) c.if-branch.false in
-    let passes = reach_passes c.args.names.now c.args.delay c.args.prefix.now h (λ (k : MAX_DELAY < c.args.delay). omega (arith, k, c.if-delay-gt-MAX_DELAY.false)) room in
+    let short : c.args.delay ≤ 1000000 = c.if-is_too_long.ensures in
+    let passes = reach_passes c.args.names.now c.args.delay c.args.prefix.now h (λ (k : 1000000 < c.args.delay). omega (arith, k, short)) room in
     let found : option_copied c.args.h ≡ Some h = ap option_copied c.in-Some.is in
     subst (λ (o : Option HybridAutomaton). IsPerformed (on_one o (reach c.args.names.now c.args.delay c.args.prefix.now)) (Err c.from.result)) (sym found)
     (rw c.from.ensures (leaves (reach c.args.names.now c.args.delay c.args.prefix.now h) c.in-Err.cause passes c.in-Err.ensures.overflow))

@@ -3,12 +3,13 @@ use Rattle.std.specs.Prelude.{◌≡◌, ℕ, Bool, List, length, All}
 use Rattle.poly_pair.specs.Polyhedra.{Polyhedron, IsUniverse, IsEmpty}
 use Rattle.poly_pair.specs.declared.topology.Topology.TheVariants.{Closed}
 use Rattle.trans_sys.specs.Systems.{TransitionSystem}
+use Rattle.trans_sys.specs.Runs.{run_conditions}
 use Rattle.hybrid.specs.Systems.{HybridAutomaton}
 use Rattle.hybrid.specs.Reaches.{AreReached, LeavesInReach, IncludeInitial, AreClosedUnderFlow, AreClosedUnderJumps}
-use Rattle.calc_state.specs.Table.{Table, Change}
+use Rattle.name_table.specs.Table.{Table}
+use Rattle.line_values.specs.declared.change.Change.{Change}
 use Rattle.line_values.specs.Meaning.{Meaning, no_overflow, room}
 use Rattle.line_values.specs.Effects.{AreAllPut}
-use Rattle.calc_state.specs.Systems.{run_conditions}
 
 -- ---- making
 -- the system, in each location with the universe as its invariant and an empty flow
@@ -32,7 +33,7 @@ pub record AreReachedParts (h : HybridAutomaton) (delay : ℕ) (sets : List Poly
   pub jumps : AreClosedUnderJumps h sets
 
 -- reach H DELAY PREFIX
-abbrev pub reach : Table → ℕ → List ℕ → HybridAutomaton → Meaning Change
+abbrev pub reach : {E : Type 0} → Table E → ℕ → List ℕ → HybridAutomaton → Meaning (Change E)
 reach table delay prefix h = record {
   conditions = run_conditions table delay prefix (length h.system.initial);
   overflows = LeavesInReach h delay;

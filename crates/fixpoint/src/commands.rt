@@ -1,12 +1,11 @@
 //! The command that makes transition systems, and the one that runs them.
 ghost use Rattle.std.specs.Option.{option_copied};
 ghost use Rattle.line_values.specs.Meaning.{on_one};
-ghost use Rattle.calc_state.specs.Systems.{system as make_system, fixpoint as run_system};
+ghost use Rattle.fixpoint.specs.Commands.{system as make_system, fixpoint as run_system};
 ghost use Rattle.line_values.specs.Effects.{all_placed};
 ghost use Rattle.line_values.specs.Performed.{IsPerformed};
 
-use crate::entry::Entry;
-use fixpoint::run;
+use crate::runs::run;
 use line_values::StepErr;
 use name_table::Names;
 use poly_pair::{MAX_DIM, Poly};
@@ -14,13 +13,10 @@ use reply_text::{Fault, Text};
 use row_core::Steps;
 use std::alloc::Global;
 use std::sync::ledger::Ledger;
-use trans_sys::{MAX_LOCATIONS, System};
+use trans_sys::{MAX_LOCATIONS, System, is_too_long};
 
 /// The most variables of a state: a relation of states has twice as many.
 const MAX_STATE_DIM: u64 = (MAX_DIM / 2) as u64;
-
-/// The largest delay.
-pub const MAX_DELAY: u64 = 1_000_000;
 
 /// The transition system in which no location has an initial state, without transitions.
 pub fn system(alloc: Global, n: u64, locations: u64, full: bool) -> Result<System, StepErr>
@@ -40,9 +36,9 @@ pub fn system(alloc: Global, n: u64, locations: u64, full: bool) -> Result<Syste
 
 /// The set of each location in the limit of the system's rounds, where there is room for their
 /// numbered names.
-pub fn fixpoint<L: Ledger>(
+pub fn fixpoint<E: Drop, L: Ledger>(
     alloc: Global,
-    names: &Names<Entry>,
+    names: &Names<E>,
     system: Option<&System>,
     delay: u64,
     prefix: &Text,
@@ -54,7 +50,7 @@ pub fn fixpoint<L: Ledger>(
     let Some(system) = system else {
         return Err(StepErr::Input(Fault::UnknownName));
     };
-    if delay > MAX_DELAY {
+    if is_too_long(delay) {
         return Err(StepErr::Input(Fault::OutOfRange));
     }
     if names.has_no_room_for_all(prefix.bytes(), system.locs())? {

@@ -1,6 +1,6 @@
 use Rattle.line_values.proofs.PerformedLemmas.{room_passes}
-use Rattle.calc_state.proofs.HybridLemmas.{still}
-use Rattle.calc_state.proofs.hybrids.hybrid.Goals as goal
+use Rattle.hybrid.proofs.CommandLemmas.{still}
+use Rattle.hybrid.proofs.commands.hybrid.Goals as goal
 
 pub returns : goal.returns
 returns c =

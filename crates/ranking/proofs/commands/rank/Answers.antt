@@ -3,24 +3,25 @@ use Rattle.std.specs.Option.{option_copied}
 use Rattle.poly_pair.specs.Polyhedra.{Polyhedron}
 use Rattle.poly_pair.specs.declared.topology.Topology.TheVariants.{Closed}
 use Rattle.line_values.specs.Meaning.{on_one}
-use Rattle.ranking_commands.specs.Rankings.{ranking}
+use Rattle.ranking.specs.Commands.{rank}
 use Rattle.line_values.specs.Performed.{IsPerformed}
-use Rattle.line_values.proofs.PerformedLemmas.{leaves}
-use Rattle.ranking_commands.proofs.RankingLemmas.{ranking_passes, ranking_told}
-use Rattle.ranking_commands.proofs.rankings.ranking.Goals as goal
+use Rattle.line_values.proofs.PerformedLemmas.{not_full, leaves}
+use Rattle.ranking.proofs.CommandLemmas.{rank_passes}
+use Rattle.ranking.proofs.commands.rank.Goals as goal
 
 pub returns-in-Err : goal.returns-in-Err
 returns-in-Err g c =
     let r : Polyhedron = c.in-Some.r.now in
     let closed : r.topology ≡ Closed = c.if-not-is_closed.ensures in
     let even : r.cons.dim % 2 ≡ 0 = c.if-not-has_even_dim.ensures in
+    let room = not_full c.args.full c.if-full.false in
     let found : option_copied c.args.r ≡ Some r = ap option_copied c.in-Some.is in
-    subst (λ (o : Option Polyhedron). IsPerformed (on_one o ranking) (Err c.from.result)) (sym found)
-    (rw c.from.ensures (leaves (ranking r) c.in-Err.cause (ranking_passes r closed even) c.in-Err.ensures.overflow))
+    subst (λ (o : Option Polyhedron). IsPerformed (on_one o (rank c.args.full)) (Err c.from.result)) (sym found)
+    (rw c.from.ensures (leaves (rank c.args.full r) c.in-Err.cause (rank_passes r c.args.full closed even room) c.in-Err.ensures.overflow))
 
-pub returns-in_ok-ranking_line-in-Ok : goal.returns-in_ok-ranking_line-in-Ok
-returns-in_ok-ranking_line-in-Ok g c =
+pub returns-in-Ok : goal.returns-in-Ok
+returns-in-Ok g c =
     let r : Polyhedron = c.in-Some.r.now in
     let closed : r.topology ≡ Closed = c.if-not-is_closed.ensures in
     let even : r.cons.dim % 2 ≡ 0 = c.if-not-has_even_dim.ensures in
-    rw c.in-Some.is (ranking_told r c.in-Ok.functions c.in_ok-ranking_line-in-Ok.field-0 closed even c.in-Ok.ensures.points c.in_ok-ranking_line-in-Ok.ensures)
+    rw c.in-Some.is (rank_passes r c.args.full closed even (not_full c.args.full c.if-full.false), c.in-Ok.ensures.points)

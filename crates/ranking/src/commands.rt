@@ -3,12 +3,13 @@ ghost use Rattle.std.specs.Prelude.{◌≡◌, ◌≢◌, ◌%◌, ◌≤◌, Ma
 ghost use Rattle.std.specs.Option.{option_copied};
 ghost use Rattle.poly_pair.specs.declared.topology.Topology.TheVariants.{Closed};
 ghost use Rattle.line_values.specs.Meaning.{on_one};
-ghost use Rattle.ranking_commands.specs.Rankings.{rank as make_rank, ranking as tell_ranking, IsRankingLine};
+ghost use Rattle.ranking.specs.Commands.{rank as make_rank, ranking as tell_ranking, IsRankingLine};
 ghost use Rattle.line_values.specs.Performed.{IsPerformed};
 
+use crate::printing::print_ranking;
+use crate::sets::ranking_set;
 use line_values::{StepErr, as_line, is_proper};
 use poly_pair::{Poly, Topology};
-use ranking::{print_ranking, ranking_set};
 use reply_text::{Fault, Text};
 use row_core::{Memory, Steps};
 use std::alloc::Global;
