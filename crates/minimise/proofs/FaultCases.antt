@@ -25,6 +25,9 @@ reduce_fault lines a reduced line i p (Left left right column) below e at is h =
   leaves = h.leaves;
 }
 
+pub combine_fault : (c : ℕ) (line lent row copied : List ℤ) (fault : Fault) → lent ≡ line → copied ≡ row → IsCombineFault c lent copied fault → IsCombineFault c line row fault
+combine_fault c line lent row copied fault e f h = subst (λ (v : List ℤ). IsCombineFault c line v fault) f (subst (λ (v : List ℤ). IsCombineFault c v copied fault) e h)
+
 pub clear_fault : (c : ℕ) (line lent : List ℤ) (lines : List (List ℤ)) (row : List ℤ) (fault : Fault) → lent ≡ line → Contains lines row → IsCombineFault c lent row fault → IsClearFault c line lines fault
 clear_fault c line lent lines row Memory e within h = tt
 clear_fault c line lent lines row (Left left right column) e within h = record { left_is = h.left_is ∙ e; right_in = subst (λ (v : List ℤ). Contains lines v) (sym h.right_is) within; leaves = h.leaves }
@@ -32,6 +35,10 @@ clear_fault c line lent lines row (Left left right column) e within h = record {
 pub take_fault : (c : ℕ) (lines : List (List ℤ)) (line : List ℤ) (k : ℕ) (fault : Fault) → IsPlace lines c k → IsClearFault c line lines fault → IsTakeFault c lines line fault
 take_fault c lines line k Memory place h = tt
 take_fault c lines line k (Left left right column) place h = record { k = k; place = place; clearing = h }
+
+pub grow_fault_of_reduction : (lines : List (List ℤ)) (a : List ℤ) (fault : Fault) → IsReduceFault lines a fault → IsGrowFault lines a fault
+grow_fault_of_reduction lines a Memory h = tt
+grow_fault_of_reduction lines a (Left left right column) h = inl h
 
 pub grow_fault_of_line : (lines : List (List ℤ)) (a reduced line : List ℤ) (c : ℕ) (fault : Fault) → IsReduced lines a reduced → IsLeading reduced c → All (λ (l : List ℤ). length l ≡ length a) lines → line ≡ turned_up reduced c → IsTakeFault c lines line fault → IsGrowFault lines a fault
 grow_fault_of_line lines a reduced line c Memory is lead wide e h = tt

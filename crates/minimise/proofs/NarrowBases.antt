@@ -1,6 +1,6 @@
 -- How many lines a list in reduced echelon form has.
-use Rattle.std.proofs.Common.{◌≡◌, ℕ, suc, zero, ◌<◌, ◌≤◌, ◌⊎◌, inl, inr, List, [], length, refl, arith, ℤ, pos, ◌<ℤ◌}
-use Rattle.std.specs.Prelude.{All}
+use Rattle.std.proofs.Common.{◌≡◌, ℕ, suc, zero, ◌<◌, ◌≤◌, ◌⊎◌, inl, inr, List, [], length, refl, arith, ℤ, pos}
+use Rattle.std.specs.Prelude.{◌≢◌, All}
 use Rattle.std.proofs.lemmas.Int.{ints}
 use Rattle.std.proofs.lemmas.Bool.{cases_lt}
 use Rattle.std.proofs.lemmas.List.{get_or_past}
@@ -9,13 +9,17 @@ use Rattle.cone_laws.specs.Canon.{IsPivot, IsEchelon}
 use Rattle.row_core.specs.Lists.{vector_at}
 use Rattle.minimise.specs.Bases.{EchelonIsNarrow}
 
--- a pivot is a column
-pub pivot_below : (v : List ℤ) (j : ℕ) → IsPivot v j → j < length v
-pivot_below v j p = by_order (cases_lt j (length v))
+-- a place that isn't 0 is a column
+pub nonzero_below : (v : List ℤ) (j : ℕ) → cell v j ≢ pos 0 → j < length v
+nonzero_below v j ne = by_order (cases_lt j (length v))
   where
     by_order : (j < length v) ⊎ (length v ≤ j) → j < length v
     by_order (inl h) = h
-    by_order (inr h) = absurd (let e : cell v j ≡ pos 0 = get_or_past v j (pos 0) h in let q : pos 0 <ℤ cell v j = p.positive in omega (arith, ints, e, q))
+    by_order (inr h) = absurd (ne (get_or_past v j (pos 0) h))
+
+-- a pivot is a column
+pub pivot_below : (v : List ℤ) (j : ℕ) → IsPivot v j → j < length v
+pivot_below v j p = nonzero_below v j (λ e. omega (arith, ints, e, p.positive))
 
 module _ (lines rays : List (List ℤ)) (e : IsEchelon lines rays) where
   pivot_least : (i : ℕ) → i < length lines → i ≤ e.pivot i

@@ -1,7 +1,9 @@
 use Rattle.std.specs.Prelude.{true}
-use Rattle.std.proofs.Common.{rules, ◌≡◌, List, ℤ, ℕ, [], map, take, length, get_or, arith, ap, sym, ◌∙◌, subst}
+use Rattle.std.proofs.Common.{rules, ◌≡◌, ◌≤◌, ◌+◌, List, ℤ, ℕ, [], map, take, length, get_or, arith, ap, sym, ◌∙◌, subst}
 use Rattle.std.proofs.lemmas.Result.{err_from_is_err_and}
-use Rattle.std.proofs.lemmas.List.{map_more, nil_from_length, get_or-map, length-map, take-map}
+use Rattle.std.proofs.lemmas.List.{map_more, nil_from_length, get_or-map, length-map, take-map, take_all}
+use Rattle.std.proofs.Math.Nat.{mul-le-mul_right}
+use Rattle.row_core.specs.Range.{AllInRange}
 use Rattle.row_core.specs.Lists.{Row, row_at, vectors, vector_at, AreMarked}
 use Rattle.row_core.proofs.RowListLemmas.{length-vectors}
 use Rattle.minimise.specs.Bases.{IsBasis, IsGrown}
@@ -63,3 +65,38 @@ returns-then-is_empty-clause-as_many g c = λ free.
 
 pub returns-clause-as_many : goal.returns-clause-as_many
 returns-clause-as_many g c = λ free. omega (arith, c.loop-index.invariant.as_many free, length-vectors c.loop-index.basis.lines.rows, c.loop-index-test.false, c.loop-index.invariant.no_more)
+
+pub take-requires-clause-buffers : goal.take-requires-clause-buffers
+take-requires-clause-buffers g c = c.loop-index.invariant.buffers
+
+pub take-requires-clause-echelon : goal.take-requires-clause-echelon
+take-requires-clause-echelon g c = c.loop-index.invariant.basis.echelon
+
+pub take-requires-clause-primitive : goal.take-requires-clause-primitive
+take-requires-clause-primitive g c = c.loop-index.invariant.basis.primitive
+
+pub take-requires-clause-wide : goal.take-requires-clause-wide
+take-requires-clause-wide g c = ap (λ (v : List ℤ). length v) c.row.ensures.value ∙ c.row.ensures.wide ∙ sym c.loop-index.invariant.width
+
+pub take-requires-clause-in_range : goal.take-requires-clause-in_range
+take-requires-clause-in_range g c = subst AllInRange (sym c.row.ensures.value) c.row.ensures.in_range
+
+pub returns-clause-list : goal.returns-clause-list
+returns-clause-list g c = (c.loop-index.invariant.width, c.loop-index.invariant.marks)
+
+pub returns-clause-basis : goal.returns-clause-basis
+returns-clause-basis g c =
+    subst (λ (ps : List ℕ). IsBasis (map (row_at c.args.rows.now.rows) ps) (vectors c.loop-index.basis.lines.rows)) (take_all c.loop-index.index c.args.places.now (omega (arith, c.loop-index-test.false))) c.loop-index.invariant.basis
+
+pub returns-clause-counted : goal.returns-clause-counted
+returns-clause-counted g c =
+    let ended : c.loop-index.index ≤ length c.args.places.now = omega (arith, c.loop-index-test.false) in
+    (c.loop-index.invariant.no_fewer, omega (arith, c.loop-index.invariant.no_more, mul-le-mul_right c.args.rows.now.width ended))
+
+pub returns-in_err-take-clause-counted : goal.returns-in_err-take-clause-counted
+returns-in_err-take-clause-counted g c =
+    let inv = c.loop-index.invariant in
+    let below : c.loop-index.index + 1 ≤ length c.args.places.now = omega (arith, c.loop-index-test.true) in (
+      omega (arith, inv.no_fewer, c.take.ensures.counted.0),
+      omega (arith, inv.no_more, inv.width, c.take.ensures.counted.1, mul-le-mul_right c.args.rows.now.width below),
+    )
