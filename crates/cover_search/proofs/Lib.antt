@@ -1,3 +1,4 @@
+pub mod ResultLemmas
 pub mod InequalityLemmas
 pub mod BranchLemmas
 pub mod PieceLemmas

@@ -1,4 +1,5 @@
 pub mod ListLemmas
+pub mod ListSteps
 pub mod DivisorRow
 pub mod Directions
 pub mod ClosedConstraints

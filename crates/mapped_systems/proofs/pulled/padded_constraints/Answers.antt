@@ -49,3 +49,12 @@ loop-index-preserved c =
       pulled = pulled_step (with_zeros column count) list c.loop-index.padded.list c.push_primitive.new.self.list c.loop-index.index stored c.kind.result (omega arith) (put ∙ ap (with_zeros column count) c.row.ensures.value) c.kind.ensures inv.pulled
           (record { stored = stored; primitive = IsPrimitiveOf-self stored primitive; list = c.in_ok-push_primitive.ensures.list });
     }
+
+pub put_with_zeros-requires : goal.put_with_zeros-requires
+put_with_zeros-requires c =
+    let wide : length c.row.result.now ≡ c.args.cons.now.dim + 1 = ap length c.row.ensures.value ∙ c.row.ensures.wide in
+    record {
+      column = omega (arith, wide, c.requires.column);
+      narrow = omega (arith, wide, c.requires.narrow);
+      in_range = subst AllInRange (sym c.row.ensures.value) c.row.ensures.in_range;
+    }

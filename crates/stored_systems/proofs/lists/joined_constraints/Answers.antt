@@ -1,6 +1,7 @@
-use Rattle.std.proofs.Common.{List, ℤ, false, ◌∷◌, [], ◌++◌, map, sym, ap, ◌∙◌}
+use Rattle.std.proofs.Common.{ℕ, ◌+◌, List, ℤ, false, ◌∷◌, [], ◌++◌, length, map, sym, ap, ◌∙◌, subst}
 use Rattle.std.proofs.lemmas.List.{map-append}
 use Rattle.std.proofs.lemmas.Result.{err_from_is_err_and}
+use Rattle.row_core.specs.Range.{AllInRange}
 use Rattle.row_core.specs.Lists.{Row}
 use Rattle.stored_systems.specs.WorkLists.{divisor_row, constraint_row}
 use Rattle.stored_systems.proofs.lists.joined_constraints.Goals as goal
@@ -28,3 +29,18 @@ returns-in_err-push_constraints c = let p = err_from_is_err_and c.from_residual-
 
 pub returns-in_err-push_constraints-2 : goal.returns-in_err-push_constraints-2
 returns-in_err-push_constraints-2 c = let p = err_from_is_err_and c.from_residual-in_err-push_constraints-2.result c.from_residual-in_err-push_constraints-2.ensures.1 in rw p.1 (record { width = tt; rows = tt; fit = c.dim-2.ensures.rows; more_fit = c.dim.ensures.rows })
+
+pub push-requires : goal.push-requires
+push-requires c = record {
+  wide = ap (λ (v : List ℤ). length v) c.deref.ensures.value ∙ c.in_ok-divisor_row.ensures.wide ∙ ap (λ (n : ℕ). n + 1) (c.dim-4.ensures.value ∙ sym c.dim-3.ensures.value) ∙ sym c.in_ok-list.ensures.width;
+  in_range = subst AllInRange (sym c.deref.ensures.value) c.in_ok-divisor_row.ensures.in_range;
+}
+
+pub push_constraints-requires : goal.push_constraints-requires
+push_constraints-requires c = c.in_ok-push.ensures.width ∙ c.in_ok-list.ensures.width ∙ ap (λ (n : ℕ). n + 1) c.dim-3.ensures.value
+
+pub push_constraints-requires-2 : goal.push_constraints-requires-2
+push_constraints-requires-2 c = c.in_ok-push_constraints.ensures.width ∙ c.in_ok-push.ensures.width ∙ c.in_ok-list.ensures.width ∙ ap (λ (n : ℕ). n + 1) (c.dim-3.ensures.value ∙ sym c.requires)
+
+pub returns-clause-width : goal.returns-clause-width
+returns-clause-width c = c.in_ok-push_constraints-2.ensures.width ∙ c.in_ok-push_constraints.ensures.width ∙ c.in_ok-push.ensures.width ∙ c.in_ok-list.ensures.width ∙ ap (λ (n : ℕ). n + 1) c.dim-3.ensures.value

@@ -1,6 +1,7 @@
-use Rattle.std.proofs.Common.{◌∙◌, inl, inr, refl, sym, ap, false}
+use Rattle.std.proofs.Common.{◌∙◌, List, ℤ, length, inl, inr, refl, sym, ap, subst, arith, false}
 use Rattle.std.specs.List.{insert}
 use mathlib.Core.Bool.{true≢false}
+use Rattle.row_core.specs.Range.{AllInRange}
 use Rattle.stored_systems.proofs.StoredLists.{first_dropped}
 use Rattle.stored_systems.proofs.parts.trimmed_rays.Goals as goal
 
@@ -19,3 +20,10 @@ returns c = inr (record {
   columns = c.keep_rows.ensures.columns;
   rows = c.keep_rows.ensures.rows ∙ first_dropped c.args.sat.now.rows c.len.result c.deref-2.result.now c.len.ensures (c.deref-2.ensures.value ∙ c.in_ok-all_but_first.ensures);
 })
+
+pub insert-requires : goal.insert-requires
+insert-requires c = record {
+  place = omega arith;
+  wide = ap (λ (v : List ℤ). length v) c.deref.ensures.value ∙ c.in_ok-divisor_row.ensures.wide ∙ sym c.requires.width;
+  in_range = subst AllInRange (sym c.deref.ensures.value) c.in_ok-divisor_row.ensures.in_range;
+}
