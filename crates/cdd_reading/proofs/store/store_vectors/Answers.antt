@@ -1,11 +1,13 @@
-use Rattle.std.proofs.Common.{◌≡◌, ◌≤◌, List, length, take, ap, sym, subst, ◌∙◌, arith, rules}
+use Rattle.std.proofs.Common.{◌≡◌, ◌≤◌, ◌<◌, Bool, List, [], length, take, ap, sym, subst, ◌∙◌, arith, rules}
+use Rattle.std.specs.Prelude.{ℤ}
+use Rattle.gens_sys.specs.Generators.{Generator}
 use Rattle.std.proofs.lemmas.List.{length-take-le}
 use Rattle.std.proofs.lemmas.List.Elements.{All-take}
 use Rattle.row_core.specs.Lists.{Row}
 use Rattle.row_core.specs.Range.{InRange, AllInRange}
 use Rattle.cdd_reading.specs.Tables.{AreStored}
 use Rattle.std.proofs.lemmas.Result.{err_from_is_err_and}
-use Rattle.cdd_reading.proofs.StoreLaws.{row_left, all_taken, vector_kept, row_refused}
+use Rattle.cdd_reading.proofs.StoreLaws.{Taken, none_taken, row_left, all_taken, vector_kept, row_refused}
 use Rattle.cdd_reading.proofs.store.store_vectors.Goals as goal
 
 pub loop-marked-preserved : goal.loop-marked-preserved
@@ -45,3 +47,22 @@ returns c =
     let table = c.args.table.now in
     let all = all_taken table.width c.loop-marked.marked-index table.marks.items table.values.items c.loop-marked.rest.now i.0 i.1 (search rules) in
     (c.loop-marked.invariant.dim, subst (λ (rs : List Row). AreStored rs c.loop-marked.system.list) (sym all) i.2)
+
+pub loop-marked-init : goal.loop-marked-init
+loop-marked-init c =
+    let table = c.args.table.now in
+    record {
+      done = (
+        [],
+        subst (λ (rest : List ℤ). Taken table.width 0 table.marks.items table.values.items rest []) (sym c.as_slice-rest.ensures.value) (none_taken table.width table.marks.items table.values.items c.requires),
+        subst (λ (list : List Generator). AreStored [] list) (sym c.new-system.ensures.empty) (search rules),
+      );
+      dim = omega (arith, c.requires.some, c.new-system.ensures.dim);
+    }
+
+pub split_at-requires : goal.split_at-requires
+split_at-requires c =
+    let i = c.loop-marked.invariant.done in
+    let table = c.args.table.now in
+    let within = subst (λ (ms : List Bool). c.loop-marked.marked-index < length ms) c.as_slice-marked-items.ensures.value c.loop-marked-test.true in
+    row_left table.width c.loop-marked.marked-index table.marks.items table.values.items c.loop-marked.rest.now i.0 i.1 within
